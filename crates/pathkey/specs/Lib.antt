@@ -1,0 +1,10 @@
+pub mod Order
+pub mod Names
+pub mod Texts
+pub mod Enc
+pub mod PathKeys
+pub mod Keys
+pub mod SnapNames
+pub mod Outcomes
+pub mod Numbers
+pub mod Laws

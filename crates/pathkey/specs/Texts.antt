@@ -1,0 +1,57 @@
+-- The text of a path, and what reading a text as a path answers.
+use Rattle.std.specs.Prelude.{ℕ, List, [], ◌∷◌, ◌++◌, length, Bool, true, false, cond, not, ◌||◌, ◌==◌, nat_lt, Result}
+use Rattle.std.specs.List.{list_any}
+use Rattle.pathkey.specs.Order.{same}
+use Rattle.pathkey.specs.Names.{Name, Path}
+use Rattle.pathkey.specs.Outcomes.{when, unless}
+use Rattle.pathkey.specs.declared.errno.Errno.{Errno}
+use Rattle.pathkey.specs.declared.errno.Errno.TheVariants.{ENOENT, EINVAL, ENAMETOOLONG}
+
+-- a slash before each name
+abbrev pub slashed : Path → List ℕ
+slashed [] = []
+slashed (n ∷ p) = 47 ∷ n ++ slashed p
+
+-- the text of a path: the root is one slash
+abbrev pub text_of : Path → List ℕ
+text_of [] = 47 ∷ []
+text_of (n ∷ p) = slashed (n ∷ p)
+
+-- the byte put before the first piece
+abbrev pub onto_first : ℕ → List Name → List Name
+onto_first b [] = (b ∷ []) ∷ []
+onto_first b (n ∷ p) = (b ∷ n) ∷ p
+
+-- the pieces of the bytes, each ended by the separator
+abbrev pub pieces : ℕ → List ℕ → List Name
+pieces separator [] = []
+pieces separator (b ∷ bytes) = cond (b == separator) ([] ∷ pieces separator bytes) (onto_first b (pieces separator bytes))
+
+-- what stands between the slashes of a text, after its first slash
+abbrev pub components : List ℕ → List Name
+components [] = []
+components (b ∷ rest) = pieces 47 (b ∷ rest ++ 47 ∷ [])
+
+-- no file name, whatever its length: empty, `.`, `..`, or with a null byte or a slash
+abbrev pub is_malformed : Name → Bool
+is_malformed [] = true
+is_malformed n = same n (46 ∷ []) || same n (46 ∷ 46 ∷ []) || list_any (λ b. (b == 0) || (b == 47)) n
+
+abbrev pub is_long : Name → Bool
+is_long n = nat_lt 255 (length n)
+
+-- what reading a text as a path answers: the first fault in this order, or the names
+abbrev pub parsed : List ℕ → Result Path Errno
+parsed [] = unless (when true ENOENT ∷ []) []
+parsed (b ∷ rest) =
+    unless
+    (when (not (b == 47)) EINVAL
+    ∷ when (list_any is_malformed (components rest)) EINVAL
+    ∷ when (list_any is_long (components rest)) ENAMETOOLONG
+    ∷ when (nat_lt 1023 (length (b ∷ rest))) ENAMETOOLONG
+    ∷ [])
+    (components rest)
+
+-- the names that a key spells, each ended by a byte 0
+abbrev pub names_of : List ℕ → Path
+names_of key = pieces 0 key

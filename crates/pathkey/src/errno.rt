@@ -1,0 +1,99 @@
+//! Why a call is refused.
+ghost use Rattle.std.specs.Prelude.{◌≡◌};
+ghost use Rattle.pathkey.specs.declared.errno.Errno.TheVariants.{ENOMEM};
+ghost use Rattle.pathkey.specs.Numbers.{number_of, word_of};
+
+use std::alloc::{AllocError, AllocFailed};
+use std::error::Error;
+use std::fmt;
+
+/// Why a call was refused, under the names of POSIX.1-2017, 2.3 Error Numbers. The numbers are this
+/// project's own.
+#[derive(Clone, Copy, Debug, PartialEq, Eq)]
+pub enum Errno {
+    /// No such file or directory.
+    ENOENT = 1,
+    /// Not a directory.
+    ENOTDIR = 2,
+    /// Is a directory.
+    EISDIR = 3,
+    /// File exists.
+    EEXIST = 4,
+    /// Directory not empty.
+    ENOTEMPTY = 5,
+    /// Operation not permitted.
+    EPERM = 6,
+    /// Invalid argument.
+    EINVAL = 7,
+    /// Name or path too long.
+    ENAMETOOLONG = 8,
+    /// File too large.
+    EFBIG = 9,
+    /// Device or resource busy.
+    EBUSY = 10,
+    /// Not enough memory.
+    ENOMEM = 11,
+    /// No space left: all 64 names of snapshots are taken.
+    ENOSPC = 12,
+}
+
+impl Errno {
+    /// The refusal's number, from 1 to 12.
+    pub fn number(self) -> u8
+        ensures { result ≡ number_of self }
+    {
+        self as u8
+    }
+
+    /// The refusal's word, as `ENOENT`.
+    pub fn name(self) -> &'static str
+        ensures { result.now ≡ word_of self }
+    {
+        match self {
+            Errno::ENOENT => "ENOENT",
+            Errno::ENOTDIR => "ENOTDIR",
+            Errno::EISDIR => "EISDIR",
+            Errno::EEXIST => "EEXIST",
+            Errno::ENOTEMPTY => "ENOTEMPTY",
+            Errno::EPERM => "EPERM",
+            Errno::EINVAL => "EINVAL",
+            Errno::ENAMETOOLONG => "ENAMETOOLONG",
+            Errno::EFBIG => "EFBIG",
+            Errno::EBUSY => "EBUSY",
+            Errno::ENOMEM => "ENOMEM",
+            Errno::ENOSPC => "ENOSPC",
+        }
+    }
+}
+
+/// Memory was refused, and the call changed nothing.
+#[derive(Clone, Copy, Debug, PartialEq, Eq)]
+pub struct NoMemory;
+
+impl fmt::Display for NoMemory {
+    fn fmt<W: fmt::Write>(&self, f: &mut fmt::Formatter<W>) -> fmt::Result {
+        f.write_str("memory was refused")
+    }
+}
+
+impl Error for NoMemory {}
+
+impl From<AllocError> for NoMemory {
+    fn from(_refused: AllocError) -> NoMemory {
+        NoMemory
+    }
+}
+
+impl<T: Drop> From<AllocFailed<T>> for NoMemory {
+    fn from(_refused: AllocFailed<T>) -> NoMemory {
+        NoMemory
+    }
+}
+
+impl From<NoMemory> for Errno {
+    ghost from_gives = { λ _ e. e ≡ ENOMEM };
+
+    fn from(_refused: NoMemory) -> Errno {
+        Errno::ENOMEM
+    }
+}

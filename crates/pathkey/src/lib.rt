@@ -1,0 +1,26 @@
+//! Paths, keys and ranges of keys, names of snapshots, and the numbers of refusals.
+//!
+//! A path is kept as its key: each name followed by a byte 0, so that the key of a path, the test
+//! whether one path lies below another, and the keys of a whole subtree are plain bytes side by side
+//! (full-path indexing: Jannen et al., FAST 2015). Contracts see a path as the list of its names from
+//! the root down, and a key or a snapshot's name as its bytes.
+#![tactic(auto)]
+
+pub mod encode;
+pub mod errno;
+pub mod key;
+pub mod laws;
+pub mod path;
+pub mod range;
+pub mod snap_name;
+
+
+pub use errno::{Errno, NoMemory};
+pub use key::Key;
+
+pub use path::Path;
+pub use range::KeyRange;
+
+
+#[cfg(test)]
+mod tests;
