@@ -1,0 +1,2 @@
+pub mod OrderFacts
+pub mod KeyFacts

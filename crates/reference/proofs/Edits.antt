@@ -1,0 +1,92 @@
+-- What is seen at each path after an edit.
+use Rattle.std.proofs.Common.{◌≡◌, ◌≢◌, [], ◌∷◌, true, false, cond, sym, ap, refl, ◌∙◌, subst, Option, Some, None}
+use Rattle.std.specs.Prelude.{fold, unwrap_or}
+use Rattle.std.specs.Ordering.{is_eq}
+use Rattle.std.specs.declared.cmp.Ordering.TheVariants.{Less, Equal, Greater}
+use Rattle.reference.specs.Tree.{by_bytes, same, by_order, Name, Path, Tree, Dir, File, Entries, nothing, entry, named, put, take_out, set_entry, At, Missing, Blocked, found, onward, edited}
+use Rattle.reference.specs.Calls.{parent, no_directory_fault, parent_fault}
+use Rattle.reference.specs.Looks.{seen, look, rest_of, look_after}
+use Rattle.pathkey.proofs.OrderFacts.{equal, same_itself, same_true, same_false, apart}
+
+pub named-put_same : (n : Name) (x : Tree) (es : Entries) → named n (put n x es) ≡ Some x
+named-put_same n x nothing = rw (same_itself n)
+named-put_same n x (entry m y rest) =
+    elim (by_bytes n m) as (λ o. by_bytes n m ≡ o → named n (by_order o (entry n x (entry m y rest)) (entry n x rest) (entry m y (put n x rest))) ≡ Some x) [
+      | Less ↦ λ e. rw (same_itself n)
+      | Equal ↦ λ e. rw (same_itself n)
+      | Greater ↦ λ e. let f : same n m ≡ false = ap is_eq e in rw f (named-put_same n x rest)
+    ] refl
+
+pub named-put_other : (k n : Name) (x : Tree) (es : Entries) → same k n ≡ false → named k (put n x es) ≡ named k es
+named-put_other k n x nothing h = rw h
+named-put_other k n x (entry m y rest) h =
+    elim (by_bytes n m) as (λ o. by_bytes n m ≡ o → named k (by_order o (entry n x (entry m y rest)) (entry n x rest) (entry m y (put n x rest))) ≡ named k (entry m y rest)) [
+      | Less ↦ λ e. rw h
+      | Equal ↦ λ e. let g : same k m ≡ false = subst (λ (z : Name). same k z ≡ false) (equal n m e) h in rw (h, g)
+      | Greater ↦ λ e. ap (λ (z : Option Tree). cond (same k m) (Some y) z) (named-put_other k n x rest h)
+    ] refl
+
+pub named-take_out_same : (n : Name) (es : Entries) → named n (take_out n es) ≡ None
+named-take_out_same n nothing = refl
+named-take_out_same n (entry m y rest) =
+    elim (same n m) as (λ b. same n m ≡ b → named n (cond b (take_out n rest) (entry m y (take_out n rest))) ≡ None) [
+      | true ↦ λ e. named-take_out_same n rest
+      | false ↦ λ e. rw e (named-take_out_same n rest)
+    ] refl
+
+pub named-take_out_other : (k n : Name) (es : Entries) → same k n ≡ false → named k (take_out n es) ≡ named k es
+named-take_out_other k n nothing h = refl
+named-take_out_other k n (entry m y rest) h =
+    elim (same n m) as (λ b. same n m ≡ b → named k (cond b (take_out n rest) (entry m y (take_out n rest))) ≡ named k (entry m y rest)) [
+      | true ↦ λ e. let g : same k m ≡ false = subst (λ (z : Name). same k z ≡ false) (same_true n m e) h in rw g (named-take_out_other k n rest h)
+      | false ↦ λ e. ap (λ (z : Option Tree). cond (same k m) (Some y) z) (named-take_out_other k n rest h)
+    ] refl
+
+pub named-set_same : (n : Name) (o : Option Tree) (es : Entries) → named n (set_entry n o es) ≡ o
+named-set_same n (Some x) es = named-put_same n x es
+named-set_same n None es = named-take_out_same n es
+
+pub named-set_other : (k n : Name) (o : Option Tree) (es : Entries) → same k n ≡ false → named k (set_entry n o es) ≡ named k es
+named-set_other k n (Some x) es h = named-put_other k n x es h
+named-set_other k n None es h = named-take_out_other k n es h
+
+same_flip : (n k : Name) → same n k ≡ false → same k n ≡ false
+same_flip n k h = same_false k n (λ e. apart n k h (sym e))
+
+pub fold-Missing : (p : Path) → fold onward Missing p ≡ Missing
+fold-Missing [] = refl
+fold-Missing (n ∷ p) = fold-Missing p
+
+pub fold-Blocked : (p : Path) → fold onward Blocked p ≡ Blocked
+fold-Blocked [] = refl
+fold-Blocked (n ∷ p) = fold-Blocked p
+
+-- one name that was set, seen at a path through name k
+set_law : (n k : Name) (o : Option Tree) (es : Entries) (q : Path) → seen (fold onward (found (named k (set_entry n o es))) q) ≡ cond (same n k) (seen (fold onward (found o) q)) (seen (fold onward (found (named k es)) q))
+set_law n k o es q =
+    elim (same n k) as (λ b. same n k ≡ b → seen (fold onward (found (named k (set_entry n o es))) q) ≡ cond b (seen (fold onward (found o) q)) (seen (fold onward (found (named k es)) q))) [
+      | true ↦ λ e. ap (λ (z : Option Tree). seen (fold onward (found z) q)) (subst (λ (z : Name). named z (set_entry n o es) ≡ o) (same_true n k e) (named-set_same n o es))
+      | false ↦ λ e. ap (λ (z : Option Tree). seen (fold onward (found z) q)) (named-set_other k n o es (same_flip n k e))
+    ] refl
+
+pub edit_law : (p : Path) (t : Tree) (o : Option Tree) (q : Path) → p ≢ [] → parent_fault t p ≡ None → look (edited t p o) q ≡ look_after (rest_of p q) o (look t q)
+edit_law [] t o q ne h = absurd (ne refl)
+edit_law (n ∷ []) (File b) o q ne h = cc
+edit_law (n ∷ []) (Dir es) o [] ne h = refl
+edit_law (n ∷ []) (Dir es) o (k ∷ q) ne h =
+    set_law n k o es q ∙ elim (same n k) as (λ b. cond b (seen (fold onward (found o) q)) (seen (fold onward (found (named k es)) q)) ≡ look_after (cond b (Some q) None) o (seen (fold onward (found (named k es)) q))) [ true ↦ refl | false ↦ refl ]
+edit_law (n ∷ m ∷ p) (File b) o q ne h =
+    let e : fold onward Blocked (parent (m ∷ p)) ≡ Blocked = fold-Blocked (parent (m ∷ p)) in
+    absurd (let f : no_directory_fault Blocked ≡ None = subst (λ (a : At). no_directory_fault a ≡ None) e h in cc)
+edit_law (n ∷ m ∷ p) (Dir es) o [] ne h = refl
+edit_law (n ∷ m ∷ p) (Dir es) o (k ∷ q) ne h =
+    elim (named n es) as (λ c. named n es ≡ c → no_directory_fault (fold onward (found c) (parent (m ∷ p))) ≡ None
+    → seen (fold onward (found (named k (put n (edited (unwrap_or c (Dir nothing)) (m ∷ p) o) es))) q) ≡ look_after (cond (same n k) (rest_of (m ∷ p) q) None) o (seen (fold onward (found (named k es)) q))) [
+      | None ↦ λ e f. absurd (let g : no_directory_fault Missing ≡ None = subst (λ (a : At). no_directory_fault a ≡ None) (fold-Missing (parent (m ∷ p))) f in cc)
+      | Some x ↦ λ e f.
+          let ih : look (edited x (m ∷ p) o) q ≡ look_after (rest_of (m ∷ p) q) o (look x q) = edit_law (m ∷ p) x o q (λ z. cc) f in
+          set_law n k (Some (edited x (m ∷ p) o)) es q ∙ elim (same n k) as (λ b. same n k ≡ b → cond b (look (edited x (m ∷ p) o) q) (seen (fold onward (found (named k es)) q)) ≡ look_after (cond b (rest_of (m ∷ p) q) None) o (seen (fold onward (found (named k es)) q))) [
+            | true ↦ λ g. let s : named k es ≡ Some x = subst (λ (z : Name). named z es ≡ Some x) (same_true n k g) e in rw s ih
+            | false ↦ λ g. refl
+          ] refl
+    ] refl h

@@ -1,0 +1,200 @@
+-- What each file call does to a tree, and what it answers: the table of calls, case by case, the first that
+-- fits deciding (POSIX.1-2017: mkdir, open, pwrite, truncate, unlink, rmdir, rename, pread, stat, readdir;
+-- where POSIX leaves a choice, the profile makes it once, here).
+use Rattle.std.specs.Prelude.{ℕ, ◌+◌, ◌^◌, max, nat_lt, List, [], ◌∷◌, length, take, drop, Bool, true, false, cond, ◌&&◌, Option, Some, None}
+pub use Rattle.pathkey.specs.Names.{is_root, parent, is_under, same_path, text_len}
+pub use Rattle.pathkey.specs.Outcomes.{when}
+use Rattle.reference.specs.Tree.{Name, Path, Tree, Dir, File, Entries, nothing, entry, At, Found, Missing, Blocked, entry_at, with_entry, without, over, sized}
+use Rattle.reference.specs.declared.call.Call.{Call}
+use Rattle.reference.specs.declared.call.Call.TheVariants.{Mkdir, Create, Write, Truncate, Unlink, Rmdir, Rename, Rmtree, Read, Stat as AskStat, Readdir}
+use Rattle.reference.specs.declared.reply.Reply.{Reply}
+use Rattle.reference.specs.declared.reply.Reply.TheVariants.{Done, Count, Data, Stat, Names, Fault}
+use Rattle.reference.specs.declared.reply.Kind.{Kind}
+use Rattle.reference.specs.declared.reply.Kind.TheVariants.{Dir as Directory, File as Plain}
+use Rattle.pathkey.specs.declared.errno.Errno.{Errno}
+use Rattle.pathkey.specs.declared.errno.Errno.TheVariants.{ENOENT, ENOTDIR, EISDIR, EEXIST, ENOTEMPTY, EPERM, EINVAL, ENAMETOOLONG, EFBIG, EBUSY}
+
+-- something stands there
+abbrev pub is_found : At → Bool
+is_found (Found x) = true
+is_found _ = false
+
+-- a directory stands there
+abbrev pub is_directory : At → Bool
+is_directory (Found (Dir es)) = true
+is_directory _ = false
+
+-- a file stands there
+abbrev pub is_file : At → Bool
+is_file (Found (File b)) = true
+is_file _ = false
+
+-- a directory with an entry
+abbrev pub is_full : At → Bool
+is_full (Found (Dir (entry n x es))) = true
+is_full _ = false
+
+-- the bytes of the file that stands there
+abbrev pub bytes_of : At → List ℕ
+bytes_of (Found (File b)) = b
+bytes_of _ = []
+
+-- why nothing is found at a path: a component is absent, or a file stands before the last one
+abbrev pub path_fault : At → Option Errno
+path_fault (Found x) = None
+path_fault Missing = Some ENOENT
+path_fault Blocked = Some ENOTDIR
+
+-- why a path names no directory
+abbrev pub no_directory_fault : At → Option Errno
+no_directory_fault (Found (Dir es)) = None
+no_directory_fault (Found (File b)) = Some ENOTDIR
+no_directory_fault Missing = Some ENOENT
+no_directory_fault Blocked = Some ENOTDIR
+
+-- why an entry cannot be made at a path: its parent is no directory (none at the root)
+abbrev pub parent_fault : Tree → Path → Option Errno
+parent_fault t [] = None
+parent_fault t (n ∷ p) = no_directory_fault (entry_at t (parent (n ∷ p)))
+
+abbrev pub is_empty : List ℕ → Bool
+is_empty [] = true
+is_empty (b ∷ bs) = false
+
+-- the longest text from a tree down to what it holds
+abbrev mutual
+  pub deepest : Tree → ℕ
+  deepest (Dir es) = deepest_of es
+  deepest (File b) = 0
+
+  pub deepest_of : Entries → ℕ
+  deepest_of nothing = 0
+  deepest_of (entry n x rest) = max (1 + length n + deepest x) (deepest_of rest)
+
+-- whether an entry is a directory or a file
+abbrev pub kind_of : Tree → Kind
+kind_of (Dir es) = Directory
+kind_of (File b) = Plain
+
+-- the kinds and names of entries, in their order
+abbrev pub listing : Entries → List (Kind × Name)
+listing nothing = []
+listing (entry n x rest) = (kind_of x, n) ∷ listing rest
+
+-- the tree after a call, and the answer
+abbrev pub Outcome : Type 0
+Outcome = Tree × Reply
+
+-- the first fault of the list, with the tree as it was; or else the outcome
+abbrev pub unless : Tree → List (Option Errno) → Outcome → Outcome
+unless t [] o = o
+unless t (None ∷ faults) o = unless t faults o
+unless t (Some e ∷ faults) o = (t, Fault e)
+
+-- the most bytes of a file
+abbrev pub greatest_file : ℕ
+greatest_file = 2 ^ 40
+
+-- `mkdir` and `create`: a new entry, where its parent is a directory and nothing stands there
+abbrev pub made : Tree → Path → Tree → Outcome
+made t p x = unless t (when (is_root p) EEXIST ∷ parent_fault t p ∷ when (is_found (entry_at t p)) EEXIST ∷ []) (with_entry t p x, Done)
+
+-- `write`: the bytes laid over the file, which is lengthened by zeros where it is shorter; no bytes change nothing
+abbrev pub written : Tree → Path → ℕ → List ℕ → Outcome
+written t p off w =
+    let here = entry_at t p in
+    unless t (path_fault here ∷ when (is_directory here) EISDIR ∷ [])
+    (cond (is_empty w) (t, Count 0)
+    (unless t (when (nat_lt greatest_file (off + length w)) EFBIG ∷ [])
+    (with_entry t p (File (over (bytes_of here) off w)), Count (length w))))
+
+-- `truncate`: the file cut to n bytes, or lengthened by zeros to n
+abbrev pub truncated : Tree → Path → ℕ → Outcome
+truncated t p n =
+    let here = entry_at t p in
+    unless t (path_fault here ∷ when (is_directory here) EISDIR ∷ when (nat_lt greatest_file n) EFBIG ∷ [])
+    (with_entry t p (File (sized (bytes_of here) n)), Done)
+
+-- `unlink`: the file taken out; a directory is refused
+abbrev pub unlinked : Tree → Path → Outcome
+unlinked t p =
+    let here = entry_at t p in
+    unless t (path_fault here ∷ when (is_directory here) EPERM ∷ []) (without t p, Done)
+
+-- `rmdir`: the empty directory taken out
+abbrev pub directory_removed : Tree → Path → Outcome
+directory_removed t p =
+    let here = entry_at t p in
+    unless t (when (is_root p) EBUSY ∷ path_fault here ∷ when (is_file here) ENOTDIR ∷ when (is_full here) ENOTEMPTY ∷ []) (without t p, Done)
+
+-- `rmtree`: the entry taken out with all below it
+abbrev pub removed : Tree → Path → Outcome
+removed t p = unless t (when (is_root p) EBUSY ∷ path_fault (entry_at t p) ∷ []) (without t p, Done)
+
+-- the tree with what stood elsewhere put at a path
+abbrev pub placed : Tree → Path → At → Tree
+placed t p (Found x) = with_entry t p x
+placed t p _ = t
+
+-- the longest text below what stands there
+abbrev pub deepest_at : At → ℕ
+deepest_at (Found x) = deepest x
+deepest_at _ = 0
+
+-- `rename`: the entry taken out at o and put at n, where it replaces a file or an empty directory
+abbrev pub renamed : Tree → Path → Path → Outcome
+renamed t o n =
+    let from = entry_at t o in
+    let to = entry_at t n in
+    unless t (when (is_root o) EBUSY ∷ path_fault from ∷ [])
+    (cond (same_path o n) (t, Done)
+    (unless t
+    (when (is_directory from && is_under o n) EINVAL
+    ∷ parent_fault t n
+    ∷ when (is_directory to && is_file from) EISDIR
+    ∷ when (is_file to && is_directory from) ENOTDIR
+    ∷ when (is_full to) ENOTEMPTY
+    ∷ when (nat_lt 1023 (text_len n + deepest_at from)) ENAMETOOLONG
+    ∷ [])
+    (placed (without t o) n from, Done)))
+
+-- `read`: the bytes from off on, at most n, none past the end
+abbrev pub read : Tree → Path → ℕ → ℕ → Outcome
+read t p off n =
+    let here = entry_at t p in
+    unless t (path_fault here ∷ when (is_directory here) EISDIR ∷ when (nat_lt 1048576 n) EINVAL ∷ [])
+    (t, Data (take n (drop off (bytes_of here))))
+
+-- the kind and length of what stands there; a directory has length 0
+abbrev pub stat_of : At → Reply
+stat_of (Found (File b)) = Stat Plain (length b)
+stat_of _ = Stat Directory 0
+
+-- `stat`
+abbrev pub asked : Tree → Path → Outcome
+asked t p = unless t (path_fault (entry_at t p) ∷ []) (t, stat_of (entry_at t p))
+
+-- what a directory lists
+abbrev pub names_of : At → List (Kind × Name)
+names_of (Found (Dir es)) = listing es
+names_of _ = []
+
+-- `readdir`
+abbrev pub listed : Tree → Path → Outcome
+listed t p =
+    let here = entry_at t p in
+    unless t (path_fault here ∷ when (is_file here) ENOTDIR ∷ []) (t, Names (names_of here))
+
+-- the tree after a call, and the answer, for each of the eleven calls
+unfoldable pub does : Tree → Call → Outcome
+does t (Mkdir p) = made t p (Dir nothing)
+does t (Create p) = made t p (File [])
+does t (Write p off w) = written t p off w
+does t (Truncate p n) = truncated t p n
+does t (Unlink p) = unlinked t p
+does t (Rmdir p) = directory_removed t p
+does t (Rename o n) = renamed t o n
+does t (Rmtree p) = removed t p
+does t (Read p off n) = read t p off n
+does t (AskStat p) = asked t p
+does t (Readdir p) = listed t p

@@ -1,0 +1,106 @@
+-- Laws of the definitions: what an edit changes, what a call keeps, what is seen at the paths of a tree, and
+-- which changes of two indexes mean which call.
+use Rattle.std.specs.Prelude.{◌≡◌, ◌≢◌, ◌↔◌, ℕ, ◌+◌, ◌≤◌, false, length, List, [], ◌∷◌, ◌++◌, Option, Some, None, Contains}
+use Rattle.pathkey.specs.Enc.{enc}
+use Rattle.pathkey.specs.Keys.{subtree, blocks_from}
+use Rattle.pathkey.specs.declared.errno.Errno.{Errno}
+use Rattle.reference.specs.Tree.{Name, Path, Tree, Dir, Entries, edited, Found, Missing, Blocked, found, named, entry_at}
+use Rattle.reference.specs.Calls.{Outcome, same_path, is_empty, parent_fault, listing, does}
+use Rattle.reference.specs.Shape.{Rising, IsTree, IsCall, AreBytes}
+use Rattle.reference.specs.Looks.{Directory, Bytes, seen, look, kind_at, rest_of, look_after}
+use Rattle.reference.specs.Indexes.{MetaIndex, BlockIndex, BlocksMean, IndexesMean, put_at, deleted_at, cleared, edit_at, moved, grow, set_len, patched, cut_block, BlocksChange}
+use Rattle.reference.specs.declared.call.Call.{Call}
+use Rattle.reference.specs.declared.call.Call.TheVariants.{Mkdir, Create, Write, Truncate, Unlink, Rmdir, Rename, Rmtree, Read, Stat as AskStat, Readdir}
+use Rattle.reference.specs.declared.reply.Reply.{Reply}
+use Rattle.reference.specs.declared.reply.Reply.TheVariants.{Done, Count, Fault}
+use Rattle.reference.specs.declared.reply.Kind.{Kind}
+use Rattle.reference.specs.declared.reply.Meta.TheVariants.{Dir as DirMeta, File as FileMeta}
+
+-- ---- edits
+
+-- what is seen in a tree after one entry was put or taken out, its parent being a directory
+abbrev pub EditLaw : Type 0
+EditLaw = (t : Tree) (p : Path) (o : Option Tree) (q : Path) → p ≢ [] → parent_fault t p ≡ None → look (edited t p o) q ≡ look_after (rest_of p q) o (look t q)
+
+-- an entry that is put keeps the names of each directory rising
+abbrev pub PutRisesLaw : Type 0
+PutRisesLaw = (t : Tree) (p : Path) (x : Tree) → Rising x → Rising t → Rising (edited t p (Some x))
+
+-- and so does an entry that is taken out
+abbrev pub OutRisesLaw : Type 0
+OutRisesLaw = (t : Tree) (p : Path) → Rising t → Rising (edited t p None)
+
+-- ---- calls
+
+-- each of the eleven calls makes a directory tree of a directory tree
+abbrev pub CallLaw : Type 0
+CallLaw = (t : Tree) (c : Call) → IsTree t → IsCall c → IsTree (does t c).0
+
+-- a call that is refused changes nothing
+abbrev pub FaultLaw : Type 0
+FaultLaw = (t : Tree) (c : Call) (e : Errno) → (does t c).1 ≡ Fault e → (does t c).0 ≡ t
+
+-- a call that reads, and a write of no bytes, change nothing
+abbrev pub ReadingLaw : Type 0
+ReadingLaw = (t : Tree) (p : Path) (off n : ℕ) →
+    ((does t (Read p off n)).0 ≡ t) × ((does t (AskStat p)).0 ≡ t) × ((does t (Readdir p)).0 ≡ t) × ((does t (Write p off [])).0 ≡ t)
+
+-- ---- what is seen
+
+-- two trees in order that look alike at each path are one
+abbrev pub OneTreeLaw : Type 0
+OneTreeLaw = (t u : Tree) → Rising t → Rising u → ((p : Path) → look t p ≡ look u p) → t ≡ u
+
+-- below a file the way is blocked
+abbrev pub BlockedLaw : Type 0
+BlockedLaw = (t : Tree) (p : Path) (n : Name) (r : Path) (b : List ℕ) → look t p ≡ Some (Bytes b) → entry_at t (p ++ n ∷ r) ≡ Blocked
+
+-- at a name that a directory lacks, and below it, nothing stands
+abbrev pub MissingLaw : Type 0
+MissingLaw = (t : Tree) (p : Path) (n : Name) (r : Path) → look t p ≡ Some Directory → look t (p ++ n ∷ []) ≡ None → entry_at t (p ++ n ∷ r) ≡ Missing
+
+-- what is seen one name below a directory is its entry of that name
+abbrev pub ChildLaw : Type 0
+ChildLaw = (t : Tree) (p : Path) (es : Entries) (n : Name) → entry_at t p ≡ Found (Dir es) → look t (p ++ n ∷ []) ≡ seen (found (named n es))
+
+-- a directory lists exactly the names at which something is seen, each with its kind
+abbrev pub ListingLaw : Type 0
+ListingLaw = (t : Tree) (p : Path) (es : Entries) (k : Kind) (n : Name) → Rising t → entry_at t p ≡ Found (Dir es) → Contains (listing es) (k, n) ↔ (kind_at t (p ++ n ∷ []) ≡ Some k)
+
+-- ---- indexes
+
+-- two indexes mean at most one tree
+abbrev pub OneMeaningLaw : Type 0
+OneMeaningLaw = (t u : Tree) (m : MetaIndex) (d : BlockIndex) → IndexesMean t m d → IndexesMean u m d → t ≡ u
+
+-- where two indexes mean a tree, these changes of them mean these calls when they are done
+abbrev pub MkdirLaw : Type 0
+MkdirLaw = (t t' : Tree) (p : Path) (m : MetaIndex) (d : BlockIndex) → IndexesMean t m d → IsCall (Mkdir p) → ◌≡◌ {A = Outcome} (does t (Mkdir p)) (t', Done) → IndexesMean t' (put_at (enc p) DirMeta m) d
+
+abbrev pub CreateLaw : Type 0
+CreateLaw = (t t' : Tree) (p : Path) (m : MetaIndex) (d : BlockIndex) → IndexesMean t m d → IsCall (Create p) → ◌≡◌ {A = Outcome} (does t (Create p)) (t', Done) → IndexesMean t' (put_at (enc p) (FileMeta 0) m) d
+
+abbrev pub WriteLaw : Type 0
+WriteLaw = (t t' : Tree) (p : Path) (off : ℕ) (w : List ℕ) (m : MetaIndex) (d d' : BlockIndex) → IndexesMean t m d → IsCall (Write p off w) → is_empty w ≡ false → BlocksChange (patched off w) p d d'
+    → ◌≡◌ {A = Outcome} (does t (Write p off w)) (t', Count (length w)) → IndexesMean t' (edit_at (enc p) (grow (off + length w)) m) d'
+
+abbrev pub TruncateLaw : Type 0
+TruncateLaw = (t t' : Tree) (p : Path) (n : ℕ) (m : MetaIndex) (d d' : BlockIndex) → IndexesMean t m d → IsCall (Truncate p n) → BlocksChange (cut_block n) p d d'
+    → ◌≡◌ {A = Outcome} (does t (Truncate p n)) (t', Done) → IndexesMean t' (edit_at (enc p) (set_len n) m) d'
+
+-- to lengthen a file changes no block
+abbrev pub LengthenLaw : Type 0
+LengthenLaw = (t t' : Tree) (p : Path) (n : ℕ) (b : List ℕ) (m : MetaIndex) (d : BlockIndex) → IndexesMean t m d → IsCall (Truncate p n) → look t p ≡ Some (Bytes b) → length b ≤ n
+    → ◌≡◌ {A = Outcome} (does t (Truncate p n)) (t', Done) → IndexesMean t' (edit_at (enc p) (set_len n) m) d
+
+abbrev pub UnlinkLaw : Type 0
+UnlinkLaw = (t t' : Tree) (p : Path) (m : MetaIndex) (d : BlockIndex) → IndexesMean t m d → IsCall (Unlink p) → ◌≡◌ {A = Outcome} (does t (Unlink p)) (t', Done) → IndexesMean t' (deleted_at (enc p) m) (cleared (blocks_from p 0) d)
+
+abbrev pub RmdirLaw : Type 0
+RmdirLaw = (t t' : Tree) (p : Path) (m : MetaIndex) (d : BlockIndex) → IndexesMean t m d → IsCall (Rmdir p) → ◌≡◌ {A = Outcome} (does t (Rmdir p)) (t', Done) → IndexesMean t' (deleted_at (enc p) m) d
+
+abbrev pub RmtreeLaw : Type 0
+RmtreeLaw = (t t' : Tree) (p : Path) (m : MetaIndex) (d : BlockIndex) → IndexesMean t m d → IsCall (Rmtree p) → ◌≡◌ {A = Outcome} (does t (Rmtree p)) (t', Done) → IndexesMean t' (cleared (subtree p) m) (cleared (subtree p) d)
+
+abbrev pub RenameLaw : Type 0
+RenameLaw = (t t' : Tree) (o n : Path) (m : MetaIndex) (d : BlockIndex) → IndexesMean t m d → IsCall (Rename o n) → same_path o n ≡ false → ◌≡◌ {A = Outcome} (does t (Rename o n)) (t', Done) → IndexesMean t' (moved o n m) (moved o n d)

@@ -1,0 +1,10 @@
+pub mod Pairs
+pub mod Tree
+pub mod Calls
+pub mod Shape
+pub mod Looks
+pub mod Indexes
+pub mod Worlds
+pub mod Image
+pub mod Rows
+pub mod Laws

@@ -1,0 +1,89 @@
+-- A directory tree, the walk along a path, and the tree with one entry put or taken out
+-- (POSIX.1-2017, 4.13 Pathname Resolution, for files and directories without links).
+use Rattle.std.specs.Prelude.{ℕ, ◌+◌, ◌-◌, List, [], ◌∷◌, ◌++◌, length, take, drop, replicate, cond, Option, Some, None, unwrap_or, fold}
+use Rattle.std.specs.declared.cmp.Ordering.{Ordering}
+use Rattle.std.specs.declared.cmp.Ordering.TheVariants.{Less, Equal, Greater}
+pub use Rattle.pathkey.specs.Order.{by_bytes, same}
+pub use Rattle.pathkey.specs.Names.{Name, Path}
+
+-- a directory of named entries, or a file of bytes
+mutual
+  pub data Tree : Type 0 where
+    Dir : Entries → Tree
+    File : List ℕ → Tree
+
+  pub data Entries : Type 0 where
+    nothing : Entries
+    entry : Name → Tree → Entries → Entries
+
+-- the first where the order says less, the second at equal, the third at greater
+abbrev pub by_order : {A : Type 0} → Ordering → A → A → A → A
+by_order Less a b c = a
+by_order Equal a b c = b
+by_order Greater a b c = c
+
+-- the entry of that name
+abbrev pub named : Name → Entries → Option Tree
+named n nothing = None
+named n (entry m x rest) = cond (same n m) (Some x) (named n rest)
+
+-- the entries with x under the name n, in byte order
+abbrev pub put : Name → Tree → Entries → Entries
+put n x nothing = entry n x nothing
+put n x (entry m y rest) = by_order (by_bytes n m) (entry n x (entry m y rest)) (entry n x rest) (entry m y (put n x rest))
+
+-- the entries without the name n
+abbrev pub take_out : Name → Entries → Entries
+take_out n nothing = nothing
+take_out n (entry m y rest) = cond (same n m) (take_out n rest) (entry m y (take_out n rest))
+
+-- what stands at a path: an entry; nothing; or a file stands on the way
+pub data At : Type 0 where
+  Found : Tree → At
+  Missing : At
+  Blocked : At
+
+abbrev pub found : Option Tree → At
+found None = Missing
+found (Some x) = Found x
+
+-- one name further
+abbrev pub onward : At → Name → At
+onward (Found (Dir es)) n = found (named n es)
+onward (Found (File b)) n = Blocked
+onward Missing n = Missing
+onward Blocked n = Blocked
+
+-- what stands at a path: the walk along its names from the root
+abbrev pub entry_at : Tree → Path → At
+entry_at t p = fold onward (Found t) p
+
+-- one name of a directory put, or taken out
+abbrev pub set_entry : Name → Option Tree → Entries → Entries
+set_entry n (Some x) es = put n x es
+set_entry n None es = take_out n es
+
+-- the entry of that name, or an empty directory
+abbrev pub child : Name → Entries → Tree
+child n es = unwrap_or (named n es) (Dir nothing)
+
+-- the tree with the entry at a path that is not the root put or taken out
+abbrev pub edited : Tree → Path → Option Tree → Tree
+edited t [] o = t
+edited (File b) (n ∷ p) o = File b
+edited (Dir es) (n ∷ []) o = Dir (set_entry n o es)
+edited (Dir es) (n ∷ m ∷ p) o = Dir (put n (edited (child n es) (m ∷ p) o) es)
+
+abbrev pub with_entry : Tree → Path → Tree → Tree
+with_entry t p x = edited t p (Some x)
+
+abbrev pub without : Tree → Path → Tree
+without t p = edited t p None
+
+-- b lengthened by zeros to off where it is shorter, then v laid over it from off on
+abbrev pub over : List ℕ → ℕ → List ℕ → List ℕ
+over b off v = take off b ++ replicate (off - length b) 0 ++ v ++ drop (off + length v) b
+
+-- the first n bytes of b, lengthened by zeros to n
+abbrev pub sized : List ℕ → ℕ → List ℕ
+sized b n = take n b ++ replicate (n - length b) 0
