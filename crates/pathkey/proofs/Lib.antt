@@ -1,2 +1,6 @@
 pub mod OrderFacts
 pub mod KeyFacts
+pub mod Pieces
+pub mod ComponentFacts
+pub mod TextFacts
+pub mod PathFacts

@@ -1,6 +1,6 @@
 -- Keys: a path as bytes, and the ranges of keys that stand for subtrees and for the blocks of a file
 -- (full-path indexing: Jannen et al., FAST 2015).
-use Rattle.std.specs.Prelude.{◌≡◌, ℕ, List, [], ◌∷◌, ◌++◌, Bool, true, ◌&&◌, Option, Some, None}
+use Rattle.std.specs.Prelude.{◌≡◌, ◌≢◌, ℕ, List, [], ◌∷◌, ◌++◌, Bool, true, ◌&&◌, Option, Some, None}
 use Rattle.std.specs.List.{join_with_byte}
 use Rattle.std.specs.Ordering.{is_le, is_lt}
 use Rattle.std.specs.Int.{w32, to_be_bytes}
@@ -36,3 +36,8 @@ subtree (n ∷ p) = record { lo = enc (n ∷ p); hi = Some (end_of (n ∷ p)) }
 -- the blocks of a path from number a on
 unfoldable pub blocks_from : Path → ℕ → KeyRange
 blocks_from p a = record { lo = block_key p a; hi = Some (enc p ++ 1 ∷ []) }
+
+-- the key with the old path's key at its beginning made the new one's; none only where it does not begin so
+abbrev pub IsRekeyed : Key → Path → Path → Option Key → Type 0
+IsRekeyed key old new None = (z : Key) → key ≢ enc old ++ z
+IsRekeyed key old new (Some k) = (z : Key) × (key ≡ enc old ++ z) × (k ≡ enc new ++ z)

@@ -1,6 +1,6 @@
 -- Which keys are those of paths.
-use Rattle.std.specs.Prelude.{◌≡◌, ℕ, List}
-use Rattle.pathkey.specs.Names.{IsPath}
+use Rattle.std.specs.Prelude.{◌≡◌, ◌≢◌, ℕ, List, Option, Some, None}
+use Rattle.pathkey.specs.Names.{Path, IsPath, EachName}
 use Rattle.pathkey.specs.Texts.{names_of}
 use Rattle.pathkey.specs.Enc.{enc}
 
@@ -8,3 +8,13 @@ use Rattle.pathkey.specs.Enc.{enc}
 pub record IsPathKey (key : List ℕ) : Type 0 where
   pub is_path : IsPath (names_of key)
   pub spelled : enc (names_of key) ≡ key
+
+-- the bytes spell file names, each ended by a byte 0
+pub record SpellsNames (key : List ℕ) : Type 0 where
+  pub names : EachName (names_of key)
+  pub spelled : enc (names_of key) ≡ key
+
+-- the path that has the key; none only where no path has it
+abbrev pub IsPathOf : List ℕ → Option Path → Type 0
+IsPathOf key None = (p : Path) → IsPath p → enc p ≢ key
+IsPathOf key (Some p) = IsPath p × (enc p ≡ key)

@@ -1,5 +1,5 @@
 -- The text of a path, and what reading a text as a path answers.
-use Rattle.std.specs.Prelude.{ℕ, List, [], ◌∷◌, ◌++◌, length, Bool, true, false, cond, not, ◌||◌, ◌==◌, nat_lt, Result}
+use Rattle.std.specs.Prelude.{ℕ, List, [], ◌∷◌, ◌++◌, length, Bool, true, false, cond, not, ◌||◌, ◌==◌, nat_lt, Option, Result}
 use Rattle.std.specs.List.{list_any}
 use Rattle.pathkey.specs.Order.{same}
 use Rattle.pathkey.specs.Names.{Name, Path}
@@ -32,13 +32,28 @@ abbrev pub components : List ℕ → List Name
 components [] = []
 components (b ∷ rest) = pieces 47 (b ∷ rest ++ 47 ∷ [])
 
+-- `.` or `..`
+abbrev pub is_dots : Name → Bool
+is_dots n = same n (46 ∷ []) || same n (46 ∷ 46 ∷ [])
+
+-- a null byte or a slash, which no name has
+abbrev pub is_forbidden : ℕ → Bool
+is_forbidden b = (b == 0) || (b == 47)
+
 -- no file name, whatever its length: empty, `.`, `..`, or with a null byte or a slash
 abbrev pub is_malformed : Name → Bool
 is_malformed [] = true
-is_malformed n = same n (46 ∷ []) || same n (46 ∷ 46 ∷ []) || list_any (λ b. (b == 0) || (b == 47)) n
+is_malformed n = is_dots n || list_any is_forbidden n
 
 abbrev pub is_long : Name → Bool
 is_long n = nat_lt 255 (length n)
+
+-- the faults of what stands between the separators, the first of which counts
+abbrev pub component_faults : ℕ → List ℕ → List (Option Errno)
+component_faults separator bytes =
+    when (list_any is_malformed (pieces separator (bytes ++ separator ∷ []))) EINVAL
+    ∷ when (list_any is_long (pieces separator (bytes ++ separator ∷ []))) ENAMETOOLONG
+    ∷ []
 
 -- what reading a text as a path answers: the first fault in this order, or the names
 abbrev pub parsed : List ℕ → Result Path Errno
@@ -55,3 +70,7 @@ parsed (b ∷ rest) =
 -- the names that a key spells, each ended by a byte 0
 abbrev pub names_of : List ℕ → Path
 names_of key = pieces 0 key
+
+-- the byte of a key for a byte of a text
+abbrev pub null_for_slash : ℕ → ℕ
+null_for_slash b = cond (b == 47) 0 b

@@ -1,8 +1,9 @@
 //! Keys: byte strings in byte order.
-ghost use Rattle.std.specs.Prelude.{◌≡◌, [], IfOk};
+ghost use Rattle.std.specs.Prelude.{◌≡◌, [], ◌∷◌, ◌++◌, IfOk, map};
 ghost use Rattle.std.specs.Cmp.{partial_order_from_agreeing_total};
 ghost use Rattle.std.specs.Ordering.{as_partial_cmp, eq_by_cmp};
 ghost use Rattle.std.proofs.Common.{refl};
+ghost use Rattle.pathkey.specs.Texts.{null_for_slash};
 ghost use Rattle.pathkey.specs.Order.{by_bytes, by_bytes_total, by_bytes_equiv, by_bytes_partial_equiv};
 
 use crate::errno::NoMemory;
@@ -45,6 +46,28 @@ impl Key {
         ensures { IfOk result (λ k. k ≡ bytes.now) }
     {
         let bytes = SmallVec::from_slice(alloc, bytes)?;
+        Ok(Key { bytes })
+    }
+
+    /// The key of these bytes, one part after the other.
+    pub(crate) fn joined(alloc: Global, front: &[u8], back: &[u8]) -> Result<Key, NoMemory>
+        ensures { IfOk result (λ k. k ≡ front.now ++ back.now) }
+    {
+        let mut bytes = SmallVec::with_capacity(alloc, front.len() + back.len())?;
+        bytes.extend_from_slice(front)?;
+        bytes.extend_from_slice(back)?;
+        Ok(Key { bytes })
+    }
+
+    /// The key of the path whose text goes on as given after its first slash.
+    pub(crate) fn of_text(alloc: Global, text: &[u8]) -> Result<Key, NoMemory>
+        ensures { IfOk result (λ k. k ≡ map null_for_slash text.now ++ 0 ∷ []) }
+    {
+        let mut bytes = SmallVec::with_capacity(alloc, text.len() + 1)?;
+        for byte in text {
+            bytes.push(if *byte == b'/' { 0 } else { *byte })?;
+        }
+        bytes.push(0)?;
         Ok(Key { bytes })
     }
 

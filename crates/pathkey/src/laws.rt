@@ -1,0 +1,32 @@
+//! Laws of paths, texts and keys, each proved once for those who rely on it. The functions do nothing.
+ghost use Rattle.pathkey.specs.Laws.{ReadBackLaw, OnlyTextsLaw, UnderLaw, EncLaw, SubtreeLaw, BlockSubtreeLaw, BlockKeyLaw, BlocksDifferLaw, BlocksFromLaw, NoPathAmongBlocksLaw};
+
+/// The text of a path is read as that path, and no other text is read at all.
+pub fn texts()
+    ensures read_back { ReadBackLaw }
+    ensures only_texts { OnlyTextsLaw }
+{}
+
+/// A path is at or below another where its names begin with the other's.
+pub fn under()
+    ensures { UnderLaw }
+{}
+
+/// Paths and blocks have keys of their own.
+pub fn keys_differ()
+    ensures paths { EncLaw }
+    ensures path_and_block { BlockKeyLaw }
+    ensures blocks { BlocksDifferLaw }
+{}
+
+/// The keys of a subtree are those of the paths at or below its root, and of their blocks.
+pub fn subtrees()
+    ensures paths { SubtreeLaw }
+    ensures blocks { BlockSubtreeLaw }
+{}
+
+/// The keys of a file's blocks from a number on are those of its blocks from there on alone.
+pub fn blocks()
+    ensures blocks { BlocksFromLaw }
+    ensures no_path { NoPathAmongBlocksLaw }
+{}

@@ -6,21 +6,23 @@
 //! the root down, and a key or a snapshot's name as its bytes.
 #![tactic(auto)]
 
+mod components;
 pub mod encode;
 pub mod errno;
 pub mod key;
 pub mod laws;
+pub mod names;
 pub mod path;
 pub mod range;
 pub mod snap_name;
 
-
+pub use encode::{block_key, dec, enc, rekey};
 pub use errno::{Errno, NoMemory};
 pub use key::Key;
-
+pub use names::Names;
 pub use path::Path;
-pub use range::KeyRange;
-
+pub use range::{KeyRange, blocks_from, subtree};
+pub use snap_name::SnapName;
 
 #[cfg(test)]
 mod tests;

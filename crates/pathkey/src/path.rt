@@ -1,15 +1,21 @@
 //! Paths, each kept as its key.
 ghost use Rattle.std.specs.Prelude.{◌≡◌, [], IfOk};
 ghost use Rattle.std.specs.Option.{option_copied};
-ghost use Rattle.pathkey.specs.Names.{parent_path, last_name, is_under};
+ghost use Rattle.pathkey.specs.Names.{IsPath, is_root, parent_path, last_name, is_under};
 ghost use Rattle.pathkey.specs.Enc.{enc};
-ghost use Rattle.pathkey.specs.Texts.{parsed};
+ghost use Rattle.pathkey.specs.Texts.{names_of, parsed};
+ghost use Rattle.pathkey.specs.PathKeys.{IsPathKey};
 ghost use Rattle.pathkey.specs.Outcomes.{IsOrLacksMemory};
 
+use crate::components::check_components;
 use crate::errno::{Errno, NoMemory};
 use crate::key::Key;
+use crate::names::Names;
 use std::alloc::Global;
 use std::marker::Model;
+
+/// The most bytes that a path's text has.
+pub(crate) const LONGEST_TEXT: usize = 1023;
 
 /// A path from the root, which contracts see as the list of its names.
 ///
@@ -36,15 +42,97 @@ impl Path {
     pub fn root(alloc: Global) -> Path
         ensures { result ≡ [] }
     {
-        Path {
-            key: Key::new(alloc),
+        Path::of_key(Key::new(alloc))
+    }
+
+    /// The path that a text names, as `/a/b`.
+    pub fn parse(alloc: Global, text: &[u8]) -> Result<Path, Errno>
+        ensures { IsOrLacksMemory result (parsed text.now) }
+    {
+        let Some((first, rest)) = text.split_first() else {
+            return Err(Errno::ENOENT);
+        };
+        if *first != b'/' {
+            return Err(Errno::EINVAL);
         }
+        if rest.is_empty() {
+            return Ok(Path::root(alloc));
+        }
+        check_components(rest, b'/')?;
+        if text.len() > LONGEST_TEXT {
+            return Err(Errno::ENAMETOOLONG);
+        }
+        let key = Key::of_text(alloc, rest)?;
+        Ok(Path::of_key(key))
+    }
+
+    // The path whose key this is.
+    pub(crate) fn of_key(key: Key) -> Path
+        requires { IsPathKey key }
+        ensures { result ≡ names_of key }
+    {
+        Path { key }
+    }
+
+    /// An equal path.
+    pub fn copy(&self, alloc: Global) -> Result<Path, NoMemory>
+        ensures { IfOk result (λ p. p ≡ self.now) }
+    {
+        let key = self.key.copy(alloc)?;
+        Ok(Path { key })
     }
 
     /// The path's key: each name followed by a byte 0.
     pub fn key(&self) -> &Key
-        ensures { result.now ≡ enc self.now }
+        ensures value { result.now ≡ enc self.now }
+        ensures valid { IsPath self.now }
     {
         &self.key
+    }
+
+    /// The path's names, from the root down.
+    pub fn names(&self) -> Names<'_>
+        ensures value { result ≡ self.now }
+        ensures valid { IsPath self.now }
+    {
+        Names::of_key(self.key.as_bytes())
+    }
+
+    /// Whether the path is the root.
+    pub fn is_root(&self) -> bool
+        ensures { result ≡ is_root self.now }
+    {
+        self.key.as_bytes().is_empty()
+    }
+
+    /// The last name; none for the root.
+    pub fn last(&self) -> Option<&[u8]>
+        ensures { option_copied result ≡ last_name self.now }
+    {
+        let (mut last, mut rest) = self.names().split_first()?;
+        while let Some((name, after)) = rest.split_first() {
+            last = name;
+            rest = after;
+        }
+        Some(last)
+    }
+
+    /// The path without its last name; none for the root.
+    pub fn parent(&self, alloc: Global) -> Result<Option<Path>, NoMemory>
+        ensures { IfOk result (λ parent. parent ≡ parent_path self.now) }
+    {
+        let Some(last) = self.last() else {
+            return Ok(None);
+        };
+        let bytes = self.key().as_bytes();
+        let key = Key::from_bytes(alloc, &bytes[..bytes.len() - last.len() - 1])?;
+        Ok(Some(Path::of_key(key)))
+    }
+
+    /// Whether the path is `other` or lies below it.
+    pub fn is_under(&self, other: &Path) -> bool
+        ensures { result ≡ is_under other.now self.now }
+    {
+        self.key().as_bytes().starts_with(other.key().as_bytes())
     }
 }

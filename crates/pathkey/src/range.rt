@@ -1,8 +1,11 @@
 //! Ranges of keys.
-ghost use Rattle.std.specs.Prelude.{◌≡◌, IfOk};
+ghost use Rattle.std.specs.Prelude.{◌≡◌, ◌≢◌, [], IfOk};
+ghost use Rattle.pathkey.specs.Keys.{subtree, blocks_from, is_in, is_below};
 
+use crate::encode::{block_key, enc};
 use crate::errno::NoMemory;
 use crate::key::Key;
+use crate::path::Path;
 use std::alloc::Global;
 
 /// The keys from `lo` up to and without `hi`; `None` is no end.
@@ -26,4 +29,43 @@ impl KeyRange {
         };
         Ok(KeyRange { lo, hi })
     }
+
+    /// Whether the range holds the key.
+    pub fn contains(&self, key: &Key) -> bool
+        ensures { result ≡ is_in self.now key.now }
+    {
+        self.lo <= *key && self.ends_above(key)
+    }
+
+    // Whether the key lies before the range's end.
+    fn ends_above(&self, key: &Key) -> bool
+        ensures { result ≡ is_below key.now self.now.hi }
+    {
+        match &self.hi {
+            None => true,
+            Some(hi) => *key < *hi,
+        }
+    }
+}
+
+/// The keys at or below a path, and those of their blocks; at the root every key.
+pub fn subtree(alloc: Global, path: &Path) -> Result<KeyRange, NoMemory>
+    ensures { IfOk result (λ r. r ≡ subtree path.now) }
+{
+    let lo = enc(alloc, path)?;
+    let hi = match path.key().as_bytes().split_last() {
+        None => None,
+        Some((_, front)) => Some(Key::joined(alloc, front, &[1])?),
+    };
+    Ok(KeyRange { lo, hi })
+}
+
+/// The keys of a file's blocks from number `from` on.
+pub fn blocks_from(alloc: Global, path: &Path, from: u32) -> Result<KeyRange, NoMemory>
+    requires { path.now ≢ [] }
+    ensures { IfOk result (λ r. r ≡ blocks_from path.now from) }
+{
+    let lo = block_key(alloc, path, from)?;
+    let hi = Key::joined(alloc, path.key().as_bytes(), &[1])?;
+    Ok(KeyRange { lo, hi: Some(hi) })
 }

@@ -1,0 +1,124 @@
+//! Names of snapshots: 1 to 64 bytes of ASCII letters, digits, `.`, `_` and `-`.
+ghost use Rattle.std.specs.Prelude.{◌≡◌, IfOk, IsTrue};
+ghost use Rattle.std.specs.List.{list_all};
+ghost use Rattle.std.specs.Cmp.{partial_order_from_agreeing_total};
+ghost use Rattle.std.specs.Ordering.{as_partial_cmp, eq_by_cmp};
+ghost use Rattle.std.proofs.Common.{refl};
+ghost use Rattle.pathkey.specs.Order.{by_bytes, by_bytes_total, by_bytes_equiv, by_bytes_partial_equiv};
+ghost use Rattle.pathkey.specs.SnapNames.{is_snap_byte, is_snap_name, snap_parsed};
+ghost use Rattle.pathkey.specs.Outcomes.{IsOrLacksMemory};
+
+use crate::errno::{Errno, NoMemory};
+use crate::key::Key;
+use std::alloc::Global;
+use std::cmp::Ordering;
+use std::marker::Model;
+
+/// The most bytes that a snapshot's name has.
+const LONGEST: usize = 64;
+
+/// A snapshot's name, which contracts see as its bytes.
+///
+/// Names are in byte order, so it holds its bytes as a key does.
+#[derive(Drop)]
+pub struct SnapName {
+    bytes: Key,
+}
+
+impl Model for SnapName {
+    ghost use Rattle.std.specs.Prelude.{List, ℕ, IsTrue};
+    ghost use Rattle.pathkey.specs.SnapNames.{is_snap_name};
+
+    ghost Value = { List ℕ };
+
+    ghost view = { λ s. s.bytes };
+
+    ghost invariant = { λ s. IsTrue (is_snap_name s.bytes) };
+}
+
+impl SnapName {
+    /// The name that a text spells.
+    pub fn parse(alloc: Global, text: &[u8]) -> Result<SnapName, Errno>
+        ensures { IsOrLacksMemory result (snap_parsed text.now) }
+    {
+        if !is_snap_name(text) {
+            return Err(Errno::EINVAL);
+        }
+        let bytes = Key::from_bytes(alloc, text)?;
+        Ok(SnapName { bytes })
+    }
+
+    /// An equal name.
+    pub fn copy(&self, alloc: Global) -> Result<SnapName, NoMemory>
+        ensures { IfOk result (λ name. name ≡ self.now) }
+    {
+        let bytes = self.bytes.copy(alloc)?;
+        Ok(SnapName { bytes })
+    }
+
+    /// The name's bytes.
+    pub fn as_bytes(&self) -> &[u8]
+        ensures value { result.now ≡ self.now }
+        ensures valid { IsTrue (is_snap_name self.now) }
+    {
+        self.bytes.as_bytes()
+    }
+}
+
+// Whether a text is a snapshot's name.
+fn is_snap_name(text: &[u8]) -> bool
+    ensures { result ≡ is_snap_name text.now }
+{
+    !text.is_empty() && text.len() <= LONGEST && has_snap_bytes(text)
+}
+
+// Whether each byte is one of a snapshot's name.
+fn has_snap_bytes(text: &[u8]) -> bool
+    ensures { result ≡ list_all is_snap_byte text.now }
+{
+    text.iter().all(|byte| is_snap_byte(*byte))
+}
+
+fn is_snap_byte(byte: u8) -> bool
+    ensures { result ≡ is_snap_byte byte }
+{
+    matches!(byte, b'a'..=b'z' | b'A'..=b'Z' | b'0'..=b'9' | b'.' | b'_' | b'-')
+}
+
+impl PartialEq for SnapName {
+    ghost eq = { eq_by_cmp by_bytes };
+
+    ghost laws = { by_bytes_partial_equiv };
+
+    fn eq(&self, other: &SnapName) -> bool {
+        self.cmp(other) == Ordering::Equal
+    }
+}
+
+impl Eq for SnapName {
+    ghost laws = { by_bytes_equiv };
+}
+
+impl PartialOrd for SnapName {
+    ghost partial_cmp = { as_partial_cmp by_bytes };
+
+    ghost laws = { partial_order_from_agreeing_total by_bytes by_bytes_total (λ x y. refl) (λ x y. refl) };
+
+    fn partial_cmp(&self, other: &SnapName) -> Option<Ordering> {
+        Some(self.cmp(other))
+    }
+}
+
+impl Ord for SnapName {
+    ghost cmp = { by_bytes };
+
+    ghost total = { by_bytes_total };
+
+    ghost matches_partial_cmp = { λ x y. refl };
+
+    ghost matches_eq = { λ x y. refl };
+
+    fn cmp(&self, other: &SnapName) -> Ordering {
+        self.bytes.cmp(&other.bytes)
+    }
+}

@@ -4,14 +4,13 @@ use Rattle.std.specs.Prelude.{◌≡◌, ◌≢◌, ◌↔◌, ℕ, ◌+◌, ◌
 use Rattle.pathkey.specs.Enc.{enc}
 use Rattle.pathkey.specs.Keys.{subtree, blocks_from}
 use Rattle.pathkey.specs.declared.errno.Errno.{Errno}
-use Rattle.reference.specs.Tree.{Name, Path, Tree, Dir, Entries, edited, Found, Missing, Blocked, found, named, entry_at}
+use Rattle.reference.specs.Tree.{Name, Path, Tree, Dir, Entries, nothing, edited, Found, Missing, Blocked, found, named, entry_at}
 use Rattle.reference.specs.Calls.{Outcome, same_path, is_empty, parent_fault, listing, does}
-use Rattle.reference.specs.Shape.{Rising, IsTree, IsCall, AreBytes}
+use Rattle.reference.specs.Shape.{Rising, IsTree, IsCall}
 use Rattle.reference.specs.Looks.{Directory, Bytes, seen, look, kind_at, rest_of, look_after}
-use Rattle.reference.specs.Indexes.{MetaIndex, BlockIndex, BlocksMean, IndexesMean, put_at, deleted_at, cleared, edit_at, moved, grow, set_len, patched, cut_block, BlocksChange}
+use Rattle.reference.specs.Indexes.{MetaIndex, BlockIndex, IndexesMean, put_at, deleted_at, cleared, edit_at, moved, grow, set_len, patched, cut_block, BlocksChange}
 use Rattle.reference.specs.declared.call.Call.{Call}
 use Rattle.reference.specs.declared.call.Call.TheVariants.{Mkdir, Create, Write, Truncate, Unlink, Rmdir, Rename, Rmtree, Read, Stat as AskStat, Readdir}
-use Rattle.reference.specs.declared.reply.Reply.{Reply}
 use Rattle.reference.specs.declared.reply.Reply.TheVariants.{Done, Count, Fault}
 use Rattle.reference.specs.declared.reply.Kind.{Kind}
 use Rattle.reference.specs.declared.reply.Meta.TheVariants.{Dir as DirMeta, File as FileMeta}
@@ -72,6 +71,10 @@ ListingLaw = (t : Tree) (p : Path) (es : Entries) (k : Kind) (n : Name) → Risi
 -- two indexes mean at most one tree
 abbrev pub OneMeaningLaw : Type 0
 OneMeaningLaw = (t u : Tree) (m : MetaIndex) (d : BlockIndex) → IndexesMean t m d → IndexesMean u m d → t ≡ u
+
+-- the root's metadata alone, and no block, mean the empty tree
+abbrev pub FreshLaw : Type 0
+FreshLaw = IndexesMean (Dir nothing) (put_at (enc []) DirMeta (λ k. None)) (λ k. None)
 
 -- where two indexes mean a tree, these changes of them mean these calls when they are done
 abbrev pub MkdirLaw : Type 0

@@ -8,3 +8,5 @@ pub mod Worlds
 pub mod Image
 pub mod Rows
 pub mod Laws
+pub mod Plain
+pub mod PlainWorlds

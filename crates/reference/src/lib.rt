@@ -7,6 +7,8 @@
 #![tactic(auto)]
 
 pub mod call;
+pub mod laws;
+pub mod plain;
 pub mod reply;
 
 pub use call::Call;

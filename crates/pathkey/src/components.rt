@@ -1,0 +1,75 @@
+//! What stands between the separators of a text or of a key, and the first fault there.
+ghost use Rattle.std.specs.Prelude.{◌≡◌, ◌≢◌, ◌<◌, [], ◌∷◌, ◌++◌, All, MatchOption, length, take, slice_index};
+ghost use Rattle.std.specs.List.{list_any};
+ghost use Rattle.pathkey.specs.Texts.{is_dots, is_forbidden, is_malformed, is_long, component_faults};
+ghost use Rattle.pathkey.specs.Outcomes.{unless};
+
+use crate::errno::Errno;
+
+/// The most bytes that a name has.
+const LONGEST_NAME: usize = 255;
+
+/// Tests the components of the bytes: each is to be a file name, and none too long.
+pub(crate) fn check_components(bytes: &[u8], separator: u8) -> Result<(), Errno>
+    ensures { result ≡ unless (component_faults separator bytes.now) tt }
+{
+    let mut rest = bytes;
+    let mut has_long = false;
+    while let Some((component, after)) = split_at_byte(rest, separator) {
+        if is_malformed(component) {
+            return Err(Errno::EINVAL);
+        }
+        has_long |= is_long(component);
+        rest = after;
+    }
+    if is_malformed(rest) {
+        return Err(Errno::EINVAL);
+    }
+    if has_long | is_long(rest) {
+        return Err(Errno::ENAMETOOLONG);
+    }
+    Ok(())
+}
+
+/// The bytes before the first separator, and those after it; none where there is no separator.
+pub(crate) fn split_at_byte(bytes: &[u8], separator: u8) -> Option<(&[u8], &[u8])>
+    ensures { MatchOption result (All (λ b. b ≢ separator) bytes.now) (λ parts. (bytes.now ≡ parts.0.now ++ separator ∷ parts.1.now) × All (λ b. b ≢ separator) parts.0.now) }
+{
+    let end = place_of(bytes, separator)?;
+    let (front, back) = bytes.split_at(end);
+    Some((front, &back[1..]))
+}
+
+// The place of the first separator.
+fn place_of(bytes: &[u8], separator: u8) -> Option<usize>
+    ensures { MatchOption result (All (λ b. b ≢ separator) bytes.now) (λ i. (i < length bytes.now) × (slice_index bytes.now i ≡ separator) × All (λ b. b ≢ separator) (take i bytes.now)) }
+{
+    bytes.iter().position(|byte| *byte == separator)
+}
+
+// Whether a component is no file name, whatever its length.
+fn is_malformed(component: &[u8]) -> bool
+    ensures { result ≡ is_malformed component.now }
+{
+    component.is_empty() || is_dots(component) || has_forbidden_byte(component)
+}
+
+// Whether a component has a byte that no name has.
+fn has_forbidden_byte(component: &[u8]) -> bool
+    ensures { result ≡ list_any is_forbidden component.now }
+{
+    component.iter().any(|byte| *byte == 0 || *byte == b'/')
+}
+
+// Whether a component is `.` or `..`.
+fn is_dots(component: &[u8]) -> bool
+    ensures { result ≡ is_dots component.now }
+{
+    matches!(component, [b'.'] | [b'.', b'.'])
+}
+
+fn is_long(component: &[u8]) -> bool
+    ensures { result ≡ is_long component.now }
+{
+    component.len() > LONGEST_NAME
+}

@@ -1,0 +1,46 @@
+//! The names of a path, from the root down.
+ghost use Rattle.std.specs.Prelude.{◌≡◌, [], ◌∷◌, MatchOption};
+ghost use Rattle.pathkey.specs.Names.{IsName};
+ghost use Rattle.pathkey.specs.Texts.{names_of};
+ghost use Rattle.pathkey.specs.PathKeys.{SpellsNames};
+
+use crate::components::split_at_byte;
+use std::marker::Model;
+
+/// The names of a path that are still to be read, which contracts see as the list of them.
+///
+/// It lies on the path's own bytes and takes no memory.
+#[derive(Drop)]
+pub struct Names<'a> {
+    rest: &'a [u8],
+}
+
+impl<'a> Model for Names<'a> {
+    ghost use Rattle.std.specs.Prelude.{List, ℕ};
+    ghost use Rattle.pathkey.specs.Texts.{names_of};
+    ghost use Rattle.pathkey.specs.PathKeys.{SpellsNames};
+
+    ghost Value = { List (List ℕ) };
+
+    ghost view = { λ s. names_of s.rest.now };
+
+    ghost invariant = { λ s. SpellsNames s.rest.now };
+}
+
+impl<'a> Names<'a> {
+    // The names that a key spells.
+    pub(crate) fn of_key(key: &'a [u8]) -> Names<'a>
+        requires { SpellsNames key.now }
+        ensures { result ≡ names_of key.now }
+    {
+        Names { rest: key }
+    }
+
+    /// The first name and the names after it; none where no name is left.
+    pub fn split_first(self) -> Option<(&'a [u8], Names<'a>)>
+        ensures { MatchOption result (self.entry ≡ []) (λ first. (self.entry ≡ first.0.now ∷ first.1) × IsName first.0.now) }
+    {
+        let (name, rest) = split_at_byte(self.rest, 0)?;
+        Some((name, Names { rest }))
+    }
+}

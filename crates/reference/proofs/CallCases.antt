@@ -1,0 +1,118 @@
+-- The cases of each call: what holds of every refusal, and of what the call does where its table lets it, holds of its outcome.
+use Rattle.std.proofs.Common.{◌≡◌, ◌≢◌, ℕ, ◌+◌, List, [], ◌∷◌, length, take, drop, true, false, cond, ◌&&◌, refl, Option, Some, None}
+use Rattle.std.specs.Prelude.{nat_lt}
+use Rattle.pathkey.specs.declared.errno.Errno.{Errno}
+use Rattle.pathkey.specs.declared.errno.Errno.TheVariants.{EISDIR, EEXIST, ENOTDIR, ENOTEMPTY, EPERM, EINVAL, ENAMETOOLONG, EFBIG, EBUSY}
+use Rattle.reference.specs.Tree.{Path, Tree, File, At, entry_at, edited, over, sized}
+use Rattle.reference.specs.Calls.{Outcome, when, is_root, is_under, same_path, text_len, is_empty, is_directory, is_file, is_full, is_found, bytes_of, path_fault, parent_fault, deepest_at, greatest_file, unless, made, written, truncated, unlinked, directory_removed, removed, placed, renamed, read, stat_of, asked, names_of, listed}
+use Rattle.reference.specs.declared.reply.Reply.TheVariants.{Done, Count, Data, Names, Fault}
+use Rattle.reference.proofs.EntryPaths.{not_root}
+use Rattle.reference.proofs.Tables.{NoFaults, unless_holds, when_none}
+
+-- P holds of every refusal of a call on t
+abbrev pub OfRefusals : (Outcome → Type 0) → Tree → Type 0
+OfRefusals P t = (e : Errno) → P (t, Fault e)
+
+pub made_cases : (P : Outcome → Type 0) (t : Tree) (p : Path) (x : Tree) → OfRefusals P t
+    → (p ≢ [] → parent_fault t p ≡ None → is_found (entry_at t p) ≡ false → P (edited t p (Some x), Done))
+    → P (made t p x)
+unfolding NoFaults
+made_cases P t p x refused done =
+    unless_holds P t (when (is_root p) EEXIST ∷ parent_fault t p ∷ when (is_found (entry_at t p)) EEXIST ∷ []) (edited t p (Some x), Done) refused
+    (λ f. done (not_root p (when_none (is_root p) EEXIST f.0)) f.1.0 (when_none (is_found (entry_at t p)) EEXIST f.1.1.0))
+
+pub written_cases : (P : Outcome → Type 0) (t : Tree) (p : Path) (off : ℕ) (w : List ℕ) → OfRefusals P t
+    → (is_empty w ≡ true → P (t, Count 0))
+    → (path_fault (entry_at t p) ≡ None → is_directory (entry_at t p) ≡ false → is_empty w ≡ false → nat_lt greatest_file (off + length w) ≡ false → P (edited t p (Some (File (over (bytes_of (entry_at t p)) off w))), Count (length w)))
+    → P (written t p off w)
+unfolding NoFaults
+written_cases P t p off w refused empty done =
+    let here : At = entry_at t p in
+    let large : List (Option Errno) = when (nat_lt greatest_file (off + length w)) EFBIG ∷ [] in
+    let laid : Outcome = (edited t p (Some (File (over (bytes_of here) off w))), Count (length w)) in
+    unless_holds P t (path_fault here ∷ when (is_directory here) EISDIR ∷ []) (cond (is_empty w) (t, Count 0) (unless t large laid)) refused
+    (λ f. elim (is_empty w) as (λ b. is_empty w ≡ b → P (cond {A = Outcome} b (t, Count 0) (unless t large laid))) [
+      | true ↦ λ e. empty e
+      | false ↦ λ e. unless_holds P t large laid refused (λ g. done f.0 (when_none (is_directory here) EISDIR f.1.0) e (when_none (nat_lt greatest_file (off + length w)) EFBIG g.0))
+    ] refl)
+
+pub truncated_cases : (P : Outcome → Type 0) (t : Tree) (p : Path) (n : ℕ) → OfRefusals P t
+    → (path_fault (entry_at t p) ≡ None → is_directory (entry_at t p) ≡ false → nat_lt greatest_file n ≡ false → P (edited t p (Some (File (sized (bytes_of (entry_at t p)) n))), Done))
+    → P (truncated t p n)
+unfolding NoFaults
+truncated_cases P t p n refused done =
+    let here : At = entry_at t p in
+    unless_holds P t (path_fault here ∷ when (is_directory here) EISDIR ∷ when (nat_lt greatest_file n) EFBIG ∷ []) (edited t p (Some (File (sized (bytes_of here) n))), Done) refused
+    (λ f. done f.0 (when_none (is_directory here) EISDIR f.1.0) (when_none (nat_lt greatest_file n) EFBIG f.1.1.0))
+
+pub unlinked_cases : (P : Outcome → Type 0) (t : Tree) (p : Path) → OfRefusals P t
+    → (path_fault (entry_at t p) ≡ None → is_directory (entry_at t p) ≡ false → P (edited t p None, Done))
+    → P (unlinked t p)
+unfolding NoFaults
+unlinked_cases P t p refused done =
+    let here : At = entry_at t p in
+    unless_holds P t (path_fault here ∷ when (is_directory here) EPERM ∷ []) (edited t p None, Done) refused (λ f. done f.0 (when_none (is_directory here) EPERM f.1.0))
+
+pub directory_removed_cases : (P : Outcome → Type 0) (t : Tree) (p : Path) → OfRefusals P t
+    → (p ≢ [] → path_fault (entry_at t p) ≡ None → is_file (entry_at t p) ≡ false → is_full (entry_at t p) ≡ false → P (edited t p None, Done))
+    → P (directory_removed t p)
+unfolding NoFaults
+directory_removed_cases P t p refused done =
+    let here : At = entry_at t p in
+    unless_holds P t (when (is_root p) EBUSY ∷ path_fault here ∷ when (is_file here) ENOTDIR ∷ when (is_full here) ENOTEMPTY ∷ []) (edited t p None, Done) refused
+    (λ f. done (not_root p (when_none (is_root p) EBUSY f.0)) f.1.0 (when_none (is_file here) ENOTDIR f.1.1.0) (when_none (is_full here) ENOTEMPTY f.1.1.1.0))
+
+pub removed_cases : (P : Outcome → Type 0) (t : Tree) (p : Path) → OfRefusals P t
+    → (p ≢ [] → path_fault (entry_at t p) ≡ None → P (edited t p None, Done))
+    → P (removed t p)
+unfolding NoFaults
+removed_cases P t p refused done =
+    unless_holds P t (when (is_root p) EBUSY ∷ path_fault (entry_at t p) ∷ []) (edited t p None, Done) refused (λ f. done (not_root p (when_none (is_root p) EBUSY f.0)) f.1.0)
+
+-- what the table says of a rename that moves something
+pub record MayMove (t : Tree) (o n : Path) : Type 0 where
+  pub not_root : o ≢ []
+  pub there : path_fault (entry_at t o) ≡ None
+  pub apart : same_path o n ≡ false
+  pub not_inside : (is_directory (entry_at t o) && is_under o n) ≡ false
+  pub parent : parent_fault t n ≡ None
+  pub no_file_onto_directory : (is_directory (entry_at t n) && is_file (entry_at t o)) ≡ false
+  pub no_directory_onto_file : (is_file (entry_at t n) && is_directory (entry_at t o)) ≡ false
+  pub not_full : is_full (entry_at t n) ≡ false
+  pub short : nat_lt 1023 (text_len n + deepest_at (entry_at t o)) ≡ false
+
+pub renamed_cases : (P : Outcome → Type 0) (t : Tree) (o n : Path) → OfRefusals P t
+    → (same_path o n ≡ true → P (t, Done))
+    → (MayMove t o n → P (placed (edited t o None) n (entry_at t o), Done))
+    → P (renamed t o n)
+unfolding NoFaults
+renamed_cases P t o n refused stay done =
+    let from : At = entry_at t o in
+    let to : At = entry_at t n in
+    let faults : List (Option Errno) = when (is_directory from && is_under o n) EINVAL ∷ parent_fault t n ∷ when (is_directory to && is_file from) EISDIR ∷ when (is_file to && is_directory from) ENOTDIR ∷ when (is_full to) ENOTEMPTY ∷ when (nat_lt 1023 (text_len n + deepest_at from)) ENAMETOOLONG ∷ [] in
+    let laid : Outcome = (placed (edited t o None) n from, Done) in
+    unless_holds P t (when (is_root o) EBUSY ∷ path_fault from ∷ []) (cond (same_path o n) (t, Done) (unless t faults laid)) refused
+    (λ f. elim (same_path o n) as (λ b. same_path o n ≡ b → P (cond {A = Outcome} b (t, Done) (unless t faults laid))) [
+      | true ↦ λ e. stay e
+      | false ↦ λ e. unless_holds P t faults laid refused (λ g. done (record {
+        not_root = not_root o (when_none (is_root o) EBUSY f.0);
+        there = f.1.0;
+        apart = e;
+        not_inside = when_none (is_directory from && is_under o n) EINVAL g.0;
+        parent = g.1.0;
+        no_file_onto_directory = when_none (is_directory to && is_file from) EISDIR g.1.1.0;
+        no_directory_onto_file = when_none (is_file to && is_directory from) ENOTDIR g.1.1.1.0;
+        not_full = when_none (is_full to) ENOTEMPTY g.1.1.1.1.0;
+        short = when_none (nat_lt 1023 (text_len n + deepest_at from)) ENAMETOOLONG g.1.1.1.1.1.0;
+      }))
+    ] refl)
+
+-- the calls that read do nothing to the tree
+pub read_keeps : (t : Tree) (p : Path) (off n : ℕ) → (read t p off n).0 ≡ t
+read_keeps t p off n = unless_holds (λ z. z.0 ≡ t) t (path_fault (entry_at t p) ∷ when (is_directory (entry_at t p)) EISDIR ∷ when (nat_lt 1048576 n) EINVAL ∷ []) (t, Data (take n (drop off (bytes_of (entry_at t p))))) (λ e. refl) (λ f. refl)
+
+pub asked_keeps : (t : Tree) (p : Path) → (asked t p).0 ≡ t
+asked_keeps t p = unless_holds (λ z. z.0 ≡ t) t (path_fault (entry_at t p) ∷ []) (t, stat_of (entry_at t p)) (λ e. refl) (λ f. refl)
+
+pub listed_keeps : (t : Tree) (p : Path) → (listed t p).0 ≡ t
+listed_keeps t p = unless_holds (λ z. z.0 ≡ t) t (path_fault (entry_at t p) ∷ when (is_file (entry_at t p)) ENOTDIR ∷ []) (t, Names (names_of (entry_at t p))) (λ e. refl) (λ f. refl)

@@ -1,0 +1,11 @@
+use Rattle.reference.proofs.CallTrees.{call_law, fault_law, reading_law}
+use Rattle.reference.proofs.laws.trees.calls.Goals as goal
+
+pub returns-clause-trees : goal.returns-clause-trees
+returns-clause-trees c = call_law
+
+pub returns-clause-faults : goal.returns-clause-faults
+returns-clause-faults c = fault_law
+
+pub returns-clause-reading : goal.returns-clause-reading
+returns-clause-reading c = reading_law

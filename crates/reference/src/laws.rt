@@ -1,0 +1,5 @@
+//! Theorems about the definitions alone, each on a public function that does nothing.
+
+pub mod indexes;
+pub mod rows;
+pub mod trees;

@@ -1,0 +1,26 @@
+//! Laws of the two indexes: which changes of them mean which call, and that they mean at most one tree.
+
+ghost use Rattle.reference.specs.Laws.{CreateLaw, FreshLaw, LengthenLaw, MkdirLaw, OneMeaningLaw, RenameLaw, RmdirLaw, RmtreeLaw, TruncateLaw, UnlinkLaw, WriteLaw};
+
+/// What the two indexes of an empty tree are.
+pub fn fresh_indexes()
+    ensures { FreshLaw }
+{}
+
+/// Where two indexes mean a tree, the changes that each law names mean the tree after the call.
+pub fn calls_on_indexes()
+    ensures mkdir { MkdirLaw }
+    ensures create { CreateLaw }
+    ensures write { WriteLaw }
+    ensures truncate { TruncateLaw }
+    ensures lengthen { LengthenLaw }
+    ensures unlink { UnlinkLaw }
+    ensures rmdir { RmdirLaw }
+    ensures rmtree { RmtreeLaw }
+    ensures rename { RenameLaw }
+{}
+
+/// Two indexes mean at most one tree.
+pub fn one_meaning()
+    ensures { OneMeaningLaw }
+{}

@@ -1,0 +1,26 @@
+//! Laws that speak of trees alone: what an edit changes, what a call keeps, and what is seen at the paths of a tree.
+
+ghost use Rattle.reference.specs.Laws.{BlockedLaw, CallLaw, ChildLaw, EditLaw, FaultLaw, ListingLaw, MissingLaw, OneTreeLaw, OutRisesLaw, PutRisesLaw, ReadingLaw};
+
+/// What is seen at each path after one entry was put or taken out, and that names still rise in each directory.
+pub fn edits()
+    ensures seen { EditLaw }
+    ensures put { PutRisesLaw }
+    ensures out { OutRisesLaw }
+{}
+
+/// Each call makes a directory tree of a directory tree; a call that is refused, or that reads, changes nothing.
+pub fn calls()
+    ensures trees { CallLaw }
+    ensures faults { FaultLaw }
+    ensures reading { ReadingLaw }
+{}
+
+/// What is seen at the paths decides a tree, and what stands at each path; a directory lists what is seen in it.
+pub fn sight()
+    ensures one_tree { OneTreeLaw }
+    ensures blocked { BlockedLaw }
+    ensures missing { MissingLaw }
+    ensures child { ChildLaw }
+    ensures listing { ListingLaw }
+{}

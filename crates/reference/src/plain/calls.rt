@@ -1,0 +1,51 @@
+//! The eleven file calls on a tree.
+ghost use Rattle.std.specs.Prelude.{◌≡◌, IfOk, OnErr};
+ghost use Rattle.reference.specs.Calls.{Outcome, does as outcome};
+ghost use Rattle.reference.specs.Plain.{tree_of, effect_of};
+
+use super::effect::Effect;
+use super::making::{make_directory, make_file, truncate_file, write_file};
+use super::moving::rename;
+use super::reading::{list_directory, read_file, stat};
+use super::removing::{remove_directory, remove_tree, unlink};
+use super::tree::Tree;
+use crate::call::Call;
+use crate::reply::Reply;
+use pathkey::NoMemory;
+use std::alloc::Global;
+
+/// What a call does to a tree.
+#[tactic(auto, unfolding(crate::specs::Calls::does))]
+fn effect_on(alloc: Global, tree: &Tree, call: &Call) -> Result<Effect, NoMemory>
+    ensures { IfOk result (λ e. ◌≡◌ {A = Outcome} (effect_of (tree_of tree.now) e) (outcome (tree_of tree.now) call.now)) }
+{
+    match call {
+        Call::Mkdir(path) => make_directory(alloc, tree, path),
+        Call::Create(path) => make_file(alloc, tree, path),
+        Call::Write(path, offset, new) => write_file(alloc, tree, path, *offset, new),
+        Call::Truncate(path, len) => truncate_file(alloc, tree, path, *len),
+        Call::Unlink(path) => unlink(alloc, tree, path),
+        Call::Rmdir(path) => remove_directory(alloc, tree, path),
+        Call::Rename(old, new) => rename(alloc, tree, old, new),
+        Call::Rmtree(path) => remove_tree(alloc, tree, path),
+        Call::Read(path, offset, count) => {
+            Ok(Effect::Kept(read_file(alloc, tree, path, *offset, *count)?))
+        }
+        Call::Stat(path) => Ok(Effect::Kept(stat(tree, path))),
+        Call::Readdir(path) => Ok(Effect::Kept(list_directory(alloc, tree, path)?)),
+    }
+}
+
+/// Does a call on a tree, and answers it. Where memory is refused the tree stays as it was.
+pub fn does(alloc: Global, tree: &mut Tree, call: &Call) -> Result<Reply, NoMemory>
+    ensures value { IfOk result (λ r. ◌≡◌ {A = Outcome} (tree_of tree.new, r) (outcome (tree_of tree.old) call.now)) }
+    ensures unchanged { OnErr result (tree.new ≡ tree.old) }
+{
+    match effect_on(alloc, tree, call)? {
+        Effect::Kept(reply) => Ok(reply),
+        Effect::Changed(after, reply) => {
+            *tree = after;
+            Ok(reply)
+        }
+    }
+}

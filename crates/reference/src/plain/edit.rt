@@ -1,0 +1,71 @@
+//! One entry of a tree put in or taken out.
+ghost use Rattle.std.specs.Prelude.{◌≡◌, ◌∷◌, IfOk};
+ghost use Rattle.reference.specs.Tree.{child, set_entry, edited};
+ghost use Rattle.reference.specs.Plain.{tree_of, entries_of, tree_given};
+
+use super::entries::{entry_named, put_entry, without_entry};
+use super::tree::{Entries, Tree, copy_tree};
+use pathkey::{Names, NoMemory, Path};
+use std::alloc::Global;
+
+/// The entries with the tree put under the name, or with the name taken out.
+fn set_name(
+    alloc: Global,
+    entries: &Entries,
+    name: &[u8],
+    entry: Option<Tree>,
+) -> Result<Entries, NoMemory>
+    ensures { IfOk result (λ es. entries_of es ≡ set_entry name.now (tree_given entry) (entries_of entries.now)) }
+{
+    match entry {
+        None => without_entry(alloc, entries, name),
+        Some(tree) => put_entry(alloc, entries, name, tree),
+    }
+}
+
+/// A copy of the entry of that name, or an empty directory.
+fn copy_child(alloc: Global, entries: &Entries, name: &[u8]) -> Result<Tree, NoMemory>
+    ensures { IfOk result (λ t. tree_of t ≡ child name.now (entries_of entries.now)) }
+{
+    match entry_named(entries, name) {
+        None => Tree::directory(alloc, Entries::Nothing),
+        Some(tree) => copy_tree(alloc, tree),
+    }
+}
+
+/// The tree with the entry at a name and those after it put in or taken out.
+fn edit_below(
+    alloc: Global,
+    tree: &Tree,
+    name: &[u8],
+    rest: Names<'_>,
+    entry: Option<Tree>,
+) -> Result<Tree, NoMemory>
+    ensures { IfOk result (λ t. tree_of t ≡ edited (tree_of tree.now) (name.now ∷ rest.entry) (tree_given entry)) }
+{
+    match tree {
+        Tree::File(_) => copy_tree(alloc, tree),
+        Tree::Dir(entries) => match rest.split_first() {
+            None => {
+                let entries = set_name(alloc, entries, name, entry)?;
+                Tree::directory(alloc, entries)
+            }
+            Some((next, after)) => {
+                let child = copy_child(alloc, entries, name)?;
+                let child = edit_below(alloc, &child, next, after, entry)?;
+                let entries = put_entry(alloc, entries, name, child)?;
+                Tree::directory(alloc, entries)
+            }
+        },
+    }
+}
+
+/// A tree with the entry at a path that is not the root put in or taken out.
+pub fn edit(alloc: Global, tree: &Tree, path: &Path, entry: Option<Tree>) -> Result<Tree, NoMemory>
+    ensures { IfOk result (λ t. tree_of t ≡ edited (tree_of tree.now) path.now (tree_given entry)) }
+{
+    match path.names().split_first() {
+        None => copy_tree(alloc, tree),
+        Some((name, rest)) => edit_below(alloc, tree, name, rest, entry),
+    }
+}

@@ -1,0 +1,138 @@
+//! The calls that put something in: `mkdir`, `create`, `write`, `truncate`.
+ghost use Rattle.std.specs.Prelude.{◌≡◌, ◌+◌, ◌∷◌, [], nat_le, IfOk};
+ghost use Rattle.reference.specs.Tree.{Dir, File, nothing, with_entry};
+ghost use Rattle.reference.specs.Calls.{Outcome, made, written, truncated, greatest_file};
+ghost use Rattle.reference.specs.Plain.{tree_of, effect_of, first_fault, faults_of_new};
+
+use super::contents::{copy_over, copy_sized};
+use super::edit::edit;
+use super::effect::Effect;
+use super::tree::{Entries, Tree};
+use super::walk::{Place, fault_of_parent, find};
+use crate::reply::Reply;
+use bytes::Bytes;
+use pathkey::{Errno, NoMemory, Path};
+use std::alloc::Global;
+
+/// The most bytes of a file.
+const GREATEST_FILE: u64 = 1_099_511_627_776;
+
+/// The tree with a new entry at the path.
+fn put_at(
+    alloc: Global,
+    tree: &Tree,
+    path: &Path,
+    new: Tree,
+    reply: Reply,
+) -> Result<Effect, NoMemory>
+    ensures { IfOk result (λ e. ◌≡◌ {A = Outcome} (effect_of (tree_of tree.now) e) (with_entry (tree_of tree.now) path.now (tree_of new), reply)) }
+{
+    let after = edit(alloc, tree, path, Some(new))?;
+    Ok(Effect::Changed(after, reply))
+}
+
+/// Why no new entry can be made at the path.
+fn fault_of_new(tree: &Tree, path: &Path) -> Option<Errno>
+    ensures { result ≡ first_fault (faults_of_new (tree_of tree.now) path.now) }
+{
+    if path.is_root() {
+        return Some(Errno::EEXIST);
+    }
+    if let Some(fault) = fault_of_parent(tree, path) {
+        return Some(fault);
+    }
+    match find(tree, path) {
+        Place::Found(_) => Some(Errno::EEXIST),
+        _ => None,
+    }
+}
+
+/// A new entry, where its parent is a directory and nothing stands there.
+fn make(alloc: Global, tree: &Tree, path: &Path, new: Tree) -> Result<Effect, NoMemory>
+    ensures { IfOk result (λ e. ◌≡◌ {A = Outcome} (effect_of (tree_of tree.now) e) (made (tree_of tree.now) path.now (tree_of new))) }
+{
+    match fault_of_new(tree, path) {
+        Some(fault) => Ok(Effect::refused(fault)),
+        None => put_at(alloc, tree, path, new, Reply::Done),
+    }
+}
+
+/// `mkdir`: a new empty directory.
+pub fn make_directory(alloc: Global, tree: &Tree, path: &Path) -> Result<Effect, NoMemory>
+    ensures { IfOk result (λ e. ◌≡◌ {A = Outcome} (effect_of (tree_of tree.now) e) (made (tree_of tree.now) path.now (Dir nothing))) }
+{
+    let new = Tree::directory(alloc, Entries::Nothing)?;
+    make(alloc, tree, path, new)
+}
+
+/// `create`: a new empty file.
+pub fn make_file(alloc: Global, tree: &Tree, path: &Path) -> Result<Effect, NoMemory>
+    ensures { IfOk result (λ e. ◌≡◌ {A = Outcome} (effect_of (tree_of tree.now) e) (made (tree_of tree.now) path.now (File []))) }
+{
+    make(alloc, tree, path, Tree::File(Vec::new(alloc)))
+}
+
+/// Whether so many bytes fit a file from the offset on.
+fn fits_file(offset: u64, count: usize) -> bool
+    ensures { result ≡ nat_le (offset + count) greatest_file }
+{
+    match offset.checked_add(count as u64) {
+        None => false,
+        Some(end) => end <= GREATEST_FILE,
+    }
+}
+
+/// `write`: the bytes laid over the file from the offset on; no bytes change nothing.
+pub fn write_file(
+    alloc: Global,
+    tree: &Tree,
+    path: &Path,
+    offset: u64,
+    new: &Bytes,
+) -> Result<Effect, NoMemory>
+    ensures { IfOk result (λ e. ◌≡◌ {A = Outcome} (effect_of (tree_of tree.now) e) (written (tree_of tree.now) path.now offset new.now)) }
+{
+    match find(tree, path) {
+        Place::Missing => Ok(Effect::refused(Errno::ENOENT)),
+        Place::Blocked => Ok(Effect::refused(Errno::ENOTDIR)),
+        Place::Found(found) => match found {
+            Tree::Dir(_) => Ok(Effect::refused(Errno::EISDIR)),
+            Tree::File(bytes) => {
+                if new.is_empty() {
+                    return Ok(Effect::Kept(Reply::Count(0)));
+                }
+                if !fits_file(offset, new.len()) {
+                    return Ok(Effect::refused(Errno::EFBIG));
+                }
+                let laid = copy_over(alloc, bytes.as_slice(), offset as usize, new.as_slice())?;
+                put_at(
+                    alloc,
+                    tree,
+                    path,
+                    Tree::File(laid),
+                    Reply::Count(new.len() as u64),
+                )
+            }
+        },
+    }
+}
+
+/// `truncate`: the file cut to a length, or lengthened by zeros to it.
+pub fn truncate_file(alloc: Global, tree: &Tree, path: &Path, len: u64) -> Result<Effect, NoMemory>
+    ensures { IfOk result (λ e. ◌≡◌ {A = Outcome} (effect_of (tree_of tree.now) e) (truncated (tree_of tree.now) path.now len)) }
+{
+    match find(tree, path) {
+        Place::Missing => Ok(Effect::refused(Errno::ENOENT)),
+        Place::Blocked => Ok(Effect::refused(Errno::ENOTDIR)),
+        Place::Found(found) => match found {
+            Tree::Dir(_) => Ok(Effect::refused(Errno::EISDIR)),
+            Tree::File(bytes) => {
+                if len > GREATEST_FILE {
+                    return Ok(Effect::refused(Errno::EFBIG));
+                }
+                let sized = copy_sized(alloc, bytes.as_slice(), len as usize)?;
+                put_at(alloc, tree, path, Tree::File(sized), Reply::Done)
+            }
+        },
+    }
+}

@@ -1,0 +1,119 @@
+//! `rename`.
+ghost use Rattle.std.specs.Prelude.{◌≡◌, ◌+◌, false, nat_lt, IfOk};
+ghost use Rattle.reference.specs.Tree.{Found, entry_at, with_entry, without};
+ghost use Rattle.reference.specs.Calls.{Outcome, is_root, text_len, deepest, same_path, renamed};
+ghost use Rattle.reference.specs.Plain.{tree_of, place_of, effect_of, first_fault, faults_of_replacing, faults_of_move};
+
+use super::depth::is_within;
+use super::edit::edit;
+use super::effect::Effect;
+use super::tree::{Entries, Tree, copy_tree};
+use super::walk::{Place, fault_of_parent, find};
+use crate::reply::{Kind, Reply};
+use pathkey::{Errno, NoMemory, Path};
+use std::alloc::Global;
+
+/// The greatest length of a path's text.
+const GREATEST_TEXT: usize = 1_023;
+
+/// Why an entry cannot take the place of what stands there.
+fn fault_of_replacing(from: &Tree, to: &Place<'_>) -> Option<Errno>
+    ensures { result ≡ first_fault (faults_of_replacing (Found (tree_of from.now)) (place_of to.now)) }
+{
+    match to {
+        Place::Missing => None,
+        Place::Blocked => None,
+        Place::Found(found) => match (from, *found) {
+            (Tree::File(_), Tree::File(_)) => None,
+            (Tree::File(_), Tree::Dir(_)) => Some(Errno::EISDIR),
+            (Tree::Dir(_), Tree::File(_)) => Some(Errno::ENOTDIR),
+            (Tree::Dir(_), Tree::Dir(entries)) => match **entries {
+                Entries::Nothing => None,
+                Entries::Entry(_, _, _) => Some(Errno::ENOTEMPTY),
+            },
+        },
+    }
+}
+
+/// Whether a path at or below the new one would have too long a text.
+fn is_too_long(from: &Tree, new: &Path) -> bool
+    ensures { result ≡ nat_lt 1023 (text_len new.now + deepest (tree_of from.now)) }
+{
+    let len = new.key().as_bytes().len();
+    !is_within(from, GREATEST_TEXT - len)
+}
+
+/// Why what stands at the old path cannot be moved to the new one.
+fn fault_of_move(tree: &Tree, from: &Tree, old: &Path, new: &Path) -> Option<Errno>
+    ensures { entry_at (tree_of tree.now) old.now ≡ Found (tree_of from.now) → result ≡ first_fault (faults_of_move (tree_of tree.now) old.now new.now) }
+{
+    if from.kind() == Kind::Dir && new.is_under(old) {
+        return Some(Errno::EINVAL);
+    }
+    if let Some(fault) = fault_of_parent(tree, new) {
+        return Some(fault);
+    }
+    if let Some(fault) = fault_of_replacing(from, &find(tree, new)) {
+        return Some(fault);
+    }
+    if is_too_long(from, new) {
+        return Some(Errno::ENAMETOOLONG);
+    }
+    None
+}
+
+/// The tree with the entry taken out at the old path and put at the new one.
+fn move_entry(
+    alloc: Global,
+    tree: &Tree,
+    from: &Tree,
+    old: &Path,
+    new: &Path,
+) -> Result<Effect, NoMemory>
+    ensures { IfOk result (λ e. ◌≡◌ {A = Outcome} (effect_of (tree_of tree.now) e) (with_entry (without (tree_of tree.now) old.now) new.now (tree_of from.now), Reply.Done)) }
+{
+    let moved = copy_tree(alloc, from)?;
+    let before = edit(alloc, tree, old, None)?;
+    let after = edit(alloc, &before, new, Some(moved))?;
+    Ok(Effect::Changed(after, Reply::Done))
+}
+
+/// Whether the two paths are one.
+fn are_same(first: &Path, second: &Path) -> bool
+    ensures { result ≡ same_path first.now second.now }
+{
+    second.is_under(first) && first.is_under(second)
+}
+
+/// What is done with the entry that stands at the old path.
+fn rename_entry(
+    alloc: Global,
+    tree: &Tree,
+    from: &Tree,
+    old: &Path,
+    new: &Path,
+) -> Result<Effect, NoMemory>
+    ensures { is_root old.now ≡ false → entry_at (tree_of tree.now) old.now ≡ Found (tree_of from.now) → IfOk result (λ e. ◌≡◌ {A = Outcome} (effect_of (tree_of tree.now) e) (renamed (tree_of tree.now) old.now new.now)) }
+{
+    if are_same(old, new) {
+        return Ok(Effect::Kept(Reply::Done));
+    }
+    match fault_of_move(tree, from, old, new) {
+        Some(fault) => Ok(Effect::refused(fault)),
+        None => move_entry(alloc, tree, from, old, new),
+    }
+}
+
+/// `rename`: what stands at the old path is moved to the new one, where it replaces a file or an empty directory.
+pub fn rename(alloc: Global, tree: &Tree, old: &Path, new: &Path) -> Result<Effect, NoMemory>
+    ensures { IfOk result (λ e. ◌≡◌ {A = Outcome} (effect_of (tree_of tree.now) e) (renamed (tree_of tree.now) old.now new.now)) }
+{
+    if old.is_root() {
+        return Ok(Effect::refused(Errno::EBUSY));
+    }
+    match find(tree, old) {
+        Place::Missing => Ok(Effect::refused(Errno::ENOENT)),
+        Place::Blocked => Ok(Effect::refused(Errno::ENOTDIR)),
+        Place::Found(from) => rename_entry(alloc, tree, from, old, new),
+    }
+}

@@ -1,0 +1,69 @@
+//! The calls that only read: `read`, `stat`, `readdir`.
+ghost use Rattle.std.specs.Prelude.{◌≡◌, IfOk};
+ghost use Rattle.reference.specs.Calls.{Outcome, read, asked, listed};
+ghost use Rattle.reference.specs.Plain.{tree_of};
+
+use super::contents::copy_part;
+use super::entries::list_entries;
+use super::tree::Tree;
+use super::walk::{Place, find};
+use crate::reply::{FileBytes, Kind, Reply};
+use pathkey::{Errno, NoMemory, Path};
+use std::alloc::Global;
+
+/// The most bytes that one read may ask for.
+const GREATEST_READ: u64 = 1_048_576;
+
+/// `read`: the bytes from the offset on, at most `count`, none past the end.
+pub fn read_file(
+    alloc: Global,
+    tree: &Tree,
+    path: &Path,
+    offset: u64,
+    count: u64,
+) -> Result<Reply, NoMemory>
+    ensures { IfOk result (λ r. ◌≡◌ {A = Outcome} (tree_of tree.now, r) (read (tree_of tree.now) path.now offset count)) }
+{
+    match find(tree, path) {
+        Place::Missing => Ok(Reply::Fault(Errno::ENOENT)),
+        Place::Blocked => Ok(Reply::Fault(Errno::ENOTDIR)),
+        Place::Found(found) => match found {
+            Tree::Dir(_) => Ok(Reply::Fault(Errno::EISDIR)),
+            Tree::File(bytes) => {
+                if count > GREATEST_READ {
+                    return Ok(Reply::Fault(Errno::EINVAL));
+                }
+                let part = copy_part(alloc, bytes.as_slice(), offset as usize, count as usize)?;
+                Ok(Reply::Data(FileBytes::from_vec(part)))
+            }
+        },
+    }
+}
+
+/// `stat`: whether a directory or a file stands there, and a file's length.
+pub fn stat(tree: &Tree, path: &Path) -> Reply
+    ensures { ◌≡◌ {A = Outcome} (tree_of tree.now, result) (asked (tree_of tree.now) path.now) }
+{
+    match find(tree, path) {
+        Place::Missing => Reply::Fault(Errno::ENOENT),
+        Place::Blocked => Reply::Fault(Errno::ENOTDIR),
+        Place::Found(found) => match found {
+            Tree::Dir(_) => Reply::Stat(Kind::Dir, 0),
+            Tree::File(bytes) => Reply::Stat(Kind::File, bytes.len() as u64),
+        },
+    }
+}
+
+/// `readdir`: the kinds and names of a directory's entries, in byte order of the names.
+pub fn list_directory(alloc: Global, tree: &Tree, path: &Path) -> Result<Reply, NoMemory>
+    ensures { IfOk result (λ r. ◌≡◌ {A = Outcome} (tree_of tree.now, r) (listed (tree_of tree.now) path.now)) }
+{
+    match find(tree, path) {
+        Place::Missing => Ok(Reply::Fault(Errno::ENOENT)),
+        Place::Blocked => Ok(Reply::Fault(Errno::ENOTDIR)),
+        Place::Found(found) => match found {
+            Tree::File(_) => Ok(Reply::Fault(Errno::ENOTDIR)),
+            Tree::Dir(entries) => Ok(Reply::Names(list_entries(alloc, entries)?)),
+        },
+    }
+}
