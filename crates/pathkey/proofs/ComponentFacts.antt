@@ -1,11 +1,11 @@
 -- Which components are file names, and the components of a text or a key piece by piece.
-use Rattle.std.proofs.Common.{◌≡◌, ◌≢◌, ℕ, ◌<◌, ◌≤◌, List, [], ◌∷◌, ◌++◌, length, Bool, true, false, ◌||◌, arith, sym, ap, refl, ◌∙◌, subst, append_assoc, Ok, Err, Result}
+use Rattle.std.proofs.Common.{◌≡◌, ◌≢◌, ℕ, ◌≤◌, List, [], ◌∷◌, ◌++◌, length, Bool, true, false, ◌||◌, arith, sym, ap, refl, ◌∙◌, subst, append_assoc, Ok, Err, Result}
 use Rattle.std.specs.List.{All, list_any}
 use Rattle.std.proofs.lemmas.Bool.{or_from, or_left}
-use Rattle.pathkey.specs.Names.{Name, Path, IsName, EachName, HasNameBytes}
+use Rattle.pathkey.specs.Names.{Name}
 use Rattle.pathkey.specs.declared.errno.Errno.{Errno}
 use Rattle.pathkey.specs.Outcomes.{when, unless}
-use Rattle.pathkey.specs.Texts.{pieces, onto_first, is_dots, is_forbidden, is_malformed, is_long}
+use Rattle.pathkey.specs.Texts.{pieces, is_dots, is_malformed, is_long}
 use Rattle.pathkey.proofs.OrderFacts.{same_false}
 use Rattle.pathkey.proofs.Pieces.{pieces_cut}
 
@@ -23,6 +23,7 @@ any_cut test s bytes front back e h =
     ∙ ap (λ (x : List ℕ). list_any test (pieces s x)) (append_assoc front (s ∷ back) (s ∷ []))
     ∙ ap (list_any test) (pieces_cut s front (back ++ s ∷ []) h)
 
+-- a test or nothing is that test
 or_none : (b : Bool) → (b || false) ≡ b
 or_none true = refl
 or_none false = refl
@@ -56,6 +57,7 @@ pub malformed_decides : (s : ℕ) (bytes rest front back : List ℕ) (has_long :
 malformed_decides s bytes rest front back has_long d e h m =
     d.malformed ∙ any_cut is_malformed s rest front back e h ∙ or_left (is_malformed front) _ m
 
+-- three tests, of which one holds
 or_assoc : (a b c : Bool) → (a || (b || c)) ≡ ((a || b) || c)
 or_assoc true b c = refl
 or_assoc false b c = refl

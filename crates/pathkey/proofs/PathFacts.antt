@@ -1,5 +1,5 @@
 -- The root, the parent and the last name of a path, by its key.
-use Rattle.std.proofs.Common.{◌≡◌, ◌≢◌, ℕ, ◌+◌, ◌<◌, ◌≤◌, ◌-◌, List, [], ◌∷◌, ◌++◌, length, take, drop, Bool, true, false, ◌&&◌, eqb, Some, None, Option, arith, sym, ap, refl, ◌∙◌, subst, append_assoc, length-append, get_or, Fits, w8}
+use Rattle.std.proofs.Common.{◌≡◌, ◌≢◌, ℕ, ◌+◌, ◌<◌, ◌≤◌, ◌-◌, List, [], ◌∷◌, ◌++◌, length, take, drop, Bool, true, false, eqb, Some, None, arith, sym, ap, refl, ◌∙◌, subst, append_assoc, length-append, get_or, Fits, w8}
 use Rattle.std.specs.List.{All, AllByRecursion, starts_with, list_any, join_with_byte}
 use Rattle.std.proofs.lemmas.Slice.Eq.{starts_is}
 use Rattle.std.proofs.lemmas.Bool.Decides.{Decides-eqb}
@@ -17,9 +17,9 @@ use Rattle.pathkey.specs.Keys.{subtree}
 use Rattle.pathkey.specs.declared.range.KeyRange.{KeyRange}
 use Rattle.pathkey.specs.Enc.{enc}
 use Rattle.pathkey.specs.PathKeys.{IsPathKey}
-use Rattle.pathkey.proofs.OrderFacts.{same_itself, same_true, same_from_eq}
+use Rattle.pathkey.proofs.OrderFacts.{same_true, same_from_eq}
 use Rattle.pathkey.proofs.KeyFacts.{under_from_key, enc-append, enc-join}
-use Rattle.pathkey.proofs.Pieces.{pieces_cut}
+use Rattle.pathkey.proofs.Pieces.{pieces_cut, not_empty}
 use Rattle.pathkey.proofs.TextFacts.{text_len_enc, enc_names_of, each_name, pieces_each, names_well_formed, names_short}
 
 -- a name has no byte 0
@@ -50,10 +50,12 @@ enc_parent (m ∷ k ∷ p) n e =
     ap (λ (x : List ℕ). m ++ 0 ∷ x) (enc_parent (k ∷ p) n e)
     ∙ sym (append_assoc m (0 ∷ enc (parent (k ∷ p))) (n ++ 0 ∷ []))
 
+-- a path with a last name has a parent
 pub parent_path_some : (p : Path) (n : Name) → last_name p ≡ Some n → parent_path p ≡ Some (parent p)
 parent_path_some [] n e = cc
 parent_path_some (m ∷ p) n e = refl
 
+-- a path that is not the root has a last name
 last_name_some : (n : Name) (p : Path) → last_name (n ∷ p) ≡ None → ⊥
 last_name_some n [] e = cc
 last_name_some n (m ∷ p) e = last_name_some m p e
@@ -63,11 +65,13 @@ pub parent_path_none : (p : Path) → last_name p ≡ None → None ≡ parent_p
 parent_path_none [] e = refl
 parent_path_none (n ∷ p) e = absurd (last_name_some n p e)
 
+-- the parent's names are names
 parent_names : (p : Path) → EachName p → EachName (parent p)
 parent_names [] h = tt
 parent_names (n ∷ []) h = tt
 parent_names (n ∷ m ∷ p) h = (h.0, parent_names (m ∷ p) h.1)
 
+-- the parent's text is no longer
 parent_len : (p : Path) → text_len (parent p) ≤ text_len p
 parent_len [] = omega arith
 parent_len (n ∷ []) = omega arith
@@ -79,6 +83,7 @@ pub record ParentKey (p : Path) (n : Name) (key : List ℕ) : Type 0 where
   pub is_key : IsPathKey (take (length key - length n - 1) key)
   pub parent : Some (names_of (take (length key - length n - 1) key)) ≡ parent_path p
 
+-- all but the last name and its byte 0 is the parent's key
 pub parent_key : (p : Path) (n : Name) (key : List ℕ) → IsPath p → key ≡ enc p → Some n ≡ last_name p → ParentKey p n key
 parent_key p n key h k e =
     let whole : key ≡ enc (parent p) ++ (n ++ 0 ∷ []) = k ∙ enc_parent p n (sym e) in
@@ -104,6 +109,7 @@ under_from_append (n ∷ p) (m ∷ q) r e =
     let f : n ≡ m = cc in let g : q ≡ p ++ r = cc in
     and_from _ _ (same_from_eq n m f) (under_from_append p q r g)
 
+-- and only there
 pub append_from_under : (p q : Path) → is_under p q ≡ true → (r : Path) × (q ≡ p ++ r)
 append_from_under [] q h = (q, refl)
 append_from_under (n ∷ p) [] h = cc
@@ -139,17 +145,9 @@ key_from_tests key body e bytes short m l =
       spelled = spelled;
     }
 
-cons_nil : (n z : List ℕ) → n ++ 0 ∷ z ≡ [] → ⊥
-cons_nil [] z e = cc
-cons_nil (b ∷ n) z e = cc
-
-nil_push : (front : List ℕ) (b : ℕ) → [] ≡ front ++ b ∷ [] → ⊥
-nil_push [] b e = cc
-nil_push (c ∷ front) b e = cc
-
 -- a path's key ends with a byte 0
 pub key_ends : (p : Path) (body : List ℕ) (last : ℕ) → enc p ≡ body ++ last ∷ [] → last ≡ 0
-key_ends [] body last e = absurd (nil_push body last e)
+key_ends [] body last e = absurd (not_empty body [] last (sym e))
 key_ends (n ∷ p) body last e = sym (same_from_push (join_with_byte 0 (n ∷ p)) body 0 last (sym (enc-join n p) ∙ e)).1
 
 -- the names of a path's key pass the tests
@@ -163,11 +161,11 @@ tests_from_key p body h e =
 -- the empty key is the root's, whose subtree has no end
 pub subtree_whole : (p : Path) → length (enc p) ≡ 0 → ◌≡◌ {A = KeyRange} (record { lo = enc p; hi = None }) (subtree p)
 subtree_whole [] e = refl
-subtree_whole (n ∷ p) e = absurd (cons_nil n (enc p) (nil_from_length (enc (n ∷ p)) e))
+subtree_whole (n ∷ p) e = absurd (not_empty n (enc p) 0 (nil_from_length (enc (n ∷ p)) e))
 
 -- another key's subtree ends where its last byte is made 1
 pub subtree_end : (p : Path) (front : List ℕ) (b : ℕ) → enc p ≡ front ++ b ∷ [] → ◌≡◌ {A = KeyRange} (record { lo = enc p; hi = Some (front ++ 1 ∷ []) }) (subtree p)
-subtree_end [] front b e = absurd (nil_push front b e)
+subtree_end [] front b e = absurd (not_empty front [] b (sym e))
 subtree_end (n ∷ p) front b e =
     let same : join_with_byte 0 (n ∷ p) ≡ front = (same_from_push (join_with_byte 0 (n ∷ p)) front 0 b (sym (enc-join n p) ∙ e)).0 in
     ap {B = KeyRange} (λ (s : List ℕ). record { lo = enc (n ∷ p); hi = Some (s ++ 1 ∷ []) }) (sym same)

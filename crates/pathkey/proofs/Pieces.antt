@@ -1,13 +1,18 @@
 -- Cutting bytes at a separator, and the names that a key spells.
-use Rattle.std.proofs.Common.{◌≡◌, ◌≢◌, ℕ, List, [], ◌∷◌, ◌++◌, Bool, true, cond, eqb, sym, ap, refl, ◌∙◌, subst}
+use Rattle.std.proofs.Common.{◌≡◌, ◌≢◌, ℕ, List, [], ◌∷◌, ◌++◌, eqb, sym, ap, refl, ◌∙◌, subst}
 use Rattle.std.specs.List.{All}
 use Rattle.std.proofs.lemmas.Bool.{eq-eqb, ne_eqb, cond-true, cond-false}
 use Rattle.std.proofs.lemmas.List.{append_cancel_left}
 use Rattle.std.proofs.lemmas.List.Elements.{All-head, All-tail}
-use Rattle.pathkey.specs.Names.{Name, Path, IsName, EachName}
+use Rattle.pathkey.specs.Names.{IsName, EachName}
 use Rattle.pathkey.specs.Texts.{pieces, onto_first, names_of}
 use Rattle.pathkey.specs.Enc.{enc}
 use Rattle.pathkey.specs.PathKeys.{SpellsNames}
+
+-- a list with a byte in it is not empty
+pub not_empty : (xs ys : List ℕ) (b : ℕ) → xs ++ b ∷ ys ≡ [] → ⊥
+not_empty [] ys b e = cc
+not_empty (x ∷ xs) ys b e = cc
 
 -- bytes without the separator before the first one are the first piece
 pub pieces_cut : (s : ℕ) (front back : List ℕ) → All (λ b. b ≢ s) front → pieces s (front ++ s ∷ back) ≡ front ∷ pieces s back
@@ -34,6 +39,7 @@ pub record CutAtName (key front back : List ℕ) : Type 0 where
   pub is_name : IsName front
   pub rest : SpellsNames back
 
+-- a key is cut at its first byte 0
 pub cut_at_name : (key front back : List ℕ) → SpellsNames key → key ≡ front ++ 0 ∷ back → All (λ b. b ≢ 0) front → CutAtName key front back
 cut_at_name key front back spells e h =
     let split : names_of key ≡ front ∷ names_of back = ap names_of e ∙ pieces_cut 0 front back h in

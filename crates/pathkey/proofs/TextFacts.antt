@@ -1,5 +1,5 @@
 -- From the components of a text to the names of a path, and to the bytes of its key.
-use Rattle.std.proofs.Common.{◌≡◌, ◌≢◌, ℕ, ◌+◌, ◌<◌, ◌≤◌, List, [], ◌∷◌, ◌++◌, length, map, Bool, true, false, ◌||◌, eqb, cond, arith, sym, ap, refl, ◌∙◌, subst, append_assoc, length-append, get_or, Fits, w8, Ok, nat_lt, not, suc}
+use Rattle.std.proofs.Common.{◌≡◌, ◌≢◌, ℕ, ◌+◌, ◌<◌, ◌≤◌, List, [], ◌∷◌, ◌++◌, length, map, Bool, true, false, eqb, cond, arith, sym, ap, refl, ◌∙◌, subst, append_assoc, length-append, get_or, Fits, w8, Ok, nat_lt, not, suc}
 use Rattle.std.specs.Prelude.{◌==◌}
 use Rattle.std.specs.List.{All, AllByRecursion, list_any}
 use Rattle.std.proofs.lemmas.Bool.{or_parts, or_from, eqb-true, eqb-false, ne_eqb, le-ltb, false≢true, not-false, ltb-false, cond-true, cond-false, eq-eqb}
@@ -13,7 +13,7 @@ use Rattle.pathkey.specs.declared.errno.Errno.TheVariants.{EINVAL, ENAMETOOLONG}
 use Rattle.pathkey.specs.Enc.{enc}
 use Rattle.pathkey.specs.PathKeys.{IsPathKey}
 use Rattle.pathkey.proofs.OrderFacts.{apart, same_false}
-use Rattle.pathkey.proofs.Pieces.{pieces_cut}
+use Rattle.pathkey.proofs.Pieces.{pieces_cut, not_empty}
 
 -- P of each byte of each name
 abbrev pub EachIn : (ℕ → Type 0) → Path → Type 0
@@ -33,6 +33,7 @@ pieces_each P s (b ∷ bytes) h g = elim (eqb b s) as (λ t. EachIn P (cond t ([
   | false ↦ onto_first_each P b (pieces s (bytes ++ s ∷ [])) h.0 (pieces_each P s bytes h.1 g)
 ]
 
+-- what holds of the bytes with one put before holds of that one and of the others
 from_onto_first : (P : ℕ → Type 0) (b : ℕ) (p : Path) → EachIn P (onto_first b p) → P b × EachIn P p
 from_onto_first P b [] e = (e.0.0, tt)
 from_onto_first P b (n ∷ p) e = (e.0.0, (e.0.1, e.1))
@@ -52,16 +53,12 @@ enc_onto_first : (b : ℕ) (p : Path) (key : List ℕ) → enc p ≡ key → (ke
 enc_onto_first b [] key e h = absurd (h (sym e))
 enc_onto_first b (n ∷ p) key e h = ap (λ (k : List ℕ). b ∷ k) e
 
-not_empty : (bytes : List ℕ) (b : ℕ) → bytes ++ b ∷ [] ≡ [] → ⊥
-not_empty [] b e = cc
-not_empty (c ∷ bytes) b e = cc
-
 -- bytes that end with a byte 0 are the key of the names that they spell
 pub enc_names_of : (bytes : List ℕ) → enc (names_of (bytes ++ 0 ∷ [])) ≡ bytes ++ 0 ∷ []
 enc_names_of [] = refl
 enc_names_of (b ∷ bytes) = elim (eqb b 0) as (λ t. eqb b 0 ≡ t → enc (cond t ([] ∷ pieces 0 (bytes ++ 0 ∷ [])) (onto_first b (pieces 0 (bytes ++ 0 ∷ [])))) ≡ b ∷ (bytes ++ 0 ∷ [])) [
   | true ↦ λ t. ap (λ (k : List ℕ). 0 ∷ k) (enc_names_of bytes) ∙ ap (λ (c : ℕ). c ∷ (bytes ++ 0 ∷ [])) (sym (eqb-true b 0 t))
-  | false ↦ λ t. enc_onto_first b (pieces 0 (bytes ++ 0 ∷ [])) (bytes ++ 0 ∷ []) (enc_names_of bytes) (not_empty bytes 0)
+  | false ↦ λ t. enc_onto_first b (pieces 0 (bytes ++ 0 ∷ [])) (bytes ++ 0 ∷ []) (enc_names_of bytes) (not_empty bytes [] 0)
 ] refl
 
 -- a text without a byte 0, with each slash made 0, has the same pieces
@@ -88,6 +85,7 @@ name_bytes (b ∷ n) h e =
     let some : b ≢ 0 = eqb-false b 0 each.0 in
     (omega arith, h.0, eqb-false b 47 each.1, name_bytes n h.1 parts.1)
 
+-- a component that passes the tests is a name
 is_name : (n : Name) → AllByRecursion (λ b. b < 256) n → is_malformed n ≡ false → is_long n ≡ false → IsName n
 is_name [] h m l = cc
 is_name (b ∷ n) h m l =
@@ -117,12 +115,14 @@ no_forbidden (b ∷ n) e =
     let each : (eqb b 0 ≡ false) × (eqb b 47 ≡ false) = or_parts _ _ parts.0 in
     (eqb-false b 0 each.0, no_forbidden n parts.1)
 
+-- a component that is not malformed has no byte 0
 no_null : (n : Name) → is_malformed n ≡ false → AllByRecursion (λ b. b ≢ 0) n
 no_null [] m = tt
 no_null (b ∷ n) m =
     let parts : (is_dots (b ∷ n) ≡ false) × (list_any is_forbidden (b ∷ n) ≡ false) = or_parts _ _ m in
     no_forbidden (b ∷ n) parts.1
 
+-- nor has any of the components
 pub no_nulls : (p : Path) → list_any is_malformed p ≡ false → EachIn (λ b. b ≢ 0) p
 no_nulls [] m = tt
 no_nulls (n ∷ p) m =
@@ -135,6 +135,7 @@ pub record KeyOfText (text key : List ℕ) : Type 0 where
   pub names : names_of key ≡ pieces 47 (text ++ 47 ∷ [])
   pub is_key : IsPathKey key
 
+-- the key that is made of a text without a fault
 pub key_of_text : (text key : List ℕ) → key ≡ map null_for_slash text ++ 0 ∷ [] → All (λ b. b < 256) text → length text < 1023
     → list_any is_malformed (pieces 47 (text ++ 47 ∷ [])) ≡ false → list_any is_long (pieces 47 (text ++ 47 ∷ [])) ≡ false → KeyOfText text key
 key_of_text text key e bytes short m l =
@@ -174,6 +175,7 @@ pub record NoFault (text rest : List ℕ) (b : ℕ) : Type 0 where
   pub short_names : list_any is_long (pieces 47 (rest ++ 47 ∷ [])) ≡ false
   pub short : length text ≤ 1023
 
+-- is read as its components
 pub parsed_text : (text rest : List ℕ) (b : ℕ) → NoFault text rest b → parsed text ≡ Ok (pieces 47 (rest ++ 47 ∷ []))
 parsed_text text [] b u = absurd (false≢true (sym u.some))
 parsed_text text (c ∷ rest) b u =
@@ -188,6 +190,7 @@ not_forbidden : (n : Name) → HasNameBytes n → list_any is_forbidden n ≡ fa
 not_forbidden [] h = refl
 not_forbidden (b ∷ n) h = or_from _ _ (or_from _ _ (ne_eqb b 0 (let some : 0 < b = h.0 in omega arith)) (ne_eqb b 47 h.2)) (not_forbidden n h.3)
 
+-- a name is not malformed
 well_formed : (n : Name) → IsName n → is_malformed n ≡ false
 well_formed [] h = let some : 0 < length {A = ℕ} [] = h.some in absurd (omega arith)
 well_formed (b ∷ n) h = or_from _ _ (or_from _ _ (same_false (b ∷ n) (46 ∷ []) h.not_dot) (same_false (b ∷ n) (46 ∷ 46 ∷ []) h.not_dots)) (not_forbidden (b ∷ n) h.bytes)
@@ -216,6 +219,7 @@ pieces_slashed n (m ∷ p) h =
     ∙ pieces_cut 47 n (m ++ (slashed p ++ 47 ∷ [])) (All-from_recursion (λ b. b ≢ 47) n (no_slash n h.0.bytes))
     ∙ ap (λ (q : Path). n ∷ q) (pieces_slashed m p h.1)
 
+-- a byte put before the first piece is one more byte of the text
 slashed_onto_first : (b : ℕ) (p : Path) (text : List ℕ) → slashed p ≡ 47 ∷ text → slashed (onto_first b p) ≡ 47 ∷ b ∷ text
 slashed_onto_first b [] text e = cc
 slashed_onto_first b (n ∷ p) text e = let f : n ++ slashed p ≡ text = cc in ap (λ (x : List ℕ). 47 ∷ b ∷ x) f
@@ -228,6 +232,7 @@ slashed_pieces (b ∷ text) = elim (eqb b 47) as (λ t. eqb b 47 ≡ t → slash
   | false ↦ λ t. slashed_onto_first b (pieces 47 (text ++ 47 ∷ [])) text (slashed_pieces text)
 ] refl
 
+-- the length of a text with a slash before each name
 text_len_slashed : (p : Path) → text_len p ≡ length (slashed p)
 text_len_slashed [] = refl
 text_len_slashed (n ∷ p) = omega (arith, length-append n (slashed p), text_len_slashed p)
@@ -258,11 +263,12 @@ none_of_four false false true l d e f g x y h = cc
 none_of_four false false false true d e f g x y h = cc
 none_of_four false false false false d e f g x y h = (refl, refl, refl, refl, cc)
 
+-- what begins with a slash is a text as it stands
 text_of_slashed : (p : Path) (text : List ℕ) → slashed p ≡ 47 ∷ text → text_of p ≡ 47 ∷ text
 text_of_slashed [] text e = cc
 text_of_slashed (n ∷ p) text e = e
 
--- what is read is a path, and the text is that path's
+-- components that pass the tests are a path, and the text is that path's
 sound_components : (rest : List ℕ) → All (λ b. b < 256) rest → list_any is_malformed (components rest) ≡ false → list_any is_long (components rest) ≡ false
     → length rest < 1023 → IsPath (components rest) × (47 ∷ rest ≡ text_of (components rest))
 sound_components [] bytes m l short = (record { names = tt; fits = omega arith }, refl)
@@ -276,6 +282,7 @@ sound_components (c ∷ rest) bytes m l short =
       sym (text_of_slashed (components (c ∷ rest)) (c ∷ rest) text),
     )
 
+-- what is read is a path, and the text is that path's
 pub only_texts : (text : List ℕ) (p : Path) → All (λ b. b < 256) text → parsed text ≡ Ok p → IsPath p × (text ≡ text_of p)
 only_texts [] p bytes h = cc
 only_texts (b ∷ rest) p bytes h =

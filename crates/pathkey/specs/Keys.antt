@@ -5,10 +5,11 @@ use Rattle.std.specs.List.{join_with_byte}
 use Rattle.std.specs.Ordering.{is_le, is_lt}
 use Rattle.std.specs.Int.{w32, to_be_bytes}
 use Rattle.pathkey.specs.Order.{by_bytes}
-use Rattle.pathkey.specs.Names.{Name, Path, IsPath}
+use Rattle.pathkey.specs.Names.{Path}
 pub use Rattle.pathkey.specs.Enc.{enc}
 use Rattle.pathkey.specs.declared.range.KeyRange.{KeyRange}
 
+-- a key's bytes
 abbrev pub Key : Type 0
 Key = List ℕ
 
@@ -20,6 +21,7 @@ end_of p = join_with_byte 0 p ++ 1 ∷ []
 unfoldable pub block_key : Path → ℕ → Key
 block_key p i = enc p ++ 0 ∷ to_be_bytes w32 i
 
+-- the key comes before the end, if there is one
 abbrev pub is_below : Key → Option Key → Bool
 is_below k None = true
 is_below k (Some high) = is_lt (by_bytes k high)

@@ -1,5 +1,5 @@
 -- Laws of paths, texts and keys.
-use Rattle.std.specs.Prelude.{◌≡◌, ◌≢◌, ◌↔◌, ℕ, ◌≤◌, ◌<◌, ◌^◌, List, ◌++◌, Result, Ok, IsTrue, false, All}
+use Rattle.std.specs.Prelude.{◌≡◌, ◌≢◌, ◌↔◌, ℕ, ◌≤◌, ◌<◌, ◌^◌, List, ◌++◌, Ok, IsTrue, false, All}
 use Rattle.pathkey.specs.Names.{Path, EachName, IsPath, is_under}
 use Rattle.pathkey.specs.Texts.{text_of, parsed}
 use Rattle.pathkey.specs.Keys.{enc, block_key, subtree, blocks_from, is_in}

@@ -1,8 +1,9 @@
 -- Names and paths: which lists of bytes are file names, and which lists of names are paths
 -- (POSIX.1-2017, 3.170 Filename and 3.271 Pathname, with the limits of this profile).
-use Rattle.std.specs.Prelude.{◌≡◌, ◌≢◌, ℕ, ◌+◌, ◌<◌, ◌≤◌, List, [], ◌∷◌, length, Bool, true, false, ◌&&◌, Option, Some, None}
+use Rattle.std.specs.Prelude.{◌≢◌, ℕ, ◌+◌, ◌<◌, ◌≤◌, List, [], ◌∷◌, length, Bool, true, false, ◌&&◌, Option, Some, None}
 use Rattle.pathkey.specs.Order.{same}
 
+-- a name's bytes
 abbrev pub Name : Type 0
 Name = List ℕ
 
@@ -23,6 +24,7 @@ pub record IsName (n : Name) : Type 0 where
   pub not_dot : n ≢ 46 ∷ []
   pub not_dots : n ≢ 46 ∷ 46 ∷ []
 
+-- each of the names is a file name
 abbrev pub EachName : Path → Type 0
 EachName [] = Unit {0}
 EachName (n ∷ p) = IsName n × EachName p
@@ -37,6 +39,7 @@ pub record IsPath (p : Path) : Type 0 where
   pub names : EachName p
   pub fits : text_len p ≤ 1023
 
+-- the path has no names
 abbrev pub is_root : Path → Bool
 is_root [] = true
 is_root (n ∷ p) = false
@@ -64,5 +67,6 @@ is_under [] q = true
 is_under (n ∷ p) [] = false
 is_under (n ∷ p) (m ∷ q) = same n m && is_under p q
 
+-- the two paths are one
 abbrev pub same_path : Path → Path → Bool
 same_path p q = is_under p q && is_under q p

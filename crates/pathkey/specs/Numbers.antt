@@ -3,6 +3,7 @@ use Rattle.std.specs.Prelude.{ℕ, List, codes}
 use Rattle.pathkey.specs.declared.errno.Errno.{Errno}
 use Rattle.pathkey.specs.declared.errno.Errno.TheVariants.{ENOENT, ENOTDIR, EISDIR, EEXIST, ENOTEMPTY, EPERM, EINVAL, ENAMETOOLONG, EFBIG, EBUSY, ENOMEM, ENOSPC}
 
+-- a refusal's number
 abbrev pub number_of : Errno → ℕ
 number_of ENOENT = 1
 number_of ENOTDIR = 2
@@ -17,6 +18,7 @@ number_of EBUSY = 10
 number_of ENOMEM = 11
 number_of ENOSPC = 12
 
+-- a refusal's word
 abbrev pub word_of : Errno → List ℕ
 word_of ENOENT = codes "ENOENT"
 word_of ENOTDIR = codes "ENOTDIR"

@@ -1,5 +1,5 @@
 -- The text of a path, and what reading a text as a path answers.
-use Rattle.std.specs.Prelude.{ℕ, List, [], ◌∷◌, ◌++◌, length, Bool, true, false, cond, not, ◌||◌, ◌==◌, nat_lt, Option, Result}
+use Rattle.std.specs.Prelude.{ℕ, List, [], ◌∷◌, ◌++◌, length, Bool, true, cond, not, ◌||◌, ◌==◌, nat_lt, Option, Result}
 use Rattle.std.specs.List.{list_any}
 use Rattle.pathkey.specs.Order.{same}
 use Rattle.pathkey.specs.Names.{Name, Path}
@@ -45,6 +45,7 @@ abbrev pub is_malformed : Name → Bool
 is_malformed [] = true
 is_malformed n = is_dots n || list_any is_forbidden n
 
+-- a name of more than 255 bytes
 abbrev pub is_long : Name → Bool
 is_long n = nat_lt 255 (length n)
 

@@ -1,5 +1,5 @@
 -- A call whose first fault is known.
-use Rattle.std.proofs.Common.{◌≡◌, Bool, false, cond, List, [], ◌∷◌, Option, Some, None, refl, sym, ap, ◌∙◌}
+use Rattle.std.proofs.Common.{◌≡◌, Bool, false, cond, List, [], ◌∷◌, Option, Some, None, refl, ap, ◌∙◌}
 use Rattle.pathkey.specs.declared.errno.Errno.{Errno}
 use Rattle.pathkey.specs.declared.errno.Errno.TheVariants.{EBUSY}
 use Rattle.reference.specs.declared.reply.Reply.TheVariants.{Done, Fault}
@@ -17,11 +17,13 @@ unless_fault t (Some d ∷ faults) o e h = cc
 pub made_refused : (t : Tree) (p : Path) (x : Tree) (e : Errno) → first_fault (faults_of_new t p) ≡ Some e → made t p x ≡ (t, Fault e)
 made_refused t p x e h = unless_fault t (faults_of_new t p) (with_entry t p x, Done) e h
 
+-- with no fault the outcome stands
 unless_none : (t : Tree) (faults : List (Option Errno)) (o : Outcome) → first_fault faults ≡ None → unless t faults o ≡ o
 unless_none t [] o h = refl
 unless_none t (None ∷ faults) o h = unless_none t faults o h
 unless_none t (Some d ∷ faults) o h = cc
 
+-- what is not the root and stands somewhere can be moved from there
 no_fault_of_old : (t : Tree) (o : Path) (x : Tree) → is_root o ≡ false → entry_at t o ≡ Found x → first_fault (when (is_root o) EBUSY ∷ path_fault (entry_at t o) ∷ []) ≡ None
 no_fault_of_old t o x h g =
     ap (λ (b : Bool). first_fault (when b EBUSY ∷ path_fault (entry_at t o) ∷ [])) h ∙ ap (λ (a : At). first_fault (path_fault a ∷ [])) g

@@ -12,6 +12,7 @@ pub mod FileBlocks
 pub mod FreshIndexes
 pub mod GreatestRow
 pub mod ImageRows
+pub mod Images
 pub mod IndexLaws
 pub mod Listings
 pub mod MovedKeys

@@ -1,5 +1,5 @@
 -- The snapshots of the plain program's world, as a map of trees.
-use Rattle.std.proofs.Common.{◌≡◌, ℕ, List, [], ◌∷◌, Bool, true, false, cond, not, Option, Some, None, length, ◌+◌, arith, refl, sym, ap, ◌∙◌}
+use Rattle.std.proofs.Common.{◌≡◌, ℕ, List, [], ◌∷◌, Bool, true, false, cond, Option, Some, None, length, ◌+◌, arith, refl, sym, ap, ◌∙◌}
 use Rattle.std.specs.Prelude.{is_some}
 use Rattle.std.specs.Borrow.{Bor}
 use Rattle.std.specs.declared.cmp.Ordering.{Ordering}
@@ -20,6 +20,7 @@ use Rattle.reference.specs.Plain.{tree_of, tree_found}
 use Rattle.reference.specs.PlainWorlds.{trees_of, snapshots_of}
 use Rattle.reference.specs.declared.plain.tree.Tree.{Tree as PlainTree}
 
+-- a look-up in the trees that were read is the one in those that were kept, read
 find-trees_of : (q : List ℕ) (kept : List (List ℕ × PlainTree)) → finite.find by_bytes q (trees_of kept) ≡ option_map tree_of (lookup (is_at (by_bytes q)) kept)
 find-trees_of q [] = refl
 find-trees_of q (e ∷ kept) =
@@ -37,6 +38,7 @@ pub found_copied : (r : Option (Bor PlainTree)) → tree_found r ≡ option_map 
 found_copied None = refl
 found_copied (Some x) = refl
 
+-- reading goes into a choice
 chosen : (b : Bool) (x y : Option PlainTree) → option_map tree_of (cond b x y) ≡ cond b (option_map tree_of x) (option_map tree_of y)
 chosen true x y = refl
 chosen false x y = refl
@@ -50,6 +52,7 @@ updated m n s w u q =
     ∙ ap (λ (b : Bool). cond b (option_map tree_of w) (option_map tree_of (tree.get by_bytes m q))) ((eq_by_cmp_equiv nat_list_cmp_total).symm s q)
     ∙ ap (λ (o : Option Tree). cond (eq_by_cmp by_bytes q s) (option_map tree_of w) o) (sym (get-snapshots_of m q))
 
+-- names that byte order does not tell apart are one
 bytes_differ : finite.IsAntisymmetric by_bytes
 bytes_differ = finite.slice_cmp-IsAntisymmetric finite.nat_cmp-IsAntisymmetric
 
@@ -65,11 +68,13 @@ removed m n s u =
     finite.same_map nat_list_cmp_total bytes_differ (snapshots_of n) (finite.remove (snapshots_of m) s)
     (λ q. updated m n s None u q ∙ sym (finite.get-remove nat_list_cmp_total (snapshots_of m) s q))
 
+-- a name below all that are kept is not among them
 find-above : (s : List ℕ) (kept : List (List ℕ × PlainTree)) → AllByRecursion (λ k. by_bytes s k ≡ Less) (keys_of kept) → finite.find by_bytes s (trees_of kept) ≡ None
 find-above s [] h = refl
 find-above s (e ∷ kept) h =
     ap (λ (o : Ordering). cond (is_eq o) (Some (tree_of e.1)) (finite.find by_bytes s (trees_of kept))) h.0 ∙ find-above s kept h.1
 
+-- as many names as entries, where the names rise
 len-from_entries : (kept : List (List ℕ × PlainTree)) → IsStrictlySortedBy by_bytes (keys_of kept) → finite.len (finite.from_entries {R = by_bytes} (trees_of kept)) ≡ length kept
 unfolding IsStrictlySortedBy
 len-from_entries [] h = finite.len-empty by_bytes Tree
@@ -81,6 +86,6 @@ len-from_entries (e ∷ kept) h =
     in
     omega (arith, grown, len-from_entries kept h.1)
 
--- as many names as entries
+-- the same of a world's snapshots
 pub len-snapshots_of : (m : BTreeMap (List ℕ) PlainTree) → tree.IsOrdered by_bytes m → finite.len (snapshots_of m) ≡ length m.entries
 len-snapshots_of m o = len-from_entries m.entries o

@@ -1,5 +1,5 @@
 -- How the plain program's values are read: each as what the definitions speak of.
-use Rattle.std.specs.Prelude.{◌+◌, nat_lt, ◌&&◌, List, [], ◌∷◌, Option, Some, None}
+use Rattle.std.specs.Prelude.{◌≡◌, Result, IfOk, ◌+◌, nat_lt, ◌&&◌, List, [], ◌∷◌, Option, Some, None}
 use Rattle.std.specs.Borrow.{Bor}
 use Rattle.reference.specs.Tree.{Path, entry_at, Tree, Dir, File, Entries, nothing, entry, At, Found, Missing, Blocked}
 use Rattle.reference.specs.declared.plain.tree.Tree.{Tree as PlainTree, Dir'}
@@ -9,6 +9,7 @@ use Rattle.reference.specs.declared.plain.tree.Entries.TheVariants.{Nothing}
 use Rattle.reference.specs.declared.plain.walk.Place.{Place}
 use Rattle.reference.specs.declared.plain.walk.Place.TheVariants.{Found as FoundPlace, Missing as MissingPlace, Blocked as BlockedPlace}
 use Rattle.pathkey.specs.declared.errno.Errno.{Errno}
+use Rattle.pathkey.specs.declared.errno.NoMemory.{NoMemory}
 use Rattle.pathkey.specs.declared.errno.Errno.TheVariants.{ENOTDIR, EISDIR, EEXIST, ENOTEMPTY, EINVAL, ENAMETOOLONG}
 use Rattle.reference.specs.Calls.{Outcome, when, is_root, is_under, text_len, is_found, is_directory, is_file, is_full, parent_fault, deepest_at}
 use Rattle.reference.specs.declared.plain.effect.Effect.{Effect}
@@ -44,6 +45,10 @@ place_of BlockedPlace = Blocked
 abbrev pub effect_of : Tree → Effect → Outcome
 effect_of t (Kept r) = (t, r)
 effect_of t (Changed x r) = (tree_of x, r)
+
+-- where memory sufficed, the effect on the tree is the outcome
+abbrev pub HasEffect : Result Effect NoMemory → Tree → Outcome → Type 0
+HasEffect r t o = IfOk r (λ e. ◌≡◌ {A = Outcome} (effect_of t e) o)
 
 -- the first fault of the list, if there is one
 abbrev pub first_fault : List (Option Errno) → Option Errno

@@ -7,9 +7,11 @@
 pub mod calls;
 mod contents;
 mod depth;
+mod digits;
 mod edit;
 mod effect;
 mod entries;
+pub mod image;
 mod making;
 mod moving;
 pub mod reading;
@@ -19,6 +21,7 @@ mod walk;
 pub mod world;
 
 pub use calls::does;
+pub use image::image_of;
 pub use tree::{Entries, Tree};
 pub use world::World;
 

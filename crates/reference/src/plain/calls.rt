@@ -1,7 +1,7 @@
 //! The eleven file calls on a tree.
 ghost use Rattle.std.specs.Prelude.{◌≡◌, IfOk, OnErr};
 ghost use Rattle.reference.specs.Calls.{Outcome, does as outcome};
-ghost use Rattle.reference.specs.Plain.{tree_of, effect_of};
+ghost use Rattle.reference.specs.Plain.{tree_of, HasEffect};
 
 use super::effect::Effect;
 use super::making::{make_directory, make_file, truncate_file, write_file};
@@ -17,7 +17,7 @@ use std::alloc::Global;
 /// What a call does to a tree.
 #[tactic(auto, unfolding(crate::specs::Calls::does))]
 fn effect_on(alloc: Global, tree: &Tree, call: &Call) -> Result<Effect, NoMemory>
-    ensures { IfOk result (λ e. ◌≡◌ {A = Outcome} (effect_of (tree_of tree.now) e) (outcome (tree_of tree.now) call.now)) }
+    ensures { HasEffect result (tree_of tree.now) (outcome (tree_of tree.now) call.now) }
 {
     match call {
         Call::Mkdir(path) => make_directory(alloc, tree, path),

@@ -6,7 +6,7 @@ use pathkey::NoMemory;
 use std::alloc::Global;
 
 /// The bytes from a place on; none past the end.
-fn bytes_from(bytes: &[u8], from: usize) -> &[u8]
+pub fn bytes_from(bytes: &[u8], from: usize) -> &[u8]
     ensures { result.now ≡ drop from bytes.now }
 {
     if from < bytes.len() {
@@ -17,7 +17,7 @@ fn bytes_from(bytes: &[u8], from: usize) -> &[u8]
 }
 
 /// At most so many of the first bytes.
-fn bytes_up_to(bytes: &[u8], count: usize) -> &[u8]
+pub fn bytes_up_to(bytes: &[u8], count: usize) -> &[u8]
     ensures { result.now ≡ take count bytes.now }
 {
     if count < bytes.len() {

@@ -1,7 +1,5 @@
 //! What a call does to a tree.
 ghost use Rattle.std.specs.Prelude.{◌≡◌};
-ghost use Rattle.reference.specs.Calls.{Outcome};
-ghost use Rattle.reference.specs.Plain.{tree_of, effect_of};
 
 use super::tree::Tree;
 use crate::reply::Reply;

@@ -1,8 +1,8 @@
 //! The calls that put something in: `mkdir`, `create`, `write`, `truncate`.
-ghost use Rattle.std.specs.Prelude.{◌≡◌, ◌+◌, ◌∷◌, [], nat_le, IfOk};
+ghost use Rattle.std.specs.Prelude.{◌≡◌, ◌+◌, [], nat_le};
 ghost use Rattle.reference.specs.Tree.{Dir, File, nothing, with_entry};
-ghost use Rattle.reference.specs.Calls.{Outcome, made, written, truncated, greatest_file};
-ghost use Rattle.reference.specs.Plain.{tree_of, effect_of, first_fault, faults_of_new};
+ghost use Rattle.reference.specs.Calls.{made, written, truncated, greatest_file};
+ghost use Rattle.reference.specs.Plain.{tree_of, HasEffect, first_fault, faults_of_new};
 
 use super::contents::{copy_over, copy_sized};
 use super::edit::edit;
@@ -25,7 +25,7 @@ fn put_at(
     new: Tree,
     reply: Reply,
 ) -> Result<Effect, NoMemory>
-    ensures { IfOk result (λ e. ◌≡◌ {A = Outcome} (effect_of (tree_of tree.now) e) (with_entry (tree_of tree.now) path.now (tree_of new), reply)) }
+    ensures { HasEffect result (tree_of tree.now) (with_entry (tree_of tree.now) path.now (tree_of new), reply) }
 {
     let after = edit(alloc, tree, path, Some(new))?;
     Ok(Effect::Changed(after, reply))
@@ -49,7 +49,7 @@ fn fault_of_new(tree: &Tree, path: &Path) -> Option<Errno>
 
 /// A new entry, where its parent is a directory and nothing stands there.
 fn make(alloc: Global, tree: &Tree, path: &Path, new: Tree) -> Result<Effect, NoMemory>
-    ensures { IfOk result (λ e. ◌≡◌ {A = Outcome} (effect_of (tree_of tree.now) e) (made (tree_of tree.now) path.now (tree_of new))) }
+    ensures { HasEffect result (tree_of tree.now) (made (tree_of tree.now) path.now (tree_of new)) }
 {
     match fault_of_new(tree, path) {
         Some(fault) => Ok(Effect::refused(fault)),
@@ -59,7 +59,7 @@ fn make(alloc: Global, tree: &Tree, path: &Path, new: Tree) -> Result<Effect, No
 
 /// `mkdir`: a new empty directory.
 pub fn make_directory(alloc: Global, tree: &Tree, path: &Path) -> Result<Effect, NoMemory>
-    ensures { IfOk result (λ e. ◌≡◌ {A = Outcome} (effect_of (tree_of tree.now) e) (made (tree_of tree.now) path.now (Dir nothing))) }
+    ensures { HasEffect result (tree_of tree.now) (made (tree_of tree.now) path.now (Dir nothing)) }
 {
     let new = Tree::directory(alloc, Entries::Nothing)?;
     make(alloc, tree, path, new)
@@ -67,7 +67,7 @@ pub fn make_directory(alloc: Global, tree: &Tree, path: &Path) -> Result<Effect,
 
 /// `create`: a new empty file.
 pub fn make_file(alloc: Global, tree: &Tree, path: &Path) -> Result<Effect, NoMemory>
-    ensures { IfOk result (λ e. ◌≡◌ {A = Outcome} (effect_of (tree_of tree.now) e) (made (tree_of tree.now) path.now (File []))) }
+    ensures { HasEffect result (tree_of tree.now) (made (tree_of tree.now) path.now (File [])) }
 {
     make(alloc, tree, path, Tree::File(Vec::new(alloc)))
 }
@@ -90,7 +90,7 @@ pub fn write_file(
     offset: u64,
     new: &Bytes,
 ) -> Result<Effect, NoMemory>
-    ensures { IfOk result (λ e. ◌≡◌ {A = Outcome} (effect_of (tree_of tree.now) e) (written (tree_of tree.now) path.now offset new.now)) }
+    ensures { HasEffect result (tree_of tree.now) (written (tree_of tree.now) path.now offset new.now) }
 {
     match find(tree, path) {
         Place::Missing => Ok(Effect::refused(Errno::ENOENT)),
@@ -119,7 +119,7 @@ pub fn write_file(
 
 /// `truncate`: the file cut to a length, or lengthened by zeros to it.
 pub fn truncate_file(alloc: Global, tree: &Tree, path: &Path, len: u64) -> Result<Effect, NoMemory>
-    ensures { IfOk result (λ e. ◌≡◌ {A = Outcome} (effect_of (tree_of tree.now) e) (truncated (tree_of tree.now) path.now len)) }
+    ensures { HasEffect result (tree_of tree.now) (truncated (tree_of tree.now) path.now len) }
 {
     match find(tree, path) {
         Place::Missing => Ok(Effect::refused(Errno::ENOENT)),

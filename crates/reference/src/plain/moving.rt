@@ -1,8 +1,8 @@
 //! `rename`.
-ghost use Rattle.std.specs.Prelude.{◌≡◌, ◌+◌, false, nat_lt, IfOk};
+ghost use Rattle.std.specs.Prelude.{◌≡◌, ◌+◌, false, nat_lt};
 ghost use Rattle.reference.specs.Tree.{Found, entry_at, with_entry, without};
-ghost use Rattle.reference.specs.Calls.{Outcome, is_root, text_len, deepest, same_path, renamed};
-ghost use Rattle.reference.specs.Plain.{tree_of, place_of, effect_of, first_fault, faults_of_replacing, faults_of_move};
+ghost use Rattle.reference.specs.Calls.{is_root, text_len, deepest, same_path, renamed};
+ghost use Rattle.reference.specs.Plain.{tree_of, place_of, HasEffect, first_fault, faults_of_replacing, faults_of_move};
 
 use super::depth::is_within;
 use super::edit::edit;
@@ -70,7 +70,7 @@ fn move_entry(
     old: &Path,
     new: &Path,
 ) -> Result<Effect, NoMemory>
-    ensures { IfOk result (λ e. ◌≡◌ {A = Outcome} (effect_of (tree_of tree.now) e) (with_entry (without (tree_of tree.now) old.now) new.now (tree_of from.now), Reply.Done)) }
+    ensures { HasEffect result (tree_of tree.now) (with_entry (without (tree_of tree.now) old.now) new.now (tree_of from.now), Reply.Done) }
 {
     let moved = copy_tree(alloc, from)?;
     let before = edit(alloc, tree, old, None)?;
@@ -93,7 +93,7 @@ fn rename_entry(
     old: &Path,
     new: &Path,
 ) -> Result<Effect, NoMemory>
-    ensures { is_root old.now ≡ false → entry_at (tree_of tree.now) old.now ≡ Found (tree_of from.now) → IfOk result (λ e. ◌≡◌ {A = Outcome} (effect_of (tree_of tree.now) e) (renamed (tree_of tree.now) old.now new.now)) }
+    ensures { is_root old.now ≡ false → entry_at (tree_of tree.now) old.now ≡ Found (tree_of from.now) → HasEffect result (tree_of tree.now) (renamed (tree_of tree.now) old.now new.now) }
 {
     if are_same(old, new) {
         return Ok(Effect::Kept(Reply::Done));
@@ -106,7 +106,7 @@ fn rename_entry(
 
 /// `rename`: what stands at the old path is moved to the new one, where it replaces a file or an empty directory.
 pub fn rename(alloc: Global, tree: &Tree, old: &Path, new: &Path) -> Result<Effect, NoMemory>
-    ensures { IfOk result (λ e. ◌≡◌ {A = Outcome} (effect_of (tree_of tree.now) e) (renamed (tree_of tree.now) old.now new.now)) }
+    ensures { HasEffect result (tree_of tree.now) (renamed (tree_of tree.now) old.now new.now) }
 {
     if old.is_root() {
         return Ok(Effect::refused(Errno::EBUSY));

@@ -1,8 +1,8 @@
 //! The calls that take something out: `unlink`, `rmdir`, `rmtree`.
-ghost use Rattle.std.specs.Prelude.{◌≡◌, ◌∷◌, [], IfOk};
+ghost use Rattle.std.specs.Prelude.{◌≡◌, ◌∷◌, []};
 ghost use Rattle.reference.specs.Tree.{without};
-ghost use Rattle.reference.specs.Calls.{Outcome, when, path_fault, is_file, is_full, unlinked, directory_removed, removed};
-ghost use Rattle.reference.specs.Plain.{tree_of, place_of, effect_of, first_fault};
+ghost use Rattle.reference.specs.Calls.{when, path_fault, is_file, is_full, unlinked, directory_removed, removed};
+ghost use Rattle.reference.specs.Plain.{tree_of, place_of, HasEffect, first_fault};
 
 use super::edit::edit;
 use super::effect::Effect;
@@ -14,7 +14,7 @@ use std::alloc::Global;
 
 /// The tree without what stands at the path.
 fn take_out_at(alloc: Global, tree: &Tree, path: &Path) -> Result<Effect, NoMemory>
-    ensures { IfOk result (λ e. ◌≡◌ {A = Outcome} (effect_of (tree_of tree.now) e) (without (tree_of tree.now) path.now, Reply.Done)) }
+    ensures { HasEffect result (tree_of tree.now) (without (tree_of tree.now) path.now, Reply.Done) }
 {
     let after = edit(alloc, tree, path, None)?;
     Ok(Effect::Changed(after, Reply::Done))
@@ -22,7 +22,7 @@ fn take_out_at(alloc: Global, tree: &Tree, path: &Path) -> Result<Effect, NoMemo
 
 /// `unlink`: a file is taken out; a directory is refused.
 pub fn unlink(alloc: Global, tree: &Tree, path: &Path) -> Result<Effect, NoMemory>
-    ensures { IfOk result (λ e. ◌≡◌ {A = Outcome} (effect_of (tree_of tree.now) e) (unlinked (tree_of tree.now) path.now)) }
+    ensures { HasEffect result (tree_of tree.now) (unlinked (tree_of tree.now) path.now) }
 {
     match find(tree, path) {
         Place::Missing => Ok(Effect::refused(Errno::ENOENT)),
@@ -53,7 +53,7 @@ fn fault_of_rmdir(place: &Place<'_>) -> Option<Errno>
 
 /// `rmdir`: an empty directory that is not the root is taken out.
 pub fn remove_directory(alloc: Global, tree: &Tree, path: &Path) -> Result<Effect, NoMemory>
-    ensures { IfOk result (λ e. ◌≡◌ {A = Outcome} (effect_of (tree_of tree.now) e) (directory_removed (tree_of tree.now) path.now)) }
+    ensures { HasEffect result (tree_of tree.now) (directory_removed (tree_of tree.now) path.now) }
 {
     if path.is_root() {
         return Ok(Effect::refused(Errno::EBUSY));
@@ -66,7 +66,7 @@ pub fn remove_directory(alloc: Global, tree: &Tree, path: &Path) -> Result<Effec
 
 /// `rmtree`: what stands at a path that is not the root is taken out, with all below it.
 pub fn remove_tree(alloc: Global, tree: &Tree, path: &Path) -> Result<Effect, NoMemory>
-    ensures { IfOk result (λ e. ◌≡◌ {A = Outcome} (effect_of (tree_of tree.now) e) (removed (tree_of tree.now) path.now)) }
+    ensures { HasEffect result (tree_of tree.now) (removed (tree_of tree.now) path.now) }
 {
     if path.is_root() {
         return Ok(Effect::refused(Errno::EBUSY));

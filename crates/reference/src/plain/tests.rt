@@ -1,5 +1,6 @@
 //! Scripts of calls with the replies that the file system's definition gives, worked by hand.
 
+use super::image::image_of;
 use super::reading::list_directory;
 use super::world::World;
 use crate::call::Call;
@@ -195,12 +196,14 @@ fn writes_across_blocks(rt: HostRuntime) -> Result<(), Fail> {
     )
 }
 
-/// What was cut off reads as zeros once the file is longer again.
+/// What was cut off reads as zeros once the file is longer again, and zeros stand in no line of the image.
 #[test]
 fn cuts_and_lengthens(rt: HostRuntime) -> Result<(), Fail> {
-    follow(
+    let mut world = World::new(rt.alloc())?;
+    follow_in(
         &rt,
         rt.alloc(),
+        &mut world,
         &[
             (Ask::Create("/f"), Said::Done),
             (Ask::Write("/f", 0, &[0xff; 10]), Said::Count(10)),
@@ -211,7 +214,13 @@ fn cuts_and_lengthens(rt: HostRuntime) -> Result<(), Fail> {
                 Said::Data(&[0xff, 0xff, 0xff, 0xff, 0xff, 0, 0, 0]),
             ),
         ],
-    )
+    )?;
+    let image = image_of(rt.alloc(), world.live())?;
+    assert_eq!(rt;
+        image.as_slice(),
+        b"d /\nf /f 9000\nb 0 ffffffffff\n".as_slice()
+    );
+    Ok(())
 }
 
 /// A directory is not moved below itself, and onto itself it stays.
@@ -423,4 +432,24 @@ fn most_snapshots(rt: HostRuntime) -> Result<(), Fail> {
             (Ask::Drop("zz"), Said::Fault(Errno::ENOENT)),
         ],
     )
+}
+
+/// The image has the root first, and each directory before what it holds.
+#[test]
+fn image_of_nested_directories(rt: HostRuntime) -> Result<(), Fail> {
+    let mut world = World::new(rt.alloc())?;
+    let empty = image_of(rt.alloc(), world.live())?;
+    assert_eq!(rt; empty.as_slice(), b"d /\n".as_slice());
+    follow_in(
+        &rt,
+        rt.alloc(),
+        &mut world,
+        &[
+            (Ask::Mkdir("/d"), Said::Done),
+            (Ask::Create("/d/n"), Said::Done),
+        ],
+    )?;
+    let image = image_of(rt.alloc(), world.live())?;
+    assert_eq!(rt; image.as_slice(), b"d /\nd /d\nf /d/n 0\n".as_slice());
+    Ok(())
 }

@@ -5,7 +5,7 @@ ghost use Rattle.pathkey.specs.Outcomes.{IsOrLacksMemory};
 ghost use Rattle.reference.specs.Tree.{Dir, nothing};
 ghost use Rattle.reference.specs.Worlds.{World as Worlds, Answer, Ask, Replied, outcome, snapshot as snapped, drop_snapshot as dropped, restore as put_back};
 ghost use Rattle.reference.specs.Plain.{tree_of, tree_found};
-ghost use Rattle.reference.specs.PlainWorlds.{snapshots_of, world_of};
+ghost use Rattle.reference.specs.PlainWorlds.{world_of};
 
 use super::calls::does;
 use super::tree::{Entries, Tree, copy_tree};
@@ -35,6 +35,13 @@ impl World {
             live,
             snapshots: BTreeMap::new(alloc),
         })
+    }
+
+    /// The live tree.
+    pub fn live(&self) -> &Tree
+        ensures { tree_of result.now ≡ (world_of self.now).live }
+    {
+        &self.live
     }
 
     /// The tree of the snapshot of that name.

@@ -1,7 +1,6 @@
-use Rattle.std.proofs.Common.{◌≡◌, ◌∷◌, ◌++◌, [], ℕ, length, arith, sym, ap, ◌∙◌}
+use Rattle.std.proofs.Common.{◌≡◌, ◌∷◌, ◌++◌, [], ℕ, length, arith, ap, ◌∙◌}
 use Rattle.std.specs.Result.{is_ok}
 use Rattle.pathkey.specs.Names.{text_len}
-use Rattle.pathkey.specs.Enc.{enc}
 use Rattle.pathkey.proofs.TextFacts.{text_len_enc}
 use Rattle.pathkey.proofs.PathFacts.{key_ends, tests_decide, front_fits}
 use Rattle.pathkey.proofs.encode.is_path_key.Goals as goal

@@ -1,5 +1,4 @@
-use Rattle.std.proofs.Common.{◌≡◌, ◌++◌, List, ℕ, eqb, sym, ap, ◌∙◌}
-use Rattle.std.specs.Option.{MatchOption}
+use Rattle.std.proofs.Common.{◌++◌, List, ℕ, eqb, sym, ap, ◌∙◌}
 use Rattle.std.proofs.lemmas.Slice.Eq.{strip_prefix_is}
 use Rattle.std.proofs.lemmas.Option.{MatchOption-at_none, MatchOption-at_some}
 use Rattle.std.proofs.lemmas.Bool.Decides.{Decides-eqb}

@@ -1,4 +1,4 @@
-use Rattle.std.proofs.Common.{◌≡◌, ◌∷◌, [], ◌++◌, ℕ, List, false, sym, ap, ◌∙◌, inl, Ok, arith}
+use Rattle.std.proofs.Common.{◌≡◌, ◌∷◌, [], ◌++◌, false, sym, ap, ◌∙◌, inl, Ok, arith}
 use Rattle.std.specs.List.{list_any}
 use Rattle.pathkey.specs.Texts.{pieces, is_malformed, is_long}
 use Rattle.pathkey.proofs.TextFacts.{KeyOfText, key_of_text, NoFault, parsed_text, none_of_two, rest_fits}

@@ -1,4 +1,4 @@
-use Rattle.std.proofs.Common.{◌≡◌, ℕ, ◌+◌, ◌-◌, ◌≤◌, nat_lt, nat_le, length, arith, sym, ap, ◌∙◌, subst}
+use Rattle.std.proofs.Common.{◌≡◌, ℕ, ◌+◌, ◌≤◌, nat_lt, length, arith, sym, ap, ◌∙◌}
 use Rattle.std.proofs.Math.Bool.{not}
 use Rattle.pathkey.specs.Names.{text_len}
 use Rattle.pathkey.proofs.TextFacts.{text_len_enc}

@@ -1,0 +1,8 @@
+use Rattle.std.proofs.Common.{◌≡◌, ◌++◌, take}
+use Rattle.std.specs.Prelude.{flat_map}
+use Rattle.reference.specs.Image.{two_digits}
+use Rattle.reference.proofs.plain.digits.put_bytes.Given as goal
+
+-- what is written so far
+abbrev pub invariant-loop-byte : goal.invariant-loop-byte
+invariant-loop-byte l = l.out.items ≡ l.initial.out.items ++ flat_map (two_digits 87) (take l.byte-index l.bytes)
