@@ -16,6 +16,7 @@ pub mod Images
 pub mod IndexLaws
 pub mod Listings
 pub mod MovedKeys
+pub mod NeverLacks
 pub mod PlainSnapshots
 pub mod PointIndexes
 pub mod Points

@@ -4,6 +4,7 @@ use Rattle.std.specs.Prelude.{◌≡◌, ◌≢◌, ◌↔◌, ℕ, ◌+◌, ◌
 use Rattle.pathkey.specs.Enc.{enc}
 use Rattle.pathkey.specs.Keys.{subtree, blocks_from}
 use Rattle.pathkey.specs.declared.errno.Errno.{Errno}
+use Rattle.pathkey.specs.declared.errno.Errno.TheVariants.{ENOMEM}
 use Rattle.reference.specs.Tree.{Name, Path, Tree, Dir, Entries, nothing, edited, Found, Missing, Blocked, found, named, entry_at}
 use Rattle.reference.specs.Calls.{Outcome, same_path, is_empty, parent_fault, listing, does}
 use Rattle.reference.specs.Shape.{Rising, IsTree, IsCall}
@@ -43,6 +44,10 @@ FaultLaw = (t : Tree) (c : Call) (e : Errno) → (does t c).1 ≡ Fault e → (d
 abbrev pub ReadingLaw : Type 0
 ReadingLaw = (t : Tree) (p : Path) (off n : ℕ) →
     ((does t (Read p off n)).0 ≡ t) × ((does t (AskStat p)).0 ≡ t) × ((does t (Readdir p)).0 ≡ t) × ((does t (Write p off [])).0 ≡ t)
+
+-- the table of calls never answers want of memory: that comes only from memory that was really refused
+abbrev pub NeverLacksLaw : Type 0
+NeverLacksLaw = (t : Tree) (c : Call) → (does t c).1 ≢ Fault ENOMEM
 
 -- ---- what is seen
 

@@ -1,6 +1,6 @@
 //! Laws that speak of trees alone: what an edit changes, what a call keeps, and what is seen at the paths of a tree.
 
-ghost use Rattle.reference.specs.Laws.{BlockedLaw, CallLaw, ChildLaw, EditLaw, FaultLaw, ListingLaw, MissingLaw, OneTreeLaw, OutRisesLaw, PutRisesLaw, ReadingLaw};
+ghost use Rattle.reference.specs.Laws.{BlockedLaw, CallLaw, ChildLaw, EditLaw, FaultLaw, ListingLaw, MissingLaw, NeverLacksLaw, OneTreeLaw, OutRisesLaw, PutRisesLaw, ReadingLaw};
 
 /// What is seen at each path after one entry was put or taken out, and that names still rise in each directory.
 pub fn edits()
@@ -9,11 +9,13 @@ pub fn edits()
     ensures out { OutRisesLaw }
 {}
 
-/// Each call makes a directory tree of a directory tree; a call that is refused, or that reads, changes nothing.
+/// Each call makes a directory tree of a directory tree; a call that is refused, or that reads, changes nothing;
+/// and none is answered by want of memory in the table itself.
 pub fn calls()
     ensures trees { CallLaw }
     ensures faults { FaultLaw }
     ensures reading { ReadingLaw }
+    ensures memory { NeverLacksLaw }
 {}
 
 /// What is seen at the paths decides a tree, and what stands at each path; a directory lists what is seen in it.

@@ -1,4 +1,5 @@
 use Rattle.reference.proofs.CallTrees.{call_law, fault_law, reading_law}
+use Rattle.reference.proofs.NeverLacks.{never_lacks}
 use Rattle.reference.proofs.laws.trees.calls.Goals as goal
 
 pub returns-clause-trees : goal.returns-clause-trees
@@ -9,3 +10,6 @@ returns-clause-faults c = fault_law
 
 pub returns-clause-reading : goal.returns-clause-reading
 returns-clause-reading c = reading_law
+
+pub returns-clause-memory : goal.returns-clause-memory
+returns-clause-memory c = never_lacks
