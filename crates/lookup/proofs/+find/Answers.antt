@@ -1,0 +1,32 @@
+use Rattle.std.proofs.Common.{ap, sym, ◌∙◌, ◌≡◌, ◌<◌, subst, map, get_or, rules, arith}
+use Rattle.std.proofs.lemmas.Grind.{common_steps}
+use Rattle.message.specs.Effects.{effects}
+use Rattle.std.specs.Prelude.{IfOk}
+use Rattle.node.specs.Meaning.{value, slot_number}
+use Rattle.node.specs.Pure.{PNode, inner, slots, depth}
+use Rattle.node.specs.See.{see, see_slot}
+use Rattle.node.specs.Ready.{IsSearchable}
+use Rattle.node.proofs.Placing.{searchable_child, depth_child}
+use Rattle.lookup.proofs.Found.{value-below}
+use Rattle.lookup.proofs.+find.Goals as goal
+
+pub find-requires : goal.find-requires
+find-requires g t c κs within =
+    let xs = c.in-Inner.slots.items in
+    let see_it : inner (slots (map see_slot xs)) ≡ c.args.node.now = ap see (sym c.in-Inner.is) ∙ c.body.ensures in
+    let all = subst IsSearchable (sym see_it) c.requires in
+    let at : IsSearchable (get_or xs c.slot_of.result c.index-slot.result.now).child.value = searchable_child xs c.slot_of.result c.index-slot.result.now (omega arith) all.1 in
+    let child = c.deref.ensures ∙ ap (λ s. s.child.value) c.index-slot.ensures in
+    let here : IsSearchable c.deref.result.now = subst IsSearchable (sym child) at in
+    let low = depth_child xs c.slot_of.result c.index-slot.result.now (omega arith) in
+    let small : depth c.deref.result.now < depth c.args.node.now = subst (λ n. depth c.deref.result.now < depth n) see_it (subst (λ n. depth n < depth (inner (slots (map see_slot xs)))) (sym child) low) in
+    (omega (arith, small), (search rules, (search rules, here)))
+
+pub returns-in_ok-below-in-Inner : goal.returns-in_ok-below-in-Inner
+returns-in_ok-below-in-Inner g t c =
+    let xs = c.in-Inner.slots.items in
+    let see_it : inner (slots (map see_slot xs)) ≡ c.args.node.now = ap see (sym c.in-Inner.is) ∙ c.body.ensures in
+    let number : c.slot_of.result ≡ slot_number (slots (map see_slot xs)) c.args.key.now = c.slot_of.ensures.number ∙ ap (λ ss. slot_number (slots (map see_slot ss)) c.args.key.now) c.as_slice-in-Inner.ensures.value in
+    let child = c.deref.ensures in
+    let here = value-below g.U.Update.means c.args.key.now xs c.slot_of.result c.index-slot.result.now c.args.node.now c.deref.result.now c.in_ok-below-in-Inner.below see_it (omega arith) number c.index-slot.ensures child c.in_ok-below-in-Inner.ensures in
+    subst (λ x. IfOk c.apply_at.result (λ v. v ≡ x)) here c.apply_at.ensures

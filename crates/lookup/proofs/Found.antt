@@ -1,0 +1,18 @@
+-- The value at a key below an inner node is what the messages of the slot that holds it make of its child's value.
+use Rattle.std.proofs.Common.{◌≡◌, ℕ, ◌<◌, List, length, get_or, map, ap, sym, ◌∙◌, subst, Option}
+use Rattle.message.specs.Effects.{effects}
+use Rattle.node.specs.declared.node.Slot.{Slot}
+use Rattle.node.specs.Meaning.{value, slot_number}
+use Rattle.node.specs.Pure.{PNode, inner, slots}
+use Rattle.node.specs.See.{see_slot}
+use Rattle.node.proofs.SlotFacts.{slots_value_is}
+
+module _ {U V : Type 0} (means : U → Option V → Option V) where
+  pub value-below : (k : List ℕ) (xs : List (Slot U V)) (i : ℕ) (slot : Slot U V) (n child : PNode U V) (below : Option V) → inner (slots (map see_slot xs)) ≡ n → 0 < length xs → i ≡ slot_number (slots (map see_slot xs)) k → slot ≡ get_or xs i slot → child ≡ slot.child.value → below ≡ value means child k
+      → effects means slot.pending.0 k below ≡ value means n k
+  value-below k xs i slot n child below is some number at child_is below_is =
+      let here : slot ≡ get_or xs (slot_number (slots (map see_slot xs)) k) slot = at ∙ ap (λ (j : ℕ). get_or xs j slot) number in
+      ap (λ (v : Option V). effects means slot.pending.0 k v) (below_is ∙ ap (λ (c : PNode U V). value means c k) child_is)
+      ∙ ap (λ (s : Slot U V). effects means s.pending.0 k (value means s.child.value k)) here
+      ∙ sym (slots_value_is means k xs slot some)
+      ∙ ap (λ (m : PNode U V). value means m k) is

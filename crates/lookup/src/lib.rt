@@ -1,0 +1,57 @@
+//! The value at a key, through the messages that wait on the way to its leaf.
+#![tactic(auto)]
+
+ghost use Rattle.std.specs.Prelude.{◌≡◌, IfOk};
+ghost use Rattle.node.specs.Meaning.{lookup, value as value_at};
+ghost use Rattle.node.specs.Ready.{IsSearchable};
+
+use message::Update;
+use node::node::search::slot_of;
+use node::{Body, Node, Tree};
+use pathkey::{Key, NoMemory};
+use std::alloc::Global;
+
+/// The value at the key: its leaf's entry under the messages that wait on the way, the oldest first
+/// (Bender et al., ;login: 2015).
+pub fn get<U: Update>(alloc: Global, tree: &Tree<U>, key: &Key) -> Result<Option<U::Value>, NoMemory>
+    ensures { IfOk result (λ v. v ≡ value_at U.means tree.now.root key.now) }
+{
+    find(alloc, tree.root(), key)
+}
+
+/// The value at the key below a node.
+fn find<U: Update>(alloc: Global, node: &Node<U>, key: &Key) -> Result<Option<U::Value>, NoMemory>
+    requires { IsSearchable node.now }
+    ensures { IfOk result (λ v. v ≡ value_at U.means node.now key.now) }
+{
+    match node.body() {
+        Body::Leaf(entries) => find_entry::<U>(alloc, entries.as_slice(), key),
+        Body::Inner(slots) => {
+            if slots.is_empty() {
+                return Ok(None);
+            }
+            let slot = &slots[slot_of(slots.as_slice(), key)];
+            let below = find(alloc, &slot.child, key)?;
+            slot.pending.apply_at(alloc, key, below)
+        }
+    }
+}
+
+/// The value of the entry at the key.
+fn find_entry<U: Update>(
+    alloc: Global,
+    entries: &[(Key, U::Value)],
+    key: &Key,
+) -> Result<Option<U::Value>, NoMemory>
+    ensures { IfOk result (λ v. v ≡ lookup entries.now key.now) }
+{
+    for entry in entries {
+        if entry.0 == *key {
+            return Ok(Some(U::copy_value(alloc, &entry.1)?));
+        }
+    }
+    Ok(None)
+}
+
+#[cfg(test)]
+mod tests;

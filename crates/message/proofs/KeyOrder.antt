@@ -1,0 +1,172 @@
+-- The order of keys, and where a key lies between two ends.
+use Rattle.std.proofs.Common.{◌≡◌, ℕ, Bool, true, false, List, [], ◌∷◌, refl, ap, sym, ◌∙◌, Option, Some, None, cond}
+use Rattle.std.specs.Prelude.{◌&&◌}
+use Rattle.std.specs.declared.cmp.Ordering.{Ordering}
+use Rattle.std.specs.declared.cmp.Ordering.TheVariants.{Less, Equal, Greater}
+use Rattle.std.specs.Ordering.{is_lt, is_le, ordering_reverse}
+use Rattle.std.proofs.lemmas.Bool.{false_from_ne_true}
+use Rattle.std.proofs.lemmas.Cmp.{nat_list_cmp_total}
+use Rattle.pathkey.specs.Order.{by_bytes, same}
+use Rattle.pathkey.specs.Keys.{is_below}
+use Rattle.pathkey.proofs.OrderFacts.{tied, equal, same_true}
+use Rattle.message.specs.Ranges.{reaches, before, within, later_key, earlier_end}
+
+-- ---- two keys compared both ways
+
+-- what stands before stands at or before
+le_from_lt : (o : Ordering) → is_lt o ≡ true → is_le o ≡ true
+le_from_lt Less e = refl
+le_from_lt Equal e = (cc)
+le_from_lt Greater e = (cc)
+
+-- not before, so the other way round at or before
+le_back : (o p : Ordering) → p ≡ ordering_reverse o → is_lt o ≡ false → is_le p ≡ true
+le_back Less p e h = (cc)
+le_back Equal p e h = ap is_le e
+le_back Greater p e h = ap is_le e
+
+-- not at or before, so the other way round before
+lt_back : (o p : Ordering) → p ≡ ordering_reverse o → is_le o ≡ false → is_lt p ≡ true
+lt_back Less p e f = (cc)
+lt_back Equal p e f = (cc)
+lt_back Greater p e f = ap is_lt e
+
+-- at or before, so the other way round not before
+not_lt_back : (o p : Ordering) → p ≡ ordering_reverse o → is_le o ≡ true → is_lt p ≡ false
+not_lt_back Less p e f = ap is_lt e
+not_lt_back Equal p e f = ap is_lt e
+not_lt_back Greater p e f = (cc)
+
+-- a key stands at itself
+pub reaches-refl : (a : List ℕ) → reaches a a ≡ true
+reaches-refl a = ap is_le (tied a)
+
+pub reaches-from_before : (a b : List ℕ) → before a b ≡ true → reaches a b ≡ true
+reaches-from_before a b h = le_from_lt (by_bytes a b) h
+
+pub reaches-from_not_before : (a b : List ℕ) → before a b ≡ false → reaches b a ≡ true
+reaches-from_not_before a b h = le_back (by_bytes a b) (by_bytes b a) (nat_list_cmp_total.antisymm b a) h
+
+pub not_before_from_reaches : (a k : List ℕ) → reaches a k ≡ true → before k a ≡ false
+not_before_from_reaches a k f = not_lt_back (by_bytes a k) (by_bytes k a) (nat_list_cmp_total.antisymm k a) f
+
+pub before_from_not_reaches : (a k : List ℕ) → reaches a k ≡ false → before k a ≡ true
+before_from_not_reaches a k f = lt_back (by_bytes a k) (by_bytes k a) (nat_list_cmp_total.antisymm k a) f
+
+-- the empty key stands at or before every key
+pub from_start : (k : List ℕ) → reaches [] k ≡ true
+from_start [] = refl
+from_start (x ∷ k) = refl
+
+-- ---- three keys in a row
+
+le_le_by : (a b c : List ℕ) (o p : Ordering) → by_bytes a b ≡ o → by_bytes b c ≡ p → is_le o ≡ true → is_le p ≡ true → reaches a c ≡ true
+le_le_by a b c Less Less x y h k = ap is_le (nat_list_cmp_total.trans a b c x y)
+le_le_by a b c Less Equal x y h k = ap (λ t. reaches a t) (sym (equal b c y)) ∙ ap is_le x
+le_le_by a b c Less Greater x y h k = (cc)
+le_le_by a b c Equal p x y h k = ap is_le (nat_list_cmp_total.congr a b c x ∙ y) ∙ k
+le_le_by a b c Greater p x y h k = (cc)
+
+le_lt_by : (a b c : List ℕ) (o p : Ordering) → by_bytes a b ≡ o → by_bytes b c ≡ p → is_le o ≡ true → is_lt p ≡ true → before a c ≡ true
+le_lt_by a b c Less Less x y h k = ap is_lt (nat_list_cmp_total.trans a b c x y)
+le_lt_by a b c Less Equal x y h k = (cc)
+le_lt_by a b c Less Greater x y h k = (cc)
+le_lt_by a b c Equal p x y h k = ap is_lt (nat_list_cmp_total.congr a b c x ∙ y) ∙ k
+le_lt_by a b c Greater p x y h k = (cc)
+
+-- at or before, twice
+pub le_le : (a b c : List ℕ) → reaches a b ≡ true → reaches b c ≡ true → reaches a c ≡ true
+le_le a b c h k = le_le_by a b c (by_bytes a b) (by_bytes b c) refl refl h k
+
+-- at or before, and then before
+pub le_lt : (a b c : List ℕ) → reaches a b ≡ true → before b c ≡ true → before a c ≡ true
+le_lt a b c h k = le_lt_by a b c (by_bytes a b) (by_bytes b c) refl refl h k
+
+-- before, and then at or before
+pub lt_le : (a b c : List ℕ) → before a b ≡ true → reaches b c ≡ true → before a c ≡ true
+lt_le a b c h k = elim (reaches c a) as (λ r. reaches c a ≡ r → before a c ≡ true) [
+  | true ↦ λ e. (let back : before b b ≡ true = le_lt b c b k (le_lt c a b e h) in let never : before b b ≡ false = not_before_from_reaches b b (reaches-refl b) in cc)
+  | false ↦ λ e. before_from_not_reaches c a e
+] refl
+
+-- both of two tests that hold together
+pub both : (a b : Bool) → (a && b) ≡ true → (a ≡ true) × (b ≡ true)
+both true true e = (refl, refl)
+both true false e = (cc)
+both false b e = (cc)
+
+-- ---- the later beginning and the earlier end
+
+later_by : (c : Bool) (lo a : List ℕ) → before lo a ≡ c → reaches lo (cond c a lo) ≡ true
+later_by true lo a e = reaches-from_before lo a e
+later_by false lo a e = reaches-refl lo
+
+-- the later of two keys stands at or after the first
+pub reaches-later : (lo a : List ℕ) → reaches lo (later_key lo a) ≡ true
+reaches-later lo a = later_by (before lo a) lo a refl
+
+-- from the first beginning on, the later one tests as the second
+from_later_by : (c : Bool) (lo a k : List ℕ) → before lo a ≡ c → reaches lo k ≡ true → reaches (cond c a lo) k ≡ reaches a k
+from_later_by true lo a k e h = refl
+from_later_by false lo a k e h = h ∙ sym (le_le a lo k (reaches-from_not_before lo a e) h)
+
+below_earlier_by : (c : Bool) (h b k : List ℕ) → before h b ≡ c → before k h ≡ true → before k (cond c h b) ≡ before k b
+below_earlier_by true h b k e l = l ∙ sym (le_lt k h b (reaches-from_before k h l) e)
+below_earlier_by false h b k e l = refl
+
+-- below the first end, the earlier one tests as the second
+below_earlier : (hi b : Option (List ℕ)) (k : List ℕ) → is_below k hi ≡ true → is_below k (earlier_end hi b) ≡ is_below k b
+below_earlier None b k l = refl
+below_earlier (Some h) None k l = l
+below_earlier (Some h) (Some b) k l = below_earlier_by (before h b) h b k refl l
+
+-- inside a range, what was cut to it lies as before
+pub within-cut : (lo a : List ℕ) (hi b : Option (List ℕ)) (k : List ℕ) → within lo hi k ≡ true → within (later_key lo a) (earlier_end hi b) k ≡ within a b k
+within-cut lo a hi b k h =
+    let p = both (reaches lo k) (is_below k hi) h in
+    ap (λ x. x && is_below k (earlier_end hi b)) (from_later_by (before lo a) lo a k refl p.0) ∙ ap (λ y. reaches a k && y) (below_earlier hi b k p.1)
+
+-- what the later beginning reaches, the first one reaches
+reaches_from_later_by : (c : Bool) (lo a k : List ℕ) → before lo a ≡ c → reaches (cond c a lo) k ≡ true → reaches lo k ≡ true
+reaches_from_later_by true lo a k e h = le_le lo a k (reaches-from_before lo a e) h
+reaches_from_later_by false lo a k e h = h
+
+below_from_earlier_by : (c : Bool) (h b k : List ℕ) → before h b ≡ c → before k (cond c h b) ≡ true → before k h ≡ true
+below_from_earlier_by true h b k e l = l
+below_from_earlier_by false h b k e l = lt_le k b h l (reaches-from_not_before h b e)
+
+-- what lies below the earlier end lies below the first one
+below_from_earlier : (hi b : Option (List ℕ)) (k : List ℕ) → is_below k (earlier_end hi b) ≡ true → is_below k hi ≡ true
+below_from_earlier None b k l = refl
+below_from_earlier (Some h) None k l = l
+below_from_earlier (Some h) (Some b) k l = below_from_earlier_by (before h b) h b k refl l
+
+-- what was cut to a range lies inside it
+pub cut_within : (lo a : List ℕ) (hi b : Option (List ℕ)) (k : List ℕ) → within lo hi k ≡ false → within (later_key lo a) (earlier_end hi b) k ≡ false
+cut_within lo a hi b k h = false_from_ne_true (within (later_key lo a) (earlier_end hi b) k) (λ e.
+    let p = both (reaches (later_key lo a) k) (is_below k (earlier_end hi b)) e in
+    let low : reaches lo k ≡ true = reaches_from_later_by (before lo a) lo a k refl p.0 in
+    let high : is_below k hi ≡ true = below_from_earlier hi b k p.1 in
+    let in_range : within lo hi k ≡ true = ap (λ x. x && is_below k hi) low ∙ high in
+    (cc))
+
+-- a range that holds a key begins before its end
+begins_before_end : (lo k : List ℕ) (hi : Option (List ℕ)) → reaches lo k ≡ true → is_below k hi ≡ true → is_below lo hi ≡ true
+begins_before_end lo k None h l = refl
+begins_before_end lo k (Some e) h l = le_lt lo k e h l
+
+-- no key lies in a range that ends where it begins, or before
+pub empty_by : (c : Bool) (lo k : List ℕ) (hi : Option (List ℕ)) → within lo hi k ≡ c → is_below lo hi ≡ false → c ≡ false
+empty_by false lo k hi e h = refl
+empty_by true lo k hi e h =
+    let p = both (reaches lo k) (is_below k hi) e in
+    sym (begins_before_end lo k hi p.0 p.1) ∙ h
+
+-- equal keys lie alike
+pub within-same : (lo q k : List ℕ) (hi : Option (List ℕ)) → same q k ≡ true → within lo hi q ≡ within lo hi k
+within-same lo q k hi e = ap (λ x. within lo hi x) (same_true q k e)
+
+-- a key outside a range is none inside it
+pub apart_by : (c : Bool) (lo q k : List ℕ) (hi : Option (List ℕ)) → same q k ≡ c → within lo hi q ≡ false → within lo hi k ≡ true → c ≡ false
+apart_by false lo q k hi e f h = refl
+apart_by true lo q k hi e f h = sym h ∙ sym (within-same lo q k hi e) ∙ f

@@ -1,0 +1,3 @@
+pub mod KeyOrder
+pub mod CutFacts
+pub mod Lists

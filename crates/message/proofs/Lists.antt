@@ -1,0 +1,34 @@
+-- Lists of messages end to end.
+use Rattle.std.proofs.Common.{ℕ, ◌+◌, ◌<◌, ◌≡◌, refl, sym, ap, ◌∙◌, List, [], ◌∷◌, ◌++◌, length, take, get_or, false, Option, arith, length-append}
+use Rattle.std.proofs.lemmas.Bool.{or_parts, or_from}
+use Rattle.std.proofs.lemmas.List.{take_more}
+use Rattle.message.specs.declared.msg.Msg.{Msg}
+use Rattle.message.specs.Effects.{touches, any_touches, effect, effects, Takes}
+
+module _ {U V : Type 0} where
+  -- what neither of two lists touches, both end to end do not touch
+  pub any_touches-append : (xs ys : List (Msg U V)) (k : List ℕ) → any_touches xs k ≡ false → any_touches ys k ≡ false → any_touches (xs ++ ys) k ≡ false
+  any_touches-append [] ys k h g = g
+  any_touches-append (x ∷ xs) ys k h g = (let p = or_parts (touches x k) (any_touches xs k) h in or_from (touches x k) (any_touches (xs ++ ys) k) p.0 (any_touches-append xs ys k p.1 g))
+
+module _ {U V : Type 0} (means : U → Option V → Option V) where
+  -- two lists end to end mean the first and then the second
+  pub effects-append : (xs ys : List (Msg U V)) (k : List ℕ) (o : Option V) → effects means (xs ++ ys) k o ≡ effects means ys k (effects means xs k o)
+  effects-append [] ys k o = refl
+  effects-append (x ∷ xs) ys k o = effects-append xs ys k (effect means x k o)
+
+  -- a list takes what is put behind it
+  pub takes-append : (xs ys : List (Msg U V)) → Takes means xs ys (xs ++ ys)
+  takes-append xs ys = record {
+    meaning = λ k v. effects-append xs ys k v;
+    bound = omega (arith, length-append xs ys);
+    touched = λ k h g. any_touches-append xs ys k h g;
+  }
+
+  -- one message more of a list
+  effects_more : (xs : List (Msg U V)) (i : ℕ) (d : Msg U V) (k : List ℕ) (o v : Option V) → i < length xs → v ≡ effect means (get_or xs i d) k (effects means (take i xs) k o) → v ≡ effects means (take (i + 1) xs) k o
+  effects_more xs i d k o v h e = e ∙ sym (ap (λ t. effects means t k o) (take_more xs i d h) ∙ effects-append (take i xs) (get_or xs i d ∷ []) k o)
+
+  -- one turn of a loop over the messages
+  pub effects_turn : (xs : List (Msg U V)) (i : ℕ) (d : Msg U V) (k : List ℕ) (o w v : Option V) → i < length xs → d ≡ get_or xs i d → w ≡ effects means (take i xs) k o → v ≡ effect means d k w → v ≡ effects means (take (i + 1) xs) k o
+  effects_turn xs i d k o w v h e f g = effects_more xs i d k o v h (g ∙ ap (λ x. effect means x k w) e ∙ ap (λ x. effect means (get_or xs i d) k x) f)

@@ -1,0 +1,31 @@
+-- The part of a message that lies in a range.
+use Rattle.std.specs.Prelude.{◌≡◌, ℕ, true, false, if◌then◌else◌, List, [], ◌∷◌, ◌++◌, Option, Some, None}
+use Rattle.std.specs.Option.{option_to_list}
+use Rattle.pathkey.specs.Keys.{is_below, is_in}
+use Rattle.pathkey.specs.declared.range.KeyRange.{KeyRange}
+use Rattle.message.specs.declared.msg.Msg.{Msg}
+use Rattle.message.specs.declared.msg.Msg.TheVariants.{Put, Del, DelRange, Edit}
+use Rattle.message.specs.Ranges.{within, later_key, earlier_end}
+use Rattle.message.specs.Effects.{any_touches, effect, effects}
+
+module _ {U V : Type 0} where
+  -- a range-delete from lo up to hi, if any key can lie there
+  abbrev pub cut_range : List ℕ → Option (List ℕ) → Option (Msg U V)
+  cut_range lo hi = if is_below lo hi then Some (DelRange (record { lo = lo; hi = hi })) else None
+
+  -- the part of a message from lo up to hi
+  abbrev pub cut_to : List ℕ → Option (List ℕ) → Msg U V → Option (Msg U V)
+  cut_to lo hi (Put q v) = if within lo hi q then Some (Put q v) else None
+  cut_to lo hi (Del q) = if within lo hi q then Some (Del q) else None
+  cut_to lo hi (DelRange r) = cut_range (later_key lo r.lo) (earlier_end hi r.hi)
+  cut_to lo hi (Edit q u) = if within lo hi q then Some (Edit q u) else None
+
+  -- the parts of messages from lo up to hi, in their order
+  abbrev pub pieces : List ℕ → Option (List ℕ) → List (Msg U V) → List (Msg U V)
+  pieces lo hi [] = []
+  pieces lo hi (m ∷ ms) = option_to_list (cut_to lo hi m) ++ pieces lo hi ms
+
+-- a piece has the message's effect at each key of the range, and touches no key outside it
+pub record IsCut {U V : Type 0} (means : U → Option V → Option V) (m : Msg U V) (range : KeyRange) (piece : Option (Msg U V)) : Type 0 where
+  pub inside : (k : List ℕ) (old : Option V) → is_in range k ≡ true → effects means (option_to_list piece) k old ≡ effect means m k old
+  pub outside : (k : List ℕ) → is_in range k ≡ false → any_touches (option_to_list piece) k ≡ false

@@ -1,0 +1,40 @@
+//! Ends of ranges: the later of two beginnings, the earlier of two ends.
+ghost use Rattle.std.specs.Prelude.{◌≡◌, IfOk};
+ghost use Rattle.std.specs.Option.{option_copied};
+ghost use Rattle.message.specs.Ranges.{within, later_key, earlier_end};
+
+use pathkey::{Key, NoMemory};
+use std::alloc::Global;
+
+/// A copy of the later of two keys.
+pub fn later_key(alloc: Global, a: &Key, b: &Key) -> Result<Key, NoMemory>
+    ensures { IfOk result (λ k. k ≡ later_key a.now b.now) }
+{
+    let later = if a.cmp(b).is_lt() { b } else { a };
+    later.copy(alloc)
+}
+
+/// A copy of the earlier of two ends; `None` is no end.
+pub fn earlier_end(alloc: Global, a: Option<&Key>, b: Option<&Key>) -> Result<Option<Key>, NoMemory>
+    ensures { IfOk result (λ k. k ≡ earlier_end (option_copied a.entry) (option_copied b.entry)) }
+{
+    let earlier = match (a, b) {
+        (None, end) | (end, None) => end,
+        (Some(a), Some(b)) => Some(if a.cmp(b).is_lt() { a } else { b }),
+    };
+    match earlier {
+        None => Ok(None),
+        Some(end) => Ok(Some(end.copy(alloc)?)),
+    }
+}
+
+/// Whether the key lies from `lo` up to and without `hi`; `None` is no end.
+pub fn is_within(key: &Key, lo: &Key, hi: Option<&Key>) -> bool
+    ensures { result ≡ within lo.now (option_copied hi.entry) key.now }
+{
+    lo.cmp(key).is_le()
+        && match hi {
+            None => true,
+            Some(hi) => key.cmp(hi).is_lt(),
+        }
+}

@@ -1,0 +1,18 @@
+//! Messages: pending changes of one key or of a range of keys, and the list of them that waits in a slot.
+//!
+//! A buffered tree changes nothing in place: each change is a message that is put into the root and sinks
+//! lazily to the leaves (Brodal and Fagerberg 2003; Bender et al., ;login: 2015). This crate says what a
+//! message does to the value at each single key, and cuts messages to the range of a slot.
+#![tactic(auto)]
+
+pub mod ends;
+pub mod msg;
+pub mod pending;
+pub mod update;
+
+pub use msg::{Msg, cut, touches};
+pub use pending::Pending;
+pub use update::{Changes, Update};
+
+#[cfg(test)]
+mod tests;

@@ -1,0 +1,128 @@
+//! Messages: what is touched, what is changed, and the part of a message that lies in a range.
+ghost use Rattle.std.specs.Prelude.{◌≡◌, IfOk};
+ghost use Rattle.std.specs.Option.{option_copied};
+ghost use Rattle.message.specs.Effects.{touches as is_touched, effect, point as point_of};
+ghost use Rattle.message.specs.Cuts.{cut_range, cut_to, IsCut};
+
+use crate::ends::{earlier_end, is_within, later_key};
+use crate::update::{Changes, Update};
+use pathkey::{Key, KeyRange, NoMemory};
+use std::alloc::Global;
+
+/// A change of a map from keys to values.
+#[derive(Drop)]
+pub enum Msg<U: Changes> {
+    /// The key gets the value.
+    Put(Key, U::Value),
+    /// The key has no value any more.
+    Del(Key),
+    /// No key of the range has a value any more.
+    DelRange(KeyRange),
+    /// The key's value, or its absence, is changed by the update.
+    Edit(Key, U),
+}
+
+impl<U: Update> Msg<U> {
+    /// An equal message.
+    pub fn copy(&self, alloc: Global) -> Result<Msg<U>, NoMemory>
+        ensures { IfOk result (λ m. m ≡ self.now) }
+    {
+        match self {
+            Msg::Put(key, value) => Ok(Msg::Put(key.copy(alloc)?, U::copy_value(alloc, value)?)),
+            Msg::Del(key) => Ok(Msg::Del(key.copy(alloc)?)),
+            Msg::DelRange(range) => Ok(Msg::DelRange(range.copy(alloc)?)),
+            Msg::Edit(key, update) => Ok(Msg::Edit(key.copy(alloc)?, update.copy(alloc)?)),
+        }
+    }
+
+    /// The one key that the message touches, if it is no range-delete.
+    pub fn point(&self) -> Option<&Key>
+        ensures { option_copied result ≡ point_of self.now }
+    {
+        match self {
+            Msg::Put(key, _) | Msg::Del(key) | Msg::Edit(key, _) => Some(key),
+            Msg::DelRange(_) => None,
+        }
+    }
+
+    /// The value at `key` after the message, where `old` was there.
+    pub fn lay(
+        &self,
+        alloc: Global,
+        key: &Key,
+        old: Option<U::Value>,
+    ) -> Result<Option<U::Value>, NoMemory>
+        ensures { IfOk result (λ v. v ≡ effect U.means self.now key.now old) }
+    {
+        if !touches(self, key) {
+            return Ok(old);
+        }
+        match self {
+            Msg::Put(_, value) => Ok(Some(U::copy_value(alloc, value)?)),
+            Msg::Del(_) | Msg::DelRange(_) => Ok(None),
+            Msg::Edit(_, update) => update.apply(alloc, old.as_ref()),
+        }
+    }
+
+    /// The part of the message that lies from `lo` up to and without `hi`; `None` is no end.
+    pub fn cut_between(
+        &self,
+        alloc: Global,
+        lo: &Key,
+        hi: Option<&Key>,
+    ) -> Result<Option<Msg<U>>, NoMemory>
+        ensures { IfOk result (λ m. m ≡ cut_to lo.now (option_copied hi.entry) self.now) }
+    {
+        match self {
+            Msg::DelRange(range) => {
+                let lo = later_key(alloc, lo, &range.lo)?;
+                let hi = earlier_end(alloc, hi, range.hi.as_ref())?;
+                Ok(range_delete(lo, hi))
+            }
+            Msg::Put(key, _) | Msg::Del(key) | Msg::Edit(key, _) => {
+                if is_within(key, lo, hi) {
+                    Ok(Some(self.copy(alloc)?))
+                } else {
+                    Ok(None)
+                }
+            }
+        }
+    }
+}
+
+/// A range-delete from `lo` up to and without `hi`, if any key can lie there.
+fn range_delete<U: Update>(lo: Key, hi: Option<Key>) -> Option<Msg<U>>
+    ensures { result ≡ cut_range lo hi }
+{
+    let is_empty = match &hi {
+        None => false,
+        Some(end) => lo.cmp(end).is_ge(),
+    };
+    if is_empty {
+        return None;
+    }
+    Some(Msg::DelRange(KeyRange { lo, hi }))
+}
+
+/// Whether the message can change the value at the key. It takes no memory.
+pub fn touches<U: Update>(msg: &Msg<U>, key: &Key) -> bool
+    ensures { result ≡ is_touched msg.now key.now }
+{
+    match msg {
+        Msg::Put(at, _) | Msg::Del(at) | Msg::Edit(at, _) => at == key,
+        Msg::DelRange(range) => range.contains(key),
+    }
+}
+
+/// The part of the message inside the range: it has the message's effect at each key of the range, and none
+/// at any other; `None` where no part is left.
+pub fn cut<U: Update>(
+    alloc: Global,
+    msg: &Msg<U>,
+    range: &KeyRange,
+) -> Result<Option<Msg<U>>, NoMemory>
+    ensures meaning { IfOk result (λ piece. IsCut U.means msg.now range.now piece) }
+    ensures part { IfOk result (λ piece. piece ≡ cut_to range.now.lo range.now.hi msg.now) }
+{
+    msg.cut_between(alloc, &range.lo, range.hi.as_ref())
+}

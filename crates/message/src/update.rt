@@ -1,0 +1,41 @@
+//! Updates: changes of one value that may depend on the value.
+ghost use Rattle.std.specs.Prelude.{◌≡◌, Option, IfOk, IfSome, None};
+ghost use Rattle.std.specs.Option.{option_copied};
+
+use pathkey::NoMemory;
+use std::alloc::Global;
+
+/// What an update changes.
+///
+/// It stands apart from [`Update`] because types that lead back to themselves are bounded by a trait
+/// without ghost members.
+pub trait Changes {
+    /// The values that the update changes.
+    type Value: Drop;
+}
+
+/// A change of one value. Contracts see what it does as the function `means`.
+pub trait Update: Changes + Drop {
+    /// The value after the update, where this one was there; `None` is no value.
+    ghost means: { Self → Option Self.Value → Option Self.Value };
+
+    /// The value after the update, where `old` was there.
+    fn apply(
+        &self,
+        alloc: Global,
+        old: Option<&Self::Value>,
+    ) -> Result<Option<Self::Value>, NoMemory>
+        ensures { IfOk result (λ v. v ≡ means self.now (option_copied old.entry)) };
+
+    /// One update that means this one and then `later`, on every old value, where there is one.
+    fn join(&self, alloc: Global, later: &Self) -> Result<Option<Self>, NoMemory>
+        ensures { IfOk result (λ r. IfSome r (λ j. (old : Option Self.Value) → means j old ≡ means later.now (means self.now old))) };
+
+    /// An equal update.
+    fn copy(&self, alloc: Global) -> Result<Self, NoMemory>
+        ensures { IfOk result (λ u. u ≡ self.now) };
+
+    /// An equal value.
+    fn copy_value(alloc: Global, value: &Self::Value) -> Result<Self::Value, NoMemory>
+        ensures { IfOk result (λ v. v ≡ value.now) };
+}

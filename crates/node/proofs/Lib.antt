@@ -1,0 +1,4 @@
+pub mod Placing
+pub mod SlotFacts
+pub mod Appending
+pub mod Roots

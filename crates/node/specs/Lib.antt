@@ -1,0 +1,9 @@
+pub mod Shapes
+pub mod Pure
+pub mod Codes
+pub mod See
+pub mod Falls
+pub mod Meaning
+pub mod Lawful
+pub mod Appended
+pub mod Ready

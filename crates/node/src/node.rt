@@ -1,0 +1,61 @@
+//! The nodes of a tree.
+//!
+//! Contracts see a node as a pure tree (`PNode`): no pointer, no capacity and no sharing stands in it.
+
+use message::{Changes, Pending};
+use pathkey::Key;
+use std::marker::Model;
+use std::sync::Arc;
+
+pub mod append;
+pub mod copy;
+pub mod make;
+pub mod search;
+
+/// A node.
+#[cycle(node)]
+#[derive(Drop)]
+pub struct Node<U: Changes> {
+    body: Body<U>,
+}
+
+/// A leaf of entries that rise by key, or an inner node of slots that rise by pivot.
+#[cycle(node)]
+#[derive(Drop)]
+pub enum Body<U: Changes> {
+    /// A leaf.
+    Leaf(Vec<(Key, U::Value)>),
+    /// An inner node.
+    Inner(Vec<Slot<U>>),
+}
+
+/// A part of an inner node's range of keys.
+#[cycle(node)]
+#[derive(Drop)]
+pub struct Slot<U: Changes> {
+    /// The pivot: the least key of the slot's range, which ends where the next slot begins.
+    pub lo: Key,
+    /// The messages that wait for the child.
+    pub pending: Pending<U>,
+    /// The node below.
+    pub child: Arc<Node<U>>,
+}
+
+impl<U: Changes> Model for Node<U> {
+    ghost use Rattle.node.specs.Pure.{PNode, depth};
+    ghost use Rattle.node.specs.Codes.{coded_tree};
+
+    ghost Value = { PNode U U.Value };
+
+    ghost coded = { coded_tree U.code U.Value.code };
+
+    ghost use Rattle.node.specs.See.{see};
+
+    ghost view = { λ n. see n.body };
+
+    ghost size = { depth };
+
+    ghost use Rattle.node.specs.Falls.{see_falls};
+
+    ghost size_decreases = { λ a h. see_falls a.body };
+}

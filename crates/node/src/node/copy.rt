@@ -1,0 +1,68 @@
+//! A copy of one level of a tree: the children are shared.
+ghost use Rattle.std.specs.Prelude.{◌≡◌, IfOk, map};
+ghost use Rattle.node.specs.See.{see_slot};
+
+use super::{Body, Node, Slot};
+use message::Update;
+use pathkey::{Key, NoMemory};
+use std::alloc::{AllocError, Global};
+use std::sync::Arc;
+
+/// Equal entries.
+fn copy_entries<U: Update>(
+    alloc: Global,
+    entries: &[(Key, U::Value)],
+) -> Result<Vec<(Key, U::Value)>, NoMemory>
+    ensures { IfOk result (λ v. v.items ≡ entries.now) }
+{
+    let mut copy = Vec::with_capacity(alloc, entries.len())?;
+    for entry in entries {
+        copy.push((entry.0.copy(alloc)?, U::copy_value(alloc, &entry.1)?))?;
+    }
+    Ok(copy)
+}
+
+/// Slots with equal pivots and messages over the same children.
+fn copy_slots<U: Update>(alloc: Global, slots: &[Slot<U>]) -> Result<Vec<Slot<U>>, NoMemory>
+    ensures { IfOk result (λ v. map see_slot v.items ≡ map see_slot slots.now) }
+{
+    let mut copy = Vec::with_capacity(alloc, slots.len())?;
+    for slot in slots {
+        let lo = slot.lo.copy(alloc)?;
+        let pending = slot.pending.copy(alloc)?;
+        let child = Arc::try_clone(&slot.child)?;
+        copy.push(Slot { lo, pending, child })?;
+    }
+    Ok(copy)
+}
+
+impl<U: Update> Node<U> {
+    /// The same node, over the same children.
+    fn copy_level(&self, alloc: Global) -> Result<Node<U>, NoMemory>
+        ensures { IfOk result (λ n. n ≡ self.now) }
+    {
+        match &self.body {
+            Body::Leaf(entries) => Ok(Node {
+                body: Body::Leaf(copy_entries::<U>(alloc, entries.as_slice())?),
+            }),
+            Body::Inner(slots) => Ok(Node {
+                body: Body::Inner(copy_slots(alloc, slots.as_slice())?),
+            }),
+        }
+    }
+}
+
+impl<U: Update> Clone for Node<U> {
+    ghost is_clone = { λ a b. b ≡ a };
+
+    fn clone(&self) -> Result<Node<U>, AllocError> {
+        let alloc = match &self.body {
+            Body::Leaf(entries) => *entries.allocator(),
+            Body::Inner(slots) => *slots.allocator(),
+        };
+        match self.copy_level(alloc) {
+            Ok(copy) => Ok(copy),
+            Err(NoMemory) => Err(AllocError),
+        }
+    }
+}

@@ -1,0 +1,27 @@
+//! The limits of a tree's nodes.
+ghost use Rattle.std.specs.Prelude.{◌≡◌};
+
+/// How many slots, pending pieces and entries a node may have.
+#[derive(Clone, Copy, Debug, PartialEq, Eq)]
+pub struct Shape {
+    /// The most slots of an inner node, from 4 to 64.
+    pub fanout: u16,
+    /// The most pending pieces of an inner node other than the root, over all its slots, from `fanout` to 1,024.
+    pub pending: u16,
+    /// The most entries of a leaf, from 4 to 1,024.
+    pub leaf: u16,
+}
+
+impl Shape {
+    ghost use Rattle.node.specs.Shapes.{is_shape};
+
+    /// Whether a tree may have the shape. It takes no memory.
+    pub fn ok(&self) -> bool
+        ensures { result ≡ is_shape self.now }
+    {
+        (4..=64).contains(&self.fanout)
+            && self.fanout <= self.pending
+            && self.pending <= 1024
+            && (4..=1024).contains(&self.leaf)
+    }
+}

@@ -1,0 +1,112 @@
+//! A whole tree: its shape and its root.
+ghost use Rattle.std.specs.Prelude.{◌≡◌, IfOk, OnOk, OnErr, IsTrue, IsOk, []};
+ghost use Rattle.node.specs.Appended.{Appended};
+ghost use Rattle.node.specs.Pure.{empty_root};
+ghost use Rattle.node.specs.Ready.{IsSearchable};
+ghost use Rattle.node.specs.Shapes.{is_shape};
+
+use crate::node::{Node, append};
+use crate::shape::Shape;
+use message::{Changes, Msg, Update};
+use pathkey::NoMemory;
+use std::alloc::Global;
+use std::marker::Model;
+use std::sync::Arc;
+
+/// A buffered tree. Every tree is lawful, which its type keeps.
+#[derive(Drop)]
+pub struct Tree<U: Changes> {
+    shape: Shape,
+    root: Arc<Node<U>>,
+}
+
+impl<U: Changes> Model for Tree<U> {
+    ghost use Rattle.node.specs.Pure.{PTree};
+    ghost use Rattle.node.specs.Codes.{coded_whole};
+    ghost use Rattle.node.specs.Lawful.{IsLawful};
+
+    ghost Value = { PTree U U.Value };
+
+    ghost coded = { coded_whole U.code U.Value.code };
+
+    ghost view = { λ t. record { shape = t.shape; root = t.root.value } };
+
+    ghost invariant = { λ t. IsLawful (record { shape = t.shape; root = t.root.value }) };
+}
+
+impl<U: Update> Tree<U> {
+    /// A root with one slot over one empty leaf.
+    pub fn new(alloc: Global, shape: Shape) -> Result<Tree<U>, NoMemory>
+        requires { IsTrue (is_shape shape) }
+        ensures shape { IfOk result (λ t. t.shape ≡ shape) }
+        ensures root { IfOk result (λ t. t.root ≡ empty_root) }
+    {
+        let root = Arc::new(alloc, Node::root(alloc)?)?;
+        Ok(Tree { shape, root })
+    }
+
+    /// The same tree, as one more owner of its root. Later changes of either do not touch the other.
+    pub fn share(&self) -> Result<Tree<U>, NoMemory>
+        ensures { IfOk result (λ t. t ≡ self.now) }
+    {
+        let root = Arc::try_clone(&self.root)?;
+        Ok(Tree {
+            shape: self.shape,
+            root,
+        })
+    }
+
+    /// The tree's shape. It takes no memory.
+    pub fn shape(&self) -> Shape
+        ensures { result ≡ self.now.shape }
+    {
+        self.shape
+    }
+
+    /// The tree's root. It takes no memory.
+    pub fn root(&self) -> &Node<U>
+        ensures root { result.now ≡ self.now.root }
+        ensures searchable { IsSearchable result.now }
+    {
+        &self.root
+    }
+
+    /// Puts messages, the oldest first, into the root's slots, whole or not at all.
+    ///
+    /// It moves the messages, and copies the root's own level only where another tree shares it.
+    pub fn append(&mut self, alloc: Global, msgs: Vec<Msg<U>>) -> Result<(), NoMemory>
+        ensures ok { OnOk result (Appended U.means msgs.items self.old self.new) }
+        ensures err { OnErr result (self.new ≡ self.old) }
+        ensures nothing { msgs.items ≡ [] → IsOk result × (self.new ≡ self.old) }
+    {
+        let root = &mut self.root;
+        if msgs.is_empty() {
+            return Ok(());
+        }
+        Arc::make_mut(root)?.append(alloc, msgs)
+    }
+}
+
+/// Puts one batch into two trees, whole or not at all.
+pub fn append_both<A: Update, B: Update>(
+    alloc: Global,
+    first: &mut Tree<A>,
+    first_msgs: Vec<Msg<A>>,
+    second: &mut Tree<B>,
+    second_msgs: Vec<Msg<B>>,
+) -> Result<(), NoMemory>
+    ensures first_ok { OnOk result (Appended A.means first_msgs.items first.old first.new) }
+    ensures first_err { OnErr result (first.new ≡ first.old) }
+    ensures second_ok { OnOk result (Appended B.means second_msgs.items second.old second.new) }
+    ensures second_err { OnErr result (second.new ≡ second.old) }
+    ensures first_nothing { first_msgs.items ≡ [] → first.new ≡ first.old }
+    ensures second_nothing { second_msgs.items ≡ [] → second.new ≡ second.old }
+{
+    if first_msgs.is_empty() || second_msgs.is_empty() {
+        first.append(alloc, first_msgs)?;
+        return second.append(alloc, second_msgs);
+    }
+    let one = Arc::make_mut(&mut first.root)?;
+    let two = Arc::make_mut(&mut second.root)?;
+    append::append_both(alloc, one, first_msgs, two, second_msgs)
+}

@@ -1,0 +1,53 @@
+-- One line: what it asks, and what it is answered.
+use Rattle.std.proofs.Common.{◌≡◌, inl, inr, ℕ, ◌<◌, List, [], ◌∷◌, length, refl, sym, subst, arith}
+use Rattle.reference.specs.Worlds.{World, Ask, Replied, Fits, next}
+use Rattle.reference.specs.declared.call.Call.{Call}
+use Rattle.reference.specs.declared.reply.Reply.{Reply}
+use Rattle.shell.specs.declared.request.Request.{Request}
+use Rattle.shell.specs.declared.request.Request.TheVariants.{Wanted}
+use Rattle.shell.specs.Requests.{request_of, IsReadAs}
+use Rattle.shell.specs.Replies.{reply_text}
+use Rattle.shell.specs.Script.{Answers, Does, Script}
+use Rattle.shell.specs.Runs.{Leads, Worlds}
+use Rattle.shell.specs.Progress.{last_line}
+use Rattle.shell.proofs.Progress.{script_one}
+
+-- a request that keeps the world was answered
+pub answers_kept : (means : Worlds) (Wrote : List ℕ → Type 0) (q wanted : Request) (text : List ℕ) → q ≡ wanted → ((w : World) → Answers w wanted text w) → Wrote text
+    → Leads means means (λ first. Answers first q) Wrote
+answers_kept means Wrote q wanted text is answers wrote first m =
+    (text, first, subst (λ (r : Request). Answers first r text first) (sym is) (answers first), m, wrote)
+
+-- a call was done and answered
+pub answers_call : (means means' : Worlds) (Wrote : List ℕ → Type 0) (q : Request) (call : Call) (reply : Reply) → q ≡ Wanted call
+    → ((w : World) → means w → Fits w (Ask call) (Replied reply) × means' (next w (Ask call) (Replied reply))) → Wrote (reply_text reply)
+    → Leads means means' (λ first. Answers first q) Wrote
+answers_call means means' Wrote q call reply is does wrote first m =
+    let done = does first m in
+    let after = next first (Ask call) (Replied reply) in
+    (reply_text reply, after, subst (λ (r : Request). Answers first r (reply_text reply) after) (sym is) (reply, done.0, refl, refl), done.1, wrote)
+
+-- what a line asks was read and answered
+pub line_done : (means means' : Worlds) (Wrote : List ℕ → Type 0) (line : List ℕ) (q : Request) → IsReadAs (request_of line) q
+    → Leads means means' (λ first. Answers first q) Wrote → Leads means means' (λ first. Does first line) Wrote
+line_done means means' Wrote line q read f first m =
+    let (out, after, answers, m', wrote) = f first m in
+    (out, after, does read first out after answers, m', wrote)
+  where
+    does : IsReadAs (request_of line) q → (first : World) (out : List ℕ) (after : World) → Answers first q out after → Does first line out after
+    does (inl is) first out after answers = inl (subst (λ (r : Request). Answers first r out after) is answers)
+    does (inr lacks) first out after answers = inr (lacks.1, subst (λ (r : Request). Answers first r out after) lacks.0 answers)
+
+-- a last line without its line feed was done
+pub last_done : (means means' : Worlds) (Wrote Known : List ℕ → Type 0) (line : List ℕ) → 0 < length line → ((out : List ℕ) → Wrote out → Known out)
+    → Leads means means' (λ first. Does first line) Wrote → Leads means means' (λ first. Script first (last_line line)) Known
+last_done means means' Wrote Known [] some known f first m = absurd (omega arith)
+last_done means means' Wrote Known (x ∷ line) some known f first m =
+    let (out, after, does, m', wrote) = f first m in
+    (out, after, script_one (x ∷ line) first after out does, m', known out wrote)
+
+-- no last line
+pub none_done : (means : Worlds) (Wrote : List ℕ → Type 0) (line : List ℕ) → length line ≡ 0 → Wrote []
+    → Leads means means (λ first. Script first (last_line line)) Wrote
+none_done means Wrote [] none wrote first m = ([], first, (refl, refl), m, wrote)
+none_done means Wrote (x ∷ line) none wrote first m = absurd (omega (arith, none))

@@ -1,0 +1,10 @@
+pub mod Known
+pub mod WordFacts
+pub mod Asking
+pub mod Texts
+pub mod Progress
+pub mod Answering
+pub mod Reading
+pub mod Standing
+pub mod Making
+pub mod Executing

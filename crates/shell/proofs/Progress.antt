@@ -1,0 +1,294 @@
+-- How a script goes on: byte by byte, line by line, piece by piece, and where it ends.
+use Rattle.std.proofs.Common.{◌≡◌, ◌≢◌, ◌⊎◌, ℕ, ◌+◌, ◌≤◌, ◌<◌, ◌==◌, nat_lt, List, [], ◌∷◌, ◌++◌, length, true, false, refl, sym, ap, ◌∙◌, subst, inl, inr, append_assoc, append-nil, arith, length-append}
+use Rattle.std.proofs.lemmas.Bool.{ne_eqb, cases_lt, lt-ltb}
+use Rattle.pathkey.specs.Texts.{onto_first}
+use Rattle.pathkey.specs.declared.errno.Errno.TheVariants.{ENOMEM}
+use Rattle.reference.specs.Worlds.{World}
+use Rattle.shell.specs.declared.request.Request.{Request}
+use Rattle.shell.specs.declared.request.Request.TheVariants.{Overlong, Refused}
+use Rattle.shell.specs.Lines.{lines_of, kept_before, whole}
+use Rattle.shell.specs.Requests.{request_of, IsAsked}
+use Rattle.shell.specs.Script.{Answers, Does, Script, Stopped}
+use Rattle.shell.specs.Progress.{AreFree, FailedIn, Holds, IsFree, Went, last_line, text_of_lines}
+
+-- a byte that is no line feed, after a line
+free_more : (l : List ℕ) (x : ℕ) → IsFree l → x ≢ 10 → IsFree (l ++ x ∷ [])
+free_more [] x free ne = (ne, tt)
+free_more (y ∷ l) x free ne = (free.0, free_more l x free.1 ne)
+
+-- one line more without a line feed in it
+pub are_free_more : (ls : List (List ℕ)) (l : List ℕ) → AreFree ls → IsFree l → AreFree (ls ++ l ∷ [])
+are_free_more [] l free one = (one, tt)
+are_free_more (k ∷ ls) l free one = (free.0, are_free_more ls l free.1 one)
+
+-- one line more, and its line feed
+pub text_more : (ls : List (List ℕ)) (l rest : List ℕ) → text_of_lines ls ++ (l ++ (10 ∷ rest)) ≡ text_of_lines (ls ++ l ∷ []) ++ rest
+text_more [] l rest = sym (append_assoc l (10 ∷ []) rest)
+text_more (k ∷ ls) l rest =
+    append_assoc k (10 ∷ text_of_lines ls) (l ++ (10 ∷ rest))
+    ∙ ap (λ t. k ++ (10 ∷ t)) (text_more ls l rest)
+    ∙ sym (append_assoc k (10 ∷ text_of_lines (ls ++ l ∷ [])) rest)
+
+-- ---- the lines of a text
+
+-- the first line of a text, up to its line feed
+pub lines_at : (l rest : List ℕ) → IsFree l → lines_of (l ++ (10 ∷ rest)) ≡ l ∷ lines_of rest
+lines_at [] rest free = refl
+lines_at (x ∷ l) rest free =
+    let no : (x == 10) ≡ false = ne_eqb x 10 free.0 in
+    rw no (ap (onto_first x) (lines_at l rest free.1))
+
+-- the first lines of a text, each with its line feed
+pub lines_after : (ls : List (List ℕ)) (rest : List ℕ) → AreFree ls → lines_of (text_of_lines ls ++ rest) ≡ ls ++ lines_of rest
+lines_after [] rest free = refl
+lines_after (l ∷ ls) rest free =
+    ap lines_of (append_assoc l (10 ∷ text_of_lines ls) rest)
+    ∙ lines_at l (text_of_lines ls ++ rest) free.0
+    ∙ ap (λ t. l ∷ t) (lines_after ls rest free.1)
+
+-- what has no line feed is the last line, where it is not empty
+pub lines_last : (l : List ℕ) → IsFree l → lines_of l ≡ last_line l
+lines_last [] free = refl
+lines_last (x ∷ l) free =
+    let no : (x == 10) ≡ false = ne_eqb x 10 free.0 in
+    rw (no, lines_last l free.1) (go l)
+  where
+    go : (m : List ℕ) → onto_first x (last_line m) ≡ (x ∷ m) ∷ []
+    go [] = refl
+    go (y ∷ m) = refl
+
+-- without a line feed there is no whole line
+whole_free : (l : List ℕ) → IsFree l → whole l ≡ []
+whole_free [] free = refl
+whole_free (x ∷ l) free =
+    let no : (x == 10) ≡ false = ne_eqb x 10 free.0 in
+    rw no (ap (kept_before x) (whole_free l free.1))
+
+-- the first whole line of a text
+whole_at : (l rest : List ℕ) → IsFree l → whole (l ++ (10 ∷ rest)) ≡ l ++ (10 ∷ whole rest)
+whole_at [] rest free = refl
+whole_at (x ∷ l) rest free =
+    let no : (x == 10) ≡ false = ne_eqb x 10 free.0 in
+    rw (no, whole_at l rest free.1) (go l)
+  where
+    go : (m : List ℕ) → kept_before x (m ++ (10 ∷ whole rest)) ≡ x ∷ (m ++ (10 ∷ whole rest))
+    go [] = refl
+    go (y ∷ m) = refl
+
+-- the whole lines of a text, and then a line without its line feed
+pub whole_after : (ls : List (List ℕ)) (rest : List ℕ) → AreFree ls → IsFree rest → whole (text_of_lines ls ++ rest) ≡ text_of_lines ls
+whole_after [] rest free last = whole_free rest last
+whole_after (l ∷ ls) rest free last =
+    ap whole (append_assoc l (10 ∷ text_of_lines ls) rest)
+    ∙ whole_at l (text_of_lines ls ++ rest) free.0
+    ∙ ap (λ t. l ++ (10 ∷ t)) (whole_after ls rest free.1 last)
+
+-- ---- scripts
+
+-- some lines, and then some more
+pub script_then : (ls ks : List (List ℕ)) (a b c : World) (out more : List ℕ) → Script a ls out b → Script b ks more c → Script a (ls ++ ks) (out ++ more) c
+script_then [] ks a b c out more first second =
+    subst (λ (w : World). Script w ks (out ++ more) c) first.1 (subst (λ (o : List ℕ). Script b ks (o ++ more) c) (sym first.0) second)
+script_then (l ∷ ls) ks a b c out more (after, reply, rest, does, is, first) second =
+    (after, reply, rest ++ more, does, ap (λ o. o ++ more) is ∙ append_assoc reply rest more, script_then ls ks after b c rest more first second)
+
+-- one line is a script
+pub script_one : (line : List ℕ) (a b : World) (reply : List ℕ) → Does a line reply b → Script a (line ∷ []) reply b
+script_one line a b reply does = (b, reply, [], does, sym (append-nil reply), (refl, refl))
+
+-- ---- the line so far
+
+-- what a line that is too long asks
+too_long : (xs : List ℕ) → 65536 < length xs → request_of xs ≡ Overlong
+too_long xs long =
+    let e : nat_lt 65536 (length xs) ≡ true = lt-ltb 65536 (length xs) long in
+    rw e refl
+
+-- what was held of a line is answered as the line itself
+pub does_held : (held items : List ℕ) (a b : World) (reply : List ℕ) → Holds held items → Does a items reply b → Does a held reply b
+does_held held items a b reply holds does = go (cases_lt 65536 (length held))
+  where
+    go : (65536 < length held) ⊎ (length held ≤ 65536) → Does a held reply b
+    go (inl long) =
+        let same : request_of items ≡ request_of held = too_long items (holds.long long) ∙ sym (too_long held long) in
+        let P : Request → Type 0 = λ r. Answers a r reply b ⊎ (IsAsked r × Answers a (Refused ENOMEM) reply b) in
+        subst P same does
+    go (inr short) = subst (λ (l : List ℕ). Does a l reply b) (holds.short short) does
+
+-- before its first byte the line is empty
+pub holds_nothing : Holds [] []
+holds_nothing = record { short = λ _. refl; long = λ h. absurd (omega arith); free = tt }
+
+-- one byte more in the line so far
+pub hold_more : (held items new : List ℕ) (byte : ℕ) → Holds held items → byte ≢ 10
+    → (length items ≤ 65536 → new ≡ items ++ byte ∷ []) → (65536 < length items → new ≡ items) → Holds (held ++ byte ∷ []) new
+hold_more held items new byte holds ne short long = record {
+  short = λ few.
+      let fewer : length held ≤ 65536 = omega (arith, length-append held (byte ∷ [])) in
+      let is = holds.short fewer in
+      let has : length items ≤ 65536 = rw is fewer in
+      short has ∙ ap (λ l. l ++ byte ∷ []) is;
+  long = λ many. elim (cases_lt 65536 (length items)) [
+    | inl past ↦ rw (long past) past
+    | inr within ↦
+        let e : length new ≡ length items + 1 = rw (short within) (length-append items (byte ∷ [])) in
+        elim (cases_lt 65536 (length held)) [
+          | inl more ↦
+              let past = holds.long more in
+              absurd (omega arith)
+          | inr few ↦
+              let is = holds.short few in
+              let l : length items ≡ length held = ap length is in
+              omega (arith, length-append held (byte ∷ []))
+        ]
+  ];
+  free = free_more held byte holds.free ne;
+}
+
+-- a byte of the line
+pub went_byte : (held piece : List ℕ) (first after : World) (byte : ℕ) (out left : List ℕ) → Went held piece first out left after → Went held (piece ++ byte ∷ []) first out (left ++ byte ∷ []) after
+went_byte held piece first after byte out left w = record {
+  lines = w.lines;
+  cut = sym (append_assoc held piece (byte ∷ [])) ∙ ap (λ l. l ++ byte ∷ []) w.cut ∙ append_assoc (text_of_lines w.lines) left (byte ∷ []);
+  free = w.free;
+  did = w.did;
+}
+
+-- the line feed, and the line is done
+pub went_line : (held piece : List ℕ) (first before after : World) (out left reply : List ℕ) → Went held piece first out left before → IsFree left
+    → Does before left reply after → Went held (piece ++ 10 ∷ []) first (out ++ reply) [] after
+went_line held piece first before after out left reply w free does = record {
+  lines = w.lines ++ left ∷ [];
+  cut = sym (append_assoc held piece (10 ∷ [])) ∙ ap (λ l. l ++ 10 ∷ []) w.cut ∙ append_assoc (text_of_lines w.lines) left (10 ∷ [])
+      ∙ text_more w.lines left [];
+  free = are_free_more w.lines left w.free free;
+  did = script_then w.lines (left ∷ []) first before after out reply w.did (script_one left before after reply does);
+}
+
+-- no bytes yet
+pub went_nothing : (held : List ℕ) (first : World) → Went held [] first [] held first
+went_nothing held first = record {
+  lines = [];
+  cut = append-nil held;
+  free = tt;
+  did = (refl, refl);
+}
+
+-- a piece after a text
+pub went_then : (text piece : List ℕ) (first before after : World) (out left more rest : List ℕ) → Went [] text first out left before
+    → Went left piece before more rest after → Went [] (text ++ piece) first (out ++ more) rest after
+went_then text piece first before after out left more rest a b = record {
+  lines = a.lines ++ b.lines;
+  cut = ap (λ l. l ++ piece) a.cut ∙ append_assoc (text_of_lines a.lines) left piece ∙ ap (λ l. text_of_lines a.lines ++ l) b.cut
+      ∙ sym (append_assoc (text_of_lines a.lines) (text_of_lines b.lines) rest) ∙ ap (λ l. l ++ rest) (sym (text_both a.lines b.lines));
+  free = free_both a.lines b.lines a.free b.free;
+  did = script_then a.lines b.lines first before after out more a.did b.did;
+}
+  where
+    text_both : (ls ks : List (List ℕ)) → text_of_lines (ls ++ ks) ≡ text_of_lines ls ++ text_of_lines ks
+    text_both [] ks = refl
+    text_both (l ∷ ls) ks = ap (λ t. l ++ (10 ∷ t)) (text_both ls ks) ∙ sym (append_assoc l (10 ∷ text_of_lines ls) (text_of_lines ks))
+
+    free_both : (ls ks : List (List ℕ)) → AreFree ls → AreFree ks → AreFree (ls ++ ks)
+    free_both [] ks p q = q
+    free_both (l ∷ ls) ks p q = (p.0, free_both ls ks p.1 q)
+
+-- the lines of a text that was read to its end
+pub script_at_end : (text : List ℕ) (first before after : World) (out left reply : List ℕ) → Went [] text first out left before → IsFree left
+    → Script before (last_line left) reply after → Script first (lines_of text) (out ++ reply) after
+script_at_end text first before after out left reply w free last =
+    let is : lines_of text ≡ w.lines ++ last_line left =
+    ap lines_of w.cut ∙ lines_after w.lines left w.free ∙ ap (λ l. w.lines ++ l) (lines_last left free) in
+    rw is (script_then w.lines (last_line left) first before after out reply w.did last)
+
+-- the whole lines of what was read
+pub script_of_whole : (text : List ℕ) (first after : World) (out left : List ℕ) → Went [] text first out left after → IsFree left → Script first (lines_of (whole text)) out after
+script_of_whole text first after out left w free =
+    let is : lines_of (whole text) ≡ w.lines =
+    ap (λ t. lines_of (whole t)) w.cut ∙ ap lines_of (whole_after w.lines left w.free free) ∙ ap lines_of (sym (append-nil (text_of_lines w.lines)))
+    ∙ lines_after w.lines [] w.free ∙ append-nil w.lines in
+    rw is w.did
+
+-- there is at most one last line
+at_most_one : (l : List ℕ) → length (last_line l) ≤ 1
+at_most_one [] = omega arith
+at_most_one (x ∷ l) = omega arith
+
+-- where a failed write leaves a script that was read to its end
+pub stopped_at_end : (text : List ℕ) (first before after : World) (out left part rest : List ℕ) → Went [] text first out left before → IsFree left
+    → Script before (last_line left) (part ++ rest) after → Stopped first text (out ++ part) after
+stopped_at_end text first before after out left part rest w free last = record {
+  done = w.lines;
+  last = last_line left;
+  more = [];
+  before = before;
+  replies = out;
+  part = part;
+  rest = rest;
+  lines = ap lines_of w.cut ∙ lines_after w.lines left w.free ∙ ap (λ l. w.lines ++ l) (lines_last left free ∙ sym (append-nil (last_line left)));
+  at_most_one = at_most_one left;
+  did = w.did;
+  did_last = last;
+  is = refl;
+}
+
+-- between two lines
+pub stopped_between : (text later : List ℕ) (first after : World) (out left : List ℕ) → Went [] text first out left after → Stopped first (text ++ later) out after
+stopped_between text later first after out left w = record {
+  done = w.lines;
+  last = [];
+  more = lines_of (left ++ later);
+  before = after;
+  replies = out;
+  part = [];
+  rest = [];
+  lines = ap (λ t. lines_of (t ++ later)) w.cut ∙ ap lines_of (append_assoc (text_of_lines w.lines) left later) ∙ lines_after w.lines (left ++ later) w.free;
+  at_most_one = omega arith;
+  did = w.did;
+  did_last = (refl, refl);
+  is = sym (append-nil out);
+}
+
+-- within a piece
+pub stopped_in : (text piece later : List ℕ) (first before after : World) (out left written : List ℕ) → Went [] text first out left before
+    → FailedIn left piece before written after → Stopped first ((text ++ piece) ++ later) (out ++ written) after
+stopped_in text piece later first before after out left written w f =
+    let both = went_then text f.front first before f.before out left f.replies f.line w f.went in
+    let whole_text : (text ++ piece) ++ later ≡ text_of_lines both.lines ++ (f.line ++ (10 ∷ (f.more ++ later))) =
+    ap (λ p. (text ++ p) ++ later) f.cut
+    ∙ ap (λ t. t ++ later) (sym (append_assoc text f.front (10 ∷ f.more)))
+    ∙ ap (λ t. (t ++ (10 ∷ f.more)) ++ later) both.cut
+    ∙ append_assoc (text_of_lines both.lines ++ f.line) (10 ∷ f.more) later
+    ∙ append_assoc (text_of_lines both.lines) f.line (10 ∷ (f.more ++ later)) in
+    record {
+      done = both.lines;
+      last = f.line ∷ [];
+      more = lines_of (f.more ++ later);
+      before = f.before;
+      replies = out ++ f.replies;
+      part = f.part;
+      rest = f.rest;
+      lines = ap lines_of whole_text ∙ lines_after both.lines _ both.free ∙ ap (λ l. both.lines ++ l) (lines_at f.line (f.more ++ later) f.free);
+      at_most_one = omega arith;
+      did = both.did;
+      did_last = script_one f.line f.before after (f.part ++ f.rest) f.did_last;
+      is = ap (λ l. out ++ l) f.is ∙ sym (append_assoc out f.replies f.part);
+    }
+
+-- what one line alone is answered, another may be too
+script_of_one : (line other : List ℕ) (a b : World) (out : List ℕ) → ((reply : List ℕ) (after : World) → Does a line reply after → Does a other reply after)
+    → Script a (line ∷ []) out b → Script a (other ∷ []) out b
+script_of_one line other a b out f (after, reply, rest, does, is, end) = (after, reply, rest, f reply after does, is, end)
+
+-- a last line of which no more is held than shows that it is too long
+pub script_held : (held items : List ℕ) (a b : World) (out : List ℕ) → Holds held items → Script a (last_line items) out b → Script a (last_line held) out b
+script_held held items a b out holds did = go (cases_lt 65536 (length held))
+  where
+    long_line : (h i : List ℕ) → 65536 < length h → 65536 < length i → Holds h i → Script a (last_line i) out b → Script a (last_line h) out b
+    long_line [] i p q hs d = absurd (omega arith)
+    long_line (x ∷ h) [] p q hs d = absurd (omega arith)
+    long_line (x ∷ h) (y ∷ i) p q hs d = script_of_one (y ∷ i) (x ∷ h) a b out (λ reply after does. does_held (x ∷ h) (y ∷ i) a after reply hs does) d
+
+    go : (65536 < length held) ⊎ (length held ≤ 65536) → Script a (last_line held) out b
+    go (inl long) = long_line held items long (holds.long long) holds did
+    go (inr short) = subst (λ (l : List ℕ). Script a (last_line l) out b) (holds.short short) did

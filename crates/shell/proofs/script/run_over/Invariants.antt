@@ -1,0 +1,14 @@
+use Rattle.std.proofs.Common.{◌≡◌, ◌<◌, length, vec_capacity}
+use Rattle.std.specs.Io.KnownBytes.{Appends}
+use Rattle.shell.specs.Runs.{Leads}
+use Rattle.shell.proofs.Reading.{Reads}
+use Rattle.shell.proofs.script.run_over.Given as goal
+
+abbrev pub invariant-loop : goal.invariant-loop
+invariant-loop g l = record {
+  room : 65536 < vec_capacity l.line;
+  size : length l.piece ≡ length l.initial.piece;
+  went : Leads (g.S.Execute.means l.initial.state) (g.S.Execute.means l.state)
+      (Reads (g.R.Read.remaining l.initial.reader) (g.R.Read.remaining l.reader) l.line.items)
+      (Appends (g.W.Write.contents l.initial.writer) (g.W.Write.contents l.writer));
+}

@@ -1,0 +1,21 @@
+-- The lines of a text, and the words of a line.
+use Rattle.std.specs.Prelude.{ℕ, List, [], ◌∷◌, ◌++◌, ◌==◌, if◌then◌else◌}
+use Rattle.pathkey.specs.Texts.{pieces}
+
+-- the lines of a text, each without its line feed (10); the last one counts without it where it is not empty
+abbrev pub lines_of : List ℕ → List (List ℕ)
+lines_of text = pieces 10 text
+
+-- the words of a line, which is cut at each single space (32); a word may be empty
+abbrev pub words_of : List ℕ → List (List ℕ)
+words_of line = pieces 32 (line ++ 32 ∷ [])
+
+-- a byte in front, where something follows it
+abbrev pub kept_before : ℕ → List ℕ → List ℕ
+kept_before x [] = []
+kept_before x (y ∷ ys) = x ∷ (y ∷ ys)
+
+-- the whole lines of a text: all of it up to its last line feed
+abbrev pub whole : List ℕ → List ℕ
+whole [] = []
+whole (x ∷ xs) = if x == 10 then x ∷ whole xs else kept_before x (whole xs)

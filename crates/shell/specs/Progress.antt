@@ -1,0 +1,52 @@
+-- How far a script has come within its text.
+use Rattle.std.specs.Prelude.{◌≡◌, ◌≢◌, ℕ, List, [], ◌∷◌, ◌++◌, ⊤, ◌≤◌, ◌<◌, length}
+use Rattle.reference.specs.Worlds.{World}
+use Rattle.shell.specs.Script.{Does, Script}
+
+-- the lines, each with its line feed
+abbrev pub text_of_lines : List (List ℕ) → List ℕ
+text_of_lines [] = []
+text_of_lines (l ∷ ls) = l ++ (10 ∷ text_of_lines ls)
+
+-- no line feed
+abbrev pub IsFree : List ℕ → Type 0
+IsFree [] = ⊤
+IsFree (x ∷ xs) = (x ≢ 10) × IsFree xs
+
+-- no line feed in any of the lines
+abbrev pub AreFree : List (List ℕ) → Type 0
+AreFree [] = ⊤
+AreFree (l ∷ ls) = IsFree l × AreFree ls
+
+-- the line so far, of which no more is held than shows that it is too long
+pub record Holds (held items : List ℕ) : Type 0 where
+  pub short : length held ≤ 65536 → items ≡ held
+  pub long : 65536 < length held → 65536 < length items
+  pub free : IsFree held
+
+-- after a piece more the script has done these lines, and `left` is the line so far
+pub record Went (held piece : List ℕ) (first : World) (out left : List ℕ) (after : World) : Type 0 where
+  pub lines : List (List ℕ)
+  pub cut : held ++ piece ≡ text_of_lines lines ++ left
+  pub free : AreFree lines
+  pub did : Script first lines out after
+
+-- within a piece a write failed, at the reply to `line`
+pub record FailedIn (held piece : List ℕ) (first : World) (written : List ℕ) (after : World) : Type 0 where
+  pub front : List ℕ
+  pub more : List ℕ
+  pub line : List ℕ
+  pub before : World
+  pub replies : List ℕ
+  pub part : List ℕ
+  pub rest : List ℕ
+  pub cut : piece ≡ front ++ (10 ∷ more)
+  pub went : Went held front first replies line before
+  pub free : IsFree line
+  pub did_last : Does before line (part ++ rest) after
+  pub is : written ≡ replies ++ part
+
+-- a last line without its line feed, which counts where it is not empty
+abbrev pub last_line : List ℕ → List (List ℕ)
+last_line [] = []
+last_line (x ∷ xs) = (x ∷ xs) ∷ []

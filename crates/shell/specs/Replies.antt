@@ -1,0 +1,41 @@
+-- The replies as text.
+use Rattle.std.specs.Prelude.{ℕ, List, [], ◌∷◌, ◌++◌, length, codes, decimal, flat_map}
+use Rattle.pathkey.specs.Names.{Name}
+use Rattle.pathkey.specs.Numbers.{word_of}
+use Rattle.reference.specs.Image.{percent, two_digits}
+use Rattle.reference.specs.declared.reply.Reply.{Reply}
+use Rattle.reference.specs.declared.reply.Reply.TheVariants.{Done, Count, Data, Stat, Names, Fault}
+use Rattle.reference.specs.declared.reply.Kind.{Kind}
+use Rattle.reference.specs.declared.reply.Kind.TheVariants.{Dir, File}
+
+-- bytes in hexadecimal, two lower-case digits each; a dash where there are none
+abbrev pub hex_text : List ℕ → List ℕ
+hex_text [] = codes "-"
+hex_text (b ∷ bytes) = flat_map (two_digits 87) (b ∷ bytes)
+
+-- what stands before the length that `stat` tells
+abbrev pub stat_word : Kind → List ℕ
+stat_word Dir = codes "dir "
+stat_word File = codes "file "
+
+-- what stands before a name that `readdir` tells
+abbrev pub name_word : Kind → List ℕ
+name_word Dir = codes "d "
+name_word File = codes "f "
+
+-- a word and a number, on one line
+abbrev pub number_line : List ℕ → ℕ → List ℕ
+number_line word n = word ++ decimal n ++ codes "\n"
+
+-- an entry of a directory: its kind, and its name in percent form
+abbrev pub entry_line : Kind × Name → List ℕ
+entry_line e = name_word e.0 ++ flat_map percent e.1 ++ codes "\n"
+
+-- the lines that a reply is written as
+abbrev pub reply_text : Reply → List ℕ
+reply_text Done = codes "ok\n"
+reply_text (Count n) = number_line (codes "count ") n
+reply_text (Data bytes) = codes "bytes " ++ hex_text bytes ++ codes "\n"
+reply_text (Stat kind n) = number_line (stat_word kind) n
+reply_text (Names entries) = number_line (codes "names ") (length entries) ++ flat_map entry_line entries
+reply_text (Fault e) = codes "fault " ++ word_of e ++ codes "\n"

@@ -1,0 +1,26 @@
+-- What a run of a script comes to: from the worlds that its state meant to those that it means after it.
+use Rattle.std.specs.Prelude.{◌≡◌, ℕ, List, Option, IfSome}
+use Rattle.std.specs.Io.KnownBytes.{Consumes}
+use Rattle.reference.specs.Worlds.{World}
+use Rattle.shell.specs.Lines.{lines_of, whole}
+use Rattle.shell.specs.Script.{Script, Stopped}
+
+-- the worlds that a state means
+abbrev pub Worlds : Type 1
+Worlds = World → Type 0
+
+-- from each world that was meant a step leads to one that is meant now, and this was written of its text
+abbrev pub Leads : Worlds → Worlds → (World → List ℕ → World → Type 0) → (List ℕ → Type 0) → Type 0
+Leads meant means step wrote = (first : World) → meant first → (text : List ℕ) × (after : World) × step first text after × means after × wrote text
+
+-- all that the reader had was done
+abbrev pub DoesAll : Option (List ℕ) → World → List ℕ → World → Type 0
+DoesAll had first out after = (text : List ℕ) × IfSome had (λ all. all ≡ text) × Script first (lines_of text) out after
+
+-- of what the reader gave the whole lines were done
+abbrev pub DoesGiven : Option (List ℕ) → Option (List ℕ) → World → List ℕ → World → Type 0
+DoesGiven had has first out after = (text : List ℕ) × Consumes had has text × Script first (lines_of (whole text)) out after
+
+-- of all that the reader had the lines were done up to a failed write
+abbrev pub DoesUntil : Option (List ℕ) → World → List ℕ → World → Type 0
+DoesUntil had first written after = (text : List ℕ) × IfSome had (λ all. all ≡ text) × Stopped first text written after

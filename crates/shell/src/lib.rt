@@ -1,0 +1,27 @@
+//! Scripts: lines of text from a reader, each done as a call and answered on a writer.
+//!
+//! A script runs on anything that executes file calls (`Execute`). Its contract says which answers are
+//! written and what the world is after them, also where the reader or the writer fails in between.
+#![tactic(auto)]
+
+mod command;
+mod digits;
+mod directories;
+mod execute;
+mod input;
+mod output;
+mod reply;
+mod request;
+mod script;
+mod words;
+
+pub use command::read_request;
+pub use directories::Directories;
+pub use execute::Execute;
+pub use output::WriteFailed;
+pub use reply::write_reply;
+pub use request::Request;
+pub use script::{ScriptFault, run_script};
+
+#[cfg(test)]
+mod tests;

@@ -1,0 +1,144 @@
+//! Writes replies as text.
+ghost use Rattle.std.specs.Prelude.{◌≡◌, ◌++◌, OnOk, OnErr, codes, flat_map};
+ghost use Rattle.std.specs.Io.KnownBytes.{Appends};
+ghost use Rattle.pathkey.specs.Numbers.{word_of};
+ghost use Rattle.reference.specs.Image.{percent};
+ghost use Rattle.reference.specs.Pairs.{pairs_of};
+ghost use Rattle.shell.specs.Parts.{AppendsPart};
+ghost use Rattle.reference.specs.declared.reply.Reply.TheVariants.{Names};
+ghost use Rattle.shell.specs.Replies.{entry_line, hex_text, number_line, reply_text, name_word};
+
+use crate::digits::{escape, lower_digits};
+use crate::output::{WriteFailed, put};
+use itoa::Buffer;
+use pathkey::Errno;
+use reference::{Kind, Reply};
+use std::io::Write;
+
+/// Writes the lines of a reply, or a beginning of them.
+pub fn write_reply<W: Write>(writer: &mut W, reply: &Reply) -> Result<(), WriteFailed>
+    ensures ok { OnOk result (Appends (W.contents writer.old) (W.contents writer.new) (reply_text reply.now)) }
+    ensures err { OnErr result (AppendsPart (W.contents writer.old) (W.contents writer.new) (reply_text reply.now)) }
+{
+    match reply {
+        Reply::Done => put(writer, b"ok\n"),
+        Reply::Count(n) => put_number_line(writer, b"count ", *n),
+        Reply::Data(bytes) => put_data(writer, bytes.as_slice()),
+        Reply::Stat(Kind::Dir, n) => put_number_line(writer, b"dir ", *n),
+        Reply::Stat(Kind::File, n) => put_number_line(writer, b"file ", *n),
+        Reply::Names(entries) => put_names(writer, entries.as_slice()),
+        Reply::Fault(fault) => put_fault(writer, *fault),
+    }
+}
+
+/// Writes the line of a refusal, or a beginning of it.
+pub fn put_fault<W: Write>(writer: &mut W, fault: Errno) -> Result<(), WriteFailed>
+    ensures ok { OnOk result (Appends (W.contents writer.old) (W.contents writer.new) (codes "fault " ++ word_of fault ++ codes "\n")) }
+    ensures err { OnErr result (AppendsPart (W.contents writer.old) (W.contents writer.new) (codes "fault " ++ word_of fault ++ codes "\n")) }
+{
+    put(writer, b"fault ")?;
+    put(writer, fault.name().as_bytes())?;
+    put(writer, b"\n")?;
+    Ok(())
+}
+
+// Writes a line of a word and a number, or a beginning of it.
+fn put_number_line<W: Write>(writer: &mut W, word: &[u8], n: u64) -> Result<(), WriteFailed>
+    ensures ok { OnOk result (Appends (W.contents writer.old) (W.contents writer.new) (number_line word.now n)) }
+    ensures err { OnErr result (AppendsPart (W.contents writer.old) (W.contents writer.new) (number_line word.now n)) }
+{
+    let mut digits = Buffer::new();
+    put(writer, word)?;
+    put(writer, digits.format(n).as_bytes())?;
+    put(writer, b"\n")?;
+    Ok(())
+}
+
+// Writes the line of bytes that were read, or a beginning of it.
+fn put_data<W: Write>(writer: &mut W, bytes: &[u8]) -> Result<(), WriteFailed>
+    ensures ok { OnOk result (Appends (W.contents writer.old) (W.contents writer.new) (codes "bytes " ++ hex_text bytes.now ++ codes "\n")) }
+    ensures err { OnErr result (AppendsPart (W.contents writer.old) (W.contents writer.new) (codes "bytes " ++ hex_text bytes.now ++ codes "\n")) }
+{
+    put(writer, b"bytes ")?;
+    put_hex(writer, bytes)?;
+    put(writer, b"\n")?;
+    Ok(())
+}
+
+// Writes bytes in hexadecimal, or a beginning of it.
+fn put_hex<W: Write>(writer: &mut W, bytes: &[u8]) -> Result<(), WriteFailed>
+    ensures ok { OnOk result (Appends (W.contents writer.old) (W.contents writer.new) (hex_text bytes.now)) }
+    ensures err { OnErr result (AppendsPart (W.contents writer.old) (W.contents writer.new) (hex_text bytes.now)) }
+{
+    if bytes.is_empty() {
+        return put(writer, b"-");
+    }
+    for &byte in bytes {
+        put(writer, &lower_digits(byte))?;
+    }
+    Ok(())
+}
+
+// Writes the lines of the entries of a directory, or a beginning of them.
+fn put_names<W: Write>(writer: &mut W, entries: &[(Kind, Vec<u8>)]) -> Result<(), WriteFailed>
+    ensures ok { OnOk result (Appends (W.contents writer.old) (W.contents writer.new) (reply_text (Names (pairs_of entries.now)))) }
+    ensures err { OnErr result (AppendsPart (W.contents writer.old) (W.contents writer.new) (reply_text (Names (pairs_of entries.now)))) }
+{
+    put_number_line(writer, b"names ", entries.len() as u64)?;
+    put_entries(writer, entries)?;
+    Ok(())
+}
+
+// Writes the lines of entries, or a beginning of them.
+fn put_entries<W: Write>(writer: &mut W, entries: &[(Kind, Vec<u8>)]) -> Result<(), WriteFailed>
+    ensures ok { OnOk result (Appends (W.contents writer.old) (W.contents writer.new) (flat_map entry_line (pairs_of entries.now))) }
+    ensures err { OnErr result (AppendsPart (W.contents writer.old) (W.contents writer.new) (flat_map entry_line (pairs_of entries.now))) }
+{
+    for (kind, name) in entries {
+        put_entry(writer, *kind, name.as_slice())?;
+    }
+    Ok(())
+}
+
+// Writes the line of an entry, or a beginning of it.
+fn put_entry<W: Write>(writer: &mut W, kind: Kind, name: &[u8]) -> Result<(), WriteFailed>
+    ensures ok { OnOk result (Appends (W.contents writer.old) (W.contents writer.new) (entry_line (kind, name.now))) }
+    ensures err { OnErr result (AppendsPart (W.contents writer.old) (W.contents writer.new) (entry_line (kind, name.now))) }
+{
+    put(writer, name_word(kind))?;
+    put_percent(writer, name)?;
+    put(writer, b"\n")?;
+    Ok(())
+}
+
+// What stands before a name.
+fn name_word(kind: Kind) -> &'static [u8]
+    ensures { result.now ≡ name_word kind }
+{
+    match kind {
+        Kind::Dir => b"d ",
+        Kind::File => b"f ",
+    }
+}
+
+// Writes a name in percent form, or a beginning of it.
+fn put_percent<W: Write>(writer: &mut W, name: &[u8]) -> Result<(), WriteFailed>
+    ensures ok { OnOk result (Appends (W.contents writer.old) (W.contents writer.new) (flat_map percent name.now)) }
+    ensures err { OnErr result (AppendsPart (W.contents writer.old) (W.contents writer.new) (flat_map percent name.now)) }
+{
+    for &byte in name {
+        put_percent_byte(writer, byte)?;
+    }
+    Ok(())
+}
+
+// Writes a byte in percent form, or a beginning of it.
+fn put_percent_byte<W: Write>(writer: &mut W, byte: u8) -> Result<(), WriteFailed>
+    ensures ok { OnOk result (Appends (W.contents writer.old) (W.contents writer.new) (percent byte)) }
+    ensures err { OnErr result (AppendsPart (W.contents writer.old) (W.contents writer.new) (percent byte)) }
+{
+    if byte < 33 || byte == b'%' || byte > 126 {
+        return put(writer, &escape(byte));
+    }
+    put(writer, &[byte])
+}

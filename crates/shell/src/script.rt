@@ -1,0 +1,209 @@
+//! The loop over the lines.
+ghost use Rattle.std.specs.Prelude.{◌≡◌, ◌≢◌, ◌≤◌, ◌<◌, ◌++◌, ℕ, List, [], ◌∷◌, take, length, vec_capacity, vec_len, OnOk, OnErr};
+ghost use Rattle.std.specs.Io.KnownBytes.{Appends};
+ghost use Rattle.shell.specs.Parts.{AppendsPart};
+ghost use Rattle.shell.specs.Requests.{AsksServed};
+ghost use Rattle.shell.specs.Script.{Answers, Does, Script};
+ghost use Rattle.shell.specs.Runs.{DoesAll, DoesGiven, DoesUntil, Leads};
+ghost use Rattle.shell.specs.Progress.{FailedIn, Holds, Went, last_line};
+
+use crate::command::{LONGEST_LINE, read_request};
+use crate::execute::Execute;
+use crate::input::read_some;
+use crate::output::{WriteFailed, flush, put};
+use crate::reply::{put_fault, write_reply};
+use crate::request::Request;
+use std::alloc::Global;
+use std::io::{Read, Write};
+use thiserror::Error;
+
+/// Why a script was not read to its end, or its replies not written.
+#[derive(Debug, Drop, PartialEq, Eq, Error)]
+pub enum ScriptFault {
+    /// The buffers for input could not be had; nothing was read.
+    #[error("betr: no memory")]
+    Memory,
+    /// The reader failed; each whole line before was done and answered.
+    #[error("betr: read failed")]
+    Read,
+    /// The writer failed; no line after that of the reply was done.
+    #[error("betr: write failed")]
+    Write,
+}
+
+/// What is read at once.
+const PIECE: usize = 65_536;
+
+/// What ends a line.
+const LINE_FEED: u8 = b'\n';
+
+/// Runs all the lines of the reader, and writes a reply to each as it is done.
+///
+/// At most one line is held, and of a line that is too long no more than shows it. The writer is flushed
+/// before each read.
+pub fn run_script<S: Execute, R: Read, W: Write>(
+    alloc: Global,
+    state: &mut S,
+    reader: &mut R,
+    writer: &mut W,
+) -> Result<(), ScriptFault>
+    ensures memory { result ≡ Err ScriptFault.Memory → (state.new ≡ state.old) × (reader.new ≡ reader.old)
+        × (writer.new ≡ writer.old) }
+    ensures done { OnOk result (Leads (S.means state.old) (S.means state.new) (DoesAll (R.remaining reader.old))
+        (Appends (W.contents writer.old) (W.contents writer.new))) }
+    ensures read { result ≡ Err ScriptFault.Read → Leads (S.means state.old) (S.means state.new)
+        (DoesGiven (R.remaining reader.old) (R.remaining reader.new)) (Appends (W.contents writer.old) (W.contents writer.new)) }
+    ensures write { result ≡ Err ScriptFault.Write → Leads (S.means state.old) (S.means state.new)
+        (DoesUntil (R.remaining reader.old)) (Appends (W.contents writer.old) (W.contents writer.new)) }
+{
+    let Ok(mut piece) = Vec::from_elem(alloc, 0u8, PIECE) else {
+        return Err(ScriptFault::Memory);
+    };
+    let Ok(mut line) = Vec::with_capacity(alloc, LONGEST_LINE + 1) else {
+        return Err(ScriptFault::Memory);
+    };
+    run_over(
+        alloc,
+        state,
+        reader,
+        writer,
+        piece.as_mut_slice(),
+        &mut line,
+    )
+}
+
+// The loop over the pieces, in buffers that are there.
+fn run_over<S: Execute, R: Read, W: Write>(
+    alloc: Global,
+    state: &mut S,
+    reader: &mut R,
+    writer: &mut W,
+    piece: &mut [u8],
+    line: &mut Vec<u8>,
+) -> Result<(), ScriptFault>
+    requires piece { 0 < length piece.old }
+    requires room { 65536 < vec_capacity line.old }
+    requires empty { line.old.items ≡ [] }
+    ensures kinds { result ≢ Err ScriptFault.Memory }
+    ensures done { OnOk result (Leads (S.means state.old) (S.means state.new) (DoesAll (R.remaining reader.old))
+        (Appends (W.contents writer.old) (W.contents writer.new))) }
+    ensures read { result ≡ Err ScriptFault.Read → Leads (S.means state.old) (S.means state.new)
+        (DoesGiven (R.remaining reader.old) (R.remaining reader.new)) (Appends (W.contents writer.old) (W.contents writer.new)) }
+    ensures write { result ≡ Err ScriptFault.Write → Leads (S.means state.old) (S.means state.new)
+        (DoesUntil (R.remaining reader.old)) (Appends (W.contents writer.old) (W.contents writer.new)) }
+{
+    for _ in 0..u64::MAX {
+        if let Err(WriteFailed) = flush(writer) {
+            return Err(ScriptFault::Write);
+        }
+        let Ok(n) = read_some(reader, piece) else {
+            return Err(ScriptFault::Read);
+        };
+        if n == 0 {
+            return match finish(alloc, state, line.as_slice(), writer) {
+                Ok(()) => Ok(()),
+                Err(WriteFailed) => Err(ScriptFault::Write),
+            };
+        }
+        if let Err(WriteFailed) = take_piece(alloc, state, line, &piece[..n], writer) {
+            return Err(ScriptFault::Write);
+        }
+    }
+    Err(ScriptFault::Read)
+}
+
+// Goes on with a piece of the text: does each line that ends in it.
+fn take_piece<S: Execute, W: Write>(
+    alloc: Global,
+    state: &mut S,
+    line: &mut Vec<u8>,
+    piece: &[u8],
+    writer: &mut W,
+) -> Result<(), WriteFailed>
+    requires room { 65536 < vec_capacity line.old }
+    ensures room { 65536 < vec_capacity line.new }
+    ensures ok { OnOk result ((held : List ℕ) → Holds held line.old.items → Leads (S.means state.old) (S.means state.new)
+        (λ first out after. (left : List ℕ) × Holds left line.new.items × Went held piece.now first out left after)
+        (Appends (W.contents writer.old) (W.contents writer.new))) }
+    ensures err { OnErr result ((held : List ℕ) → Holds held line.old.items → Leads (S.means state.old) (S.means state.new)
+        (FailedIn held piece.now) (Appends (W.contents writer.old) (W.contents writer.new))) }
+{
+    for &byte in piece {
+        if byte == LINE_FEED {
+            answer_line(alloc, state, line.as_slice(), writer)?;
+            line.clear();
+        } else {
+            hold(line, byte);
+        }
+    }
+    Ok(())
+}
+
+// Adds a byte to the line, unless what stands there is too long already.
+fn hold(line: &mut Vec<u8>, byte: u8)
+    requires room { 65536 < vec_capacity line.old }
+    ensures held { length line.old.items ≤ 65536 → line.new.items ≡ line.old.items ++ byte ∷ [] }
+    ensures long { 65536 < length line.old.items → line.new.items ≡ line.old.items }
+    ensures room { 65536 < vec_capacity line.new }
+{
+    if line.len() <= LONGEST_LINE {
+        line.push(byte).unwrap();
+    }
+}
+
+// Does what stands after the last line feed, if anything does.
+fn finish<S: Execute, W: Write>(
+    alloc: Global,
+    state: &mut S,
+    line: &[u8],
+    writer: &mut W,
+) -> Result<(), WriteFailed>
+    ensures ok { OnOk result (Leads (S.means state.old) (S.means state.new) (λ first. Script first (last_line line.now))
+        (Appends (W.contents writer.old) (W.contents writer.new))) }
+    ensures err { OnErr result (Leads (S.means state.old) (S.means state.new) (λ first. Script first (last_line line.now))
+        (AppendsPart (W.contents writer.old) (W.contents writer.new))) }
+{
+    if line.is_empty() {
+        return flush(writer);
+    }
+    answer_line(alloc, state, line, writer)?;
+    flush(writer)
+}
+
+// Does one line, and writes its reply.
+fn answer_line<S: Execute, W: Write>(
+    alloc: Global,
+    state: &mut S,
+    line: &[u8],
+    writer: &mut W,
+) -> Result<(), WriteFailed>
+    ensures ok { OnOk result (Leads (S.means state.old) (S.means state.new) (λ first. Does first line.now)
+        (Appends (W.contents writer.old) (W.contents writer.new))) }
+    ensures err { OnErr result (Leads (S.means state.old) (S.means state.new) (λ first. Does first line.now)
+        (AppendsPart (W.contents writer.old) (W.contents writer.new))) }
+{
+    let request = read_request(alloc, line);
+    answer(alloc, state, request, writer)
+}
+
+// Does what is asked, and writes its reply.
+fn answer<S: Execute, W: Write>(
+    alloc: Global,
+    state: &mut S,
+    request: Request,
+    writer: &mut W,
+) -> Result<(), WriteFailed>
+    requires { AsksServed request }
+    ensures ok { OnOk result (Leads (S.means state.old) (S.means state.new) (λ first. Answers first request)
+        (Appends (W.contents writer.old) (W.contents writer.new))) }
+    ensures err { OnErr result (Leads (S.means state.old) (S.means state.new) (λ first. Answers first request)
+        (AppendsPart (W.contents writer.old) (W.contents writer.new))) }
+{
+    match request {
+        Request::Silent => Ok(()),
+        Request::Overlong => put(writer, b"error line\n"),
+        Request::Malformed => put(writer, b"error syntax\n"),
+        Request::Refused(fault) => put_fault(writer, fault),
+        Request::Wanted(call) => write_reply(writer, &state.execute(alloc, &call)),
+    }
+}

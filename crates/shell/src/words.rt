@@ -1,0 +1,21 @@
+//! The words of a line, which lie in it and take no memory.
+ghost use Rattle.std.specs.Prelude.{◌≡◌, ◌≢◌, ◌<◌, [], ◌∷◌, All, MatchOption, length, take, slice_index};
+ghost use Rattle.shell.specs.Lines.{words_of};
+
+/// The first word of a line, and what follows its space; none where the line is one word.
+pub fn cut_word(line: &[u8]) -> Option<(&[u8], &[u8])>
+    ensures { MatchOption result (words_of line.now ≡ line.now ∷ [])
+        (λ cut. words_of line.now ≡ cut.0.now ∷ words_of cut.1.now) }
+{
+    let end = place_of_space(line)?;
+    let (word, rest) = line.split_at(end);
+    Some((word, &rest[1..]))
+}
+
+// The place of the first space.
+fn place_of_space(line: &[u8]) -> Option<usize>
+    ensures { MatchOption result (All (λ b. b ≢ 32) line.now)
+        (λ i. (i < length line.now) × (slice_index line.now i ≡ 32) × All (λ b. b ≢ 32) (take i line.now)) }
+{
+    line.iter().position(|byte| *byte == b' ')
+}
