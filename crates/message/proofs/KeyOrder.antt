@@ -151,7 +151,7 @@ cut_within lo a hi b k h = false_from_ne_true (within (later_key lo a) (earlier_
     (cc))
 
 -- a range that holds a key begins before its end
-begins_before_end : (lo k : List ℕ) (hi : Option (List ℕ)) → reaches lo k ≡ true → is_below k hi ≡ true → is_below lo hi ≡ true
+pub begins_before_end : (lo k : List ℕ) (hi : Option (List ℕ)) → reaches lo k ≡ true → is_below k hi ≡ true → is_below lo hi ≡ true
 begins_before_end lo k None h l = refl
 begins_before_end lo k (Some e) h l = le_lt lo k e h l
 
