@@ -1,11 +1,13 @@
 //! The value at a key, through the messages that wait on the way to its leaf.
 #![tactic(auto)]
 
-ghost use Rattle.std.specs.Prelude.{◌≡◌, IfOk};
+ghost use Rattle.std.specs.Prelude.{◌≡◌, IfOk, [], None};
+ghost use Rattle.node.specs.Lawful.{Rises};
 ghost use Rattle.node.specs.Meaning.{lookup, value as value_at};
 ghost use Rattle.node.specs.Ready.{IsSearchable};
 
 use message::Update;
+use node::node::leaf::position;
 use node::node::search::slot_of;
 use node::{Body, Node, Tree};
 use pathkey::{Key, NoMemory};
@@ -13,7 +15,11 @@ use std::alloc::Global;
 
 /// The value at the key: its leaf's entry under the messages that wait on the way, the oldest first
 /// (Bender et al., ;login: 2015).
-pub fn get<U: Update>(alloc: Global, tree: &Tree<U>, key: &Key) -> Result<Option<U::Value>, NoMemory>
+pub fn get<U: Update>(
+    alloc: Global,
+    tree: &Tree<U>,
+    key: &Key,
+) -> Result<Option<U::Value>, NoMemory>
     ensures { IfOk result (λ v. v ≡ value_at U.means tree.now.root key.now) }
 {
     find(alloc, tree.root(), key)
@@ -37,20 +43,19 @@ fn find<U: Update>(alloc: Global, node: &Node<U>, key: &Key) -> Result<Option<U:
     }
 }
 
-/// The value of the entry at the key.
+/// The value of the entry at the key, found by bisection.
 fn find_entry<U: Update>(
     alloc: Global,
     entries: &[(Key, U::Value)],
     key: &Key,
 ) -> Result<Option<U::Value>, NoMemory>
+    requires { Rises [] None entries.now }
     ensures { IfOk result (λ v. v ≡ lookup entries.now key.now) }
 {
-    for entry in entries {
-        if entry.0 == *key {
-            return Ok(Some(U::copy_value(alloc, &entry.1)?));
-        }
+    match position(entries, key) {
+        Ok(i) => Ok(Some(U::copy_value(alloc, &entries[i].1)?)),
+        Err(_) => Ok(None),
     }
-    Ok(None)
 }
 
 #[cfg(test)]

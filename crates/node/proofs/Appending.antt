@@ -18,7 +18,7 @@ use Rattle.node.specs.Appended.{parts, HaveTaken, IsAppended}
 
 module _ {U V : Type 0} where
   -- pieces cut to a range touch no key outside it
-  pieces_outside : (lo : List ℕ) (hi : Option (List ℕ)) (ms : List (Msg U V)) → TouchOnly lo hi (pieces lo hi ms)
+  pub pieces_outside : (lo : List ℕ) (hi : Option (List ℕ)) (ms : List (Msg U V)) → TouchOnly lo hi (pieces lo hi ms)
   pieces_outside lo hi [] k out = refl
   pieces_outside lo hi (m ∷ ms) k out = any_touches-append (option_to_list (cut_to lo hi m)) (pieces lo hi ms) k (cut_outside lo hi m k out) (pieces_outside lo hi ms k out)
 
@@ -26,19 +26,19 @@ module _ {U V : Type 0} (means : U → Option V → Option V) where
   touch_only-taken : (lo : List ℕ) (hi : Option (List ℕ)) (old ms new : List (Msg U V)) → Takes means old (pieces lo hi ms) new → TouchOnly lo hi old → TouchOnly lo hi new
   touch_only-taken lo hi old ms new takes only k out = takes.touched k (only k out) (pieces_outside lo hi ms k out)
 
-  next_lo-taken : (hi e : Option (List ℕ)) (ms : List (Msg U V)) (ss new : PSlots U V) → HaveTaken means ss (parts hi ms ss) new → next_lo e new ≡ next_lo e ss
+  pub next_lo-taken : (hi e : Option (List ℕ)) (ms : List (Msg U V)) (ss new : PSlots U V) → HaveTaken means ss (parts hi ms ss) new → next_lo e new ≡ next_lo e ss
   next_lo-taken hi e ms none none t = refl
   next_lo-taken hi e ms none (more lo' new' n' ss') t = absurd t
   next_lo-taken hi e ms (more lo old n ss) none t = absurd t
   next_lo-taken hi e ms (more lo old n ss) (more lo' new' n' ss') t = ap (λ (x : List ℕ). Some x) t.0
 
-  slot_count-taken : (hi : Option (List ℕ)) (ms : List (Msg U V)) (ss new : PSlots U V) → HaveTaken means ss (parts hi ms ss) new → slot_count new ≡ slot_count ss
+  pub slot_count-taken : (hi : Option (List ℕ)) (ms : List (Msg U V)) (ss new : PSlots U V) → HaveTaken means ss (parts hi ms ss) new → slot_count new ≡ slot_count ss
   slot_count-taken hi ms none none t = refl
   slot_count-taken hi ms none (more lo' new' n' ss') t = absurd t
   slot_count-taken hi ms (more lo old n ss) none t = absurd t
   slot_count-taken hi ms (more lo old n ss) (more lo' new' n' ss') t = ap (λ (x : ℕ). x + 1) (slot_count-taken hi ms ss ss' t.3)
 
-  starts_at-taken : (lo : List ℕ) (hi : Option (List ℕ)) (ms : List (Msg U V)) (ss new : PSlots U V) → HaveTaken means ss (parts hi ms ss) new → starts_at lo ss → starts_at lo new
+  pub starts_at-taken : (lo : List ℕ) (hi : Option (List ℕ)) (ms : List (Msg U V)) (ss new : PSlots U V) → HaveTaken means ss (parts hi ms ss) new → starts_at lo ss → starts_at lo new
   starts_at-taken at hi ms none new t h = absurd h
   starts_at-taken at hi ms (more lo old n ss) none t h = absurd t
   starts_at-taken at hi ms (more lo old n ss) (more lo' new' n' ss') t h = t.0 ∙ h
@@ -76,7 +76,7 @@ module _ {U V : Type 0} (means : U → Option V → Option V) where
   slot-taken lo hi old ms new n n' k t same low high =
       ap (λ (x : PNode U V). effects means new k (value means x k)) same ∙ effects-taken lo hi old ms new k (value means n k) t (ap (λ (x : Bool). x && is_below k hi) low ∙ high)
 
-  value-taken : (hi : Option (List ℕ)) (ms : List (Msg U V)) (lo : List ℕ) (old : List (Msg U V)) (n : PNode U V) (ss new : PSlots U V) (k : List ℕ) → HaveTaken means (more lo old n ss) (parts hi ms (more lo old n ss)) new → reaches lo k ≡ true → is_below k hi ≡ true → slots_value means new k ≡ effects means ms k (slots_value means (more lo old n ss) k)
+  pub value-taken : (hi : Option (List ℕ)) (ms : List (Msg U V)) (lo : List ℕ) (old : List (Msg U V)) (n : PNode U V) (ss new : PSlots U V) (k : List ℕ) → HaveTaken means (more lo old n ss) (parts hi ms (more lo old n ss)) new → reaches lo k ≡ true → is_below k hi ≡ true → slots_value means new k ≡ effects means ms k (slots_value means (more lo old n ss) k)
   value-taken hi ms lo old n ss none k t low high = absurd t
   value-taken hi ms lo old n none (more lo' new' n' none) k t low high = slot-taken lo hi old ms new' n n' k t.1 t.2 low high
   value-taken hi ms lo old n none (more lo' new' n' (more lp' mp' p' ss')) k t low high = absurd t.3

@@ -2,3 +2,13 @@ pub mod Placing
 pub mod SlotFacts
 pub mod Appending
 pub mod Roots
+pub mod At
+pub mod There
+pub mod Splice
+pub mod Kept
+pub mod Outcome
+pub mod Sinking
+pub mod Sizes
+pub mod EntryFacts
+pub mod LeafChanges
+pub mod Applying

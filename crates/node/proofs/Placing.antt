@@ -22,6 +22,7 @@ use Rattle.node.specs.Pure.{PNode, leaf, inner, depth, PSlots, none, more, slots
 use Rattle.node.specs.Lawful.{slot_count, next_lo, TouchOnly, starts_at, IsLawfulNode, AreLawfulSlots, IsLawfulRoot}
 use Rattle.node.specs.Ready.{AreRising, Fits, AllFit, IsRoot, IsSearchable, AreSearchable, see_list}
 use Rattle.node.specs.See.{see_slot}
+use Rattle.node.proofs.EntryFacts.{rises_all}
 
 abbrev or_empty : Option (List ℕ) → List ℕ
 or_empty None = []
@@ -40,7 +41,7 @@ from : {lo : List ℕ} → lo ≡ [] → (q : List ℕ) → within lo None q ≡
 from e q = ap (λ x. reaches x q && true) e ∙ ap (λ b. b && true) (from_start q)
 
 module _ {U V : Type 0} where
-  pieces-append : (lo : List ℕ) (hi : Option (List ℕ)) (xs ys : List (Msg U V)) → pieces lo hi (xs ++ ys) ≡ pieces lo hi xs ++ pieces lo hi ys
+  pub pieces-append : (lo : List ℕ) (hi : Option (List ℕ)) (xs ys : List (Msg U V)) → pieces lo hi (xs ++ ys) ≡ pieces lo hi xs ++ pieces lo hi ys
   pieces-append lo hi [] ys = refl
   pieces-append lo hi (x ∷ xs) ys = ap (λ z. option_to_list (cut_to lo hi x) ++ z) (pieces-append lo hi xs ys) ∙ sym (append_assoc (option_to_list (cut_to lo hi x)) (pieces lo hi xs) (pieces lo hi ys))
 
@@ -126,7 +127,7 @@ module _ {U V : Type 0} where
     | false ↦ λ f. absurd (let g : (touches m q || false) ≡ false = only q f in let h : touches m q ≡ true = touched_itself m q e in let k : (true || false) ≡ false = sym (ap (λ b. b || false) h) ∙ g in cc)
   ] refl
 
-  slot_count-slots : (xs : List (Slot U V)) → slot_count (slots (map see_slot xs)) ≡ length xs
+  pub slot_count-slots : (xs : List (Slot U V)) → slot_count (slots (map see_slot xs)) ≡ length xs
   slot_count-slots [] = refl
   slot_count-slots (x ∷ xs) = ap (λ n. n + 1) (slot_count-slots xs) ∙ add-one (length xs)
 
@@ -165,7 +166,7 @@ module _ {U V : Type 0} where
 
   mutual
     searchable : (S : Shape) (h : ℕ) (lo : List ℕ) (hi : Option (List ℕ)) (n : PNode U V) → IsLawfulNode S n h lo hi → IsSearchable n
-    searchable S h lo hi (leaf es) l = tt
+    searchable S h lo hi (leaf es) l = rises_all lo hi es l.2
     searchable S h lo hi (inner ss) l = (rising-lawful S h hi ss l.4, all_searchable S h hi ss l.4)
 
     all_searchable : (S : Shape) (h : ℕ) (hi : Option (List ℕ)) (ss : PSlots U V) → AreLawfulSlots S ss h hi → AreSearchable ss
@@ -173,7 +174,7 @@ module _ {U V : Type 0} where
     all_searchable S h hi (more lo ms n ss) l = (searchable S (pred h) lo (next_lo hi ss) n l.2, all_searchable S h hi ss l.3)
 
   pub searchable_root : (S : Shape) (h : ℕ) (n : PNode U V) → IsLawfulRoot S n h → IsSearchable n
-  searchable_root S h (leaf es) l = tt
+  searchable_root S h (leaf es) l = absurd l
   searchable_root S h (inner ss) l = (rising-lawful S h None ss l.4, all_searchable S h None ss l.4)
 
   pub searchable_child : (xs : List (Slot U V)) (i : ℕ) (d : Slot U V) → i < length xs → AreSearchable (slots (map see_slot xs)) → IsSearchable (get_or xs i d).child.value

@@ -64,6 +64,13 @@ module _ {U V : Type 0} (S : Shape) where
 between_test : (low high n : ℕ) → IsTrue (is_between low high n) → (low ≤ n) × (n ≤ high)
 between_test low high n h = let p = both (nat_le low n) (nat_le n high) h in (leb-true low n p.0, leb-true n high p.1)
 
+-- the greatest numbers of an allowed shape
+pub small_shape : (S : Shape) → IsTrue (is_shape S) → (S.fanout ≤ 64) × (S.pending ≤ 1024) × (S.leaf ≤ 1024)
+small_shape S h =
+    let p = both (is_between 4 64 S.fanout && is_between S.fanout 1024 S.pending) (is_between 4 1024 S.leaf) h in
+    let q = both (is_between 4 64 S.fanout) (is_between S.fanout 1024 S.pending) p.0 in
+    ((between_test 4 64 S.fanout q.0).1, (between_test S.fanout 1024 S.pending q.1).1, (between_test 4 1024 S.leaf p.1).1)
+
 -- an allowed shape has room for one slot
 room_for_one : (S : Shape) → IsTrue (is_shape S) → 1 ≤ S.fanout
 room_for_one S h =

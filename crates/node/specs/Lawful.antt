@@ -3,17 +3,22 @@ use Rattle.std.specs.Prelude.{◌≡◌, ℕ, ◌+◌, ◌<◌, ◌≤◌, true,
 use Rattle.std.proofs.Common.{pred}
 use Rattle.pathkey.specs.Keys.{is_below}
 use Rattle.message.specs.declared.msg.Msg.{Msg}
-use Rattle.message.specs.Ranges.{before, within}
+use Rattle.message.specs.Ranges.{reaches, within}
 use Rattle.message.specs.Effects.{any_touches}
 use Rattle.node.specs.declared.shape.Shape.{Shape}
 use Rattle.node.specs.Shapes.{is_shape}
 use Rattle.node.specs.Pure.{PNode, leaf, inner, PSlots, none, more, PTree}
 
 module _ {V : Type 0} where
-  -- keys that rise strictly, from lo up to and without hi
+  -- the first key, or the end where there is none
+  abbrev pub first_key : Option (List ℕ) → List (List ℕ × V) → Option (List ℕ)
+  first_key hi [] = hi
+  first_key hi (e ∷ es) = Some e.0
+
+  -- keys that rise strictly, from lo up to and without hi: each stands before the next
   abbrev pub Rises : List ℕ → Option (List ℕ) → List (List ℕ × V) → Type 0
   Rises lo hi [] = ⊤
-  Rises lo hi (e ∷ es) = (within lo hi e.0 ≡ true) × ((k : List ℕ) (v : V) (rest : List (List ℕ × V)) → es ≡ (k, v) ∷ rest → before e.0 k ≡ true) × Rises e.0 hi es
+  Rises lo hi (e ∷ es) = (reaches lo e.0 ≡ true) × (is_below e.0 (first_key hi es) ≡ true) × Rises e.0 hi es
 
 module _ {U V : Type 0} where
   -- messages that touch only keys from lo up to and without hi

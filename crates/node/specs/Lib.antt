@@ -7,3 +7,11 @@ pub mod Meaning
 pub mod Lawful
 pub mod Appended
 pub mod Ready
+pub mod Places
+pub mod Site
+pub mod Sinks
+pub mod Rows
+pub mod Steps
+pub mod RootSteps
+pub mod Report
+pub mod Leaves

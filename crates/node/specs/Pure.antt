@@ -1,5 +1,5 @@
 -- The tree as contracts see it: no pointer and no capacity stands in it.
-use Rattle.std.specs.Prelude.{ℕ, ◌+◌, max, List, [], ◌∷◌}
+use Rattle.std.specs.Prelude.{ℕ, ◌+◌, max, List, [], ◌∷◌, Bool, true, false}
 use Rattle.message.specs.declared.msg.Msg.{Msg}
 use Rattle.node.specs.declared.shape.Shape.{Shape}
 
@@ -24,6 +24,10 @@ module _ {U V : Type 0} where
   abbrev pub slots : List (PSlot U V (PNode U V)) → PSlots U V
   slots [] = none
   slots (s ∷ ss) = more s.lo s.msgs s.child (slots ss)
+
+  abbrev pub is_leaf : PNode U V → Bool
+  is_leaf (leaf es) = true
+  is_leaf (inner ss) = false
 
   -- how many levels of nodes
   abbrev mutual

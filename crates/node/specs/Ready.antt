@@ -5,7 +5,7 @@ use Rattle.pathkey.specs.Keys.{is_below}
 use Rattle.message.specs.declared.msg.Msg.{Msg}
 use Rattle.node.specs.declared.node.Slot.{Slot}
 use Rattle.node.specs.Pure.{PNode, leaf, inner, PSlots, none, more}
-use Rattle.node.specs.Lawful.{next_lo, starts_at, TouchOnly}
+use Rattle.node.specs.Lawful.{next_lo, starts_at, TouchOnly, Rises}
 
 module _ {U V : Type 0} where
   -- each slot begins before the next
@@ -37,10 +37,10 @@ module _ {U V : Type 0} where
   IsRoot (leaf es) = ⊥
   IsRoot (inner ss) = starts_at [] ss × AreRising ss
 
-  -- the pivots rise in the node and in all below, so that slots are found by bisection
+  -- pivots and keys rise in the node and in all below, so that slots and entries are found by bisection
   abbrev mutual
     pub IsSearchable : PNode U V → Type 0
-    IsSearchable (leaf es) = ⊤
+    IsSearchable (leaf es) = Rises [] None es
     IsSearchable (inner ss) = AreRising ss × AreSearchable ss
 
     pub AreSearchable : PSlots U V → Type 0

@@ -10,11 +10,18 @@
 #![tactic(auto)]
 
 pub mod node;
+pub mod place;
+pub mod report;
 pub mod shape;
+pub mod step;
 pub mod tree;
 
+pub use node::change::Change;
 pub use node::{Body, Node, Slot};
+pub use place::{Place, TreeStep};
+pub use report::ShapeReport;
 pub use shape::Shape;
+pub use step::{StepKind, StepReply};
 pub use tree::{Tree, append_both};
 
 #[cfg(test)]

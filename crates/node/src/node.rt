@@ -8,7 +8,11 @@ use std::marker::Model;
 use std::sync::Arc;
 
 pub mod append;
+pub mod change;
 pub mod copy;
+pub mod count;
+pub mod descend;
+pub mod leaf;
 pub mod make;
 pub mod search;
 
@@ -16,7 +20,8 @@ pub mod search;
 #[cycle(node)]
 #[derive(Drop)]
 pub struct Node<U: Changes> {
-    body: Body<U>,
+    /// What it holds.
+    pub body: Body<U>,
 }
 
 /// A leaf of entries that rise by key, or an inner node of slots that rise by pivot.

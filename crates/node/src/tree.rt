@@ -1,17 +1,24 @@
 //! A whole tree: its shape and its root.
 ghost use Rattle.std.specs.Prelude.{◌≡◌, IfOk, OnOk, OnErr, IsTrue, IsOk, []};
 ghost use Rattle.node.specs.Appended.{Appended};
+ghost use Rattle.node.specs.Lawful.{IsLawful};
 ghost use Rattle.node.specs.Pure.{empty_root};
+ghost use Rattle.node.specs.Report.{report_of};
+ghost use Rattle.node.specs.RootSteps.{with_root};
 ghost use Rattle.node.specs.Ready.{IsSearchable};
 ghost use Rattle.node.specs.Shapes.{is_shape};
 
+use crate::node::count::{height, total};
 use crate::node::{Node, append};
+use crate::report::{Quantity, ShapeReport};
 use crate::shape::Shape;
 use message::{Changes, Msg, Update};
 use pathkey::NoMemory;
 use std::alloc::Global;
 use std::marker::Model;
 use std::sync::Arc;
+
+pub mod step;
 
 /// A buffered tree. Every tree is lawful, which its type keeps.
 #[derive(Drop)]
@@ -67,8 +74,29 @@ impl<U: Update> Tree<U> {
     pub fn root(&self) -> &Node<U>
         ensures root { result.now ≡ self.now.root }
         ensures searchable { IsSearchable result.now }
+        ensures lawful { IsLawful self.now }
     {
         &self.root
+    }
+
+    /// How large the tree is. It takes no memory.
+    pub fn shape_report(&self) -> ShapeReport
+        ensures { result ≡ report_of self.now }
+    {
+        ShapeReport {
+            levels: height(&self.root),
+            slots: total(&self.root, Quantity::Slots),
+            pending: total(&self.root, Quantity::Pending),
+            entries: total(&self.root, Quantity::Entries),
+        }
+    }
+
+    /// Puts another root in the place of the tree's, for a step that keeps the tree lawful. It takes no memory.
+    pub fn replace_root(&mut self, root: Arc<Node<U>>)
+        requires { IsLawful (with_root root.value self.old) }
+        ensures { self.new ≡ with_root root.value self.old }
+    {
+        self.root = root;
     }
 
     /// Puts messages, the oldest first, into the root's slots, whole or not at all.

@@ -5,6 +5,7 @@
 //! cannot fail. So two trees are appended to together: prepare, prepare, put, put.
 ghost use Rattle.std.specs.Prelude.{◌≡◌, OnOk, OnErr, IfOk, map, length, ◌++◌, [], None};
 ghost use Rattle.std.specs.Option.{option_copied, option_to_list};
+ghost use Rattle.message.specs.Cuts.{pieces as pieces_of};
 ghost use Rattle.node.specs.Appended.{parts as parts_of, placed, HaveTaken, IsAppended};
 ghost use Rattle.node.specs.Lawful.{next_lo};
 ghost use Rattle.node.specs.Pure.{slots as slots_of, inner};
@@ -110,6 +111,40 @@ pub fn parts<U: Update>(
     Ok(parts)
 }
 
+/// The parts of messages from `lo` up to and without `hi`, in their order.
+pub fn pieces<U: Update>(
+    alloc: Global,
+    lo: &Key,
+    hi: Option<&Key>,
+    msgs: &[Msg<U>],
+) -> Result<Vec<Msg<U>>, NoMemory>
+    ensures { IfOk result (λ v. v.items ≡ pieces_of lo.now (option_copied hi.entry) msgs.now) }
+{
+    let mut found = Vec::new(alloc);
+    for msg in msgs {
+        if let Some(piece) = msg.cut_between(alloc, lo, hi)? {
+            found.push(piece)?;
+        }
+    }
+    Ok(found)
+}
+
+/// Puts what each slot takes of the messages behind other parts; the last slot has no end.
+fn push_parts<U: Update>(
+    alloc: Global,
+    slots: &[Slot<U>],
+    msgs: &[Msg<U>],
+    parts: &mut Vec<Vec<Msg<U>>>,
+) -> Result<(), NoMemory>
+    ensures { OnOk result (map see_list parts.new.items ≡ map see_list parts.old.items ++ parts_of None msgs.now (slots_of (map see_slot slots.now))) }
+{
+    let Some((slot, later)) = slots.split_first() else {
+        return Ok(());
+    };
+    parts.push(pieces(alloc, &slot.lo, end_of(later, None), msgs)?)?;
+    push_parts(alloc, later, msgs, parts)
+}
+
 /// Makes room in each slot for its part. The slots look the same, whatever it answers.
 pub fn make_room<U: Update>(slots: &mut [Slot<U>], parts: &[Vec<Msg<U>>]) -> Result<(), NoMemory>
     ensures same { map see_slot slots.new ≡ map see_slot slots.old }
@@ -190,6 +225,23 @@ fn append_both_slots<A: Update, B: Update>(
     let mut second_parts = prepare(alloc, second, second_msgs)?;
     put(first, first_parts.as_mut_slice());
     put(second, second_parts.as_mut_slice());
+    Ok(())
+}
+
+/// Puts copies of messages behind what waits in slots, each cut to the ranges of the slots that it touches, whole or
+/// not at all. It asks nothing of the slots.
+pub fn append_copies<U: Update>(
+    alloc: Global,
+    slots: &mut [Slot<U>],
+    msgs: &[Msg<U>],
+) -> Result<(), NoMemory>
+    ensures ok { OnOk result (HaveTaken U.means (slots_of (map see_slot slots.old)) (parts_of None msgs.now (slots_of (map see_slot slots.old))) (slots_of (map see_slot slots.new))) }
+    ensures err { OnErr result (map see_slot slots.new ≡ map see_slot slots.old) }
+{
+    let mut parts = Vec::new(alloc);
+    push_parts(alloc, slots, msgs, &mut parts)?;
+    make_room(slots, parts.as_slice())?;
+    put(slots, parts.as_mut_slice());
     Ok(())
 }
 

@@ -9,7 +9,7 @@ use std::alloc::{AllocError, Global};
 use std::sync::Arc;
 
 /// Equal entries.
-fn copy_entries<U: Update>(
+pub fn copy_entries<U: Update>(
     alloc: Global,
     entries: &[(Key, U::Value)],
 ) -> Result<Vec<(Key, U::Value)>, NoMemory>
@@ -23,7 +23,7 @@ fn copy_entries<U: Update>(
 }
 
 /// Slots with equal pivots and messages over the same children.
-fn copy_slots<U: Update>(alloc: Global, slots: &[Slot<U>]) -> Result<Vec<Slot<U>>, NoMemory>
+pub fn copy_slots<U: Update>(alloc: Global, slots: &[Slot<U>]) -> Result<Vec<Slot<U>>, NoMemory>
     ensures { IfOk result (λ v. map see_slot v.items ≡ map see_slot slots.now) }
 {
     let mut copy = Vec::with_capacity(alloc, slots.len())?;

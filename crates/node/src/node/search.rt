@@ -1,7 +1,7 @@
 //! Which slot holds a key.
 ghost use Rattle.std.specs.Prelude.{◌≡◌, ◌<◌, length, map};
 ghost use Rattle.node.specs.Meaning.{slot_number};
-ghost use Rattle.node.specs.Pure.{slots as slots_of};
+ghost use Rattle.node.specs.Pure.{is_leaf, slots as slots_of};
 ghost use Rattle.node.specs.Ready.{AreRising};
 ghost use Rattle.node.specs.See.{see, see_slot};
 
@@ -28,5 +28,12 @@ impl<U: Changes> Node<U> {
         ensures { see result.now ≡ self.now }
     {
         &self.body
+    }
+
+    /// Whether it is a leaf. It takes no memory.
+    pub fn is_leaf(&self) -> bool
+        ensures { result ≡ is_leaf self.now }
+    {
+        matches!(&self.body, Body::Leaf(_))
     }
 }

@@ -1,0 +1,95 @@
+-- A flush of one slot into an inner node, in the words of its row.
+use Rattle.std.proofs.Common.{◌≡◌, ℕ, suc, ◌+◌, ◌<◌, ◌≤◌, Bool, List, [], ◌∷◌, length, get_or, take, drop, map, refl, ap, sym, ◌∙◌, subst, arith, Option, None, pred, length-drop}
+use Rattle.std.proofs.Math.ListN.{set}
+use Rattle.pathkey.specs.Keys.{is_below}
+use Rattle.message.specs.declared.msg.Msg.{Msg}
+use Rattle.message.specs.Ranges.{reaches}
+use Rattle.message.proofs.KeyOrder.{both}
+use Rattle.node.specs.declared.node.Slot.{Slot}
+use Rattle.node.specs.declared.shape.Shape.{Shape}
+use Rattle.node.specs.declared.step.StepReply.{StepReply}
+use Rattle.node.specs.declared.step.StepReply.TheVariants.{Did, NotThere, NoRoom, NoMemory}
+use Rattle.node.specs.declared.step.StepKind.TheVariants.{FlushInner}
+use Rattle.node.specs.See.{see_slot}
+use Rattle.node.specs.Pure.{PNode, leaf, inner, PSlots, none, more, slots}
+use Rattle.node.specs.Lawful.{IsLawfulNode, AreLawfulSlots, slot_count, pending, next_lo}
+use Rattle.node.specs.Appended.{parts, HaveTaken}
+use Rattle.node.specs.Site.{joined}
+use Rattle.node.specs.Sinks.{Sinks}
+use Rattle.node.specs.Rows.{piece_count, IsFullBelow, can_flush_inner}
+use Rattle.node.specs.Steps.{Replies}
+use Rattle.node.proofs.Appending.{value-taken, slot_count-taken, starts_at-taken}
+use Rattle.node.proofs.Sinking.{touch_only-take, touch_only-drop, lawful-sunk, pending-taken, emptied-taken}
+use Rattle.node.proofs.Splice.{slots-split, slots-set_split, slot_count-take, slots_from-joined, slot_count-joined, pending-joined, lawful-spliced, lawful-split, starts_at-joined}
+use Rattle.flush.specs.Sunk.{Sunk}
+
+module _ {U V : Type 0} where
+  module _ (means : U → Option V → Option V) where
+    sinks : (S : Shape) (n h : ℕ) (lo : List ℕ) (e : Option (List ℕ)) (ms : List (Msg U V)) (cs ds : PSlots U V) → HaveTaken means cs (parts None (take n ms) cs) ds → IsLawfulNode S (inner cs) h lo e → Sinks means n e (more lo ms (inner cs) none) (more lo (drop n ms) (inner ds) none)
+    sinks S n h lo e ms none ds t l = absurd l.3
+    sinks S n h lo e ms (more lp o c ss) ds t l = record {
+      starts = refl;
+      below = λ k w. value-taken means None (take n ms) lp o c ss ds k t (ap (λ z. reaches z k) l.3 ∙ (both (reaches lo k) (is_below k e) w).0) refl;
+      above = λ k v w. refl;
+    }
+
+    lawful_grown : (S : Shape) (n h : ℕ) (lo : List ℕ) (e : Option (List ℕ)) (ms : List (Msg U V)) (cs ds : PSlots U V) → HaveTaken means cs (parts None (take n ms) cs) ds → pending cs + piece_count (take n ms) cs ≤ S.pending → AreLawfulSlots S (more lo ms (inner cs) none) h e → AreLawfulSlots S (more lo (drop n ms) (inner ds) none) h e
+    lawful_grown S n h lo e ms cs ds t fits l =
+        let c = l.2 in
+        let grown : AreLawfulSlots S ds (pred h) e = lawful-sunk means S (pred h) lo e (take n ms) cs ds (touch_only-take n lo e ms l.1) t c.4 in
+        (l.0, touch_only-drop n lo e ms l.1, (c.0, subst (λ z. z ≤ S.fanout) (sym (slot_count-taken means None (take n ms) cs ds t)) c.1, omega (arith, fits, pending-taken means (take n ms) cs ds t), starts_at-taken means lo None (take n ms) cs ds t c.3, grown), tt)
+
+  same_there : (lo lp : List ℕ) (ms : List (Msg U V)) (c : PNode U V) (a x : PSlots U V) → can_flush_inner (more lo ms c a) ≡ can_flush_inner (more lp ms c x)
+  same_there lo lp [] c a x = refl
+  same_there lo lp (m ∷ ms) (leaf es) a x = refl
+  same_there lo lp (m ∷ ms) (inner cs) a x = refl
+
+  same_full : (P : ℕ) (lo lp : List ℕ) (ms : List (Msg U V)) (c : PNode U V) (a x : PSlots U V) → IsFullBelow P (more lo ms c a) → IsFullBelow P (more lp ms c x)
+  same_full P lo lp [] c a x h = h
+  same_full P lo lp (m ∷ ms) (leaf es) a x h = h
+  same_full P lo lp (m ∷ ms) (inner cs) a x h = h
+
+  module _ (means : U → Option V → Option V) (shape : Shape) (root : Bool) (i : ℕ) (b a : PSlots U V) (lo : List ℕ) (at_i : slot_count b ≡ i) where
+    did : (n : ℕ) (ms : List (Msg U V)) (cs ds : PSlots U V) → 1 ≤ n → n ≤ length ms → HaveTaken means cs (parts None (take n ms) cs) ds → pending cs + piece_count (take n ms) cs ≤ shape.pending → Replies means FlushInner shape root i (Did n) (joined b (more lo ms (inner cs) a)) (joined b (more lo (drop n ms) (inner ds) a))
+    did n ms cs ds one has t fits h lp hi l there =
+        let old = more lo ms (inner cs) none in
+        let new = more lo (drop n ms) (inner ds) none in
+        let inside : AreLawfulSlots shape old h (next_lo hi a) = (lawful-split shape h hi old a (lawful-split shape h hi b (joined old a) l.each).1).0 in (
+          record {
+            before = b;
+            old = old;
+            new = new;
+            after = a;
+            was = refl;
+            is = refl;
+            number = at_i;
+            width = refl;
+            changed = (sinks means shape n (pred h) lo (next_lo hi a) ms cs ds t inside.2, record { lo = lo; msgs = ms; below = cs; grown = ds; some = one; has = has; was = refl; is = refl; same_slots = emptied-taken means (take n ms) cs ds t; pieces_grow = pending-taken means (take n ms) cs ds t });
+          },
+          record {
+            above = l.above;
+            few = omega (arith, l.few, slot_count-joined b (joined old a), slot_count-joined b (joined new a));
+            light = λ r. omega (arith, l.light r, pending-joined b (joined old a), pending-joined b (joined new a), length-drop n ms);
+            starts = starts_at-joined lp lo b ms (drop n ms) (inner cs) (inner ds) a a l.starts;
+            each = lawful-spliced shape h hi b old new a tt tt refl (lawful_grown means shape n h lo (next_lo hi a) ms cs ds t fits) l.each;
+          },
+        )
+
+    pub replies : (r : StepReply) (ms ns : List (Msg U V)) (c d : PNode U V) → Sunk means shape.pending r ms ns c d → Replies means FlushInner shape root i r (joined b (more lo ms c a)) (joined b (more lo ns d a))
+    replies (Did n) ms ns (leaf es) d q = absurd q.3
+    replies (Did n) ms ns (inner cs) (leaf es) q = absurd q.3
+    replies (Did n) ms ns (inner cs) (inner ds) q =
+        subst (λ z. Replies means FlushInner shape root i (Did n) (joined b (more lo ms (inner cs) a)) (joined b (more lo z (inner ds) a))) (sym q.2) (did n ms cs ds q.0 q.1 q.3.0 q.3.1)
+    replies NotThere ms ns c d q = (λ j. joined b (more lo (q.0 j) (q.1 j) a), λ hi. ap can_flush_inner (slots_from-joined i b (more lo ms c a) at_i) ∙ same_there lo [] ms c a none ∙ q.2)
+    replies NoRoom ms ns c d q = (λ j. joined b (more lo (q.0 j) (q.1 j) a), subst (λ z. IsFullBelow shape.pending z) (sym (slots_from-joined i b (more lo ms c a) at_i)) (same_full shape.pending [] lo ms c none a q.2))
+    replies NoMemory ms ns c d q = λ j. joined b (more lo (q.0 j) (q.1 j) a)
+
+  -- the same of the slots as the code writes them
+  pub flushed : (means : U → Option V → Option V) (shape : Shape) (root : Bool) (i : ℕ) (xs : List (Slot U V)) (s t : Slot U V) (r : StepReply) → i < length xs → s ≡ get_or xs i s → t.lo ≡ s.lo → Sunk means shape.pending r s.pending.0 t.pending.0 s.child.value t.child.value → Replies means FlushInner shape root i r (slots (map see_slot xs)) (slots (map see_slot (set xs i t)))
+  flushed means shape root i xs s t r h e el q =
+      let b = slots (map see_slot (take i xs)) in
+      let a = slots (map see_slot (drop (suc i) xs)) in
+      let was : slots (map see_slot xs) ≡ joined b (more s.lo s.pending.0 s.child.value a) = slots-split xs i s h ∙ ap (λ (x : Slot U V). joined b (more x.lo x.pending.0 x.child.value a)) (sym e) in
+      let is : slots (map see_slot (set xs i t)) ≡ joined b (more s.lo t.pending.0 t.child.value a) = slots-set_split xs i t h ∙ ap (λ z. joined b (more z t.pending.0 t.child.value a)) el in
+      let core = replies means shape root i b a s.lo (slot_count-take xs i (omega arith)) r s.pending.0 t.pending.0 s.child.value t.child.value q in
+      subst (λ z. Replies means FlushInner shape root i r z (slots (map see_slot (set xs i t)))) (sym was) (subst (λ z. Replies means FlushInner shape root i r (joined b (more s.lo s.pending.0 s.child.value a)) z) (sym is) core)

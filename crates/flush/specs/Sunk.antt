@@ -1,0 +1,23 @@
+-- What becomes of one slot and its child when messages go down.
+use Rattle.std.specs.Prelude.{◌≡◌, ℕ, ◌+◌, ◌≤◌, false, List, [], Option, None, length, take, drop}
+use Rattle.message.specs.declared.msg.Msg.{Msg}
+use Rattle.node.specs.declared.step.StepReply.{StepReply}
+use Rattle.node.specs.declared.step.StepReply.TheVariants.{Did, NotThere, NoRoom, NoMemory}
+use Rattle.node.specs.Appended.{parts, HaveTaken}
+use Rattle.node.specs.Lawful.{pending}
+use Rattle.node.specs.Pure.{PNode, leaf, inner, none, more}
+use Rattle.node.specs.Rows.{piece_count, can_flush_inner, IsFullBelow}
+
+module _ {U V : Type 0} (means : U → Option V → Option V) where
+  -- the messages went into the slots of the node c, which became d, and so many pieces are enough for it
+  abbrev pub GoneInto : ℕ → List (Msg U V) → PNode U V → PNode U V → Type 0
+  GoneInto most ms (inner cs) (inner ds) = HaveTaken means cs (parts None ms cs) ds × (pending cs + piece_count ms cs ≤ most)
+  GoneInto most ms (inner cs) (leaf es) = ⊥
+  GoneInto most ms (leaf es) d = ⊥
+
+  -- what the reply of a flush says of one slot's messages and child, before and after
+  abbrev pub Sunk : ℕ → StepReply → List (Msg U V) → List (Msg U V) → PNode U V → PNode U V → Type 0
+  Sunk most (Did n) ms ns c d = (1 ≤ n) × (n ≤ length ms) × (ns ≡ drop n ms) × GoneInto most (take n ms) c d
+  Sunk most NotThere ms ns c d = (ns ≡ ms) × (d ≡ c) × (can_flush_inner (more [] ms c none) ≡ false)
+  Sunk most NoRoom ms ns c d = (ns ≡ ms) × (d ≡ c) × IsFullBelow most (more [] ms c none)
+  Sunk most NoMemory ms ns c d = (ns ≡ ms) × (d ≡ c)

@@ -1,0 +1,158 @@
+//! A flush into an inner node.
+ghost use Rattle.std.specs.Prelude.{◌≡◌, ◌+◌, ◌≤◌, ◌<◌, ◌∷◌, [], length, map, take};
+ghost use Rattle.node.specs.Lawful.{pending as pending_of};
+ghost use Rattle.node.specs.Places.{way};
+ghost use Rattle.node.specs.Pure.{slots as slots_of};
+ghost use Rattle.node.specs.Rows.{can_flush_inner, piece_count};
+ghost use Rattle.node.specs.See.{see_slot};
+ghost use Rattle.node.specs.Site.{slots_from};
+ghost use Rattle.node.specs.Steps.{Answers, Replies};
+ghost use Rattle.node.specs.declared.step.StepKind.TheVariants.{FlushInner};
+ghost use Rattle.flush.specs.Sunk.{Sunk};
+
+use crate::meets::meets;
+use message::{Msg, Pending, Update};
+use node::node::append::append_copies;
+use node::node::count::held;
+use node::{Body, Change, Node, Place, Shape, Slot, StepReply, Tree};
+use pathkey::Key;
+use std::alloc::Global;
+use std::sync::Arc;
+
+/// How many pieces the message makes in slots. It takes no memory.
+fn pieces_in<U: Update>(slots: &[Slot<U>], msg: &Msg<U>) -> usize
+    ensures bound { result ≤ length slots.now }
+    ensures exact { result ≡ piece_count (msg.now ∷ []) (slots_of (map see_slot slots.now)) }
+{
+    let Some((slot, later)) = slots.split_first() else {
+        return 0;
+    };
+    let is_met = match later.first() {
+        None => meets(msg, &slot.lo, None),
+        Some(next) => meets(msg, &slot.lo, Some(&next.lo)),
+    };
+    let more = pieces_in(later, msg);
+    if is_met { more + 1 } else { more }
+}
+
+/// How many of the messages, from the oldest on, make with what waits in the slots at most `room` pieces.
+fn fitting<U: Update>(slots: &[Slot<U>], msgs: &[Msg<U>], room: usize) -> usize
+    requires { room < 65536 }
+    ensures within { result ≤ length msgs.now }
+    ensures small { result < 65536 }
+    ensures fits { 0 < result → pending_of (slots_of (map see_slot slots.now)) + piece_count (take result msgs.now) (slots_of (map see_slot slots.now)) ≤ room }
+    ensures full { result ≡ 0 → 0 < length msgs.now → room < pending_of (slots_of (map see_slot slots.now)) + piece_count (take 1 msgs.now) (slots_of (map see_slot slots.now)) }
+{
+    let mut total = held(slots);
+    let mut count = 0;
+    if total > room {
+        return 0;
+    }
+    for msg in msgs {
+        let more = pieces_in(slots, msg);
+        if count == 65535 || more > room - total {
+            return count;
+        }
+        total += more;
+        count += 1;
+    }
+    count
+}
+
+/// Moves messages into the slots of the child, as many as it has room for: a node has room for `room` pieces.
+fn sink<U: Update>(
+    alloc: Global,
+    room: u16,
+    pending: &mut Pending<U>,
+    child: &mut Arc<Node<U>>,
+) -> StepReply
+    ensures { Sunk U.means room result pending.old.0 pending.new.0 child.old.value child.new.value }
+{
+    let room = room as usize;
+    if pending.len() == 0 {
+        return StepReply::NotThere;
+    }
+    let Ok(own) = Arc::make_mut(child) else {
+        return StepReply::NoMemory;
+    };
+    let Body::Inner(below) = &mut own.body else {
+        return StepReply::NotThere;
+    };
+    let Ok(oldest) = pending.copy_front(alloc, pending.len().min(room + 1)) else {
+        return StepReply::NoMemory;
+    };
+    let count = fitting(below.as_slice(), oldest.as_slice(), room);
+    if count == 0 {
+        return StepReply::NoRoom;
+    }
+    let Ok(()) = append_copies(alloc, below.as_mut_slice(), &oldest[..count]) else {
+        return StepReply::NoMemory;
+    };
+    pending.drop_front(count);
+    StepReply::Did(count as u32)
+}
+
+/// Whether the slot with number `i` has a message and an inner node below it. It takes no memory.
+fn is_flushable<U: Update>(slots: &[Slot<U>], i: usize) -> bool
+    ensures { result ≡ can_flush_inner (slots_from i (slots_of (map see_slot slots.now))) }
+{
+    if i >= slots.len() {
+        return false;
+    }
+    let slot = &slots[i];
+    if slot.pending.len() == 0 {
+        return false;
+    }
+    !slot.child.is_leaf()
+}
+
+/// Flushes the slot with number `i` of a node.
+fn flush_slot<U: Update>(
+    alloc: Global,
+    shape: Shape,
+    root: bool,
+    slots: &mut Vec<Slot<U>>,
+    i: usize,
+) -> StepReply
+    ensures { Replies U.means FlushInner shape root i result (slots_of (map see_slot slots.old.items)) (slots_of (map see_slot slots.new.items)) }
+{
+    if i >= slots.len() {
+        return StepReply::NotThere;
+    }
+    let slot = &mut slots[i];
+    sink(alloc, shape.pending, &mut slot.pending, &mut slot.child)
+}
+
+/// The flush of one slot into an inner node.
+struct InnerFlush;
+
+impl<U: Update> Change<U> for InnerFlush {
+    ghost kind = { FlushInner };
+
+    fn can(&self, slots: &[Slot<U>], i: usize, _hi: Option<&Key>) -> bool {
+        is_flushable(slots, i)
+    }
+
+    fn change(
+        &self,
+        alloc: Global,
+        shape: Shape,
+        root: bool,
+        slots: &mut Vec<Slot<U>>,
+        i: usize,
+    ) -> StepReply {
+        flush_slot(alloc, shape, root, slots, i)
+    }
+}
+
+/// Moves the oldest messages of a slot into its child, an inner node, cut at the child's pivots and newer than what
+/// waits there.
+///
+/// It takes as many messages as the child has room for. It answers `NotThere`, without memory, where the node, the
+/// slot or a message is missing or the child is a leaf, and `NoRoom` where the child has no room for the pieces of
+/// the first message.
+pub fn flush_inner<U: Update>(alloc: Global, tree: &mut Tree<U>, at: Place, slot: u8) -> StepReply
+    ensures { Answers U.means FlushInner (way at) slot result tree.old tree.new }
+{
+    tree.step(alloc, &InnerFlush, at, slot)
+}

@@ -1,0 +1,13 @@
+//! Flushes: pending messages that go one level down.
+//!
+//! A flush takes the oldest messages of one slot to the slot's child, as many as the child has room for. The value
+//! at every key stays: what waited above now waits, or stands, below (Brodal and Fagerberg 2003).
+#![tactic(auto)]
+
+pub mod inner;
+pub mod meets;
+#[cfg(test)]
+mod tests;
+
+pub use inner::flush_inner;
+pub use node::StepReply;

@@ -1,0 +1,53 @@
+//! Whether a message has a part in a range.
+ghost use Rattle.std.specs.Prelude.{◌≡◌, is_some};
+ghost use Rattle.std.specs.Option.{option_copied};
+ghost use Rattle.message.specs.Cuts.{cut_to};
+ghost use Rattle.message.specs.Ranges.{later_key, earlier_end};
+ghost use Rattle.pathkey.specs.Keys.{is_below};
+
+use message::ends::is_within;
+use message::{Msg, Update};
+use pathkey::{Key, KeyRange};
+
+/// Whether the key stands before the end; `None` is no end.
+fn is_before(key: &Key, end: Option<&Key>) -> bool
+    ensures { result ≡ is_below key.now (option_copied end.entry) }
+{
+    match end {
+        None => true,
+        Some(end) => key.cmp(end).is_lt(),
+    }
+}
+
+/// Whether a key can lie both in the range and from `lo` up to and without `hi`. It takes no memory.
+fn overlaps(range: &KeyRange, lo: &Key, hi: Option<&Key>) -> bool
+    ensures { result ≡ is_below (later_key lo.now range.now.lo) (earlier_end (option_copied hi.entry) range.now.hi) }
+{
+    let from = if lo.cmp(&range.lo).is_lt() {
+        &range.lo
+    } else {
+        lo
+    };
+    match (hi, range.hi.as_ref()) {
+        (None, end) => is_before(from, end),
+        (Some(hi), None) => is_before(from, Some(hi)),
+        (Some(hi), Some(end)) => {
+            if hi.cmp(end).is_lt() {
+                is_before(from, Some(hi))
+            } else {
+                is_before(from, Some(end))
+            }
+        }
+    }
+}
+
+/// Whether the message has a part from `lo` up to and without `hi`; `None` is no end. It takes no memory.
+pub fn meets<U: Update>(msg: &Msg<U>, lo: &Key, hi: Option<&Key>) -> bool
+    ensures { result ≡ is_some (cut_to lo.now (option_copied hi.entry) msg.now) }
+{
+    match msg {
+        Msg::DelRange(range) => overlaps(range, lo, hi),
+        Msg::Put(key, _) | Msg::Edit(key, _) => is_within(key, lo, hi),
+        Msg::Del(key) => is_within(key, lo, hi),
+    }
+}

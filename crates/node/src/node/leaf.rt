@@ -1,0 +1,192 @@
+//! The entries of a leaf: where a key stands among them, what a message makes of them, and leaves in halves.
+ghost use Rattle.std.specs.Prelude.{◌≡◌, ℕ, ◌<◌, ◌≤◌, List, [], ◌∷◌, None, Some, length, IfOk, OnOk, OnErr};
+ghost use Rattle.pathkey.specs.Keys.{is_in};
+ghost use Rattle.pathkey.specs.Order.{same};
+ghost use Rattle.std.specs.Option.{option_copied};
+ghost use Rattle.node.specs.Lawful.{Rises};
+ghost use Rattle.node.specs.Leaves.{IsCount, IsEntry, IsGap, IsPlace, IsChanged, Applied, IsDivided};
+ghost use Rattle.node.specs.Meaning.{lookup};
+
+use super::copy::copy_entries;
+use message::{Msg, Update};
+use pathkey::{Key, KeyRange, NoMemory};
+use std::alloc::Global;
+
+/// How many entries stand before the key, found by bisection.
+fn count_before<V>(entries: &[(Key, V)], key: &Key) -> usize
+    requires { Rises [] None entries.now }
+    ensures { IsCount entries.now (Some key.now) result }
+{
+    entries.partition_point(|entry| entry.0.cmp(key).is_lt())
+}
+
+/// The number of the entry that has the key, or of the entry before which it would stand.
+pub fn position<V>(entries: &[(Key, V)], key: &Key) -> Result<usize, usize>
+    requires { Rises [] None entries.now }
+    ensures { IsPlace entries.now key.now result }
+{
+    let i = count_before(entries, key);
+    match entries.get(i) {
+        Some(entry) if entry.0 == *key => Ok(i),
+        _ => Err(i),
+    }
+}
+
+/// Gives the entry the value, or takes it away where there is none.
+fn replace<V: Drop>(entries: &mut Vec<(Key, V)>, i: usize, value: Option<V>)
+    requires bound { i < length entries.old.items }
+    requires rising { Rises [] None entries.old.items }
+    ensures { (k : List ℕ) → IsEntry entries.old.items k i → IsChanged (same k) value entries.old.items entries.new.items }
+{
+    match value {
+        Some(value) => entries[i].1 = value,
+        None => {
+            entries.remove(i);
+        }
+    }
+}
+
+/// Puts an entry for the key before entry `i`, if there is a value.
+fn insert<V: Drop>(
+    alloc: Global,
+    entries: &mut Vec<(Key, V)>,
+    i: usize,
+    key: &Key,
+    value: Option<V>,
+) -> Result<(), NoMemory>
+    requires { IsGap entries.old.items key.now i }
+    ensures ok { OnOk result (IsChanged (same key.now) value entries.old.items entries.new.items) }
+    ensures err { OnErr result (entries.new.items ≡ entries.old.items) }
+{
+    if let Some(value) = value {
+        entries.insert(i, (key.copy(alloc)?, value))?;
+    }
+    Ok(())
+}
+
+/// Gives the key the value, or none.
+fn set<V: Drop>(
+    alloc: Global,
+    entries: &mut Vec<(Key, V)>,
+    key: &Key,
+    value: Option<V>,
+) -> Result<(), NoMemory>
+    requires { Rises [] None entries.old.items }
+    ensures ok { OnOk result (IsChanged (same key.now) value entries.old.items entries.new.items) }
+    ensures err { OnErr result (entries.new.items ≡ entries.old.items) }
+{
+    match position(entries.as_slice(), key) {
+        Ok(i) => {
+            replace(entries, i, value);
+            Ok(())
+        }
+        Err(i) => insert(alloc, entries, i, key, value),
+    }
+}
+
+/// Gives the key what the update makes of its value, or of its absence.
+fn edit<U: Update>(
+    alloc: Global,
+    entries: &mut Vec<(Key, U::Value)>,
+    key: &Key,
+    update: &U,
+) -> Result<(), NoMemory>
+    requires { Rises [] None entries.old.items }
+    ensures ok { OnOk result (IsChanged (same key.now) (U.means update.now (lookup entries.old.items key.now)) entries.old.items entries.new.items) }
+    ensures err { OnErr result (entries.new.items ≡ entries.old.items) }
+{
+    match position(entries.as_slice(), key) {
+        Ok(i) => {
+            let value = update.apply(alloc, Some(&entries[i].1))?;
+            replace(entries, i, value);
+            Ok(())
+        }
+        Err(i) => {
+            let nothing: Option<U::Value> = None;
+            let value = update.apply(alloc, nothing.as_ref())?;
+            insert(alloc, entries, i, key, value)
+        }
+    }
+}
+
+/// How many entries stand below the end; all of them where there is none.
+fn count_below<V>(entries: &[(Key, V)], end: &Option<Key>) -> usize
+    requires { Rises [] None entries.now }
+    ensures { IsCount entries.now end.now result }
+{
+    match end {
+        None => entries.len(),
+        Some(end) => count_before(entries, end),
+    }
+}
+
+/// Takes the entries of a range away.
+fn clear<V: Drop>(entries: &mut Vec<(Key, V)>, range: &KeyRange)
+    requires { Rises [] None entries.old.items }
+    ensures { IsChanged (is_in range.now) None entries.old.items entries.new.items }
+{
+    let first = count_before(entries.as_slice(), &range.lo);
+    let end = count_below(entries.as_slice(), &range.hi).max(first);
+    entries.drain(first..end);
+}
+
+/// Applies one message to a leaf's entries, whole or not at all.
+pub fn apply<U: Update>(
+    alloc: Global,
+    entries: &mut Vec<(Key, U::Value)>,
+    msg: &Msg<U>,
+) -> Result<(), NoMemory>
+    requires { Rises [] None entries.old.items }
+    ensures ok { OnOk result (Applied U.means (msg.now ∷ []) entries.old.items entries.new.items) }
+    ensures rising { Rises [] None entries.new.items }
+    ensures err { OnErr result (entries.new.items ≡ entries.old.items) }
+{
+    match msg {
+        Msg::Put(key, value) => {
+            let value = U::copy_value(alloc, value)?;
+            set(alloc, entries, key, Some(value))
+        }
+        Msg::Del(key) => set(alloc, entries, key, None),
+        Msg::DelRange(range) => {
+            clear(entries, range);
+            Ok(())
+        }
+        Msg::Edit(key, update) => edit(alloc, entries, key, update),
+    }
+}
+
+/// A leaf's entries after messages, the oldest first.
+pub fn applied<U: Update>(
+    alloc: Global,
+    entries: &[(Key, U::Value)],
+    msgs: &[Msg<U>],
+) -> Result<Vec<(Key, U::Value)>, NoMemory>
+    requires { Rises [] None entries.now }
+    ensures value { IfOk result (λ new. Applied U.means msgs.now entries.now new.items) }
+    ensures rising { IfOk result (λ new. Rises [] None new.items) }
+{
+    let mut new = copy_entries::<U>(alloc, entries)?;
+    for msg in msgs {
+        apply(alloc, &mut new, msg)?;
+    }
+    Ok(new)
+}
+
+/// Splits the second half of the entries off, and answers the pivot, where it begins, with it.
+pub fn divide<V: Drop>(
+    alloc: Global,
+    entries: &mut Vec<(Key, V)>,
+) -> Result<(Key, Vec<(Key, V)>), NoMemory>
+    requires two { 2 ≤ length entries.old.items }
+    requires rising { Rises [] None entries.old.items }
+    ensures ok { IfOk result (λ r. IsDivided entries.old.items entries.new.items r.1.items r.0) }
+    ensures err { OnErr result (entries.new.items ≡ entries.old.items) }
+{
+    let middle = entries.len() / 2;
+    let pivot = entries[middle].0.copy(alloc)?;
+    let back = entries.split_off(middle)?;
+    Ok((pivot, back))
+}
+
+#[cfg(test)]
+mod tests;

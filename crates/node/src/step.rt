@@ -1,0 +1,35 @@
+//! The steps of a tree: their names and their replies.
+
+/// What a step does.
+#[derive(Clone, Copy, Debug, PartialEq, Eq)]
+pub enum StepKind {
+    /// The oldest messages of a slot go into the slots of its child, an inner node.
+    FlushInner,
+    /// The oldest messages of a slot are applied to its child, a leaf.
+    FlushLeaf,
+    /// The inner node below a slot is cut in two.
+    SplitInner,
+    /// The leaves below a slot and the next become one.
+    MergeLeaves,
+    /// The inner nodes below a slot and the next become one.
+    MergeInner,
+    /// A new root has one slot over the old one.
+    RootUp,
+    /// The root's only child is the root.
+    RootDown,
+    /// What stands below a slot under a range-delete of the whole slot goes at once.
+    DropCovered,
+}
+
+/// The reply of a step. Every reply but `Did` leaves the tree as it was.
+#[derive(Clone, Copy, Debug, PartialEq, Eq)]
+pub enum StepReply {
+    /// The step is done, and so many messages have left their slot for good.
+    Did(u32),
+    /// There is nothing for the step to do there.
+    NotThere,
+    /// A node would grow past the tree's shape.
+    NoRoom,
+    /// A growth was refused.
+    NoMemory,
+}

@@ -1,0 +1,55 @@
+//! The steps of a tree.
+ghost use Rattle.node.specs.Places.{way};
+ghost use Rattle.node.specs.Steps.{Answers};
+
+use super::Tree;
+use crate::node::change::Change;
+use crate::node::descend::{descend, is_there};
+use crate::place::Place;
+use crate::step::StepReply;
+use message::Update;
+use std::alloc::Global;
+
+impl<U: Update> Tree<U> {
+    /// Does a change at the slot with number `slot` of the node at `at`.
+    ///
+    /// That it can be done there is found first, without memory. The nodes on the way are owned, and copied where
+    /// they are shared, one level each.
+    pub fn step<C: Change<U>>(
+        &mut self,
+        alloc: Global,
+        change: &C,
+        at: Place,
+        slot: u8,
+    ) -> StepReply
+        ensures { Answers U.means C.kind (way at) slot result self.old self.new }
+    {
+        self.step_below(alloc, change, at.numbers(), slot)
+    }
+
+    /// The same of the node that these slot numbers lead to.
+    fn step_below<C: Change<U>>(
+        &mut self,
+        alloc: Global,
+        change: &C,
+        numbers: &[u8],
+        slot: u8,
+    ) -> StepReply
+        ensures { Answers U.means C.kind numbers.now slot result self.old self.new }
+    {
+        let i = slot as usize;
+        if !is_there(&self.root, change, numbers, i, None) {
+            return StepReply::NotThere;
+        }
+        let is_root = numbers.is_empty();
+        descend(
+            alloc,
+            change,
+            self.shape,
+            is_root,
+            &mut self.root,
+            numbers,
+            i,
+        )
+    }
+}

@@ -1,0 +1,4 @@
+pub mod InnerSplit
+pub mod Splittable
+pub mod Untouched
+pub mod RootUp

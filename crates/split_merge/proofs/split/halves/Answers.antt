@@ -1,0 +1,36 @@
+use Rattle.std.proofs.Common.{arith, ap, sym, ◌∙◌, ◌≡◌, ◌<◌, length, map, subst, [], Some, None}
+use Rattle.node.specs.See.{see, see_slot}
+use Rattle.node.specs.Pure.{inner, slots}
+use Rattle.message.specs.Cuts.{pieces}
+use Rattle.message.specs.Effects.{Takes}
+use Rattle.split_merge.proofs.Splittable.{divisible-few}
+use Rattle.node.proofs.Placing.{slot_count-slots}
+use Rattle.split_merge.proofs.InnerSplit.{slots-append, first_lo-get}
+use Rattle.split_merge.proofs.split.halves.Goals as goal
+
+pub returns-then-half-eq0 : goal.returns-then-half-eq0
+returns-then-half-eq0 g c =
+    let was : inner (slots (map see_slot c.in-Inner.below.items)) ≡ c.args.slot.now.child.value = ap see (sym c.in-Inner.is) ∙ c.child.view_is ∙ c.deref-child.ensures in
+    let few : length c.in-Inner.below.items < 2 = omega (arith, c.in-Inner.below.ok.0) in
+    divisible-few c.in-Inner.below.items c.args.slot.now.child.value was few
+
+pub returns : goal.returns
+returns g c =
+    let was : inner (slots (map see_slot c.in-Inner.below.items)) ≡ c.args.slot.now.child.value = ap see (sym c.in-Inner.is) ∙ c.child.view_is ∙ c.deref-child.ensures in
+    let first = c.split_at.result.0.now in
+    let second = c.split_at.result.1.now in
+    let some : 0 < length second = omega arith in
+    let pivot = first_lo-get second c.index-second-0.result some in
+    record {
+      left = slots (map see_slot first);
+      right = slots (map see_slot second);
+      some_left = omega (arith, slot_count-slots first);
+      some_right = omega (arith, slot_count-slots second);
+      was = sym was ∙ ap (λ z. inner (slots (map see_slot z))) (sym c.as_slice.ensures.value ∙ c.split_at.ensures.by_index.0) ∙ ap inner (slots-append first second);
+      left_is = c.in_ok-node_over.ensures;
+      right_is = c.in_ok-node_over-2.ensures;
+      left_lo = c.in_ok-copy.ensures;
+      right_lo = c.in_ok-copy-2.ensures ∙ pivot;
+      left_msgs = subst (λ z. Takes g.U.Update.means [] z c.in_ok-list_of.field-0.0) (c.in_ok-pieces.ensures ∙ (λ j. pieces c.args.slot.now.lo (Some (pivot j)) c.args.msgs.now)) c.in_ok-list_of.ensures;
+      right_msgs = subst (λ z. Takes g.U.Update.means [] z c.in_ok-list_of-2.field-0.0) (c.in_ok-pieces-2.ensures ∙ (λ j. pieces (pivot j) None c.args.msgs.now)) c.in_ok-list_of-2.ensures;
+    }

@@ -1,0 +1,16 @@
+//! Steps that change a tree's shape and keep what it means: nodes are cut in two and joined, and the root goes up
+//! and down.
+//!
+//! Each step keeps the value at every key and every limit of the tree's shape. Where a slot is cut at a pivot, so is
+//! the list of the messages that wait in it.
+#![tactic(auto)]
+
+pub mod lists;
+pub mod root;
+pub mod split;
+#[cfg(test)]
+mod tests;
+
+pub use node::StepReply;
+pub use root::root_up;
+pub use split::split_inner;

@@ -1,0 +1,168 @@
+//! An inner node cut in two.
+ghost use Rattle.std.specs.Prelude.{◌≡◌, ◌≤◌, ◌<◌, length, map, IfOk};
+ghost use Rattle.node.specs.Places.{way};
+ghost use Rattle.node.specs.Pure.{slots as slots_of, inner};
+ghost use Rattle.node.specs.Rows.{range_count, can_split_inner, is_divisible as is_divided};
+ghost use Rattle.node.specs.See.{see_slot};
+ghost use Rattle.node.specs.Site.{slots_from};
+ghost use Rattle.node.specs.Steps.{Answers, Replies};
+ghost use Rattle.node.specs.declared.step.StepKind.TheVariants.{SplitInner};
+ghost use Rattle.split_merge.specs.Halves.{IsHalved, HalvedOr};
+
+use crate::lists::{all_of, list_of};
+use message::{Msg, Update};
+use node::node::append::pieces;
+use node::node::copy::copy_slots;
+use node::node::count::held;
+use node::{Body, Change, Node, Place, Shape, Slot, StepReply, Tree};
+use pathkey::{Key, NoMemory};
+use std::alloc::Global;
+use std::sync::Arc;
+
+/// How many of the messages are range-deletes.
+fn ranges_in<U: Update>(msgs: &[Msg<U>]) -> usize
+    ensures { result ≡ range_count msgs.now }
+{
+    let mut count = 0;
+    for msg in msgs {
+        if let Msg::DelRange(_) = msg {
+            count += 1;
+        }
+    }
+    count
+}
+
+/// A node over copies of the slots, which share the children.
+fn node_over<U: Update>(alloc: Global, slots: &[Slot<U>]) -> Result<Arc<Node<U>>, NoMemory>
+    ensures { IfOk result (λ n. n.value ≡ inner (slots_of (map see_slot slots.now))) }
+{
+    let body = Body::Inner(copy_slots(alloc, slots)?);
+    Ok(Arc::new(alloc, Node { body })?)
+}
+
+/// The slot, whose messages these are, in two, where its child is an inner node with two slots or more.
+fn halves<U: Update>(
+    alloc: Global,
+    slot: &Slot<U>,
+    msgs: &[Msg<U>],
+) -> Result<Option<(Slot<U>, Slot<U>)>, NoMemory>
+    ensures { IfOk result (HalvedOr U.means msgs.now slot.now) }
+{
+    let child: &Node<U> = &slot.child;
+    let Body::Inner(below) = &child.body else {
+        return Ok(None);
+    };
+    let half = below.len() / 2;
+    if half == 0 {
+        return Ok(None);
+    }
+    let (first, second) = below.as_slice().split_at(half);
+    let pivot = &second[0].lo;
+    let left = Slot {
+        lo: slot.lo.copy(alloc)?,
+        pending: list_of(alloc, pieces(alloc, &slot.lo, Some(pivot), msgs)?)?,
+        child: node_over(alloc, first)?,
+    };
+    let right = Slot {
+        lo: pivot.copy(alloc)?,
+        pending: list_of(alloc, pieces(alloc, pivot, None, msgs)?)?,
+        child: node_over(alloc, second)?,
+    };
+    Ok(Some((left, right)))
+}
+
+/// Splits the child of the slot with number `i` of a node.
+fn split_slot<U: Update>(
+    alloc: Global,
+    shape: Shape,
+    root: bool,
+    slots: &mut Vec<Slot<U>>,
+    i: usize,
+) -> StepReply
+    ensures { Replies U.means SplitInner shape root i result (slots_of (map see_slot slots.old.items)) (slots_of (map see_slot slots.new.items)) }
+{
+    if i >= slots.len() {
+        return StepReply::NotThere;
+    }
+    if slots.len() >= shape.fanout as usize {
+        return StepReply::NoRoom;
+    }
+    let Ok(msgs) = all_of(alloc, &slots[i].pending) else {
+        return StepReply::NoMemory;
+    };
+    let ranges = ranges_in(msgs.as_slice());
+    if !root && held(slots.as_slice()).saturating_add(ranges) > shape.pending as usize {
+        return StepReply::NoRoom;
+    }
+    let Ok(parts) = halves(alloc, &slots[i], msgs.as_slice()) else {
+        return StepReply::NoMemory;
+    };
+    let Some((left, right)) = parts else {
+        return StepReply::NotThere;
+    };
+    if slots.insert(i + 1, right).is_err() {
+        return StepReply::NoMemory;
+    }
+    slots[i] = left;
+    StepReply::Did(0)
+}
+
+/// Whether the node is an inner one with two slots or more. It takes no memory.
+fn is_divisible<U: Update>(node: &Node<U>) -> bool
+    ensures { result ≡ is_divided node.now }
+{
+    match &node.body {
+        Body::Leaf(_) => false,
+        Body::Inner(slots) => {
+            if slots.len() < 2 {
+                return false;
+            }
+            true
+        }
+    }
+}
+
+/// Whether the child of the slot with number `i` is one. It takes no memory.
+fn is_splittable<U: Update>(slots: &[Slot<U>], i: usize) -> bool
+    ensures { result ≡ can_split_inner (slots_from i (slots_of (map see_slot slots.now))) }
+{
+    if i >= slots.len() {
+        return false;
+    }
+    let slot = &slots[i];
+    is_divisible(&slot.child)
+}
+
+/// The split of the inner node below one slot.
+struct InnerSplit;
+
+impl<U: Update> Change<U> for InnerSplit {
+    ghost kind = { SplitInner };
+
+    fn can(&self, slots: &[Slot<U>], i: usize, _hi: Option<&Key>) -> bool {
+        is_splittable(slots, i)
+    }
+
+    fn change(
+        &self,
+        alloc: Global,
+        shape: Shape,
+        root: bool,
+        slots: &mut Vec<Slot<U>>,
+        i: usize,
+    ) -> StepReply {
+        split_slot(alloc, shape, root, slots, i)
+    }
+}
+
+/// Cuts the inner node below a slot in two, each with half of its slots, and the slot's messages at the pivot between
+/// them.
+///
+/// It answers `NotThere`, without memory, where the node or the slot is missing or the child is a leaf or has one
+/// slot, and `NoRoom` where the node has no room for one slot more or, below the root, for the range-deletes that
+/// would stand in both slots.
+pub fn split_inner<U: Update>(alloc: Global, tree: &mut Tree<U>, at: Place, slot: u8) -> StepReply
+    ensures { Answers U.means SplitInner (way at) slot result tree.old tree.new }
+{
+    tree.step(alloc, &InnerSplit, at, slot)
+}
