@@ -27,7 +27,11 @@ fn main(rt: HostRuntime) -> anyhow::Result<ExitCode> {
 }
 
 /// Runs a script over a new volume, with its replies gathered into large writes.
-fn run<R: Read, W: Write + Drop>(alloc: Global, reader: &mut R, writer: W) -> Result<(), ScriptFault> {
+fn run<R: Read, W: Write + Drop>(
+    alloc: Global,
+    reader: &mut R,
+    writer: W,
+) -> Result<(), ScriptFault> {
     let Ok(mut volume) = Directories::new(alloc) else {
         return Err(ScriptFault::Memory);
     };
