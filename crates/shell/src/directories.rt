@@ -23,9 +23,9 @@ const SHAPE: Shape = Shape {
 #[derive(Clone, Copy, Debug, PartialEq, Eq)]
 pub struct Directory;
 
-/// A change of a directory's metadata, of which there is none yet.
+/// A change of a directory's metadata: as yet only the one that changes nothing.
 #[derive(Clone, Copy, Debug, PartialEq, Eq)]
-pub enum NoUpdate {}
+pub struct NoUpdate;
 
 impl Changes for NoUpdate {
     type Value = Directory;
@@ -39,17 +39,17 @@ impl Update for NoUpdate {
     fn apply(
         &self,
         _alloc: Global,
-        _old: Option<&Directory>,
+        old: Option<&Directory>,
     ) -> Result<Option<Directory>, NoMemory> {
-        match *self {}
+        Ok(old.copied())
     }
 
     fn join(&self, _alloc: Global, _later: &NoUpdate) -> Result<Option<NoUpdate>, NoMemory> {
-        match *self {}
+        Ok(Some(NoUpdate))
     }
 
     fn copy(&self, _alloc: Global) -> Result<NoUpdate, NoMemory> {
-        match *self {}
+        Ok(NoUpdate)
     }
 
     fn copy_value(_alloc: Global, value: &Directory) -> Result<Directory, NoMemory> {
