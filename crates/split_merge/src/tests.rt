@@ -5,9 +5,9 @@ use node::{Place, Shape, Tree};
 use pathkey::NoMemory;
 use std::alloc::Global;
 
-/// An update of which there is none.
+/// An update that changes nothing.
 #[derive(Clone, Copy, Debug, PartialEq, Eq)]
-enum NoUpdate {}
+struct NoUpdate;
 
 impl Changes for NoUpdate {
     type Value = u8;
@@ -16,16 +16,16 @@ impl Changes for NoUpdate {
 impl Update for NoUpdate {
     ghost means = { λ u old. old };
 
-    fn apply(&self, _alloc: Global, _old: Option<&u8>) -> Result<Option<u8>, NoMemory> {
-        match *self {}
+    fn apply(&self, _alloc: Global, old: Option<&u8>) -> Result<Option<u8>, NoMemory> {
+        Ok(old.copied())
     }
 
     fn join(&self, _alloc: Global, _later: &NoUpdate) -> Result<Option<NoUpdate>, NoMemory> {
-        match *self {}
+        Ok(Some(NoUpdate))
     }
 
     fn copy(&self, _alloc: Global) -> Result<NoUpdate, NoMemory> {
-        match *self {}
+        Ok(NoUpdate)
     }
 
     fn copy_value(_alloc: Global, value: &u8) -> Result<u8, NoMemory> {
