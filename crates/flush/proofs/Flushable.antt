@@ -9,20 +9,24 @@ use Rattle.node.specs.Site.{slots_from}
 use Rattle.node.proofs.There.{slots_from-get}
 
 module _ {U V : Type 0} where
+  -- a slot without messages is not flushed
   can_flush_inner-none : (lo : List ℕ) (ms : List (Msg U V)) (c : PNode U V) (a : PSlots U V) → length ms ≡ 0 → can_flush_inner (more lo ms c a) ≡ false
   can_flush_inner-none lo [] c a h = refl
   can_flush_inner-none lo (m ∷ ms) c a h = absurd (omega arith)
 
+  -- one with messages is, unless a leaf is below
   can_flush_inner-some : (lo : List ℕ) (ms : List (Msg U V)) (c : PNode U V) (a : PSlots U V) → 0 < length ms → can_flush_inner (more lo ms c a) ≡ not (is_leaf c)
   can_flush_inner-some lo [] c a h = absurd (omega arith)
   can_flush_inner-some lo (m ∷ ms) (leaf es) a h = refl
   can_flush_inner-some lo (m ∷ ms) (inner cs) a h = refl
 
+  -- the same of the slot that the code reads, without messages
   pub can_flush_inner-empty : (xs : List (Slot U V)) (i : ℕ) (s : Slot U V) → i < length xs → s ≡ get_or xs i s → length s.pending.0 ≡ 0 → can_flush_inner (slots_from i (slots (map see_slot xs))) ≡ false
   can_flush_inner-empty xs i s h e z =
       let x = get_or xs i s in
       ap can_flush_inner (slots_from-get xs i s h) ∙ can_flush_inner-none x.lo x.pending.0 x.child.value _ (sym (ap (λ (y : Slot U V). length y.pending.0) e) ∙ z)
 
+  -- and with messages
   pub can_flush_inner-is : (xs : List (Slot U V)) (i : ℕ) (s : Slot U V) → i < length xs → s ≡ get_or xs i s → 0 < length s.pending.0 → can_flush_inner (slots_from i (slots (map see_slot xs))) ≡ not (is_leaf s.child.value)
   can_flush_inner-is xs i s h e z =
       let x = get_or xs i s in

@@ -25,6 +25,7 @@ use Rattle.flush.specs.Sunk.{Sunk}
 
 module _ {U V : Type 0} where
   module _ (means : U → Option V → Option V) where
+    -- messages that the child has taken have sunk
     sinks : (S : Shape) (n h : ℕ) (lo : List ℕ) (e : Option (List ℕ)) (ms : List (Msg U V)) (cs ds : PSlots U V) → HaveTaken means cs (parts None (take n ms) cs) ds → IsLawfulNode S (inner cs) h lo e → Sinks means n e (more lo ms (inner cs) none) (more lo (drop n ms) (inner ds) none)
     sinks S n h lo e ms none ds t l = absurd l.3
     sinks S n h lo e ms (more lp o c ss) ds t l = record {
@@ -33,23 +34,27 @@ module _ {U V : Type 0} where
       above = λ k v w. refl;
     }
 
+    -- the slot and its child stay lawful
     lawful_grown : (S : Shape) (n h : ℕ) (lo : List ℕ) (e : Option (List ℕ)) (ms : List (Msg U V)) (cs ds : PSlots U V) → HaveTaken means cs (parts None (take n ms) cs) ds → pending cs + piece_count (take n ms) cs ≤ S.pending → AreLawfulSlots S (more lo ms (inner cs) none) h e → AreLawfulSlots S (more lo (drop n ms) (inner ds) none) h e
     lawful_grown S n h lo e ms cs ds t fits l =
         let c = l.2 in
         let grown : AreLawfulSlots S ds (pred h) e = lawful-sunk means S (pred h) lo e (take n ms) cs ds (touch_only-take n lo e ms l.1) t c.4 in
         (l.0, touch_only-drop n lo e ms l.1, (c.0, subst (λ z. z ≤ S.fanout) (sym (slot_count-taken means None (take n ms) cs ds t)) c.1, omega (arith, fits, pending-taken means (take n ms) cs ds t), starts_at-taken means lo None (take n ms) cs ds t c.3, grown), tt)
 
+  -- what can be done at a slot rests on its messages and its child
   same_there : (lo lp : List ℕ) (ms : List (Msg U V)) (c : PNode U V) (a x : PSlots U V) → can_flush_inner (more lo ms c a) ≡ can_flush_inner (more lp ms c x)
   same_there lo lp [] c a x = refl
   same_there lo lp (m ∷ ms) (leaf es) a x = refl
   same_there lo lp (m ∷ ms) (inner cs) a x = refl
 
+  -- and so does whether there is room
   same_full : (P : ℕ) (lo lp : List ℕ) (ms : List (Msg U V)) (c : PNode U V) (a x : PSlots U V) → IsFullBelow P (more lo ms c a) → IsFullBelow P (more lp ms c x)
   same_full P lo lp [] c a x h = h
   same_full P lo lp (m ∷ ms) (leaf es) a x h = h
   same_full P lo lp (m ∷ ms) (inner cs) a x h = h
 
   module _ (means : U → Option V → Option V) (shape : Shape) (root : Bool) (i : ℕ) (b a : PSlots U V) (lo : List ℕ) (at_i : slot_count b ≡ i) where
+    -- what a flush that is done has done to the node
     did : (n : ℕ) (ms : List (Msg U V)) (cs ds : PSlots U V) → 1 ≤ n → n ≤ length ms → HaveTaken means cs (parts None (take n ms) cs) ds → pending cs + piece_count (take n ms) cs ≤ shape.pending → Replies means FlushInner shape root i (Did n) (joined b (more lo ms (inner cs) a)) (joined b (more lo (drop n ms) (inner ds) a))
     did n ms cs ds one has t fits h lp hi l there =
         let old = more lo ms (inner cs) none in
@@ -75,6 +80,7 @@ module _ {U V : Type 0} where
           },
         )
 
+    -- what each reply says of the node
     pub replies : (r : StepReply) (ms ns : List (Msg U V)) (c d : PNode U V) → Sunk means shape.pending r ms ns c d → Replies means FlushInner shape root i r (joined b (more lo ms c a)) (joined b (more lo ns d a))
     replies (Did n) ms ns (leaf es) d q = absurd q.3
     replies (Did n) ms ns (inner cs) (leaf es) q = absurd q.3

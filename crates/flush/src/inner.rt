@@ -19,6 +19,9 @@ use pathkey::Key;
 use std::alloc::Global;
 use std::sync::Arc;
 
+#[cfg(test)]
+mod tests;
+
 /// How many pieces the message makes in slots. It takes no memory.
 fn pieces_in<U: Update>(slots: &[Slot<U>], msg: &Msg<U>) -> usize
     ensures bound { result ≤ length slots.now }

@@ -6,8 +6,6 @@
 
 pub mod inner;
 pub mod meets;
-#[cfg(test)]
-mod tests;
 
 pub use inner::flush_inner;
 pub use node::StepReply;

@@ -1,6 +1,6 @@
 -- The value at a key below an inner node is what the messages of the slot that holds it make of its child's value.
-use Rattle.std.proofs.Common.{◌≡◌, ℕ, ◌<◌, List, length, get_or, map, ap, sym, ◌∙◌, subst, Option}
-use Rattle.message.specs.Effects.{effects}
+use Rattle.std.proofs.Common.{◌≡◌, ℕ, ◌<◌, List, length, get_or, map, ap, sym, ◌∙◌, Option, Bool, false, refl, drop}
+use Rattle.message.specs.Effects.{effects, IsDecisive}
 use Rattle.node.specs.declared.node.Slot.{Slot}
 use Rattle.node.specs.Meaning.{value, slot_number}
 use Rattle.node.specs.Pure.{PNode, inner, slots}
@@ -16,3 +16,10 @@ module _ {U V : Type 0} (means : U → Option V → Option V) where
       ∙ ap (λ (s : Slot U V). effects means s.pending.0 k (value means s.child.value k)) here
       ∙ sym (slots_value_is means k xs slot some)
       ∙ ap (λ (m : PNode U V). value means m k) is
+
+  -- the same where only the messages are laid on that decide the value
+  pub value-decided : (k : List ℕ) (xs : List (Slot U V)) (i : ℕ) (slot : Slot U V) (n : PNode U V) (below : Option V) (from : ℕ) (settled : Bool) → inner (slots (map see_slot xs)) ≡ n → 0 < length xs → i ≡ slot_number (slots (map see_slot xs)) k → slot ≡ get_or xs i slot → IsDecisive means slot.pending.0 k from settled → (settled ≡ false → below ≡ value means slot.child.value k)
+      → effects means (drop from slot.pending.0) k below ≡ value means n k
+  value-decided k xs i slot n below from settled is some number at decisive below_is =
+      decisive.value below (value means slot.child.value k) below_is
+      ∙ value-below k xs i slot n slot.child.value (value means slot.child.value k) is some number at refl refl

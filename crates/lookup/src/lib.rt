@@ -14,7 +14,7 @@ use pathkey::{Key, NoMemory};
 use std::alloc::Global;
 
 /// The value at the key: its leaf's entry under the messages that wait on the way, the oldest first
-/// (Bender et al., ;login: 2015).
+/// (Bender et al., ;login: 2015). The way ends early at a message that settles the value.
 pub fn get<U: Update>(
     alloc: Global,
     tree: &Tree<U>,
@@ -37,8 +37,12 @@ fn find<U: Update>(alloc: Global, node: &Node<U>, key: &Key) -> Result<Option<U:
                 return Ok(None);
             }
             let slot = &slots[slot_of(slots.as_slice(), key)];
+            let (from, settled) = slot.pending.decisive(key);
+            if settled {
+                return slot.pending.apply_from(alloc, key, None, from);
+            }
             let below = find(alloc, &slot.child, key)?;
-            slot.pending.apply_at(alloc, key, below)
+            slot.pending.apply_from(alloc, key, below, from)
         }
     }
 }

@@ -1,3 +1,4 @@
 pub mod KeyOrder
 pub mod CutFacts
 pub mod Lists
+pub mod Deciding

@@ -1,5 +1,5 @@
 -- What messages do to the value at a key.
-use Rattle.std.specs.Prelude.{◌≡◌, ◌≤◌, ◌+◌, ℕ, Bool, false, ◌||◌, if◌then◌else◌, List, [], ◌∷◌, length, Option, Some, None}
+use Rattle.std.specs.Prelude.{◌≡◌, ◌≤◌, ◌+◌, ℕ, Bool, true, false, ◌||◌, if◌then◌else◌, List, [], ◌∷◌, length, drop, Option, Some, None}
 use Rattle.pathkey.specs.Order.{same}
 use Rattle.pathkey.specs.Keys.{is_in}
 use Rattle.message.specs.declared.msg.Msg.{Msg}
@@ -24,6 +24,13 @@ module _ {U V : Type 0} where
   point (Del q) = Some q
   point (DelRange r) = None
   point (Edit q u) = Some q
+
+  -- the message makes the same of every old value of a key that it touches
+  abbrev pub is_settling : Msg U V → Bool
+  is_settling (Put q v) = true
+  is_settling (Del q) = true
+  is_settling (DelRange r) = true
+  is_settling (Edit q u) = false
 
 module _ {U V : Type 0} (means : U → Option V → Option V) where
   -- what a message makes of the value at a key that it touches
@@ -50,3 +57,9 @@ module _ {U V : Type 0} (means : U → Option V → Option V) where
     pub bound : length new ≤ length old + length added
     -- it touches no other key
     pub touched : (k : List ℕ) → any_touches old k ≡ false → any_touches added k ≡ false → any_touches new k ≡ false
+
+  -- the messages from number `from` on make of the value at k what all of them do, and where they settle it,
+  -- they do so of any value
+  pub record IsDecisive (ms : List (Msg U V)) (k : List ℕ) (from : ℕ) (settles : Bool) : Type 0 where
+    pub bound : from ≤ length ms
+    pub value : (a b : Option V) → (settles ≡ false → a ≡ b) → effects (drop from ms) k a ≡ effects ms k b

@@ -1,7 +1,7 @@
 //! Messages: what is touched, what is changed, and the part of a message that lies in a range.
 ghost use Rattle.std.specs.Prelude.{◌≡◌, IfOk};
 ghost use Rattle.std.specs.Option.{option_copied};
-ghost use Rattle.message.specs.Effects.{touches as is_touched, effect, point as point_of};
+ghost use Rattle.message.specs.Effects.{touches as is_touched, effect, point as point_of, is_settling};
 ghost use Rattle.message.specs.Cuts.{cut_range, cut_to, IsCut};
 
 use crate::ends::{earlier_end, is_within, later_key};
@@ -42,6 +42,16 @@ impl<U: Update> Msg<U> {
         match self {
             Msg::Put(key, _) | Msg::Del(key) | Msg::Edit(key, _) => Some(key),
             Msg::DelRange(_) => None,
+        }
+    }
+
+    /// Whether the message makes the same of every old value of a key that it touches.
+    pub fn settles(&self) -> bool
+        ensures { result ≡ is_settling self.now }
+    {
+        match self {
+            Msg::Edit(_, _) => false,
+            Msg::Put(_, _) | Msg::Del(_) | Msg::DelRange(_) => true,
         }
     }
 

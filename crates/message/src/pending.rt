@@ -4,9 +4,9 @@
 //! meaning alone (`Takes`): the list may hold fewer messages that mean the same, so callers that rely on the
 //! contract do not notice when a list condenses.
 ghost use Rattle.std.specs.Prelude.{◌≡◌, ◌+◌, ◌≤◌, ◌<◌, [], ◌∷◌, length, take, drop, IfOk, OnOk, OnErr};
-ghost use Rattle.message.specs.Effects.{effects, Takes};
+ghost use Rattle.message.specs.Effects.{effects, Takes, IsDecisive};
 
-use crate::msg::Msg;
+use crate::msg::{Msg, touches};
 use crate::update::{Changes, Update};
 use pathkey::{Key, NoMemory};
 use std::alloc::Global;
@@ -117,10 +117,58 @@ impl<U: Update> Pending<U> {
     ) -> Result<Option<U::Value>, NoMemory>
         ensures { IfOk result (λ v. v ≡ effects U.means self.now.0 key.now old) }
     {
-        let mut value = old;
-        for msg in &self.msgs {
-            value = msg.lay(alloc, key, value)?;
-        }
-        Ok(value)
+        lay_all(alloc, self.msgs.as_slice(), key, old)
     }
+
+    /// The same after the messages from number `from` on.
+    pub fn apply_from(
+        &self,
+        alloc: Global,
+        key: &Key,
+        old: Option<U::Value>,
+        from: usize,
+    ) -> Result<Option<U::Value>, NoMemory>
+        requires { from ≤ length self.now.0 }
+        ensures { IfOk result (λ v. v ≡ effects U.means (drop from self.now.0) key.now old) }
+    {
+        lay_all(alloc, &self.msgs[from..], key, old)
+    }
+
+    /// From which message on the list decides the value at `key`, and whether it does so whatever was there.
+    ///
+    /// It looks at the newest messages first, and at none that is older than one that settles the value.
+    pub fn decisive(&self, key: &Key) -> (usize, bool)
+        ensures { IsDecisive U.means self.now.0 key.now result.0 result.1 }
+    {
+        let msgs = self.msgs.as_slice();
+        let mut i = msgs.len();
+        let mut from = i;
+        while i > 0 {
+            i -= 1;
+            let msg = &msgs[i];
+            if touches(msg, key) {
+                if msg.settles() {
+                    return (i, true);
+                }
+                from = i;
+            }
+        }
+        (from, false)
+    }
+}
+
+/// The value at `key` after the messages, the oldest first, where `old` was there.
+fn lay_all<U: Update>(
+    alloc: Global,
+    msgs: &[Msg<U>],
+    key: &Key,
+    old: Option<U::Value>,
+) -> Result<Option<U::Value>, NoMemory>
+    ensures { IfOk result (λ v. v ≡ effects U.means msgs.now key.now old) }
+{
+    let mut value = old;
+    for msg in msgs {
+        value = msg.lay(alloc, key, value)?;
+    }
+    Ok(value)
 }

@@ -1,5 +1,5 @@
 -- What messages make of a leaf's entries, one after the other.
-use Rattle.std.proofs.Common.{◌≡◌, ℕ, ◌+◌, ◌<◌, ◌≤◌, Bool, true, false, List, [], ◌∷◌, ◌++◌, length, take, get_or, refl, ap, sym, ◌∙◌, subst, Option, Some, None, cond, arith, length-append}
+use Rattle.std.proofs.Common.{◌≡◌, ℕ, ◌+◌, ◌<◌, Bool, true, false, List, [], ◌∷◌, ◌++◌, length, take, get_or, refl, ap, sym, ◌∙◌, subst, Option, Some, None, cond, arith, length-append}
 use Rattle.std.specs.Prelude.{◌||◌, ◌&&◌, Result, OnOk, OnErr}
 use Rattle.std.proofs.lemmas.Bool.{or_parts}
 use Rattle.std.proofs.lemmas.List.{take_more}
@@ -23,12 +23,14 @@ all_inside : (k : List ℕ) → within [] None k ≡ true
 all_inside k = ap (λ (b : Bool). b && true) (from_start k)
 
 module _ {U V : Type 0} where
+  -- the first of messages that touch only a range
   touch_only-front : (lo : List ℕ) (hi : Option (List ℕ)) (xs ys : List (Msg U V)) → TouchOnly lo hi (xs ++ ys) → TouchOnly lo hi xs
   touch_only-front lo hi [] ys t k out = refl
   touch_only-front lo hi (x ∷ xs) ys t k out =
       let p = or_parts (touches x k) (any_touches (xs ++ ys) k) (t k out) in
       ap (λ (b : Bool). b || any_touches xs k) p.0 ∙ touch_only-front lo hi xs ys (λ q o. (or_parts (touches x q) (any_touches (xs ++ ys) q) (t q o)).1) k out
 
+  -- the others
   touch_only-back : (lo : List ℕ) (hi : Option (List ℕ)) (xs ys : List (Msg U V)) → TouchOnly lo hi (xs ++ ys) → TouchOnly lo hi ys
   touch_only-back lo hi [] ys t = t
   touch_only-back lo hi (x ∷ xs) ys t = touch_only-back lo hi xs ys (λ q o. (or_parts (touches x q) (any_touches (xs ++ ys) q) (t q o)).1)
@@ -42,6 +44,7 @@ module _ {U V : Type 0} (means : U → Option V → Option V) where
     longer = h.longer;
   }
 
+  -- each form of message
   pub applied_put : (m : Msg U V) (q : List ℕ) (v w : V) (old new : List (List ℕ × V)) → m ≡ Put q v → w ≡ v → IsChanged (same q) (Some w) old new → Applied means (m ∷ []) old new
   applied_put m q v w old new is copied h = subst (λ (n : Msg U V). Applied means (n ∷ []) old new) (sym is) (applied_one (Put q v) (Some w) old new (λ k t. ap (λ (x : V). Some x) copied) h)
 

@@ -28,37 +28,44 @@ module _ {U V : Type 0} where
   slots-set (x ∷ xs) zero s d n h a b e = λ j. more (a j) (b j) (e j) (slots (map see_slot xs))
   slots-set (x ∷ xs) (suc i) s d n h a b e = ap (more x.lo x.pending.0 x.child.value) (slots-set xs i s d n (omega arith) a b e)
 
+  -- the child of the slot that the code reads
   pub IsChild-get : (xs : List (Slot U V)) (i : ℕ) (s : Slot U V) → i < length xs → s ≡ get_or xs i s → IsChild (slots (map see_slot xs)) i s.child.value
   IsChild-get [] i s h e = absurd (omega arith)
   IsChild-get (x ∷ xs) zero s h e = ap (λ (t : Slot U V). t.child.value) (sym e)
   IsChild-get (x ∷ xs) (suc i) s h e = IsChild-get xs i s (omega arith) e
 
+  -- its own child put back changes nothing
   pub with_child-same : (ss : PSlots U V) (i : ℕ) (c : PNode U V) → IsChild ss i c → with_child ss i c ≡ ss
   with_child-same none i c h = refl
   with_child-same (more lo ms n ss) zero c h = ap (λ m. more lo ms m ss) (sym h)
   with_child-same (more lo ms n ss) (suc i) c h = ap (more lo ms n) (with_child-same ss i c h)
 
+  -- what is said of the child with a number is said of that child
   pub of_child-is : {X : Type 0} (d : X) (f : PNode U V → X) (ss : PSlots U V) (i : ℕ) (c : PNode U V) → IsChild ss i c → of_child d f ss i ≡ f c
   of_child-is d f none i c h = absurd h
   of_child-is d f (more lo ms n ss) zero c h = ap f h
   of_child-is d f (more lo ms n ss) (suc i) c h = of_child-is d f ss i c h
 
+  -- to change the child with a number is to put the changed one there
   child_changed-is : (f : PNode U V → PNode U V) (ss : PSlots U V) (i : ℕ) (c : PNode U V) → IsChild ss i c → child_changed f ss i ≡ with_child ss i (f c)
   child_changed-is f none i c h = refl
   child_changed-is f (more lo ms n ss) zero c h = ap (λ x. more lo ms (f x) ss) h
   child_changed-is f (more lo ms n ss) (suc i) c h = ap (more lo ms n) (child_changed-is f ss i c h)
 
+  -- past the last slot there is no child
   pub of_child-past : {X : Type 0} (d : X) (f : PNode U V → X) (xs : List (Slot U V)) (i : ℕ) → length xs ≤ i → of_child d f (slots (map see_slot xs)) i ≡ d
   of_child-past d f [] i h = refl
   of_child-past d f (x ∷ xs) zero h = absurd (omega arith)
   of_child-past d f (x ∷ xs) (suc i) h = of_child-past d f xs i (omega arith)
 
+  -- its own slots put back change nothing
   mutual
     pub with_slots-same : (p : List ℕ) (a : PNode U V) (ss : PSlots U V) → slots_at p a ≡ Some ss → with_slots p ss a ≡ a
     with_slots-same p (leaf es) ss h = refl
     with_slots-same [] (inner ts) ss h = (cc)
     with_slots-same (i ∷ p) (inner ts) ss h = ap inner (child_changed-same p ts i ss h)
 
+    -- the same one level up
     pub child_changed-same : (p : List ℕ) (ts : PSlots U V) (i : ℕ) (ss : PSlots U V) → of_child None (slots_at p) ts i ≡ Some ss → child_changed (with_slots p ss) ts i ≡ ts
     child_changed-same p none i ss h = refl
     child_changed-same p (more lo ms n ts) zero ss h = ap (λ x. more lo ms x ts) (with_slots-same p n ss h)
@@ -76,6 +83,7 @@ module _ {U V : Type 0} where
   pub at_none : (p : List ℕ) (r : StepReply) (R : PSlots U V → PSlots U V → Type 0) (a b : PNode U V) → b ≡ a → IsMissing r → slots_at p a ≡ None → At p r R a b
   at_none p r R a b e m h = subst (λ o. MatchOption o ((b ≡ a) × IsMissing r) (λ ss. (new : PSlots U V) × (b ≡ with_slots p new a) × R ss new)) (sym h) (e, m)
 
+  -- what holds of a place in the child holds of the place below the slot
   at_child : (p : List ℕ) (i : ℕ) (r : StepReply) (R : PSlots U V → PSlots U V → Type 0) (ss : PSlots U V) (c d : PNode U V) → IsChild ss i c → At p r R c d → At (i ∷ p) r R (inner ss) (inner (with_child ss i d))
   at_child p i r R ss c d h q =
       let b = inner (with_child ss i d) in

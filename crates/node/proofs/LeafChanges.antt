@@ -1,5 +1,5 @@
 -- What a leaf's entries become when one key, or a range of keys, gets or loses its value.
-use Rattle.std.proofs.Common.{◌≡◌, ℕ, zero, suc, ◌+◌, ◌<◌, ◌≤◌, max, Bool, true, false, List, [], ◌∷◌, ◌++◌, length, get_or, set, insert, remove, take, drop, refl, ap, sym, ◌∙◌, subst, Option, Some, None, cond, arith, length-append, length-take, length-drop, take-append-drop}
+use Rattle.std.proofs.Common.{◌≡◌, ℕ, zero, suc, ◌<◌, ◌≤◌, max, Bool, true, false, List, [], ◌∷◌, ◌++◌, length, get_or, set, insert, remove, take, drop, refl, ap, sym, ◌∙◌, subst, Option, Some, None, cond, arith, length-append, length-take, length-drop, take-append-drop}
 use Rattle.std.specs.Prelude.{◌&&◌}
 use Rattle.std.specs.Option.{option_or}
 use Rattle.std.proofs.lemmas.List.{set_split}
@@ -11,7 +11,8 @@ use Rattle.message.proofs.KeyOrder.{both, lt_le, reaches-refl, not_before_from_r
 use Rattle.node.specs.Lawful.{first_key, Rises}
 use Rattle.node.specs.Meaning.{lookup}
 use Rattle.node.specs.Leaves.{IsCount, IsEntry, IsGap, IsChanged}
-use Rattle.node.proofs.EntryFacts.{Around, around_gap, around_entry, unlike_earlier, unlike_later, lookup-append, lookup-without, lookup-take, lookup-beside, rises-without, rises-before, rises-others, rises-append}
+use Rattle.node.proofs.EntryPlaces.{Around, around_gap, around_entry}
+use Rattle.node.proofs.EntryFacts.{unlike_earlier, unlike_later, lookup-append, lookup-without, lookup-take, lookup-beside, rises-without, rises-before, rises-others, rises-append}
 
 -- a test that picks a key is not false there
 picked : (picks : List ℕ → Bool) (k : List ℕ) (b : Bool) → (b ≡ false → picks k ≡ false) → picks k ≡ true → b ≡ true
@@ -19,15 +20,19 @@ picked picks k true f h = refl
 picked picks k false f h = absurd (let g : picks k ≡ false = f refl in cc)
 
 module _ {V : Type 0} (k : List ℕ) (es : List (List ℕ × V)) (i e : ℕ) (a : Around es k i e) where
+  -- the entries before a key's place have other keys
   other_before : (q : List ℕ) → same k q ≡ true → (j : ℕ) (d : List ℕ × V) → j < i → j < length es → same (get_or es j d).0 q ≡ false
   other_before q s j d l b = subst (λ (x : List ℕ). same (get_or es j d).0 x ≡ false) (same_true k q s) (unlike_earlier (get_or es j d).0 k (a.earlier j d l))
 
+  -- and those after it
   other_after : (q : List ℕ) → same k q ≡ true → (j : ℕ) (d : List ℕ × V) → e ≤ j → j < length es → same (get_or es j d).0 q ≡ false
   other_after q s j d l b = subst (λ (x : List ℕ). same (get_or es j d).0 x ≡ false) (same_true k q s) (unlike_later (get_or es j d).0 k (a.after j d l b))
 
+  -- entries of the key have no other
   other_within : (q : List ℕ) → same k q ≡ false → (j : ℕ) (d : List ℕ × V) → i ≤ j → j < e → j < length es → same (get_or es j d).0 q ≡ false
   other_within q s j d l b c = subst (λ (x : List ℕ). same x q ≡ false) (sym (a.middle j d l b)) s
 
+  -- look-ups where the key has a value
   lookup-put : (v : V) (q : List ℕ) → lookup (take i es ++ (k, v) ∷ drop e es) q ≡ cond (same k q) (Some v) (lookup es q)
   lookup-put v q =
       lookup-append (take i es) ((k, v) ∷ drop e es) q
@@ -36,12 +41,14 @@ module _ {V : Type 0} (k : List ℕ) (es : List (List ℕ × V)) (i e : ℕ) (a 
         | false ↦ λ s. sym (lookup-append (take i es) (drop e es) q) ∙ lookup-without q es i e a.order (other_within q s)
       ] refl
 
+  -- and where it has none
   lookup-taken : (q : List ℕ) → lookup (take i es ++ drop e es) q ≡ cond (same k q) None (lookup es q)
   lookup-taken q = elim (same k q) as (λ b. same k q ≡ b → lookup (take i es ++ drop e es) q ≡ cond b None (lookup es q)) [
     | true ↦ λ s. lookup-beside q es i e (other_before q s) (other_after q s)
     | false ↦ λ s. lookup-without q es i e a.order (other_within q s)
   ] refl
 
+  -- the first of the entries behind a key stands behind it, or their end does
   first_behind : (hi : Option (List ℕ)) (zs : List (List ℕ × V)) (n : ℕ) → is_below k hi ≡ true → ((j : ℕ) (d : List ℕ × V) → n ≤ j → j < length zs → before k (get_or zs j d).0 ≡ true) → is_below k (first_key hi (drop n zs)) ≡ true
   first_behind hi [] zero l after = l
   first_behind hi [] (suc n) l after = l
@@ -123,5 +130,6 @@ cleared {V} lo hi es i j a b =
         let there : within lo hi k ≡ true = subst (λ (q : List ℕ). within lo hi q ≡ true) e inside in
         (cc))
 
+-- the same, of entries that have another name
 pub is_cleared : {V : Type 0} (lo : List ℕ) (hi : Option (List ℕ)) (es new : List (List ℕ × V)) (i j : ℕ) → IsCount es (Some lo) i → IsCount es hi j → new ≡ take i es ++ drop (max j i) es → IsChanged (within lo hi) None es new
 is_cleared {V} lo hi es new i j a b is = subst (λ (n : List (List ℕ × V)). IsChanged (within lo hi) None es n) (sym is) (cleared lo hi es i j a b)

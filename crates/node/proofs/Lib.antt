@@ -2,6 +2,11 @@ pub mod Placing
 pub mod SlotFacts
 pub mod Appending
 pub mod Roots
+pub mod EntryFacts
+pub mod EntryPlaces
+pub mod Halves
+pub mod LeafChanges
+pub mod Applying
 pub mod At
 pub mod There
 pub mod Splice
@@ -9,6 +14,3 @@ pub mod Kept
 pub mod Outcome
 pub mod Sinking
 pub mod Sizes
-pub mod EntryFacts
-pub mod LeafChanges
-pub mod Applying

@@ -16,10 +16,11 @@ use Rattle.node.specs.Sinks.{first_lo}
 use Rattle.node.specs.Steps.{LawfulSlots, is_top, width, OthersStay, Stepped, Done, Replies, At, IsMissing, IfDid, UnlessDid, HasNoRoom, there, can, can_from, Answers}
 use Rattle.message.proofs.KeyOrder.{both}
 use Rattle.node.proofs.At.{with_slots-same}
-use Rattle.node.proofs.Splice.{value-spliced, counted-more, starts-more}
+use Rattle.node.proofs.Splice.{value-spliced, counted-more, starts-more, starts-first}
 use Rattle.node.proofs.Roots.{tree_of}
-use Rattle.node.proofs.Kept.{SlotsKept, root_kept, first_lo-starts}
+use Rattle.node.proofs.Kept.{SlotsKept, root_kept}
 
+-- every step names a slot
 width-some : (kind : StepKind) → 1 ≤ width kind
 width-some FlushInner = omega arith
 width-some FlushLeaf = omega arith
@@ -30,17 +31,20 @@ width-some RootUp = omega arith
 width-some RootDown = omega arith
 width-some DropCovered = omega arith
 
+-- the place without numbers is the root
 pub is_top-is : (p : List ℕ) → (length p == 0) ≡ is_top p
 is_top-is [] = refl
 is_top-is (i ∷ p) = grind arith
 
+-- a fact where nothing is done that follows from another
 on_undone : (r : StepReply) (A B : Type 0) → (A → B) → UnlessDid r A → UnlessDid r B
 on_undone (Did n) A B f q = tt
 on_undone NotThere A B f q = f q
 on_undone NoRoom A B f q = f q
 on_undone NoMemory A B f q = f q
 
-clash : (x : Bool) → x ≡ true → x ≡ false → ⊥
+-- no test is both true and false
+pub clash : (x : Bool) → x ≡ true → x ≡ false → ⊥
 clash true u v = (cc)
 clash false u v = (cc)
 
@@ -55,6 +59,7 @@ module _ {U V : Type 0} where
     pub full : r ≡ NoRoom → IfSome (slots_at p a) (HasNoRoom means kind shape (is_top p) i)
     pub unchanged : UnlessDid r (b ≡ a)
 
+  -- a changed child is a change of its slot alone
   child-spliced : (f : PNode U V → PNode U V) (g : PNode U V → Option (PSlots U V)) (ss ts : PSlots U V) (i : ℕ) (hi : Option (List ℕ)) → of_child None g ts i ≡ Some ss → Spliced (λ e old new. starts_at (first_lo old) new) i 1 hi ts (child_changed f ts i)
   child-spliced f g ss none i hi e = (cc)
   child-spliced f g ss (more lo ms n ts) zero hi e = record { before = none; old = more lo ms n none; new = more lo ms (f n) none; after = ts; was = refl; is = refl; number = refl; width = refl; changed = refl }
@@ -73,13 +78,14 @@ module _ {U V : Type 0} where
           lawful = m;
           same = λ k w.
               let q = both (reaches lo k) (is_below k hi) w in
-              let first : first_lo a ≡ lo = ap first_lo (sym d.was) ∙ first_lo-starts lo ss l.starts in
+              let first : first_lo a ≡ lo = ap first_lo (sym d.was) ∙ starts-first lo ss l.starts in
               let wide : 1 ≤ slot_count d.old = omega (arith, d.width, width-some kind) in
               ap (λ z. slots_value means z k) d.is
               ∙ value-spliced means shape h n hi d.old d.new d.after (counted-more d.old wide) (starts-more (first_lo d.old) d.new d.changed.0.starts) d.changed.0 d.before k (subst (λ z. AreLawfulSlots shape z h hi) d.was l.each) (subst (λ z. AreLawfulSlots shape z h hi) d.is m.each) (ap (λ z. reaches z k) first ∙ q.0) q.1
               ∙ ap (λ z. slots_value means z k) (sym d.was);
         }
 
+    -- the other slots of the root stay
     others : (n : ℕ) (p : List ℕ) (h : ℕ) (a : PNode U V) (ss new : PSlots U V) → IsLawfulRoot shape a h → slots_at p a ≡ Some ss → Done means kind n i (end_at p None a) ss new → OthersStay kind p i a (with_slots p new a)
     others n p h (leaf es) ss new l e d = absurd l
     others n [] h (inner ts) ss new l e d =
@@ -88,9 +94,11 @@ module _ {U V : Type 0} where
     others n (j ∷ p) h (inner ts) ss new l e d = child-spliced (with_slots p new) (slots_at p) ss ts j None e
 
     module _ (p : List ℕ) (h : ℕ) (a b : PNode U V) (ss new : PSlots U V) (l : IsLawfulRoot shape a h) (e : slots_at p a ≡ Some ss) (is : b ≡ with_slots p new a) (able : can kind (end_at p None a) (slots_from i ss) ≡ true) where
+      -- slots that stay leave the tree
       same : new ≡ ss → b ≡ a
       same q = is ∙ ap (λ z. with_slots p z a) q ∙ with_slots-same p a ss e
 
+      -- what the reply at the place says of the tree
       outcome_by : (r : StepReply) → Replies means kind shape (is_top p) i r ss new → Outcome means kind shape p i h r a b
       outcome_by (Did n) q =
           let k = root_kept means shape ss new (Done means kind n i (end_at p None a) ss new) p a h e (λ g lo m. let x = q g lo (end_at p None a) m able in kept (is_top p) n g lo (end_at p None a) ss new m x.0 x.1) l in
@@ -123,6 +131,7 @@ module _ {U V : Type 0} where
         unchanged = same q;
       }
 
+    -- the same, where the test said that the step can be done
     pub outcome : (p : List ℕ) (h : ℕ) (r : StepReply) (a b : PNode U V) → IsLawfulRoot shape a h → there kind i p None a ≡ true → At p r (Replies means kind shape (is_top p) i r) a b → Outcome means kind shape p i h r a b
     outcome p h r a b l able q =
         (elim (slots_at p a) as (λ o. slots_at p a ≡ o → can_from kind i (end_at p None a) o ≡ true → MatchOption o ((b ≡ a) × IsMissing r) (λ ss. (new : PSlots U V) × (b ≡ with_slots p new a) × Replies means kind shape (is_top p) i r ss new) → Outcome means kind shape p i h r a b) [
@@ -130,6 +139,7 @@ module _ {U V : Type 0} where
           | Some ss ↦ λ e t m. outcome_by p h a b ss m.0 l e m.1 t r m.2
         ]) refl able q
 
+  -- the outcome in the words of a contract
   pub answers : (means : U → Option V → Option V) (kind : StepKind) (shape : Shape) (i : ℕ) (p : List ℕ) (h : ℕ) (r : StepReply) (a b : PNode U V) (t : PTree U V) → tree_of shape a ≡ t → there kind i p None a ≡ true → Outcome means kind shape p i h r a b → Answers means kind p i r t (tree_of shape b)
   answers means kind shape i p h r a b t e able o = subst (λ z. Answers means kind p i r z (tree_of shape b)) e (record {
     value_kept = o.same;

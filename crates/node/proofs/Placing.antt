@@ -28,7 +28,7 @@ abbrev or_empty : Option (List ℕ) → List ℕ
 or_empty None = []
 or_empty (Some q) = q
 
-and_false : (a b : Bool) → b ≡ false → (a && b) ≡ false
+pub and_false : (a b : Bool) → b ≡ false → (a && b) ≡ false
 and_false true b e = e
 and_false false b e = refl
 

@@ -16,13 +16,16 @@ use Rattle.node.specs.Pure.{PNode, PSlots, none, more}
 use Rattle.node.specs.Lawful.{next_lo, pending, TouchOnly, IsLawfulNode, AreLawfulSlots}
 use Rattle.node.specs.Appended.{parts, HaveTaken}
 use Rattle.node.specs.Rows.{piece_count, emptied}
+use Rattle.node.proofs.Placing.{and_false}
 use Rattle.node.proofs.Appending.{pieces_outside, next_lo-taken}
 
+-- where one of two holds not, neither does
 pub neither : (a b : Bool) → (a || b) ≡ false → (a ≡ false) × (b ≡ false)
 neither true b h = (cc)
 neither false b h = (refl, h)
 
 module _ {U V : Type 0} where
+  -- a message that does not touch a key, or none
   if_kept : (b : Bool) (m : Msg U V) (k : List ℕ) → touches m k ≡ false → any_touches (option_to_list (cond b (Some m) None)) k ≡ false
   if_kept true m k f = ap (λ c. c || false) f
   if_kept false m k f = refl
@@ -45,6 +48,7 @@ module _ {U V : Type 0} where
         | false ↦ λ h. cut_outside lo hi m k h
       ] refl
 
+  -- pieces touch only what the messages touch
   pub pieces_touch : (lo : List ℕ) (hi : Option (List ℕ)) (ms : List (Msg U V)) (k : List ℕ) → any_touches ms k ≡ false → any_touches (pieces lo hi ms) k ≡ false
   pieces_touch lo hi [] k f = refl
   pieces_touch lo hi (m ∷ ms) k f =
@@ -57,25 +61,25 @@ module _ {U V : Type 0} where
       elim (reaches lo k) as (λ c. reaches lo k ≡ c → any_touches (pieces lo None ms) k ≡ false) [
         | true ↦ λ r.
             let past : is_below k e ≡ false = ap (λ z. z && is_below k e) (sym r) ∙ out in
-            pieces_touch lo None ms k (only k (second (reaches l k) (is_below k e) past))
+            pieces_touch lo None ms k (only k (and_false (reaches l k) (is_below k e) past))
         | false ↦ λ r. pieces_outside lo None ms k (ap (λ z. z && true) r)
       ] refl
-    where
-      second : (a b : Bool) → b ≡ false → (a && b) ≡ false
-      second true b e = e
-      second false b e = refl
 
+  -- the first messages touch only the keys of all
   pub touch_only-take : (n : ℕ) (lo : List ℕ) (hi : Option (List ℕ)) (ms : List (Msg U V)) → TouchOnly lo hi ms → TouchOnly lo hi (take n ms)
   touch_only-take n lo hi ms only k out = any_touches-take n ms k (only k out)
     where
+      -- what no message touches none of the first does
       any_touches-take : (n : ℕ) (ms : List (Msg U V)) (k : List ℕ) → any_touches ms k ≡ false → any_touches (take n ms) k ≡ false
       any_touches-take zero ms k h = refl
       any_touches-take (suc n) [] k h = refl
       any_touches-take (suc n) (m ∷ ms) k h = let p = neither (touches m k) (any_touches ms k) h in ap (λ c. c || any_touches (take n ms) k) p.0 ∙ any_touches-take n ms k p.1
 
+  -- and so do the others
   pub touch_only-drop : (n : ℕ) (lo : List ℕ) (hi : Option (List ℕ)) (ms : List (Msg U V)) → TouchOnly lo hi ms → TouchOnly lo hi (drop n ms)
   touch_only-drop n lo hi ms only k out = any_touches-drop n ms k (only k out)
     where
+      -- nor does one of the others
       any_touches-drop : (n : ℕ) (ms : List (Msg U V)) (k : List ℕ) → any_touches ms k ≡ false → any_touches (drop n ms) k ≡ false
       any_touches-drop zero ms k h = h
       any_touches-drop (suc n) [] k h = h
@@ -99,6 +103,7 @@ module _ {U V : Type 0} (means : U → Option V → Option V) where
         lawful-sunk S h l e ms ss ss' only t.3 w.3,
       )
     where
+      -- the part of a slot touches only its range
       part : (ss : PSlots U V) (lo : List ℕ) → TouchOnly lo (next_lo e ss) (pieces lo (next_lo None ss) ms)
       part none lo = pieces_end l lo e ms only
       part (more lp o p ss) lo = pieces_outside lo (Some lp) ms

@@ -14,6 +14,7 @@ use Rattle.node.specs.Pure.{PNode, leaf, inner, PSlots, none, more, PTree, slots
 use Rattle.node.specs.See.{see_slot}
 
 module _ {U V : Type 0} where
+  -- the same by successors
   total_below-one_more : (q : Quantity) (xs : List (Slot U V)) (i : ℕ) (d : Slot U V) → i < length xs → total_below q (slots (map see_slot (take (suc i) xs))) ≡ total_below q (slots (map see_slot (take i xs))) + total q (get_or xs i d).child.value
   total_below-one_more q [] i d h = absurd (omega arith)
   total_below-one_more q (x ∷ xs) zero d h = omega arith
@@ -28,17 +29,21 @@ abbrev most : ℕ → ℕ
 most zero = 1024
 most (suc h) = 1024 + 64 * most h
 
+-- it is no less than a node has itself
 most-some : (h : ℕ) → 1024 ≤ most h
 most-some zero = omega arith
 most-some (suc h) = omega arith
 
+-- it for the children of the highest root
 most-whole : most 15 ≡ 1287772038327090185647444526080
 most-whole = refl
 
+-- as much for each of at most 64 slots
 below_all : (c b m : ℕ) → c ≤ 64 → b ≤ c * m → b ≤ 64 * m
 below_all c b m h e = let f : c * m ≤ 64 * m = mul-le-mul_right m h in omega (arith, e, f)
 
 module _ {U V : Type 0} where
+  -- a lawful node stands as high as its way to its first leaf is long
   lawful_levels : (S : Shape) (n : PNode U V) (h : ℕ) (lo : List ℕ) (hi : Option (List ℕ)) → IsLawfulNode S n h lo hi → levels n ≡ h
   lawful_levels S (leaf es) h lo hi l = sym l.0
   lawful_levels S (inner none) h lo hi l = absurd l.3
@@ -51,6 +56,7 @@ module _ {U V : Type 0} where
   root_levels S h (inner (more lp ms n ss)) l = omega (arith, l.0, lawful_levels S n (pred h) lp (next_lo None ss) l.4.2)
 
   module _ (S : Shape) (few : S.fanout ≤ 64) (light : S.pending ≤ 1024) (short : S.leaf ≤ 1024) where
+    -- a lawful node has little itself
     own-lawful : (q : Quantity) (n : PNode U V) (h : ℕ) (lo : List ℕ) (hi : Option (List ℕ)) → IsLawfulNode S n h lo hi → own q n ≤ 1024
     own-lawful Slots (leaf es) h lo hi l = omega arith
     own-lawful Pending (leaf es) h lo hi l = omega arith
@@ -59,6 +65,7 @@ module _ {U V : Type 0} where
     own-lawful Pending (inner ss) h lo hi l = omega (arith, l.2, light)
     own-lawful Entries (inner ss) h lo hi l = omega arith
 
+    -- a lawful node has at most so much
     mutual
       total-lawful : (q : Quantity) (n : PNode U V) (h f : ℕ) (lo : List ℕ) (hi : Option (List ℕ)) → h ≤ f → IsLawfulNode S n h lo hi → total q n ≤ most f
       total-lawful q (leaf es) h f lo hi e l = omega (arith, own-lawful q (leaf es) h lo hi l, most-some f)
@@ -74,6 +81,7 @@ module _ {U V : Type 0} where
     root_total q (leaf es) h l o = absurd l
     root_total q (inner ss) h l o = omega (arith, o, l.2, few, most-whole, below_all (slot_count ss) (total_below q ss) (most 15) (omega (arith, l.2, few)) (below-lawful q ss h 15 None (omega (arith, l.1)) l.4))
 
+  -- a count that is exact where it is small is exact in a lawful tree
   exact_here : (t : PTree U V) (q : Quantity) (x : ℕ) → IsLawful t → x ≤ total q t.root → (x < 2 ^ 127 → x ≡ total q t.root) → own q t.root ≤ 18446744073709551615 * width t.root + 18446744073709551615 → x ≡ total q t.root
   exact_here t q x l low exact o =
       let s = small_shape t.shape l.shape in
@@ -84,10 +92,12 @@ module _ {U V : Type 0} where
   pub exact_total : (t : PTree U V) (q : Quantity) (x : ℕ) (n : PNode U V) → n ≡ t.root → IsLawful t → x ≤ total q n → (x < 2 ^ 127 → x ≡ total q n) → own q n ≤ 18446744073709551615 * width n + 18446744073709551615 → x ≡ total q t.root
   exact_total t q x n e l low exact o = exact_here t q x l (subst (λ z. x ≤ total q z) e low) (subst (λ z. x < 2 ^ 127 → x ≡ total q z) e exact) (subst (λ z. own q z ≤ 18446744073709551615 * width z + 18446744073709551615) e o)
 
+  -- a lawful root is at most 16 levels high
   low_root : (S : Shape) (a : PNode U V) (h : ℕ) → IsLawfulRoot S a h → h ≤ 16
   low_root S (leaf es) h l = absurd l
   low_root S (inner ss) h l = l.1
 
+  -- the same of its levels
   pub exact_levels : (t : PTree U V) (x : ℕ) (n : PNode U V) → n ≡ t.root → IsLawful t → x ≤ levels n → (x < 2 ^ 127 → x ≡ levels n) → x ≡ levels t.root
   exact_levels t x n e l low exact =
       let up : x ≤ levels t.root = subst (λ z. x ≤ levels z) e low in
@@ -96,5 +106,6 @@ module _ {U V : Type 0} where
       let most_levels = low_root t.shape t.root l.levels l.root in
       same (omega (arith, up, high, most_levels))
 
+  -- four right numbers are the report
   pub report_is : (t : PTree U V) (r : ShapeReport) → r.levels ≡ levels t.root → r.slots ≡ total Slots t.root → r.pending ≡ total Pending t.root → r.entries ≡ total Entries t.root → r ≡ report_of t
   report_is t r a b c d = λ i. record { levels = a i; slots = b i; pending = c i; entries = d i }

@@ -7,6 +7,7 @@ pub mod Meaning
 pub mod Lawful
 pub mod Appended
 pub mod Ready
+pub mod Leaves
 pub mod Places
 pub mod Site
 pub mod Sinks
@@ -14,4 +15,3 @@ pub mod Rows
 pub mod Steps
 pub mod RootSteps
 pub mod Report
-pub mod Leaves

@@ -102,6 +102,7 @@ module _ {U V : Type 0} where
   can_flush_leaf (more lo [] n ss) = false
   can_flush_leaf none = false
 
+  -- all children are leaves
   abbrev pub AreLeaves : PSlots U V → Type 0
   AreLeaves none = ⊤
   AreLeaves (more lo ms (leaf es) ss) = AreLeaves ss

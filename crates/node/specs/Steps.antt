@@ -109,6 +109,7 @@ abbrev pub root_slot : List ℕ → ℕ → ℕ
 root_slot [] i = i
 root_slot (j ∷ p) i = j
 
+-- how many root slots those are
 abbrev pub root_width : StepKind → List ℕ → ℕ
 root_width kind [] = width kind
 root_width kind (j ∷ p) = 1
@@ -127,12 +128,14 @@ OthersStay kind p i (leaf es) b = ⊥
 OthersStay kind p i (inner ss) (leaf es) = ⊥
 OthersStay kind p i (inner ss) (inner ts) = Spliced (λ e old new. starts_at (first_lo old) new) (root_slot p i) (root_width kind p) None ss ts
 
+-- what holds where the step is done
 abbrev pub IfDid : StepReply → (ℕ → Type 0) → Type 0
 IfDid (Did n) P = P n
 IfDid NotThere P = ⊤
 IfDid NoRoom P = ⊤
 IfDid NoMemory P = ⊤
 
+-- what holds where it is not
 abbrev pub UnlessDid : StepReply → Type 0 → Type 0
 UnlessDid (Did n) P = ⊤
 UnlessDid NotThere P = P

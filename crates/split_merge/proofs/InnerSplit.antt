@@ -30,6 +30,7 @@ use Rattle.node.proofs.Sinking.{pieces_end}
 use Rattle.node.proofs.Splice.{IsMore, slots-split, slot_count-take, slot_count-joined, pending-joined, lawful-spliced, lawful-split, slots_value-joined, counted-more, starts_at-joined}
 use Rattle.split_merge.specs.Halves.{IsHalved}
 
+-- what an insert leaves where it is not refused
 pub inserted : {T X : Type 0} {Y : Type 0} (r : Result T X) (a b : Y) → is_err r ≡ false → cond (is_ok r) a b ≡ a
 inserted (Ok x) a b h = refl
 inserted (Err e) a b h = (cc)
@@ -42,6 +43,7 @@ apart q p h = elim (reaches p q) as (λ c. reaches p q ≡ c → reaches p q ≡
 ] refl
 
 module _ {U V : Type 0} where
+  -- a message for one key stands on one side
   one_side : (x y z : Bool) (m : Msg U V) → (y ≡ true → z ≡ false) → length (option_to_list (cond (x && y) (Some m) None)) + length (option_to_list (cond (z && true) (Some m) None)) ≤ 1
   one_side true true true m h = absurd (let e = h refl in (cc))
   one_side true true false m h = omega arith
@@ -50,6 +52,7 @@ module _ {U V : Type 0} where
   one_side false y true m h = omega arith
   one_side false y false m h = omega arith
 
+  -- a part is at most one message
   at_most_one : (b : Bool) (m : Msg U V) → length (option_to_list (cond b (Some m) None)) ≤ 1
   at_most_one true m = omega arith
   at_most_one false m = omega arith
@@ -66,6 +69,7 @@ module _ {U V : Type 0} where
       omega (arith, pieces-apart lo p ms, a, b, length-append (option_to_list (cut_to lo (Some p) (DelRange r))) (pieces lo (Some p) ms), length-append (option_to_list (cut_to p None (DelRange r))) (pieces p None ms))
 
   module _ (S : Shape) (h : ℕ) where
+    -- lawful slots begin before their end
     first_in : (e : Option (List ℕ)) (lo : List ℕ) (ms : List (Msg U V)) (n : PNode U V) (ss : PSlots U V) → AreLawfulSlots S (more lo ms n ss) h e → is_below lo e ≡ true
     first_in e lo ms n none l = l.0
     first_in None lo ms n (more lp mt o ss) l = refl
@@ -77,41 +81,51 @@ module _ {U V : Type 0} where
     begins_behind e lo ms n none (more lp mt o y) q l = l.0
     begins_behind e lo ms n (more lp mt o x) y q l = le_lt lo lp (first_lo y) (reaches-from_before lo lp l.0) (begins_behind e lp mt o x y q l.3)
 
+  -- slots before others end where those begin
   next_lo-more : (e : Option (List ℕ)) (y : PSlots U V) → IsMore y → next_lo e y ≡ Some (first_lo y)
   next_lo-more e none q = absurd q
   next_lo-more e (more lo ms n ss) q = refl
 
+  -- slots begin where their first does
   begins_by-more : (y : PSlots U V) (k : List ℕ) → IsMore y → begins_by y k ≡ reaches (first_lo y) k
   begins_by-more none k q = absurd q
   begins_by-more (more lo ms n ss) k q = refl
 
+  -- they start there
   starts_at-more : (y : PSlots U V) → IsMore y → starts_at (first_lo y) y
   starts_at-more none q = absurd q
   starts_at-more (more lo ms n ss) q = refl
 
+  -- the slots before others start as all do
   starts_at-left : (l : List ℕ) (x y : PSlots U V) → IsMore x → starts_at l (joined x y) → starts_at l x
   starts_at-left l none y q h = absurd q
   starts_at-left l (more lo ms n ss) y q h = h
 
   module _ (means : U → Option V → Option V) (shape : Shape) (lo : List ℕ) (ms lm rm : List (Msg U V)) (x y : PSlots U V) (px : IsMore x) (py : IsMore y) (tl : Takes means [] (pieces lo (Some (first_lo y)) ms) lm) (tr : Takes means [] (pieces (first_lo y) None ms) rm) where
+    -- where the right part begins
     abbrev pivot : List ℕ
     pivot = first_lo y
 
+    -- the slot before the step
     abbrev old : PSlots U V
     old = more lo ms (inner (joined x y)) none
 
+    -- the two slots after it
     abbrev new : PSlots U V
     new = more lo lm (inner x) (more pivot rm (inner y) none)
 
     module _ (h : ℕ) (e : Option (List ℕ)) (l : AreLawfulSlots shape old h e) where
+      -- the left part begins before the pivot
       lo_before : (x : PSlots U V) → IsMore x → IsLawfulNode shape (inner (joined x y)) (pred h) lo e → before lo pivot ≡ true
       lo_before none q c = absurd q
       lo_before (more lp mt o x) q c = ap (λ z. before z pivot) (sym c.3) ∙ begins_behind shape (pred h) e lp mt o x y py c.4
 
+      -- the pivot stands before the end
       pivot_before : (y : PSlots U V) → IsMore y → AreLawfulSlots shape y (pred h) e → is_below (first_lo y) e ≡ true
       pivot_before none q c = absurd q
       pivot_before (more lp mt o y) q c = first_in shape (pred h) e lp mt o y c
 
+      -- the two slots are lawful
       lawful : AreLawfulSlots shape new h e
       lawful =
           let c = l.2 in
@@ -127,6 +141,7 @@ module _ {U V : Type 0} where
             (pivot_before y py s.1, right_inside, (c.0, omega (arith, c.1, n), omega (arith, c.2, p), starts_at-more y py, s.1), tt),
           )
 
+      -- no message sinks, and each means what it meant
       sinks : Sinks means 0 e old new
       sinks = record {
         starts = refl;
@@ -141,6 +156,7 @@ module _ {U V : Type 0} where
             ]) refl;
       }
 
+    -- what a split that is done has done to the node
     did : (root : Bool) (i : ℕ) (b a : PSlots U V) → slot_count b ≡ i → 1 ≤ slot_count x → 1 ≤ slot_count y → slot_count (joined b (joined old a)) < shape.fanout → (root ≡ false → pending (joined b (joined old a)) + range_count ms ≤ shape.pending) → Replies means SplitInner shape root i (Did 0) (joined b (joined old a)) (joined b (joined new a))
     did root i b a at_i cx cy few light h lp hi l able =
         let inside : AreLawfulSlots shape old h (next_lo hi a) = (lawful-split shape h hi old a (lawful-split shape h hi b (joined old a) l.each).1).0 in
@@ -165,15 +181,18 @@ module _ {U V : Type 0} where
           },
         )
 
+  -- the slots with one put behind another
   pub slots-insert : (xs : List (Slot U V)) (i : ℕ) (l r : Slot U V) → i < length xs → slots (map see_slot (set (insert xs (suc i) r) i l)) ≡ joined (slots (map see_slot (take i xs))) (more l.lo l.pending.0 l.child.value (more r.lo r.pending.0 r.child.value (slots (map see_slot (drop (suc i) xs)))))
   slots-insert [] i l r h = absurd (omega arith)
   slots-insert (x ∷ xs) zero l r h = refl
   slots-insert (x ∷ xs) (suc i) l r h = ap (more x.lo x.pending.0 x.child.value) (slots-insert xs i l r (omega arith))
 
+  -- slots end to end
   pub slots-append : (xs ys : List (Slot U V)) → slots (map see_slot (xs ++ ys)) ≡ joined (slots (map see_slot xs)) (slots (map see_slot ys))
   slots-append [] ys = refl
   slots-append (x ∷ xs) ys = ap (more x.lo x.pending.0 x.child.value) (slots-append xs ys)
 
+  -- where the first begins, as the code reads it
   pub first_lo-get : (xs : List (Slot U V)) (d : Slot U V) → 0 < length xs → (get_or xs 0 d).lo ≡ first_lo (slots (map see_slot xs))
   first_lo-get [] d h = absurd (omega arith)
   first_lo-get (x ∷ xs) d h = refl
@@ -189,6 +208,7 @@ module _ {U V : Type 0} where
       let core = did means shape s.lo s.pending.0 l.pending.0 r.pending.0 p.left p.right (counted-more p.left p.some_left) (counted-more p.right p.some_right) p.left_msgs p.right_msgs root i b a (slot_count-take xs i (omega arith)) p.some_left p.some_right small (λ z. subst (λ w. pending w + range_count s.pending.0 ≤ shape.pending) was (light z)) in
       subst (λ z. Replies means SplitInner shape root i (Did 0) z (slots (map see_slot (set (insert xs (suc i) r) i l)))) (sym was) (subst (λ z. Replies means SplitInner shape root i (Did 0) (joined b (more s.lo s.pending.0 (inner (joined p.left p.right)) a)) z) (sym is) core)
 
+  -- inside a list no default is read
   pub get_or-default : (xs : List (Slot U V)) (i : ℕ) (d e : Slot U V) → i < length xs → get_or xs i d ≡ get_or xs i e
   get_or-default [] i d e h = absurd (omega arith)
   get_or-default (x ∷ xs) zero d e h = refl

@@ -19,49 +19,50 @@ use Rattle.node.specs.Lawful.{IsLawfulNode, IsLawfulRoot, AreLawfulSlots, IsLawf
 use Rattle.node.specs.Rows.{emptied}
 use Rattle.node.specs.RootSteps.{levels, has_one_slot, with_root, RootRaised, AnswersUp}
 use Rattle.node.specs.Sinks.{msgs_at, child_value}
+use Rattle.node.proofs.Outcome.{clash}
+use Rattle.node.proofs.Placing.{and_false}
 use Rattle.node.proofs.Sizes.{root_levels}
 use Rattle.node.proofs.Splice.{slots_value_parts}
 use Rattle.split_merge.specs.Raised.{hollow, all_msgs, IsAbove, Raised, Refused}
 use Rattle.split_merge.proofs.Untouched.{effects_untouched}
 
-apart_bools : (x : Bool) → x ≡ false → x ≡ true → ⊥
-apart_bools true u v = (cc)
-apart_bools false u v = (cc)
-
-with_false : (b : Bool) → (b && false) ≡ false
-with_false true = refl
-with_false false = refl
-
 module _ {U V : Type 0} where
   -- k lies past a slot behind which one begins at or before k
   pub past : (lo : List ℕ) (hi : Option (List ℕ)) (ss : PSlots U V) (k : List ℕ) → begins_by ss k ≡ true → within lo (next_lo hi ss) k ≡ false
   past lo hi none k e = (cc)
-  past lo hi (more lp ms n ss) k e = ap (λ z. reaches lo k && z) (not_before_from_reaches lp k e) ∙ with_false (reaches lo k)
+  past lo hi (more lp ms n ss) k e = and_false (reaches lo k) (before k lp) (not_before_from_reaches lp k e)
 
+  -- slots seen without messages are the slots emptied
   pub emptied-hollow : (xs : List (Slot U V)) → slots (map hollow xs) ≡ emptied (slots (map see_slot xs))
   emptied-hollow [] = refl
   emptied-hollow (x ∷ xs) = ap (more x.lo [] x.child.value) (emptied-hollow xs)
 
+  -- emptied slots end as before
   next_lo-emptied : (hi : Option (List ℕ)) (ss : PSlots U V) → next_lo hi (emptied ss) ≡ next_lo hi ss
   next_lo-emptied hi none = refl
   next_lo-emptied hi (more lo ms n ss) = refl
 
+  -- and begin as before
   begins_by-emptied : (ss : PSlots U V) (k : List ℕ) → begins_by (emptied ss) k ≡ begins_by ss k
   begins_by-emptied none k = refl
   begins_by-emptied (more lo ms n ss) k = refl
 
+  -- and are as many
   slot_count-emptied : (ss : PSlots U V) → slot_count (emptied ss) ≡ slot_count ss
   slot_count-emptied none = refl
   slot_count-emptied (more lo ms n ss) = ap (λ z. z + 1) (slot_count-emptied ss)
 
+  -- and nothing waits in them
   pending-emptied : (ss : PSlots U V) → pending (emptied ss) ≡ 0
   pending-emptied none = refl
   pending-emptied (more lo ms n ss) = omega (arith, pending-emptied ss)
 
+  -- and the first starts as before
   starts_at-emptied : (lo : List ℕ) (ss : PSlots U V) → starts_at lo ss → starts_at lo (emptied ss)
   starts_at-emptied lo none h = h
   starts_at-emptied lo (more l ms n ss) h = h
 
+  -- all messages are those that wait
   length-all_msgs : (ss : PSlots U V) → length (all_msgs ss) ≡ pending ss
   length-all_msgs none = refl
   length-all_msgs (more lo ms n ss) = omega (arith, length-append ms (all_msgs ss), length-all_msgs ss)
@@ -70,6 +71,7 @@ module _ {U V : Type 0} where
   touch_only-all : (ms : List (Msg U V)) → TouchOnly [] None ms
   touch_only-all ms k out = absurd (let f : within [] None k ≡ true = ap (λ b. b && true) (from_start k) in (cc))
 
+  -- emptied slots stay lawful
   lawful-emptied : (S : Shape) (h : ℕ) (hi : Option (List ℕ)) (ss : PSlots U V) → AreLawfulSlots S ss h hi → AreLawfulSlots S (emptied ss) h hi
   lawful-emptied S h hi none l = tt
   lawful-emptied S h hi (more lo ms n ss) l =
@@ -83,10 +85,12 @@ module _ {U V : Type 0} where
     effects-later S h hi (more lo ms n ss) k v l e =
         effects-append means ms (all_msgs ss) k v ∙ effects-later S h hi ss k _ l.3 (not_behind lo ss k l.0 e) ∙ effects_untouched means ms k v (l.1 k (ap (λ z. z && is_below k (next_lo hi ss)) e))
       where
+        -- slots behind one that begins behind a key begin behind it
         not_by : (c : Bool) (lo lp k : List ℕ) → reaches lp k ≡ c → before lo lp ≡ true → reaches lo k ≡ false → c ≡ false
         not_by false lo lp k x y z = refl
         not_by true lo lp k x y z = sym (le_le lo lp k (reaches-from_before lo lp y) x) ∙ z
 
+        -- the same of the next slot
         not_behind : (lo : List ℕ) (ss : PSlots U V) (k : List ℕ) → is_below lo (next_lo hi ss) ≡ true → reaches lo k ≡ false → begins_by ss k ≡ false
         not_behind lo none k y z = refl
         not_behind lo (more lp mt o ss) k y z = not_by (reaches lp k) lo lp k refl y z
@@ -100,6 +104,7 @@ module _ {U V : Type 0} where
           | false ↦ λ e. effects-later S h hi ss k _ l.3 e
         ]) refl
 
+    -- emptied slots mean what their children mean
     child_value-emptied : (ss : PSlots U V) (k : List ℕ) → slots_value means (emptied ss) k ≡ child_value means ss k
     child_value-emptied none k = refl
     child_value-emptied (more lo ms n ss) k = ap (λ c. cond c (slots_value means (emptied ss) k) (value means n k)) (begins_by-emptied ss k) ∙ ap (λ z. cond (begins_by ss k) z (value means n k)) (child_value-emptied ss k)
@@ -108,16 +113,20 @@ module _ {U V : Type 0} where
     above-same : (S : Shape) (h : ℕ) (ss : PSlots U V) (b : PNode U V) (k : List ℕ) (v : Option V) → AreLawfulSlots S ss h None → (i : IsAbove means ss b) → effects means i.msgs k v ≡ effects means (msgs_at ss k) k v
     above-same S h ss b k v l i = i.taken.meaning k v ∙ effects-all S h None ss k v l
 
+    -- the root above means at each key what the old one meant
     pub value-above : (S : Shape) (h : ℕ) (ss : PSlots U V) (b : PNode U V) (k : List ℕ) → AreLawfulSlots S ss h None → IsAbove means ss b → value means b k ≡ slots_value means ss k
     value-above S h ss b k l i = ap (λ z. value means z k) i.is ∙ ap (effects means i.msgs k) (child_value-emptied ss k) ∙ above-same S h ss b k _ l i ∙ sym (slots_value_parts means ss k)
 
+    -- the root above is the old one raised
     raised-above : (S : Shape) (h : ℕ) (ss : PSlots U V) (b : PNode U V) → AreLawfulSlots S ss h None → IsAbove means ss b → RootRaised means (inner ss) b
     raised-above S h ss b l i = record { slots = ss; msgs = i.msgs; was = refl; is = i.is; same = λ k v. above-same S h ss b k v l i; no_more = omega (arith, i.taken.bound, length-all_msgs ss) }
 
+  -- what starts somewhere has a slot
   some_slot : (lo : List ℕ) (ss : PSlots U V) → starts_at lo ss → 1 ≤ slot_count ss
   some_slot lo none h = absurd h
   some_slot lo (more l ms n ss) h = omega arith
 
+  -- the root above is lawful, one level higher
   lawful-above : (means : U → Option V → Option V) (S : Shape) (h : ℕ) (ss : PSlots U V) (b : PNode U V) → IsLawfulRoot S (inner ss) h → levels (inner ss) < 16 → IsAbove means ss b → IsLawfulRoot S b (suc h)
   lawful-above means S h ss b l e i =
       let s = some_slot [] ss l.3 in
@@ -125,11 +134,13 @@ module _ {U V : Type 0} where
       subst (λ z. IsLawfulRoot S z (suc h)) (sym i.is)
       (omega arith, omega (arith, e, root_levels S h (inner ss) l), omega (arith, s, l.2), refl, (refl, touch_only-all i.msgs, (l.0, n, omega (arith, pending-emptied ss), starts_at-emptied [] ss l.3, lawful-emptied S h None ss l.4), tt))
 
+  -- one slot, as the code counts it
   pub one_slot : (xs : List (Slot U V)) (a : PNode U V) → inner (slots (map see_slot xs)) ≡ a → length xs ≡ 1 → has_one_slot a ≡ true
   one_slot [] a e h = absurd (omega arith)
   one_slot (x ∷ []) a e h = ap has_one_slot (sym e)
   one_slot (x ∷ (y ∷ xs)) a e h = absurd (omega arith)
 
+  -- any other number of slots
   pub other_slots : (xs : List (Slot U V)) (a : PNode U V) → inner (slots (map see_slot xs)) ≡ a → (length xs ≡ 1 → ⊥) → has_one_slot a ≡ false
   other_slots [] a e h = ap has_one_slot (sym e)
   other_slots (x ∷ []) a e h = absurd (h refl)
@@ -153,7 +164,7 @@ module _ {U V : Type 0} where
         value_kept = λ k. value-above means a.shape l.levels ss n k m.4 q.2;
         shape_kept = refl;
         did = (refl, raised-above means a.shape l.levels ss n m.4 q.2);
-        not_there = (λ z. (cc), λ z. absurd (apart_bools (has_one_slot (inner ss)) q.0 z));
+        not_there = (λ z. (cc), λ z. absurd (clash (has_one_slot (inner ss)) z q.0));
         no_room = λ z. (cc);
         unchanged = tt;
       }
@@ -162,5 +173,5 @@ module _ {U V : Type 0} where
   pub answers_refused : (means : U → Option V → Option V) (r : StepReply) (a : PTree U V) → Refused means r a.root → AnswersUp means r a a
   answers_refused means (Did n) a q = absurd q
   answers_refused means NotThere a q = record { value_kept = λ k. refl; shape_kept = refl; did = tt; not_there = (λ z. q, λ z. refl); no_room = λ z. (cc); unchanged = refl }
-  answers_refused means NoRoom a q = record { value_kept = λ k. refl; shape_kept = refl; did = tt; not_there = (λ z. (cc), λ z. absurd (apart_bools (has_one_slot a.root) q.0 z)); no_room = λ z. q.1; unchanged = refl }
-  answers_refused means NoMemory a q = record { value_kept = λ k. refl; shape_kept = refl; did = tt; not_there = (λ z. (cc), λ z. absurd (apart_bools (has_one_slot a.root) q z)); no_room = λ z. (cc); unchanged = refl }
+  answers_refused means NoRoom a q = record { value_kept = λ k. refl; shape_kept = refl; did = tt; not_there = (λ z. (cc), λ z. absurd (clash (has_one_slot a.root) z q.0)); no_room = λ z. q.1; unchanged = refl }
+  answers_refused means NoMemory a q = record { value_kept = λ k. refl; shape_kept = refl; did = tt; not_there = (λ z. (cc), λ z. absurd (clash (has_one_slot a.root) z q)); no_room = λ z. (cc); unchanged = refl }

@@ -5,6 +5,7 @@ use Rattle.message.specs.Effects.{touches, any_touches, made_of, effect, effects
 use Rattle.node.proofs.Sinking.{neither}
 
 module _ {U V : Type 0} (means : U → Option V → Option V) where
+  -- what no message touches stays
   pub effects_untouched : (ms : List (Msg U V)) (k : List ℕ) (v : Option V) → any_touches ms k ≡ false → effects means ms k v ≡ v
   effects_untouched [] k v h = refl
   effects_untouched (m ∷ ms) k v h =

@@ -8,8 +8,6 @@
 pub mod lists;
 pub mod root;
 pub mod split;
-#[cfg(test)]
-mod tests;
 
 pub use node::StepReply;
 pub use root::root_up;

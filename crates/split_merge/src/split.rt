@@ -19,6 +19,9 @@ use pathkey::{Key, NoMemory};
 use std::alloc::Global;
 use std::sync::Arc;
 
+#[cfg(test)]
+mod tests;
+
 /// How many of the messages are range-deletes.
 fn ranges_in<U: Update>(msgs: &[Msg<U>]) -> usize
     ensures { result ≡ range_count msgs.now }

@@ -1,7 +1,7 @@
 use Rattle.std.proofs.Common.{rules, [], None}
 use Rattle.std.proofs.lemmas.List.Sorted.{IsPartitionPoint-from_clause}
 use Rattle.message.specs.Ranges.{before}
-use Rattle.node.proofs.EntryFacts.{entries_partitioned, is_count}
+use Rattle.node.proofs.EntryPlaces.{entries_partitioned, is_count}
 use Rattle.node.proofs.node.leaf.count_before.Goals as goal
 
 pub returns : goal.returns

@@ -1,6 +1,6 @@
-use Rattle.std.proofs.Common.{sym, ap, ◌∙◌, ◌≡◌, ◌≤◌, ◌/◌, ◌-◌, ◌+◌, subst, length, take, drop, arith, List, ℕ}
+use Rattle.std.proofs.Common.{sym, ◌≤◌, ◌/◌, ◌-◌, ◌+◌, subst, length, drop, arith}
 use Rattle.node.specs.Leaves.{IsDivided}
-use Rattle.node.proofs.EntryFacts.{is_divided}
+use Rattle.node.proofs.Halves.{is_divided}
 use Rattle.node.proofs.node.leaf.divide.Goals as goal
 
 pub returns-clause-ok : goal.returns-clause-ok

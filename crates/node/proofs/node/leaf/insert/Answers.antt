@@ -1,4 +1,4 @@
-use Rattle.std.proofs.Common.{sym, subst, ap, ◌∙◌, insert, None, Some}
+use Rattle.std.proofs.Common.{sym, subst, ap, ◌∙◌, insert, Some}
 use Rattle.pathkey.specs.Order.{same}
 use Rattle.node.specs.Leaves.{IsChanged}
 use Rattle.node.proofs.LeafChanges.{is_inserted, is_absent, is_changed_to}

@@ -1,6 +1,6 @@
 use Rattle.std.proofs.Common.{rules, sym, ◌∙◌, ◌≡◌, ◌<◌, ◌≤◌, length, get_or, true, false, arith}
 use Rattle.pathkey.specs.Order.{same}
-use Rattle.node.proofs.EntryFacts.{is_entry, is_gap, is_gap_at}
+use Rattle.node.proofs.EntryPlaces.{is_entry, is_gap, is_gap_at}
 use Rattle.node.proofs.node.leaf.position.Goals as goal
 
 pub returns-in-Some : goal.returns-in-Some

@@ -1,4 +1,4 @@
-use Rattle.std.proofs.Common.{sym, subst, ◌≡◌, None, Some, refl, ap}
+use Rattle.std.proofs.Common.{sym, subst, None}
 use Rattle.pathkey.specs.Order.{same}
 use Rattle.node.specs.Leaves.{IsChanged}
 use Rattle.node.proofs.LeafChanges.{is_replaced, is_removed, is_changed_to}
