@@ -45,6 +45,13 @@ impl<U: Update> Pending<U> {
         self.msgs.len()
     }
 
+    /// The messages, the oldest first. It takes no memory.
+    pub fn as_slice(&self) -> &[Msg<U>]
+        ensures { result.now ≡ self.now.0 }
+    {
+        self.msgs.as_slice()
+    }
+
     /// Makes room for so many messages more. The messages and the room that was there stay, whatever it
     /// answers, and it is refused only where it needed more room.
     pub fn reserve(&mut self, more: usize) -> Result<(), NoMemory>
