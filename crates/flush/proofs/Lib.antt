@@ -1,3 +1,4 @@
 pub mod Counts
 pub mod Flushable
 pub mod InnerFlush
+pub mod LeafFlush

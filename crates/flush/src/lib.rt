@@ -5,7 +5,9 @@
 #![tactic(auto)]
 
 pub mod inner;
+pub mod leaf;
 pub mod meets;
 
 pub use inner::flush_inner;
+pub use leaf::flush_leaf;
 pub use node::StepReply;

@@ -53,6 +53,13 @@ not_before_from_reaches a k f = not_lt_back (by_bytes a k) (by_bytes k a) (nat_l
 pub before_from_not_reaches : (a k : List ℕ) → reaches a k ≡ false → before k a ≡ true
 before_from_not_reaches a k f = lt_back (by_bytes a k) (by_bytes k a) (nat_list_cmp_total.antisymm k a) f
 
+-- a key before another is not reached by it
+pub not_reaches_from_before : (q p : List ℕ) → before q p ≡ true → reaches p q ≡ false
+not_reaches_from_before q p h = elim (reaches p q) as (λ c. reaches p q ≡ c → reaches p q ≡ false) [
+  | true ↦ λ e. absurd (let f : before q p ≡ false = not_before_from_reaches p q e in (cc))
+  | false ↦ λ e. e
+] refl
+
 -- the empty key stands at or before every key
 pub from_start : (k : List ℕ) → reaches [] k ≡ true
 from_start [] = refl

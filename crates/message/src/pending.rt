@@ -38,6 +38,13 @@ impl<U: Update> Pending<U> {
         }
     }
 
+    /// A list of these messages, the oldest first. It takes no memory.
+    pub fn of(msgs: Vec<Msg<U>>) -> Pending<U>
+        ensures { Takes U.means [] msgs.items result.0 }
+    {
+        Pending { msgs }
+    }
+
     /// How many messages the list holds.
     pub fn len(&self) -> usize
         ensures { result ≡ length self.now.0 }

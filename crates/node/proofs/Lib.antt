@@ -6,11 +6,14 @@ pub mod EntryFacts
 pub mod EntryPlaces
 pub mod Halves
 pub mod LeafChanges
+pub mod Fewer
 pub mod Applying
 pub mod At
 pub mod There
 pub mod Splice
 pub mod Kept
 pub mod Outcome
+pub mod Parting
+pub mod Doing
 pub mod Sinking
 pub mod Sizes

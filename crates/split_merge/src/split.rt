@@ -2,7 +2,7 @@
 ghost use Rattle.std.specs.Prelude.{◌≡◌, ◌≤◌, ◌<◌, length, map, IfOk};
 ghost use Rattle.node.specs.Places.{way};
 ghost use Rattle.node.specs.Pure.{slots as slots_of, inner};
-ghost use Rattle.node.specs.Rows.{range_count, can_split_inner, is_divisible as is_divided};
+ghost use Rattle.node.specs.Rows.{can_split_inner, is_divisible as is_divided};
 ghost use Rattle.node.specs.See.{see_slot};
 ghost use Rattle.node.specs.Site.{slots_from};
 ghost use Rattle.node.specs.Steps.{Answers, Replies};
@@ -13,7 +13,7 @@ use crate::lists::{all_of, list_of};
 use message::{Msg, Update};
 use node::node::append::pieces;
 use node::node::copy::copy_slots;
-use node::node::count::held;
+use node::node::count::{held, ranges_in};
 use node::{Body, Change, Node, Place, Shape, Slot, StepReply, Tree};
 use pathkey::{Key, NoMemory};
 use std::alloc::Global;
@@ -21,19 +21,6 @@ use std::sync::Arc;
 
 #[cfg(test)]
 mod tests;
-
-/// How many of the messages are range-deletes.
-fn ranges_in<U: Update>(msgs: &[Msg<U>]) -> usize
-    ensures { result ≡ range_count msgs.now }
-{
-    let mut count = 0;
-    for msg in msgs {
-        if let Msg::DelRange(_) = msg {
-            count += 1;
-        }
-    }
-    count
-}
 
 /// A node over copies of the slots, which share the children.
 fn node_over<U: Update>(alloc: Global, slots: &[Slot<U>]) -> Result<Arc<Node<U>>, NoMemory>

@@ -1,8 +1,10 @@
 //! A change of the slots of one node, which a walk down the tree brings to its place.
-ghost use Rattle.std.specs.Prelude.{◌≡◌, map};
+ghost use Rattle.std.specs.Prelude.{◌≡◌, IsTrue, map};
 ghost use Rattle.std.specs.Option.{option_copied};
-ghost use Rattle.node.specs.Pure.{slots as slots_of};
+ghost use Rattle.node.specs.Pure.{slots as slots_of, inner};
+ghost use Rattle.node.specs.Ready.{IsSearchable};
 ghost use Rattle.node.specs.See.{see_slot};
+ghost use Rattle.node.specs.Shapes.{is_shape};
 ghost use Rattle.node.specs.Site.{slots_from};
 ghost use Rattle.node.specs.Steps.{can, Replies};
 ghost use Rattle.node.specs.declared.step.StepKind.{StepKind};
@@ -32,5 +34,7 @@ pub trait Change<U: Update> {
         slots: &mut Vec<Slot<U>>,
         i: usize,
     ) -> StepReply
+        requires shape { IsTrue (is_shape shape) }
+        requires searchable { IsSearchable (inner (slots_of (map see_slot slots.old.items))) }
         ensures { Replies U.means kind shape root i result (slots_of (map see_slot slots.old.items)) (slots_of (map see_slot slots.new.items)) };
 }

@@ -3,12 +3,13 @@ ghost use Rattle.std.specs.Prelude.{◌≡◌, ◌≤◌, ◌<◌, ◌+◌, ◌*
 ghost use Rattle.node.specs.Lawful.{pending as pending_of};
 ghost use Rattle.node.specs.Report.{own as own_of, total as total_of, width};
 ghost use Rattle.node.specs.RootSteps.{levels};
+ghost use Rattle.node.specs.Rows.{range_count};
 ghost use Rattle.node.specs.Pure.{slots as slots_of};
 ghost use Rattle.node.specs.See.{see_slot};
 
 use super::{Body, Node, Slot};
 use crate::report::Quantity;
-use message::Update;
+use message::{Msg, Update};
 
 /// How many messages wait in the slots, but at most `usize::MAX`. It takes no memory.
 pub fn held<U: Update>(slots: &[Slot<U>]) -> usize
@@ -19,6 +20,19 @@ pub fn held<U: Update>(slots: &[Slot<U>]) -> usize
         None => 0,
         Some((first, rest)) => first.pending.len().saturating_add(held(rest)),
     }
+}
+
+/// How many of the messages are range-deletes. It takes no memory.
+pub fn ranges_in<U: Update>(msgs: &[Msg<U>]) -> usize
+    ensures { result ≡ range_count msgs.now }
+{
+    let mut count = 0;
+    for msg in msgs {
+        if let Msg::DelRange(_) = msg {
+            count += 1;
+        }
+    }
+    count
 }
 
 /// How many messages wait in the slots. It takes no memory.

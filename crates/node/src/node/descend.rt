@@ -1,6 +1,8 @@
 //! The walks down to the place of a step: the first finds by `&` whether the step can be done, the second does it.
-ghost use Rattle.std.specs.Prelude.{◌≡◌, map};
+ghost use Rattle.std.specs.Prelude.{◌≡◌, IsTrue, map};
 ghost use Rattle.std.specs.Option.{option_copied};
+ghost use Rattle.node.specs.Ready.{IsSearchable};
+ghost use Rattle.node.specs.Shapes.{is_shape};
 ghost use Rattle.node.specs.Steps.{At, Replies, there};
 
 use super::change::Change;
@@ -51,6 +53,8 @@ pub fn descend<U: Update, C: Change<U>>(
     place: &[u8],
     slot: usize,
 ) -> StepReply
+    requires shape { IsTrue (is_shape shape) }
+    requires searchable { IsSearchable node.old.value }
     ensures { At place.now result (Replies U.means C.kind shape root slot result) node.old.value node.new.value }
 {
     let Ok(own) = Arc::make_mut(node) else {

@@ -1,9 +1,11 @@
-use Rattle.std.proofs.Common.{◌≡◌, arith, ap, sym, ◌∙◌, refl, ⊎_elim, ◌<◌, ◌≤◌, length, is_ok, ◌∷◌, None, map}
+use Rattle.std.proofs.Common.{◌≡◌, arith, rules, subst, ap, sym, ◌∙◌, refl, ⊎_elim, ◌<◌, ◌≤◌, length, is_ok, ◌∷◌, None, map}
 use Rattle.node.specs.See.{see, see_slot}
 use Rattle.node.specs.Pure.{inner, slots}
 use Rattle.node.specs.Site.{slots_at}
+use Rattle.node.specs.Ready.{IsSearchable}
 use Rattle.node.specs.Steps.{Replies}
 use Rattle.node.specs.declared.step.StepReply.TheVariants.{NotThere, NoMemory}
+use Rattle.node.proofs.Placing.{searchable_child}
 use Rattle.node.proofs.At.{at_below, at_same, at_none, of_child-past}
 use Rattle.node.proofs.node.descend.+descend.Goals as goal
 
@@ -32,3 +34,16 @@ returns g t c =
     let own = ⊎_elim (λ x. x) (λ x. x) (rw c.in-Ok.is at c.make_mut.ensures.value) in
     let R = Replies g.U.Update.means g.C.Change.kind c.args.shape c.args.root c.args.slot c.descend.result in
     at_below c.args.place.now c.in-Some.rest.now c.descend.result R items i c.index_mut.result.now _ c.descend.new.node.value c.args.node.now.value _ c.in-Some.ensures.cases.0 h c.index_mut.ensures.value refl refl refl c.descend.ensures (ap see (sym c.in-Inner.is) ∙ c.own.view_is ∙ own) (c.make_mut.follows.holds _ (ap is_ok c.in-Ok.is))
+
+pub descend-requires : goal.descend-requires
+descend-requires g t c κs within =
+    let items = c.in-Inner.slots.items in
+    let i = c.in-Some.first.now in
+    let s = c.index_mut.result.now in
+    let own = ⊎_elim (λ x. x) (λ x. x) (rw c.in-Ok.is at c.make_mut.ensures.value) in
+    let was : inner (slots (map see_slot items)) ≡ c.args.node.now.value = ap see (sym c.in-Inner.is) ∙ c.own.view_is ∙ own in
+    let all = subst IsSearchable (sym was) c.requires.searchable in
+    let child = searchable_child items i s (omega arith) all.1 in
+    let here : IsSearchable s.child.value = subst (λ x. IsSearchable x.child.value) (sym c.index_mut.ensures.value) child in
+    let short : length c.in-Some.rest.now < length c.args.place.now = omega (arith, ap length c.in-Some.ensures.cases.0) in
+    (omega (arith, short), (search rules, (search rules, (search rules, (c.requires.shape, here)))))

@@ -1,6 +1,7 @@
 use Rattle.std.proofs.Common.{◌≡◌, ap, sym, ◌∙◌, subst, true, None}
 use Rattle.node.specs.Steps.{At, Replies, there}
 use Rattle.node.proofs.Outcome.{outcome, is_top-is, Outcome, answers}
+use Rattle.node.proofs.Placing.{searchable_root}
 use Rattle.node.proofs.tree.Tree.step_below.Goals as goal
 use Rattle.node.proofs.tree.Tree.step_below.Goals.{After-descend}
 
@@ -18,3 +19,6 @@ invariant_of-self g c = record { shape = c.self.invariant.shape; levels = c.self
 
 pub returns : goal.returns
 returns g c = answers g.U.Update.means g.C.Change.kind c.self.inside.shape c.args.slot c.args.numbers.now c.self.invariant.levels c.descend.result c.self.inside.root.value c.descend.new.node.value c.args.self.now c.self.view_is (able g c) (done g c)
+
+pub descend-requires-clause-searchable : goal.descend-requires-clause-searchable
+descend-requires-clause-searchable g c = searchable_root c.self.inside.shape c.self.invariant.levels c.self.inside.root.value c.self.invariant.root

@@ -1,6 +1,6 @@
 use Rattle.std.proofs.Common.{◌≡◌, ◌+◌, ◌≤◌, drop}
 use Rattle.node.specs.Rows.{range_count}
-use Rattle.split_merge.proofs.split.ranges_in.Given as goal
+use Rattle.node.proofs.node.count.ranges_in.Given as goal
 
 abbrev pub invariant-loop-msg : goal.invariant-loop-msg
 invariant-loop-msg g l = record {

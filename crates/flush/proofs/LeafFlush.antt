@@ -1,0 +1,257 @@
+-- A flush of one slot into a leaf, in the words of its row.
+use Rattle.std.proofs.Common.{◌≡◌, ℕ, suc, ◌+◌, ◌-◌, ◌*◌, ◌<◌, ◌≤◌, Bool, true, false, List, [], ◌∷◌, ◌++◌, length, get_or, take, drop, map, refl, ap, sym, ◌∙◌, subst, arith, cond, Option, Some, None, pred, inl, inr, length-drop, length-append}
+use Rattle.std.specs.Prelude.{◌&&◌, nat_le, IsTrue, ◌⊎◌, ⊤, Result, Ok, Err, is_ok, is_err, OnOk, OnErr}
+use Rattle.std.proofs.Math.ListN.{set}
+use Rattle.std.proofs.Math.Seq.{take-length}
+use Rattle.std.specs.List.{insert}
+use Rattle.pathkey.specs.Order.{same}
+use Rattle.pathkey.proofs.OrderFacts.{same_true}
+use Rattle.message.specs.declared.msg.Msg.{Msg}
+use Rattle.message.specs.Cuts.{pieces}
+use Rattle.message.specs.Effects.{touches, made_of, effect, Takes}
+use Rattle.std.proofs.lemmas.Bool.{leb-true}
+use Rattle.message.proofs.KeyOrder.{both, not_before_from_reaches, before_from_not_reaches}
+use Rattle.node.specs.declared.node.Slot.{Slot}
+use Rattle.node.specs.declared.shape.Shape.{Shape}
+use Rattle.node.specs.declared.step.StepReply.{StepReply}
+use Rattle.node.specs.declared.step.StepReply.TheVariants.{Did, NotThere, NoRoom, NoMemory}
+use Rattle.node.specs.declared.step.StepKind.TheVariants.{FlushLeaf}
+use Rattle.node.specs.Shapes.{is_between, is_shape}
+use Rattle.node.specs.See.{see_slot}
+use Rattle.node.specs.Pure.{PNode, leaf, inner, PSlots, none, more, slots}
+use Rattle.node.specs.Lawful.{Rises, AreLawfulSlots, slot_count, pending, next_lo}
+use Rattle.node.specs.Leaves.{Applied, IsDivided, IsPlace}
+use Rattle.node.specs.Meaning.{lookup}
+use Rattle.node.specs.Rows.{can_flush_leaf, LeafHasNoRoom}
+use Rattle.node.specs.Site.{joined, slots_from}
+use Rattle.node.specs.Sinks.{Sinks}
+use Rattle.node.specs.Steps.{Formed, Replies}
+use Rattle.node.proofs.Applying.{rising_applied}
+use Rattle.node.proofs.Doing.{replies_did, slots-insert}
+use Rattle.node.proofs.Fewer.{no_more}
+use Rattle.node.proofs.Parting.{Parted, parted_pieces, parted_lawful, parted_sinks}
+use Rattle.node.proofs.Sinking.{touch_only-take, touch_only-drop}
+use Rattle.node.proofs.Splice.{slots-split, slots-set_split, slot_count-take, slots_from-joined, slot_count-joined, pending-joined, lawful-split}
+use Rattle.flush.specs.Leaf.{AddsNone, Absorbed, Filled, left, AfterOldest, KeptOne, IsHalved, HasRoom, LacksRoom}
+
+-- what the code reads as the rest of a list
+abbrev pub rest : {T : Type 0} → List T → List T
+rest xs = take (length xs - 1) (drop 1 xs)
+
+-- it is all but the first
+pub rest_is : {T : Type 0} (xs : List T) → rest xs ≡ drop 1 xs
+rest_is xs = let n : length xs - 1 ≡ length (drop 1 xs) = omega (arith, length-drop 1 xs) in ap (λ i. take i (drop 1 xs)) n ∙ take-length (drop 1 xs)
+
+-- a leaf of an allowed shape has room for four entries
+pub some_leaf : (S : Shape) → IsTrue (is_shape S) → 4 ≤ S.leaf
+some_leaf S h =
+    let p = both (is_between 4 64 S.fanout && is_between S.fanout 1024 S.pending) (is_between 4 1024 S.leaf) h in
+    leb-true 4 S.leaf (both (nat_le 4 S.leaf) (nat_le S.leaf 1024) p.1).0
+
+-- what an insert leaves where it is not refused
+pub inserted : {T X : Type 0} {Y : Type 0} (r : Result T X) (a b : Y) → is_err r ≡ false → cond (is_ok r) a b ≡ a
+inserted (Ok x) a b h = refl
+inserted (Err e) a b h = (cc)
+
+-- what holds of a result that is one
+pub applied_ok : {T X : Type 0} (r : Result T X) (A : Type 0) → OnOk r A → is_ok r ≡ true → A
+applied_ok (Ok x) A a h = a
+applied_ok (Err e) A a h = (cc)
+
+-- and of one that is none
+pub same_err : {T X : Type 0} (r : Result T X) (A : Type 0) → OnErr r A → is_ok r ≡ false → A
+same_err (Ok x) A a h = (cc)
+same_err (Err e) A a h = a
+
+module _ {U V : Type 0} (means : U → Option V → Option V) where
+  -- ---- room for a message
+
+  -- a message for a key with a value adds none
+  pub adds_none-at : (m : Msg U V) (es : List (List ℕ × V)) (q : List ℕ) (v : V) → ((k : List ℕ) → touches m k ≡ same q k) → lookup es q ≡ Some v → AddsNone means es m
+  adds_none-at m es q v t h k n = elim (touches m k) as (λ b. touches m k ≡ b → cond b (made_of means m None) None ≡ None) [
+    | true ↦ λ e. absurd (let w : lookup es q ≡ None = subst (λ z. lookup es z ≡ None) (sym (same_true q k (sym (t k) ∙ e))) n in (cc))
+    | false ↦ λ e. refl
+  ] refl
+
+  -- as a search found it
+  pub adds_none-found : (m : Msg U V) (es : List (List ℕ × V)) (q : List ℕ) (r : Result ℕ ℕ) → ((k : List ℕ) → touches m k ≡ same q k) → IsPlace es q r → is_err r ≡ false → AddsNone means es m
+  adds_none-found m [] q (Ok i) t p f = absurd (let b : i < 0 = p.bound in omega (arith, b))
+  adds_none-found m (x ∷ es) q (Ok i) t p f = adds_none-at m (x ∷ es) q (get_or (x ∷ es) i x).1 t (p.value x)
+  adds_none-found m es q (Err i) t p f = (cc)
+
+  -- nor does one that takes values away
+  pub adds_none-gone : (m : Msg U V) (es : List (List ℕ × V)) → made_of means m None ≡ None → AddsNone means es m
+  adds_none-gone m es h k n = elim (touches m k) as (λ b. cond b (made_of means m None) None ≡ None) [ true ↦ h | false ↦ refl ]
+
+  -- a leaf with room for a message stays within the limit
+  pub stays_within : (most : ℕ) (m : Msg U V) (es new : List (List ℕ × V)) → Rises [] None es → Applied means (m ∷ []) es new → (length es < most) ⊎ AddsNone means es m → length es ≤ most → length new ≤ most
+  stays_within most m es new r a (inl h) l = omega (arith, a.longer)
+  stays_within most m es new r a (inr h) l = omega (arith, l, no_more [] [] None None new es (rising_applied means (m ∷ []) es new a r) r (λ k n. a.value k ∙ ap (λ o. effect means m k o) n ∙ h k n))
+
+  -- ---- the flush in place
+
+  -- what became of the slot whose leaf took messages
+  absorbed : (shape : Shape) (n : ℕ) (lo : List ℕ) (ms : List (Msg U V)) (es fs : List (List ℕ × V)) → 1 ≤ n → n ≤ length ms → Applied means (take n ms) es fs → (length es ≤ shape.leaf → length fs ≤ shape.leaf) → (h : ℕ) (e : Option (List ℕ)) → AreLawfulSlots shape (more lo ms (leaf es) none) h e → Sinks means n e (more lo ms (leaf es) none) (more lo (drop n ms) (leaf fs) none) × Formed means FlushLeaf n (more lo ms (leaf es) none) (more lo (drop n ms) (leaf fs) none) × AreLawfulSlots shape (more lo (drop n ms) (leaf fs) none) h e
+  absorbed shape n lo ms es fs one has a fits h e l = (
+    record { starts = refl; below = λ k w. a.value k; above = λ k v w. refl },
+    record { lo = lo; msgs = ms; entries = es; some = one; has = has; was = refl; leaves = tt; uncut = λ z. (fs, refl); pieces_grow = omega arith },
+    (l.0, touch_only-drop n lo e ms l.1, (l.2.0, fits l.2.1, a.rises lo e l.2.2 (touch_only-take n lo e ms l.1)), tt),
+  )
+
+  -- what can be done at a slot rests on its messages and its child
+  same_there : (lo lp : List ℕ) (ms : List (Msg U V)) (c : PNode U V) (a x : PSlots U V) → can_flush_leaf (more lo ms c a) ≡ can_flush_leaf (more lp ms c x)
+  same_there lo lp [] c a x = refl
+  same_there lo lp (m ∷ ms) (leaf es) a x = refl
+  same_there lo lp (m ∷ ms) (inner cs) a x = refl
+
+  -- a reply is not that there is no room
+  abbrev pub HasSpace : StepReply → Type 0
+  HasSpace (Did n) = ⊤
+  HasSpace NotThere = ⊤
+  HasSpace NoRoom = ⊥
+  HasSpace NoMemory = ⊤
+
+  -- as a match shows it
+  pub has_space : (r : StepReply) → (r ≡ NoRoom → ⊥) → HasSpace r
+  has_space (Did n) h = tt
+  has_space NotThere h = tt
+  has_space NoRoom h = h refl
+  has_space NoMemory h = tt
+
+  module _ (shape : Shape) (root : Bool) (i : ℕ) (b a : PSlots U V) (lo : List ℕ) (at_i : slot_count b ≡ i) where
+    -- nothing can be done at the slot between b and a
+    unable : (ms : List (Msg U V)) (c : PNode U V) → can_flush_leaf (more [] ms c none) ≡ false → (z : PSlots U V) → z ≡ joined b (more lo ms c a) → can_flush_leaf (slots_from i z) ≡ false
+    unable ms c q z is = ap (λ y. can_flush_leaf (slots_from i y)) is ∙ ap can_flush_leaf (slots_from-joined i b (more lo ms c a) at_i) ∙ same_there lo [] ms c a none ∙ q
+
+    -- what each reply but that of no room says of the node
+    in_place : (r : StepReply) (ms : List (Msg U V)) (c d : PNode U V) → HasSpace r → Filled means shape.leaf r ms c d → Replies means FlushLeaf shape root i r (joined b (more lo ms c a)) (joined b (more lo (left r ms) d a))
+    in_place (Did n) ms (inner cs) d s q = absurd q.2
+    in_place (Did n) ms (leaf es) (inner ds) s q = absurd q.2
+    in_place (Did n) ms (leaf es) (leaf fs) s q =
+        replies_did means FlushLeaf shape root i n b (more lo ms (leaf es) none) (more lo (drop n ms) (leaf fs) none) a at_i refl tt tt refl (λ z. z) (λ r z. omega (arith, z, length-drop n ms)) (λ h e l. absorbed shape n lo ms es fs q.0 q.1 q.2.0 q.2.1 h e l)
+    in_place NotThere ms c d s q = (ap (λ z. joined b (more lo ms z a)) q.0, λ hi. unable ms c q.1 (joined b (more lo ms c a)) refl)
+    in_place NoRoom ms c d s q = absurd s
+    in_place NoMemory ms c d s q = ap (λ z. joined b (more lo ms z a)) q
+
+    -- ---- the leaf cut in two
+
+    module _ (m : Msg U V) (ms lm rm : List (Msg U V)) (es new front back : List (List ℕ × V)) (pivot : List ℕ) (p : Applied means (m ∷ []) es new) (d : IsDivided new front back pivot) where
+      -- the slot before
+      abbrev old : PSlots U V
+      old = more lo (m ∷ ms) (leaf es) none
+
+      -- the slots after
+      abbrev two : PSlots U V
+      two = more lo lm (leaf front) (more pivot rm (leaf back) none)
+
+      -- the oldest message went into the leaf, and the others were cut with it
+      pub leaf_parted : Takes means [] (pieces lo (Some pivot) ms) lm → Takes means [] (pieces pivot None ms) rm → Parted means 1 lo pivot (m ∷ ms) lm rm (leaf es) (leaf front) (leaf back)
+      leaf_parted l r = record {
+        left_msgs = l;
+        right_msgs = r;
+        below = λ k f. sym (d.below k (before_from_not_reaches pivot k f)) ∙ p.value k;
+        above = λ k f. sym (d.above k (not_before_from_reaches pivot k f)) ∙ p.value k;
+      }
+
+      module _ (tl : Takes means [] (pieces lo (Some pivot) ms) lm) (tr : Takes means [] (pieces pivot None ms) rm) where
+        -- what became of the slot
+        cut_in_two : length new ≤ shape.leaf + 1 → (h : ℕ) (e : Option (List ℕ)) → AreLawfulSlots shape old h e → Sinks means 1 e old two × Formed means FlushLeaf 1 old two × AreLawfulSlots shape two h e
+        cut_in_two few h e l =
+            let q = leaf_parted tl tr in
+            let sum : length new ≡ length front + length back = ap length d.parts ∙ length-append front back in
+            let rise = d.rise lo e (p.rises lo e l.2.2 (touch_only-take 1 lo e (m ∷ ms) l.1)) in (
+              parted_sinks means 1 lo pivot (m ∷ ms) lm rm (leaf es) (leaf front) (leaf back) q e,
+              record { lo = lo; msgs = m ∷ ms; entries = es; some = omega arith; has = omega arith; was = refl; leaves = tt; uncut = λ z. absurd (omega arith); pieces_grow = omega (arith, parted_pieces means 1 lo pivot (m ∷ ms) lm rm (leaf es) (leaf front) (leaf back) q) },
+              parted_lawful means 1 lo pivot (m ∷ ms) lm rm (leaf es) (leaf front) (leaf back) q shape h e l.1 rise.0 rise.1 (l.2.0, omega (arith, few, sum, d.back_some), rise.2) (l.2.0, omega (arith, few, sum, d.front_some), rise.3),
+            )
+
+        -- what the cut of a leaf has done to the node
+        pub was_cut : HasRoom shape root (joined b (more lo (m ∷ ms) (leaf es) a)) ms → Replies means FlushLeaf shape root i (Did 1) (joined b (more lo (m ∷ ms) (leaf es) a)) (joined b (more lo lm (leaf front) (more pivot rm (leaf back) a)))
+        was_cut room h lp hi l able =
+            let n = slot_count-joined b (more lo (m ∷ ms) (leaf es) a) in
+            let w = pending-joined b (more lo (m ∷ ms) (leaf es) a) in
+            let q = leaf_parted tl tr in
+            let here : AreLawfulSlots shape old h (next_lo hi a) = (lawful-split shape h hi old a (lawful-split shape h hi b (joined old a) l.each).1).0 in
+            let small : length es ≤ shape.leaf = here.2.1 in
+            let few : length new ≤ shape.leaf + 1 = omega (arith, small, p.longer) in
+            let grow = parted_pieces means 1 lo pivot (m ∷ ms) lm rm (leaf es) (leaf front) (leaf back) q in
+            replies_did means FlushLeaf shape root i 1 b old two a at_i refl tt tt refl (λ z. omega (arith, room.0, n)) (λ r z. let y = room.1 r (omega (arith, w, z)) in omega (arith, y, w, grow)) (cut_in_two few) h lp hi l able
+
+-- ---- the same of the slots as the code writes them
+
+module _ {U V : Type 0} (means : U → Option V → Option V) where
+  -- entries that have the oldest message, as a leaf
+  as_absorbed : (most : ℕ) (ms : List (Msg U V)) (c : PNode U V) (new : List (List ℕ × V)) → AfterOldest means ms c new → length new ≤ most → (1 ≤ length ms) × Absorbed means most (take 1 ms) c (leaf new)
+  as_absorbed most [] c new q l = absurd q
+  as_absorbed most (m ∷ ms) (inner cs) new q l = absurd q
+  as_absorbed most (m ∷ ms) (leaf es) new q l = (omega arith, (q, λ z. l))
+
+  module _ (shape : Shape) (root : Bool) (i : ℕ) (xs : List (Slot U V)) (s : Slot U V) (h : i < length xs) (at : s ≡ get_or xs i s) where
+    -- the slots before it
+    abbrev before : PSlots U V
+    before = slots (map see_slot (take i xs))
+
+    -- and behind it
+    abbrev after : PSlots U V
+    after = slots (map see_slot (drop (suc i) xs))
+
+    -- there are i before it
+    number : slot_count before ≡ i
+    number = slot_count-take xs i (omega arith)
+
+    -- the slot between them
+    was : slots (map see_slot xs) ≡ joined before (more s.lo s.pending.0 s.child.value after)
+    was = slots-split xs i s h ∙ ap (λ (x : Slot U V). joined before (more x.lo x.pending.0 x.child.value after)) (sym at)
+
+    -- another in its place, which begins where it does
+    is : (t : Slot U V) → t.lo ≡ s.lo → slots (map see_slot (set xs i t)) ≡ joined before (more s.lo t.pending.0 t.child.value after)
+    is t e = slots-set_split xs i t h ∙ ap (λ z. joined before (more z t.pending.0 t.child.value after)) e
+
+    -- where nothing can be done
+    pub not_there : can_flush_leaf (more [] s.pending.0 s.child.value none) ≡ false → can_flush_leaf (slots_from i (slots (map see_slot xs))) ≡ false
+    not_there q = unable means shape root i before after s.lo number s.pending.0 s.child.value q (slots (map see_slot xs)) was
+
+    -- a flush in place
+    pub filled : (t : Slot U V) (r : StepReply) → t.lo ≡ s.lo → HasSpace means r → t.pending.0 ≡ left r s.pending.0 → Filled means shape.leaf r s.pending.0 s.child.value t.child.value → Replies means FlushLeaf shape root i r (slots (map see_slot xs)) (slots (map see_slot (set xs i t)))
+    filled t r e space p q =
+        let core = in_place means shape root i before after s.lo number r s.pending.0 s.child.value t.child.value space q in
+        let now : slots (map see_slot (set xs i t)) ≡ joined before (more s.lo (left r s.pending.0) t.child.value after) = is t e ∙ ap (λ z. joined before (more s.lo z t.child.value after)) p in
+        subst (λ z. Replies means FlushLeaf shape root i r z (slots (map see_slot (set xs i t)))) (sym was) (subst (λ z. Replies means FlushLeaf shape root i r (joined before (more s.lo s.pending.0 s.child.value after)) z) (sym now) core)
+
+    -- a slot that means the same leaves them
+    pub unfilled : (t : Slot U V) → t.lo ≡ s.lo → t.pending.0 ≡ s.pending.0 → t.child.value ≡ s.child.value → slots (map see_slot (set xs i t)) ≡ slots (map see_slot xs)
+    unfilled t e p c = is t e ∙ (λ j. joined before (more s.lo (p j) (c j) after)) ∙ sym was
+
+    -- entries with the oldest message in the leaf's place
+    pub kept : (t : Slot U V) (r : StepReply) (new : List (List ℕ × V)) → KeptOne r new s t → AfterOldest means s.pending.0 s.child.value new → length new ≤ shape.leaf → Replies means FlushLeaf shape root i r (slots (map see_slot xs)) (slots (map see_slot (set xs i t)))
+    kept t (Did n) new q o l =
+        let a = as_absorbed shape.leaf s.pending.0 s.child.value new o l in
+        let one : Filled means shape.leaf (Did 1) s.pending.0 s.child.value t.child.value = (omega arith, a.0, subst (λ z. Absorbed means shape.leaf (take 1 s.pending.0) s.child.value z) (sym q.3) a.1) in
+        subst (λ z. Replies means FlushLeaf shape root i (Did z) (slots (map see_slot xs)) (slots (map see_slot (set xs i t)))) (sym q.0) (filled t (Did 1) q.1 tt q.2 one)
+    kept t NotThere new q o l = absurd q
+    kept t NoRoom new q o l = absurd q
+    kept t NoMemory new q o l = unfilled t (ap (λ (x : Slot U V). x.lo) q) (ap (λ (x : Slot U V). x.pending.0) q) (ap (λ (x : Slot U V). x.child.value) q)
+
+    -- where the leaf is too large and cannot be cut
+    full : (ms : List (Msg U V)) (c : PNode U V) (new : List (List ℕ × V)) (z : PSlots U V) → AfterOldest means ms c new → Rises [] None new → shape.leaf < length new → LacksRoom shape root z (drop 1 ms) → LeafHasNoRoom means shape root z (more s.lo ms c after)
+    full [] c new z q r l o = absurd q
+    full (m ∷ ms) (inner cs) new z q r l o = absurd q
+    full (m ∷ ms) (leaf es) new z q r l o = (record { after = new; rises = r; same = q.value; many = l }, o)
+
+    -- the same of all slots
+    pub no_room : (new : List (List ℕ × V)) → AfterOldest means s.pending.0 s.child.value new → Rises [] None new → shape.leaf < length new → LacksRoom shape root (slots (map see_slot xs)) (drop 1 s.pending.0) → LeafHasNoRoom means shape root (slots (map see_slot xs)) (slots_from i (slots (map see_slot xs)))
+    no_room new q r l o = subst (λ z. LeafHasNoRoom means shape root (slots (map see_slot xs)) z) (sym (ap (slots_from i) was ∙ slots_from-joined i before (more s.lo s.pending.0 s.child.value after) number)) (full s.pending.0 s.child.value new (slots (map see_slot xs)) q r l o)
+
+    -- the leaf cut in two
+    cut : (ms : List (Msg U V)) (c : PNode U V) (new : List (List ℕ × V)) (l r : Slot U V) → AfterOldest means ms c new → IsHalved means s.lo new (drop 1 ms) l r → HasRoom shape root (joined before (more s.lo ms c after)) (drop 1 ms) → Replies means FlushLeaf shape root i (Did 1) (joined before (more s.lo ms c after)) (joined before (more l.lo l.pending.0 l.child.value (more r.lo r.pending.0 r.child.value after)))
+    cut [] c new l r q p o = absurd q
+    cut (m ∷ ms) (inner cs) new l r q p o = absurd q
+    cut (m ∷ ms) (leaf es) new l r q p o =
+        let core = was_cut means shape root i before after s.lo number m ms l.pending.0 r.pending.0 es new p.front p.back r.lo q p.divided p.left_msgs p.right_msgs o in
+        subst (λ z. Replies means FlushLeaf shape root i (Did 1) (joined before (more s.lo (m ∷ ms) (leaf es) after)) z) (λ j. joined before (more (sym p.left_lo j) l.pending.0 (sym p.left_is j) (more r.lo r.pending.0 (sym p.right_is j) after))) core
+
+    -- the same of all slots
+    pub halved : (new : List (List ℕ × V)) (l r : Slot U V) → AfterOldest means s.pending.0 s.child.value new → IsHalved means s.lo new (drop 1 s.pending.0) l r → HasRoom shape root (slots (map see_slot xs)) (drop 1 s.pending.0) → Replies means FlushLeaf shape root i (Did 1) (slots (map see_slot xs)) (slots (map see_slot (set (insert xs (suc i) r) i l)))
+    halved new l r q p o =
+        let core = cut s.pending.0 s.child.value new l r q p (subst (λ z. HasRoom shape root z (drop 1 s.pending.0)) was o) in
+        subst (λ z. Replies means FlushLeaf shape root i (Did 1) z (slots (map see_slot (set (insert xs (suc i) r) i l)))) (sym was) (subst (λ z. Replies means FlushLeaf shape root i (Did 1) (joined before (more s.lo s.pending.0 s.child.value after)) z) (sym (slots-insert xs i l r h)) core)

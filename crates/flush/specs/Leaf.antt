@@ -1,0 +1,75 @@
+-- What becomes of one slot and its leaf when messages are applied to it.
+use Rattle.std.specs.Prelude.{◌≡◌, ℕ, ◌+◌, ◌-◌, ◌<◌, ◌≤◌, ◌⊎◌, Bool, true, false, List, [], ◌∷◌, Option, Some, None, length, take, drop, slice_index_or}
+use Rattle.message.specs.declared.msg.Msg.{Msg}
+use Rattle.message.specs.Cuts.{pieces}
+use Rattle.message.specs.Effects.{effect, Takes}
+use Rattle.node.specs.declared.node.Slot.{Slot}
+use Rattle.node.specs.declared.shape.Shape.{Shape}
+use Rattle.node.specs.declared.step.StepReply.{StepReply}
+use Rattle.node.specs.declared.step.StepReply.TheVariants.{Did, NotThere, NoRoom, NoMemory}
+use Rattle.node.specs.Lawful.{slot_count, pending}
+use Rattle.node.specs.Leaves.{Applied, IsDivided}
+use Rattle.node.specs.Meaning.{lookup}
+use Rattle.node.specs.Pure.{PNode, leaf, inner, PSlots, none, more}
+use Rattle.node.specs.Rows.{range_count, can_flush_leaf}
+
+module _ {U V : Type 0} (means : U → Option V → Option V) where
+  -- a key without a value has none after the message either
+  abbrev pub AddsNone : List (List ℕ × V) → Msg U V → Type 0
+  AddsNone es m = (k : List ℕ) → lookup es k ≡ None → effect means m k None ≡ None
+
+  -- the entries of the leaf c under the messages are those of the leaf d, which stays within the limit
+  abbrev pub Absorbed : ℕ → List (Msg U V) → PNode U V → PNode U V → Type 0
+  Absorbed most ms (leaf es) (leaf fs) = Applied means ms es fs × (length es ≤ most → length fs ≤ most)
+  Absorbed most ms (leaf es) (inner ds) = ⊥
+  Absorbed most ms (inner cs) d = ⊥
+
+  -- what the reply of a flush in place says of a slot's messages and its leaf, before and after
+  abbrev pub Filled : ℕ → StepReply → List (Msg U V) → PNode U V → PNode U V → Type 0
+  Filled most (Did n) ms c d = (1 ≤ n) × (n ≤ length ms) × Absorbed most (take n ms) c d
+  Filled most NotThere ms c d = (d ≡ c) × (can_flush_leaf (more [] ms c none) ≡ false)
+  Filled most NoRoom ms c d = d ≡ c
+  Filled most NoMemory ms c d = d ≡ c
+
+  -- these are the entries of the leaf c after the oldest message
+  abbrev pub AfterOldest : List (Msg U V) → PNode U V → List (List ℕ × V) → Type 0
+  AfterOldest [] c new = ⊥
+  AfterOldest (m ∷ ms) (leaf es) new = Applied means (m ∷ []) es new
+  AfterOldest (m ∷ ms) (inner cs) new = ⊥
+
+  -- the same of the slot with this number
+  abbrev pub AfterOldestAt : ℕ → List (Slot U V) → List (List ℕ × V) → Type 0
+  AfterOldestAt i xs new = (s : Slot U V) → s ≡ slice_index_or xs i s → AfterOldest s.pending.0 s.child.value new
+
+  -- the slots l and r are a slot from lo on whose leaf has these entries, cut in the middle, with the messages cut there
+  pub record IsHalved (lo : List ℕ) (entries : List (List ℕ × V)) (rest : List (Msg U V)) (l r : Slot U V) : Type 0 where
+    pub front : List (List ℕ × V)
+    pub back : List (List ℕ × V)
+    pub divided : IsDivided entries front back r.lo
+    pub left_is : l.child.value ≡ leaf front
+    pub right_is : r.child.value ≡ leaf back
+    pub left_lo : l.lo ≡ lo
+    pub left_msgs : Takes means [] (pieces lo (Some r.lo) rest) l.pending.0
+    pub right_msgs : Takes means [] (pieces r.lo None rest) r.pending.0
+
+-- the messages that a reply leaves in their slot
+abbrev pub left : {U V : Type 0} → StepReply → List (Msg U V) → List (Msg U V)
+left (Did n) ms = drop n ms
+left NotThere ms = ms
+left NoRoom ms = ms
+left NoMemory ms = ms
+
+-- what the reply says of one slot, whose oldest message the entries have
+abbrev pub KeptOne : {U V : Type 0} → StepReply → List (List ℕ × V) → Slot U V → Slot U V → Type 0
+KeptOne (Did n) es s t = (n ≡ 1) × (t.lo ≡ s.lo) × (t.pending.0 ≡ drop 1 s.pending.0) × (t.child.value ≡ leaf es)
+KeptOne NotThere es s t = ⊥
+KeptOne NoRoom es s t = ⊥
+KeptOne NoMemory es s t = t ≡ s
+
+-- a node with these slots can take one slot more, and the messages of one of them without the oldest in two parts
+abbrev pub HasRoom : {U V : Type 0} → Shape → Bool → PSlots U V → List (Msg U V) → Type 0
+HasRoom shape root ss rest = (slot_count ss < shape.fanout) × (root ≡ false → pending ss ≤ shape.pending → pending ss + range_count rest ≤ shape.pending + 1)
+
+-- it cannot
+abbrev pub LacksRoom : {U V : Type 0} → Shape → Bool → PSlots U V → List (Msg U V) → Type 0
+LacksRoom shape root ss rest = (shape.fanout ≤ slot_count ss) ⊎ ((root ≡ false) × (shape.pending < (pending ss - 1) + range_count rest))

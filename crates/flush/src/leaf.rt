@@ -1,0 +1,330 @@
+//! A flush into a leaf.
+//!
+//! Messages are applied to the leaf in its place, the oldest first, as many as it has room for. Only where the leaf is
+//! full and the oldest message needs an entry more is the leaf cut in two, on a copy: one message then leaves the slot,
+//! and the next flush finds a leaf with half its room free.
+ghost use Rattle.std.specs.Prelude.{◌≡◌, ◌≤◌, ◌<◌, ◌∷◌, [], None, true, false, length, map, take, drop, ◌⊎◌, ⊤, IsTrue, IfOk, MatchOption};
+ghost use Rattle.node.specs.Lawful.{Rises};
+ghost use Rattle.node.specs.Leaves.{Applied};
+ghost use Rattle.node.specs.Places.{way};
+ghost use Rattle.node.specs.Pure.{slots as slots_of, inner, none, more};
+ghost use Rattle.node.specs.Ready.{IsSearchable};
+ghost use Rattle.node.specs.Rows.{can_flush_leaf};
+ghost use Rattle.node.specs.See.{see_slot};
+ghost use Rattle.node.specs.Shapes.{is_shape};
+ghost use Rattle.node.specs.Site.{slots_from};
+ghost use Rattle.node.specs.Steps.{Answers, Replies};
+ghost use Rattle.node.specs.declared.step.StepKind.TheVariants.{FlushLeaf};
+ghost use Rattle.flush.specs.Leaf.{AddsNone, Filled, left, AfterOldest, AfterOldestAt, KeptOne, IsHalved, HasRoom, LacksRoom};
+
+use message::{Msg, Pending, Update};
+use node::node::append::pieces;
+use node::node::count::{held, ranges_in};
+use node::node::leaf::{applied, apply, divide, position};
+use node::{Body, Change, Node, Place, Shape, Slot, StepReply, Tree};
+use pathkey::{Key, NoMemory};
+use std::alloc::Global;
+use std::sync::Arc;
+
+/// Whether the message may give a value to a key that has none. It takes no memory.
+fn may_add<U: Update>(entries: &[(Key, U::Value)], msg: &Msg<U>) -> bool
+    requires { Rises [] None entries.now }
+    ensures { result ≡ false → AddsNone U.means entries.now msg.now }
+{
+    match msg {
+        Msg::Put(key, _) | Msg::Edit(key, _) => position(entries, key).is_err(),
+        Msg::Del(_) | Msg::DelRange(_) => false,
+    }
+}
+
+/// Whether a leaf of at most `most` entries stays one under the message. It takes no memory.
+fn has_room<U: Update>(entries: &[(Key, U::Value)], msg: &Msg<U>, most: usize) -> bool
+    requires { Rises [] None entries.now }
+    ensures { result ≡ true → length entries.now < most ⊎ AddsNone U.means entries.now msg.now }
+{
+    entries.len() < most || !may_add(entries, msg)
+}
+
+/// Applies the message where there is room for it, and says whether it did.
+fn apply_within<U: Update>(
+    alloc: Global,
+    entries: &mut Vec<(Key, U::Value)>,
+    msg: &Msg<U>,
+    most: usize,
+) -> bool
+    requires { Rises [] None entries.old.items }
+    ensures applied { result ≡ true → Applied U.means (msg.now ∷ []) entries.old.items entries.new.items }
+    ensures few { result ≡ true → length entries.old.items ≤ most → length entries.new.items ≤ most }
+    ensures same { result ≡ false → entries.new.items ≡ entries.old.items }
+{
+    if !has_room(entries.as_slice(), msg, most) {
+        return false;
+    }
+    apply(alloc, entries, msg).is_ok()
+}
+
+/// Applies messages to entries, the oldest first, up to one for which there may be no room or that is refused memory,
+/// and counts them.
+fn fill<U: Update>(
+    alloc: Global,
+    entries: &mut Vec<(Key, U::Value)>,
+    msgs: &[Msg<U>],
+    most: usize,
+) -> usize
+    requires { Rises [] None entries.old.items }
+    ensures within { result ≤ length msgs.now }
+    ensures small { result < 4294967296 }
+    ensures applied { Applied U.means (take result msgs.now) entries.old.items entries.new.items }
+    ensures few { length entries.old.items ≤ most → length entries.new.items ≤ most }
+    ensures none { result ≡ 0 → entries.new.items ≡ entries.old.items }
+{
+    let mut count = 0;
+    for msg in msgs {
+        if count == 4294967295 || !apply_within(alloc, entries, msg, most) {
+            return count;
+        }
+        count += 1;
+    }
+    count
+}
+
+/// Applies as many of the messages to the leaf as its room takes, in its place.
+///
+/// It answers `NoRoom` where there may be no room for the oldest.
+fn absorb<U: Update>(
+    alloc: Global,
+    most: u16,
+    msgs: &[Msg<U>],
+    child: &mut Arc<Node<U>>,
+) -> StepReply
+    requires { IsSearchable child.old.value }
+    ensures { Filled U.means most result msgs.now child.old.value child.new.value }
+{
+    if msgs.is_empty() {
+        return StepReply::NotThere;
+    }
+    let Ok(own) = Arc::make_mut(child) else {
+        return StepReply::NoMemory;
+    };
+    let Body::Leaf(entries) = &mut own.body else {
+        return StepReply::NotThere;
+    };
+    if !has_room(entries.as_slice(), &msgs[0], most as usize) {
+        return StepReply::NoRoom;
+    }
+    let count = fill(alloc, entries, msgs, most as usize);
+    if count == 0 {
+        return StepReply::NoMemory;
+    }
+    StepReply::Did(count as u32)
+}
+
+/// The same of a slot, which loses the messages that its leaf has.
+fn absorb_oldest<U: Update>(alloc: Global, most: u16, slot: &mut Slot<U>) -> StepReply
+    requires { IsSearchable slot.old.child.value }
+    ensures lo { slot.new.lo ≡ slot.old.lo }
+    ensures left { slot.new.pending.0 ≡ left result slot.old.pending.0 }
+    ensures filled { Filled U.means most result slot.old.pending.0 slot.old.child.value slot.new.child.value }
+{
+    let reply = absorb(alloc, most, slot.pending.as_slice(), &mut slot.child);
+    if let StepReply::Did(count) = reply {
+        slot.pending.drop_front(count as usize);
+    }
+    reply
+}
+
+/// The entries of the slot's leaf after its oldest message; `None` where it has no message or no leaf.
+fn after_oldest<U: Update>(
+    alloc: Global,
+    slot: &Slot<U>,
+) -> Result<Option<Vec<(Key, U::Value)>>, NoMemory>
+    requires { IsSearchable slot.now.child.value }
+    ensures found { IfOk result (λ r. MatchOption r (can_flush_leaf (more [] slot.now.pending.0 slot.now.child.value none) ≡ false) (λ v. AfterOldest U.means slot.now.pending.0 slot.now.child.value v.items)) }
+    ensures rising { IfOk result (λ r. MatchOption r ⊤ (λ v. Rises [] None v.items)) }
+{
+    let msgs = slot.pending.as_slice();
+    if msgs.is_empty() {
+        return Ok(None);
+    }
+    match slot.child.body() {
+        Body::Leaf(entries) => Ok(Some(applied(alloc, entries.as_slice(), &msgs[..1])?)),
+        Body::Inner(_) => Ok(None),
+    }
+}
+
+/// Puts entries into the place of the slot's leaf, whose oldest message they have.
+fn keep<U: Update>(alloc: Global, slot: &mut Slot<U>, entries: Vec<(Key, U::Value)>) -> StepReply
+    requires { 0 < length slot.old.pending.0 }
+    ensures { KeptOne result entries.items slot.old slot.new }
+{
+    let Ok(child) = Arc::new(alloc, Node { body: Body::Leaf(entries) }) else {
+        return StepReply::NoMemory;
+    };
+    slot.child = child;
+    slot.pending.drop_front(1);
+    StepReply::Did(1)
+}
+
+/// Whether a node has room for one slot more and, below the root, for the range-deletes among `rest` that would stand
+/// in both parts of a slot whose oldest message is gone. It takes no memory.
+fn can_part<U: Update>(shape: Shape, root: bool, slots: &[Slot<U>], rest: &[Msg<U>]) -> bool
+    ensures room { result ≡ true → HasRoom shape root (slots_of (map see_slot slots.now)) rest.now }
+    ensures none { result ≡ false → LacksRoom shape root (slots_of (map see_slot slots.now)) rest.now }
+{
+    if slots.len() >= shape.fanout as usize {
+        return false;
+    }
+    root || held(slots).saturating_add(ranges_in(rest)) <= shape.pending as usize + 1
+}
+
+/// The halves of a slot from `lo` on: over the halves of the entries, each with its part of the messages.
+fn halves<U: Update>(
+    alloc: Global,
+    lo: &Key,
+    entries: Vec<(Key, U::Value)>,
+    rest: &[Msg<U>],
+) -> Result<(Slot<U>, Slot<U>), NoMemory>
+    requires two { 2 ≤ length entries.items }
+    requires rising { Rises [] None entries.items }
+    ensures { IfOk result (λ p. IsHalved U.means lo.now entries.items rest.now p.0 p.1) }
+{
+    let mut front = entries;
+    let (pivot, back) = divide(alloc, &mut front)?;
+    let left = Slot {
+        lo: lo.copy(alloc)?,
+        pending: Pending::of(pieces(alloc, lo, Some(&pivot), rest)?),
+        child: Arc::new(alloc, Node { body: Body::Leaf(front) })?,
+    };
+    let right = Slot {
+        pending: Pending::of(pieces(alloc, &pivot, None, rest)?),
+        child: Arc::new(alloc, Node { body: Body::Leaf(back) })?,
+        lo: pivot,
+    };
+    Ok((left, right))
+}
+
+/// Cuts the slot with number `i` in two, over the halves of these entries, which have its oldest message.
+fn part<U: Update>(
+    alloc: Global,
+    shape: Shape,
+    root: bool,
+    slots: &mut Vec<Slot<U>>,
+    i: usize,
+    entries: Vec<(Key, U::Value)>,
+) -> StepReply
+    requires shape { IsTrue (is_shape shape) }
+    requires bound { i < length slots.old.items }
+    requires many { shape.leaf < length entries.items }
+    requires rising { Rises [] None entries.items }
+    requires after { AfterOldestAt U.means i slots.old.items entries.items }
+    ensures { Replies U.means FlushLeaf shape root i result (slots_of (map see_slot slots.old.items)) (slots_of (map see_slot slots.new.items)) }
+{
+    let slot = &slots[i];
+    let rest = &slot.pending.as_slice()[1..];
+    if !can_part(shape, root, slots.as_slice(), rest) {
+        return StepReply::NoRoom;
+    }
+    let Ok((left, right)) = halves(alloc, &slot.lo, entries, rest) else {
+        return StepReply::NoMemory;
+    };
+    if slots.insert(i + 1, right).is_err() {
+        return StepReply::NoMemory;
+    }
+    slots[i] = left;
+    StepReply::Did(1)
+}
+
+/// Applies the oldest message of a slot to a copy of its leaf, which is cut in two where it is too large.
+fn apply_oldest<U: Update>(
+    alloc: Global,
+    shape: Shape,
+    root: bool,
+    slots: &mut Vec<Slot<U>>,
+    i: usize,
+) -> StepReply
+    requires shape { IsTrue (is_shape shape) }
+    requires bound { i < length slots.old.items }
+    requires searchable { IsSearchable (inner (slots_of (map see_slot slots.old.items))) }
+    ensures { Replies U.means FlushLeaf shape root i result (slots_of (map see_slot slots.old.items)) (slots_of (map see_slot slots.new.items)) }
+{
+    let Ok(after) = after_oldest(alloc, &slots[i]) else {
+        return StepReply::NoMemory;
+    };
+    let Some(entries) = after else {
+        return StepReply::NotThere;
+    };
+    if entries.len() <= shape.leaf as usize {
+        return keep(alloc, &mut slots[i], entries);
+    }
+    part(alloc, shape, root, slots, i, entries)
+}
+
+/// Whether the slot with number `i` has a message and a leaf below it. It takes no memory.
+fn is_flushable<U: Update>(slots: &[Slot<U>], i: usize) -> bool
+    ensures { result ≡ can_flush_leaf (slots_from i (slots_of (map see_slot slots.now))) }
+{
+    if i >= slots.len() {
+        return false;
+    }
+    let slot = &slots[i];
+    if slot.pending.len() == 0 {
+        return false;
+    }
+    slot.child.is_leaf()
+}
+
+/// Flushes the slot with number `i` of a node.
+fn flush_slot<U: Update>(
+    alloc: Global,
+    shape: Shape,
+    root: bool,
+    slots: &mut Vec<Slot<U>>,
+    i: usize,
+) -> StepReply
+    requires shape { IsTrue (is_shape shape) }
+    requires searchable { IsSearchable (inner (slots_of (map see_slot slots.old.items))) }
+    ensures { Replies U.means FlushLeaf shape root i result (slots_of (map see_slot slots.old.items)) (slots_of (map see_slot slots.new.items)) }
+{
+    if i >= slots.len() {
+        return StepReply::NotThere;
+    }
+    let slot = &mut slots[i];
+    match absorb_oldest(alloc, shape.leaf, slot) {
+        StepReply::NoRoom => apply_oldest(alloc, shape, root, slots, i),
+        reply => reply,
+    }
+}
+
+/// The flush of one slot into a leaf.
+struct LeafFlush;
+
+impl<U: Update> Change<U> for LeafFlush {
+    ghost kind = { FlushLeaf };
+
+    fn can(&self, slots: &[Slot<U>], i: usize, _hi: Option<&Key>) -> bool {
+        is_flushable(slots, i)
+    }
+
+    fn change(
+        &self,
+        alloc: Global,
+        shape: Shape,
+        root: bool,
+        slots: &mut Vec<Slot<U>>,
+        i: usize,
+    ) -> StepReply {
+        flush_slot(alloc, shape, root, slots, i)
+    }
+}
+
+/// Applies the oldest messages of a slot to its child, a leaf, which is cut in two where it would be too large.
+///
+/// It takes as many messages as the leaf has room for, and one where the leaf is cut. It answers `NotThere`, without
+/// memory, where the node, the slot or a message is missing or the child is an inner node, and `NoRoom` where the leaf
+/// would be too large after the first message and the node has no room for one slot more or, below the root, for the
+/// range-deletes that would stand in both slots.
+pub fn flush_leaf<U: Update>(alloc: Global, tree: &mut Tree<U>, at: Place, slot: u8) -> StepReply
+    ensures { Answers U.means FlushLeaf (way at) slot result tree.old tree.new }
+{
+    tree.step(alloc, &LeafFlush, at, slot)
+}

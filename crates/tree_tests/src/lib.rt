@@ -1,0 +1,14 @@
+//! Tests of whole trees: messages go in, steps of every kind work between, and each look-up is compared with a plain
+//! row of numbers under the same messages.
+#![tactic(auto)]
+
+pub mod digit;
+pub mod random;
+pub mod row;
+
+pub use digit::Digit;
+pub use random::Random;
+pub use row::{KEYS, Message, Row, key};
+
+#[cfg(test)]
+mod tests;
