@@ -1,3 +1,5 @@
 pub mod Counts
 pub mod Flushable
 pub mod InnerFlush
+pub mod Loads
+pub mod Walks

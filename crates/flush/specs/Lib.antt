@@ -1,1 +1,2 @@
 pub mod Sunk
+pub mod Heaviest

@@ -6,6 +6,8 @@
 
 pub mod inner;
 pub mod meets;
+pub mod weigh;
 
 pub use inner::flush_inner;
 pub use node::StepReply;
+pub use weigh::heaviest;
