@@ -2,4 +2,5 @@ pub mod Counts
 pub mod Flushable
 pub mod InnerFlush
 pub mod Loads
+pub mod Named
 pub mod Walks

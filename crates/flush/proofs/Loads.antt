@@ -1,49 +1,17 @@
 -- The first heaviest of loads that come one after the other, and how many messages they have in all.
-use Rattle.std.proofs.Common.{◌≡◌, ℕ, zero, suc, pred, ◌+◌, ◌++◌, ◌<◌, ◌≤◌, List, [], ◌∷◌, length, get_or, take, map, refl, ap, sym, ◌∙◌, subst, Option, Some, None, arith, add-one}
+use Rattle.std.proofs.Common.{◌≡◌, ℕ, zero, suc, ◌+◌, ◌++◌, ◌<◌, ◌≤◌, List, [], ◌∷◌, length, get_or, take, map, refl, ap, sym, ◌∙◌, subst, Option, Some, None, arith, add-one}
 use Rattle.std.specs.List.{All, sum_by}
 use Rattle.std.proofs.lemmas.List.{append_assoc, append-nil}
-use Rattle.std.proofs.lemmas.List.Elements.{All-nil, All-cons, All-append, All-push, All-same, All-weaker}
+use Rattle.std.proofs.lemmas.List.Elements.{All-weaker}
 use Rattle.std.proofs.lemmas.List.Sums.{sum_by-cons, sum_by-append, sum_by-le}
 use Rattle.flush.specs.declared.weigh.Candidate.{Candidate}
-use Rattle.flush.specs.Heaviest.{Load, load_of, flush_into, own_loads, loads, loads_below, IsFirstHeaviest, IsBest, weight}
+use Rattle.flush.specs.Heaviest.{Load, load_of, flush_into, own_loads, loads, loads_below, IsFirstHeaviest, IsBest}
 use Rattle.node.specs.declared.node.Slot.{Slot}
 use Rattle.node.specs.declared.report.Quantity.TheVariants.{Pending}
 use Rattle.node.specs.Lawful.{pending}
 use Rattle.node.specs.Pure.{PNode, leaf, inner, PSlots, none, more, slots}
 use Rattle.node.specs.Report.{total, total_below}
 use Rattle.node.specs.See.{see_slot}
-
--- no load is heavier than the best
-none_heavier : (best : Option Candidate) (ls : List Load) → IsBest best ls → All (λ l. l.count ≤ weight best) ls
-none_heavier None ls h = All-weaker (λ l. l.count ≡ 0) (λ l. l.count ≤ 0) (λ l e. omega arith) ls h
-none_heavier (Some c) ls h =
-    let l = load_of c.step c.count in
-    let front = All-weaker (λ m. m.count < c.count) (λ m. m.count ≤ c.count) (λ m e. omega arith) h.before h.lighter in
-    let back = All-cons (λ m. m.count ≤ c.count) l h.after (omega arith) h.no_heavier in
-    All-same (λ m. m.count ≤ c.count) ls (h.before ++ l ∷ h.after) h.is (All-append (λ m. m.count ≤ c.count) h.before (l ∷ h.after) front back)
-
--- the best stays so behind which a load comes that is no heavier
-pub best_kept : (best : Option Candidate) (ls : List Load) (l : Load) → l.count ≤ weight best → IsBest best ls → IsBest best (ls ++ l ∷ [])
-best_kept None ls l h b = All-push (λ m. m.count ≡ 0) ls l b (omega arith)
-best_kept (Some c) ls l h b = record {
-  before = b.before;
-  after = b.after ++ l ∷ [];
-  is = ap (λ z. z ++ l ∷ []) b.is ∙ append_assoc b.before (load_of c.step c.count ∷ b.after) (l ∷ []);
-  some = b.some;
-  lighter = b.lighter;
-  no_heavier = All-push (λ m. m.count ≤ c.count) b.after l b.no_heavier h;
-}
-
--- a heavier load is the best
-pub best_taken : (best : Option Candidate) (ls : List Load) (next : Candidate) → weight best < next.count → IsBest best ls → IsBest (Some next) (ls ++ load_of next.step next.count ∷ [])
-best_taken best ls next h b = record {
-  before = ls;
-  after = [];
-  is = refl;
-  some = omega arith;
-  lighter = All-weaker (λ m. m.count ≤ weight best) (λ m. m.count < next.count) (λ m e. omega arith) ls (none_heavier best ls b);
-  no_heavier = All-nil (λ m. m.count ≤ next.count);
-}
 
 module _ {U V : Type 0} where
   -- the load of a slot with this number

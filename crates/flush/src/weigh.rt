@@ -1,10 +1,11 @@
 //! The slot with the most pending messages, which a flush relieves most.
-ghost use Rattle.std.specs.Prelude.{◌≡◌, ◌+◌, ◌≤◌, ◌<◌, ◌++◌, ◌∷◌, ◌↔◌, [], List, IfSome, length, map};
+ghost use Rattle.std.specs.Prelude.{◌≡◌, ◌+◌, ◌≤◌, ◌<◌, ◌++◌, ◌∷◌, ◌↔◌, [], List, true, IfSome, length, map};
 ghost use Rattle.flush.specs.Heaviest.{AreWalkable, FlushesHeaviest, IsBest, IsWalkable, Load, load_of, loads, own_loads, weight};
 ghost use Rattle.node.specs.Places.{way};
 ghost use Rattle.node.specs.Pure.{slots as slots_of};
 ghost use Rattle.node.specs.Report.{total};
 ghost use Rattle.node.specs.See.{see_slot};
+ghost use Rattle.node.specs.Steps.{there};
 ghost use Rattle.node.specs.declared.report.Quantity.TheVariants.{Pending};
 ghost use Rattle.node.specs.declared.step.StepKind.TheVariants.{FlushInner, FlushLeaf};
 
@@ -72,7 +73,11 @@ fn heaviest_slot<U: Update>(
     let mut found = best;
     for (i, slot) in slots.iter().enumerate() {
         let slot_number = i as u8;
-        let step = TreeStep { kind, at, slot: slot_number };
+        let step = TreeStep {
+            kind,
+            at,
+            slot: slot_number,
+        };
         let count = slot.pending.len();
         found = heavier(found, Candidate { step, count });
     }
@@ -108,11 +113,12 @@ fn heaviest_below<U: Update>(
 
 /// The flush of a slot than which no slot has more pending messages; `None` where nothing is pending.
 ///
-/// Of equally heavy slots it is the first in the walk from the root that takes a node before its children. It takes
-/// no memory, and looks at each inner node and at no leaf.
+/// Of equally heavy slots it is the first in the walk from the root that takes a node before its children. The flush
+/// is never answered by `NotThere`. It takes no memory, and looks at each inner node and at no leaf.
 pub fn heaviest<U: Update>(tree: &Tree<U>) -> Option<TreeStep>
     ensures nothing { (result ≡ None) ↔ (total Pending tree.now.root ≡ 0) }
     ensures first { IfSome result (FlushesHeaviest (loads [] tree.now.root)) }
+    ensures can_be_done { IfSome result (λ step. there step.kind step.slot (way step.at) None tree.now.root ≡ true) }
 {
     let root = tree.root();
     let levels = height(root) as usize;

@@ -1,7 +1,7 @@
-use Rattle.std.proofs.Common.{◌≡◌, ◌<◌, ◌≤◌, ◌∙◌, ap, sym, subst, length, map, rules, arith, length-append, [], ◌∷◌, ◌++◌}
+use Rattle.std.proofs.Common.{◌≡◌, ◌<◌, ◌∙◌, ap, sym, subst, length, map, rules, arith, ◌++◌}
 use Rattle.flush.specs.Heaviest.{IsBest, IsWalkable, AreWalkable, own_loads}
 use Rattle.flush.proofs.Loads.{best_of_children}
-use Rattle.flush.proofs.Walks.{walkable_below, own_loads-lowest}
+use Rattle.flush.proofs.Walks.{length-under, walkable_below, own_loads-lowest}
 use Rattle.node.specs.Places.{way}
 use Rattle.node.specs.Pure.{inner, slots}
 use Rattle.node.specs.See.{see, see_slot}
@@ -41,7 +41,7 @@ heaviest_below-found-requires g t c κs within =
     let h : c.loop-i.i < length xs = omega arith in
     let all = subst (λ ys. AreWalkable c.args.levels (slots (map see_slot ys))) (sym c.as_slice-slot-items.ensures.value) here.2 in
     let low = walkable_below c.args.levels xs c.loop-i.i c.slot-item.result c.deref.result.now h c.slot-item.is c.deref.ensures all in
-    let longer = ap length c.in-Some.ensures ∙ length-append (way c.args.at) (c.loop-i.i ∷ []) in
+    let longer = length-under (way c.in-Some.under) (way c.args.at) c.loop-i.i c.in-Some.ensures in
     (omega (arith, c.decreases, here.0), (search rules, (search rules, (low, omega (arith, longer, here.0, c.requires.short)))))
 
 pub loop-i-preserved : goal.loop-i-preserved

@@ -1,12 +1,11 @@
-use Rattle.std.proofs.Common.{◌≡◌, ◌+◌, ◌≤◌, ◌<◌, ◌∙◌, [], refl, ap, subst, length, None, Some, arith, rules}
+use Rattle.std.proofs.Common.{◌≡◌, [], ap, subst, length, None, arith, rules}
 use Rattle.std.specs.Prelude.{MatchOption}
 use Rattle.std.proofs.lemmas.List.Elements.{All-nil}
-use Rattle.flush.specs.Heaviest.{Load, load_of, IsBest, loads}
+use Rattle.flush.specs.Heaviest.{Load, load_of}
 use Rattle.flush.proofs.Loads.{best_of_all, nothing_pending, first_of_all, some_pending}
+use Rattle.flush.proofs.Named.{heaviest_is_there}
 use Rattle.flush.proofs.Walks.{height_low, walkable_tree}
 use Rattle.node.specs.Places.{way}
-use Rattle.node.specs.Report.{total}
-use Rattle.node.specs.declared.report.Quantity.TheVariants.{Pending}
 use Rattle.flush.proofs.weigh.heaviest.Goals as goal
 
 pub overflow_cast-levels : goal.overflow_cast-levels
@@ -38,3 +37,8 @@ pub returns-clause-first : goal.returns-clause-first
 returns-clause-first g c =
     let best = best_of_all c.heaviest_below.result (way c.root.result) c.root-root.result.now c.args.tree.now.root c.root.ensures c.root-root.ensures.root (c.heaviest_below.ensures [] (All-nil (λ (l : Load). l.count ≡ 0))) in
     (c.in_ok-found.found.count, first_of_all c.heaviest_below.result c.in_ok-found.found c.args.tree.now.root c.in_ok-found.was best)
+
+pub returns-clause-can_be_done : goal.returns-clause-can_be_done
+returns-clause-can_be_done g c =
+    let best = best_of_all c.heaviest_below.result (way c.root.result) c.root-root.result.now c.args.tree.now.root c.root.ensures c.root-root.ensures.root (c.heaviest_below.ensures [] (All-nil (λ (l : Load). l.count ≡ 0))) in
+    heaviest_is_there (load_of c.in_ok-found.found.step c.in_ok-found.found.count) c.args.tree.now.root (first_of_all c.heaviest_below.result c.in_ok-found.found c.args.tree.now.root c.in_ok-found.was best)
