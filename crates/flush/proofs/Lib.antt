@@ -2,3 +2,6 @@ pub mod Counts
 pub mod Flushable
 pub mod InnerFlush
 pub mod LeafFlush
+pub mod Loads
+pub mod Named
+pub mod Walks

@@ -1,2 +1,3 @@
 pub mod Sunk
 pub mod Leaf
+pub mod Heaviest

@@ -20,7 +20,7 @@ use std::alloc::Global;
 use std::sync::Arc;
 
 #[cfg(test)]
-mod tests;
+pub(crate) mod tests;
 
 /// How many pieces the message makes in slots. It takes no memory.
 fn pieces_in<U: Update>(slots: &[Slot<U>], msg: &Msg<U>) -> usize

@@ -7,7 +7,9 @@
 pub mod inner;
 pub mod leaf;
 pub mod meets;
+pub mod weigh;
 
 pub use inner::flush_inner;
 pub use leaf::flush_leaf;
 pub use node::StepReply;
+pub use weigh::heaviest;

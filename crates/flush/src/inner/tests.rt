@@ -5,7 +5,7 @@ use pathkey::{KeyRange, NoMemory};
 
 /// An update that changes nothing.
 #[derive(Clone, Copy, Debug, PartialEq, Eq)]
-struct NoUpdate;
+pub(crate) struct NoUpdate;
 
 impl Changes for NoUpdate {
     type Value = u8;
@@ -32,7 +32,7 @@ impl Update for NoUpdate {
 }
 
 /// The smallest shape.
-const SMALL: Shape = Shape {
+pub(crate) const SMALL: Shape = Shape {
     fanout: 4,
     pending: 4,
     leaf: 4,

@@ -1,0 +1,127 @@
+//! The slot with the most pending messages, which a flush relieves most.
+ghost use Rattle.std.specs.Prelude.{◌≡◌, ◌+◌, ◌≤◌, ◌<◌, ◌++◌, ◌∷◌, ◌↔◌, [], List, true, IfSome, length, map};
+ghost use Rattle.flush.specs.Heaviest.{AreWalkable, FlushesHeaviest, IsBest, IsWalkable, Load, load_of, loads, own_loads, weight};
+ghost use Rattle.node.specs.Places.{way};
+ghost use Rattle.node.specs.Pure.{slots as slots_of};
+ghost use Rattle.node.specs.Report.{total};
+ghost use Rattle.node.specs.See.{see_slot};
+ghost use Rattle.node.specs.Steps.{there};
+ghost use Rattle.node.specs.declared.report.Quantity.TheVariants.{Pending};
+ghost use Rattle.node.specs.declared.step.StepKind.TheVariants.{FlushInner, FlushLeaf};
+
+use message::Update;
+use node::node::count::height;
+use node::{Body, Node, Place, Slot, StepKind, Tree, TreeStep};
+
+#[cfg(test)]
+mod tests;
+
+/// A flush, and how many messages wait in its slot.
+#[derive(Clone, Copy)]
+struct Candidate {
+    /// The flush.
+    step: TreeStep,
+    /// The messages.
+    count: usize,
+}
+
+/// How many messages wait in the slot of what was found, or 0.
+fn weight(best: Option<Candidate>) -> usize
+    ensures { result ≡ weight best }
+{
+    match best {
+        None => 0,
+        Some(found) => found.count,
+    }
+}
+
+/// The first heaviest of what was found and one slot more.
+fn heavier(best: Option<Candidate>, next: Candidate) -> Option<Candidate>
+    ensures { (ls : List Load) → IsBest best ls → IsBest result (ls ++ load_of next.step next.count ∷ []) }
+{
+    if next.count <= weight(best) {
+        return best;
+    }
+    Some(next)
+}
+
+/// The flush of a slot of a node that stands so many levels above the leaves.
+fn flush_at(levels: usize) -> StepKind
+    ensures leaf { levels ≤ 1 → result ≡ FlushLeaf }
+    ensures inner { 1 < levels → result ≡ FlushInner }
+{
+    if levels <= 1 {
+        StepKind::FlushLeaf
+    } else {
+        StepKind::FlushInner
+    }
+}
+
+/// The first heaviest of what was found and the slots of a node that stands so many levels above the leaves.
+fn heaviest_slot<U: Update>(
+    slots: &[Slot<U>],
+    levels: usize,
+    at: Place,
+    best: Option<Candidate>,
+) -> Option<Candidate>
+    requires above { 0 < levels }
+    requires few { length slots.now ≤ 256 }
+    requires even { AreWalkable levels (slots_of (map see_slot slots.now)) }
+    ensures { (ls : List Load) → IsBest best ls → IsBest result (ls ++ own_loads (way at) 0 (slots_of (map see_slot slots.now))) }
+{
+    let kind = flush_at(levels);
+    let mut found = best;
+    for (i, slot) in slots.iter().enumerate() {
+        let slot_number = i as u8;
+        let step = TreeStep {
+            kind,
+            at,
+            slot: slot_number,
+        };
+        let count = slot.pending.len();
+        found = heavier(found, Candidate { step, count });
+    }
+    found
+}
+
+/// The first heaviest of what was found, the node's slots and all slots below it. The leaves are not looked at.
+fn heaviest_below<U: Update>(
+    node: &Node<U>,
+    levels: usize,
+    at: Place,
+    best: Option<Candidate>,
+) -> Option<Candidate>
+    requires even { IsWalkable levels node.now }
+    requires short { length (way at) + levels ≤ 16 }
+    ensures { (ls : List Load) → IsBest best ls → IsBest result (ls ++ loads (way at) node.now) }
+{
+    let Body::Inner(slots) = &node.body else {
+        return best;
+    };
+    let mut found = heaviest_slot(slots.as_slice(), levels, at, best);
+    if levels == 1 {
+        return found;
+    }
+    for (i, slot) in slots.as_slice().iter().enumerate() {
+        let Some(under) = at.under(i as u8) else {
+            return found;
+        };
+        found = heaviest_below(&slot.child, levels - 1, under, found);
+    }
+    found
+}
+
+/// The flush of a slot than which no slot has more pending messages; `None` where nothing is pending.
+///
+/// Of equally heavy slots it is the first in the walk from the root that takes a node before its children. The flush
+/// is never answered by `NotThere`. It takes no memory, and looks at each inner node and at no leaf.
+pub fn heaviest<U: Update>(tree: &Tree<U>) -> Option<TreeStep>
+    ensures nothing { (result ≡ None) ↔ (total Pending tree.now.root ≡ 0) }
+    ensures first { IfSome result (FlushesHeaviest (loads [] tree.now.root)) }
+    ensures can_be_done { IfSome result (λ step. there step.kind step.slot (way step.at) None tree.now.root ≡ true) }
+{
+    let root = tree.root();
+    let levels = height(root) as usize;
+    let found = heaviest_below(root, levels, Place::root(), None)?;
+    Some(found.step)
+}
