@@ -95,6 +95,7 @@ fn five_keys_sink_into_two_leaves(rt: HostRuntime) -> Result<(), Fail> {
 }
 
 /// A tree beside a plain row under the same messages.
+#[derive(Drop)]
 struct Pair {
     tree: Tree<Digit>,
     row: Row,

@@ -1,0 +1,104 @@
+//! Steps that make room.
+use crate::number::Set;
+use flush::{flush_inner, flush_leaf, heaviest};
+use node::{Body, Node, Place, Slot, StepKind, StepReply, Tree, TreeStep};
+use split_merge::{root_up, split_inner};
+use std::alloc::Global;
+
+/// Does a step of those that grow a tree.
+fn take(alloc: Global, tree: &mut Tree<Set>, step: TreeStep) -> StepReply {
+    match step.kind {
+        StepKind::FlushInner => flush_inner(alloc, tree, step.at, step.slot),
+        StepKind::FlushLeaf => flush_leaf(alloc, tree, step.at, step.slot),
+        StepKind::SplitInner => split_inner(alloc, tree, step.at, step.slot),
+        StepKind::RootUp => root_up(alloc, tree),
+        _ => StepReply::NotThere,
+    }
+}
+
+/// The slots of the node at a place.
+fn slots_at<'a>(node: &'a Node<Set>, numbers: &[u8]) -> Option<&'a Vec<Slot<Set>>> {
+    let Body::Inner(slots) = node.body() else {
+        return None;
+    };
+    let Some((first, rest)) = numbers.split_first() else {
+        return Some(slots);
+    };
+    slots_at(&slots.get(*first as usize)?.child, rest)
+}
+
+/// The place that so many of the numbers lead to.
+fn place_of(numbers: &[u8]) -> Option<Place> {
+    let mut at = Place::root();
+    for number in numbers {
+        at = at.under(*number)?;
+    }
+    Some(at)
+}
+
+/// The flush of the fullest slot of the node at a place.
+fn flush_of_fullest(tree: &Tree<Set>, at: Place) -> Option<TreeStep> {
+    let slots = slots_at(tree.root(), at.numbers())?;
+    let mut fullest = 0;
+    for (i, slot) in slots.iter().enumerate() {
+        if slot.pending.len() > slots.get(fullest)?.pending.len() {
+            fullest = i;
+        }
+    }
+    let kind = if slots.get(fullest)?.child.is_leaf() {
+        StepKind::FlushLeaf
+    } else {
+        StepKind::FlushInner
+    };
+    Some(TreeStep {
+        kind,
+        at,
+        slot: fullest as u8,
+    })
+}
+
+/// The step that gives the node at a place room for one slot more or for more pieces.
+fn widen(tree: &Tree<Set>, at: Place) -> Option<TreeStep> {
+    let numbers = at.numbers();
+    let slots = slots_at(tree.root(), numbers)?;
+    if slots.len() < tree.shape().fanout as usize {
+        return flush_of_fullest(tree, at);
+    }
+    let Some((last, above)) = numbers.split_last() else {
+        return Some(TreeStep {
+            kind: StepKind::RootUp,
+            at,
+            slot: 0,
+        });
+    };
+    Some(TreeStep {
+        kind: StepKind::SplitInner,
+        at: place_of(above)?,
+        slot: *last,
+    })
+}
+
+/// The step without which this one has no room.
+fn before(tree: &Tree<Set>, step: TreeStep) -> Option<TreeStep> {
+    match step.kind {
+        StepKind::FlushInner => flush_of_fullest(tree, step.at.under(step.slot)?),
+        StepKind::FlushLeaf | StepKind::SplitInner => widen(tree, step.at),
+        _ => None,
+    }
+}
+
+/// Flushes the heaviest slot, or does the first step that makes room for it; says whether it did one.
+pub fn relieve(alloc: Global, tree: &mut Tree<Set>) -> bool {
+    let mut next = heaviest(tree);
+    for _ in 0..64 {
+        let Some(step) = next else {
+            return false;
+        };
+        match take(alloc, tree, step) {
+            StepReply::Did(_) => return true,
+            StepReply::NoRoom => next = before(tree, step),
+            _ => return false,
+        }
+    }
+    false
+}

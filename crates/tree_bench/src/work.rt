@@ -1,0 +1,96 @@
+//! The same work on a tree and on a map of std.
+use crate::number::Set;
+use crate::relief::relieve;
+use lookup::get;
+use message::Msg;
+use node::node::count::held;
+use node::{Body, Shape, Tree};
+use pathkey::{Key, NoMemory};
+use std::alloc::Global;
+use std::collections::BTreeMap;
+
+/// The shape of the tree.
+const SHAPE: Shape = Shape {
+    fanout: 16,
+    pending: 256,
+    leaf: 256,
+};
+
+/// How many pieces may wait in the root.
+const ROOT_LIMIT: usize = 4096;
+
+/// The key with a number: eight bytes in which neighbours lie far apart.
+fn key(alloc: Global, number: u64) -> Result<Key, NoMemory> {
+    Key::from_bytes(alloc, &number.wrapping_mul(0x9E37_79B9_7F4A_7C15).to_be_bytes())
+}
+
+/// How many messages wait in the root.
+fn waiting(tree: &Tree<Set>) -> usize {
+    match tree.root().body() {
+        Body::Inner(slots) => held(slots.as_slice()),
+        Body::Leaf(_) => 0,
+    }
+}
+
+/// Puts the keys below `keys` into the tree in turn, `count` times in all; flushes while the root has too many.
+pub fn append(alloc: Global, tree: &mut Tree<Set>, keys: u64, count: u64) -> Result<(), NoMemory> {
+    for i in 0..count {
+        let number = i.checked_rem(keys).unwrap_or(0);
+        let mut one = Vec::with_capacity(alloc, 1)?;
+        one.push(Msg::Put(key(alloc, number)?, i))?;
+        tree.append(alloc, one)?;
+        if waiting(tree) > ROOT_LIMIT && !relieve(alloc, tree) {
+            return Err(NoMemory);
+        }
+    }
+    Ok(())
+}
+
+/// A tree without messages.
+pub fn new_tree(alloc: Global) -> Result<Tree<Set>, NoMemory> {
+    Tree::new(alloc, SHAPE)
+}
+
+/// Flushes until nothing is pending; gives the number of steps.
+pub fn settle(alloc: Global, tree: &mut Tree<Set>) -> u64 {
+    let mut steps = 0u64;
+    while steps < 10_000_000 && relieve(alloc, tree) {
+        steps += 1;
+    }
+    steps
+}
+
+/// Looks the keys below `keys` up in turn, `count` times in all; gives how many were found.
+pub fn look_up(alloc: Global, tree: &Tree<Set>, keys: u64, count: u64) -> Result<u64, NoMemory> {
+    let mut found = 0u64;
+    for i in 0..count {
+        let number = i.checked_rem(keys).unwrap_or(0);
+        if get(alloc, tree, &key(alloc, number)?)?.is_some() {
+            found = found.wrapping_add(1);
+        }
+    }
+    Ok(found)
+}
+
+/// The same inserts into a map.
+pub fn insert(alloc: Global, map: &mut BTreeMap<Key, u64>, keys: u64, count: u64) -> Result<(), NoMemory> {
+    for i in 0..count {
+        let number = i.checked_rem(keys).unwrap_or(0);
+        if map.insert(key(alloc, number)?, i).is_err() {
+            return Err(NoMemory);
+        }
+    }
+    Ok(())
+}
+
+/// The same look-ups in a map.
+pub fn look_up_map(alloc: Global, map: &BTreeMap<Key, u64>, keys: u64, count: u64) -> Result<u64, NoMemory> {
+    let mut found = 0u64;
+    for i in 0..count {
+        let number = i.checked_rem(keys).unwrap_or(0);
+        if map.get(&key(alloc, number)?).is_some() {
+            found = found.wrapping_add(1);
+        }
+    }
+    Ok(found)
+}
