@@ -1,7 +1,8 @@
 //! Flushes: pending messages that go one level down.
 //!
 //! A flush takes the oldest messages of one slot to the slot's child, as many as the child has room for. The value
-//! at every key stays: what waited above now waits, or stands, below (Brodal and Fagerberg 2003).
+//! at every key stays: what waited above now waits, or stands, below (Brodal and Fagerberg 2003). `heaviest` names the
+//! flush that moves most: that of a slot than which no slot has more pending messages.
 #![tactic(auto)]
 
 pub mod inner;

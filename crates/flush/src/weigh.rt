@@ -84,7 +84,7 @@ fn heaviest_slot<U: Update>(
     found
 }
 
-/// The first heaviest of what was found, the node's slots and all slots below it. The leaves are not looked at.
+/// The first heaviest of what was found, the node's slots and all slots below it, without a look at the leaves.
 fn heaviest_below<U: Update>(
     node: &Node<U>,
     levels: usize,
@@ -104,7 +104,7 @@ fn heaviest_below<U: Update>(
     }
     for (i, slot) in slots.as_slice().iter().enumerate() {
         let Some(under) = at.under(i as u8) else {
-            return found;
+            unreachable!()
         };
         found = heaviest_below(&slot.child, levels - 1, under, found);
     }
@@ -114,7 +114,8 @@ fn heaviest_below<U: Update>(
 /// The flush of a slot than which no slot has more pending messages; `None` where nothing is pending.
 ///
 /// Of equally heavy slots it is the first in the walk from the root that takes a node before its children. The flush
-/// is never answered by `NotThere`. It takes no memory, and looks at each inner node and at no leaf.
+/// is never answered by `NotThere`. It takes no memory, and looks at each inner node and, of the leaves, at the first
+/// alone.
 pub fn heaviest<U: Update>(tree: &Tree<U>) -> Option<TreeStep>
     ensures nothing { (result ≡ None) ↔ (total Pending tree.now.root ≡ 0) }
     ensures first { IfSome result (FlushesHeaviest (loads [] tree.now.root)) }
