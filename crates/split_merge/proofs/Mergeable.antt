@@ -1,14 +1,17 @@
 -- Where two slots can be merged.
-use Rattle.std.proofs.Common.{◌≡◌, ℕ, zero, suc, ◌<◌, ◌≤◌, Bool, true, false, not, List, [], ◌∷◌, length, get_or, map, drop, refl, ap, sym, ◌∙◌, arith, absurd}
-use Rattle.std.specs.Prelude.{◌&&◌}
+use Rattle.std.proofs.Common.{◌≡◌, ℕ, zero, suc, ◌<◌, ◌≤◌, Bool, true, false, not, List, [], ◌∷◌, length, get_or, map, drop, refl, ap, sym, ◌∙◌, subst, arith, ◌++◌, ◌+◌, inl, inr, ⊎_elim}
+use Rattle.std.specs.Prelude.{◌&&◌, ◌⊎◌}
 use Rattle.message.specs.declared.msg.Msg.{Msg}
 use Rattle.node.specs.declared.node.Slot.{Slot}
 use Rattle.node.specs.declared.shape.Shape.{Shape}
 use Rattle.node.specs.See.{see_slot}
 use Rattle.node.specs.Pure.{PNode, leaf, inner, PSlots, none, more, slots, is_leaf}
+use Rattle.node.specs.Lawful.{slot_count, pending}
 use Rattle.node.specs.Rows.{can_merge_leaves, can_merge_inner, AreTooMany}
 use Rattle.node.specs.Site.{slots_from}
-use Rattle.split_merge.specs.Merged.{are_alike, FitInOne}
+use Rattle.node.proofs.Placing.{slot_count-slots}
+use Rattle.split_merge.specs.Merged.{are_alike, both, FitInOne}
+use Rattle.split_merge.proofs.InnerSplit.{slots-append}
 
 module _ {U V : Type 0} where
   -- the slots from a number on begin with the two that the code reads
@@ -85,3 +88,29 @@ module _ {U V : Type 0} where
   alike_fit S (leaf es) (inner ds) h = absurd h
   alike_fit S (inner cs) (leaf fs) h = absurd h
   alike_fit S (inner cs) (inner ds) h = refl
+
+  -- ---- the same in the words of the code
+
+  -- leaves that fit in one
+  pub fit_leaves : (S : Shape) (es fs : List (List ℕ × V)) (l r : PNode U V) → leaf es ≡ l → leaf fs ≡ r → length es + length fs ≤ S.leaf → FitInOne S l r
+  fit_leaves S es fs l r a b h = subst (λ z. FitInOne S z r) a (subst (FitInOne S (leaf es)) b h)
+
+  -- leaves that do not
+  pub many_entries : (S : Shape) (es fs : List (List ℕ × V)) (l r : PNode U V) → leaf es ≡ l → leaf fs ≡ r → S.leaf < length es + length fs → AreTooMany S (more [] [] l (more [] [] r none))
+  many_entries S es fs l r a b h = subst (λ z. AreTooMany S (more [] [] z (more [] [] r none))) a (subst (λ z. AreTooMany S (more [] [] (leaf es) (more [] [] z none))) b h)
+
+  -- inner nodes that fit in one
+  pub fit_inner : (S : Shape) (xs ys : List (Slot U V)) (l r : PNode U V) → inner (slots (map see_slot xs)) ≡ l → inner (slots (map see_slot ys)) ≡ r → length xs + length ys ≤ S.fanout → pending (slots (map see_slot xs)) + pending (slots (map see_slot ys)) ≤ S.pending → FitInOne S l r
+  fit_inner S xs ys l r a b few light =
+      let h : slot_count (slots (map see_slot xs)) + slot_count (slots (map see_slot ys)) ≤ S.fanout = omega (arith, few, slot_count-slots xs, slot_count-slots ys) in
+      subst (λ z. FitInOne S z r) a (subst (FitInOne S (inner (slots (map see_slot xs)))) b (h, light))
+
+  -- inner nodes that do not
+  pub many_slots : (S : Shape) (xs ys : List (Slot U V)) (l r : PNode U V) → inner (slots (map see_slot xs)) ≡ l → inner (slots (map see_slot ys)) ≡ r → (S.fanout < length xs + length ys) ⊎ (S.pending < pending (slots (map see_slot xs)) + pending (slots (map see_slot ys))) → AreTooMany S (more [] [] l (more [] [] r none))
+  many_slots S xs ys l r a b h =
+      let many = ⊎_elim (λ f. inl (omega (arith, f, slot_count-slots xs, slot_count-slots ys))) (λ p. inr p) h in
+      subst (λ z. AreTooMany S (more [] [] z (more [] [] r none))) a (subst (λ z. AreTooMany S (more [] [] (inner (slots (map see_slot xs))) (more [] [] z none))) b many)
+
+  -- two inner nodes end to end
+  pub both_inner : (xs ys : List (Slot U V)) (l r : PNode U V) → inner (slots (map see_slot xs)) ≡ l → inner (slots (map see_slot ys)) ≡ r → inner (slots (map see_slot (xs ++ ys))) ≡ both l r
+  both_inner xs ys l r a b = ap inner (slots-append xs ys) ∙ (λ j. both (a j) (b j))
