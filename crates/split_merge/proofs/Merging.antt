@@ -26,7 +26,7 @@ use Rattle.node.specs.Steps.{Replies, Formed, HasNoRoom, can, width}
 use Rattle.node.proofs.EntryFacts.{below_next, rises-append, lookup-front, lookup-back}
 use Rattle.node.proofs.Placing.{and_false}
 use Rattle.node.proofs.Splice.{IsMore, starts-more, starts-first, slot_count-take, slot_count-joined, pending-joined, slots_from-joined, lawful-spliced, lawful-split, lawful-join, slots_value-joined, starts_at-joined}
-use Rattle.split_merge.specs.Merged.{are_alike, both, FitInOne, Refuses, IsJoined}
+use Rattle.split_merge.specs.Merged.{are_alike, both, FitInOne, Refuses, IsJoined, MergeReplies}
 use Rattle.split_merge.proofs.Mergeable.{slots_from-two, can_merge_leaves-last, can_merge_inner-last, unlike_leaves, unlike_inner, same_many}
 use Rattle.split_merge.proofs.Untouched.{effects_untouched}
 
@@ -188,42 +188,30 @@ module _ {U V : Type 0} where
 
   module _ (means : U → Option V → Option V) (S : Shape) (root : Bool) (i : ℕ) (xs : List (Slot U V)) where
     -- where there is no next slot
-    pub last_leaves : length xs ≤ suc i → Replies means MergeLeaves S root i NotThere (slots (map see_slot xs)) (slots (map see_slot xs))
-    last_leaves h = (refl, λ hi. can_merge_leaves-last xs i h)
-
-    pub last_inner : length xs ≤ suc i → Replies means MergeInner S root i NotThere (slots (map see_slot xs)) (slots (map see_slot xs))
-    last_inner h = (refl, λ hi. can_merge_inner-last xs i h)
+    pub without_next : length xs ≤ suc i → MergeReplies means S root i NotThere (slots (map see_slot xs)) (slots (map see_slot xs))
+    without_next h = ((refl, λ hi. can_merge_leaves-last xs i h), (refl, λ hi. can_merge_inner-last xs i h))
 
     module _ (s t : Slot U V) (h : suc i < length xs) (e : s ≡ get_or xs i s) (f : t ≡ get_or xs (suc i) t) where
-      -- where the nodes do not fit in one
-      pub refused_leaves : (r : StepReply) → Refuses S r s.child.value t.child.value → Replies means MergeLeaves S root i r (slots (map see_slot xs)) (slots (map see_slot xs))
-      refused_leaves (Did n) q = absurd q
-      refused_leaves NotThere q = (refl, λ hi. ap can_merge_leaves (slots_from-two xs i s t h e f) ∙ unlike_leaves s.lo t.lo s.pending.0 t.pending.0 s.child.value t.child.value _ q)
-      refused_leaves NoRoom q = (refl, subst (AreTooMany S) (sym (slots_from-two xs i s t h e f)) (same_many S [] [] s.lo t.lo [] [] s.pending.0 t.pending.0 s.child.value t.child.value none _ q))
-      refused_leaves NoMemory q = absurd q
+      -- where the children do not fit in one
+      pub refused : (r : StepReply) → Refuses S r s.child.value t.child.value → MergeReplies means S root i r (slots (map see_slot xs)) (slots (map see_slot xs))
+      refused (Did n) q = absurd q
+      refused NotThere q = (
+        (refl, λ hi. ap can_merge_leaves (slots_from-two xs i s t h e f) ∙ unlike_leaves s.lo t.lo s.pending.0 t.pending.0 s.child.value t.child.value _ q),
+        (refl, λ hi. ap can_merge_inner (slots_from-two xs i s t h e f) ∙ unlike_inner s.lo t.lo s.pending.0 t.pending.0 s.child.value t.child.value _ q),
+      )
+      refused NoRoom q =
+          let many = subst (AreTooMany S) (sym (slots_from-two xs i s t h e f)) (same_many S [] [] s.lo t.lo [] [] s.pending.0 t.pending.0 s.child.value t.child.value none _ q) in
+          ((refl, many), (refl, many))
+      refused NoMemory q = absurd q
 
-      pub refused_inner : (r : StepReply) → Refuses S r s.child.value t.child.value → Replies means MergeInner S root i r (slots (map see_slot xs)) (slots (map see_slot xs))
-      refused_inner (Did n) q = absurd q
-      refused_inner NotThere q = (refl, λ hi. ap can_merge_inner (slots_from-two xs i s t h e f) ∙ unlike_inner s.lo t.lo s.pending.0 t.pending.0 s.child.value t.child.value _ q)
-      refused_inner NoRoom q = (refl, subst (AreTooMany S) (sym (slots_from-two xs i s t h e f)) (same_many S [] [] s.lo t.lo [] [] s.pending.0 t.pending.0 s.child.value t.child.value none _ q))
-      refused_inner NoMemory q = absurd q
-
-      module _ (m : Slot U V) (j : IsJoined means s t m) where
-        -- the node before the step
-        was : slots (map see_slot xs) ≡ joined (slots (map see_slot (take i xs))) (more s.lo s.pending.0 s.child.value (more t.lo t.pending.0 t.child.value (slots (map see_slot (drop (suc (suc i)) xs)))))
-        was = slots-parts xs i ∙ ap (joined (slots (map see_slot (take i xs)))) (slots_from-two xs i s t h e f)
-
-        -- the node after it
-        is : slots (map see_slot (set (remove xs (suc i)) i m)) ≡ joined (slots (map see_slot (take i xs))) (more s.lo m.pending.0 (both s.child.value t.child.value) (slots (map see_slot (drop (suc (suc i)) xs))))
-        is = slots-merged xs i m h ∙ (λ k. joined (slots (map see_slot (take i xs))) (more (j.same_lo k) m.pending.0 (j.child k) (slots (map see_slot (drop (suc (suc i)) xs)))))
-
-        -- a merge that is done
-        pub merged_leaves : FitInOne S s.child.value t.child.value → Replies means MergeLeaves S root i (Did 0) (slots (map see_slot xs)) (slots (map see_slot (set (remove xs (suc i)) i m)))
-        merged_leaves fit =
-            let core = did_leaves means S root i (slots (map see_slot (take i xs))) (slots (map see_slot (drop (suc (suc i)) xs))) (slot_count-take xs i (omega arith)) s.lo t.lo s.pending.0 t.pending.0 m.pending.0 j.taken s.child.value t.child.value fit in
-            subst (λ z. Replies means MergeLeaves S root i (Did 0) z (slots (map see_slot (set (remove xs (suc i)) i m)))) (sym was) (subst (λ z. Replies means MergeLeaves S root i (Did 0) (joined (slots (map see_slot (take i xs))) (more s.lo s.pending.0 s.child.value (more t.lo t.pending.0 t.child.value (slots (map see_slot (drop (suc (suc i)) xs)))))) z) (sym is) core)
-
-        pub merged_inner : FitInOne S s.child.value t.child.value → Replies means MergeInner S root i (Did 0) (slots (map see_slot xs)) (slots (map see_slot (set (remove xs (suc i)) i m)))
-        merged_inner fit =
-            let core = did_inner means S root i (slots (map see_slot (take i xs))) (slots (map see_slot (drop (suc (suc i)) xs))) (slot_count-take xs i (omega arith)) s.lo t.lo s.pending.0 t.pending.0 m.pending.0 j.taken s.child.value t.child.value fit in
-            subst (λ z. Replies means MergeInner S root i (Did 0) z (slots (map see_slot (set (remove xs (suc i)) i m)))) (sym was) (subst (λ z. Replies means MergeInner S root i (Did 0) (joined (slots (map see_slot (take i xs))) (more s.lo s.pending.0 s.child.value (more t.lo t.pending.0 t.child.value (slots (map see_slot (drop (suc (suc i)) xs)))))) z) (sym is) core)
+      -- where they have become one
+      pub merged : (m : Slot U V) → IsJoined means s t m → FitInOne S s.child.value t.child.value → MergeReplies means S root i (Did 0) (slots (map see_slot xs)) (slots (map see_slot (set (remove xs (suc i)) i m)))
+      merged m j fit =
+          let b = slots (map see_slot (take i xs)) in
+          let a = slots (map see_slot (drop (suc (suc i)) xs)) in
+          let was : slots (map see_slot xs) ≡ joined b (more s.lo s.pending.0 s.child.value (more t.lo t.pending.0 t.child.value a)) = slots-parts xs i ∙ ap (joined b) (slots_from-two xs i s t h e f) in
+          let is : slots (map see_slot (set (remove xs (suc i)) i m)) ≡ joined b (more s.lo m.pending.0 (both s.child.value t.child.value) a) = slots-merged xs i m h ∙ (λ k. joined b (more (j.same_lo k) m.pending.0 (j.child k) a)) in
+          let at_i = slot_count-take xs i (omega arith) in
+          let over_leaves = did_leaves means S root i b a at_i s.lo t.lo s.pending.0 t.pending.0 m.pending.0 j.taken s.child.value t.child.value fit in
+          let over_inner = did_inner means S root i b a at_i s.lo t.lo s.pending.0 t.pending.0 m.pending.0 j.taken s.child.value t.child.value fit in
+          subst (λ z. MergeReplies means S root i (Did 0) z (slots (map see_slot (set (remove xs (suc i)) i m)))) (sym was) (subst (λ z. MergeReplies means S root i (Did 0) (joined b (more s.lo s.pending.0 s.child.value (more t.lo t.pending.0 t.child.value a))) z) (sym is) (over_leaves, over_inner))

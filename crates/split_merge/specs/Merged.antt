@@ -1,14 +1,16 @@
 -- Two slots made one.
-use Rattle.std.specs.Prelude.{◌≡◌, ◌≤◌, ◌+◌, Bool, true, false, List, [], ◌++◌, length, Option}
+use Rattle.std.specs.Prelude.{◌≡◌, ℕ, ◌≤◌, ◌+◌, Bool, true, false, [], ◌++◌, length, Option}
 use Rattle.message.specs.Effects.{Takes}
 use Rattle.node.specs.declared.node.Slot.{Slot}
 use Rattle.node.specs.declared.shape.Shape.{Shape}
 use Rattle.node.specs.declared.step.StepReply.{StepReply}
 use Rattle.node.specs.declared.step.StepReply.TheVariants.{Did, NotThere, NoRoom, NoMemory}
-use Rattle.node.specs.Pure.{PNode, leaf, inner, none, more}
+use Rattle.node.specs.declared.step.StepKind.TheVariants.{MergeLeaves, MergeInner}
+use Rattle.node.specs.Pure.{PNode, PSlots, leaf, inner, none, more}
 use Rattle.node.specs.Lawful.{slot_count, pending}
 use Rattle.node.specs.Rows.{AreTooMany}
 use Rattle.node.specs.Site.{joined}
+use Rattle.node.specs.Steps.{Replies}
 
 module _ {U V : Type 0} where
   -- two nodes are of one kind
@@ -44,3 +46,7 @@ pub record IsJoined {U V : Type 0} (means : U → Option V → Option V) (l r m 
   pub same_lo : m.lo ≡ l.lo
   pub taken : Takes means l.pending.0 r.pending.0 m.pending.0
   pub child : m.child.value ≡ both l.child.value r.child.value
+
+-- what the reply of a merge says of the node's slots before and after, over leaves and over inner nodes
+abbrev pub MergeReplies : {U V : Type 0} → (U → Option V → Option V) → Shape → Bool → ℕ → StepReply → PSlots U V → PSlots U V → Type 0
+MergeReplies means shape root i r a b = Replies means MergeLeaves shape root i r a b × Replies means MergeInner shape root i r a b

@@ -9,9 +9,9 @@ ghost use Rattle.node.specs.Pure.{slots as slots_of};
 ghost use Rattle.node.specs.Rows.{can_merge_leaves, can_merge_inner};
 ghost use Rattle.node.specs.See.{see_slot};
 ghost use Rattle.node.specs.Site.{slots_from};
-ghost use Rattle.node.specs.Steps.{Answers, Replies};
+ghost use Rattle.node.specs.Steps.{Answers};
 ghost use Rattle.node.specs.declared.step.StepKind.TheVariants.{MergeLeaves, MergeInner};
-ghost use Rattle.split_merge.specs.Merged.{are_alike, both, FitInOne, Refuses, IsJoined};
+ghost use Rattle.split_merge.specs.Merged.{are_alike, both, FitInOne, Refuses, IsJoined, MergeReplies};
 
 use message::Update;
 use node::node::count::held;
@@ -38,7 +38,9 @@ fn are_leaves<U: Update>(slots: &[Slot<U>], i: usize) -> bool
     if !has_next(slots, i) {
         return false;
     }
-    slots[i].child.is_leaf() && slots[i + 1].child.is_leaf()
+    let first = &slots[i];
+    let next = &slots[i + 1];
+    first.child.is_leaf() && next.child.is_leaf()
 }
 
 /// Whether the children of the slot with number `i` and of the next are inner nodes. It takes no memory.
@@ -48,7 +50,9 @@ fn are_inner<U: Update>(slots: &[Slot<U>], i: usize) -> bool
     if !has_next(slots, i) {
         return false;
     }
-    !slots[i].child.is_leaf() && !slots[i + 1].child.is_leaf()
+    let first = &slots[i];
+    let next = &slots[i + 1];
+    !first.child.is_leaf() && !next.child.is_leaf()
 }
 
 /// Whether two numbers are together at most this.
@@ -124,8 +128,7 @@ fn merge_slots<U: Update>(
     slots: &mut Vec<Slot<U>>,
     i: usize,
 ) -> StepReply
-    ensures leaves { Replies U.means MergeLeaves shape root i result (slots_of (map see_slot slots.old.items)) (slots_of (map see_slot slots.new.items)) }
-    ensures inner { Replies U.means MergeInner shape root i result (slots_of (map see_slot slots.old.items)) (slots_of (map see_slot slots.new.items)) }
+    ensures { MergeReplies U.means shape root i result (slots_of (map see_slot slots.old.items)) (slots_of (map see_slot slots.new.items)) }
 {
     if !has_next(slots.as_slice(), i) {
         return StepReply::NotThere;
