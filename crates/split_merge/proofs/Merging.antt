@@ -1,6 +1,8 @@
 -- Two slots made one, in the words of their rows.
 use Rattle.std.proofs.Common.{◌≡◌, ℕ, zero, suc, ◌+◌, ◌<◌, ◌≤◌, Bool, true, false, List, [], ◌∷◌, ◌++◌, length, get_or, take, drop, map, refl, ap, sym, ◌∙◌, subst, arith, cond, Option, Some, None, pred, length-append}
 use Rattle.std.proofs.Math.ListN.{set}
+use Rattle.std.proofs.lemmas.List.{get_or_default}
+use Rattle.std.proofs.lemmas.List.Edits.{get_or-remove_below}
 use Rattle.std.specs.List.{insert, remove}
 use Rattle.std.specs.Prelude.{◌&&◌}
 use Rattle.std.proofs.lemmas.Bool.{false_from_ne_true}
@@ -177,7 +179,7 @@ module _ {U V : Type 0} where
   slots-merged (x ∷ (y ∷ xs)) (suc i) m h = ap (more x.lo x.pending.0 x.child.value) (slots-merged (y ∷ xs) i m (omega arith))
 
   -- a slot put back where it was taken, behind one that is as it was
-  pub slots-put_back : (xs : List (Slot U V)) (i : ℕ) (s t l r : Slot U V) → suc i < length xs → s ≡ get_or xs i s → t ≡ get_or xs (suc i) t → see_slot l ≡ see_slot s → see_slot r ≡ see_slot t → slots (map see_slot (insert (set (remove xs (suc i)) i l) (suc i) r)) ≡ slots (map see_slot xs)
+  slots-put_back : (xs : List (Slot U V)) (i : ℕ) (s t l r : Slot U V) → suc i < length xs → s ≡ get_or xs i s → t ≡ get_or xs (suc i) t → see_slot l ≡ see_slot s → see_slot r ≡ see_slot t → slots (map see_slot (insert (set (remove xs (suc i)) i l) (suc i) r)) ≡ slots (map see_slot xs)
   slots-put_back [] i s t l r h e f p q = absurd (omega arith)
   slots-put_back (x ∷ []) i s t l r h e f p q = absurd (omega arith)
   slots-put_back (x ∷ (y ∷ xs)) zero s t l r h e f p q =
@@ -205,7 +207,7 @@ module _ {U V : Type 0} where
       refused NoMemory q = absurd q
 
       -- where they have become one
-      pub merged : (m : Slot U V) → IsJoined means s t m → FitInOne S s.child.value t.child.value → MergeReplies means S root i (Did 0) (slots (map see_slot xs)) (slots (map see_slot (set (remove xs (suc i)) i m)))
+      merged : (m : Slot U V) → IsJoined means s t m → FitInOne S s.child.value t.child.value → MergeReplies means S root i (Did 0) (slots (map see_slot xs)) (slots (map see_slot (set (remove xs (suc i)) i m)))
       merged m j fit =
           let b = slots (map see_slot (take i xs)) in
           let a = slots (map see_slot (drop (suc (suc i)) xs)) in
@@ -215,3 +217,21 @@ module _ {U V : Type 0} where
           let over_leaves = did_leaves means S root i b a at_i s.lo t.lo s.pending.0 t.pending.0 m.pending.0 j.taken s.child.value t.child.value fit in
           let over_inner = did_inner means S root i b a at_i s.lo t.lo s.pending.0 t.pending.0 m.pending.0 j.taken s.child.value t.child.value fit in
           subst (λ z. MergeReplies means S root i (Did 0) z (slots (map see_slot (set (remove xs (suc i)) i m)))) (sym was) (subst (λ z. MergeReplies means S root i (Did 0) (joined b (more s.lo s.pending.0 s.child.value (more t.lo t.pending.0 t.child.value a))) z) (sym is) (over_leaves, over_inner))
+
+    -- the slots without the second of the two, where the code reads the first
+    module _ (ys : List (Slot U V)) (s t : Slot U V) (h : suc i < length xs) (left : ys ≡ remove xs (suc i)) (at_s : s ≡ get_or ys i s) (at_t : t ≡ get_or xs (suc i) t) where
+      -- it is the first of the two
+      same_first : s ≡ get_or xs i s
+      same_first = at_s ∙ ap (λ z. get_or z i s) left ∙ get_or-remove_below xs (suc i) s i (omega arith) h
+
+      -- what a merge leaves, where a and b are the two slots as they were read before it
+      pub merged_left : (a b m : Slot U V) → a ≡ get_or xs i a → b ≡ get_or xs (suc i) b → FitInOne S a.child.value b.child.value → IsJoined means s t m → MergeReplies means S root i (Did 0) (slots (map see_slot xs)) (slots (map see_slot (set ys i m)))
+      merged_left a b m at_a at_b fit j =
+          let first : a ≡ s = at_a ∙ get_or_default xs i a s (omega arith) ∙ sym same_first in
+          let second : b ≡ t = at_b ∙ get_or_default xs (suc i) b t h ∙ sym at_t in
+          let both_fit = subst (λ (z : Slot U V). FitInOne S z.child.value t.child.value) first (subst (λ (z : Slot U V). FitInOne S a.child.value z.child.value) second fit) in
+          subst (λ z. MergeReplies means S root i (Did 0) (slots (map see_slot xs)) (slots (map see_slot (set z i m)))) (sym left) (merged s t h same_first at_t m j both_fit)
+
+      -- the slots with the second put back, where both are as they were
+      pub put_back : (l r : Slot U V) → see_slot l ≡ see_slot s → see_slot r ≡ see_slot t → slots (map see_slot (insert (set ys i l) (suc i) r)) ≡ slots (map see_slot xs)
+      put_back l r p q = ap (λ z. slots (map see_slot (insert (set z i l) (suc i) r))) left ∙ slots-put_back xs i s t l r h same_first at_t p q

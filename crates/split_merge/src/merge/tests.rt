@@ -67,7 +67,10 @@ fn two_leaves_become_one(rt: HostRuntime) -> Result<(), NoMemory> {
 #[test]
 fn a_shared_leaf_stays(rt: HostRuntime) -> Result<(), NoMemory> {
     let mut slots = pair(rt.alloc(), b"ab", b"ny")?;
-    let other = Arc::try_clone(&slots[1].child)?;
+    let Some(second) = slots.get(1) else {
+        panic!(rt; "two slots were made");
+    };
+    let other = Arc::try_clone(&second.child)?;
     let reply = merge_slots(SMALL, true, &mut slots, 0);
     assert_eq!(rt; reply, StepReply::Did(0));
     let Body::Leaf(entries) = &other.body else {
@@ -99,7 +102,10 @@ fn two_inner_nodes_become_one(rt: HostRuntime) -> Result<(), NoMemory> {
     assert_eq!(rt; reply, StepReply::Did(0));
     assert_eq!(rt; waiting(slots.as_slice(), 0), Some(3));
     assert_eq!(rt; waiting(slots.as_slice(), 1), None);
-    let Body::Inner(below) = &slots[0].child.body else {
+    let Some(slot) = slots.first() else {
+        panic!(rt; "one slot is left");
+    };
+    let Body::Inner(below) = &slot.child.body else {
         panic!(rt; "two inner nodes were there");
     };
     assert_eq!(rt; below.len(), 4);
