@@ -1,5 +1,5 @@
 -- Two slots made one, in the words of their rows.
-use Rattle.std.proofs.Common.{◌≡◌, ℕ, zero, suc, ◌+◌, ◌<◌, ◌≤◌, Bool, true, false, List, [], ◌∷◌, ◌++◌, length, get_or, take, drop, map, refl, ap, sym, ◌∙◌, subst, arith, cond, Option, Some, None, pred, length-append}
+use Rattle.std.proofs.Common.{◌≡◌, ℕ, zero, suc, ◌+◌, ◌<◌, ◌≤◌, Bool, true, false, List, [], ◌∷◌, ◌++◌, length, get_or, take, drop, map, refl, ap, sym, ◌∙◌, subst, arith, cond, Option, Some, pred, length-append}
 use Rattle.std.proofs.Math.ListN.{set}
 use Rattle.std.proofs.lemmas.List.{get_or_default}
 use Rattle.std.proofs.lemmas.List.Edits.{get_or-remove_below}
@@ -9,7 +9,7 @@ use Rattle.std.proofs.lemmas.Bool.{false_from_ne_true}
 use Rattle.pathkey.specs.Keys.{is_below}
 use Rattle.message.specs.declared.msg.Msg.{Msg}
 use Rattle.message.specs.Ranges.{reaches, before, within}
-use Rattle.message.specs.Effects.{any_touches, effects, Takes}
+use Rattle.message.specs.Effects.{effects, Takes}
 use Rattle.message.proofs.KeyOrder.{reaches-from_before, not_before_from_reaches, before_from_not_reaches, le_le, both as both_of}
 use Rattle.node.specs.declared.node.Slot.{Slot}
 use Rattle.node.specs.declared.shape.Shape.{Shape}
@@ -21,14 +21,14 @@ use Rattle.node.specs.See.{see_slot}
 use Rattle.node.specs.Pure.{PNode, leaf, inner, PSlots, none, more, slots}
 use Rattle.node.specs.Meaning.{value, lookup, slots_value, begins_by}
 use Rattle.node.specs.Lawful.{IsLawfulNode, AreLawfulSlots, TouchOnly, slot_count, pending, starts_at, next_lo}
-use Rattle.node.specs.Rows.{AreTooMany, MergedInner, MergedLeaves, can_merge_leaves, can_merge_inner}
+use Rattle.node.specs.Rows.{AreTooMany, can_merge_leaves, can_merge_inner}
 use Rattle.node.specs.Site.{joined, slots_from}
-use Rattle.node.specs.Sinks.{first_lo, Sinks}
-use Rattle.node.specs.Steps.{Replies, Formed, HasNoRoom, can, width}
+use Rattle.node.specs.Sinks.{Sinks}
+use Rattle.node.specs.Steps.{Replies, Formed, width}
 use Rattle.node.proofs.EntryFacts.{below_next, rises-append, lookup-front, lookup-back}
 use Rattle.node.proofs.Placing.{and_false}
-use Rattle.node.proofs.Splice.{IsMore, starts-more, starts-first, slot_count-take, slot_count-joined, pending-joined, slots_from-joined, lawful-spliced, lawful-split, lawful-join, slots_value-joined, starts_at-joined}
-use Rattle.split_merge.specs.Merged.{are_alike, both, FitInOne, Refuses, IsJoined, MergeReplies}
+use Rattle.node.proofs.Splice.{starts-more, slot_count-take, slot_count-joined, pending-joined, slots_from-joined, lawful-spliced, lawful-split, lawful-join, slots_value-joined, starts_at-joined}
+use Rattle.split_merge.specs.Merged.{both, FitInOne, Refuses, IsJoined, MergeReplies}
 use Rattle.split_merge.proofs.Mergeable.{slots_from-two, can_merge_leaves-last, can_merge_inner-last, unlike_leaves, unlike_inner, same_many}
 use Rattle.split_merge.proofs.Untouched.{effects_untouched}
 

@@ -10,10 +10,10 @@ pub mod merge;
 pub mod root;
 pub mod split;
 
-#[cfg(test)]
-mod samples;
-
 pub use merge::{merge_inner, merge_leaves};
 pub use node::StepReply;
 pub use root::root_up;
 pub use split::split_inner;
+
+#[cfg(test)]
+mod samples;

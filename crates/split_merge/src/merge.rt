@@ -122,12 +122,7 @@ fn join<U: Update>(left: &mut Slot<U>, right: &mut Slot<U>) -> Result<(), NoMemo
 }
 
 /// Makes one slot of the slot with number `i` of a node and the next.
-fn merge_slots<U: Update>(
-    shape: Shape,
-    root: bool,
-    slots: &mut Vec<Slot<U>>,
-    i: usize,
-) -> StepReply
+fn merge_slots<U: Update>(shape: Shape, root: bool, slots: &mut Vec<Slot<U>>, i: usize) -> StepReply
     ensures { MergeReplies U.means shape root i result (slots_of (map see_slot slots.old.items)) (slots_of (map see_slot slots.new.items)) }
 {
     if !has_next(slots.as_slice(), i) {

@@ -13,11 +13,7 @@ fn leaf_of(alloc: Global, keys: &[u8]) -> Result<Body<NoUpdate>, NoMemory> {
 }
 
 /// The same slot, where the value 0 waits to be put under each of these bytes.
-fn with_puts(
-    alloc: Global,
-    slot: Slot<NoUpdate>,
-    keys: &[u8],
-) -> Result<Slot<NoUpdate>, NoMemory> {
+fn with_puts(alloc: Global, slot: Slot<NoUpdate>, keys: &[u8]) -> Result<Slot<NoUpdate>, NoMemory> {
     let mut slot = slot;
     let mut msgs = Vec::new(alloc);
     for key in keys {

@@ -1,6 +1,6 @@
-use Rattle.std.proofs.Common.{arith, ap, sym, ◌∙◌, ◌≡◌, ◌≤◌, ◌<◌, ◌+◌, length, map}
+use Rattle.std.proofs.Common.{arith, ap, sym, ◌∙◌, map}
 use Rattle.node.specs.See.{see, see_slot}
-use Rattle.node.specs.Pure.{leaf, inner, slots}
+use Rattle.node.specs.Pure.{inner, slots}
 use Rattle.split_merge.proofs.Mergeable.{fit_leaves, many_entries, fit_inner, many_slots}
 use Rattle.split_merge.proofs.merge.check_room.Goals as goal
 use Rattle.split_merge.proofs.merge.check_room.Goals.{in-Leaf-Leaf, in-Inner-Inner}

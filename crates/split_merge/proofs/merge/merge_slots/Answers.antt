@@ -1,4 +1,4 @@
-use Rattle.std.proofs.Common.{arith, ap, sym, ◌∙◌, ◌≡◌, ◌≤◌, ◌<◌, length, suc, map, subst, add-one}
+use Rattle.std.proofs.Common.{arith, ap, sym, ◌∙◌, ◌≤◌, ◌<◌, length, suc, map, subst, add-one}
 use Rattle.node.specs.See.{see_slot}
 use Rattle.node.specs.Pure.{slots}
 use Rattle.split_merge.specs.Merged.{FitInOne, Refuses}
