@@ -93,6 +93,15 @@ impl<U: Update> Pending<U> {
         };
     }
 
+    /// Moves all messages of the list `newer` into reserved room, newer than all others.
+    pub fn append_list(&mut self, newer: &mut Pending<U>)
+        requires { length newer.old.0 ≤ self.old.1 }
+        ensures takes { Takes U.means self.old.0 newer.old.0 self.new.0 }
+        ensures moved { newer.new.0 ≡ [] }
+    {
+        self.append_reserved(&mut newer.msgs);
+    }
+
     /// Copies of the `count` oldest messages.
     pub fn copy_front(&self, alloc: Global, count: usize) -> Result<Vec<Msg<U>>, NoMemory>
         requires { count ≤ length self.now.0 }

@@ -1,4 +1,6 @@
 pub mod InnerSplit
 pub mod Splittable
+pub mod Mergeable
+pub mod Merging
 pub mod Untouched
 pub mod RootUp

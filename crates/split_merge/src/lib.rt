@@ -6,9 +6,14 @@
 #![tactic(auto)]
 
 pub mod lists;
+pub mod merge;
 pub mod root;
 pub mod split;
 
+pub use merge::{merge_inner, merge_leaves};
 pub use node::StepReply;
 pub use root::root_up;
 pub use split::split_inner;
+
+#[cfg(test)]
+mod samples;

@@ -1,0 +1,207 @@
+//! Two neighbouring slots made one, over one node of what both children hold.
+//!
+//! The ranges of the slots are disjoint, so the left slot's messages and then the right slot's mean at each key what
+//! its own list meant.
+ghost use Rattle.std.specs.Prelude.{◌≡◌, ◌≤◌, ◌<◌, ◌+◌, ◌⊎◌, true, false, map, length, OnOk, OnErr, IfErr};
+ghost use Rattle.node.specs.Lawful.{pending as pending_of};
+ghost use Rattle.node.specs.Places.{way};
+ghost use Rattle.node.specs.Pure.{slots as slots_of};
+ghost use Rattle.node.specs.Rows.{can_merge_leaves, can_merge_inner};
+ghost use Rattle.node.specs.See.{see_slot};
+ghost use Rattle.node.specs.Site.{slots_from};
+ghost use Rattle.node.specs.Steps.{Answers};
+ghost use Rattle.node.specs.declared.step.StepKind.TheVariants.{MergeLeaves, MergeInner};
+ghost use Rattle.split_merge.specs.Merged.{are_alike, both, FitInOne, Refuses, IsJoined, MergeReplies};
+
+use message::Update;
+use node::node::count::held;
+use node::{Body, Change, Node, Place, Shape, Slot, StepReply, Tree};
+use pathkey::{Key, NoMemory};
+use std::alloc::Global;
+use std::sync::Arc;
+
+#[cfg(test)]
+mod tests;
+
+/// Whether the slot with number `i` has a next one.
+fn has_next<U: Update>(slots: &[Slot<U>], i: usize) -> bool
+    ensures yes { result ≡ true → i + 1 < length slots.now }
+    ensures no { result ≡ false → length slots.now ≤ i + 1 }
+{
+    slots.len().saturating_sub(i) > 1
+}
+
+/// Whether the children of the slot with number `i` and of the next are leaves. It takes no memory.
+fn are_leaves<U: Update>(slots: &[Slot<U>], i: usize) -> bool
+    ensures { result ≡ can_merge_leaves (slots_from i (slots_of (map see_slot slots.now))) }
+{
+    if !has_next(slots, i) {
+        return false;
+    }
+    let first = &slots[i];
+    let next = &slots[i + 1];
+    first.child.is_leaf() && next.child.is_leaf()
+}
+
+/// Whether the children of the slot with number `i` and of the next are inner nodes. It takes no memory.
+fn are_inner<U: Update>(slots: &[Slot<U>], i: usize) -> bool
+    ensures { result ≡ can_merge_inner (slots_from i (slots_of (map see_slot slots.now))) }
+{
+    if !has_next(slots, i) {
+        return false;
+    }
+    let first = &slots[i];
+    let next = &slots[i + 1];
+    !first.child.is_leaf() && !next.child.is_leaf()
+}
+
+/// Whether two numbers are together at most this.
+fn fit(left: usize, right: usize, most: u16) -> bool
+    ensures yes { result ≡ true → left + right ≤ most }
+    ensures no { result ≡ false → most < left + right }
+{
+    left.saturating_add(right) <= most as usize
+}
+
+/// Whether one inner node has room for the slots of two.
+fn slots_fit<U: Update>(shape: Shape, left: &[Slot<U>], right: &[Slot<U>]) -> bool
+    ensures few { result ≡ true → length left.now + length right.now ≤ shape.fanout }
+    ensures light { result ≡ true → pending_of (slots_of (map see_slot left.now)) + pending_of (slots_of (map see_slot right.now)) ≤ shape.pending }
+    ensures no { result ≡ false → (shape.fanout < length left.now + length right.now) ⊎ (shape.pending < pending_of (slots_of (map see_slot left.now)) + pending_of (slots_of (map see_slot right.now))) }
+{
+    fit(left.len(), right.len(), shape.fanout) && fit(held(left), held(right), shape.pending)
+}
+
+/// Whether one node has room for what two nodes of one kind hold, or why not. It takes no memory.
+fn check_room<U: Update>(shape: Shape, left: &Node<U>, right: &Node<U>) -> Result<(), StepReply>
+    ensures ok { OnOk result (FitInOne shape left.now right.now) }
+    ensures err { IfErr result (λ e. Refuses shape e left.now right.now) }
+{
+    let has_room = match (&left.body, &right.body) {
+        (Body::Leaf(entries), Body::Leaf(later)) => fit(entries.len(), later.len(), shape.leaf),
+        (Body::Inner(slots), Body::Inner(later)) => {
+            slots_fit(shape, slots.as_slice(), later.as_slice())
+        }
+        (Body::Leaf(_), Body::Inner(_)) => return Err(StepReply::NotThere),
+        (Body::Inner(_), Body::Leaf(_)) => return Err(StepReply::NotThere),
+    };
+    if has_room {
+        Ok(())
+    } else {
+        Err(StepReply::NoRoom)
+    }
+}
+
+/// Moves what the node `right` holds behind what `left` holds.
+fn join_nodes<U: Update>(left: &mut Arc<Node<U>>, right: &mut Arc<Node<U>>) -> Result<(), NoMemory>
+    requires { are_alike left.old.value right.old.value ≡ true }
+    ensures ok { OnOk result (left.new.value ≡ both left.old.value right.old.value) }
+    ensures err { OnErr result ((left.new.value ≡ left.old.value) × (right.new.value ≡ right.old.value)) }
+{
+    let left = Arc::make_mut(left)?;
+    let right = Arc::make_mut(right)?;
+    match (&mut left.body, &mut right.body) {
+        (Body::Leaf(entries), Body::Leaf(later)) => entries.append(later)?,
+        (Body::Inner(slots), Body::Inner(later)) => slots.append(later)?,
+        (Body::Leaf(_), Body::Inner(_)) => unreachable!(),
+        (Body::Inner(_), Body::Leaf(_)) => unreachable!(),
+    }
+    Ok(())
+}
+
+/// Moves the messages of the slot `right`, and what its child holds, behind those of `left`.
+fn join<U: Update>(left: &mut Slot<U>, right: &mut Slot<U>) -> Result<(), NoMemory>
+    requires { are_alike left.old.child.value right.old.child.value ≡ true }
+    ensures ok { OnOk result (IsJoined U.means left.old right.old left.new) }
+    ensures err { OnErr result ((see_slot left.new ≡ see_slot left.old) × (see_slot right.new ≡ see_slot right.old)) }
+{
+    left.pending.reserve(right.pending.len())?;
+    join_nodes(&mut left.child, &mut right.child)?;
+    left.pending.append_list(&mut right.pending);
+    Ok(())
+}
+
+/// Makes one slot of the slot with number `i` of a node and the next.
+fn merge_slots<U: Update>(shape: Shape, root: bool, slots: &mut Vec<Slot<U>>, i: usize) -> StepReply
+    ensures { MergeReplies U.means shape root i result (slots_of (map see_slot slots.old.items)) (slots_of (map see_slot slots.new.items)) }
+{
+    if !has_next(slots.as_slice(), i) {
+        return StepReply::NotThere;
+    }
+    if let Err(reply) = check_room(shape, &slots[i].child, &slots[i + 1].child) {
+        return reply;
+    }
+    let mut right = slots.remove(i + 1);
+    if join(&mut slots[i], &mut right).is_ok() {
+        return StepReply::Did(0);
+    }
+    let Ok(()) = slots.insert(i + 1, right) else {
+        unreachable!()
+    };
+    StepReply::NoMemory
+}
+
+/// The merge of the leaves below two slots.
+struct LeafMerge;
+
+impl<U: Update> Change<U> for LeafMerge {
+    ghost kind = { MergeLeaves };
+
+    fn can(&self, slots: &[Slot<U>], i: usize, _hi: Option<&Key>) -> bool {
+        are_leaves(slots, i)
+    }
+
+    fn change(
+        &self,
+        _alloc: Global,
+        shape: Shape,
+        root: bool,
+        slots: &mut Vec<Slot<U>>,
+        i: usize,
+    ) -> StepReply {
+        merge_slots(shape, root, slots, i)
+    }
+}
+
+/// The merge of the inner nodes below two slots.
+struct InnerMerge;
+
+impl<U: Update> Change<U> for InnerMerge {
+    ghost kind = { MergeInner };
+
+    fn can(&self, slots: &[Slot<U>], i: usize, _hi: Option<&Key>) -> bool {
+        are_inner(slots, i)
+    }
+
+    fn change(
+        &self,
+        _alloc: Global,
+        shape: Shape,
+        root: bool,
+        slots: &mut Vec<Slot<U>>,
+        i: usize,
+    ) -> StepReply {
+        merge_slots(shape, root, slots, i)
+    }
+}
+
+/// Makes one leaf of the leaves below a slot and the next, and one slot of the two, where both lists of messages wait.
+///
+/// It answers `NotThere`, without memory, where the node or one of the slots is missing or has no leaf below it, and
+/// `NoRoom` where one leaf has no room for the entries of both.
+pub fn merge_leaves<U: Update>(alloc: Global, tree: &mut Tree<U>, at: Place, slot: u8) -> StepReply
+    ensures { Answers U.means MergeLeaves (way at) slot result tree.old tree.new }
+{
+    tree.step(alloc, &LeafMerge, at, slot)
+}
+
+/// Makes one inner node of the inner nodes below a slot and the next, and one slot of the two, where both lists of
+/// messages wait.
+///
+/// It answers `NotThere`, without memory, where the node or one of the slots is missing or has a leaf below it, and
+/// `NoRoom` where one node has no room for the slots of both or for what waits in them.
+pub fn merge_inner<U: Update>(alloc: Global, tree: &mut Tree<U>, at: Place, slot: u8) -> StepReply
+    ensures { Answers U.means MergeInner (way at) slot result tree.old tree.new }
+{
+    tree.step(alloc, &InnerMerge, at, slot)
+}
