@@ -1,5 +1,5 @@
 -- First pairs of parts of a range, and that of the range.
-use Rattle.std.proofs.Common.{◌≡◌, ℕ, Bool, true, false, List, refl, ap, sym, ◌∙◌, Option, Some, None}
+use Rattle.std.proofs.Common.{◌≡◌, ℕ, Bool, true, false, List, refl, ap, sym, ◌∙◌, subst, Option, Some, None}
 use Rattle.pathkey.specs.Keys.{is_below}
 use Rattle.message.specs.Ranges.{reaches, before, within}
 use Rattle.message.proofs.KeyOrder.{both, le_le, reaches-refl, reaches-from_not_before, not_before_from_reaches, begins_before_end}
@@ -42,3 +42,7 @@ first_along f g lo hi None e a = λ k h. e k h ∙ a k h
 first_along f g lo hi (Some p) e a =
     let q = both (reaches lo p.0) (is_below p.0 hi) a.0 in
     (a.0, e p.0 a.0 ∙ a.1, λ k h. let t = both (reaches lo k) (before k p.0) h in e k (in_range lo k hi t.0 (below_next k p.0 hi t.1 q.1)) ∙ a.2 k h)
+
+-- what was found up to an end that a call names otherwise
+pub as_called : {V : Type 0} (f : List ℕ → Option V) (from : List ℕ) (e stop : Option (List ℕ)) (r q : Option (List ℕ × V)) → e ≡ stop → r ≡ q → IsFirst f from e r → IsFirst f from stop q
+as_called f from e stop r q ee er h = subst (λ o. IsFirst f from o q) ee (subst (λ x. IsFirst f from e x) er h)

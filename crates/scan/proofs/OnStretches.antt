@@ -1,6 +1,6 @@
 -- On a stretch the messages make the same of a value at each key, and the first pair of what is below decides.
 use Rattle.std.proofs.Common.{◌≡◌, ℕ, suc, ◌+◌, ◌<◌, ◌⊎◌, inl, inr, ⊎_elim, Bool, true, false, List, [], ◌∷◌, length, drop, refl, ap, sym, ◌∙◌, subst, Option, Some, None, cond, arith}
-use Rattle.std.specs.Prelude.{All}
+use Rattle.std.specs.Prelude.{All, IfOk, Result, Ok, Err}
 use Rattle.std.proofs.lemmas.Option.{none-some}
 use Rattle.pathkey.specs.Order.{same}
 use Rattle.pathkey.specs.Keys.{is_below}
@@ -10,9 +10,12 @@ use Rattle.message.specs.declared.msg.Msg.TheVariants.{Put, Del, DelRange, Edit}
 use Rattle.message.specs.Ranges.{reaches, before, within}
 use Rattle.message.specs.Effects.{touches, made_of, effect, effects, IsDecisive}
 use Rattle.message.proofs.KeyOrder.{both, le_lt, reaches-refl, reaches-from_before, reaches-from_not_before, not_before_from_reaches}
+use Rattle.node.specs.declared.node.Slot.{Slot}
+use Rattle.node.specs.Pure.{PNode}
+use Rattle.node.specs.Meaning.{value}
 use Rattle.node.proofs.EntryFacts.{below_next}
 use Rattle.scan.specs.Pairs.{HasNone, IsFirst}
-use Rattle.scan.specs.Stretches.{ActAlike, pair_of}
+use Rattle.scan.specs.Stretches.{ActAlike, pair_of, slot_value}
 use Rattle.scan.proofs.NextKey.{by_bool, in_range, one_key}
 use Rattle.scan.proofs.Firsts.{none_start}
 
@@ -94,7 +97,7 @@ module _ {U V : Type 0} (means : U → Option V → Option V) where
             ap (effects means ms from) (ap child one ∙ below.1) ∙ e)
 
       with_value : (w : Option V) → effects means ms from (Some p.1) ≡ w → IsFirst made from stop (pair_of p.0 w)
-      with_value None e k h =
+      with_value None e = λ k h.
           let q = both (reaches from k) (is_below k stop) h in
           made_is k h ∙ by_bool (before from k) (effects means ms from (child k) ≡ None)
             (λ b. taken k (child k) h b e)
@@ -104,3 +107,25 @@ module _ {U V : Type 0} (means : U → Option V → Option V) where
       -- the first pair below, as the messages leave it, is the first
       pub first_of_pair : (i : ℕ) (settled : Bool) → IsDecisive means ms from i settled → IsFirst made from stop (pair_of p.0 (effects means (drop i ms) from (Some p.1)))
       first_of_pair i settled d = with_value (effects means (drop i ms) from (Some p.1)) (sym (d.value (Some p.1) (Some p.1) (λ e. refl)))
+
+-- ---- in the words of the code
+
+if_is : {A E : Type 0} (r : Result A E) (x : A) (P : A → Type 0) → IfOk r (λ y. y ≡ x) → P x → IfOk r P
+if_is (Ok y) x P e p = subst P (sym e) p
+if_is (Err y) x P e p = tt
+
+module _ {U V E : Type 0} (means : U → Option V → Option V) (s : Slot U V) (from : List ℕ) (stop : Option (List ℕ)) (some : is_below from stop ≡ true) (alike : ActAlike s.pending.0 from stop) (i : ℕ) (settled : Bool) (d : IsDecisive means s.pending.0 from i settled) (r : Result (Option (List ℕ × V)) E) where
+  -- the messages settle the values
+  pub first_settled : settled ≡ true → IfOk r (λ x. x ≡ pair_of from (effects means (drop i s.pending.0) from None)) → IfOk r (IsFirst (slot_value means s) from stop)
+  first_settled e h = if_is r (pair_of from (effects means (drop i s.pending.0) from None)) (IsFirst (slot_value means s) from stop) h
+      (first_of_none means s.pending.0 (value means s.child.value) from stop some alike i settled d (λ f. absurd (cc)))
+
+  -- the child, which is n, has no pair
+  pub first_below_none : (n : PNode U V) (b : Option (List ℕ × V)) → n ≡ s.child.value → b ≡ None → IsFirst (value means n) from stop b → IfOk r (λ x. x ≡ pair_of from (effects means (drop i s.pending.0) from None)) → IfOk r (IsFirst (slot_value means s) from stop)
+  first_below_none n b en eb below h = if_is r (pair_of from (effects means (drop i s.pending.0) from None)) (IsFirst (slot_value means s) from stop) h
+      (first_of_none means s.pending.0 (value means s.child.value) from stop some alike i settled d (λ f. subst (λ m. IsFirst (value means m) from stop None) en (subst (IsFirst (value means n) from stop) eb below)))
+
+  -- the child has one
+  pub first_below_pair : (n : PNode U V) (b : Option (List ℕ × V)) (p : List ℕ × V) → n ≡ s.child.value → b ≡ Some p → IsFirst (value means n) from stop b → IfOk r (λ x. x ≡ pair_of p.0 (effects means (drop i s.pending.0) from (Some p.1))) → IfOk r (IsFirst (slot_value means s) from stop)
+  first_below_pair n b p en eb below h = if_is r (pair_of p.0 (effects means (drop i s.pending.0) from (Some p.1))) (IsFirst (slot_value means s) from stop) h
+      (first_of_pair means s.pending.0 (value means s.child.value) from stop some alike p (subst (λ m. IsFirst (value means m) from stop (Some p)) en (subst (IsFirst (value means n) from stop) eb below)) i settled d)

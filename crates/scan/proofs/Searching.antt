@@ -4,6 +4,7 @@ use Rattle.std.specs.Prelude.{Contains, IfSome}
 use Rattle.pathkey.specs.Keys.{is_below}
 use Rattle.message.specs.Ranges.{reaches, before, within, earlier_end}
 use Rattle.message.proofs.KeyOrder.{both, le_le, reaches-from_before}
+use Rattle.message.specs.declared.msg.Msg.{Msg}
 use Rattle.node.specs.declared.node.Slot.{Slot}
 use Rattle.node.specs.See.{see_slot}
 use Rattle.node.specs.Pure.{PNode, inner, slots}
@@ -36,10 +37,22 @@ module _ {U V : Type 0} (means : U → Option V → Option V) where
     pub passed : HasPassed n lo from
     pub stretch : IsStretch s.pending.0 from (earlier_end hi (end_of None (slots (map see_slot items)) i)) stop
 
+  -- the same in the words of the code: xs and ys are the slots, ms the messages of s, and `end` where its stretches end
+  pub stands_at : (items xs ys : List (Slot U V)) (ms : List (Msg U V)) (n : PNode U V) (lo : List ℕ) (hi : Option (List ℕ)) (from : List ℕ) (i : ℕ) (s : Slot U V) (end stop : Option (List ℕ)) → xs ≡ items → ys ≡ items → ms ≡ s.pending.0 → inner (slots (map see_slot items)) ≡ n → i < length xs → i ≡ slot_number (slots (map see_slot xs)) from → s ≡ get_or items i s → HasPassed n lo from → end ≡ earlier_end hi (end_of None (slots (map see_slot ys)) i) → IsStretch ms from end stop → IsAt items n lo hi from i s stop
+  stands_at items xs ys ms n lo hi from i s end stop ex ey em seen b number slot passed ee h = record {
+    seen = seen;
+    bound = subst (λ (zs : List (Slot U V)). i < length zs) ex b;
+    number = number ∙ ap (λ (zs : List (Slot U V)). slot_number (slots (map see_slot zs)) from) ex;
+    slot = slot;
+    passed = passed;
+    stretch = subst (λ e. IsStretch s.pending.0 from e stop) (ee ∙ ap (λ (zs : List (Slot U V)). earlier_end hi (end_of None (slots (map see_slot zs)) i)) ey) (subst (λ (zs : List (Msg U V)). IsStretch zs from end stop) em h);
+  }
+
   -- a key below the end lies below the end of its slot
-  pub from_below : (items : List (Slot U V)) (hi : Option (List ℕ)) (from : List ℕ) (i : ℕ) → i ≡ slot_number (slots (map see_slot items)) from → is_below from hi ≡ true → is_below from (earlier_end hi (end_of None (slots (map see_slot items)) i)) ≡ true
-  from_below items hi from i e h =
-      below_earlier hi (end_of None (slots (map see_slot items)) i) from h (subst (λ j. is_below from (end_of None (slots (map see_slot items)) j) ≡ true) (sym e) (number_inside (slots (map see_slot items)) from))
+  pub from_below : (items xs ys : List (Slot U V)) (hi : Option (List ℕ)) (from : List ℕ) (i : ℕ) (end : Option (List ℕ)) → xs ≡ items → ys ≡ items → i ≡ slot_number (slots (map see_slot xs)) from → is_below from hi ≡ true → end ≡ earlier_end hi (end_of None (slots (map see_slot ys)) i) → is_below from end ≡ true
+  from_below items xs ys hi from i end ex ey number h ee =
+      let e : i ≡ slot_number (slots (map see_slot items)) from = number ∙ ap (λ (zs : List (Slot U V)). slot_number (slots (map see_slot zs)) from) ex in
+      ap (is_below from) (ee ∙ ap (λ (zs : List (Slot U V)). earlier_end hi (end_of None (slots (map see_slot zs)) i)) ey) ∙ below_earlier hi (end_of None (slots (map see_slot items)) i) from h (subst (λ j. is_below from (end_of None (slots (map see_slot items)) j) ≡ true) (sym e) (number_inside (slots (map see_slot items)) from))
 
   module _ (items : List (Slot U V)) (n : PNode U V) (lo : List ℕ) (hi : Option (List ℕ)) (from : List ℕ) (i : ℕ) (s : Slot U V) (stop : Option (List ℕ)) (x : IsAt items n lo hi from i s stop) where
     below_ends : (k : List ℕ) → is_below k stop ≡ true → (is_below k hi ≡ true) × (is_below k (end_of None (slots (map see_slot items)) i) ≡ true)

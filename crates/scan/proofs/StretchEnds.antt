@@ -23,11 +23,11 @@ use Rattle.scan.proofs.NextKey.{by_bool, in_range, not_reaches, before-next, rea
 -- an end that lies after a key stands above it
 ahead_after : (from : List ℕ) (e : Option (List ℕ)) → is_below from (ahead_of from e) ≡ true
 ahead_after from None = refl
-ahead_after from (Some q) = by_test (before from q) refl
+ahead_after from (Some q) = by_test from q (before from q) refl
   where
-    by_test : {q from : List ℕ} (c : Bool) → before from q ≡ c → is_below from (cond c (Some q) None) ≡ true
-    by_test true h = h
-    by_test false h = refl
+    by_test : (from q : List ℕ) (c : Bool) → before from q ≡ c → is_below from (cond c (Some q) None) ≡ true
+    by_test from q true h = h
+    by_test from q false h = refl
 
 -- what holds of a key holds of the end that lies after another, if that is the key
 ahead_some : (P : List ℕ → Type 0) (from q : List ℕ) → P q → IfSome (ahead_of from (Some q)) P
@@ -61,52 +61,44 @@ range_by false r from k e h u =
 -- ---- one message
 
 range_after : (from : List ℕ) (r : KeyRange) → is_below from (range_end from r) ≡ true
-range_after from r = by_test (before from r.lo) refl
+range_after from r = by_test from r (before from r.lo) refl
   where
-    by_test : {from : List ℕ} {r : KeyRange} (c : Bool) → before from r.lo ≡ c → is_below from (cond c (Some r.lo) (ahead_of from r.hi)) ≡ true
-    by_test true h = h
-    by_test {from} {r} false h = ahead_after from r.hi
+    by_test : (from : List ℕ) (r : KeyRange) (c : Bool) → before from r.lo ≡ c → is_below from (cond c (Some r.lo) (ahead_of from r.hi)) ≡ true
+    by_test from r true h = h
+    by_test from r false h = ahead_after from r.hi
+
+range_some : (from : List ℕ) (r : KeyRange) → IfSome (range_end from r) (Contains (r.lo ∷ option_to_list r.hi))
+range_some from r = elim (before from r.lo) as (λ c. IfSome (cond c (Some r.lo) (ahead_of from r.hi)) (Contains (r.lo ∷ option_to_list r.hi))) [
+    | true ↦ (0, omega arith, refl)
+    | false ↦ high r.lo r.hi
+  ]
+  where
+    high : (lo : List ℕ) (hi : Option (List ℕ)) → IfSome (ahead_of from hi) (Contains (lo ∷ option_to_list hi))
+    high lo None = tt
+    high lo (Some e) = ahead_some (Contains (lo ∷ e ∷ [])) from e (1, omega arith, refl)
 
 module _ {U V : Type 0} where
-  range_some : (from : List ℕ) (r : KeyRange) → IfSome (range_end from r) (Contains (ends_of {U} {V} (DelRange r)))
-  range_some from r = elim (before from r.lo) as (λ c. IfSome (cond c (Some r.lo) (ahead_of from r.hi)) (Contains (ends_of {U} {V} (DelRange r)))) [
-    | true ↦ (0, omega arith, refl)
-    | false ↦ high r.hi
-  ]
-    where
-      high : (hi : Option (List ℕ)) → IfSome (ahead_of from hi) (Contains (r.lo ∷ option_to_list hi))
-      high None = tt
-      high (Some e) = ahead_some (Contains (r.lo ∷ e ∷ [])) from e (1, omega arith, refl)
-
   -- where a message for one key next ends
-  pub put_end : (from q : List ℕ) (v : V) (stop : Option (List ℕ)) → stop ≡ ahead_of from (Some q) → IsNextEnd {U} {V} from (Put q v) stop
-  put_end from q v stop e = subst (IsNextEnd {U} {V} from (Put q v)) (sym e) (record {
+  point_end : (from q : List ℕ) (m : Msg U V) → Contains (ends_of m) q → ((k : List ℕ) → touches m k ≡ same q k) → is_for m from ≡ same q from → IsNextEnd from m (ahead_of from (Some q))
+  point_end from q m c t p = record {
     after = ahead_after from (Some q);
-    an_end = ahead_some (Contains (ends_of {U} {V} (Put q v))) from q (0, omega arith, refl);
-    alike = λ n k h. unlike q from k n h;
-  })
+    an_end = ahead_some (Contains (ends_of m)) from q c;
+    alike = λ n k h. t k ∙ unlike q from k (sym p ∙ n) h ∙ sym (t from);
+  }
 
-  pub del_end : (from q : List ℕ) (stop : Option (List ℕ)) → stop ≡ ahead_of from (Some q) → IsNextEnd {U} {V} from (Del q) stop
-  del_end from q stop e = subst (IsNextEnd {U} {V} from (Del q)) (sym e) (record {
-    after = ahead_after from (Some q);
-    an_end = ahead_some (Contains (ends_of {U} {V} (Del q))) from q (0, omega arith, refl);
-    alike = λ n k h. unlike q from k n h;
-  })
-
-  pub edit_end : (from q : List ℕ) (u : U) (stop : Option (List ℕ)) → stop ≡ ahead_of from (Some q) → IsNextEnd {U} {V} from (Edit q u) stop
-  edit_end from q u stop e = subst (IsNextEnd {U} {V} from (Edit q u)) (sym e) (record {
-    after = ahead_after from (Some q);
-    an_end = ahead_some (Contains (ends_of {U} {V} (Edit q u))) from q (0, omega arith, refl);
-    alike = λ n k h. unlike q from k n h;
-  })
+  -- the same of each such message
+  pub put_or_edit_end : (from q : List ℕ) (m : Msg U V) (stop : Option (List ℕ)) → ((v : V) × (m ≡ Put q v)) ⊎ ((m ≡ Del q) ⊎ ((u : U) × (m ≡ Edit q u))) → stop ≡ ahead_of from (Some q) → IsNextEnd from m stop
+  put_or_edit_end from q m stop (inl (v, e)) s = subst (IsNextEnd from m) (sym s) (subst (λ x. IsNextEnd from x (ahead_of from (Some q))) (sym e) (point_end from q (Put q v) (0, omega arith, refl) (λ k. refl) refl))
+  put_or_edit_end from q m stop (inr (inl e)) s = subst (IsNextEnd from m) (sym s) (subst (λ x. IsNextEnd from x (ahead_of from (Some q))) (sym e) (point_end from q (Del q) (0, omega arith, refl) (λ k. refl) refl))
+  put_or_edit_end from q m stop (inr (inr (u, e))) s = subst (IsNextEnd from m) (sym s) (subst (λ x. IsNextEnd from x (ahead_of from (Some q))) (sym e) (point_end from q (Edit q u) (0, omega arith, refl) (λ k. refl) refl))
 
   -- where a range-delete next begins or ends
-  pub range_delete_end : (from : List ℕ) (r : KeyRange) (stop : Option (List ℕ)) → stop ≡ range_end from r → IsNextEnd {U} {V} from (DelRange r) stop
-  range_delete_end from r stop e = subst (IsNextEnd {U} {V} from (DelRange r)) (sym e) (record {
+  pub range_delete_end : (from : List ℕ) (r : KeyRange) (m : Msg U V) (stop : Option (List ℕ)) → m ≡ DelRange r → stop ≡ range_end from r → IsNextEnd from m stop
+  range_delete_end from r m stop em e = subst (λ x. IsNextEnd from x stop) (sym em) (subst (IsNextEnd {U = U} {V = V} from (DelRange r)) (sym e) (record {
     after = range_after from r;
     an_end = range_some from r;
     alike = λ n k h. let p = both (reaches from k) (is_below k (range_end from r)) h in range_by (before from r.lo) r from k refl p.0 p.1;
-  })
+  }))
 
 -- ---- the earlier of two ends
 
@@ -161,7 +153,7 @@ module _ {U V : Type 0} where
     an_end = itself end;
   })
     where
-      itself : (o : Option (List ℕ)) → IfSome o (λ d. (o ≡ Some d) ⊎ Contains (all_ends {U} {V} []) d)
+      itself : (o : Option (List ℕ)) → IfSome o (λ d. (o ≡ Some d) ⊎ Contains (all_ends {U = U} {V = V} []) d)
       itself None = tt
       itself (Some d) = inl refl
 
@@ -219,3 +211,8 @@ module _ {U V : Type 0} where
     inside = λ k b. begins_before_end k from end (reaches-from_before_next k from b) low;
     an_end = inr (next_is_one ms i m from h (subst (λ (z : Msg U V). is_for z from ≡ true) at e));
   })
+
+-- the earlier of an end and none
+pub earlier-none : (a : Option (List ℕ)) → earlier_end a None ≡ a
+earlier-none None = refl
+earlier-none (Some a) = refl
