@@ -1,8 +1,8 @@
 -- First pairs of parts of a range, and that of the range.
-use Rattle.std.proofs.Common.{◌≡◌, ℕ, Bool, true, false, List, refl, ap, sym, ◌∙◌, subst, Option, Some, None}
+use Rattle.std.proofs.Common.{◌≡◌, ℕ, true, false, List, ◌∙◌, subst, Option, Some, None}
 use Rattle.pathkey.specs.Keys.{is_below}
 use Rattle.message.specs.Ranges.{reaches, before, within}
-use Rattle.message.proofs.KeyOrder.{both, le_le, reaches-refl, reaches-from_not_before, not_before_from_reaches, begins_before_end}
+use Rattle.message.proofs.KeyOrder.{both, le_le, reaches-from_not_before, not_before_from_reaches, begins_before_end}
 use Rattle.node.proofs.EntryFacts.{below_next}
 use Rattle.scan.specs.Pairs.{HasNone, IsFirst}
 use Rattle.scan.proofs.NextKey.{by_bool, in_range}

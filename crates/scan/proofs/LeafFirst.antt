@@ -1,14 +1,13 @@
 -- The first entry of a range in a leaf: entry i is the first that stands at lo or behind it.
-use Rattle.std.proofs.Common.{◌≡◌, ℕ, suc, ◌<◌, ◌≤◌, Bool, true, false, List, [], length, get_or, refl, ap, sym, ◌∙◌, subst, Option, Some, None, arith, ⊎_elim}
+use Rattle.std.proofs.Common.{◌≡◌, ℕ, ◌<◌, ◌≤◌, true, false, List, [], length, get_or, ap, sym, ◌∙◌, subst, Option, Some, None, arith, ⊎_elim}
 use Rattle.std.proofs.lemmas.Bool.{cases_order}
 use Rattle.std.proofs.lemmas.List.{get_or_default}
-use Rattle.pathkey.specs.Order.{same}
 use Rattle.pathkey.specs.Keys.{is_below}
 use Rattle.pathkey.proofs.OrderFacts.{same_itself}
-use Rattle.message.specs.Ranges.{reaches, before, within}
+use Rattle.message.specs.Ranges.{reaches, before}
 use Rattle.message.proofs.KeyOrder.{both, lt_le, reaches-refl, reaches-from_before, reaches-from_not_before, not_before_from_reaches}
 use Rattle.node.specs.Lawful.{Rises}
-use Rattle.node.specs.Leaves.{IsCount, IsEntry}
+use Rattle.node.specs.Leaves.{IsCount}
 use Rattle.node.specs.Meaning.{lookup}
 use Rattle.node.proofs.EntryFacts.{unlike_earlier, unlike_later, lookup-drop}
 use Rattle.node.proofs.EntryPlaces.{is_entry, after_entry}
@@ -32,9 +31,9 @@ module _ {V : Type 0} (es : List (List ℕ × V)) (lo : List ℕ) (i : ℕ) (c :
     from_here j d a b = ⊎_elim
         (λ (x : j ≡ i). ap (reaches e.0) (ap (λ m. (get_or es m d).0) x ∙ key_at d) ∙ reaches-refl e.0)
         (λ t. ⊎_elim
-          (λ (x : j < i). absurd (omega arith))
-          (λ (x : i < j). reaches-from_before e.0 (get_or es j d).0 (after_entry [] None e.0 es i rises key_at bound j d (omega arith) b))
-          t)
+        (λ (x : j < i). absurd (omega arith))
+        (λ (x : i < j). reaches-from_before e.0 (get_or es j d).0 (after_entry [] None e.0 es i rises key_at bound j d (omega arith) b))
+        t)
         (cases_order j i)
 
     reached : reaches lo e.0 ≡ true
@@ -45,12 +44,12 @@ module _ {V : Type 0} (es : List (List ℕ × V)) (lo : List ℕ) (i : ℕ) (c :
     none_before stop u k h =
         let p = both (reaches lo k) (is_below k stop) h in
         lookup-drop k es 0 (λ j d a b. ⊎_elim
-          (λ (x : j ≡ i). unlike_later (get_or es j d).0 k (lt_le k e.0 (get_or es j d).0 (u k p.1) (from_here j d (omega arith) b)))
-          (λ t. ⊎_elim
-            (λ (x : j < i). unlike_earlier (get_or es j d).0 k (lt_le (get_or es j d).0 lo k (c.earlier j d x) p.0))
-            (λ (x : i < j). unlike_later (get_or es j d).0 k (lt_le k e.0 (get_or es j d).0 (u k p.1) (from_here j d (omega arith) b)))
-            t)
-          (cases_order j i))
+        (λ (x : j ≡ i). unlike_later (get_or es j d).0 k (lt_le k e.0 (get_or es j d).0 (u k p.1) (from_here j d (omega arith) b)))
+        (λ t. ⊎_elim
+        (λ (x : j < i). unlike_earlier (get_or es j d).0 k (lt_le (get_or es j d).0 lo k (c.earlier j d x) p.0))
+        (λ (x : i < j). unlike_later (get_or es j d).0 k (lt_le k e.0 (get_or es j d).0 (u k p.1) (from_here j d (omega arith) b)))
+        t)
+        (cases_order j i))
 
     its_count : IsCount es (Some e.0) i
     its_count = record {

@@ -1,5 +1,5 @@
 -- The least key after a key, and more on the order of keys.
-use Rattle.std.proofs.Common.{◌≡◌, ℕ, ◌<◌, Bool, true, false, List, [], ◌∷◌, refl, ap, sym, ◌∙◌, Option, Some, None, arith}
+use Rattle.std.proofs.Common.{◌≡◌, ℕ, ◌<◌, Bool, true, false, List, [], ◌∷◌, refl, ap, sym, ◌∙◌, Option, Some, arith}
 use Rattle.std.specs.Prelude.{◌&&◌}
 use Rattle.std.specs.declared.cmp.Ordering.{Ordering}
 use Rattle.std.specs.declared.cmp.Ordering.TheVariants.{Less, Equal, Greater}
@@ -40,10 +40,10 @@ then_le Greater p q e = refl
 
 zero_le : (y : ℕ) (o : Ordering) → is_le o ≡ true → is_le (ordering_then (nat_cmp 0 y) o) ≡ true
 zero_le y o h = (elim (nat_cmp 0 y) as (λ x. nat_cmp 0 y ≡ x → is_le (ordering_then x o) ≡ true) [
-    | Less ↦ λ e. refl
-    | Equal ↦ λ e. h
-    | Greater ↦ λ e. let lt : MatchOrdering Greater (0 < y) (0 ≡ y) (y < 0) = ranked 0 y Greater (sym e) in absurd (omega (arith, lt))
-  ]) refl
+  | Less ↦ λ e. refl
+  | Equal ↦ λ e. h
+  | Greater ↦ λ e. let lt : MatchOrdering Greater (0 < y) (0 ≡ y) (y < 0) = ranked 0 y Greater (sym e) in absurd (omega (arith, lt))
+]) refl
 
 -- what stands at or behind the next key stands behind the key, and the other way round
 pub reaches-next : (k q : List ℕ) → reaches (next_key k) q ≡ before k q

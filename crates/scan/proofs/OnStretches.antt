@@ -1,5 +1,5 @@
 -- On a stretch the messages make the same of a value at each key, and the first pair of what is below decides.
-use Rattle.std.proofs.Common.{◌≡◌, ℕ, suc, ◌+◌, ◌<◌, ◌⊎◌, inl, inr, ⊎_elim, Bool, true, false, List, [], ◌∷◌, length, drop, refl, ap, sym, ◌∙◌, subst, Option, Some, None, cond, arith}
+use Rattle.std.proofs.Common.{◌≡◌, ℕ, suc, ◌⊎◌, inl, inr, ⊎_elim, Bool, true, false, List, [], ◌∷◌, drop, refl, ap, sym, ◌∙◌, subst, Option, Some, None, cond, arith}
 use Rattle.std.specs.Prelude.{All, IfOk, Result, Ok, Err}
 use Rattle.std.proofs.lemmas.Option.{none-some}
 use Rattle.pathkey.specs.Order.{same}
@@ -9,7 +9,7 @@ use Rattle.message.specs.declared.msg.Msg.{Msg}
 use Rattle.message.specs.declared.msg.Msg.TheVariants.{Put, Del, DelRange, Edit}
 use Rattle.message.specs.Ranges.{reaches, before, within}
 use Rattle.message.specs.Effects.{touches, made_of, effect, effects, IsDecisive}
-use Rattle.message.proofs.KeyOrder.{both, le_lt, reaches-refl, reaches-from_before, reaches-from_not_before, not_before_from_reaches}
+use Rattle.message.proofs.KeyOrder.{both, le_lt, reaches-refl, reaches-from_not_before, not_before_from_reaches}
 use Rattle.node.specs.declared.node.Slot.{Slot}
 use Rattle.node.specs.Pure.{PNode}
 use Rattle.node.specs.Meaning.{value}
@@ -47,12 +47,12 @@ module _ {U V : Type 0} (means : U → Option V → Option V) where
   leaves_or_takes (m ∷ ms) from k h a =
       let rest = leaves_or_takes ms from k h (λ j d l. a (suc j) d (omega arith)) in
       by_bool (touches m from) (((o : Option V) → effects means ms from (effect means m from o) ≡ o) ⊎ ((o : Option V) → effects means ms from (effect means m from o) ≡ None))
-        (λ t. inr (λ o.
-          let gone : effect means m from o ≡ None = ap (λ b. cond b (made_of means m o) o) t ∙ takes_away m from k o h t (a 0 m (omega arith) ∙ t) in
-          ap (effects means ms from) gone ∙ ⊎_elim (λ r. r None) (λ r. r None) rest))
-        (λ t.
-          let stays : (o : Option V) → effects means ms from (effect means m from o) ≡ effects means ms from o = λ o. ap (λ b. effects means ms from (cond b (made_of means m o) o)) t in
-          ⊎_elim (λ r. inl (λ o. stays o ∙ r o)) (λ r. inr (λ o. stays o ∙ r o)) rest)
+      (λ t. inr (λ o.
+      let gone : effect means m from o ≡ None = ap (λ b. cond b (made_of means m o) o) t ∙ takes_away m from k o h t (a 0 m (omega arith) ∙ t) in
+      ap (effects means ms from) gone ∙ ⊎_elim (λ r. r None) (λ r. r None) rest))
+      (λ t.
+      let stays : (o : Option V) → effects means ms from (effect means m from o) ≡ effects means ms from o = λ o. ap (λ b. effects means ms from (cond b (made_of means m o) o)) t in
+      ⊎_elim (λ r. inl (λ o. stays o ∙ r o)) (λ r. inr (λ o. stays o ∙ r o)) rest)
 
   module _ (ms : List (Msg U V)) (child : List ℕ → Option V) (from : List ℕ) (stop : Option (List ℕ)) (some : is_below from stop ≡ true) (alike : ActAlike ms from stop) where
     abbrev made : List ℕ → Option V
@@ -92,16 +92,16 @@ module _ {U V : Type 0} (means : U → Option V → Option V) where
       none_at e = by_bool (before from p.0) (effects means ms from (child from) ≡ None)
           (λ b. taken p.0 (child from) below.0 b e)
           (λ b.
-            let q = both (reaches from p.0) (is_below p.0 stop) below.0 in
-            let one : from ≡ p.0 = one_key from p.0 q.0 (reaches-from_not_before from p.0 b) in
-            ap (effects means ms from) (ap child one ∙ below.1) ∙ e)
+          let q = both (reaches from p.0) (is_below p.0 stop) below.0 in
+          let one : from ≡ p.0 = one_key from p.0 q.0 (reaches-from_not_before from p.0 b) in
+          ap (effects means ms from) (ap child one ∙ below.1) ∙ e)
 
       with_value : (w : Option V) → effects means ms from (Some p.1) ≡ w → IsFirst made from stop (pair_of p.0 w)
       with_value None e = λ k h.
           let q = both (reaches from k) (is_below k stop) h in
           made_is k h ∙ by_bool (before from k) (effects means ms from (child k) ≡ None)
-            (λ b. taken k (child k) h b e)
-            (λ b. let one : from ≡ k = one_key from k q.0 (reaches-from_not_before from k b) in ap (λ x. effects means ms from (child x)) (sym one) ∙ none_at e)
+          (λ b. taken k (child k) h b e)
+          (λ b. let one : from ≡ k = one_key from k q.0 (reaches-from_not_before from k b) in ap (λ x. effects means ms from (child x)) (sym one) ∙ none_at e)
       with_value (Some v) e = (below.0, made_is p.0 below.0 ∙ ap (effects means ms from) below.1 ∙ e, none_before)
 
       -- the first pair below, as the messages leave it, is the first

@@ -1,6 +1,6 @@
 -- A scan as far as it has come.
-use Rattle.std.proofs.Common.{◌≡◌, ℕ, ◌<◌, ◌≤◌, ◌++◌, true, false, List, [], ◌∷◌, length, get_or, refl, ap, sym, ◌∙◌, subst, Option, Some, None, arith, ◌⊎◌, inl, inr}
-use Rattle.std.specs.Prelude.{All, AllPairs, Contains}
+use Rattle.std.proofs.Common.{◌≡◌, ℕ, ◌≤◌, ◌++◌, true, false, List, [], ◌∷◌, length, get_or, ap, sym, ◌∙◌, subst, Option, Some, arith, ◌⊎◌, inl, inr}
+use Rattle.std.specs.Prelude.{All, Contains}
 use Rattle.std.proofs.lemmas.Option.{none-some, same_Some}
 use Rattle.std.proofs.lemmas.List.Elements.{All-push, All-weaker, All-nil, Contains-append_left, Contains-push}
 use Rattle.std.proofs.lemmas.List.Quantifiers.{all_pairs_push}
@@ -27,9 +27,9 @@ module _ {V : Type 0} (f : List ℕ → Option V) (lo : List ℕ) (hi : Option (
     behind = All-nil _;
     rising = λ i j d p q. absurd (omega arith);
     complete = λ k v w b e. absurd (
-      let q = both (reaches lo k) (is_below k hi) w in
-      let n : before k lo ≡ false = not_before_from_reaches lo k q.0 in
-      cc);
+        let q = both (reaches lo k) (is_below k hi) w in
+        let n : before k lo ≡ false = not_before_from_reaches lo k q.0 in
+        cc);
   }
 
   -- the same in the words of the code
@@ -42,11 +42,11 @@ module _ {V : Type 0} (f : List ℕ → Option V) (lo : List ℕ) (hi : Option (
     more_complete p h k v w b e = by_bool (before k from) (Contains (ps ++ p ∷ []) (k, v))
         (λ t. Contains-append_left ps (p ∷ []) (k, v) (x.complete k v w t e))
         (λ t. by_bool (before k p.0) (Contains (ps ++ p ∷ []) (k, v))
-          (λ u. absurd (none-some v (sym (h.2 k (in_range from k (Some p.0) (reaches-from_not_before k from t) u)) ∙ e)))
-          (λ u.
-            let key : k ≡ p.0 = one_key k p.0 (reaches-from_before_next k p.0 b) (reaches-from_not_before k p.0 u) in
-            let value : v ≡ p.1 = same_Some v p.1 (sym e ∙ ap f key ∙ h.1) in
-            subst (λ (r : List ℕ × V). Contains (ps ++ p ∷ []) r) (λ i. (sym key i, sym value i)) (Contains-push ps p)))
+        (λ u. absurd (none-some v (sym (h.2 k (in_range from k (Some p.0) (reaches-from_not_before k from t) u)) ∙ e)))
+        (λ u.
+        let key : k ≡ p.0 = one_key k p.0 (reaches-from_before_next k p.0 b) (reaches-from_not_before k p.0 u) in
+        let value : v ≡ p.1 = same_Some v p.1 (sym e ∙ ap f key ∙ h.1) in
+        subst (λ (r : List ℕ × V). Contains (ps ++ p ∷ []) r) (λ i. (sym key i, sym value i)) (Contains-push ps p)))
 
     -- one pair more
     part_push : (p : List ℕ × V) → IsFirst f from hi (Some p) → IsPart (next_key p.0) (ps ++ p ∷ [])
@@ -71,8 +71,8 @@ module _ {V : Type 0} (f : List ℕ → Option V) (lo : List ℕ) (hi : Option (
       sound = x.sound;
       rising = x.rising;
       complete = λ k v w e. by_bool (before k from) (Contains ps (k, v) ⊎ ((length ps ≡ limit) × All (λ p. before p.0 k ≡ true) ps))
-        (λ t. inl (x.complete k v w t e))
-        (λ t. absurd (none-some v (sym (h k (in_range from k hi (reaches-from_not_before k from t) (both (reaches lo k) (is_below k hi) w).1)) ∙ e)));
+          (λ t. inl (x.complete k v w t e))
+          (λ t. absurd (none-some v (sym (h k (in_range from k hi (reaches-from_not_before k from t) (both (reaches lo k) (is_below k hi) w).1)) ∙ e)));
     }
 
     -- the list has as many pairs as wanted
@@ -82,6 +82,6 @@ module _ {V : Type 0} (f : List ℕ → Option V) (lo : List ℕ) (hi : Option (
       sound = x.sound;
       rising = x.rising;
       complete = λ k v w e. by_bool (before k from) (Contains ps (k, v) ⊎ ((length ps ≡ limit) × All (λ p. before p.0 k ≡ true) ps))
-        (λ t. inl (x.complete k v w t e))
-        (λ t. inr (l, All-weaker (λ p. before p.0 from ≡ true) (λ p. before p.0 k ≡ true) (λ p b. lt_le p.0 from k b (reaches-from_not_before k from t)) ps x.behind));
+          (λ t. inl (x.complete k v w t e))
+          (λ t. inr (l, All-weaker (λ p. before p.0 from ≡ true) (λ p. before p.0 k ≡ true) (λ p b. lt_le p.0 from k b (reaches-from_not_before k from t)) ps x.behind));
     }

@@ -1,8 +1,8 @@
 -- A search of an inner node, stretch by stretch.
-use Rattle.std.proofs.Common.{◌≡◌, ℕ, zero, suc, ◌+◌, ◌<◌, ◌≤◌, ◌⊎◌, inl, inr, ⊎_elim, Bool, true, false, List, [], ◌∷◌, map, length, get_or, refl, ap, sym, ◌∙◌, subst, Option, Some, None, arith}
+use Rattle.std.proofs.Common.{◌≡◌, ℕ, ◌<◌, ◌⊎◌, ⊎_elim, true, List, [], ◌∷◌, map, length, get_or, refl, ap, sym, ◌∙◌, subst, Option, Some, None, arith}
 use Rattle.std.specs.Prelude.{Contains, IfSome}
 use Rattle.pathkey.specs.Keys.{is_below}
-use Rattle.message.specs.Ranges.{reaches, before, within, earlier_end}
+use Rattle.message.specs.Ranges.{reaches, earlier_end}
 use Rattle.message.proofs.KeyOrder.{both, le_le, reaches-from_before}
 use Rattle.message.specs.declared.msg.Msg.{Msg}
 use Rattle.node.specs.declared.node.Slot.{Slot}
@@ -61,8 +61,8 @@ module _ {U V : Type 0} (means : U → Option V → Option V) where
     -- the first pair of the slot on the stretch is that of the node
     first_of_node : (r : Option (List ℕ × V)) → IsFirst (slot_value means s) from stop r → IsFirst (value means n) from stop r
     first_of_node r h = first_along (value means n) (slot_value means s) from stop r (λ k w.
-      let p = both (reaches from k) (is_below k stop) w in
-      ap (λ (m : PNode U V). value means m k) (sym x.seen) ∙ value_in_slot means items i s from k (let b = x.bound in omega (arith, b)) x.number x.slot p.0 (below_ends k p.1).1) h
+        let p = both (reaches from k) (is_below k stop) w in
+        ap (λ (m : PNode U V). value means m k) (sym x.seen) ∙ value_in_slot means items i s from k (let b = x.bound in omega (arith, b)) x.number x.slot p.0 (below_ends k p.1).1) h
 
     -- it has a pair there
     pub found : (p : List ℕ × V) → IsFirst (slot_value means s) from stop (Some p) → IsFirst (value means n) lo hi (Some p)
@@ -89,9 +89,9 @@ module _ {U V : Type 0} (means : U → Option V → Option V) where
         let after : is_below from (Some next) ≡ true = subst (λ o. is_below from o ≡ true) e x.stretch.after in
         let one : (earlier_end hi (end_of None (slots (map see_slot items)) i) ≡ Some next) ⊎ Contains (all_ends s.pending.0) next = subst (λ o. IfSome o (λ d. (earlier_end hi (end_of None (slots (map see_slot items)) i) ≡ Some d) ⊎ Contains (all_ends s.pending.0) d)) e x.stretch.an_end in
         ahead_falls from next (search_ends hi items) after (⊎_elim
-          (λ t. ⊎_elim (λ h. range_end_is hi items next h) (λ p. slot_end_is hi items next (pivot_end items i next p)) (earlier_is hi (end_of None (slots (map see_slot items)) i) next t))
-          (λ t. slot_end_is hi items next (message_end items i s next x.bound (subst (λ (z : Slot U V). Contains (all_ends z.pending.0) next) x.slot t)))
-          one)
+        (λ t. ⊎_elim (λ h. range_end_is hi items next h) (λ p. slot_end_is hi items next (pivot_end items i next p)) (earlier_is hi (end_of None (slots (map see_slot items)) i) next t))
+        (λ t. slot_end_is hi items next (message_end items i s next x.bound (subst (λ (z : Slot U V). Contains (all_ends z.pending.0) next) x.slot t)))
+        one)
 
   -- a node without slots has no value
   pub no_slots : (items : List (Slot U V)) (n : PNode U V) (lo : List ℕ) (hi : Option (List ℕ)) → length items ≡ 0 → inner (slots (map see_slot items)) ≡ n → HasNone (value means n) lo hi

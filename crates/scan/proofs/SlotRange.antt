@@ -1,15 +1,14 @@
 -- The value within the range of one slot.
-use Rattle.std.proofs.Common.{◌≡◌, ℕ, suc, ◌+◌, ◌<◌, ◌≤◌, Bool, true, false, List, length, map, get_or, refl, ap, sym, ◌∙◌, subst, Option, Some, None, cond, arith, add-one}
+use Rattle.std.proofs.Common.{◌≡◌, ℕ, ◌+◌, ◌<◌, ◌≤◌, Bool, true, false, List, length, map, get_or, refl, ap, sym, ◌∙◌, subst, Option, Some, None, cond, arith, add-one}
 use Rattle.pathkey.specs.Keys.{is_below}
 use Rattle.message.specs.declared.msg.Msg.{Msg}
 use Rattle.message.specs.Ranges.{reaches, earlier_end}
-use Rattle.message.specs.Effects.{effects}
 use Rattle.message.proofs.KeyOrder.{le_le, before_from_not_reaches}
 use Rattle.node.specs.declared.node.Slot.{Slot}
 use Rattle.node.specs.See.{see_slot}
 use Rattle.node.specs.Pure.{PNode, PSlots, none, more, slots}
 use Rattle.node.specs.Lawful.{next_lo}
-use Rattle.node.specs.Meaning.{begins_by, slot_number, slots_value, value}
+use Rattle.node.specs.Meaning.{begins_by, slot_number, slots_value}
 use Rattle.node.specs.Site.{end_of}
 use Rattle.node.proofs.SlotFacts.{slots_value_is}
 use Rattle.node.proofs.There.{end_of-next, end_of-last}

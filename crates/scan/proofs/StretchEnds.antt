@@ -1,7 +1,7 @@
 -- Where stretches end.
 use Rattle.std.proofs.Common.{◌≡◌, ℕ, zero, suc, ◌+◌, ◌<◌, ◌≤◌, ◌⊎◌, inl, inr, Bool, true, false, List, [], ◌∷◌, ◌++◌, length, take, get_or, refl, ap, sym, ◌∙◌, subst, Option, Some, None, cond, arith}
 use Rattle.std.specs.Option.{option_to_list}
-use Rattle.std.specs.Prelude.{◌&&◌, All, Contains, IfSome}
+use Rattle.std.specs.Prelude.{◌&&◌, Contains, IfSome}
 use Rattle.std.proofs.lemmas.Bool.{false_from_ne_true}
 use Rattle.std.proofs.lemmas.List.{append_assoc, take_more, take_all}
 use Rattle.std.proofs.lemmas.List.Elements.{All-nil, All-push, Contains-append_left, Contains-append_right}
@@ -14,9 +14,9 @@ use Rattle.message.specs.declared.msg.Msg.TheVariants.{Put, Del, DelRange, Edit}
 use Rattle.message.specs.Ranges.{reaches, before, within, earlier_end}
 use Rattle.message.specs.Effects.{touches}
 use Rattle.message.proofs.KeyOrder.{both, le_le, le_lt, lt_le, reaches-from_before, reaches-from_not_before, begins_before_end}
-use Rattle.node.proofs.EntryFacts.{below_next, beyond, unlike_earlier, unlike_later}
-use Rattle.scan.specs.Stretches.{ahead_of, range_end, is_for, ActAlike, ends_of, all_ends, IsNextEnd, IsStretch}
-use Rattle.scan.proofs.NextKey.{by_bool, in_range, not_reaches, before-next, reaches-from_before_next, one_before_next}
+use Rattle.node.proofs.EntryFacts.{beyond, unlike_earlier, unlike_later}
+use Rattle.scan.specs.Stretches.{ahead_of, range_end, is_for, ends_of, all_ends, IsNextEnd, IsStretch}
+use Rattle.scan.proofs.NextKey.{in_range, not_reaches, before-next, reaches-from_before_next, one_before_next}
 
 -- ---- one end
 
@@ -69,9 +69,9 @@ range_after from r = by_test from r (before from r.lo) refl
 
 range_some : (from : List ℕ) (r : KeyRange) → IfSome (range_end from r) (Contains (r.lo ∷ option_to_list r.hi))
 range_some from r = elim (before from r.lo) as (λ c. IfSome (cond c (Some r.lo) (ahead_of from r.hi)) (Contains (r.lo ∷ option_to_list r.hi))) [
-    | true ↦ (0, omega arith, refl)
-    | false ↦ high r.lo r.hi
-  ]
+  | true ↦ (0, omega arith, refl)
+  | false ↦ high r.lo r.hi
+]
   where
     high : (lo : List ℕ) (hi : Option (List ℕ)) → IfSome (ahead_of from hi) (Contains (lo ∷ option_to_list hi))
     high lo None = tt
@@ -161,14 +161,14 @@ module _ {U V : Type 0} where
   stretch_push : (ms : List (Msg U V)) (m : Msg U V) (from : List ℕ) (end stop e : Option (List ℕ)) → IsStretch ms from end stop → IsNextEnd from m e → is_for m from ≡ false → IsStretch (ms ++ m ∷ []) from end (earlier_end stop e)
   stretch_push ms m from end stop e x y n = record {
     alike = λ k h.
-      let p = both (reaches from k) (is_below k (earlier_end stop e)) h in
-      let q = below_both stop e k p.1 in
-      All-push (λ (m : Msg U V). touches m k ≡ touches m from) ms m (x.alike k (in_range from k stop p.0 q.0)) (y.alike n k (in_range from k e p.0 q.1));
+        let p = both (reaches from k) (is_below k (earlier_end stop e)) h in
+        let q = below_both stop e k p.1 in
+        All-push (λ (m : Msg U V). touches m k ≡ touches m from) ms m (x.alike k (in_range from k stop p.0 q.0)) (y.alike n k (in_range from k e p.0 q.1));
     after = below_earlier stop e from x.after y.after;
     inside = λ k h. x.inside k (below_both stop e k h).0;
     an_end = some_earlier (λ d. (end ≡ Some d) ⊎ Contains (all_ends (ms ++ m ∷ [])) d) stop e
-      (weaker (λ d. (end ≡ Some d) ⊎ Contains (all_ends ms) d) (λ d. (end ≡ Some d) ⊎ Contains (all_ends (ms ++ m ∷ [])) d) stop (λ d. old d) x.an_end)
-      (weaker (Contains (ends_of m)) (λ d. (end ≡ Some d) ⊎ Contains (all_ends (ms ++ m ∷ [])) d) e (λ d. new d) y.an_end);
+        (weaker (λ d. (end ≡ Some d) ⊎ Contains (all_ends ms) d) (λ d. (end ≡ Some d) ⊎ Contains (all_ends (ms ++ m ∷ [])) d) stop (λ d. old d) x.an_end)
+        (weaker (Contains (ends_of m)) (λ d. (end ≡ Some d) ⊎ Contains (all_ends (ms ++ m ∷ [])) d) e (λ d. new d) y.an_end);
   }
     where
       whole : all_ends ms ++ all_ends (m ∷ []) ≡ all_ends (ms ++ m ∷ [])

@@ -250,7 +250,10 @@ fn goes_past_what_a_range_delete_covers(rt: HostRuntime) -> Result<(), Fail> {
     tree.append(alloc, batch)?;
     let pairs = scan(alloc, &tree, &range(alloc, 3, None)?, 4)?;
     let found = numbers(alloc, pairs.as_slice())?;
-    assert_eq!(rt; found.as_slice(), [(3, 3), (4, 3), (20, 4), (40, 3)].as_slice());
+    assert_eq!(rt;
+        found.as_slice(),
+        [(3, 3), (4, 3), (20, 4), (40, 3)].as_slice()
+    );
     Ok(())
 }
 

@@ -1,4 +1,4 @@
-use Rattle.std.proofs.Common.{arith, sym, subst, ◌∙◌, ◌≡◌, true, false, List, ℕ, Some}
+use Rattle.std.proofs.Common.{arith, sym, subst, ◌∙◌, List, ℕ, Some}
 use Rattle.std.specs.Option.{option_copied}
 use Rattle.node.specs.Meaning.{lookup}
 use Rattle.scan.specs.Pairs.{IsFirst}

@@ -1,4 +1,4 @@
-use Rattle.std.proofs.Common.{arith, ap, sym, subst, ◌∙◌, ◌≡◌, ◌<◌, ◌+◌, ◌*◌, map, length, List, true, false, Some, None}
+use Rattle.std.proofs.Common.{arith, ap, sym, subst, ◌∙◌, ◌≡◌, ◌<◌, ◌+◌, ◌*◌, map, length, List, true, Some, None}
 use Rattle.std.specs.Option.{option_copied}
 use Rattle.message.proofs.KeyOrder.{reaches-refl}
 use Rattle.node.specs.Meaning.{value}

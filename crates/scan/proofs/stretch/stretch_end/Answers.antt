@@ -1,6 +1,6 @@
 use Rattle.std.proofs.Common.{arith, sym, ◌∙◌}
 use Rattle.std.specs.Option.{option_copied}
-use Rattle.scan.proofs.StretchEnds.{stretch_start, stretch_more, stretch_all, stretch_of_one}
+use Rattle.scan.proofs.StretchEnds.{stretch_more, stretch_of_one}
 use Rattle.scan.proofs.stretch.stretch_end.Goals as goal
 
 pub returns-then-is_for : goal.returns-then-is_for
