@@ -1,5 +1,5 @@
 -- On a stretch the messages make the same of a value at each key, and the first pair of what is below decides.
-use Rattle.std.proofs.Common.{◌≡◌, ℕ, suc, ◌⊎◌, inl, inr, ⊎_elim, Bool, true, false, List, [], ◌∷◌, drop, refl, ap, sym, ◌∙◌, subst, Option, Some, None, cond, arith}
+use Rattle.std.proofs.Common.{◌≡◌, ℕ, suc, ◌⊎◌, inl, inr, ⊎_elim, Bool, true, false, List, [], ◌∷◌, take, drop, take-append-drop, refl, ap, sym, ◌∙◌, subst, Option, Some, None, cond, arith}
 use Rattle.std.specs.Prelude.{All, IfOk, Result, Ok, Err}
 use Rattle.std.proofs.lemmas.Option.{none-some}
 use Rattle.pathkey.specs.Order.{same}
@@ -9,13 +9,14 @@ use Rattle.message.specs.declared.msg.Msg.{Msg}
 use Rattle.message.specs.declared.msg.Msg.TheVariants.{Put, Del, DelRange, Edit}
 use Rattle.message.specs.Ranges.{reaches, before, within}
 use Rattle.message.specs.Effects.{touches, made_of, effect, effects, IsDecisive}
+use Rattle.message.proofs.Lists.{effects-append}
 use Rattle.message.proofs.KeyOrder.{both, le_lt, reaches-refl, reaches-from_not_before, not_before_from_reaches}
 use Rattle.node.specs.declared.node.Slot.{Slot}
 use Rattle.node.specs.Pure.{PNode}
 use Rattle.node.specs.Meaning.{value}
 use Rattle.node.proofs.EntryFacts.{below_next}
 use Rattle.scan.specs.Pairs.{HasNone, IsFirst}
-use Rattle.scan.specs.Stretches.{ActAlike, pair_of, slot_value}
+use Rattle.scan.specs.Stretches.{ActAlike, counting, pair_of, slot_value}
 use Rattle.scan.proofs.NextKey.{by_bool, in_range, one_key}
 use Rattle.scan.proofs.Firsts.{none_start}
 
@@ -25,6 +26,11 @@ not_two q a b x y h =
     let one : a ≡ b = sym (same_true q a x) ∙ same_true q b y in
     let far : before a b ≡ false = ap (before a) (sym one) ∙ not_before_from_reaches a a (reaches-refl a) in
     absurd (cc)
+
+-- where each key of a range has this value, the first has it
+first_of_one : {V : Type 0} (f : List ℕ → Option V) (from : List ℕ) (stop : Option (List ℕ)) → is_below from stop ≡ true → (w : Option V) → ((k : List ℕ) → within from stop k ≡ true → f k ≡ w) → IsFirst f from stop (pair_of from w)
+first_of_one f from stop some None e = e
+first_of_one f from stop some (Some v) e = let here = in_range from from stop (reaches-refl from) some in (here, e from here, none_start f from)
 
 module _ {U V : Type 0} (means : U → Option V → Option V) where
   -- messages that touch two keys alike make the same of a value at both
@@ -61,14 +67,9 @@ module _ {U V : Type 0} (means : U → Option V → Option V) where
     made_is : (k : List ℕ) → within from stop k ≡ true → made k ≡ effects means ms from (child k)
     made_is k h = effects-alike ms from k (child k) (alike k h)
 
-    -- where each key has this value, the first has it
-    at_first : (w : Option V) → ((k : List ℕ) → within from stop k ≡ true → made k ≡ w) → IsFirst made from stop (pair_of from w)
-    at_first None e = e
-    at_first (Some v) e = let here = in_range from from stop (reaches-refl from) some in (here, e from here, none_start made from)
-
-    -- nothing below counts: the messages settle the values, or there is none below
-    pub first_of_none : (i : ℕ) (settled : Bool) → IsDecisive means ms from i settled → (settled ≡ false → HasNone child from stop) → IsFirst made from stop (pair_of from (effects means (drop i ms) from None))
-    first_of_none i settled d n = at_first (effects means (drop i ms) from None) (λ k h. made_is k h ∙ sym (d.value None (child k) (λ e. sym (n e k h))))
+    -- there is no value below
+    pub first_of_none : (i : ℕ) (settled : Bool) → IsDecisive means ms from i settled → HasNone child from stop → IsFirst made from stop (pair_of from (effects means (drop i ms) from None))
+    first_of_none i settled d n = first_of_one made from stop some (effects means (drop i ms) from None) (λ k h. made_is k h ∙ sym (d.value None (child k) (λ e. sym (n k h))))
 
     module _ (p : List ℕ × V) (below : IsFirst child from stop (Some p)) where
       -- behind the first key of the stretch
@@ -114,18 +115,33 @@ if_is : {A E : Type 0} (r : Result A E) (x : A) (P : A → Type 0) → IfOk r (�
 if_is (Ok y) x P e p = subst P (sym e) p
 if_is (Err y) x P e p = tt
 
-module _ {U V E : Type 0} (means : U → Option V → Option V) (s : Slot U V) (from : List ℕ) (stop : Option (List ℕ)) (some : is_below from stop ≡ true) (alike : ActAlike s.pending.0 from stop) (i : ℕ) (settled : Bool) (d : IsDecisive means s.pending.0 from i settled) (r : Result (Option (List ℕ × V)) E) where
-  -- the messages settle the values
+module _ {U V E : Type 0} (means : U → Option V → Option V) (s : Slot U V) (from : List ℕ) (stop : Option (List ℕ)) (some : is_below from stop ≡ true) (i : ℕ) (settled : Bool) (d : IsDecisive means s.pending.0 from i settled) (alike : ActAlike (counting i settled s.pending.0) from stop) (r : Result (Option (List ℕ × V)) E) where
+  -- where they settle the values, the older messages and what is below do not count
+  value_settled : settled ≡ true → (k : List ℕ) → within from stop k ≡ true → slot_value means s k ≡ effects means (drop i s.pending.0) from None
+  value_settled e k h =
+      let child : Option V = value means s.child.value k in
+      let old : Option V = effects means (take i s.pending.0) k child in
+      let newer : ActAlike (drop i s.pending.0) from stop = subst (λ c. ActAlike (counting i c s.pending.0) from stop) e alike in
+      ap (λ (ms : List (Msg U V)). effects means ms k child) (sym (take-append-drop i s.pending.0))
+      ∙ effects-append means (take i s.pending.0) (drop i s.pending.0) k child
+      ∙ effects-alike means (drop i s.pending.0) from k old (newer k h)
+      ∙ d.value old None (λ f. absurd (cc))
+      ∙ sym (d.value None None (λ f. refl))
+
   pub first_settled : settled ≡ true → IfOk r (λ x. x ≡ pair_of from (effects means (drop i s.pending.0) from None)) → IfOk r (IsFirst (slot_value means s) from stop)
   first_settled e h = if_is r (pair_of from (effects means (drop i s.pending.0) from None)) (IsFirst (slot_value means s) from stop) h
-      (first_of_none means s.pending.0 (value means s.child.value) from stop some alike i settled d (λ f. absurd (cc)))
+      (first_of_one (slot_value means s) from stop some (effects means (drop i s.pending.0) from None) (value_settled e))
+
+  -- else all count
+  all_alike : settled ≡ false → ActAlike s.pending.0 from stop
+  all_alike e = subst (λ c. ActAlike (counting i c s.pending.0) from stop) e alike
 
   -- the child, which is n, has no pair
-  pub first_below_none : (n : PNode U V) (b : Option (List ℕ × V)) → n ≡ s.child.value → b ≡ None → IsFirst (value means n) from stop b → IfOk r (λ x. x ≡ pair_of from (effects means (drop i s.pending.0) from None)) → IfOk r (IsFirst (slot_value means s) from stop)
-  first_below_none n b en eb below h = if_is r (pair_of from (effects means (drop i s.pending.0) from None)) (IsFirst (slot_value means s) from stop) h
-      (first_of_none means s.pending.0 (value means s.child.value) from stop some alike i settled d (λ f. subst (λ m. IsFirst (value means m) from stop None) en (subst (IsFirst (value means n) from stop) eb below)))
+  pub first_below_none : settled ≡ false → (n : PNode U V) (b : Option (List ℕ × V)) → n ≡ s.child.value → b ≡ None → IsFirst (value means n) from stop b → IfOk r (λ x. x ≡ pair_of from (effects means (drop i s.pending.0) from None)) → IfOk r (IsFirst (slot_value means s) from stop)
+  first_below_none e n b en eb below h = if_is r (pair_of from (effects means (drop i s.pending.0) from None)) (IsFirst (slot_value means s) from stop) h
+      (first_of_none means s.pending.0 (value means s.child.value) from stop some (all_alike e) i settled d (subst (λ m. IsFirst (value means m) from stop None) en (subst (IsFirst (value means n) from stop) eb below)))
 
   -- the child has one
-  pub first_below_pair : (n : PNode U V) (b : Option (List ℕ × V)) (p : List ℕ × V) → n ≡ s.child.value → b ≡ Some p → IsFirst (value means n) from stop b → IfOk r (λ x. x ≡ pair_of p.0 (effects means (drop i s.pending.0) from (Some p.1))) → IfOk r (IsFirst (slot_value means s) from stop)
-  first_below_pair n b p en eb below h = if_is r (pair_of p.0 (effects means (drop i s.pending.0) from (Some p.1))) (IsFirst (slot_value means s) from stop) h
-      (first_of_pair means s.pending.0 (value means s.child.value) from stop some alike p (subst (λ m. IsFirst (value means m) from stop (Some p)) en (subst (IsFirst (value means n) from stop) eb below)) i settled d)
+  pub first_below_pair : settled ≡ false → (n : PNode U V) (b : Option (List ℕ × V)) (p : List ℕ × V) → n ≡ s.child.value → b ≡ Some p → IsFirst (value means n) from stop b → IfOk r (λ x. x ≡ pair_of p.0 (effects means (drop i s.pending.0) from (Some p.1))) → IfOk r (IsFirst (slot_value means s) from stop)
+  first_below_pair e n b p en eb below h = if_is r (pair_of p.0 (effects means (drop i s.pending.0) from (Some p.1))) (IsFirst (slot_value means s) from stop) h
+      (first_of_pair means s.pending.0 (value means s.child.value) from stop some (all_alike e) p (subst (λ m. IsFirst (value means m) from stop (Some p)) en (subst (IsFirst (value means n) from stop) eb below)) i settled d)

@@ -1,5 +1,5 @@
 -- A search of an inner node, stretch by stretch.
-use Rattle.std.proofs.Common.{◌≡◌, ℕ, ◌<◌, ◌⊎◌, ⊎_elim, true, List, [], ◌∷◌, map, length, get_or, refl, ap, sym, ◌∙◌, subst, Option, Some, None, arith}
+use Rattle.std.proofs.Common.{◌≡◌, ℕ, ◌<◌, ◌⊎◌, ⊎_elim, Bool, true, List, [], ◌∷◌, map, length, get_or, refl, ap, sym, ◌∙◌, subst, Option, Some, None, arith}
 use Rattle.std.specs.Prelude.{Contains, IfSome}
 use Rattle.pathkey.specs.Keys.{is_below}
 use Rattle.message.specs.Ranges.{reaches, earlier_end}
@@ -11,10 +11,10 @@ use Rattle.node.specs.Pure.{PNode, inner, slots}
 use Rattle.node.specs.Meaning.{slot_number, value}
 use Rattle.node.specs.Site.{end_of}
 use Rattle.scan.specs.Pairs.{HasNone, IsFirst}
-use Rattle.scan.specs.Stretches.{all_ends, IsStretch, slot_value}
+use Rattle.scan.specs.Stretches.{all_ends, counting, IsStretch, slot_value}
 use Rattle.scan.proofs.NextKey.{in_range}
 use Rattle.scan.proofs.Firsts.{none_start, none_join, first_join, first_along}
-use Rattle.scan.proofs.StretchEnds.{below_both, below_earlier}
+use Rattle.scan.proofs.StretchEnds.{below_both, below_earlier, all_count}
 use Rattle.scan.proofs.Ahead.{ahead, ahead_falls, search_ends, range_end_is, slot_end_is, message_end, pivot_end, earlier_is}
 use Rattle.scan.proofs.SlotRange.{number_inside, value_in_slot}
 
@@ -35,18 +35,27 @@ module _ {U V : Type 0} (means : U → Option V → Option V) where
     pub number : i ≡ slot_number (slots (map see_slot items)) from
     pub slot : s ≡ get_or items i s
     pub passed : HasPassed n lo from
-    pub stretch : IsStretch s.pending.0 from (earlier_end hi (end_of None (slots (map see_slot items)) i)) stop
+    pub after : is_below from stop ≡ true
+    pub inside : (k : List ℕ) → is_below k stop ≡ true → is_below k (earlier_end hi (end_of None (slots (map see_slot items)) i)) ≡ true
+    pub an_end : IfSome stop (λ d. (earlier_end hi (end_of None (slots (map see_slot items)) i) ≡ Some d) ⊎ Contains (all_ends s.pending.0) d)
 
-  -- the same in the words of the code: xs and ys are the slots, ms the messages of s, and `end` where its stretches end
-  pub stands_at : (items xs ys : List (Slot U V)) (ms : List (Msg U V)) (n : PNode U V) (lo : List ℕ) (hi : Option (List ℕ)) (from : List ℕ) (i : ℕ) (s : Slot U V) (end stop : Option (List ℕ)) → xs ≡ items → ys ≡ items → ms ≡ s.pending.0 → inner (slots (map see_slot items)) ≡ n → i < length xs → i ≡ slot_number (slots (map see_slot xs)) from → s ≡ get_or items i s → HasPassed n lo from → end ≡ earlier_end hi (end_of None (slots (map see_slot ys)) i) → IsStretch ms from end stop → IsAt items n lo hi from i s stop
-  stands_at items xs ys ms n lo hi from i s end stop ex ey em seen b number slot passed ee h = record {
-    seen = seen;
-    bound = subst (λ (zs : List (Slot U V)). i < length zs) ex b;
-    number = number ∙ ap (λ (zs : List (Slot U V)). slot_number (slots (map see_slot zs)) from) ex;
-    slot = slot;
-    passed = passed;
-    stretch = subst (λ e. IsStretch s.pending.0 from e stop) (ee ∙ ap (λ (zs : List (Slot U V)). earlier_end hi (end_of None (slots (map see_slot zs)) i)) ey) (subst (λ (zs : List (Msg U V)). IsStretch zs from end stop) em h);
-  }
+  -- the same in the words of the code: xs and ys are the slots, ms the messages of s that count, and `end` where its
+  -- stretches end
+  pub stands_at : (items xs ys : List (Slot U V)) (ms : List (Msg U V)) (j : ℕ) (settled : Bool) (n : PNode U V) (lo : List ℕ) (hi : Option (List ℕ)) (from : List ℕ) (i : ℕ) (s : Slot U V) (end stop : Option (List ℕ)) → xs ≡ items → ys ≡ items → ms ≡ counting j settled s.pending.0 → inner (slots (map see_slot items)) ≡ n → i < length xs → i ≡ slot_number (slots (map see_slot xs)) from → s ≡ get_or items i s → HasPassed n lo from → end ≡ earlier_end hi (end_of None (slots (map see_slot ys)) i) → IsStretch ms from end stop → IsAt items n lo hi from i s stop
+  stands_at items xs ys ms j settled n lo hi from i s end stop ex ey em seen b number slot passed ee h =
+      let ends : Option (List ℕ) = earlier_end hi (end_of None (slots (map see_slot items)) i) in
+      let same : end ≡ ends = ee ∙ ap (λ (zs : List (Slot U V)). earlier_end hi (end_of None (slots (map see_slot zs)) i)) ey in
+      let stretch : IsStretch (counting j settled s.pending.0) from ends stop = subst (λ e. IsStretch (counting j settled s.pending.0) from e stop) same (subst (λ (zs : List (Msg U V)). IsStretch zs from end stop) em h) in
+      record {
+        seen = seen;
+        bound = subst (λ (zs : List (Slot U V)). i < length zs) ex b;
+        number = number ∙ ap (λ (zs : List (Slot U V)). slot_number (slots (map see_slot zs)) from) ex;
+        slot = slot;
+        passed = passed;
+        after = stretch.after;
+        inside = stretch.inside;
+        an_end = all_count s.pending.0 j settled ends stop stretch.an_end;
+      }
 
   -- a key below the end lies below the end of its slot
   pub from_below : (items xs ys : List (Slot U V)) (hi : Option (List ℕ)) (from : List ℕ) (i : ℕ) (end : Option (List ℕ)) → xs ≡ items → ys ≡ items → i ≡ slot_number (slots (map see_slot xs)) from → is_below from hi ≡ true → end ≡ earlier_end hi (end_of None (slots (map see_slot ys)) i) → is_below from end ≡ true
@@ -56,7 +65,7 @@ module _ {U V : Type 0} (means : U → Option V → Option V) where
 
   module _ (items : List (Slot U V)) (n : PNode U V) (lo : List ℕ) (hi : Option (List ℕ)) (from : List ℕ) (i : ℕ) (s : Slot U V) (stop : Option (List ℕ)) (x : IsAt items n lo hi from i s stop) where
     below_ends : (k : List ℕ) → is_below k stop ≡ true → (is_below k hi ≡ true) × (is_below k (end_of None (slots (map see_slot items)) i) ≡ true)
-    below_ends k h = below_both hi (end_of None (slots (map see_slot items)) i) k (x.stretch.inside k h)
+    below_ends k h = below_both hi (end_of None (slots (map see_slot items)) i) k (x.inside k h)
 
     -- the first pair of the slot on the stretch is that of the node
     first_of_node : (r : Option (List ℕ × V)) → IsFirst (slot_value means s) from stop r → IsFirst (value means n) from stop r
@@ -77,7 +86,7 @@ module _ {U V : Type 0} (means : U → Option V → Option V) where
     -- it has none, and the search goes on where the stretch ends
     pub goes_on : (next : List ℕ) → stop ≡ Some next → IsFirst (slot_value means s) from stop None → HasPassed n lo next
     goes_on next e h =
-        let after : is_below from (Some next) ≡ true = subst (λ o. is_below from o ≡ true) e x.stretch.after in
+        let after : is_below from (Some next) ≡ true = subst (λ o. is_below from o ≡ true) e x.after in
         record {
           reached = le_le lo from next x.passed.reached (reaches-from_before from next after);
           none = none_join (value means n) lo from (Some next) x.passed.none (subst (λ o. HasNone (value means n) from o) e (first_of_node None h));
@@ -86,8 +95,8 @@ module _ {U V : Type 0} (means : U → Option V → Option V) where
     -- with fewer ends ahead
     pub fewer_ahead : (next : List ℕ) → stop ≡ Some next → ahead next (search_ends hi items) < ahead from (search_ends hi items)
     fewer_ahead next e =
-        let after : is_below from (Some next) ≡ true = subst (λ o. is_below from o ≡ true) e x.stretch.after in
-        let one : (earlier_end hi (end_of None (slots (map see_slot items)) i) ≡ Some next) ⊎ Contains (all_ends s.pending.0) next = subst (λ o. IfSome o (λ d. (earlier_end hi (end_of None (slots (map see_slot items)) i) ≡ Some d) ⊎ Contains (all_ends s.pending.0) d)) e x.stretch.an_end in
+        let after : is_below from (Some next) ≡ true = subst (λ o. is_below from o ≡ true) e x.after in
+        let one : (earlier_end hi (end_of None (slots (map see_slot items)) i) ≡ Some next) ⊎ Contains (all_ends s.pending.0) next = subst (λ o. IfSome o (λ d. (earlier_end hi (end_of None (slots (map see_slot items)) i) ≡ Some d) ⊎ Contains (all_ends s.pending.0) d)) e x.an_end in
         ahead_falls from next (search_ends hi items) after (⊎_elim
         (λ t. ⊎_elim (λ h. range_end_is hi items next h) (λ p. slot_end_is hi items next (pivot_end items i next p)) (earlier_is hi (end_of None (slots (map see_slot items)) i) next t))
         (λ t. slot_end_is hi items next (message_end items i s next x.bound (subst (λ (z : Slot U V). Contains (all_ends z.pending.0) next) x.slot t)))

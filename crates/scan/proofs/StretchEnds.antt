@@ -1,5 +1,5 @@
 -- Where stretches end.
-use Rattle.std.proofs.Common.{◌≡◌, ℕ, zero, suc, ◌+◌, ◌<◌, ◌≤◌, ◌⊎◌, inl, inr, Bool, true, false, List, [], ◌∷◌, ◌++◌, length, take, get_or, refl, ap, sym, ◌∙◌, subst, Option, Some, None, cond, arith}
+use Rattle.std.proofs.Common.{◌≡◌, ℕ, zero, suc, ◌+◌, ◌<◌, ◌≤◌, ◌⊎◌, inl, inr, Bool, true, false, List, [], ◌∷◌, ◌++◌, length, take, drop, get_or, take-append-drop, refl, ap, sym, ◌∙◌, subst, Option, Some, None, cond, arith}
 use Rattle.std.specs.Option.{option_to_list}
 use Rattle.std.specs.Prelude.{◌&&◌, Contains, IfSome}
 use Rattle.std.proofs.lemmas.Bool.{false_from_ne_true}
@@ -15,7 +15,7 @@ use Rattle.message.specs.Ranges.{reaches, before, within, earlier_end}
 use Rattle.message.specs.Effects.{touches}
 use Rattle.message.proofs.KeyOrder.{both, le_le, le_lt, lt_le, reaches-from_before, reaches-from_not_before, begins_before_end}
 use Rattle.node.proofs.EntryFacts.{beyond, unlike_earlier, unlike_later}
-use Rattle.scan.specs.Stretches.{ahead_of, range_end, is_for, ends_of, all_ends, IsNextEnd, IsStretch}
+use Rattle.scan.specs.Stretches.{counting, ahead_of, range_end, is_for, ends_of, all_ends, IsNextEnd, IsStretch}
 use Rattle.scan.proofs.NextKey.{in_range, not_reaches, before-next, reaches-from_before_next, one_before_next}
 
 -- ---- one end
@@ -143,6 +143,20 @@ module _ {U V : Type 0} where
   all_ends-append : (xs ys : List (Msg U V)) → all_ends (xs ++ ys) ≡ all_ends xs ++ all_ends ys
   all_ends-append [] ys = refl
   all_ends-append (x ∷ xs) ys = ap (λ z. ends_of x ++ z) (all_ends-append xs ys) ∙ sym (append_assoc (ends_of x) (all_ends xs) (all_ends ys))
+
+  -- an end of messages that count is an end of all
+  counted : (ms : List (Msg U V)) (j : ℕ) (settled : Bool) (d : List ℕ) → Contains (all_ends (counting j settled ms)) d → Contains (all_ends ms) d
+  counted ms j true d h =
+      let parts : all_ends (take j ms) ++ all_ends (drop j ms) ≡ all_ends ms = sym (all_ends-append (take j ms) (drop j ms)) ∙ ap all_ends (take-append-drop j ms) in
+      subst (λ xs. Contains xs d) parts (Contains-append_right (all_ends (take j ms)) (all_ends (drop j ms)) d h)
+  counted ms j false d h = h
+
+  pub all_count : (ms : List (Msg U V)) (j : ℕ) (settled : Bool) (end stop : Option (List ℕ)) → IfSome stop (λ d. (end ≡ Some d) ⊎ Contains (all_ends (counting j settled ms)) d) → IfSome stop (λ d. (end ≡ Some d) ⊎ Contains (all_ends ms) d)
+  all_count ms j settled end stop = weaker (λ d. (end ≡ Some d) ⊎ Contains (all_ends (counting j settled ms)) d) (λ d. (end ≡ Some d) ⊎ Contains (all_ends ms) d) stop (λ d. of_all d)
+    where
+      of_all : (d : List ℕ) → (end ≡ Some d) ⊎ Contains (all_ends (counting j settled ms)) d → (end ≡ Some d) ⊎ Contains (all_ends ms) d
+      of_all d (inl t) = inl t
+      of_all d (inr t) = inr (counted ms j settled d t)
 
   -- no message
   pub stretch_start : (ms : List (Msg U V)) (from : List ℕ) (end : Option (List ℕ)) → ms ≡ [] → is_below from end ≡ true → IsStretch ms from end end

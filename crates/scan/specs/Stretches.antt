@@ -1,5 +1,5 @@
 -- Stretches: keys in a row of which each message touches all or none.
-use Rattle.std.specs.Prelude.{◌≡◌, ℕ, ◌⊎◌, Bool, true, false, if◌then◌else◌, List, [], ◌∷◌, ◌++◌, Option, Some, None, IfSome, All, Contains}
+use Rattle.std.specs.Prelude.{◌≡◌, ℕ, ◌⊎◌, Bool, true, false, if◌then◌else◌, List, [], ◌∷◌, ◌++◌, drop, Option, Some, None, IfSome, All, Contains}
 use Rattle.std.specs.Option.{option_to_list}
 use Rattle.pathkey.specs.Order.{same}
 use Rattle.pathkey.specs.Keys.{is_below, next_key}
@@ -34,6 +34,10 @@ module _ {U V : Type 0} where
   -- the message is one for the key k alone
   abbrev pub is_for : Msg U V → List ℕ → Bool
   is_for m k = is_key (point m) k
+
+  -- the messages that count from a key on, where those from number i on decide the value there
+  abbrev pub counting : ℕ → Bool → List (Msg U V) → List (Msg U V)
+  counting i settled ms = if settled then drop i ms else ms
 
   -- each message touches all keys from `from` up to and without `stop`, or none of them
   abbrev pub ActAlike : List (Msg U V) → List ℕ → Option (List ℕ) → Type 0

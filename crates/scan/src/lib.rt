@@ -1,8 +1,8 @@
 //! The first pairs of a range of keys, in key order, through the messages that wait on the way to the leaves.
 //!
-//! A search goes from one stretch of keys to the next. Up to where the next pivot stands, or the next message begins or
-//! ends, each message touches all keys or none, so that a stretch under a range-delete is passed at once, and at any
-//! other the first pair of the child decides.
+//! A search goes from one stretch of keys to the next: up to where the next pivot stands, or the next message begins or
+//! ends, each message touches all keys or none. A stretch under a range-delete is passed at once, with all older messages
+//! for its keys, and on any other the first pair of the child decides.
 #![tactic(auto)]
 
 ghost use Rattle.std.specs.Prelude.{IfOk};

@@ -2,13 +2,14 @@
 ghost use Rattle.std.specs.Prelude.{◌≡◌, IfOk, true};
 ghost use Rattle.std.specs.Option.{option_copied};
 ghost use Rattle.pathkey.specs.Keys.{is_below};
+ghost use Rattle.message.specs.Effects.{IsDecisive};
 ghost use Rattle.node.specs.Meaning.{value as value_at};
 ghost use Rattle.node.specs.Ready.{IsSearchable};
 ghost use Rattle.scan.specs.Pairs.{IsFirst};
-ghost use Rattle.scan.specs.Stretches.{ActAlike, slot_value};
+ghost use Rattle.scan.specs.Stretches.{ActAlike, counting, slot_value};
 
 use crate::leaf::first_entry;
-use crate::slot::{made_of_none, made_of_pair, slot_end};
+use crate::slot::{counting, made_of_none, made_of_pair, slot_end};
 use crate::stretch::stretch_end;
 use message::Update;
 use message::ends::is_before_end;
@@ -41,9 +42,11 @@ pub fn first<U: Update>(
     'stretches: while is_before_end(&from, hi) {
         let i = slot_of(slots.as_slice(), &from);
         let slot = &slots[i];
+        let (decisive, settled) = slot.pending.decisive(&from);
+        let msgs = counting(&slot.pending, decisive, settled);
         let end = slot_end(slots.as_slice(), i, hi);
-        let stop = stretch_end(alloc, slot.pending.as_slice(), &from, end)?;
-        if let Some(pair) = first_of_slot(alloc, slot, &from, stop.as_ref())? {
+        let stop = stretch_end(alloc, msgs, &from, end)?;
+        if let Some(pair) = first_of_slot(alloc, slot, &from, stop.as_ref(), decisive, settled)? {
             return Ok(Some(pair));
         }
         let Some(next) = stop else {
@@ -54,7 +57,7 @@ pub fn first<U: Update>(
     Ok(None)
 }
 
-/// The first pair of a slot on a stretch of its messages.
+/// The first pair of a slot on a stretch of the messages that count there.
 ///
 /// The child is not asked where a message settles the values of the stretch.
 #[cycle(first)]
@@ -63,13 +66,15 @@ fn first_of_slot<U: Update>(
     slot: &Slot<U>,
     from: &Key,
     stop: Option<&Key>,
+    decisive: usize,
+    settled: bool,
 ) -> Result<Option<(Key, U::Value)>, NoMemory>
     requires searchable { IsSearchable slot.now.child.value }
     requires some { is_below from.now (option_copied stop) ≡ true }
-    requires alike { ActAlike slot.now.pending.0 from.now (option_copied stop) }
+    requires decisive { IsDecisive U.means slot.now.pending.0 from.now decisive settled }
+    requires alike { ActAlike (counting decisive settled slot.now.pending.0) from.now (option_copied stop) }
     ensures { IfOk result (λ r. IsFirst (slot_value U.means slot.now) from.now (option_copied stop.entry) r) }
 {
-    let (decisive, settled) = slot.pending.decisive(from);
     if settled {
         return made_of_none(alloc, &slot.pending, from, decisive);
     }

@@ -6,10 +6,10 @@ ghost use Rattle.message.specs.Ranges.{earlier_end};
 ghost use Rattle.node.specs.Pure.{slots as slots_of};
 ghost use Rattle.node.specs.See.{see_slot};
 ghost use Rattle.node.specs.Site.{end_of};
-ghost use Rattle.scan.specs.Stretches.{pair_of};
+ghost use Rattle.scan.specs.Stretches.{counting, pair_of};
 
 use message::ends::earlier;
-use message::{Pending, Update};
+use message::{Msg, Pending, Update};
 use node::Slot;
 use pathkey::{Key, NoMemory};
 use std::alloc::Global;
@@ -27,6 +27,17 @@ pub fn slot_end<'a, U: Update>(
         return hi;
     }
     earlier(hi, Some(&slots[i + 1].lo))
+}
+
+/// The messages that count from a key on: those from the one on that settles the value there, or else all.
+pub fn counting<U: Update>(pending: &Pending<U>, decisive: usize, settled: bool) -> &[Msg<U>]
+    requires { decisive ≤ length pending.now.0 }
+    ensures { result.now ≡ counting decisive settled pending.now.0 }
+{
+    if settled {
+        return &pending.as_slice()[decisive..];
+    }
+    pending.as_slice()
 }
 
 /// The key with what the messages from number `first` on make of no value there, if that is a value.

@@ -9,7 +9,7 @@ use Rattle.node.specs.declared.node.Slot.{Slot}
 use Rattle.node.proofs.Placing.{searchable_child, depth_child}
 use Rattle.pathkey.specs.Keys.{is_below}
 use Rattle.message.specs.declared.msg.Msg.{Msg}
-use Rattle.scan.specs.Stretches.{ActAlike, slot_value}
+use Rattle.scan.specs.Stretches.{ActAlike, counting, slot_value}
 use Rattle.scan.proofs.OnStretches.{first_settled, first_below_none, first_below_pair}
 use Rattle.scan.proofs.Firsts.{none_past, as_called}
 use Rattle.scan.proofs.Searching.{at_start, from_below, stands_at, found, no_more, goes_on, fewer_ahead}
@@ -39,8 +39,8 @@ first-first_of_slot-requires g t c κs within =
     let stretch = c.in_ok-stop.ensures in
     let e = sym c.as_ref.ensures.value in
     let some = subst (λ o. is_below c.stretches.from o ≡ true) e stretch.after in
-    let alike = subst (λ o. ActAlike s.pending.0 c.stretches.from o) e (subst (λ (ms : List (Msg U V)). ActAlike ms c.stretches.from c.in_ok-stop.stop) c.as_slice-in-stretches-3.ensures stretch.alike) in
-    (subst (λ m. 2 * depth s.child.value + 1 < m) d falls, (within.0, (within.1, (child, (some, alike)))))
+    let alike = subst (λ o. ActAlike (counting c.decisive-decisive.result.0 c.decisive-decisive.result.1 s.pending.0) c.stretches.from o) e (subst (λ (ms : List (Msg U V)). ActAlike ms c.stretches.from c.in_ok-stop.stop) c.counting-msgs.ensures stretch.alike) in
+    (subst (λ m. 2 * depth s.child.value + 1 < m) d falls, (within.0, (within.1, (child, (some, (c.decisive-decisive.ensures, alike))))))
 
 pub first-returns-in-Some : goal.first-returns-in-Some
 first-returns-in-Some g t c =
@@ -53,7 +53,7 @@ first-returns-in-Some g t c =
     let i = c.slot_of-i.result in
     let s = c.index-slot.result.now in
     let stop = c.in_ok-stop.stop in
-    let at = stands_at means items c.as_slice-in-stretches.result.now c.as_slice-in-stretches-2.result.now c.as_slice-in-stretches-3.result.now n lo hi from i s (option_copied c.slot_end-end.result) stop c.as_slice-in-stretches.ensures.value c.as_slice-in-stretches-2.ensures.value c.as_slice-in-stretches-3.ensures (ap see (sym c.in-Inner.is) ∙ c.body.ensures) c.slot_of-i.ensures.bound c.slot_of-i.ensures.number c.index-slot.ensures c.stretches.invariant c.slot_end-end.ensures c.in_ok-stop.ensures in
+    let at = stands_at means items c.as_slice-in-stretches.result.now c.as_slice-in-stretches-2.result.now c.counting-msgs.result.now c.decisive-decisive.result.0 c.decisive-decisive.result.1 n lo hi from i s (option_copied c.slot_end-end.result) stop c.as_slice-in-stretches.ensures.value c.as_slice-in-stretches-2.ensures.value c.counting-msgs.ensures (ap see (sym c.in-Inner.is) ∙ c.body.ensures) c.slot_of-i.ensures.bound c.slot_of-i.ensures.number c.index-slot.ensures c.stretches.invariant c.slot_end-end.ensures c.in_ok-stop.ensures in
     found means items n lo hi from i s stop at c.in-Some.pair (as_called (slot_value means s) from (option_copied c.as_ref.result) stop c.in_ok-pair.field-0 (Some c.in-Some.pair) c.as_ref.ensures.value c.in-Some.is c.in_ok-pair.ensures)
 
 pub first-returns-in_default-stop : goal.first-returns-in_default-stop
@@ -67,7 +67,7 @@ first-returns-in_default-stop g t c =
     let i = c.slot_of-i.result in
     let s = c.index-slot.result.now in
     let stop = c.in_ok-stop.stop in
-    let at = stands_at means items c.as_slice-in-stretches.result.now c.as_slice-in-stretches-2.result.now c.as_slice-in-stretches-3.result.now n lo hi from i s (option_copied c.slot_end-end.result) stop c.as_slice-in-stretches.ensures.value c.as_slice-in-stretches-2.ensures.value c.as_slice-in-stretches-3.ensures (ap see (sym c.in-Inner.is) ∙ c.body.ensures) c.slot_of-i.ensures.bound c.slot_of-i.ensures.number c.index-slot.ensures c.stretches.invariant c.slot_end-end.ensures c.in_ok-stop.ensures in
+    let at = stands_at means items c.as_slice-in-stretches.result.now c.as_slice-in-stretches-2.result.now c.counting-msgs.result.now c.decisive-decisive.result.0 c.decisive-decisive.result.1 n lo hi from i s (option_copied c.slot_end-end.result) stop c.as_slice-in-stretches.ensures.value c.as_slice-in-stretches-2.ensures.value c.counting-msgs.ensures (ap see (sym c.in-Inner.is) ∙ c.body.ensures) c.slot_of-i.ensures.bound c.slot_of-i.ensures.number c.index-slot.ensures c.stretches.invariant c.slot_end-end.ensures c.in_ok-stop.ensures in
     no_more means items n lo hi from i s stop at c.in_default-stop.is (as_called (slot_value means s) from (option_copied c.as_ref.result) stop c.in_ok-pair.field-0 None c.as_ref.ensures.value c.in_default.is c.in_ok-pair.ensures)
 
 pub first-stretches-smaller : goal.first-stretches-smaller
@@ -81,7 +81,7 @@ first-stretches-smaller g t c =
     let i = c.slot_of-i.result in
     let s = c.index-slot.result.now in
     let stop = c.in_ok-stop.stop in
-    let at = stands_at means items c.as_slice-in-stretches.result.now c.as_slice-in-stretches-2.result.now c.as_slice-in-stretches-3.result.now n lo hi from i s (option_copied c.slot_end-end.result) stop c.as_slice-in-stretches.ensures.value c.as_slice-in-stretches-2.ensures.value c.as_slice-in-stretches-3.ensures (ap see (sym c.in-Inner.is) ∙ c.body.ensures) c.slot_of-i.ensures.bound c.slot_of-i.ensures.number c.index-slot.ensures c.stretches.invariant c.slot_end-end.ensures c.in_ok-stop.ensures in
+    let at = stands_at means items c.as_slice-in-stretches.result.now c.as_slice-in-stretches-2.result.now c.counting-msgs.result.now c.decisive-decisive.result.0 c.decisive-decisive.result.1 n lo hi from i s (option_copied c.slot_end-end.result) stop c.as_slice-in-stretches.ensures.value c.as_slice-in-stretches-2.ensures.value c.counting-msgs.ensures (ap see (sym c.in-Inner.is) ∙ c.body.ensures) c.slot_of-i.ensures.bound c.slot_of-i.ensures.number c.index-slot.ensures c.stretches.invariant c.slot_end-end.ensures c.in_ok-stop.ensures in
     fewer_ahead means items n lo hi from i s stop at c.in-Some-stop.next c.in-Some-stop.is
 
 pub first-stretches-preserved : goal.first-stretches-preserved
@@ -95,17 +95,17 @@ first-stretches-preserved g t c =
     let i = c.slot_of-i.result in
     let s = c.index-slot.result.now in
     let stop = c.in_ok-stop.stop in
-    let at = stands_at means items c.as_slice-in-stretches.result.now c.as_slice-in-stretches-2.result.now c.as_slice-in-stretches-3.result.now n lo hi from i s (option_copied c.slot_end-end.result) stop c.as_slice-in-stretches.ensures.value c.as_slice-in-stretches-2.ensures.value c.as_slice-in-stretches-3.ensures (ap see (sym c.in-Inner.is) ∙ c.body.ensures) c.slot_of-i.ensures.bound c.slot_of-i.ensures.number c.index-slot.ensures c.stretches.invariant c.slot_end-end.ensures c.in_ok-stop.ensures in
+    let at = stands_at means items c.as_slice-in-stretches.result.now c.as_slice-in-stretches-2.result.now c.counting-msgs.result.now c.decisive-decisive.result.0 c.decisive-decisive.result.1 n lo hi from i s (option_copied c.slot_end-end.result) stop c.as_slice-in-stretches.ensures.value c.as_slice-in-stretches-2.ensures.value c.counting-msgs.ensures (ap see (sym c.in-Inner.is) ∙ c.body.ensures) c.slot_of-i.ensures.bound c.slot_of-i.ensures.number c.index-slot.ensures c.stretches.invariant c.slot_end-end.ensures c.in_ok-stop.ensures in
     goes_on means items n lo hi from i s stop at c.in-Some-stop.next c.in-Some-stop.is (as_called (slot_value means s) from (option_copied c.as_ref.result) stop c.in_ok-pair.field-0 None c.as_ref.ensures.value c.in_default.is c.in_ok-pair.ensures)
 
 pub first-returns : goal.first-returns
 first-returns g t c = none_past (value g.U.Update.means c.args.node.now) c.args.lo.now c.stretches.from (option_copied c.args.hi) c.stretches.invariant.none (sym c.is_before_end.ensures ∙ c.stretches-test.false)
 
 pub first_of_slot-returns-then-settled : goal.first_of_slot-returns-then-settled
-first_of_slot-returns-then-settled g t c = first_settled g.U.Update.means c.args.slot.now c.args.from.now (option_copied c.args.stop) c.requires.some c.requires.alike c.decisive-decisive.result.0 c.decisive-decisive.result.1 c.decisive-decisive.ensures c.made_of_none.result c.if-settled.true c.made_of_none.ensures
+first_of_slot-returns-then-settled g t c = first_settled g.U.Update.means c.args.slot.now c.args.from.now (option_copied c.args.stop) c.requires.some c.args.decisive c.args.settled c.requires.decisive c.requires.alike c.made_of_none.result c.if-settled.true c.made_of_none.ensures
 
 pub first_of_slot-returns-in-None : goal.first_of_slot-returns-in-None
-first_of_slot-returns-in-None g t c = first_below_none g.U.Update.means c.args.slot.now c.args.from.now (option_copied c.args.stop) c.requires.some c.requires.alike c.decisive-decisive.result.0 c.decisive-decisive.result.1 c.decisive-decisive.ensures c.made_of_none-in-None.result c.deref.result.now c.in_ok-first.field-0 c.deref.ensures c.in-None.is c.in_ok-first.ensures c.made_of_none-in-None.ensures
+first_of_slot-returns-in-None g t c = first_below_none g.U.Update.means c.args.slot.now c.args.from.now (option_copied c.args.stop) c.requires.some c.args.decisive c.args.settled c.requires.decisive c.requires.alike c.made_of_none-in-None.result c.if-settled.false c.deref.result.now c.in_ok-first.field-0 c.deref.ensures c.in-None.is c.in_ok-first.ensures c.made_of_none-in-None.ensures
 
 pub first_of_slot-returns-in-Some : goal.first_of_slot-returns-in-Some
-first_of_slot-returns-in-Some g t c = first_below_pair g.U.Update.means c.args.slot.now c.args.from.now (option_copied c.args.stop) c.requires.some c.requires.alike c.decisive-decisive.result.0 c.decisive-decisive.result.1 c.decisive-decisive.ensures c.made_of_pair.result c.deref.result.now c.in_ok-first.field-0 c.in-Some.pair c.deref.ensures c.in-Some.is c.in_ok-first.ensures c.made_of_pair.ensures
+first_of_slot-returns-in-Some g t c = first_below_pair g.U.Update.means c.args.slot.now c.args.from.now (option_copied c.args.stop) c.requires.some c.args.decisive c.args.settled c.requires.decisive c.requires.alike c.made_of_pair.result c.if-settled.false c.deref.result.now c.in_ok-first.field-0 c.in-Some.pair c.deref.ensures c.in-Some.is c.in_ok-first.ensures c.made_of_pair.ensures
