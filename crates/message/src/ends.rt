@@ -1,6 +1,7 @@
 //! Ends of ranges: the later of two beginnings, the earlier of two ends.
 ghost use Rattle.std.specs.Prelude.{◌≡◌, IfOk};
 ghost use Rattle.std.specs.Option.{option_copied};
+ghost use Rattle.pathkey.specs.Keys.{is_below};
 ghost use Rattle.message.specs.Ranges.{within, later_key, earlier_end};
 
 use pathkey::{Key, NoMemory};
@@ -14,17 +15,40 @@ pub fn later_key(alloc: Global, a: &Key, b: &Key) -> Result<Key, NoMemory>
     later.copy(alloc)
 }
 
-/// A copy of the earlier of two ends; `None` is no end.
+/// The earlier of two ends; `None` is no end. It takes no memory.
+pub fn earlier<'a>(a: Option<&'a Key>, b: Option<&'a Key>) -> Option<&'a Key>
+    ensures { option_copied result ≡ earlier_end (option_copied a.entry) (option_copied b.entry) }
+{
+    match (a, b) {
+        (None, end) | (end, None) => end,
+        (Some(a), Some(b)) => Some(if a.cmp(b).is_lt() { a } else { b }),
+    }
+}
+
+/// A copy of the earlier of two ends.
 pub fn earlier_end(alloc: Global, a: Option<&Key>, b: Option<&Key>) -> Result<Option<Key>, NoMemory>
     ensures { IfOk result (λ k. k ≡ earlier_end (option_copied a.entry) (option_copied b.entry)) }
 {
-    let earlier = match (a, b) {
-        (None, end) | (end, None) => end,
-        (Some(a), Some(b)) => Some(if a.cmp(b).is_lt() { a } else { b }),
-    };
-    match earlier {
+    copy_end(alloc, earlier(a, b))
+}
+
+/// An equal end.
+pub fn copy_end(alloc: Global, end: Option<&Key>) -> Result<Option<Key>, NoMemory>
+    ensures { IfOk result (λ k. k ≡ option_copied end.entry) }
+{
+    match end {
         None => Ok(None),
         Some(end) => Ok(Some(end.copy(alloc)?)),
+    }
+}
+
+/// Whether the key lies before the end; `None` is no end. It takes no memory.
+pub fn is_before_end(key: &Key, end: Option<&Key>) -> bool
+    ensures { result ≡ is_below key.now (option_copied end.entry) }
+{
+    match end {
+        None => true,
+        Some(end) => key.cmp(end).is_lt(),
     }
 }
 
@@ -32,9 +56,5 @@ pub fn earlier_end(alloc: Global, a: Option<&Key>, b: Option<&Key>) -> Result<Op
 pub fn is_within(key: &Key, lo: &Key, hi: Option<&Key>) -> bool
     ensures { result ≡ within lo.now (option_copied hi.entry) key.now }
 {
-    lo.cmp(key).is_le()
-        && match hi {
-            None => true,
-            Some(hi) => key.cmp(hi).is_lt(),
-        }
+    lo.cmp(key).is_le() && is_before_end(key, hi)
 }

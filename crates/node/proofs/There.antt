@@ -16,14 +16,14 @@ module _ {U V : Type 0} where
   slots_from-get (x ∷ xs) (suc i) d h = slots_from-get xs i d (omega arith)
 
   -- a slot ends where the next begins
-  end_of-next : (xs : List (Slot U V)) (i : ℕ) (hi : Option (List ℕ)) (d : Slot U V) → suc i < length xs → end_of hi (slots (map see_slot xs)) i ≡ Some (get_or xs (suc i) d).lo
+  pub end_of-next : (xs : List (Slot U V)) (i : ℕ) (hi : Option (List ℕ)) (d : Slot U V) → suc i < length xs → end_of hi (slots (map see_slot xs)) i ≡ Some (get_or xs (suc i) d).lo
   end_of-next [] i hi d h = absurd (omega arith)
   end_of-next (x ∷ []) i hi d h = absurd (omega arith)
   end_of-next (x ∷ (y ∷ xs)) zero hi d h = refl
   end_of-next (x ∷ (y ∷ xs)) (suc i) hi d h = end_of-next (y ∷ xs) i hi d (omega arith)
 
   -- the last ends where all end
-  end_of-last : (xs : List (Slot U V)) (i : ℕ) (hi : Option (List ℕ)) → length xs ≤ suc i → end_of hi (slots (map see_slot xs)) i ≡ hi
+  pub end_of-last : (xs : List (Slot U V)) (i : ℕ) (hi : Option (List ℕ)) → length xs ≤ suc i → end_of hi (slots (map see_slot xs)) i ≡ hi
   end_of-last [] i hi h = refl
   end_of-last (x ∷ []) zero hi h = refl
   end_of-last (x ∷ []) (suc i) hi h = refl

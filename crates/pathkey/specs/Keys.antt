@@ -13,6 +13,10 @@ use Rattle.pathkey.specs.declared.range.KeyRange.{KeyRange}
 abbrev pub Key : Type 0
 Key = List ℕ
 
+-- the least key after k
+abbrev pub next_key : Key → Key
+next_key k = k ++ 0 ∷ []
+
 -- the path's key with its last byte made 1, for a path that is not the root
 abbrev pub end_of : Path → Key
 end_of p = join_with_byte 0 p ++ 1 ∷ []

@@ -4,6 +4,7 @@ ghost use Rattle.std.specs.Cmp.{partial_order_from_agreeing_total};
 ghost use Rattle.std.specs.Ordering.{as_partial_cmp, eq_by_cmp};
 ghost use Rattle.std.proofs.Common.{refl};
 ghost use Rattle.pathkey.specs.Texts.{null_for_slash};
+ghost use Rattle.pathkey.specs.Keys.{next_key};
 ghost use Rattle.pathkey.specs.Order.{by_bytes, by_bytes_total, by_bytes_equiv, by_bytes_partial_equiv};
 
 use crate::errno::NoMemory;
@@ -83,6 +84,13 @@ impl Key {
         ensures { IfOk result (λ k. k ≡ self.now) }
     {
         Key::from_bytes(alloc, self.as_bytes())
+    }
+
+    /// The least key after this one.
+    pub fn next(&self, alloc: Global) -> Result<Key, NoMemory>
+        ensures { IfOk result (λ k. k ≡ next_key self.now) }
+    {
+        Key::joined(alloc, self.as_bytes(), &[0])
     }
 }
 

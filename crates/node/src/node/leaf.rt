@@ -13,7 +13,7 @@ use pathkey::{Key, KeyRange, NoMemory};
 use std::alloc::Global;
 
 /// How many entries stand before the key, found by bisection.
-fn count_before<V>(entries: &[(Key, V)], key: &Key) -> usize
+pub fn count_before<V>(entries: &[(Key, V)], key: &Key) -> usize
     requires { Rises [] None entries.now }
     ensures { IsCount entries.now (Some key.now) result }
 {

@@ -1,0 +1,9 @@
+pub mod NextKey
+pub mod Firsts
+pub mod OnStretches
+pub mod StretchEnds
+pub mod Ahead
+pub mod SlotRange
+pub mod Searching
+pub mod LeafFirst
+pub mod Parts

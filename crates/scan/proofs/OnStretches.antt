@@ -1,0 +1,147 @@
+-- On a stretch the messages make the same of a value at each key, and the first pair of what is below decides.
+use Rattle.std.proofs.Common.{◌≡◌, ℕ, suc, ◌⊎◌, inl, inr, ⊎_elim, Bool, true, false, List, [], ◌∷◌, take, drop, take-append-drop, refl, ap, sym, ◌∙◌, subst, Option, Some, None, cond, arith}
+use Rattle.std.specs.Prelude.{All, IfOk, Result, Ok, Err}
+use Rattle.std.proofs.lemmas.Option.{none-some}
+use Rattle.pathkey.specs.Order.{same}
+use Rattle.pathkey.specs.Keys.{is_below}
+use Rattle.pathkey.proofs.OrderFacts.{same_true}
+use Rattle.message.specs.declared.msg.Msg.{Msg}
+use Rattle.message.specs.declared.msg.Msg.TheVariants.{Put, Del, DelRange, Edit}
+use Rattle.message.specs.Ranges.{reaches, before, within}
+use Rattle.message.specs.Effects.{touches, made_of, effect, effects, IsDecisive}
+use Rattle.message.proofs.Lists.{effects-append}
+use Rattle.message.proofs.KeyOrder.{both, le_lt, reaches-refl, reaches-from_not_before, not_before_from_reaches}
+use Rattle.node.specs.declared.node.Slot.{Slot}
+use Rattle.node.specs.Pure.{PNode}
+use Rattle.node.specs.Meaning.{value}
+use Rattle.node.proofs.EntryFacts.{below_next}
+use Rattle.scan.specs.Pairs.{HasNone, IsFirst}
+use Rattle.scan.specs.Stretches.{ActAlike, counting, pair_of, slot_value}
+use Rattle.scan.proofs.NextKey.{by_bool, in_range, one_key}
+use Rattle.scan.proofs.Firsts.{none_start}
+
+-- a key is not two keys
+not_two : {P : Type 0} (q a b : List ℕ) → same q a ≡ true → same q b ≡ true → before a b ≡ true → P
+not_two q a b x y h =
+    let one : a ≡ b = sym (same_true q a x) ∙ same_true q b y in
+    let far : before a b ≡ false = ap (before a) (sym one) ∙ not_before_from_reaches a a (reaches-refl a) in
+    absurd (cc)
+
+-- where each key of a range has this value, the first has it
+first_of_one : {V : Type 0} (f : List ℕ → Option V) (from : List ℕ) (stop : Option (List ℕ)) → is_below from stop ≡ true → (w : Option V) → ((k : List ℕ) → within from stop k ≡ true → f k ≡ w) → IsFirst f from stop (pair_of from w)
+first_of_one f from stop some None e = e
+first_of_one f from stop some (Some v) e = let here = in_range from from stop (reaches-refl from) some in (here, e from here, none_start f from)
+
+module _ {U V : Type 0} (means : U → Option V → Option V) where
+  -- messages that touch two keys alike make the same of a value at both
+  effects-alike : (ms : List (Msg U V)) (from k : List ℕ) (o : Option V) → All (λ m. touches m k ≡ touches m from) ms → effects means ms k o ≡ effects means ms from o
+  effects-alike [] from k o a = refl
+  effects-alike (m ∷ ms) from k o a =
+      let here : effect means m k o ≡ effect means m from o = ap (λ b. cond b (made_of means m o) o) (a 0 m (omega arith)) in
+      ap (effects means ms k) here ∙ effects-alike ms from k (effect means m from o) (λ j d h. a (suc j) d (omega arith))
+
+  -- a message that touches two keys takes their values away
+  takes_away : (m : Msg U V) (from k : List ℕ) (o : Option V) → before from k ≡ true → touches m from ≡ true → touches m k ≡ true → made_of means m o ≡ None
+  takes_away (Put q v) from k o h x y = not_two q from k x y h
+  takes_away (Del q) from k o h x y = refl
+  takes_away (DelRange r) from k o h x y = refl
+  takes_away (Edit q u) from k o h x y = not_two q from k x y h
+
+  -- messages that touch two keys alike leave each value as it was, or take each away
+  leaves_or_takes : (ms : List (Msg U V)) (from k : List ℕ) → before from k ≡ true → All (λ m. touches m k ≡ touches m from) ms → ((o : Option V) → effects means ms from o ≡ o) ⊎ ((o : Option V) → effects means ms from o ≡ None)
+  leaves_or_takes [] from k h a = inl (λ o. refl)
+  leaves_or_takes (m ∷ ms) from k h a =
+      let rest = leaves_or_takes ms from k h (λ j d l. a (suc j) d (omega arith)) in
+      by_bool (touches m from) (((o : Option V) → effects means ms from (effect means m from o) ≡ o) ⊎ ((o : Option V) → effects means ms from (effect means m from o) ≡ None))
+      (λ t. inr (λ o.
+      let gone : effect means m from o ≡ None = ap (λ b. cond b (made_of means m o) o) t ∙ takes_away m from k o h t (a 0 m (omega arith) ∙ t) in
+      ap (effects means ms from) gone ∙ ⊎_elim (λ r. r None) (λ r. r None) rest))
+      (λ t.
+      let stays : (o : Option V) → effects means ms from (effect means m from o) ≡ effects means ms from o = λ o. ap (λ b. effects means ms from (cond b (made_of means m o) o)) t in
+      ⊎_elim (λ r. inl (λ o. stays o ∙ r o)) (λ r. inr (λ o. stays o ∙ r o)) rest)
+
+  module _ (ms : List (Msg U V)) (child : List ℕ → Option V) (from : List ℕ) (stop : Option (List ℕ)) (some : is_below from stop ≡ true) (alike : ActAlike ms from stop) where
+    abbrev made : List ℕ → Option V
+    made k = effects means ms k (child k)
+
+    made_is : (k : List ℕ) → within from stop k ≡ true → made k ≡ effects means ms from (child k)
+    made_is k h = effects-alike ms from k (child k) (alike k h)
+
+    -- there is no value below
+    pub first_of_none : (i : ℕ) (settled : Bool) → IsDecisive means ms from i settled → HasNone child from stop → IsFirst made from stop (pair_of from (effects means (drop i ms) from None))
+    first_of_none i settled d n = first_of_one made from stop some (effects means (drop i ms) from None) (λ k h. made_is k h ∙ sym (d.value None (child k) (λ e. sym (n k h))))
+
+    module _ (p : List ℕ × V) (below : IsFirst child from stop (Some p)) where
+      -- behind the first key of the stretch
+      later_none : (k : List ℕ) → within from stop k ≡ true → before from k ≡ true → effects means ms from None ≡ None
+      later_none k h b = ⊎_elim (λ r. r None) (λ r. r None) (leaves_or_takes ms from k b (alike k h))
+
+      -- where the pair goes, all goes
+      taken : (k : List ℕ) (o : Option V) → within from stop k ≡ true → before from k ≡ true → effects means ms from (Some p.1) ≡ None → effects means ms from o ≡ None
+      taken k o h b e = ⊎_elim (λ r. absurd (none-some p.1 (sym e ∙ r (Some p.1)))) (λ r. r o) (leaves_or_takes ms from k b (alike k h))
+
+      -- before the pair there is none
+      none_before : HasNone made from (Some p.0)
+      none_before k h =
+          let q = both (reaches from k) (before k p.0) h in
+          let r = both (reaches from p.0) (is_below p.0 stop) below.0 in
+          let inside : within from stop k ≡ true = in_range from k stop q.0 (below_next k p.0 stop q.1 r.1) in
+          made_is k inside ∙ ap (effects means ms from) (below.2 k h) ∙ later_none p.0 below.0 (le_lt from k p.0 q.0 q.1)
+
+      -- and where it goes none at its key
+      none_at : effects means ms from (Some p.1) ≡ None → effects means ms from (child from) ≡ None
+      none_at e = by_bool (before from p.0) (effects means ms from (child from) ≡ None)
+          (λ b. taken p.0 (child from) below.0 b e)
+          (λ b.
+          let q = both (reaches from p.0) (is_below p.0 stop) below.0 in
+          let one : from ≡ p.0 = one_key from p.0 q.0 (reaches-from_not_before from p.0 b) in
+          ap (effects means ms from) (ap child one ∙ below.1) ∙ e)
+
+      with_value : (w : Option V) → effects means ms from (Some p.1) ≡ w → IsFirst made from stop (pair_of p.0 w)
+      with_value None e = λ k h.
+          let q = both (reaches from k) (is_below k stop) h in
+          made_is k h ∙ by_bool (before from k) (effects means ms from (child k) ≡ None)
+          (λ b. taken k (child k) h b e)
+          (λ b. let one : from ≡ k = one_key from k q.0 (reaches-from_not_before from k b) in ap (λ x. effects means ms from (child x)) (sym one) ∙ none_at e)
+      with_value (Some v) e = (below.0, made_is p.0 below.0 ∙ ap (effects means ms from) below.1 ∙ e, none_before)
+
+      -- the first pair below, as the messages leave it, is the first
+      pub first_of_pair : (i : ℕ) (settled : Bool) → IsDecisive means ms from i settled → IsFirst made from stop (pair_of p.0 (effects means (drop i ms) from (Some p.1)))
+      first_of_pair i settled d = with_value (effects means (drop i ms) from (Some p.1)) (sym (d.value (Some p.1) (Some p.1) (λ e. refl)))
+
+-- ---- in the words of the code
+
+if_is : {A E : Type 0} (r : Result A E) (x : A) (P : A → Type 0) → IfOk r (λ y. y ≡ x) → P x → IfOk r P
+if_is (Ok y) x P e p = subst P (sym e) p
+if_is (Err y) x P e p = tt
+
+module _ {U V E : Type 0} (means : U → Option V → Option V) (s : Slot U V) (from : List ℕ) (stop : Option (List ℕ)) (some : is_below from stop ≡ true) (i : ℕ) (settled : Bool) (d : IsDecisive means s.pending.0 from i settled) (alike : ActAlike (counting i settled s.pending.0) from stop) (r : Result (Option (List ℕ × V)) E) where
+  -- where they settle the values, the older messages and what is below do not count
+  value_settled : settled ≡ true → (k : List ℕ) → within from stop k ≡ true → slot_value means s k ≡ effects means (drop i s.pending.0) from None
+  value_settled e k h =
+      let child : Option V = value means s.child.value k in
+      let old : Option V = effects means (take i s.pending.0) k child in
+      let newer : ActAlike (drop i s.pending.0) from stop = subst (λ c. ActAlike (counting i c s.pending.0) from stop) e alike in
+      ap (λ (ms : List (Msg U V)). effects means ms k child) (sym (take-append-drop i s.pending.0))
+      ∙ effects-append means (take i s.pending.0) (drop i s.pending.0) k child
+      ∙ effects-alike means (drop i s.pending.0) from k old (newer k h)
+      ∙ d.value old None (λ f. absurd (cc))
+      ∙ sym (d.value None None (λ f. refl))
+
+  pub first_settled : settled ≡ true → IfOk r (λ x. x ≡ pair_of from (effects means (drop i s.pending.0) from None)) → IfOk r (IsFirst (slot_value means s) from stop)
+  first_settled e h = if_is r (pair_of from (effects means (drop i s.pending.0) from None)) (IsFirst (slot_value means s) from stop) h
+      (first_of_one (slot_value means s) from stop some (effects means (drop i s.pending.0) from None) (value_settled e))
+
+  -- else all count
+  all_alike : settled ≡ false → ActAlike s.pending.0 from stop
+  all_alike e = subst (λ c. ActAlike (counting i c s.pending.0) from stop) e alike
+
+  -- the child, which is n, has no pair
+  pub first_below_none : settled ≡ false → (n : PNode U V) (b : Option (List ℕ × V)) → n ≡ s.child.value → b ≡ None → IsFirst (value means n) from stop b → IfOk r (λ x. x ≡ pair_of from (effects means (drop i s.pending.0) from None)) → IfOk r (IsFirst (slot_value means s) from stop)
+  first_below_none e n b en eb below h = if_is r (pair_of from (effects means (drop i s.pending.0) from None)) (IsFirst (slot_value means s) from stop) h
+      (first_of_none means s.pending.0 (value means s.child.value) from stop some (all_alike e) i settled d (subst (λ m. IsFirst (value means m) from stop None) en (subst (IsFirst (value means n) from stop) eb below)))
+
+  -- the child has one
+  pub first_below_pair : settled ≡ false → (n : PNode U V) (b : Option (List ℕ × V)) (p : List ℕ × V) → n ≡ s.child.value → b ≡ Some p → IsFirst (value means n) from stop b → IfOk r (λ x. x ≡ pair_of p.0 (effects means (drop i s.pending.0) from (Some p.1))) → IfOk r (IsFirst (slot_value means s) from stop)
+  first_below_pair e n b p en eb below h = if_is r (pair_of p.0 (effects means (drop i s.pending.0) from (Some p.1))) (IsFirst (slot_value means s) from stop) h
+      (first_of_pair means s.pending.0 (value means s.child.value) from stop some (all_alike e) p (subst (λ m. IsFirst (value means m) from stop (Some p)) en (subst (IsFirst (value means n) from stop) eb below)) i settled d)

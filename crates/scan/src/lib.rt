@@ -1,0 +1,56 @@
+//! The first pairs of a range of keys, in key order, through the messages that wait on the way to the leaves.
+//!
+//! A search goes from one stretch of keys to the next: up to where the next pivot stands, or the next message begins or
+//! ends, each message touches all keys or none. A stretch under a range-delete is passed at once, with all older messages
+//! for its keys, and on any other the first pair of the child decides.
+#![tactic(auto)]
+
+ghost use Rattle.std.specs.Prelude.{IfOk};
+ghost use Rattle.node.specs.Meaning.{value as value_at};
+ghost use Rattle.scan.specs.Pairs.{IsFirst, IsScan};
+
+use crate::search::first;
+use message::Update;
+use node::Tree;
+use pathkey::{Key, KeyRange, NoMemory};
+use std::alloc::Global;
+
+mod leaf;
+mod search;
+mod slot;
+mod stretch;
+
+/// The first pair of the range; none where the range has no value.
+pub fn first_in<U: Update>(
+    alloc: Global,
+    tree: &Tree<U>,
+    range: &KeyRange,
+) -> Result<Option<(Key, U::Value)>, NoMemory>
+    ensures { IfOk result (λ r. IsFirst (value_at U.means tree.now.root) range.now.lo range.now.hi r) }
+{
+    first(alloc, tree.root(), &range.lo, range.hi.as_ref())
+}
+
+/// The first `limit` pairs of the range, or all where there are fewer, in key order.
+pub fn scan<U: Update>(
+    alloc: Global,
+    tree: &Tree<U>,
+    range: &KeyRange,
+    limit: usize,
+) -> Result<Vec<(Key, U::Value)>, NoMemory>
+    ensures { IfOk result (λ v. IsScan (value_at U.means tree.now.root) range.now.lo range.now.hi limit v.items) }
+{
+    let mut pairs = Vec::new(alloc);
+    let mut from = range.lo.copy(alloc)?;
+    'pairs: while pairs.len() < limit {
+        let Some(pair) = first(alloc, tree.root(), &from, range.hi.as_ref())? else {
+            return Ok(pairs);
+        };
+        from = pair.0.next(alloc)?;
+        pairs.push(pair)?;
+    }
+    Ok(pairs)
+}
+
+#[cfg(test)]
+mod tests;
