@@ -44,7 +44,7 @@ below_all c b m h e = let f : c * m ≤ 64 * m = mul-le-mul_right m h in omega (
 
 module _ {U V : Type 0} where
   -- a lawful node stands as high as its way to its first leaf is long
-  lawful_levels : (S : Shape) (n : PNode U V) (h : ℕ) (lo : List ℕ) (hi : Option (List ℕ)) → IsLawfulNode S n h lo hi → levels n ≡ h
+  pub lawful_levels : (S : Shape) (n : PNode U V) (h : ℕ) (lo : List ℕ) (hi : Option (List ℕ)) → IsLawfulNode S n h lo hi → levels n ≡ h
   lawful_levels S (leaf es) h lo hi l = sym l.0
   lawful_levels S (inner none) h lo hi l = absurd l.3
   lawful_levels S (inner (more lp ms n ss)) h lo hi l = omega (arith, l.0, lawful_levels S n (pred h) lp (next_lo hi ss) l.4.2)

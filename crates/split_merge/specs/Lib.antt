@@ -1,2 +1,4 @@
 pub mod Halves
 pub mod Raised
+pub mod Swept
+pub mod Lowered

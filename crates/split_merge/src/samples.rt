@@ -1,0 +1,84 @@
+//! Updates, shapes and slots for tests.
+use message::{Changes, Msg, Pending, Update};
+use node::{Body, Node, Shape, Slot};
+use pathkey::{Key, KeyRange, NoMemory};
+use std::alloc::Global;
+use std::sync::Arc;
+
+/// An update that changes nothing.
+#[derive(Clone, Copy, Debug, PartialEq, Eq)]
+pub(crate) struct NoUpdate;
+
+impl Changes for NoUpdate {
+    type Value = u8;
+}
+
+impl Update for NoUpdate {
+    ghost means = { λ u old. old };
+
+    fn apply(&self, _alloc: Global, old: Option<&u8>) -> Result<Option<u8>, NoMemory> {
+        Ok(old.copied())
+    }
+
+    fn join(&self, _alloc: Global, _later: &NoUpdate) -> Result<Option<NoUpdate>, NoMemory> {
+        Ok(Some(NoUpdate))
+    }
+
+    fn copy(&self, _alloc: Global) -> Result<NoUpdate, NoMemory> {
+        Ok(NoUpdate)
+    }
+
+    fn copy_value(_alloc: Global, value: &u8) -> Result<u8, NoMemory> {
+        Ok(*value)
+    }
+}
+
+/// The smallest shape.
+pub(crate) const SMALL: Shape = Shape {
+    fanout: 4,
+    pending: 4,
+    leaf: 4,
+};
+
+/// A slot that begins at these bytes.
+pub(crate) fn slot_over(alloc: Global, lo: &[u8], body: Body<NoUpdate>) -> Result<Slot<NoUpdate>, NoMemory> {
+    Ok(Slot {
+        lo: Key::from_bytes(alloc, lo)?,
+        pending: Pending::new(alloc),
+        child: Arc::new(alloc, Node { body })?,
+    })
+}
+
+/// Two slots over empty leaves, which the byte `m` parts.
+pub(crate) fn two_leaves(alloc: Global) -> Result<Body<NoUpdate>, NoMemory> {
+    let mut slots = Vec::new(alloc);
+    slots.push(slot_over(alloc, b"", Body::Leaf(Vec::new(alloc)))?)?;
+    slots.push(slot_over(alloc, b"m", Body::Leaf(Vec::new(alloc)))?)?;
+    Ok(Body::Inner(slots))
+}
+
+/// A range-delete from these bytes on.
+pub(crate) fn deleted_from(alloc: Global, lo: &[u8]) -> Result<Msg<NoUpdate>, NoMemory> {
+    let lo = Key::from_bytes(alloc, lo)?;
+    Ok(Msg::DelRange(KeyRange { lo, hi: None }))
+}
+
+/// A slot over these, where messages wait for `a`, for every key and for `z`.
+pub(crate) fn full_slot(alloc: Global) -> Result<Slot<NoUpdate>, NoMemory> {
+    let mut msgs = Vec::new(alloc);
+    msgs.push(Msg::Put(Key::from_bytes(alloc, b"a")?, 1))?;
+    msgs.push(deleted_from(alloc, b"")?)?;
+    msgs.push(Msg::Put(Key::from_bytes(alloc, b"z")?, 2))?;
+    let mut slot = slot_over(alloc, b"", two_leaves(alloc)?)?;
+    slot.pending.reserve(msgs.len())?;
+    slot.pending.append_reserved(&mut msgs);
+    Ok(slot)
+}
+
+/// How many messages wait in the slot with this number.
+pub(crate) fn waiting(slots: &[Slot<NoUpdate>], i: usize) -> Option<usize> {
+    match slots.get(i) {
+        None => None,
+        Some(slot) => Some(slot.pending.len()),
+    }
+}
