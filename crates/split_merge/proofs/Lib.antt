@@ -2,3 +2,5 @@ pub mod InnerSplit
 pub mod Splittable
 pub mod Untouched
 pub mod RootUp
+pub mod Covered
+pub mod RootDown
