@@ -1,6 +1,7 @@
 -- A slot's subtree that goes at once, in the words of its row.
-use Rattle.std.proofs.Common.{◌≡◌, ℕ, zero, suc, ◌+◌, ◌<◌, ◌≤◌, Bool, true, false, List, [], ◌∷◌, length, get_or, take, drop, map, refl, ap, sym, ◌∙◌, subst, arith, cond, Option, Some, None, pred}
+use Rattle.std.proofs.Common.{◌≡◌, ℕ, zero, suc, ◌+◌, ◌-◌, ◌<◌, ◌≤◌, Bool, true, false, List, [], ◌∷◌, length, get_or, take, drop, map, refl, ap, sym, ◌∙◌, subst, arith, cond, Option, Some, None, pred, length-drop}
 use Rattle.std.proofs.Math.ListN.{set}
+use Rattle.std.proofs.lemmas.List.{take_all}
 use Rattle.std.specs.Prelude.{◌&&◌}
 use Rattle.pathkey.specs.Keys.{is_below, is_in}
 use Rattle.pathkey.specs.declared.range.KeyRange.{KeyRange}
@@ -48,12 +49,12 @@ module _ {U V : Type 0} where
     lawful_depth : (S : Shape) (n : PNode U V) (h : ℕ) (lo : List ℕ) (hi : Option (List ℕ)) → IsLawfulNode S n h lo hi → depth n ≡ h + 1
     lawful_depth S (leaf es) h lo hi l = omega (arith, l.0)
     lawful_depth S (inner none) h lo hi l = absurd l.3
-    lawful_depth S (inner (more lp ms n ss)) h lo hi l = omega (arith, lawful_depths S lp ms n ss h hi l.0 l.4)
+    lawful_depth S (inner (more lp ms n ss)) h lo hi l = omega (arith, l.0, lawful_depth S n (pred h) lp (next_lo hi ss) l.4.2, lawful_depths S ss h hi l.0 l.4.3)
 
-    -- lawful slots have as many as their node above its leaves
-    lawful_depths : (S : Shape) (lo : List ℕ) (ms : List (Msg U V)) (n : PNode U V) (ss : PSlots U V) (h : ℕ) (hi : Option (List ℕ)) → 0 < h → AreLawfulSlots S (more lo ms n ss) h hi → depths (more lo ms n ss) ≡ h
-    lawful_depths S lo ms n none h hi some l = omega (arith, some, lawful_depth S n (pred h) lo hi l.2)
-    lawful_depths S lo ms n (more lp mt o ss) h hi some l = omega (arith, some, lawful_depth S n (pred h) lo (Some lp) l.2, lawful_depths S lp mt o ss h hi some l.3)
+    -- lawful slots have no more than their node above its leaves
+    lawful_depths : (S : Shape) (ss : PSlots U V) (h : ℕ) (hi : Option (List ℕ)) → 0 < h → AreLawfulSlots S ss h hi → depths ss ≤ h
+    lawful_depths S none h hi some l = omega arith
+    lawful_depths S (more lo ms n ss) h hi some l = omega (arith, some, lawful_depth S n (pred h) lo (next_lo hi ss) l.2, lawful_depths S ss h hi some l.3)
 
   -- ---- the empty subtree
 
@@ -155,14 +156,11 @@ module _ {U V : Type 0} where
       subst (λ z. Replies means DropCovered shape root i r z (slots (map see_slot (set xs i t)))) (sym was) (subst (λ z. Replies means DropCovered shape root i r (joined b (more s.lo s.pending.0 s.child.value a)) z) (sym is) core)
 
   -- the slots from a number on, as the code cuts them
-  pub slots_from-drop : (xs : List (Slot U V)) (i : ℕ) → i < length xs → slots_from i (slots (map see_slot xs)) ≡ slots (map see_slot (drop i xs))
-  slots_from-drop [] i h = absurd (omega arith)
-  slots_from-drop (x ∷ xs) zero h = refl
-  slots_from-drop (x ∷ xs) (suc i) h = slots_from-drop xs i (omega arith)
-
-  -- a message of a slot with others behind it and a child covers what it covers alone
-  pub alone : (e hi : Option (List ℕ)) (lo : List ℕ) (m : Msg U V) (ms : List (Msg U V)) (c d : PNode U V) (ss : PSlots U V) → e ≡ next_lo hi ss → can_drop_covered e (more lo (m ∷ []) d none) ≡ can_drop_covered hi (more lo (m ∷ ms) c ss)
-  alone e hi lo (Put q v) ms c d ss f = refl
-  alone e hi lo (Del q) ms c d ss f = refl
-  alone e hi lo (Edit q u) ms c d ss f = refl
-  alone e hi lo (DelRange r) ms c d ss f = ap (λ z. reaches r.lo lo && ends_within z r.hi) f
+  pub slots_from-cut : (xs : List (Slot U V)) (i : ℕ) → i < length xs → slots_from i (slots (map see_slot xs)) ≡ slots (map see_slot (take (length xs - i) (drop i xs)))
+  slots_from-cut xs i h = from_drop xs i h ∙ ap (λ z. slots (map see_slot z)) (sym (take_all (length xs - i) (drop i xs) (omega (arith, length-drop i xs))))
+    where
+      -- the same before the cut
+      from_drop : (xs : List (Slot U V)) (i : ℕ) → i < length xs → slots_from i (slots (map see_slot xs)) ≡ slots (map see_slot (drop i xs))
+      from_drop [] i h = absurd (omega arith)
+      from_drop (x ∷ xs) zero h = refl
+      from_drop (x ∷ xs) (suc i) h = from_drop xs i (omega arith)

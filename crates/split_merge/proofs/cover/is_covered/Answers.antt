@@ -2,7 +2,7 @@ use Rattle.std.proofs.Common.{ap, sym, ◌∙◌, ◌≤◌, ◌<◌, length, ar
 use Rattle.std.specs.Option.{option_copied}
 use Rattle.node.specs.Rows.{can_drop_covered}
 use Rattle.node.proofs.Splice.{slots_from-past}
-use Rattle.split_merge.proofs.Covered.{slots_from-drop}
+use Rattle.split_merge.proofs.Covered.{slots_from-cut}
 use Rattle.split_merge.proofs.cover.is_covered.Goals as goal
 
 pub returns-then-i-slots : goal.returns-then-i-slots
@@ -13,4 +13,4 @@ returns-then-i-slots g c =
 pub returns : goal.returns
 returns g c =
     let h : c.args.i < length c.args.slots.now = omega arith in
-    c.is_first_covered.ensures ∙ sym (ap (can_drop_covered (option_copied c.args.hi)) (slots_from-drop c.args.slots.now c.args.i h))
+    c.is_first_covered.ensures ∙ sym (ap (can_drop_covered (option_copied c.args.hi)) (slots_from-cut c.args.slots.now c.args.i h))
