@@ -15,7 +15,7 @@ use Rattle.node.specs.declared.step.StepReply.{StepReply}
 use Rattle.node.specs.declared.step.StepReply.TheVariants.{Did, NotThere, NoRoom, NoMemory}
 use Rattle.node.specs.declared.step.StepKind.TheVariants.{DropCovered}
 use Rattle.node.specs.See.{see_slot}
-use Rattle.node.specs.Pure.{PNode, leaf, inner, PSlots, none, more, slots, depth, depths}
+use Rattle.node.specs.Pure.{PNode, leaf, inner, PSlots, none, more, slots}
 use Rattle.node.specs.Meaning.{value}
 use Rattle.node.specs.Lawful.{IsLawfulNode, AreLawfulSlots, slot_count, pending, next_lo}
 use Rattle.node.specs.Site.{joined, slots_from}
@@ -24,6 +24,7 @@ use Rattle.node.specs.Rows.{can_drop_covered, ends_within, IsBare}
 use Rattle.node.specs.Steps.{LawfulSlots, Done, Replies}
 use Rattle.node.proofs.Outcome.{clash}
 use Rattle.node.proofs.Sinking.{touch_only-drop}
+use Rattle.node.proofs.Sizes.{lawful_depth}
 use Rattle.node.proofs.Splice.{slots-split, slots-set_split, slot_count-take, slots_from-joined, slot_count-joined, pending-joined, lawful-spliced, lawful-split, starts_at-joined}
 use Rattle.split_merge.specs.Swept.{bare, Swept}
 
@@ -43,19 +44,6 @@ in_covering r lo e k c w =
     ap (λ z. z && is_below k r.hi) (le_le r.lo lo k p.0 q.0) ∙ below_within e r.hi k p.1 q.1
 
 module _ {U V : Type 0} where
-  -- ---- how deep a lawful node is
-  mutual
-    -- a lawful node has one level more than stand above its leaves
-    lawful_depth : (S : Shape) (n : PNode U V) (h : ℕ) (lo : List ℕ) (hi : Option (List ℕ)) → IsLawfulNode S n h lo hi → depth n ≡ h + 1
-    lawful_depth S (leaf es) h lo hi l = omega (arith, l.0)
-    lawful_depth S (inner none) h lo hi l = absurd l.3
-    lawful_depth S (inner (more lp ms n ss)) h lo hi l = omega (arith, l.0, lawful_depth S n (pred h) lp (next_lo hi ss) l.4.2, lawful_depths S ss h hi l.0 l.4.3)
-
-    -- lawful slots have no more than their node above its leaves
-    lawful_depths : (S : Shape) (ss : PSlots U V) (h : ℕ) (hi : Option (List ℕ)) → 0 < h → AreLawfulSlots S ss h hi → depths ss ≤ h
-    lawful_depths S none h hi some l = omega arith
-    lawful_depths S (more lo ms n ss) h hi some l = omega (arith, some, lawful_depth S n (pred h) lo (next_lo hi ss) l.2, lawful_depths S ss h hi some l.3)
-
   -- ---- the empty subtree
 
   -- nothing stands in it

@@ -91,11 +91,7 @@ fn node_above<U: Update>(
 /// An empty subtree from `lo` on, as deep as this one: a node with one slot for each level, down to an empty leaf.
 ///
 /// It walks down the first children alone.
-fn bare_like<U: Update>(
-    alloc: Global,
-    lo: &Key,
-    node: &Node<U>,
-) -> Result<Arc<Node<U>>, NoMemory>
+fn bare_like<U: Update>(alloc: Global, lo: &Key, node: &Node<U>) -> Result<Arc<Node<U>>, NoMemory>
     ensures { IfOk result (λ n. n.value ≡ bare lo.now node.now) }
 {
     let Body::Inner(slots) = &node.body else {

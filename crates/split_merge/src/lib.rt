@@ -9,10 +9,9 @@ pub mod cover;
 pub mod lists;
 pub mod lower;
 pub mod root;
-pub mod split;
-
 #[cfg(test)]
 pub(crate) mod samples;
+pub mod split;
 
 pub use cover::drop_covered;
 pub use lower::root_down;

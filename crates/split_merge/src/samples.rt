@@ -41,7 +41,11 @@ pub(crate) const SMALL: Shape = Shape {
 };
 
 /// A slot that begins at these bytes.
-pub(crate) fn slot_over(alloc: Global, lo: &[u8], body: Body<NoUpdate>) -> Result<Slot<NoUpdate>, NoMemory> {
+pub(crate) fn slot_over(
+    alloc: Global,
+    lo: &[u8],
+    body: Body<NoUpdate>,
+) -> Result<Slot<NoUpdate>, NoMemory> {
     Ok(Slot {
         lo: Key::from_bytes(alloc, lo)?,
         pending: Pending::new(alloc),

@@ -51,7 +51,10 @@ fn two_slots_below_become_one(rt: HostRuntime) -> Result<(), NoMemory> {
     slot.pending.append_reserved(&mut msgs);
     let mut slots = Vec::new(alloc);
     slots.push(slot)?;
-    assert_eq!(rt; drop_slot(alloc, SMALL, true, &mut slots, 0), StepReply::Did(1));
+    assert_eq!(rt;
+        drop_slot(alloc, SMALL, true, &mut slots, 0),
+        StepReply::Did(1)
+    );
     let Some(slot) = slots.first() else {
         return Ok(());
     };
