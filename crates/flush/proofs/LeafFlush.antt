@@ -48,11 +48,6 @@ some_leaf S h =
     let p = both (is_between 4 64 S.fanout && is_between S.fanout 1024 S.pending) (is_between 4 1024 S.leaf) h in
     leb-true 4 S.leaf (both (nat_le 4 S.leaf) (nat_le S.leaf 1024) p.1).0
 
--- what an insert leaves where it is not refused
-pub inserted : {T X : Type 0} {Y : Type 0} (r : Result T X) (a b : Y) → is_err r ≡ false → cond (is_ok r) a b ≡ a
-inserted (Ok x) a b h = refl
-inserted (Err e) a b h = (cc)
-
 -- what holds of a result that is one
 pub applied_ok : {T X : Type 0} (r : Result T X) (A : Type 0) → OnOk r A → is_ok r ≡ true → A
 applied_ok (Ok x) A a h = a

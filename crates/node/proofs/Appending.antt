@@ -67,7 +67,7 @@ module _ {U V : Type 0} (means : U → Option V → Option V) where
   -- ---- the value at a key
 
   -- what a list that has taken its pieces makes of a value at a key of its range
-  effects-taken : (lo : List ℕ) (hi : Option (List ℕ)) (old ms new : List (Msg U V)) (k : List ℕ) (v : Option V) → Takes means old (pieces lo hi ms) new → within lo hi k ≡ true → effects means new k v ≡ effects means ms k (effects means old k v)
+  pub effects-taken : (lo : List ℕ) (hi : Option (List ℕ)) (old ms new : List (Msg U V)) (k : List ℕ) (v : Option V) → Takes means old (pieces lo hi ms) new → within lo hi k ≡ true → effects means new k v ≡ effects means ms k (effects means old k v)
   effects-taken lo hi old ms new k v t h = t.meaning k v ∙ effects-pieces means lo hi ms k (effects means old k v) h
 
   -- the same of the slot that holds the key

@@ -1,5 +1,6 @@
 -- What a step that is done says of its node, from what it has done to the slots that it names.
-use Rattle.std.proofs.Common.{◌≡◌, ℕ, zero, suc, ◌+◌, ◌<◌, ◌≤◌, Bool, true, false, List, [], ◌∷◌, length, get_or, take, drop, map, refl, ap, sym, ◌∙◌, subst, arith, Option}
+use Rattle.std.proofs.Common.{◌≡◌, ℕ, zero, suc, ◌+◌, ◌<◌, ◌≤◌, Bool, true, false, List, [], ◌∷◌, length, get_or, take, drop, map, refl, ap, sym, ◌∙◌, subst, arith, cond, Option}
+use Rattle.std.specs.Prelude.{Result, Ok, Err, is_ok, is_err}
 use Rattle.std.proofs.Math.ListN.{set}
 use Rattle.std.specs.List.{insert}
 use Rattle.node.specs.declared.node.Slot.{Slot}
@@ -13,6 +14,11 @@ use Rattle.node.specs.Site.{joined}
 use Rattle.node.specs.Sinks.{first_lo, Sinks}
 use Rattle.node.specs.Steps.{Formed, Replies, width}
 use Rattle.node.proofs.Splice.{IsMore, slot_count-joined, pending-joined, lawful-spliced, lawful-split}
+
+-- what an insert leaves where it is not refused
+pub inserted : {T X : Type 0} {Y : Type 0} (r : Result T X) (a b : Y) → is_err r ≡ false → cond (is_ok r) a b ≡ a
+inserted (Ok x) a b h = refl
+inserted (Err e) a b h = (cc)
 
 module _ {U V : Type 0} where
   -- slots that begin alike start alike, also behind others

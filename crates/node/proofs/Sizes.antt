@@ -10,7 +10,7 @@ use Rattle.node.specs.Lawful.{IsLawfulNode, AreLawfulSlots, IsLawfulRoot, IsLawf
 use Rattle.node.specs.Report.{own, width, total, total_below, report_of}
 use Rattle.node.specs.RootSteps.{levels}
 use Rattle.node.proofs.Roots.{small_shape}
-use Rattle.node.specs.Pure.{PNode, leaf, inner, PSlots, none, more, PTree, slots}
+use Rattle.node.specs.Pure.{PNode, leaf, inner, PSlots, none, more, PTree, slots, depth, depths}
 use Rattle.node.specs.See.{see_slot}
 
 module _ {U V : Type 0} where
@@ -54,6 +54,18 @@ module _ {U V : Type 0} where
   root_levels S h (leaf es) l = absurd l
   root_levels S h (inner none) l = absurd l.3
   root_levels S h (inner (more lp ms n ss)) l = omega (arith, l.0, lawful_levels S n (pred h) lp (next_lo None ss) l.4.2)
+
+  mutual
+    -- a lawful node has one level more than stand above its leaves
+    pub lawful_depth : (S : Shape) (n : PNode U V) (h : ℕ) (lo : List ℕ) (hi : Option (List ℕ)) → IsLawfulNode S n h lo hi → depth n ≡ h + 1
+    lawful_depth S (leaf es) h lo hi l = omega (arith, l.0)
+    lawful_depth S (inner none) h lo hi l = absurd l.3
+    lawful_depth S (inner (more lp ms n ss)) h lo hi l = omega (arith, l.0, lawful_depth S n (pred h) lp (next_lo hi ss) l.4.2, lawful_depths S ss h hi l.0 l.4.3)
+
+    -- lawful slots have no more than their node above its leaves
+    lawful_depths : (S : Shape) (ss : PSlots U V) (h : ℕ) (hi : Option (List ℕ)) → 0 < h → AreLawfulSlots S ss h hi → depths ss ≤ h
+    lawful_depths S none h hi some l = omega arith
+    lawful_depths S (more lo ms n ss) h hi some l = omega (arith, some, lawful_depth S n (pred h) lo (next_lo hi ss) l.2, lawful_depths S ss h hi some l.3)
 
   module _ (S : Shape) (few : S.fanout ≤ 64) (light : S.pending ≤ 1024) (short : S.leaf ≤ 1024) where
     -- a lawful node has little itself

@@ -1,4 +1,4 @@
--- The steps of the root, and what every step answers. Code exists for RootUp; RootDown waits for its.
+-- The steps of the root, and what every step answers.
 use Rattle.std.specs.Prelude.{◌≡◌, ℕ, ◌+◌, ◌≤◌, ◌↔◌, Bool, true, false, List, [], Option, length}
 use Rattle.message.specs.declared.msg.Msg.{Msg}
 use Rattle.message.specs.Effects.{effects}

@@ -192,6 +192,17 @@ module _ {U V : Type 0} where
   can_drop_covered hi (more lo [] n ss) = false
   can_drop_covered hi none = false
 
+module _ {U V : Type 0} where
+  -- no message and no entry stands in the node or below it
+  abbrev mutual
+    pub IsBare : PNode U V → Type 0
+    IsBare (leaf es) = es ≡ []
+    IsBare (inner ss) = AreBare ss
+
+    pub AreBare : PSlots U V → Type 0
+    AreBare none = ⊤
+    AreBare (more lo ms n ss) = (ms ≡ []) × IsBare n × AreBare ss
+
 module _ {U V : Type 0} (means : U → Option V → Option V) where
   -- one slot lost its oldest message, and its child is an empty one of the same depth
   pub record DroppedCovered (n : ℕ) (old new : PSlots U V) : Type 0 where
@@ -204,6 +215,7 @@ module _ {U V : Type 0} (means : U → Option V → Option V) where
     pub was : old ≡ more lo (first ∷ msgs) child none
     pub is : new ≡ more lo msgs empty none
     pub as_deep : depth empty ≡ depth child
+    pub bare : IsBare empty
     pub nothing : (k : List ℕ) → value means empty k ≡ None
 
   -- after the message the leaf would have more than so many entries

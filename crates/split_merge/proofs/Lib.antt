@@ -4,3 +4,5 @@ pub mod Mergeable
 pub mod Merging
 pub mod Untouched
 pub mod RootUp
+pub mod Covered
+pub mod RootDown

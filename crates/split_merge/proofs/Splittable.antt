@@ -1,5 +1,14 @@
 -- Where an inner node can be split.
-use Rattle.std.proofs.Common.{◌≡◌, ℕ, ◌<◌, ◌≤◌, true, false, List, [], ◌∷◌, length, get_or, map, ap, sym, ◌∙◌, arith}
+use Rattle.std.proofs.Common.{◌≡◌, ℕ, ◌+◌, ◌<◌, ◌≤◌, Bool, false, List, [], ◌∷◌, length, get_or, map, ap, sym, ◌∙◌, inl, inr, ⊎_elim, Option, arith}
+use Rattle.std.specs.Prelude.{◌⊎◌}
+use Rattle.message.specs.declared.msg.Msg.{Msg}
+use Rattle.node.specs.declared.shape.Shape.{Shape}
+use Rattle.node.specs.declared.step.StepKind.TheVariants.{SplitInner}
+use Rattle.node.specs.Lawful.{pending}
+use Rattle.node.specs.Steps.{HasNoRoom}
+use Rattle.node.proofs.Placing.{slot_count-slots}
+use Rattle.std.proofs.Math.Dec.{leb}
+use Rattle.std.proofs.lemmas.Bool.{le-leb}
 use Rattle.node.specs.declared.node.Slot.{Slot}
 use Rattle.node.specs.See.{see_slot}
 use Rattle.node.specs.Pure.{PNode, inner, slots}
@@ -12,18 +21,24 @@ module _ {U V : Type 0} where
   pub can_split_inner-is : (xs : List (Slot U V)) (i : ℕ) (s : Slot U V) → i < length xs → s ≡ get_or xs i s → can_split_inner (slots_from i (slots (map see_slot xs))) ≡ is_divisible s.child.value
   can_split_inner-is xs i s h e = ap can_split_inner (slots_from-get xs i s h) ∙ ap (λ (y : Slot U V). is_divisible y.child.value) (sym e)
 
-  -- with less than two slots a node is not divisible
+  -- a node is divisible where it has two slots or more
+  pub divisible-count : (xs : List (Slot U V)) (c : PNode U V) → inner (slots (map see_slot xs)) ≡ c → is_divisible c ≡ leb 2 (length xs)
+  divisible-count [] c e = ap is_divisible (sym e)
+  divisible-count (x ∷ []) c e = ap is_divisible (sym e)
+  divisible-count (x ∷ (y ∷ xs)) c e = ap is_divisible (sym e) ∙ sym (le-leb 2 (length (x ∷ (y ∷ xs))) (omega arith))
+
+  -- with less it is not
   pub divisible-few : (xs : List (Slot U V)) (c : PNode U V) → inner (slots (map see_slot xs)) ≡ c → length xs < 2 → is_divisible c ≡ false
   divisible-few [] c e h = ap is_divisible (sym e)
   divisible-few (x ∷ []) c e h = ap is_divisible (sym e)
   divisible-few (x ∷ (y ∷ xs)) c e h = absurd (omega arith)
 
-  -- with two or more it is
-  pub divisible-many : (xs : List (Slot U V)) (c : PNode U V) → inner (slots (map see_slot xs)) ≡ c → 2 ≤ length xs → is_divisible c ≡ true
-  divisible-many [] c e h = absurd (omega arith)
-  divisible-many (x ∷ []) c e h = absurd (omega arith)
-  divisible-many (x ∷ (y ∷ xs)) c e h = ap is_divisible (sym e)
-
   -- the range-deletes of the slot that the code reads
   pub ranges_first-is : (xs : List (Slot U V)) (i : ℕ) (s : Slot U V) → i < length xs → s ≡ get_or xs i s → ranges_first (slots_from i (slots (map see_slot xs))) ≡ range_count s.pending.0
   ranges_first-is xs i s h e = ap ranges_first (slots_from-get xs i s h) ∙ ap (λ (y : Slot U V). range_count y.pending.0) (sym e)
+
+  -- where the code says that there is no room, the node has none
+  pub no_room : (means : U → Option V → Option V) (shape : Shape) (root : Bool) (i : ℕ) (xs : List (Slot U V)) (s : Slot U V) (ys : List (Slot U V)) (ms : List (Msg U V)) → i < length xs → s ≡ get_or xs i s → ys ≡ xs → ms ≡ s.pending.0 → ((shape.fanout ≤ length ys) ⊎ ((root ≡ false) × (shape.pending < pending (slots (map see_slot ys)) + range_count ms))) → HasNoRoom means SplitInner shape root i (slots (map see_slot xs))
+  no_room means shape root i xs s ys ms h at same own full =
+      let e = ranges_first-is xs i s h at in
+      ⊎_elim (λ x. inl (omega (arith, x, slot_count-slots xs, ap length same))) (λ x. inr (x.0, omega (arith, x.1, e, ap range_count own, ap (λ z. pending (slots (map see_slot z))) same))) full

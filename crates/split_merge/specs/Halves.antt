@@ -10,8 +10,8 @@ use Rattle.node.specs.Rows.{is_divisible}
 use Rattle.node.specs.Site.{joined}
 use Rattle.node.specs.Sinks.{first_lo}
 
--- the slots l and r are the slot s with its child cut before one of its slots, and its messages ms at that slot's pivot
-pub record IsHalved {U V : Type 0} (means : U → Option V → Option V) (ms : List (Msg U V)) (s l r : Slot U V) : Type 0 where
+-- the slots l and r are the slot s with its child cut before one of its slots, and its messages at that slot's pivot
+pub record IsHalved {U V : Type 0} (means : U → Option V → Option V) (s l r : Slot U V) : Type 0 where
   pub left : PSlots U V
   pub right : PSlots U V
   pub some_left : 1 ≤ slot_count left
@@ -21,10 +21,10 @@ pub record IsHalved {U V : Type 0} (means : U → Option V → Option V) (ms : L
   pub right_is : r.child.value ≡ inner right
   pub left_lo : l.lo ≡ s.lo
   pub right_lo : r.lo ≡ first_lo right
-  pub left_msgs : Takes means [] (pieces s.lo (Some (first_lo right)) ms) l.pending.0
-  pub right_msgs : Takes means [] (pieces (first_lo right) None ms) r.pending.0
+  pub left_msgs : Takes means [] (pieces s.lo (Some (first_lo right)) s.pending.0) l.pending.0
+  pub right_msgs : Takes means [] (pieces (first_lo right) None s.pending.0) r.pending.0
 
 -- the two halves, or none where the child cannot be cut
-abbrev pub HalvedOr : {U V : Type 0} → (U → Option V → Option V) → List (Msg U V) → Slot U V → Option (Slot U V × Slot U V) → Type 0
-HalvedOr means ms s None = is_divisible s.child.value ≡ false
-HalvedOr means ms s (Some p) = IsHalved means ms s p.0 p.1
+abbrev pub HalvedOr : {U V : Type 0} → (U → Option V → Option V) → Slot U V → Option (Slot U V × Slot U V) → Type 0
+HalvedOr means s None = is_divisible s.child.value ≡ false
+HalvedOr means s (Some p) = IsHalved means s p.0 p.1

@@ -1,3 +1,5 @@
 pub mod Halves
 pub mod Merged
 pub mod Raised
+pub mod Swept
+pub mod Lowered

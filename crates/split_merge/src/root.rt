@@ -5,7 +5,6 @@ ghost use Rattle.node.specs.RootSteps.{levels, AnswersUp};
 ghost use Rattle.node.specs.See.{see_slot};
 ghost use Rattle.split_merge.specs.Raised.{hollow, all_msgs, IsAbove, Raised, Refused};
 
-use crate::lists::{all_of, list_of};
 use message::{Msg, Pending, Update};
 use node::{Body, Node, Slot, StepReply, Tree};
 use pathkey::{Key, NoMemory};
@@ -35,7 +34,7 @@ fn gathered<U: Update>(alloc: Global, slots: &[Slot<U>]) -> Result<Vec<Msg<U>>, 
 {
     let mut all = Vec::new(alloc);
     for slot in slots {
-        let mut own = all_of(alloc, &slot.pending)?;
+        let mut own = slot.pending.copy_front(alloc, slot.pending.len())?;
         all.append(&mut own)?;
     }
     Ok(all)
@@ -65,7 +64,7 @@ fn above<U: Update>(alloc: Global, slots: &[Slot<U>]) -> Result<Arc<Node<U>>, No
     let body = Body::Inner(hollowed(alloc, slots)?);
     let slot = Slot {
         lo: Key::new(alloc),
-        pending: list_of(alloc, gathered(alloc, slots)?)?,
+        pending: Pending::of(gathered(alloc, slots)?),
         child: Arc::new(alloc, Node { body })?,
     };
     let mut one = Vec::with_capacity(alloc, 1)?;

@@ -1,16 +1,16 @@
 //! An inner node cut in two.
-ghost use Rattle.std.specs.Prelude.{◌≡◌, ◌≤◌, ◌<◌, length, map, IfOk};
+ghost use Rattle.std.specs.Prelude.{◌≡◌, ◌≤◌, ◌<◌, ◌+◌, ◌⊎◌, true, false, length, map, IfOk};
+ghost use Rattle.node.specs.Lawful.{pending as pending_of};
 ghost use Rattle.node.specs.Places.{way};
 ghost use Rattle.node.specs.Pure.{slots as slots_of, inner};
-ghost use Rattle.node.specs.Rows.{can_split_inner, is_divisible as is_divided};
+ghost use Rattle.node.specs.Rows.{range_count, can_split_inner, is_divisible as is_divided};
 ghost use Rattle.node.specs.See.{see_slot};
 ghost use Rattle.node.specs.Site.{slots_from};
 ghost use Rattle.node.specs.Steps.{Answers, Replies};
 ghost use Rattle.node.specs.declared.step.StepKind.TheVariants.{SplitInner};
 ghost use Rattle.split_merge.specs.Halves.{IsHalved, HalvedOr};
 
-use crate::lists::{all_of, list_of};
-use message::{Msg, Update};
+use message::{Msg, Pending, Update};
 use node::node::append::pieces;
 use node::node::copy::copy_slots;
 use node::node::count::{held, ranges_in};
@@ -30,14 +30,14 @@ fn node_over<U: Update>(alloc: Global, slots: &[Slot<U>]) -> Result<Arc<Node<U>>
     Ok(Arc::new(alloc, Node { body })?)
 }
 
-/// The slot, whose messages these are, in two, where its child is an inner node with two slots or more.
+/// The slot in two, where its child is an inner node with two slots or more.
 fn halves<U: Update>(
     alloc: Global,
     slot: &Slot<U>,
-    msgs: &[Msg<U>],
 ) -> Result<Option<(Slot<U>, Slot<U>)>, NoMemory>
-    ensures { IfOk result (HalvedOr U.means msgs.now slot.now) }
+    ensures { IfOk result (HalvedOr U.means slot.now) }
 {
+    let msgs = slot.pending.as_slice();
     let child: &Node<U> = &slot.child;
     let Body::Inner(below) = &child.body else {
         return Ok(None);
@@ -50,15 +50,28 @@ fn halves<U: Update>(
     let pivot = &second[0].lo;
     let left = Slot {
         lo: slot.lo.copy(alloc)?,
-        pending: list_of(alloc, pieces(alloc, &slot.lo, Some(pivot), msgs)?)?,
+        pending: Pending::of(pieces(alloc, &slot.lo, Some(pivot), msgs)?),
         child: node_over(alloc, first)?,
     };
     let right = Slot {
         lo: pivot.copy(alloc)?,
-        pending: list_of(alloc, pieces(alloc, pivot, None, msgs)?)?,
+        pending: Pending::of(pieces(alloc, pivot, None, msgs)?),
         child: node_over(alloc, second)?,
     };
     Ok(Some((left, right)))
+}
+
+/// Whether a node has room for one slot more and, below the root, for the range-deletes among the messages of one of
+/// its slots, which would stand in both parts of it. It takes no memory.
+fn has_room<U: Update>(shape: Shape, root: bool, slots: &[Slot<U>], msgs: &[Msg<U>]) -> bool
+    ensures few { result ≡ true → length slots.now < shape.fanout }
+    ensures light { result ≡ true → root ≡ false → pending_of (slots_of (map see_slot slots.now)) + range_count msgs.now ≤ shape.pending }
+    ensures none { result ≡ false → (shape.fanout ≤ length slots.now) ⊎ ((root ≡ false) × (shape.pending < pending_of (slots_of (map see_slot slots.now)) + range_count msgs.now)) }
+{
+    if slots.len() >= shape.fanout as usize {
+        return false;
+    }
+    root || held(slots).saturating_add(ranges_in(msgs)) <= shape.pending as usize
 }
 
 /// Splits the child of the slot with number `i` of a node.
@@ -74,17 +87,11 @@ fn split_slot<U: Update>(
     if i >= slots.len() {
         return StepReply::NotThere;
     }
-    if slots.len() >= shape.fanout as usize {
+    let slot = &slots[i];
+    if !has_room(shape, root, slots.as_slice(), slot.pending.as_slice()) {
         return StepReply::NoRoom;
     }
-    let Ok(msgs) = all_of(alloc, &slots[i].pending) else {
-        return StepReply::NoMemory;
-    };
-    let ranges = ranges_in(msgs.as_slice());
-    if !root && held(slots.as_slice()).saturating_add(ranges) > shape.pending as usize {
-        return StepReply::NoRoom;
-    }
-    let Ok(parts) = halves(alloc, &slots[i], msgs.as_slice()) else {
+    let Ok(parts) = halves(alloc, slot) else {
         return StepReply::NoMemory;
     };
     let Some((left, right)) = parts else {
@@ -101,15 +108,10 @@ fn split_slot<U: Update>(
 fn is_divisible<U: Update>(node: &Node<U>) -> bool
     ensures { result ≡ is_divided node.now }
 {
-    match &node.body {
-        Body::Leaf(_) => false,
-        Body::Inner(slots) => {
-            if slots.len() < 2 {
-                return false;
-            }
-            true
-        }
-    }
+    let Body::Inner(slots) = &node.body else {
+        return false;
+    };
+    slots.len() >= 2
 }
 
 /// Whether the child of the slot with number `i` is one. It takes no memory.

@@ -28,8 +28,8 @@ fn push_some<U: Update>(part: &mut Vec<Msg<U>>, piece: Option<Msg<U>>) -> Result
     }
 }
 
-/// Where the slot before `later` ends: where they begin, or at `hi`.
-fn end_of<'a, U: Update>(later: &'a [Slot<U>], hi: Option<&'a Key>) -> Option<&'a Key>
+/// Where the slot before `later` ends: where they begin, or at `hi`. It takes no memory.
+pub fn end_of<'a, U: Update>(later: &'a [Slot<U>], hi: Option<&'a Key>) -> Option<&'a Key>
     ensures { option_copied result ≡ next_lo (option_copied hi.entry) (slots_of (map see_slot later.now)) }
 {
     match later.first() {

@@ -11,8 +11,8 @@ use std::alloc::Global;
 use std::sync::Arc;
 
 impl<U: Update> Node<U> {
-    /// A leaf without entries.
-    fn empty_leaf(alloc: Global) -> Node<U>
+    /// A leaf without entries. It takes no memory.
+    pub fn empty_leaf(alloc: Global) -> Node<U>
         ensures { result ≡ pure_leaf [] }
     {
         Node {

@@ -1,24 +1,8 @@
 //! A split of one slot, and of a new tree, which has none to split.
 use super::*;
 use crate::root::root_up;
-use crate::samples::{NoUpdate, SMALL, slot_over, two_leaves, waiting};
+use crate::samples::{NoUpdate, SMALL, full_slot, waiting};
 use node::ShapeReport;
-use pathkey::KeyRange;
-
-/// A slot over these, where messages wait for `a`, for every key and for `z`.
-fn full_slot(alloc: Global) -> Result<Slot<NoUpdate>, NoMemory> {
-    let mut msgs = Vec::new(alloc);
-    msgs.push(Msg::Put(Key::from_bytes(alloc, b"a")?, 1))?;
-    msgs.push(Msg::DelRange(KeyRange {
-        lo: Key::new(alloc),
-        hi: None,
-    }))?;
-    msgs.push(Msg::Put(Key::from_bytes(alloc, b"z")?, 2))?;
-    let mut slot = slot_over(alloc, b"", two_leaves(alloc, b"", b"m")?)?;
-    slot.pending.reserve(msgs.len())?;
-    slot.pending.append_reserved(&mut msgs);
-    Ok(slot)
-}
 
 #[test]
 fn only_the_range_delete_stands_on_both_sides(rt: HostRuntime) -> Result<(), NoMemory> {

@@ -5,8 +5,9 @@ use Rattle.node.specs.See.{see_slot}
 use Rattle.node.specs.Steps.{Replies}
 use Rattle.node.specs.declared.step.StepReply.TheVariants.{Did}
 use Rattle.node.specs.declared.step.StepKind.TheVariants.{FlushLeaf}
+use Rattle.node.proofs.Doing.{inserted}
 use Rattle.flush.specs.Leaf.{HasRoom, LacksRoom, IsHalved}
-use Rattle.flush.proofs.LeafFlush.{rest, rest_is, some_leaf, inserted, no_room, halved}
+use Rattle.flush.proofs.LeafFlush.{rest, rest_is, some_leaf, no_room, halved}
 use Rattle.flush.proofs.leaf.part.Goals as goal
 
 pub returns-then-not-can_part : goal.returns-then-not-can_part

@@ -10,7 +10,7 @@ returns g c =
     let items = rw c.in_ok-one.ensures.items at c.in_ok-push.ensures.items in
     let child = c.in_ok-new.ensures.ok ∙ ap (λ z. inner (slots z)) c.in_ok-hollowed.ensures ∙ ap inner (emptied-hollow c.args.slots.now) in
     record {
-      msgs = c.in_ok-list_of.field-0.0;
-      taken = subst (λ z. Takes g.U.Update.means [] z c.in_ok-list_of.field-0.0) c.in_ok-gathered.ensures c.in_ok-list_of.ensures;
-      is = c.in_ok-new-2.ensures.ok ∙ ap (λ z. inner (slots (map see_slot z))) items ∙ (λ j. inner (more (c.new.ensures j) c.in_ok-list_of.field-0.0 (child j) none));
+      msgs = c.of.result.0;
+      taken = subst (λ z. Takes g.U.Update.means [] z c.of.result.0) c.in_ok-gathered.ensures c.of.ensures;
+      is = c.in_ok-new-2.ensures.ok ∙ ap (λ z. inner (slots (map see_slot z))) items ∙ (λ j. inner (more (c.new.ensures j) c.of.result.0 (child j) none));
     }

@@ -1,0 +1,154 @@
+-- A slot's subtree that goes at once, in the words of its row.
+use Rattle.std.proofs.Common.{◌≡◌, ℕ, zero, suc, ◌+◌, ◌-◌, ◌<◌, ◌≤◌, Bool, true, false, List, [], ◌∷◌, length, get_or, take, drop, map, refl, ap, sym, ◌∙◌, subst, arith, cond, Option, Some, None, pred, length-drop}
+use Rattle.std.proofs.Math.ListN.{set}
+use Rattle.std.proofs.lemmas.List.{take_all}
+use Rattle.std.specs.Prelude.{◌&&◌}
+use Rattle.pathkey.specs.Keys.{is_below, is_in}
+use Rattle.pathkey.specs.declared.range.KeyRange.{KeyRange}
+use Rattle.message.specs.declared.msg.Msg.{Msg}
+use Rattle.message.specs.declared.msg.Msg.TheVariants.{Put, Del, DelRange, Edit}
+use Rattle.message.specs.Ranges.{reaches, within}
+use Rattle.message.proofs.KeyOrder.{both, le_le, lt_le}
+use Rattle.node.specs.declared.node.Slot.{Slot}
+use Rattle.node.specs.declared.shape.Shape.{Shape}
+use Rattle.node.specs.declared.step.StepReply.{StepReply}
+use Rattle.node.specs.declared.step.StepReply.TheVariants.{Did, NotThere, NoRoom, NoMemory}
+use Rattle.node.specs.declared.step.StepKind.TheVariants.{DropCovered}
+use Rattle.node.specs.See.{see_slot}
+use Rattle.node.specs.Pure.{PNode, leaf, inner, PSlots, none, more, slots}
+use Rattle.node.specs.Meaning.{value}
+use Rattle.node.specs.Lawful.{IsLawfulNode, AreLawfulSlots, slot_count, pending, next_lo}
+use Rattle.node.specs.Site.{joined, slots_from}
+use Rattle.node.specs.Sinks.{Sinks}
+use Rattle.node.specs.Rows.{can_drop_covered, ends_within, IsBare}
+use Rattle.node.specs.Steps.{LawfulSlots, Done, Replies}
+use Rattle.node.proofs.Outcome.{clash}
+use Rattle.node.proofs.Sinking.{touch_only-drop}
+use Rattle.node.proofs.Sizes.{lawful_depth}
+use Rattle.node.proofs.Splice.{slots-split, slots-set_split, slot_count-take, slots_from-joined, slot_count-joined, pending-joined, lawful-spliced, lawful-split, starts_at-joined}
+use Rattle.split_merge.specs.Swept.{bare, Swept}
+
+-- ---- the range
+
+-- a key before an end lies before each later end
+below_within : (a b : Option (List ℕ)) (k : List ℕ) → ends_within a b ≡ true → is_below k a ≡ true → is_below k b ≡ true
+below_within a None k h l = refl
+below_within None (Some b) k h l = (cc)
+below_within (Some a) (Some b) k h l = lt_le k a b l h
+
+-- a range that covers another holds its keys
+in_covering : (r : KeyRange) (lo : List ℕ) (e : Option (List ℕ)) (k : List ℕ) → (reaches r.lo lo && ends_within e r.hi) ≡ true → within lo e k ≡ true → is_in r k ≡ true
+in_covering r lo e k c w =
+    let p = both (reaches r.lo lo) (ends_within e r.hi) c in
+    let q = both (reaches lo k) (is_below k e) w in
+    ap (λ z. z && is_below k r.hi) (le_le r.lo lo k p.0 q.0) ∙ below_within e r.hi k p.1 q.1
+
+module _ {U V : Type 0} where
+  -- ---- the empty subtree
+
+  -- nothing stands in it
+  is_bare : (lo : List ℕ) (n : PNode U V) → IsBare (bare lo n)
+  is_bare lo (leaf es) = refl
+  is_bare lo (inner none) = (refl, refl, tt)
+  is_bare lo (inner (more lp ms n ss)) = (refl, is_bare lo n, tt)
+
+  -- it is lawful where the node is, for any range
+  lawful_bare : (S : Shape) (n : PNode U V) (h : ℕ) (lo lp : List ℕ) (hi e : Option (List ℕ)) → is_below lo hi ≡ true → IsLawfulNode S n h lp e → IsLawfulNode S (bare lo n) h lo hi
+  lawful_bare S (leaf es) h lo lp hi e b l = (l.0, omega arith, tt)
+  lawful_bare S (inner none) h lo lp hi e b l = absurd l.3
+  lawful_bare S (inner (more lq ms n ss)) h lo lp hi e b l = (l.0, omega (arith, l.1), omega arith, refl, (b, (λ k out. refl), lawful_bare S n (pred h) lo lq hi (next_lo e ss) b l.4.2, tt))
+
+  module _ (means : U → Option V → Option V) where
+    -- it means nothing
+    value_bare : (lo : List ℕ) (n : PNode U V) (k : List ℕ) → value means (bare lo n) k ≡ None
+    value_bare lo (leaf es) k = refl
+    value_bare lo (inner none) k = refl
+    value_bare lo (inner (more lp ms n ss)) k = value_bare lo n k
+
+    -- a message of the whole range has sunk into what it covers
+    sinks : (lo : List ℕ) (e : Option (List ℕ)) (r : KeyRange) (ms : List (Msg U V)) (c : PNode U V) → (reaches r.lo lo && ends_within e r.hi) ≡ true → Sinks means 1 e (more lo (DelRange r ∷ ms) c none) (more lo ms (bare lo c) none)
+    sinks lo e r ms c covers = record {
+      starts = refl;
+      below = λ k w. value_bare lo c k ∙ ap (λ z. cond z None (value means c k)) (sym (in_covering r lo e k covers w));
+      above = λ k v w. refl;
+    }
+
+  -- the slot stays lawful
+  lawful_swept : (S : Shape) (h : ℕ) (lo : List ℕ) (e : Option (List ℕ)) (m : Msg U V) (ms : List (Msg U V)) (c : PNode U V) → AreLawfulSlots S (more lo (m ∷ ms) c none) h e → AreLawfulSlots S (more lo ms (bare lo c) none) h e
+  lawful_swept S h lo e m ms c l = (l.0, touch_only-drop 1 lo e (m ∷ ms) l.1, lawful_bare S c (pred h) lo lo e e l.0 l.2, tt)
+
+  -- ---- the node
+
+  module _ (means : U → Option V → Option V) (shape : Shape) (root : Bool) (i : ℕ) (b a : PSlots U V) (lo : List ℕ) (at_i : slot_count b ≡ i) where
+    -- the node's slots before and after
+    abbrev from : List (Msg U V) → PNode U V → PSlots U V
+    from ms c = joined b (more lo ms c a)
+
+    -- what a drop that is done has done to the node
+    swept : (r : KeyRange) (ms : List (Msg U V)) (c : PNode U V) (h : ℕ) (lp : List ℕ) (hi : Option (List ℕ)) → LawfulSlots shape root h lp hi (from (DelRange r ∷ ms) c) → (reaches r.lo lo && ends_within (next_lo hi a) r.hi) ≡ true → Done means DropCovered 1 i hi (from (DelRange r ∷ ms) c) (from ms (bare lo c)) × LawfulSlots shape root h lp hi (from ms (bare lo c))
+    swept r ms c h lp hi l covers =
+        let m = DelRange r in
+        let old = more lo (m ∷ ms) c none in
+        let new = more lo ms (bare lo c) none in
+        let inside : AreLawfulSlots shape old h (next_lo hi a) = (lawful-split shape h hi old a (lawful-split shape h hi b (joined old a) l.each).1).0 in
+        let below = lawful_bare shape c (pred h) lo lo (next_lo hi a) (next_lo hi a) inside.0 inside.2 in (
+          record {
+            before = b;
+            old = old;
+            new = new;
+            after = a;
+            was = refl;
+            is = refl;
+            number = at_i;
+            width = refl;
+            changed = (sinks means lo (next_lo hi a) r ms c covers, record { lo = lo; msgs = ms; first = m; child = c; empty = bare lo c; one = refl; was = refl; is = refl; as_deep = lawful_depth shape (bare lo c) (pred h) lo (next_lo hi a) below ∙ sym (lawful_depth shape c (pred h) lo (next_lo hi a) inside.2); bare = is_bare lo c; nothing = value_bare means lo c });
+          },
+          record {
+            above = l.above;
+            few = omega (arith, l.few, slot_count-joined b (joined old a), slot_count-joined b (joined new a));
+            light = λ z. omega (arith, l.light z, pending-joined b (joined old a), pending-joined b (joined new a));
+            starts = starts_at-joined lp lo b (m ∷ ms) ms c (bare lo c) a a l.starts;
+            each = lawful-spliced shape h hi b old new a tt tt refl (lawful_swept shape h lo (next_lo hi a) m ms c) l.each;
+          },
+        )
+
+    -- what can be done there rests on the slot and where it ends
+    able_there : (hi : Option (List ℕ)) (ms : List (Msg U V)) (c : PNode U V) → can_drop_covered hi (slots_from i (from ms c)) ≡ can_drop_covered hi (more lo ms c a)
+    able_there hi ms c = ap (can_drop_covered hi) (slots_from-joined i b (more lo ms c a) at_i)
+
+    -- the same of each oldest message: one that covers the slot is a range-delete
+    did : (ms : List (Msg U V)) (c : PNode U V) → Replies means DropCovered shape root i (Did 1) (from ms c) (from (drop 1 ms) (bare lo c))
+    did [] c h lp hi l able = absurd (clash _ able (able_there hi [] c))
+    did (Put q v ∷ ms) c h lp hi l able = absurd (clash _ able (able_there hi (Put q v ∷ ms) c))
+    did (Del q ∷ ms) c h lp hi l able = absurd (clash _ able (able_there hi (Del q ∷ ms) c))
+    did (Edit q u ∷ ms) c h lp hi l able = absurd (clash _ able (able_there hi (Edit q u ∷ ms) c))
+    did (DelRange r ∷ ms) c h lp hi l able = swept r ms c h lp hi l (sym (able_there hi (DelRange r ∷ ms) c) ∙ able)
+
+    -- what each reply says of the node
+    pub replies : (r : StepReply) (ms ns : List (Msg U V)) (c d : PNode U V) → Swept r lo ms ns c d → Replies means DropCovered shape root i r (from ms c) (from ns d)
+    replies (Did n) ms ns c d q =
+        let one = subst (λ z. Replies means DropCovered shape root i (Did 1) (from ms c) (joined b z)) (λ j. more lo (sym q.1 j) (sym q.2 j) a) (did ms c) in
+        subst (λ z. Replies means DropCovered shape root i (Did z) (from ms c) (from ns d)) (sym q.0) one
+    replies NotThere ms ns c d q = (λ j. from (q.0 j) (q.1 j), λ hi. able_there hi ms c ∙ ap (λ z. can_drop_covered hi (more lo z c a)) q.2)
+    replies NoRoom ms ns c d q = absurd q
+    replies NoMemory ms ns c d q = λ j. from (q.0 j) (q.1 j)
+
+  -- the same of the slots as the code writes them
+  pub dropped : (means : U → Option V → Option V) (shape : Shape) (root : Bool) (i : ℕ) (xs : List (Slot U V)) (s t : Slot U V) (r : StepReply) → i < length xs → s ≡ get_or xs i s → t.lo ≡ s.lo → Swept r s.lo s.pending.0 t.pending.0 s.child.value t.child.value → Replies means DropCovered shape root i r (slots (map see_slot xs)) (slots (map see_slot (set xs i t)))
+  dropped means shape root i xs s t r h e el q =
+      let b = slots (map see_slot (take i xs)) in
+      let a = slots (map see_slot (drop (suc i) xs)) in
+      let was : slots (map see_slot xs) ≡ joined b (more s.lo s.pending.0 s.child.value a) = slots-split xs i s h ∙ ap (λ (x : Slot U V). joined b (more x.lo x.pending.0 x.child.value a)) (sym e) in
+      let is : slots (map see_slot (set xs i t)) ≡ joined b (more s.lo t.pending.0 t.child.value a) = slots-set_split xs i t h ∙ ap (λ z. joined b (more z t.pending.0 t.child.value a)) el in
+      let core = replies means shape root i b a s.lo (slot_count-take xs i (omega arith)) r s.pending.0 t.pending.0 s.child.value t.child.value q in
+      subst (λ z. Replies means DropCovered shape root i r z (slots (map see_slot (set xs i t)))) (sym was) (subst (λ z. Replies means DropCovered shape root i r (joined b (more s.lo s.pending.0 s.child.value a)) z) (sym is) core)
+
+  -- the slots from a number on, as the code cuts them
+  pub slots_from-cut : (xs : List (Slot U V)) (i : ℕ) → i < length xs → slots_from i (slots (map see_slot xs)) ≡ slots (map see_slot (take (length xs - i) (drop i xs)))
+  slots_from-cut xs i h = from_drop xs i h ∙ ap (λ z. slots (map see_slot z)) (sym (take_all (length xs - i) (drop i xs) (omega (arith, length-drop i xs))))
+    where
+      -- the same before the cut
+      from_drop : (xs : List (Slot U V)) (i : ℕ) → i < length xs → slots_from i (slots (map see_slot xs)) ≡ slots (map see_slot (drop i xs))
+      from_drop [] i h = absurd (omega arith)
+      from_drop (x ∷ xs) zero h = refl
+      from_drop (x ∷ xs) (suc i) h = from_drop xs i (omega arith)

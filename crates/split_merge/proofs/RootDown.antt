@@ -1,0 +1,108 @@
+-- The only child of a root in the root's place.
+use Rattle.std.proofs.Common.{◌≡◌, ℕ, ◌<◌, ◌≤◌, Bool, true, false, List, [], ◌∷◌, length, get_or, map, refl, ap, sym, ◌∙◌, subst, arith, cond, Option, Some, None, pred}
+use Rattle.std.specs.Prelude.{◌&&◌, IsTrue}
+use Rattle.pathkey.specs.Keys.{is_below}
+use Rattle.message.specs.declared.msg.Msg.{Msg}
+use Rattle.message.specs.Ranges.{reaches, before}
+use Rattle.message.specs.Effects.{effects}
+use Rattle.message.proofs.CutFacts.{effects-pieces}
+use Rattle.message.proofs.KeyOrder.{from_start, before_from_not_reaches}
+use Rattle.node.specs.declared.node.Slot.{Slot}
+use Rattle.node.specs.declared.shape.Shape.{Shape}
+use Rattle.node.specs.declared.step.StepReply.{StepReply}
+use Rattle.node.specs.declared.step.StepReply.TheVariants.{Did, NotThere, NoRoom, NoMemory}
+use Rattle.node.specs.Appended.{parts, HaveTaken, IsAppended}
+use Rattle.node.specs.See.{see_slot}
+use Rattle.node.specs.Shapes.{is_shape}
+use Rattle.node.specs.Pure.{PNode, leaf, inner, PSlots, none, more, PTree, slots}
+use Rattle.node.specs.Meaning.{value}
+use Rattle.node.specs.Lawful.{IsLawfulRoot, IsLawful, starts_at}
+use Rattle.node.specs.RootSteps.{has_one_inner, with_root, RootLowered, AnswersDown}
+use Rattle.node.specs.Sinks.{msgs_at}
+use Rattle.node.proofs.Appending.{effects-taken, lawful-appended, value-appended}
+use Rattle.node.proofs.Outcome.{clash}
+use Rattle.node.proofs.Sinking.{emptied-taken}
+use Rattle.split_merge.specs.Lowered.{Lowered, Stays}
+
+module _ {U V : Type 0} where
+  -- ---- the messages
+
+  -- the list of the slot that holds a key has taken the messages at that key
+  msgs-taken : (means : U → Option V → Option V) (hi : Option (List ℕ)) (ms : List (Msg U V)) (lo : List ℕ) (old : List (Msg U V)) (n : PNode U V) (ss new : PSlots U V) (k : List ℕ) (v : Option V) → HaveTaken means (more lo old n ss) (parts hi ms (more lo old n ss)) new → reaches lo k ≡ true → is_below k hi ≡ true → effects means (msgs_at new k) k v ≡ effects means ms k (effects means (msgs_at (more lo old n ss) k) k v)
+  msgs-taken means hi ms lo old n ss none k v t low high = absurd t
+  msgs-taken means hi ms lo old n none (more lp new o none) k v t low high = effects-taken means lo hi old ms new k v t.1 (ap (λ z. z && is_below k hi) low ∙ high)
+  msgs-taken means hi ms lo old n none (more lp new o (more lq nq oq ts)) k v t low high = absurd t.3
+  msgs-taken means hi ms lo old n (more l m c ss) (more lp new o none) k v t low high = absurd t.3
+  msgs-taken means hi ms lo old n (more l m c ss) (more lp new o (more lq nq oq ts)) k v t low high =
+      ap (λ b. effects means (cond b (msgs_at (more lq nq oq ts) k) new) k v) (ap (λ x. reaches x k) t.3.0) ∙ (elim (reaches l k) as (λ b. reaches l k ≡ b → effects means (cond b (msgs_at (more lq nq oq ts) k) new) k v ≡ effects means ms k (effects means (cond b (msgs_at (more l m c ss) k) old) k v)) [
+        | true ↦ λ e. msgs-taken means hi ms l m c ss (more lq nq oq ts) k v t.3 e high
+        | false ↦ λ e. effects-taken means lo (Some l) old ms new k v t.1 (ap (λ z. z && before k l) low ∙ before_from_not_reaches l k e)
+      ]) refl
+
+  -- ---- the tree
+
+  -- the only child of a lawful root, an inner node, could be the root
+  lawful_child : (S : Shape) (h : ℕ) (lo : List ℕ) (ms : List (Msg U V)) (below : PSlots U V) → IsLawfulRoot S (inner (more lo ms (inner below) none)) h → IsLawfulRoot S (inner below) (pred h)
+  lawful_child S h lo ms below l =
+      let c = l.4.2 in
+      (c.0, omega (arith, l.1), c.1, subst (λ z. starts_at z below) l.3 c.3, c.4)
+
+  -- the old root's messages stand behind those of its child
+  lowered_row : (means : U → Option V → Option V) (S : Shape) (h : ℕ) (lo : List ℕ) (ms : List (Msg U V)) (below : PSlots U V) (n : PNode U V) → IsLawfulRoot S (inner (more lo ms (inner below) none)) h → IsAppended means ms (inner below) n → RootLowered means (inner (more lo ms (inner below) none)) n
+  lowered_row means S h lo ms below (leaf es) l q = absurd q
+  lowered_row means S h lo ms none (inner new) l q = absurd l.4.2.3
+  lowered_row means S h lo ms (more lp mt o ss) (inner new) l q = record {
+    msgs = ms;
+    below = more lp mt o ss;
+    grown = new;
+    was = ap (λ z. inner (more z ms (inner (more lp mt o ss)) none)) l.3;
+    is = refl;
+    same_slots = emptied-taken means ms (more lp mt o ss) new q;
+    same = λ k v. msgs-taken means None ms lp mt o ss new k v q (ap (λ z. reaches z k) (l.4.2.3 ∙ l.3) ∙ from_start k) refl;
+  }
+
+  -- a root that has gone down keeps the tree lawful
+  pub lawful_lowered : (means : U → Option V → Option V) (t : PTree U V) (b : PNode U V) → IsLawful t → Lowered means t.root b → IsLawful (with_root b t)
+  lawful_lowered means t b l q = by_root t.root l.root q
+    where
+      by_root : (a : PNode U V) → IsLawfulRoot t.shape a l.levels → Lowered means a b → IsLawful (with_root b t)
+      by_root (leaf es) m q = absurd q
+      by_root (inner none) m q = absurd q
+      by_root (inner (more lo ms (leaf es) none)) m q = absurd q
+      by_root (inner (more lo ms (leaf es) (more lp mt o ss))) m q = absurd q
+      by_root (inner (more lo ms (inner below) (more lp mt o ss))) m q = absurd q
+      by_root (inner (more lo ms (inner below) none)) m q = record { shape = l.shape; levels = pred l.levels; root = lawful-appended means t.shape (pred l.levels) ms (inner below) b q (lawful_child t.shape l.levels lo ms below m) }
+
+  -- what root_down answers, where it has done its step
+  pub answers_lowered : (means : U → Option V → Option V) (a b : PTree U V) (n : PNode U V) → IsLawful a → Lowered means a.root n → b ≡ with_root n a → AnswersDown means (Did 0) a b
+  answers_lowered means a b n l q e = subst (λ z. AnswersDown means (Did 0) a z) (sym e) (by_root a.root l.root q)
+    where
+      by_root : (r : PNode U V) → IsLawfulRoot a.shape r l.levels → Lowered means r n → AnswersDown means (Did 0) (with_root r a) (with_root n a)
+      by_root (leaf es) m q = absurd q
+      by_root (inner none) m q = absurd q
+      by_root (inner (more lo ms (leaf es) none)) m q = absurd q
+      by_root (inner (more lo ms (leaf es) (more lp mt o ss))) m q = absurd q
+      by_root (inner (more lo ms (inner below) (more lp mt o ss))) m q = absurd q
+      by_root (inner (more lo ms (inner below) none)) m q = record {
+        value_kept = value-appended means a.shape (pred l.levels) ms (inner below) n q (lawful_child a.shape l.levels lo ms below m);
+        shape_kept = refl;
+        did = (refl, lowered_row means a.shape l.levels lo ms below n m q);
+        not_there = (λ z. (cc), λ z. (cc));
+        no_room = λ z. (cc);
+        unchanged = tt;
+      }
+
+  -- and where it has refused
+  pub answers_stays : (means : U → Option V → Option V) (r : StepReply) (a : PTree U V) → Stays r a.root → AnswersDown means r a a
+  answers_stays means (Did n) a q = absurd q
+  answers_stays means NotThere a q = record { value_kept = λ k. refl; shape_kept = refl; did = tt; not_there = (λ z. q, λ z. refl); no_room = λ z. (cc); unchanged = refl }
+  answers_stays means NoRoom a q = absurd q
+  answers_stays means NoMemory a q = record { value_kept = λ k. refl; shape_kept = refl; did = tt; not_there = (λ z. (cc), λ z. absurd (clash (has_one_inner a.root) q z)); no_room = λ z. (cc); unchanged = refl }
+
+  -- ---- as the code reads the root
+
+  -- another number of slots than one
+  pub not_one : (xs : List (Slot U V)) (a : PNode U V) → inner (slots (map see_slot xs)) ≡ a → (length xs ≡ 1 → ⊥) → has_one_inner a ≡ false
+  not_one [] a e h = ap has_one_inner (sym e)
+  not_one (x ∷ []) a e h = absurd (h refl)
+  not_one (x ∷ (y ∷ xs)) a e h = ap has_one_inner (sym e)
