@@ -1,5 +1,5 @@
 //! The slot with the most pending messages, which a flush relieves most.
-ghost use Rattle.std.specs.Prelude.{◌≡◌, ◌+◌, ◌≤◌, ◌<◌, ◌++◌, ◌∷◌, ◌↔◌, [], List, true, IfSome, length, map};
+ghost use Rattle.std.specs.Prelude.{◌≡◌, ◌+◌, ◌≤◌, ◌<◌, ◌++◌, ◌∷◌, ◌↔◌, [], List, true, false, IfSome, length, map};
 ghost use Rattle.flush.specs.Heaviest.{AreWalkable, FlushesHeaviest, IsBest, IsWalkable, Load, load_of, loads, own_loads, weight};
 ghost use Rattle.node.specs.Places.{way};
 ghost use Rattle.node.specs.Pure.{slots as slots_of};
@@ -45,16 +45,48 @@ fn heavier(best: Option<Candidate>, next: Candidate) -> Option<Candidate>
     Some(next)
 }
 
+/// Whether a node that stands so many levels above the leaves has leaves below it.
+fn is_lowest(levels: usize) -> bool
+    ensures yes { result ≡ true → levels ≤ 1 }
+    ensures no { result ≡ false → 1 < levels }
+{
+    levels <= 1
+}
+
 /// The flush of a slot of a node that stands so many levels above the leaves.
 fn flush_at(levels: usize) -> StepKind
     ensures leaf { levels ≤ 1 → result ≡ FlushLeaf }
     ensures inner { 1 < levels → result ≡ FlushInner }
 {
-    if levels <= 1 {
+    if is_lowest(levels) {
         StepKind::FlushLeaf
     } else {
         StepKind::FlushInner
     }
+}
+
+/// The step at slot number `i` of the node at the place.
+fn step_at(kind: StepKind, at: Place, i: usize) -> TreeStep
+    requires { i < 256 }
+    ensures { result ≡ record { kind = kind; at = at; slot = i } }
+{
+    TreeStep {
+        kind,
+        at,
+        slot: i as u8,
+    }
+}
+
+/// The place of the node below slot number `i`.
+fn below(at: Place, i: usize) -> Place
+    requires few { i < 256 }
+    requires short { length (way at) < 15 }
+    ensures { way result ≡ way at ++ i ∷ [] }
+{
+    let Some(under) = at.under(i as u8) else {
+        unreachable!()
+    };
+    under
 }
 
 /// The first heaviest of what was found and the slots of a node that stands so many levels above the leaves.
@@ -72,12 +104,7 @@ fn heaviest_slot<U: Update>(
     let kind = flush_at(levels);
     let mut found = best;
     for (i, slot) in slots.iter().enumerate() {
-        let slot_number = i as u8;
-        let step = TreeStep {
-            kind,
-            at,
-            slot: slot_number,
-        };
+        let step = step_at(kind, at, i);
         let count = slot.pending.len();
         found = heavier(found, Candidate { step, count });
     }
@@ -99,13 +126,11 @@ fn heaviest_below<U: Update>(
         return best;
     };
     let mut found = heaviest_slot(slots.as_slice(), levels, at, best);
-    if levels == 1 {
+    if is_lowest(levels) {
         return found;
     }
     for (i, slot) in slots.as_slice().iter().enumerate() {
-        let Some(under) = at.under(i as u8) else {
-            unreachable!()
-        };
+        let under = below(at, i);
         found = heaviest_below(&slot.child, levels - 1, under, found);
     }
     found
