@@ -21,7 +21,7 @@ use Rattle.node.specs.RootSteps.{has_one_inner, with_root, RootLowered, AnswersD
 use Rattle.node.specs.Sinks.{msgs_at}
 use Rattle.node.proofs.Appending.{effects-taken, lawful-appended, value-appended}
 use Rattle.node.proofs.Outcome.{clash}
-use Rattle.node.proofs.Sinking.{emptied-taken}
+use Rattle.node.proofs.Sinking.{emptied-taken, pending-taken}
 use Rattle.split_merge.specs.Lowered.{Lowered, Stays}
 
 module _ {U V : Type 0} where
@@ -59,6 +59,7 @@ module _ {U V : Type 0} where
     is = refl;
     same_slots = emptied-taken means ms (more lp mt o ss) new q;
     same = λ k v. msgs-taken means None ms lp mt o ss new k v q (ap (λ z. reaches z k) (l.4.2.3 ∙ l.3) ∙ from_start k) refl;
+    pieces_grow = pending-taken means ms (more lp mt o ss) new q;
   }
 
   -- a root that has gone down keeps the tree lawful
