@@ -1,11 +1,10 @@
 -- The only child of a root in the root's place.
-use Rattle.std.proofs.Common.{◌≡◌, ℕ, ◌<◌, ◌≤◌, Bool, true, false, List, [], ◌∷◌, length, get_or, map, refl, ap, sym, ◌∙◌, subst, arith, cond, Option, Some, None, pred}
-use Rattle.std.specs.Prelude.{◌&&◌, IsTrue}
+use Rattle.std.proofs.Common.{◌≡◌, ℕ, true, false, List, [], ◌∷◌, length, map, refl, ap, sym, ◌∙◌, subst, arith, cond, Option, Some, None, pred}
+use Rattle.std.specs.Prelude.{◌&&◌}
 use Rattle.pathkey.specs.Keys.{is_below}
 use Rattle.message.specs.declared.msg.Msg.{Msg}
 use Rattle.message.specs.Ranges.{reaches, before}
 use Rattle.message.specs.Effects.{effects}
-use Rattle.message.proofs.CutFacts.{effects-pieces}
 use Rattle.message.proofs.KeyOrder.{from_start, before_from_not_reaches}
 use Rattle.node.specs.declared.node.Slot.{Slot}
 use Rattle.node.specs.declared.shape.Shape.{Shape}
@@ -13,9 +12,7 @@ use Rattle.node.specs.declared.step.StepReply.{StepReply}
 use Rattle.node.specs.declared.step.StepReply.TheVariants.{Did, NotThere, NoRoom, NoMemory}
 use Rattle.node.specs.Appended.{parts, HaveTaken, IsAppended}
 use Rattle.node.specs.See.{see_slot}
-use Rattle.node.specs.Shapes.{is_shape}
 use Rattle.node.specs.Pure.{PNode, leaf, inner, PSlots, none, more, PTree, slots}
-use Rattle.node.specs.Meaning.{value}
 use Rattle.node.specs.Lawful.{IsLawfulRoot, IsLawful, starts_at}
 use Rattle.node.specs.RootSteps.{has_one_inner, with_root, RootLowered, AnswersDown}
 use Rattle.node.specs.Sinks.{msgs_at}
