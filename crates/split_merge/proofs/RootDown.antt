@@ -8,8 +8,7 @@ use Rattle.message.specs.Effects.{effects}
 use Rattle.message.proofs.KeyOrder.{from_start, before_from_not_reaches}
 use Rattle.node.specs.declared.node.Slot.{Slot}
 use Rattle.node.specs.declared.shape.Shape.{Shape}
-use Rattle.node.specs.declared.step.StepReply.{StepReply}
-use Rattle.node.specs.declared.step.StepReply.TheVariants.{Did, NotThere, NoRoom, NoMemory}
+use Rattle.node.specs.declared.step.StepReply.TheVariants.{Did}
 use Rattle.node.specs.Appended.{parts, HaveTaken, IsAppended}
 use Rattle.node.specs.See.{see_slot}
 use Rattle.node.specs.Pure.{PNode, leaf, inner, PSlots, none, more, PTree, slots}
@@ -17,9 +16,8 @@ use Rattle.node.specs.Lawful.{IsLawfulRoot, IsLawful, starts_at}
 use Rattle.node.specs.RootSteps.{has_one_inner, with_root, RootLowered, AnswersDown}
 use Rattle.node.specs.Sinks.{msgs_at}
 use Rattle.node.proofs.Appending.{effects-taken, lawful-appended, value-appended}
-use Rattle.node.proofs.Outcome.{clash}
 use Rattle.node.proofs.Sinking.{emptied-taken, pending-taken}
-use Rattle.split_merge.specs.Lowered.{Lowered, Stays}
+use Rattle.split_merge.specs.Lowered.{Lowered}
 
 module _ {U V : Type 0} where
   -- ---- the messages
@@ -89,13 +87,6 @@ module _ {U V : Type 0} where
         no_room = λ z. (cc);
         unchanged = tt;
       }
-
-  -- and where it has refused
-  pub answers_stays : (means : U → Option V → Option V) (r : StepReply) (a : PTree U V) → Stays r a.root → AnswersDown means r a a
-  answers_stays means (Did n) a q = absurd q
-  answers_stays means NotThere a q = record { value_kept = λ k. refl; shape_kept = refl; did = tt; not_there = (λ z. q, λ z. refl); no_room = λ z. (cc); unchanged = refl }
-  answers_stays means NoRoom a q = absurd q
-  answers_stays means NoMemory a q = record { value_kept = λ k. refl; shape_kept = refl; did = tt; not_there = (λ z. (cc), λ z. absurd (clash (has_one_inner a.root) q z)); no_room = λ z. (cc); unchanged = refl }
 
   -- ---- as the code reads the root
 
