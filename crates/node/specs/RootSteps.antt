@@ -9,7 +9,7 @@ use Rattle.node.specs.declared.step.StepKind.TheVariants.{FlushInner, FlushLeaf,
 use Rattle.node.specs.Pure.{PNode, leaf, inner, PSlots, none, more, PTree}
 use Rattle.node.specs.Lawful.{pending}
 use Rattle.node.specs.Meaning.{value}
-use Rattle.node.specs.Rows.{emptied}
+use Rattle.node.specs.Rows.{emptied, piece_count}
 use Rattle.node.specs.Sinks.{msgs_at}
 use Rattle.node.specs.Steps.{Answers, IfDid, UnlessDid}
 
@@ -58,6 +58,7 @@ module _ {U V : Type 0} (means : U → Option V → Option V) where
     pub is : b ≡ inner grown
     pub same_slots : emptied grown ≡ emptied below
     pub same : (k : List ℕ) (v : Option V) → effects means (msgs_at grown k) k v ≡ effects means msgs k (effects means (msgs_at below k) k v)
+    pub pieces_grow : pending grown ≤ pending below + piece_count msgs below
 
   -- what the reply of root_up says of the tree before and after
   pub record AnswersUp (r : StepReply) (a b : PTree U V) : Type 0 where

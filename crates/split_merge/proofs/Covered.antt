@@ -1,5 +1,5 @@
 -- A slot's subtree that goes at once, in the words of its row.
-use Rattle.std.proofs.Common.{◌≡◌, ℕ, zero, suc, ◌+◌, ◌-◌, ◌<◌, ◌≤◌, Bool, true, false, List, [], ◌∷◌, length, get_or, take, drop, map, refl, ap, sym, ◌∙◌, subst, arith, cond, Option, Some, None, pred, length-drop}
+use Rattle.std.proofs.Common.{◌≡◌, ℕ, zero, suc, ◌-◌, ◌<◌, Bool, true, List, [], ◌∷◌, length, get_or, take, drop, map, refl, ap, sym, ◌∙◌, subst, arith, cond, Option, Some, None, pred, length-drop}
 use Rattle.std.proofs.Math.ListN.{set}
 use Rattle.std.proofs.lemmas.List.{take_all}
 use Rattle.std.specs.Prelude.{◌&&◌}
@@ -17,7 +17,7 @@ use Rattle.node.specs.declared.step.StepKind.TheVariants.{DropCovered}
 use Rattle.node.specs.See.{see_slot}
 use Rattle.node.specs.Pure.{PNode, leaf, inner, PSlots, none, more, slots}
 use Rattle.node.specs.Meaning.{value}
-use Rattle.node.specs.Lawful.{IsLawfulNode, AreLawfulSlots, slot_count, pending, next_lo}
+use Rattle.node.specs.Lawful.{IsLawfulNode, AreLawfulSlots, slot_count, next_lo}
 use Rattle.node.specs.Site.{joined, slots_from}
 use Rattle.node.specs.Sinks.{Sinks}
 use Rattle.node.specs.Rows.{can_drop_covered, ends_within, IsBare}

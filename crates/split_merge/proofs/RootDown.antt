@@ -1,28 +1,23 @@
 -- The only child of a root in the root's place.
-use Rattle.std.proofs.Common.{◌≡◌, ℕ, ◌<◌, ◌≤◌, Bool, true, false, List, [], ◌∷◌, length, get_or, map, refl, ap, sym, ◌∙◌, subst, arith, cond, Option, Some, None, pred}
-use Rattle.std.specs.Prelude.{◌&&◌, IsTrue}
+use Rattle.std.proofs.Common.{◌≡◌, ℕ, true, false, List, [], ◌∷◌, length, map, refl, ap, sym, ◌∙◌, subst, arith, cond, Option, Some, None, pred}
+use Rattle.std.specs.Prelude.{◌&&◌}
 use Rattle.pathkey.specs.Keys.{is_below}
 use Rattle.message.specs.declared.msg.Msg.{Msg}
 use Rattle.message.specs.Ranges.{reaches, before}
 use Rattle.message.specs.Effects.{effects}
-use Rattle.message.proofs.CutFacts.{effects-pieces}
 use Rattle.message.proofs.KeyOrder.{from_start, before_from_not_reaches}
 use Rattle.node.specs.declared.node.Slot.{Slot}
 use Rattle.node.specs.declared.shape.Shape.{Shape}
-use Rattle.node.specs.declared.step.StepReply.{StepReply}
-use Rattle.node.specs.declared.step.StepReply.TheVariants.{Did, NotThere, NoRoom, NoMemory}
+use Rattle.node.specs.declared.step.StepReply.TheVariants.{Did}
 use Rattle.node.specs.Appended.{parts, HaveTaken, IsAppended}
 use Rattle.node.specs.See.{see_slot}
-use Rattle.node.specs.Shapes.{is_shape}
 use Rattle.node.specs.Pure.{PNode, leaf, inner, PSlots, none, more, PTree, slots}
-use Rattle.node.specs.Meaning.{value}
 use Rattle.node.specs.Lawful.{IsLawfulRoot, IsLawful, starts_at}
 use Rattle.node.specs.RootSteps.{has_one_inner, with_root, RootLowered, AnswersDown}
 use Rattle.node.specs.Sinks.{msgs_at}
 use Rattle.node.proofs.Appending.{effects-taken, lawful-appended, value-appended}
-use Rattle.node.proofs.Outcome.{clash}
-use Rattle.node.proofs.Sinking.{emptied-taken}
-use Rattle.split_merge.specs.Lowered.{Lowered, Stays}
+use Rattle.node.proofs.Sinking.{emptied-taken, pending-taken}
+use Rattle.split_merge.specs.Lowered.{Lowered}
 
 module _ {U V : Type 0} where
   -- ---- the messages
@@ -59,6 +54,7 @@ module _ {U V : Type 0} where
     is = refl;
     same_slots = emptied-taken means ms (more lp mt o ss) new q;
     same = λ k v. msgs-taken means None ms lp mt o ss new k v q (ap (λ z. reaches z k) (l.4.2.3 ∙ l.3) ∙ from_start k) refl;
+    pieces_grow = pending-taken means ms (more lp mt o ss) new q;
   }
 
   -- a root that has gone down keeps the tree lawful
@@ -91,13 +87,6 @@ module _ {U V : Type 0} where
         no_room = λ z. (cc);
         unchanged = tt;
       }
-
-  -- and where it has refused
-  pub answers_stays : (means : U → Option V → Option V) (r : StepReply) (a : PTree U V) → Stays r a.root → AnswersDown means r a a
-  answers_stays means (Did n) a q = absurd q
-  answers_stays means NotThere a q = record { value_kept = λ k. refl; shape_kept = refl; did = tt; not_there = (λ z. q, λ z. refl); no_room = λ z. (cc); unchanged = refl }
-  answers_stays means NoRoom a q = absurd q
-  answers_stays means NoMemory a q = record { value_kept = λ k. refl; shape_kept = refl; did = tt; not_there = (λ z. (cc), λ z. absurd (clash (has_one_inner a.root) q z)); no_room = λ z. (cc); unchanged = refl }
 
   -- ---- as the code reads the root
 

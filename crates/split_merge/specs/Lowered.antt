@@ -3,7 +3,7 @@ use Rattle.std.specs.Prelude.{◌≡◌, true, false, Option}
 use Rattle.node.specs.declared.step.StepReply.{StepReply}
 use Rattle.node.specs.declared.step.StepReply.TheVariants.{Did, NotThere, NoRoom, NoMemory}
 use Rattle.node.specs.Appended.{IsAppended}
-use Rattle.node.specs.Pure.{PNode, leaf, inner, PSlots, none, more}
+use Rattle.node.specs.Pure.{PNode, inner, none, more}
 use Rattle.node.specs.RootSteps.{has_one_inner}
 
 module _ {U V : Type 0} (means : U → Option V → Option V) where

@@ -1,6 +1,6 @@
 use Rattle.std.proofs.Common.{subst}
-use Rattle.split_merge.specs.Lowered.{Lowered, Stays}
-use Rattle.split_merge.proofs.RootDown.{lawful_lowered, answers_lowered, answers_stays}
+use Rattle.split_merge.specs.Lowered.{Lowered}
+use Rattle.split_merge.proofs.RootDown.{lawful_lowered, answers_lowered}
 use Rattle.split_merge.proofs.lower.root_down.Goals as goal
 
 pub replace_root-requires : goal.replace_root-requires
