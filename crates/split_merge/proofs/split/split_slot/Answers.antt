@@ -1,4 +1,4 @@
-use Rattle.std.proofs.Common.{refl, ap, sym, subst, ◌≤◌, ◌<◌, length, arith, ◌≡◌, map, ◌∙◌, inl, inr, ◌+◌, ⊎_elim, add-one}
+use Rattle.std.proofs.Common.{refl, ap, sym, subst, ◌≤◌, ◌<◌, length, arith, ◌≡◌, map, ◌∙◌, inl, inr, ◌+◌, false, add-one}
 use Rattle.std.proofs.Math.ListN.{set}
 use Rattle.node.specs.Lawful.{pending}
 use Rattle.node.specs.Pure.{slots}
@@ -37,7 +37,7 @@ returns g c =
     let s = c.index-slot.result.now in
     let h : c.args.i < length xs = omega arith in
     let few : length xs < c.args.shape.fanout = subst (λ z. length z < c.args.shape.fanout) c.as_slice.ensures.value (c.has_room.ensures.few c.if-not-has_room.false) in
-    let light = λ r. subst (λ z. pending (slots (map see_slot xs)) + range_count z ≤ c.args.shape.pending) c.as_slice-2.ensures (subst (λ z. pending (slots (map see_slot z)) + range_count c.as_slice-2.result.now ≤ c.args.shape.pending) c.as_slice.ensures.value (c.has_room.ensures.light c.if-not-has_room.false r)) in
+    let light : c.args.root ≡ false → pending (slots (map see_slot xs)) + range_count s.pending.0 ≤ c.args.shape.pending = λ r. subst (λ z. pending (slots (map see_slot xs)) + range_count z ≤ c.args.shape.pending) c.as_slice-2.ensures (subst (λ z. pending (slots (map see_slot z)) + range_count c.as_slice-2.result.now ≤ c.args.shape.pending) c.as_slice.ensures.value (c.has_room.ensures.light c.if-not-has_room.false r)) in
     let now = c.insert.ensures.items ∙ inserted c.insert.result _ _ (sym c.is_err.ensures.value ∙ c.if-is_err.false) in
     let core = halved g.U.Update.means c.args.shape c.args.root c.args.i xs s c.in-Some.left c.in-Some.right h c.index-slot.ensures (rw c.in-Some.is at c.in-Ok.ensures) few light in
     subst (λ z. Replies g.U.Update.means SplitInner c.args.shape c.args.root c.args.i (Did 0) (slots (map see_slot xs)) (slots (map see_slot (set z c.args.i c.in-Some.left)))) (sym (rw add-one at now)) core
