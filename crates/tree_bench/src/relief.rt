@@ -16,15 +16,21 @@ fn take(alloc: Global, tree: &mut Tree<Set>, step: TreeStep) -> StepReply {
     }
 }
 
-/// The slots of the node at a place.
-fn slots_at<'a>(node: &'a Node<Set>, numbers: &[u8]) -> Option<&'a Vec<Slot<Set>>> {
-    let Body::Inner(slots) = node.body() else {
-        return None;
-    };
-    let Some((first, rest)) = numbers.split_first() else {
-        return Some(slots);
-    };
-    slots_at(&slots.get(*first as usize)?.child, rest)
+/// The slots of a node.
+fn slots_of(node: &Node<Set>) -> Option<&Vec<Slot<Set>>> {
+    match node.body() {
+        Body::Inner(slots) => Some(slots),
+        Body::Leaf(_) => None,
+    }
+}
+
+/// The slots of the node that these numbers lead to.
+fn slots_at<'a>(root: &'a Node<Set>, numbers: &[u8]) -> Option<&'a Vec<Slot<Set>>> {
+    let mut slots = slots_of(root)?;
+    for number in numbers {
+        slots = slots_of(&slots.get(*number as usize)?.child)?;
+    }
+    Some(slots)
 }
 
 /// The place that so many of the numbers lead to.
@@ -53,7 +59,7 @@ fn flush_of_fullest(tree: &Tree<Set>, at: Place) -> Option<TreeStep> {
     Some(TreeStep {
         kind,
         at,
-        slot: fullest as u8,
+        slot: u8::try_from(fullest).ok()?,
     })
 }
 

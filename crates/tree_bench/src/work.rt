@@ -53,11 +53,12 @@ pub fn new_tree(alloc: Global) -> Result<Tree<Set>, NoMemory> {
 
 /// Flushes until nothing is pending; gives the number of steps.
 pub fn settle(alloc: Global, tree: &mut Tree<Set>) -> u64 {
-    let mut steps = 0u64;
-    while steps < 10_000_000 && relieve(alloc, tree) {
-        steps += 1;
+    for steps in 0..10_000_000 {
+        if !relieve(alloc, tree) {
+            return steps;
+        }
     }
-    steps
+    10_000_000
 }
 
 /// Looks the keys below `keys` up in turn, `count` times in all; gives how many were found.

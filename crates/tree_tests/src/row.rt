@@ -71,5 +71,5 @@ impl Message {
 
 /// The number's bytes, the highest first, so that keys lie in the order of the numbers.
 pub fn key(alloc: Global, number: usize) -> Result<Key, NoMemory> {
-    Key::from_bytes(alloc, &(number as u16).to_be_bytes())
+    Key::from_bytes(alloc, &(number as u64).to_be_bytes())
 }

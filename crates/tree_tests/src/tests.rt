@@ -5,7 +5,9 @@ use lookup::get;
 use message::Msg;
 use node::{Place, Shape, ShapeReport, StepKind, StepReply, Tree, TreeStep};
 use pathkey::{Key, NoMemory};
-use split_merge::{root_up, split_inner};
+use split_merge::{
+    drop_covered, merge_inner, merge_leaves, root_down, root_up, split_inner,
+};
 use std::alloc::Global;
 use std::test::Fail;
 
@@ -16,14 +18,18 @@ const SMALL: Shape = Shape {
     leaf: 4,
 };
 
-/// Does a step; those that do not stand yet are not there.
+/// Does a step.
 fn take(alloc: Global, tree: &mut Tree<Digit>, step: TreeStep) -> StepReply {
-    match step.kind {
-        StepKind::FlushInner => flush_inner(alloc, tree, step.at, step.slot),
-        StepKind::FlushLeaf => flush_leaf(alloc, tree, step.at, step.slot),
-        StepKind::SplitInner => split_inner(alloc, tree, step.at, step.slot),
+    let TreeStep { kind, at, slot } = step;
+    match kind {
+        StepKind::FlushInner => flush_inner(alloc, tree, at, slot),
+        StepKind::FlushLeaf => flush_leaf(alloc, tree, at, slot),
+        StepKind::SplitInner => split_inner(alloc, tree, at, slot),
+        StepKind::MergeLeaves => merge_leaves(alloc, tree, at, slot),
+        StepKind::MergeInner => merge_inner(alloc, tree, at, slot),
         StepKind::RootUp => root_up(alloc, tree),
-        _ => StepReply::NotThere,
+        StepKind::RootDown => root_down(alloc, tree),
+        StepKind::DropCovered => drop_covered(alloc, tree, at, slot),
     }
 }
 
@@ -36,12 +42,26 @@ fn at_first(kind: StepKind) -> TreeStep {
     }
 }
 
+/// Does a step at the root's first slot.
+fn take_first(alloc: Global, tree: &mut Tree<Digit>, kind: StepKind) -> StepReply {
+    take(alloc, tree, at_first(kind))
+}
+
 #[test]
 fn new_tree_has_no_step_to_do(rt: HostRuntime) -> Result<(), Fail> {
     let alloc = rt.alloc();
     let mut tree = Tree::<Digit>::new(alloc, SMALL)?;
-    for kind in [StepKind::FlushLeaf, StepKind::FlushInner, StepKind::SplitInner, StepKind::RootUp] {
-        assert_eq!(rt; take(alloc, &mut tree, at_first(kind)), StepReply::NotThere);
+    for kind in [
+        StepKind::FlushInner,
+        StepKind::FlushLeaf,
+        StepKind::SplitInner,
+        StepKind::MergeLeaves,
+        StepKind::MergeInner,
+        StepKind::RootUp,
+        StepKind::RootDown,
+        StepKind::DropCovered,
+    ] {
+        assert_eq!(rt; take_first(alloc, &mut tree, kind), StepReply::NotThere);
     }
     assert!(rt; heaviest(&tree).is_none());
     Ok(())
@@ -50,9 +70,9 @@ fn new_tree_has_no_step_to_do(rt: HostRuntime) -> Result<(), Fail> {
 /// A tree to which five keys of one byte were put.
 fn five_puts(alloc: Global) -> Result<Tree<Digit>, NoMemory> {
     let mut tree = Tree::new(alloc, SMALL)?;
-    for name in 0..5 {
+    for name in *b"abcde" {
         let mut batch = Vec::new(alloc);
-        batch.push(Msg::Put(Key::from_bytes(alloc, &[b'a' + name])?, name as u64))?;
+        batch.push(Msg::Put(Key::from_bytes(alloc, &[name])?, name as u64))?;
         tree.append(alloc, batch)?;
     }
     Ok(tree)
@@ -60,10 +80,10 @@ fn five_puts(alloc: Global) -> Result<Tree<Digit>, NoMemory> {
 
 /// How many of the five keys have their value.
 fn found(alloc: Global, tree: &Tree<Digit>) -> Result<usize, NoMemory> {
-    let mut count = 0;
-    for name in 0..5 {
-        if get(alloc, tree, &Key::from_bytes(alloc, &[b'a' + name])?)? == Some(name as u64) {
-            count += 1;
+    let mut count = 0usize;
+    for name in *b"abcde" {
+        if get(alloc, tree, &Key::from_bytes(alloc, &[name])?)? == Some(name as u64) {
+            count = count.saturating_add(1);
         }
     }
     Ok(count)
@@ -94,6 +114,58 @@ fn five_keys_sink_into_two_leaves(rt: HostRuntime) -> Result<(), Fail> {
     Ok(())
 }
 
+/// The tree of the five keys after as many flushes as it has messages.
+fn five_sunk(alloc: Global) -> Result<Tree<Digit>, NoMemory> {
+    let mut tree = five_puts(alloc)?;
+    for _ in 0..5 {
+        if let Some(step) = heaviest(&tree) {
+            take(alloc, &mut tree, step);
+        }
+    }
+    Ok(tree)
+}
+
+#[test]
+fn root_goes_up_and_down_again(rt: HostRuntime) -> Result<(), Fail> {
+    let alloc = rt.alloc();
+    let mut tree = five_sunk(alloc)?;
+    for kind in [
+        StepKind::RootUp,
+        StepKind::SplitInner,
+        StepKind::MergeInner,
+        StepKind::RootDown,
+    ] {
+        assert_eq!(rt; take_first(alloc, &mut tree, kind), StepReply::Did(0));
+        assert_eq!(rt; found(alloc, &tree)?, 5);
+    }
+    Ok(())
+}
+
+#[test]
+fn empty_leaves_become_one(rt: HostRuntime) -> Result<(), Fail> {
+    let alloc = rt.alloc();
+    let mut tree = five_sunk(alloc)?;
+    for name in *b"abcde" {
+        let mut batch = Vec::new(alloc);
+        batch.push(Msg::Del(Key::from_bytes(alloc, &[name])?))?;
+        tree.append(alloc, batch)?;
+    }
+    for _ in 0..5 {
+        if let Some(step) = heaviest(&tree) {
+            take(alloc, &mut tree, step);
+        }
+    }
+    assert!(rt; heaviest(&tree).is_none());
+    let slots = tree.shape_report().slots;
+    for _ in 1..slots {
+        assert_eq!(rt; take_first(alloc, &mut tree, StepKind::MergeLeaves), StepReply::Did(0));
+    }
+    assert_eq!(rt; tree.shape_report().slots, 1);
+    assert_eq!(rt; take_first(alloc, &mut tree, StepKind::MergeLeaves), StepReply::NotThere);
+    assert_eq!(rt; found(alloc, &tree)?, 0);
+    Ok(())
+}
+
 /// A tree beside a plain row under the same messages.
 #[derive(Drop)]
 struct Pair {
@@ -102,10 +174,18 @@ struct Pair {
 }
 
 impl Pair {
-    /// Puts up to six messages into both.
+    /// An empty tree beside an empty row.
+    fn new(alloc: Global) -> Result<Pair, NoMemory> {
+        Ok(Pair {
+            tree: Tree::new(alloc, SMALL)?,
+            row: [None; KEYS],
+        })
+    }
+
+    /// Puts up to two messages into both.
     fn change(&mut self, alloc: Global, random: &mut Random) -> Result<(), NoMemory> {
         let mut batch = Vec::new(alloc);
-        for _ in 0..random.below(7) {
+        for _ in 0..random.below(3) {
             let message = Message::random(random);
             batch.push(message.for_tree(alloc)?)?;
             message.lay(&mut self.row);
@@ -113,10 +193,16 @@ impl Pair {
         self.tree.append(alloc, batch)
     }
 
+    /// Whether they agree at a key.
+    fn agrees_at(&self, alloc: Global, at: usize) -> Result<bool, NoMemory> {
+        let there = self.row.get(at).copied().flatten();
+        Ok(get(alloc, &self.tree, &key(alloc, at)?)? == there)
+    }
+
     /// The first key at which they differ.
     fn differs_at(&self, alloc: Global) -> Result<Option<usize>, NoMemory> {
         for at in 0..KEYS {
-            if get(alloc, &self.tree, &key(alloc, at)?)? != self.row[at] {
+            if !self.agrees_at(alloc, at)? {
                 return Ok(Some(at));
             }
         }
@@ -133,15 +219,19 @@ fn somewhere(random: &mut Random) -> (Place, u8) {
     (at, random.below(5) as u8)
 }
 
-/// A step of some kind: more often than not what is heaviest.
+/// A step of some kind: often what is heaviest.
 fn some_step(random: &mut Random, tree: &Tree<Digit>) -> TreeStep {
     let (at, slot) = somewhere(random);
-    let kind = match random.below(12) {
+    let kind = match random.below(20) {
         0 => StepKind::FlushInner,
         1 => StepKind::FlushLeaf,
         2 | 3 => StepKind::SplitInner,
-        4 => StepKind::RootUp,
-        _ => return heaviest(tree).unwrap_or(at_first(StepKind::RootUp)),
+        4 => StepKind::MergeLeaves,
+        5 => StepKind::MergeInner,
+        6 | 7 => StepKind::RootUp,
+        8 => StepKind::RootDown,
+        9 | 10 => StepKind::DropCovered,
+        _ => return heaviest(tree).unwrap_or(at_first(StepKind::MergeLeaves)),
     };
     TreeStep { kind, at, slot }
 }
@@ -150,17 +240,12 @@ fn some_step(random: &mut Random, tree: &Tree<Digit>) -> TreeStep {
 fn no_step_changes_a_value(rt: HostRuntime) -> Result<(), Fail> {
     let alloc = rt.alloc();
     let mut random = Random(11);
-    let mut pair = Pair {
-        tree: Tree::new(alloc, SMALL)?,
-        row: [None; KEYS],
-    };
-    for round in 0..3000 {
+    let mut pair = Pair::new(alloc)?;
+    for round in 0..10_000 {
         pair.change(alloc, &mut random)?;
         let step = some_step(&mut random, &pair.tree);
         take(alloc, &mut pair.tree, step);
-        if round % 20 == 0 {
-            assert_eq!(rt; pair.differs_at(alloc)?, None);
-        }
+        assert!(rt; pair.agrees_at(alloc, random.below(300) as usize)?, "round {round}");
     }
     assert_eq!(rt; pair.differs_at(alloc)?, None);
     Ok(())
@@ -170,12 +255,9 @@ fn no_step_changes_a_value(rt: HostRuntime) -> Result<(), Fail> {
 fn shared_trees_never_change(rt: HostRuntime) -> Result<(), Fail> {
     let alloc = rt.alloc();
     let mut random = Random(23);
-    let mut pair = Pair {
-        tree: Tree::new(alloc, SMALL)?,
-        row: [None; KEYS],
-    };
+    let mut pair = Pair::new(alloc)?;
     let mut kept = Vec::new(alloc);
-    for round in 0..3000 {
+    for round in 0..10_000 {
         pair.change(alloc, &mut random)?;
         let step = some_step(&mut random, &pair.tree);
         take(alloc, &mut pair.tree, step);
