@@ -1,5 +1,5 @@
 -- A flush of one slot into a leaf, in the words of its row.
-use Rattle.std.proofs.Common.{◌≡◌, ℕ, suc, ◌+◌, ◌-◌, ◌*◌, ◌<◌, ◌≤◌, Bool, true, false, List, [], ◌∷◌, ◌++◌, length, get_or, take, drop, map, refl, ap, sym, ◌∙◌, subst, arith, cond, Option, Some, None, pred, inl, inr, length-drop, length-append}
+use Rattle.std.proofs.Common.{◌≡◌, ℕ, suc, ◌+◌, ◌-◌, ◌<◌, ◌≤◌, Bool, true, false, List, [], ◌∷◌, length, get_or, take, drop, map, refl, ap, sym, ◌∙◌, subst, arith, cond, Option, Some, None, inl, inr, length-drop, length-append}
 use Rattle.std.specs.Prelude.{◌&&◌, nat_le, IsTrue, ◌⊎◌, ⊤, Result, Ok, Err, is_ok, is_err, OnOk, OnErr}
 use Rattle.std.proofs.Math.ListN.{set}
 use Rattle.std.proofs.Math.Seq.{take-length}
@@ -19,7 +19,7 @@ use Rattle.node.specs.declared.step.StepKind.TheVariants.{FlushLeaf}
 use Rattle.node.specs.Shapes.{is_between, is_shape}
 use Rattle.node.specs.See.{see_slot}
 use Rattle.node.specs.Pure.{PNode, leaf, inner, PSlots, none, more, slots}
-use Rattle.node.specs.Lawful.{Rises, AreLawfulSlots, slot_count, pending, next_lo}
+use Rattle.node.specs.Lawful.{Rises, AreLawfulSlots, slot_count, next_lo}
 use Rattle.node.specs.Leaves.{Applied, IsDivided, IsPlace}
 use Rattle.node.specs.Meaning.{lookup}
 use Rattle.node.specs.Rows.{can_flush_leaf, LeafHasNoRoom}

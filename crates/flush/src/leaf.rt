@@ -160,7 +160,12 @@ fn keep<U: Update>(alloc: Global, slot: &mut Slot<U>, entries: Vec<(Key, U::Valu
     requires { 0 < length slot.old.pending.0 }
     ensures { KeptOne result entries.items slot.old slot.new }
 {
-    let Ok(child) = Arc::new(alloc, Node { body: Body::Leaf(entries) }) else {
+    let Ok(child) = Arc::new(
+        alloc,
+        Node {
+            body: Body::Leaf(entries),
+        },
+    ) else {
         return StepReply::NoMemory;
     };
     slot.child = child;
@@ -196,11 +201,21 @@ fn halves<U: Update>(
     let left = Slot {
         lo: lo.copy(alloc)?,
         pending: Pending::of(pieces(alloc, lo, Some(&pivot), rest)?),
-        child: Arc::new(alloc, Node { body: Body::Leaf(front) })?,
+        child: Arc::new(
+            alloc,
+            Node {
+                body: Body::Leaf(front),
+            },
+        )?,
     };
     let right = Slot {
         pending: Pending::of(pieces(alloc, &pivot, None, rest)?),
-        child: Arc::new(alloc, Node { body: Body::Leaf(back) })?,
+        child: Arc::new(
+            alloc,
+            Node {
+                body: Body::Leaf(back),
+            },
+        )?,
         lo: pivot,
     };
     Ok((left, right))

@@ -1,6 +1,5 @@
 -- A slot cut in two.
-use Rattle.std.specs.Prelude.{◌≡◌, ◌≤◌, false, List, [], Option, Some, None}
-use Rattle.message.specs.declared.msg.Msg.{Msg}
+use Rattle.std.specs.Prelude.{◌≡◌, ◌≤◌, false, [], Option, Some, None}
 use Rattle.message.specs.Cuts.{pieces}
 use Rattle.message.specs.Effects.{Takes}
 use Rattle.node.specs.declared.node.Slot.{Slot}

@@ -31,10 +31,7 @@ fn node_over<U: Update>(alloc: Global, slots: &[Slot<U>]) -> Result<Arc<Node<U>>
 }
 
 /// The slot in two, where its child is an inner node with two slots or more.
-fn halves<U: Update>(
-    alloc: Global,
-    slot: &Slot<U>,
-) -> Result<Option<(Slot<U>, Slot<U>)>, NoMemory>
+fn halves<U: Update>(alloc: Global, slot: &Slot<U>) -> Result<Option<(Slot<U>, Slot<U>)>, NoMemory>
     ensures { IfOk result (HalvedOr U.means slot.now) }
 {
     let msgs = slot.pending.as_slice();

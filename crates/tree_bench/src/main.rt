@@ -28,7 +28,12 @@ fn main(rt: HostRuntime) -> anyhow::Result<()> {
     match words.get(1) {
         None => little(&rt)?,
         Some(word) if word.as_str() == "measure" => measure(&rt)?,
-        Some(word) if word.as_str() == "tree" => append(alloc, &mut new_tree(alloc)?, MESSAGES, MESSAGES)?,
+        Some(word) if word.as_str() == "tree" => append(
+            alloc,
+            &mut new_tree(alloc)?,
+            MESSAGES,
+            MESSAGES,
+        )?,
         Some(_) => insert(alloc, &mut BTreeMap::new(alloc), MESSAGES, MESSAGES)?,
     }
     Ok(())

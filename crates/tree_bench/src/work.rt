@@ -21,7 +21,10 @@ const ROOT_LIMIT: usize = 4096;
 
 /// The key with a number: eight bytes in which neighbours lie far apart.
 fn key(alloc: Global, number: u64) -> Result<Key, NoMemory> {
-    Key::from_bytes(alloc, &number.wrapping_mul(0x9E37_79B9_7F4A_7C15).to_be_bytes())
+    Key::from_bytes(
+        alloc,
+        &number.wrapping_mul(0x9E37_79B9_7F4A_7C15).to_be_bytes(),
+    )
 }
 
 /// How many messages wait in the root.
@@ -74,7 +77,12 @@ pub fn look_up(alloc: Global, tree: &Tree<Set>, keys: u64, count: u64) -> Result
 }
 
 /// The same inserts into a map.
-pub fn insert(alloc: Global, map: &mut BTreeMap<Key, u64>, keys: u64, count: u64) -> Result<(), NoMemory> {
+pub fn insert(
+    alloc: Global,
+    map: &mut BTreeMap<Key, u64>,
+    keys: u64,
+    count: u64,
+) -> Result<(), NoMemory> {
     for i in 0..count {
         let number = i.checked_rem(keys).unwrap_or(0);
         if map.insert(key(alloc, number)?, i).is_err() {
@@ -85,7 +93,12 @@ pub fn insert(alloc: Global, map: &mut BTreeMap<Key, u64>, keys: u64, count: u64
 }
 
 /// The same look-ups in a map.
-pub fn look_up_map(alloc: Global, map: &BTreeMap<Key, u64>, keys: u64, count: u64) -> Result<u64, NoMemory> {
+pub fn look_up_map(
+    alloc: Global,
+    map: &BTreeMap<Key, u64>,
+    keys: u64,
+    count: u64,
+) -> Result<u64, NoMemory> {
     let mut found = 0u64;
     for i in 0..count {
         let number = i.checked_rem(keys).unwrap_or(0);

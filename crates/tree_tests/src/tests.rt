@@ -5,9 +5,7 @@ use lookup::get;
 use message::Msg;
 use node::{Place, Shape, ShapeReport, StepKind, StepReply, Tree, TreeStep};
 use pathkey::{Key, NoMemory};
-use split_merge::{
-    drop_covered, merge_inner, merge_leaves, root_down, root_up, split_inner,
-};
+use split_merge::{drop_covered, merge_inner, merge_leaves, root_down, root_up, split_inner};
 use std::alloc::Global;
 use std::test::Fail;
 
@@ -107,7 +105,12 @@ fn five_keys_sink_into_two_leaves(rt: HostRuntime) -> Result<(), Fail> {
     }
     assert!(rt; heaviest(&tree).is_none());
     assert_eq!(rt; found(alloc, &tree)?, 5);
-    let ShapeReport { levels: _, slots, pending, entries } = tree.shape_report();
+    let ShapeReport {
+        levels: _,
+        slots,
+        pending,
+        entries,
+    } = tree.shape_report();
     assert_eq!(rt; entries, 5);
     assert_eq!(rt; pending, 0);
     assert!(rt; slots >= 2);
@@ -158,10 +161,16 @@ fn empty_leaves_become_one(rt: HostRuntime) -> Result<(), Fail> {
     assert!(rt; heaviest(&tree).is_none());
     let slots = tree.shape_report().slots;
     for _ in 1..slots {
-        assert_eq!(rt; take_first(alloc, &mut tree, StepKind::MergeLeaves), StepReply::Did(0));
+        assert_eq!(rt;
+            take_first(alloc, &mut tree, StepKind::MergeLeaves),
+            StepReply::Did(0)
+        );
     }
     assert_eq!(rt; tree.shape_report().slots, 1);
-    assert_eq!(rt; take_first(alloc, &mut tree, StepKind::MergeLeaves), StepReply::NotThere);
+    assert_eq!(rt;
+        take_first(alloc, &mut tree, StepKind::MergeLeaves),
+        StepReply::NotThere
+    );
     assert_eq!(rt; found(alloc, &tree)?, 0);
     Ok(())
 }
@@ -245,7 +254,10 @@ fn no_step_changes_a_value(rt: HostRuntime) -> Result<(), Fail> {
         pair.change(alloc, &mut random)?;
         let step = some_step(&mut random, &pair.tree);
         take(alloc, &mut pair.tree, step);
-        assert!(rt; pair.agrees_at(alloc, random.below(300) as usize)?, "round {round}");
+        assert!(rt;
+            pair.agrees_at(alloc, random.below(300) as usize)?,
+            "round {round}"
+        );
     }
     assert_eq!(rt; pair.differs_at(alloc)?, None);
     Ok(())

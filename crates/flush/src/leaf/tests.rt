@@ -16,12 +16,21 @@ fn leaf_is_filled_and_then_cut(rt: HostRuntime) -> Result<(), NoMemory> {
     for byte in *b"badce" {
         put(alloc, &mut tree, byte)?;
     }
-    assert_eq!(rt; flush_leaf(alloc, &mut tree, Place::root(), 0), StepReply::Did(4));
+    assert_eq!(rt;
+        flush_leaf(alloc, &mut tree, Place::root(), 0),
+        StepReply::Did(4)
+    );
     assert_eq!(rt; tree.shape_report().slots, 1);
-    assert_eq!(rt; flush_leaf(alloc, &mut tree, Place::root(), 0), StepReply::Did(1));
+    assert_eq!(rt;
+        flush_leaf(alloc, &mut tree, Place::root(), 0),
+        StepReply::Did(1)
+    );
     let report = tree.shape_report();
     assert_eq!(rt; (report.slots, report.entries, report.pending), (2, 5, 0));
-    assert_eq!(rt; flush_leaf(alloc, &mut tree, Place::root(), 0), StepReply::NotThere);
+    assert_eq!(rt;
+        flush_leaf(alloc, &mut tree, Place::root(), 0),
+        StepReply::NotThere
+    );
     Ok(())
 }
 
@@ -32,7 +41,10 @@ fn full_leaf_takes_what_adds_nothing(rt: HostRuntime) -> Result<(), NoMemory> {
     for byte in *b"abcdabcd" {
         put(alloc, &mut tree, byte)?;
     }
-    assert_eq!(rt; flush_leaf(alloc, &mut tree, Place::root(), 0), StepReply::Did(8));
+    assert_eq!(rt;
+        flush_leaf(alloc, &mut tree, Place::root(), 0),
+        StepReply::Did(8)
+    );
     let report = tree.shape_report();
     assert_eq!(rt; (report.slots, report.entries, report.pending), (1, 4, 0));
     Ok(())

@@ -1,6 +1,5 @@
-use Rattle.std.proofs.Common.{sym, ◌∙◌, subst, [], None, length, ◌≡◌, ◌<◌}
+use Rattle.std.proofs.Common.{sym, ◌∙◌, subst, length, ◌<◌}
 use Rattle.std.specs.Prelude.{◌⊎◌}
-use Rattle.node.specs.Lawful.{Rises}
 use Rattle.flush.specs.Leaf.{AddsNone}
 use Rattle.flush.proofs.LeafFlush.{applied_ok, same_err, stays_within}
 use Rattle.flush.proofs.leaf.apply_within.Goals as goal

@@ -1,4 +1,4 @@
-use Rattle.std.proofs.Common.{arith, ◌≡◌, ◌<◌, ◌≤◌, ◌+◌, length, map, inl, inr, false, true, true≢false, sym, ◌∙◌}
+use Rattle.std.proofs.Common.{arith, ◌<◌, ◌≤◌, ◌+◌, inl, inr, true≢false, sym, ◌∙◌}
 use Rattle.std.proofs.lemmas.Bool.{leb-true, leb-false}
 use Rattle.node.proofs.Placing.{slot_count-slots}
 use Rattle.flush.proofs.leaf.can_part.Goals as goal

@@ -1,4 +1,4 @@
-use Rattle.std.proofs.Common.{arith, ◌≡◌, get_or, subst, sym, ◌∙◌, ap}
+use Rattle.std.proofs.Common.{arith, ◌≡◌, get_or, sym, ◌∙◌, ap}
 use Rattle.node.proofs.Applying.{applied_more}
 use Rattle.flush.proofs.leaf.fill.Goals as goal
 

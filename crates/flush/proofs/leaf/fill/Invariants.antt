@@ -1,5 +1,4 @@
-use Rattle.std.proofs.Common.{◌≡◌, ◌≤◌, ◌<◌, length, take, [], None}
-use Rattle.node.specs.Lawful.{Rises}
+use Rattle.std.proofs.Common.{◌≡◌, ◌≤◌, ◌<◌, length, take}
 use Rattle.node.specs.Leaves.{Applied}
 use Rattle.flush.proofs.leaf.fill.Given as goal
 

@@ -1,4 +1,4 @@
-use Rattle.std.proofs.Common.{arith, refl, ap, sym, subst, ◌≡◌, ◌≤◌, ◌<◌, length, map}
+use Rattle.std.proofs.Common.{arith, refl, ap, sym, subst, ◌≤◌, ◌<◌, length, map}
 use Rattle.node.specs.Pure.{inner, slots}
 use Rattle.node.specs.Ready.{IsSearchable}
 use Rattle.node.specs.Rows.{can_flush_leaf}

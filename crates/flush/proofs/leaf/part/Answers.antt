@@ -1,4 +1,4 @@
-use Rattle.std.proofs.Common.{arith, refl, ap, sym, ◌∙◌, subst, ◌≡◌, ◌≤◌, ◌<◌, length, map, drop, add-one}
+use Rattle.std.proofs.Common.{arith, refl, sym, ◌∙◌, subst, map, add-one}
 use Rattle.std.proofs.Math.ListN.{set}
 use Rattle.node.specs.Pure.{slots}
 use Rattle.node.specs.See.{see_slot}

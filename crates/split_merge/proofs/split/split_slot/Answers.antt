@@ -1,14 +1,13 @@
-use Rattle.std.proofs.Common.{refl, ap, sym, subst, ◌≤◌, ◌<◌, length, arith, ◌≡◌, map, ◌∙◌, inl, inr, ◌+◌, false, add-one}
+use Rattle.std.proofs.Common.{refl, ap, sym, subst, ◌≤◌, ◌<◌, length, arith, ◌≡◌, map, ◌∙◌, ◌+◌, false, add-one}
 use Rattle.std.proofs.Math.ListN.{set}
 use Rattle.node.specs.Lawful.{pending}
 use Rattle.node.specs.Pure.{slots}
 use Rattle.node.specs.Rows.{can_split_inner, range_count}
 use Rattle.node.specs.See.{see_slot}
-use Rattle.node.specs.Steps.{HasNoRoom, Replies}
+use Rattle.node.specs.Steps.{Replies}
 use Rattle.node.specs.declared.step.StepReply.TheVariants.{Did}
 use Rattle.node.specs.declared.step.StepKind.TheVariants.{SplitInner}
 use Rattle.node.proofs.Doing.{inserted}
-use Rattle.node.proofs.Placing.{slot_count-slots}
 use Rattle.node.proofs.Splice.{slots_from-past}
 use Rattle.split_merge.proofs.InnerSplit.{halved}
 use Rattle.split_merge.proofs.Splittable.{can_split_inner-is, no_room}
