@@ -17,11 +17,12 @@ use Rattle.node.specs.Appended.{parts, HaveTaken}
 use Rattle.node.specs.Site.{joined}
 use Rattle.node.specs.Sinks.{Sinks}
 use Rattle.node.specs.Rows.{piece_count, IsFullBelow, can_flush_inner}
-use Rattle.node.specs.Steps.{Replies}
+use Rattle.node.specs.Steps.{Formed, Replies}
 use Rattle.node.proofs.Appending.{value-taken, slot_count-taken, starts_at-taken}
 use Rattle.node.proofs.Sinking.{touch_only-take, touch_only-drop, lawful-sunk, pending-taken, emptied-taken}
+use Rattle.node.proofs.Doing.{replies_did}
 use Rattle.node.proofs.Splice.{slots-split, slots-set_split, slot_count-take, slots_from-joined, slot_count-joined, pending-joined, lawful-spliced, lawful-split, starts_at-joined}
-use Rattle.flush.specs.Sunk.{Sunk}
+use Rattle.flush.specs.Sunk.{Sunk, left}
 
 module _ {U V : Type 0} where
   module _ (means : U → Option V → Option V) where
@@ -54,48 +55,33 @@ module _ {U V : Type 0} where
   same_full P lo lp (m ∷ ms) (inner cs) a x h = h
 
   module _ (means : U → Option V → Option V) (shape : Shape) (root : Bool) (i : ℕ) (b a : PSlots U V) (lo : List ℕ) (at_i : slot_count b ≡ i) where
+    -- what became of the slot
+    sunk : (n : ℕ) (ms : List (Msg U V)) (cs ds : PSlots U V) → 1 ≤ n → n ≤ length ms → HaveTaken means cs (parts None (take n ms) cs) ds → pending cs + piece_count (take n ms) cs ≤ shape.pending → (h : ℕ) (e : Option (List ℕ)) → AreLawfulSlots shape (more lo ms (inner cs) none) h e → Sinks means n e (more lo ms (inner cs) none) (more lo (drop n ms) (inner ds) none) × Formed means FlushInner n (more lo ms (inner cs) none) (more lo (drop n ms) (inner ds) none) × AreLawfulSlots shape (more lo (drop n ms) (inner ds) none) h e
+    sunk n ms cs ds one has t fits h e l = (
+      sinks means shape n (pred h) lo e ms cs ds t l.2,
+      record { lo = lo; msgs = ms; below = cs; grown = ds; some = one; has = has; was = refl; is = refl; same_slots = emptied-taken means (take n ms) cs ds t; pieces_grow = pending-taken means (take n ms) cs ds t },
+      lawful_grown means shape n h lo e ms cs ds t fits l,
+    )
+
     -- what a flush that is done has done to the node
     did : (n : ℕ) (ms : List (Msg U V)) (cs ds : PSlots U V) → 1 ≤ n → n ≤ length ms → HaveTaken means cs (parts None (take n ms) cs) ds → pending cs + piece_count (take n ms) cs ≤ shape.pending → Replies means FlushInner shape root i (Did n) (joined b (more lo ms (inner cs) a)) (joined b (more lo (drop n ms) (inner ds) a))
-    did n ms cs ds one has t fits h lp hi l there =
-        let old = more lo ms (inner cs) none in
-        let new = more lo (drop n ms) (inner ds) none in
-        let inside : AreLawfulSlots shape old h (next_lo hi a) = (lawful-split shape h hi old a (lawful-split shape h hi b (joined old a) l.each).1).0 in (
-          record {
-            before = b;
-            old = old;
-            new = new;
-            after = a;
-            was = refl;
-            is = refl;
-            number = at_i;
-            width = refl;
-            changed = (sinks means shape n (pred h) lo (next_lo hi a) ms cs ds t inside.2, record { lo = lo; msgs = ms; below = cs; grown = ds; some = one; has = has; was = refl; is = refl; same_slots = emptied-taken means (take n ms) cs ds t; pieces_grow = pending-taken means (take n ms) cs ds t });
-          },
-          record {
-            above = l.above;
-            few = omega (arith, l.few, slot_count-joined b (joined old a), slot_count-joined b (joined new a));
-            light = λ r. omega (arith, l.light r, pending-joined b (joined old a), pending-joined b (joined new a), length-drop n ms);
-            starts = starts_at-joined lp lo b ms (drop n ms) (inner cs) (inner ds) a a l.starts;
-            each = lawful-spliced shape h hi b old new a tt tt refl (lawful_grown means shape n h lo (next_lo hi a) ms cs ds t fits) l.each;
-          },
-        )
+    did n ms cs ds one has t fits = replies_did means FlushInner shape root i n b (more lo ms (inner cs) none) (more lo (drop n ms) (inner ds) none) a at_i refl tt tt refl (λ z. z) (λ r z. omega (arith, z, length-drop n ms)) (sunk n ms cs ds one has t fits)
 
     -- what each reply says of the node
-    pub replies : (r : StepReply) (ms ns : List (Msg U V)) (c d : PNode U V) → Sunk means shape.pending r ms ns c d → Replies means FlushInner shape root i r (joined b (more lo ms c a)) (joined b (more lo ns d a))
-    replies (Did n) ms ns (leaf es) d q = absurd q.3
-    replies (Did n) ms ns (inner cs) (leaf es) q = absurd q.3
-    replies (Did n) ms ns (inner cs) (inner ds) q =
-        subst (λ z. Replies means FlushInner shape root i (Did n) (joined b (more lo ms (inner cs) a)) (joined b (more lo z (inner ds) a))) (sym q.2) (did n ms cs ds q.0 q.1 q.3.0 q.3.1)
-    replies NotThere ms ns c d q = (λ j. joined b (more lo (q.0 j) (q.1 j) a), λ hi. ap can_flush_inner (slots_from-joined i b (more lo ms c a) at_i) ∙ same_there lo [] ms c a none ∙ q.2)
-    replies NoRoom ms ns c d q = (λ j. joined b (more lo (q.0 j) (q.1 j) a), subst (λ z. IsFullBelow shape.pending z) (sym (slots_from-joined i b (more lo ms c a) at_i)) (same_full shape.pending [] lo ms c none a q.2))
-    replies NoMemory ms ns c d q = λ j. joined b (more lo (q.0 j) (q.1 j) a)
+    pub replies : (r : StepReply) (ms : List (Msg U V)) (c d : PNode U V) → Sunk means shape.pending r ms c d → Replies means FlushInner shape root i r (joined b (more lo ms c a)) (joined b (more lo (left r ms) d a))
+    replies (Did n) ms (leaf es) d q = absurd q.2
+    replies (Did n) ms (inner cs) (leaf es) q = absurd q.2
+    replies (Did n) ms (inner cs) (inner ds) q = did n ms cs ds q.0 q.1 q.2.0 q.2.1
+    replies NotThere ms c d q = (ap (λ z. joined b (more lo ms z a)) q.0, λ hi. ap can_flush_inner (slots_from-joined i b (more lo ms c a) at_i) ∙ same_there lo [] ms c a none ∙ q.1)
+    replies NoRoom ms c d q = (ap (λ z. joined b (more lo ms z a)) q.0, subst (λ z. IsFullBelow shape.pending z) (sym (slots_from-joined i b (more lo ms c a) at_i)) (same_full shape.pending [] lo ms c none a q.1))
+    replies NoMemory ms c d q = ap (λ z. joined b (more lo ms z a)) q
 
   -- the same of the slots as the code writes them
-  pub flushed : (means : U → Option V → Option V) (shape : Shape) (root : Bool) (i : ℕ) (xs : List (Slot U V)) (s t : Slot U V) (r : StepReply) → i < length xs → s ≡ get_or xs i s → t.lo ≡ s.lo → Sunk means shape.pending r s.pending.0 t.pending.0 s.child.value t.child.value → Replies means FlushInner shape root i r (slots (map see_slot xs)) (slots (map see_slot (set xs i t)))
-  flushed means shape root i xs s t r h e el q =
+  pub flushed : (means : U → Option V → Option V) (shape : Shape) (root : Bool) (i : ℕ) (xs : List (Slot U V)) (s t : Slot U V) (r : StepReply) → i < length xs → s ≡ get_or xs i s → t.lo ≡ s.lo → t.pending.0 ≡ left r s.pending.0 → Sunk means shape.pending r s.pending.0 s.child.value t.child.value → Replies means FlushInner shape root i r (slots (map see_slot xs)) (slots (map see_slot (set xs i t)))
+  flushed means shape root i xs s t r h e el ep q =
       let b = slots (map see_slot (take i xs)) in
       let a = slots (map see_slot (drop (suc i) xs)) in
       let was : slots (map see_slot xs) ≡ joined b (more s.lo s.pending.0 s.child.value a) = slots-split xs i s h ∙ ap (λ (x : Slot U V). joined b (more x.lo x.pending.0 x.child.value a)) (sym e) in
-      let is : slots (map see_slot (set xs i t)) ≡ joined b (more s.lo t.pending.0 t.child.value a) = slots-set_split xs i t h ∙ ap (λ z. joined b (more z t.pending.0 t.child.value a)) el in
-      let core = replies means shape root i b a s.lo (slot_count-take xs i (omega arith)) r s.pending.0 t.pending.0 s.child.value t.child.value q in
+      let is : slots (map see_slot (set xs i t)) ≡ joined b (more s.lo (left r s.pending.0) t.child.value a) = slots-set_split xs i t h ∙ (λ j. joined b (more (el j) (ep j) t.child.value a)) in
+      let core = replies means shape root i b a s.lo (slot_count-take xs i (omega arith)) r s.pending.0 s.child.value t.child.value q in
       subst (λ z. Replies means FlushInner shape root i r z (slots (map see_slot (set xs i t)))) (sym was) (subst (λ z. Replies means FlushInner shape root i r (joined b (more s.lo s.pending.0 s.child.value a)) z) (sym is) core)

@@ -32,7 +32,8 @@ use Rattle.node.proofs.Fewer.{no_more}
 use Rattle.node.proofs.Parting.{Parted, parted_pieces, parted_lawful, parted_sinks}
 use Rattle.node.proofs.Sinking.{touch_only-take, touch_only-drop}
 use Rattle.node.proofs.Splice.{slots-split, slots-set_split, slot_count-take, slots_from-joined, slot_count-joined, pending-joined, lawful-split}
-use Rattle.flush.specs.Leaf.{AddsNone, Absorbed, Filled, left, AfterOldest, KeptOne, IsHalved, HasRoom, LacksRoom}
+use Rattle.flush.specs.Sunk.{left}
+use Rattle.flush.specs.Leaf.{AddsNone, Absorbed, Filled, AfterOldest, KeptOne, IsHalved, HasRoom, LacksRoom}
 
 -- what the code reads as the rest of a list
 abbrev pub rest : {T : Type 0} → List T → List T

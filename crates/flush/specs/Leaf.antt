@@ -52,13 +52,6 @@ module _ {U V : Type 0} (means : U → Option V → Option V) where
     pub left_msgs : Takes means [] (pieces lo (Some r.lo) rest) l.pending.0
     pub right_msgs : Takes means [] (pieces r.lo None rest) r.pending.0
 
--- the messages that a reply leaves in their slot
-abbrev pub left : {U V : Type 0} → StepReply → List (Msg U V) → List (Msg U V)
-left (Did n) ms = drop n ms
-left NotThere ms = ms
-left NoRoom ms = ms
-left NoMemory ms = ms
-
 -- what the reply says of one slot, whose oldest message the entries have
 abbrev pub KeptOne : {U V : Type 0} → StepReply → List (List ℕ × V) → Slot U V → Slot U V → Type 0
 KeptOne (Did n) es s t = (n ≡ 1) × (t.lo ≡ s.lo) × (t.pending.0 ≡ drop 1 s.pending.0) × (t.child.value ≡ leaf es)

@@ -8,6 +8,13 @@ use Rattle.node.specs.Lawful.{pending}
 use Rattle.node.specs.Pure.{PNode, leaf, inner, none, more}
 use Rattle.node.specs.Rows.{piece_count, can_flush_inner, IsFullBelow}
 
+-- the messages that a reply leaves in their slot
+abbrev pub left : {U V : Type 0} → StepReply → List (Msg U V) → List (Msg U V)
+left (Did n) ms = drop n ms
+left NotThere ms = ms
+left NoRoom ms = ms
+left NoMemory ms = ms
+
 module _ {U V : Type 0} (means : U → Option V → Option V) where
   -- the messages went into the slots of the node c, which became d, and so many pieces are enough for it
   abbrev pub GoneInto : ℕ → List (Msg U V) → PNode U V → PNode U V → Type 0
@@ -15,9 +22,9 @@ module _ {U V : Type 0} (means : U → Option V → Option V) where
   GoneInto most ms (inner cs) (leaf es) = ⊥
   GoneInto most ms (leaf es) d = ⊥
 
-  -- what the reply of a flush says of one slot's messages and child, before and after
-  abbrev pub Sunk : ℕ → StepReply → List (Msg U V) → List (Msg U V) → PNode U V → PNode U V → Type 0
-  Sunk most (Did n) ms ns c d = (1 ≤ n) × (n ≤ length ms) × (ns ≡ drop n ms) × GoneInto most (take n ms) c d
-  Sunk most NotThere ms ns c d = (ns ≡ ms) × (d ≡ c) × (can_flush_inner (more [] ms c none) ≡ false)
-  Sunk most NoRoom ms ns c d = (ns ≡ ms) × (d ≡ c) × IsFullBelow most (more [] ms c none)
-  Sunk most NoMemory ms ns c d = (ns ≡ ms) × (d ≡ c)
+  -- what the reply of a flush says of a slot's messages and its child, before and after
+  abbrev pub Sunk : ℕ → StepReply → List (Msg U V) → PNode U V → PNode U V → Type 0
+  Sunk most (Did n) ms c d = (1 ≤ n) × (n ≤ length ms) × GoneInto most (take n ms) c d
+  Sunk most NotThere ms c d = (d ≡ c) × (can_flush_inner (more [] ms c none) ≡ false)
+  Sunk most NoRoom ms c d = (d ≡ c) × IsFullBelow most (more [] ms c none)
+  Sunk most NoMemory ms c d = d ≡ c

@@ -8,10 +8,10 @@ ghost use Rattle.node.specs.See.{see_slot};
 ghost use Rattle.node.specs.Site.{slots_from};
 ghost use Rattle.node.specs.Steps.{Answers, Replies};
 ghost use Rattle.node.specs.declared.step.StepKind.TheVariants.{FlushInner};
-ghost use Rattle.flush.specs.Sunk.{Sunk};
+ghost use Rattle.flush.specs.Sunk.{Sunk, left};
 
 use crate::meets::meets;
-use message::{Msg, Pending, Update};
+use message::{Msg, Update};
 use node::node::append::append_copies;
 use node::node::count::held;
 use node::{Body, Change, Node, Place, Shape, Slot, StepReply, Tree};
@@ -62,17 +62,17 @@ fn fitting<U: Update>(slots: &[Slot<U>], msgs: &[Msg<U>], room: usize) -> usize
     count
 }
 
-/// Moves messages into the slots of the child, as many as it has room for: a node has room for `room` pieces.
+/// Puts copies of the messages into the slots of the child, as many as it has room for: a node has room for `room`
+/// pieces.
 fn sink<U: Update>(
     alloc: Global,
     room: u16,
-    pending: &mut Pending<U>,
+    msgs: &[Msg<U>],
     child: &mut Arc<Node<U>>,
 ) -> StepReply
-    ensures { Sunk U.means room result pending.old.0 pending.new.0 child.old.value child.new.value }
+    ensures { Sunk U.means room result msgs.now child.old.value child.new.value }
 {
-    let room = room as usize;
-    if pending.len() == 0 {
+    if msgs.is_empty() {
         return StepReply::NotThere;
     }
     let Ok(own) = Arc::make_mut(child) else {
@@ -81,18 +81,27 @@ fn sink<U: Update>(
     let Body::Inner(below) = &mut own.body else {
         return StepReply::NotThere;
     };
-    let Ok(oldest) = pending.copy_front(alloc, pending.len().min(room + 1)) else {
-        return StepReply::NoMemory;
-    };
-    let count = fitting(below.as_slice(), oldest.as_slice(), room);
+    let count = fitting(below.as_slice(), msgs, room as usize);
     if count == 0 {
         return StepReply::NoRoom;
     }
-    let Ok(()) = append_copies(alloc, below.as_mut_slice(), &oldest[..count]) else {
+    let Ok(()) = append_copies(alloc, below.as_mut_slice(), &msgs[..count]) else {
         return StepReply::NoMemory;
     };
-    pending.drop_front(count);
     StepReply::Did(count as u32)
+}
+
+/// The same of a slot, which loses the messages that its child has.
+fn sink_oldest<U: Update>(alloc: Global, room: u16, slot: &mut Slot<U>) -> StepReply
+    ensures lo { slot.new.lo ≡ slot.old.lo }
+    ensures left { slot.new.pending.0 ≡ left result slot.old.pending.0 }
+    ensures sunk { Sunk U.means room result slot.old.pending.0 slot.old.child.value slot.new.child.value }
+{
+    let reply = sink(alloc, room, slot.pending.as_slice(), &mut slot.child);
+    if let StepReply::Did(count) = reply {
+        slot.pending.drop_front(count as usize);
+    }
+    reply
 }
 
 /// Whether the slot with number `i` has a message and an inner node below it. It takes no memory.
@@ -123,7 +132,7 @@ fn flush_slot<U: Update>(
         return StepReply::NotThere;
     }
     let slot = &mut slots[i];
-    sink(alloc, shape.pending, &mut slot.pending, &mut slot.child)
+    sink_oldest(alloc, shape.pending, slot)
 }
 
 /// The flush of one slot into an inner node.

@@ -15,7 +15,8 @@ ghost use Rattle.node.specs.Shapes.{is_shape};
 ghost use Rattle.node.specs.Site.{slots_from};
 ghost use Rattle.node.specs.Steps.{Answers, Replies};
 ghost use Rattle.node.specs.declared.step.StepKind.TheVariants.{FlushLeaf};
-ghost use Rattle.flush.specs.Leaf.{AddsNone, Filled, left, AfterOldest, AfterOldestAt, KeptOne, IsHalved, HasRoom, LacksRoom};
+ghost use Rattle.flush.specs.Sunk.{left};
+ghost use Rattle.flush.specs.Leaf.{AddsNone, Filled, AfterOldest, AfterOldestAt, KeptOne, IsHalved, HasRoom, LacksRoom};
 
 use message::{Msg, Pending, Update};
 use node::node::append::pieces;

@@ -12,4 +12,4 @@ returns-then-i-len g c =
 pub returns : goal.returns
 returns g c =
     let h : c.args.i < length c.args.slots.now.items = omega arith in
-    flushed g.U.Update.means c.args.shape c.args.root c.args.i c.args.slots.now.items c.index_mut-slot.result.now _ c.sink.result h c.index_mut-slot.ensures.value refl c.sink.ensures
+    flushed g.U.Update.means c.args.shape c.args.root c.args.i c.args.slots.now.items c.index_mut-slot.result.now c.sink_oldest.new.slot c.sink_oldest.result h c.index_mut-slot.ensures.value c.sink_oldest.ensures.lo c.sink_oldest.ensures.left c.sink_oldest.ensures.sunk
