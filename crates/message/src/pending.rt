@@ -157,7 +157,8 @@ impl<U: Update> Pending<U> {
         lay_all(alloc, &self.msgs[from..], key, old)
     }
 
-    /// From which message on the list decides the value at `key`, and whether it does so whatever was there.
+    /// From which message on the list decides the value at `key`, and whether a message settles it, so that the list
+    /// does so whatever was there.
     ///
     /// It looks at the newest messages first, and at none that is older than one that settles the value.
     pub fn decisive(&self, key: &Key) -> (usize, bool)

@@ -129,6 +129,7 @@ pub fn append_both<A: Update, B: Update>(
     ensures second_err { OnErr result (second.new ≡ second.old) }
     ensures first_nothing { first_msgs.items ≡ [] → first.new ≡ first.old }
     ensures second_nothing { second_msgs.items ≡ [] → second.new ≡ second.old }
+    ensures nothing { first_msgs.items ≡ [] → second_msgs.items ≡ [] → IsOk result }
 {
     if first_msgs.is_empty() || second_msgs.is_empty() {
         first.append(alloc, first_msgs)?;
