@@ -21,7 +21,7 @@ use Rattle.node.specs.Steps.{Formed, Replies}
 use Rattle.node.proofs.Appending.{value-taken, slot_count-taken, starts_at-taken}
 use Rattle.node.proofs.Sinking.{touch_only-take, touch_only-drop, lawful-sunk, pending-taken, emptied-taken}
 use Rattle.node.proofs.Doing.{replies_did}
-use Rattle.node.proofs.Splice.{slots-split, slots-set_split, slot_count-take, slots_from-joined, slot_count-joined, pending-joined, lawful-spliced, lawful-split, starts_at-joined}
+use Rattle.node.proofs.Splice.{slots-split, slots-set_split, slot_count-take, slots_from-joined}
 use Rattle.flush.specs.Sunk.{Sunk, left}
 
 module _ {U V : Type 0} where
@@ -65,7 +65,7 @@ module _ {U V : Type 0} where
 
     -- what a flush that is done has done to the node
     did : (n : ℕ) (ms : List (Msg U V)) (cs ds : PSlots U V) → 1 ≤ n → n ≤ length ms → HaveTaken means cs (parts None (take n ms) cs) ds → pending cs + piece_count (take n ms) cs ≤ shape.pending → Replies means FlushInner shape root i (Did n) (joined b (more lo ms (inner cs) a)) (joined b (more lo (drop n ms) (inner ds) a))
-    did n ms cs ds one has t fits = replies_did means FlushInner shape root i n b (more lo ms (inner cs) none) (more lo (drop n ms) (inner ds) none) a at_i refl tt tt refl (λ z. z) (λ r z. omega (arith, z, length-drop n ms)) (sunk n ms cs ds one has t fits)
+    did n ms cs ds one has t fits = replies_did means FlushInner shape root i n b (more lo ms (inner cs) none) (more lo (drop n ms) (inner ds) none) a at_i refl tt tt refl (λ z. z) (λ r z. omega (arith, z, length-drop n ms)) (λ h hi l able. sunk n ms cs ds one has t fits h (next_lo hi a) l)
 
     -- what each reply says of the node
     pub replies : (r : StepReply) (ms : List (Msg U V)) (c d : PNode U V) → Sunk means shape.pending r ms c d → Replies means FlushInner shape root i r (joined b (more lo ms c a)) (joined b (more lo (left r ms) d a))

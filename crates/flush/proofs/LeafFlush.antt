@@ -124,7 +124,7 @@ module _ {U V : Type 0} (means : U → Option V → Option V) where
     in_place (Did n) ms (inner cs) d s q = absurd q.2
     in_place (Did n) ms (leaf es) (inner ds) s q = absurd q.2
     in_place (Did n) ms (leaf es) (leaf fs) s q =
-        replies_did means FlushLeaf shape root i n b (more lo ms (leaf es) none) (more lo (drop n ms) (leaf fs) none) a at_i refl tt tt refl (λ z. z) (λ r z. omega (arith, z, length-drop n ms)) (λ h e l. absorbed shape n lo ms es fs q.0 q.1 q.2.0 q.2.1 h e l)
+        replies_did means FlushLeaf shape root i n b (more lo ms (leaf es) none) (more lo (drop n ms) (leaf fs) none) a at_i refl tt tt refl (λ z. z) (λ r z. omega (arith, z, length-drop n ms)) (λ h hi l able. absorbed shape n lo ms es fs q.0 q.1 q.2.0 q.2.1 h (next_lo hi a) l)
     in_place NotThere ms c d s q = (ap (λ z. joined b (more lo ms z a)) q.0, λ hi. unable ms c q.1 (joined b (more lo ms c a)) refl)
     in_place NoRoom ms c d s q = absurd s
     in_place NoMemory ms c d s q = ap (λ z. joined b (more lo ms z a)) q
@@ -171,7 +171,7 @@ module _ {U V : Type 0} (means : U → Option V → Option V) where
             let small : length es ≤ shape.leaf = here.2.1 in
             let few : length new ≤ shape.leaf + 1 = omega (arith, small, p.longer) in
             let grow = parted_pieces means 1 lo pivot (m ∷ ms) lm rm (leaf es) (leaf front) (leaf back) q in
-            replies_did means FlushLeaf shape root i 1 b old two a at_i refl tt tt refl (λ z. omega (arith, room.0, n)) (λ r z. let y = room.1 r (omega (arith, w, z)) in omega (arith, y, w, grow)) (cut_in_two few) h lp hi l able
+            replies_did means FlushLeaf shape root i 1 b old two a at_i refl tt tt refl (λ z. omega (arith, room.0, n)) (λ r z. let y = room.1 r (omega (arith, w, z)) in omega (arith, y, w, grow)) (λ g e w able. cut_in_two few g (next_lo e a) w) h lp hi l able
 
 -- ---- the same of the slots as the code writes them
 

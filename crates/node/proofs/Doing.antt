@@ -1,5 +1,5 @@
 -- What a step that is done says of its node, from what it has done to the slots that it names.
-use Rattle.std.proofs.Common.{◌≡◌, ℕ, zero, suc, ◌+◌, ◌<◌, ◌≤◌, Bool, true, false, List, [], ◌∷◌, length, get_or, take, drop, map, refl, ap, sym, ◌∙◌, subst, arith, cond, Option}
+use Rattle.std.proofs.Common.{◌≡◌, ℕ, zero, suc, ◌+◌, ◌<◌, ◌≤◌, Bool, true, false, List, [], ◌∷◌, length, take, drop, map, refl, ap, ◌∙◌, arith, cond, Option}
 use Rattle.std.specs.Prelude.{Result, Ok, Err, is_ok, is_err}
 use Rattle.std.proofs.Math.ListN.{set}
 use Rattle.std.specs.List.{insert}
@@ -10,9 +10,9 @@ use Rattle.node.specs.declared.step.StepKind.{StepKind}
 use Rattle.node.specs.See.{see_slot}
 use Rattle.node.specs.Pure.{PSlots, none, more, slots}
 use Rattle.node.specs.Lawful.{AreLawfulSlots, slot_count, pending, starts_at, next_lo}
-use Rattle.node.specs.Site.{joined}
+use Rattle.node.specs.Site.{joined, slots_from}
 use Rattle.node.specs.Sinks.{first_lo, Sinks}
-use Rattle.node.specs.Steps.{Formed, Replies, width}
+use Rattle.node.specs.Steps.{can, Formed, Replies, width}
 use Rattle.node.proofs.Splice.{IsMore, slot_count-joined, pending-joined, lawful-spliced, lawful-split}
 
 -- what an insert leaves where it is not refused
@@ -29,10 +29,10 @@ module _ {U V : Type 0} where
   starts-alike l none (more lo ms n x) (more lp mt o y) a p q e s = e ∙ s
 
   -- the slots `old`, which a step names, gave way to `new` between b and a
-  pub replies_did : (means : U → Option V → Option V) (kind : StepKind) (shape : Shape) (root : Bool) (i n : ℕ) (b old new a : PSlots U V) → slot_count b ≡ i → slot_count old ≡ width kind → IsMore old → IsMore new → first_lo new ≡ first_lo old → (slot_count old + (slot_count b + slot_count a) ≤ shape.fanout → slot_count new + (slot_count b + slot_count a) ≤ shape.fanout) → (root ≡ false → pending old + (pending b + pending a) ≤ shape.pending → pending new + (pending b + pending a) ≤ shape.pending) → ((h : ℕ) (e : Option (List ℕ)) → AreLawfulSlots shape old h e → Sinks means n e old new × Formed means kind n old new × AreLawfulSlots shape new h e) → Replies means kind shape root i (Did n) (joined b (joined old a)) (joined b (joined new a))
+  pub replies_did : (means : U → Option V → Option V) (kind : StepKind) (shape : Shape) (root : Bool) (i n : ℕ) (b old new a : PSlots U V) → slot_count b ≡ i → slot_count old ≡ width kind → IsMore old → IsMore new → first_lo new ≡ first_lo old → (slot_count old + (slot_count b + slot_count a) ≤ shape.fanout → slot_count new + (slot_count b + slot_count a) ≤ shape.fanout) → (root ≡ false → pending old + (pending b + pending a) ≤ shape.pending → pending new + (pending b + pending a) ≤ shape.pending) → ((h : ℕ) (hi : Option (List ℕ)) → AreLawfulSlots shape old h (next_lo hi a) → can kind hi (slots_from i (joined b (joined old a))) ≡ true → Sinks means n (next_lo hi a) old new × Formed means kind n old new × AreLawfulSlots shape new h (next_lo hi a)) → Replies means kind shape root i (Did n) (joined b (joined old a)) (joined b (joined new a))
   replies_did means kind shape root i n b old new a at_i wide p q first few light made h lo hi l able =
       let inside : AreLawfulSlots shape old h (next_lo hi a) = (lawful-split shape h hi old a (lawful-split shape h hi b (joined old a) l.each).1).0 in
-      let m = made h (next_lo hi a) inside in
+      let m = made h hi inside able in
       let count : slot_count old + (slot_count b + slot_count a) ≤ shape.fanout = omega (arith, l.few, slot_count-joined b (joined old a), slot_count-joined old a) in
       let wait : root ≡ false → pending old + (pending b + pending a) ≤ shape.pending = λ r. omega (arith, l.light r, pending-joined b (joined old a), pending-joined old a) in (
         record { before = b; old = old; new = new; after = a; was = refl; is = refl; number = at_i; width = wide; changed = (m.0, m.1) },
@@ -41,7 +41,7 @@ module _ {U V : Type 0} where
           few = omega (arith, few count, slot_count-joined b (joined new a), slot_count-joined new a);
           light = λ r. omega (arith, light r (wait r), pending-joined b (joined new a), pending-joined new a);
           starts = starts-alike lo b old new a p q first l.starts;
-          each = lawful-spliced shape h hi b old new a p q first (λ z. (made h (next_lo hi a) z).2) l.each;
+          each = lawful-spliced shape h hi b old new a p q first (λ z. (made h hi z able).2) l.each;
         },
       )
 

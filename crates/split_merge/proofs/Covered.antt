@@ -21,11 +21,12 @@ use Rattle.node.specs.Lawful.{IsLawfulNode, AreLawfulSlots, slot_count, next_lo}
 use Rattle.node.specs.Site.{joined, slots_from}
 use Rattle.node.specs.Sinks.{Sinks}
 use Rattle.node.specs.Rows.{can_drop_covered, ends_within, IsBare}
-use Rattle.node.specs.Steps.{LawfulSlots, Done, Replies}
+use Rattle.node.specs.Steps.{Formed, Replies}
+use Rattle.node.proofs.Doing.{replies_did}
 use Rattle.node.proofs.Outcome.{clash}
 use Rattle.node.proofs.Sinking.{touch_only-drop}
 use Rattle.node.proofs.Sizes.{lawful_depth}
-use Rattle.node.proofs.Splice.{slots-split, slots-set_split, slot_count-take, slots_from-joined, slot_count-joined, pending-joined, lawful-spliced, lawful-split, starts_at-joined}
+use Rattle.node.proofs.Splice.{slots-split, slots-set_split, slot_count-take, slots_from-joined}
 use Rattle.split_merge.specs.Swept.{bare, Swept}
 
 -- ---- the range
@@ -84,37 +85,18 @@ module _ {U V : Type 0} where
     abbrev from : List (Msg U V) → PNode U V → PSlots U V
     from ms c = joined b (more lo ms c a)
 
-    -- what a drop that is done has done to the node
-    swept : (r : KeyRange) (ms : List (Msg U V)) (c : PNode U V) (h : ℕ) (lp : List ℕ) (hi : Option (List ℕ)) → LawfulSlots shape root h lp hi (from (DelRange r ∷ ms) c) → (reaches r.lo lo && ends_within (next_lo hi a) r.hi) ≡ true → Done means DropCovered 1 i hi (from (DelRange r ∷ ms) c) (from ms (bare lo c)) × LawfulSlots shape root h lp hi (from ms (bare lo c))
-    swept r ms c h lp hi l covers =
-        let m = DelRange r in
-        let old = more lo (m ∷ ms) c none in
-        let new = more lo ms (bare lo c) none in
-        let inside : AreLawfulSlots shape old h (next_lo hi a) = (lawful-split shape h hi old a (lawful-split shape h hi b (joined old a) l.each).1).0 in
-        let below = lawful_bare shape c (pred h) lo lo (next_lo hi a) (next_lo hi a) inside.0 inside.2 in (
-          record {
-            before = b;
-            old = old;
-            new = new;
-            after = a;
-            was = refl;
-            is = refl;
-            number = at_i;
-            width = refl;
-            changed = (sinks means lo (next_lo hi a) r ms c covers, record { lo = lo; msgs = ms; first = m; child = c; empty = bare lo c; one = refl; was = refl; is = refl; as_deep = lawful_depth shape (bare lo c) (pred h) lo (next_lo hi a) below ∙ sym (lawful_depth shape c (pred h) lo (next_lo hi a) inside.2); bare = is_bare lo c; nothing = value_bare means lo c });
-          },
-          record {
-            above = l.above;
-            few = omega (arith, l.few, slot_count-joined b (joined old a), slot_count-joined b (joined new a));
-            light = λ z. omega (arith, l.light z, pending-joined b (joined old a), pending-joined b (joined new a));
-            starts = starts_at-joined lp lo b (m ∷ ms) ms c (bare lo c) a a l.starts;
-            each = lawful-spliced shape h hi b old new a tt tt refl (lawful_swept shape h lo (next_lo hi a) m ms c) l.each;
-          },
-        )
-
     -- what can be done there rests on the slot and where it ends
     able_there : (hi : Option (List ℕ)) (ms : List (Msg U V)) (c : PNode U V) → can_drop_covered hi (slots_from i (from ms c)) ≡ can_drop_covered hi (more lo ms c a)
     able_there hi ms c = ap (can_drop_covered hi) (slots_from-joined i b (more lo ms c a) at_i)
+
+    -- what became of the slot
+    swept : (r : KeyRange) (ms : List (Msg U V)) (c : PNode U V) (h : ℕ) (e : Option (List ℕ)) → AreLawfulSlots shape (more lo (DelRange r ∷ ms) c none) h e → (reaches r.lo lo && ends_within e r.hi) ≡ true → Sinks means 1 e (more lo (DelRange r ∷ ms) c none) (more lo ms (bare lo c) none) × Formed means DropCovered 1 (more lo (DelRange r ∷ ms) c none) (more lo ms (bare lo c) none) × AreLawfulSlots shape (more lo ms (bare lo c) none) h e
+    swept r ms c h e l covers =
+        let below = lawful_bare shape c (pred h) lo lo e e l.0 l.2 in (
+          sinks means lo e r ms c covers,
+          record { lo = lo; msgs = ms; first = DelRange r; child = c; empty = bare lo c; one = refl; was = refl; is = refl; as_deep = lawful_depth shape (bare lo c) (pred h) lo e below ∙ sym (lawful_depth shape c (pred h) lo e l.2); bare = is_bare lo c; nothing = value_bare means lo c },
+          lawful_swept shape h lo e (DelRange r) ms c l,
+        )
 
     -- the same of each oldest message: one that covers the slot is a range-delete
     did : (ms : List (Msg U V)) (c : PNode U V) → Replies means DropCovered shape root i (Did 1) (from ms c) (from (drop 1 ms) (bare lo c))
@@ -122,7 +104,7 @@ module _ {U V : Type 0} where
     did (Put q v ∷ ms) c h lp hi l able = absurd (clash _ able (able_there hi (Put q v ∷ ms) c))
     did (Del q ∷ ms) c h lp hi l able = absurd (clash _ able (able_there hi (Del q ∷ ms) c))
     did (Edit q u ∷ ms) c h lp hi l able = absurd (clash _ able (able_there hi (Edit q u ∷ ms) c))
-    did (DelRange r ∷ ms) c h lp hi l able = swept r ms c h lp hi l (sym (able_there hi (DelRange r ∷ ms) c) ∙ able)
+    did (DelRange r ∷ ms) c h lp hi l able = replies_did means DropCovered shape root i 1 b (more lo (DelRange r ∷ ms) c none) (more lo ms (bare lo c) none) a at_i refl tt tt refl (λ z. z) (λ q z. omega (arith, z)) (λ g e w able. swept r ms c g (next_lo e a) w (sym (able_there e (DelRange r ∷ ms) c) ∙ able)) h lp hi l able
 
     -- what each reply says of the node
     pub replies : (r : StepReply) (ms ns : List (Msg U V)) (c d : PNode U V) → Swept r lo ms ns c d → Replies means DropCovered shape root i r (from ms c) (from ns d)

@@ -114,7 +114,7 @@ module _ {U V : Type 0} where
         let n = slot_count-joined b (joined old a) in
         let w = pending-joined b (joined old a) in
         let grow : length lm + length rm ≤ length ms + range_count ms = omega (arith, pieces-apart lo pivot ms, tl.bound, tr.bound) in
-        replies_did means SplitInner shape root i 0 b old new a at_i refl tt tt refl (λ z. omega (arith, few, n)) (λ r z. let y = light r in omega (arith, y, w, grow)) (was_split cx cy)
+        replies_did means SplitInner shape root i 0 b old new a at_i refl tt tt refl (λ z. omega (arith, few, n)) (λ r z. let y = light r in omega (arith, y, w, grow)) (λ h hi l able. was_split cx cy h (next_lo hi a) l)
 
   -- slots end to end
   pub slots-append : (xs ys : List (Slot U V)) → slots (map see_slot (xs ++ ys)) ≡ joined (slots (map see_slot xs)) (slots (map see_slot ys))

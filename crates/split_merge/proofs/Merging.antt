@@ -25,9 +25,10 @@ use Rattle.node.specs.Rows.{AreTooMany, can_merge_leaves, can_merge_inner}
 use Rattle.node.specs.Site.{joined, slots_from}
 use Rattle.node.specs.Sinks.{Sinks}
 use Rattle.node.specs.Steps.{Replies, Formed, width}
+use Rattle.node.proofs.Doing.{replies_did}
 use Rattle.node.proofs.EntryFacts.{below_next, rises-append, lookup-front, lookup-back}
 use Rattle.node.proofs.Placing.{and_false}
-use Rattle.node.proofs.Splice.{starts-more, slot_count-take, slot_count-joined, pending-joined, slots_from-joined, lawful-spliced, lawful-split, lawful-join, slots_value-joined, starts_at-joined}
+use Rattle.node.proofs.Splice.{starts-more, slot_count-take, slot_count-joined, pending-joined, slots_from-joined, lawful-join, slots_value-joined}
 use Rattle.split_merge.specs.Merged.{both, FitInOne, Refuses, IsJoined, MergeReplies}
 use Rattle.split_merge.proofs.Mergeable.{slots_from-two, can_merge_leaves-last, can_merge_inner-last, unlike_leaves, unlike_inner, same_many}
 use Rattle.split_merge.proofs.Untouched.{effects_untouched}
@@ -120,27 +121,7 @@ module _ {U V : Type 0} (means : U → Option V → Option V) (S : Shape) where
 
     -- what a merge that is done has done to the node
     did : (root : Bool) (i : ℕ) (b a : PSlots U V) → slot_count b ≡ i → Replies means kind S root i (Did 0) (joined b (joined old a)) (joined b (joined new a))
-    did root i b a at_i h lp hi w able =
-        let inside : AreLawfulSlots S old h (next_lo hi a) = (lawful-split S h hi old a (lawful-split S h hi b (joined old a) w.each).1).0 in (
-          record {
-            before = b;
-            old = old;
-            new = new;
-            after = a;
-            was = refl;
-            is = refl;
-            number = at_i;
-            width = sym two;
-            changed = (sinks h (next_lo hi a) inside, s.formed lo p lm rm ms t.bound);
-          },
-          record {
-            above = w.above;
-            few = omega (arith, w.few, slot_count-joined b (joined old a), slot_count-joined b (joined new a));
-            light = λ q. omega (arith, w.light q, t.bound, pending-joined b (joined old a), pending-joined b (joined new a));
-            starts = starts_at-joined lp lo b lm ms l c (more p rm r a) a w.starts;
-            each = lawful-spliced S h hi b old new a tt tt refl (λ z. lawful h (next_lo hi a) z) w.each;
-          },
-        )
+    did root i b a at_i = replies_did means kind S root i 0 b old new a at_i (sym two) tt tt refl (λ z. omega (arith, z)) (λ r z. omega (arith, z, t.bound)) (λ h hi w able. (sinks h (next_lo hi a) w, s.formed lo p lm rm ms t.bound, lawful h (next_lo hi a) w))
 
   module _ (root : Bool) (i : ℕ) (b a : PSlots U V) (at_i : slot_count b ≡ i) (lo p : List ℕ) (lm rm ms : List (Msg U V)) (t : Takes means lm rm ms) where
     -- of other nodes than leaves nothing is said
