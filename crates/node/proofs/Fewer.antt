@@ -47,8 +47,8 @@ module _ {V : Type 0} where
       second_tail : same y.0 x.0 ≡ false → (k : List ℕ) → lookup ys k ≡ None → lookup (x ∷ xs) k ≡ None
       second_tail t k n = elim (same y.0 k) as (λ b. same y.0 k ≡ b → lookup (x ∷ xs) k ≡ None) [
         | true ↦ λ s. subst (λ z. lookup (x ∷ xs) z ≡ None) (same_true y.0 k s) (elim (before y.0 x.0) as (λ b. before y.0 x.0 ≡ b → lookup (x ∷ xs) y.0 ≡ None) [
-            | true ↦ λ f. before_first lo hi x xs y.0 r f
-            | false ↦ λ f. absurd (has_first x xs (h x.0 (before_first lp hp y ys x.0 q (beyond y.0 x.0 f t))))
-          ] refl)
+          | true ↦ λ f. before_first lo hi x xs y.0 r f
+          | false ↦ λ f. absurd (has_first x xs (h x.0 (before_first lp hp y ys x.0 q (beyond y.0 x.0 f t))))
+        ] refl)
         | false ↦ λ s. h k (ap (λ b. cond b (Some y.1) (lookup ys k)) s ∙ n)
       ] refl
