@@ -1,0 +1,57 @@
+//! The metadata index, and what stands at a path.
+ghost use Rattle.std.specs.Prelude.{◌≡◌, IfOk, None};
+ghost use Rattle.meta_index.specs.Means.{IsMeantBy, told};
+ghost use Rattle.reference.specs.Calls.{parent_fault};
+ghost use Rattle.reference.specs.Looks.{look};
+ghost use Rattle.reference.specs.Tree.{Tree as DirectoryTree, entry_at};
+
+use crate::at::At;
+use crate::update::MetaUpdate;
+use lookup::get;
+use node::Tree;
+use pathkey::{Errno, NoMemory, Path};
+use std::alloc::Global;
+
+/// The metadata of each path at which something stands, the root too, under the path's key.
+#[derive(Drop)]
+pub struct MetaIndex {
+    /// The buffered tree that holds them.
+    pub tree: Tree<MetaUpdate>,
+}
+
+impl MetaIndex {
+    /// What stands at the path. It fails only for want of memory.
+    pub fn find(&self, alloc: Global, path: &Path) -> Result<At, NoMemory>
+        ensures { IfOk result (λ at. (t : DirectoryTree) → IsMeantBy t self.now → at ≡ told (entry_at t path.now)) }
+    {
+        match get(alloc, &self.tree, path.key())? {
+            Some(meta) => Ok(At::Found(meta)),
+            None => self.find_obstacle(alloc, path),
+        }
+    }
+
+    /// Why nothing stands at the path: the nearest path above at which something stands is a directory, or a file.
+    fn find_obstacle(&self, alloc: Global, path: &Path) -> Result<At, NoMemory>
+        ensures { IfOk result (λ at. (t : DirectoryTree) → IsMeantBy t self.now → look t path.now ≡ None → at ≡ told (entry_at t path.now)) }
+    {
+        let mut ancestor = path.parent(alloc)?;
+        'climb: while let Some(above) = ancestor {
+            if let Some(meta) = get(alloc, &self.tree, above.key())? {
+                return Ok(At::below(meta));
+            }
+            ancestor = above.parent(alloc)?;
+        }
+        Ok(At::Missing)
+    }
+
+    /// Why no entry can be made at the path: its parent is no directory; none where it is one, and at the root. It fails
+    /// only for want of memory.
+    pub fn fault_of_parent(&self, alloc: Global, path: &Path) -> Result<Option<Errno>, NoMemory>
+        ensures { IfOk result (λ fault. (t : DirectoryTree) → IsMeantBy t self.now → fault ≡ parent_fault t path.now) }
+    {
+        let Some(parent) = path.parent(alloc)? else {
+            return Ok(None);
+        };
+        Ok(self.find(alloc, &parent)?.fault_of_directory())
+    }
+}
