@@ -1,2 +1,3 @@
 pub mod Updates
 pub mod Means
+pub mod Below

@@ -1,7 +1,9 @@
 //! The metadata index, and what stands at a path.
-ghost use Rattle.std.specs.Prelude.{◌≡◌, IfOk, None};
+ghost use Rattle.std.specs.Prelude.{◌≡◌, IfOk, None, not};
+ghost use Rattle.meta_index.specs.Below.{below};
 ghost use Rattle.meta_index.specs.Means.{IsMeantBy, told};
-ghost use Rattle.reference.specs.Calls.{parent_fault};
+ghost use Rattle.pathkey.specs.Names.{IsPath};
+ghost use Rattle.reference.specs.Calls.{is_full, parent_fault};
 ghost use Rattle.reference.specs.Looks.{look};
 ghost use Rattle.reference.specs.Tree.{Tree as DirectoryTree, entry_at};
 
@@ -9,7 +11,8 @@ use crate::at::At;
 use crate::update::MetaUpdate;
 use lookup::get;
 use node::Tree;
-use pathkey::{Errno, NoMemory, Path};
+use pathkey::{Errno, KeyRange, NoMemory, Path, subtree};
+use scan::first_in;
 use std::alloc::Global;
 
 /// The metadata of each path at which something stands, the root too, under the path's key.
@@ -54,4 +57,22 @@ impl MetaIndex {
         };
         Ok(self.find(alloc, &parent)?.fault_of_directory())
     }
+
+    /// Whether nothing stands below the path, as below an empty directory. It fails only for want of memory.
+    pub fn is_empty_dir(&self, alloc: Global, path: &Path) -> Result<bool, NoMemory>
+        ensures { IfOk result (λ empty. (t : DirectoryTree) → IsMeantBy t self.now → empty ≡ not (is_full (entry_at t path.now))) }
+    {
+        let below = keys_below(alloc, path)?;
+        Ok(first_in(alloc, &self.tree, &below)?.is_none())
+    }
+}
+
+/// The keys of what lies below the path.
+fn keys_below(alloc: Global, path: &Path) -> Result<KeyRange, NoMemory>
+    ensures value { IfOk result (λ r. r ≡ below path.now) }
+    ensures valid { IfOk result (λ _. IsPath path.now) }
+{
+    let lo = path.key().next(alloc)?;
+    let hi = subtree(alloc, path)?.hi;
+    Ok(KeyRange { lo, hi })
 }
