@@ -88,7 +88,7 @@ nothing_below (Standing (File b)) n r h = ap seen (fold-Blocked r)
 nothing_below Absent n r h = ap seen (fold-Missing r)
 nothing_below Obstructed n r h = ap seen (fold-Blocked r)
 
-seen_some : (x : Tree) → meta_of (seen (Standing x)) ≡ None → ⊥
+pub seen_some : (x : Tree) → meta_of (seen (Standing x)) ≡ None → ⊥
 seen_some (Dir es) e = cc
 seen_some (File b) e = cc
 

@@ -1,17 +1,20 @@
 //! The metadata index, and what stands at a path.
 ghost use Rattle.std.specs.Prelude.{◌≡◌, IfOk, None, not};
-ghost use Rattle.meta_index.specs.Below.{below};
+ghost use Rattle.meta_index.specs.Below.{below, kind_told};
+ghost use Rattle.meta_index.specs.Children.{IsChildAt};
 ghost use Rattle.meta_index.specs.Means.{IsMeantBy, told};
 ghost use Rattle.pathkey.specs.Names.{IsPath};
-ghost use Rattle.reference.specs.Calls.{is_full, parent_fault};
+ghost use Rattle.reference.specs.Calls.{is_full, names_of, parent_fault};
 ghost use Rattle.reference.specs.Looks.{look};
+ghost use Rattle.reference.specs.Pairs.{pairs_of};
 ghost use Rattle.reference.specs.Tree.{Tree as DirectoryTree, entry_at};
 
 use crate::at::At;
 use crate::update::MetaUpdate;
 use lookup::get;
 use node::Tree;
-use pathkey::{Errno, KeyRange, NoMemory, Path, subtree};
+use pathkey::{Errno, Key, KeyRange, NoMemory, Path, dec, subtree};
+use reference::{Kind, Meta};
 use scan::first_in;
 use std::alloc::Global;
 
@@ -65,6 +68,25 @@ impl MetaIndex {
         let below = keys_below(alloc, path)?;
         Ok(first_in(alloc, &self.tree, &below)?.is_none())
     }
+
+    /// The entries of the directory at the path, kind and name of each, in byte order of names; none where no directory
+    /// stands there. It fails only for want of memory.
+    ///
+    /// It asks for one entry after the other, and passes what lies below each.
+    pub fn children(&self, alloc: Global, path: &Path) -> Result<Vec<(Kind, Vec<u8>)>, NoMemory>
+        ensures { IfOk result (λ v. (t : DirectoryTree) → IsMeantBy t self.now → pairs_of v.items ≡ names_of (entry_at t path.now)) }
+    {
+        let mut entries = Vec::new(alloc);
+        let mut rest = keys_below(alloc, path)?;
+        'entries: while let Some((key, meta)) = first_in(alloc, &self.tree, &rest)? {
+            let Some(child) = child_at(alloc, &key)? else {
+                return Ok(entries);
+            };
+            entries.push((kind_of(meta), child.name))?;
+            rest.lo = child.end;
+        }
+        Ok(entries)
+    }
 }
 
 /// The keys of what lies below the path.
@@ -75,4 +97,41 @@ fn keys_below(alloc: Global, path: &Path) -> Result<KeyRange, NoMemory>
     let lo = path.key().next(alloc)?;
     let hi = subtree(alloc, path)?.hi;
     Ok(KeyRange { lo, hi })
+}
+
+/// An entry of a directory.
+#[derive(Drop)]
+struct Child {
+    /// The last name of its path.
+    name: Vec<u8>,
+    /// The least key behind all that lies below it.
+    end: Key,
+}
+
+/// The entry whose path has this key; none for the root, and where no path has it.
+fn child_at(alloc: Global, key: &Key) -> Result<Option<Child>, NoMemory>
+    ensures { IfOk result (λ r. IsChildAt key.now r) }
+{
+    let Some(path) = dec(alloc, key)? else {
+        return Ok(None);
+    };
+    let Some(last) = path.last() else {
+        return Ok(None);
+    };
+    let name = Vec::from_slice(alloc, last)?;
+    let hi = subtree(alloc, &path)?.hi;
+    let Some(end) = hi else {
+        return Ok(None);
+    };
+    Ok(Some(Child { name, end }))
+}
+
+/// Whether the metadata are those of a directory or of a file.
+fn kind_of(meta: Meta) -> Kind
+    ensures { result ≡ kind_told meta }
+{
+    match meta {
+        Meta::Dir => Kind::Dir,
+        Meta::File { .. } => Kind::File,
+    }
 }
