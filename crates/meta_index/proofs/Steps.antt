@@ -12,7 +12,7 @@ use Rattle.reference.specs.Calls.{names_of}
 use Rattle.reference.specs.Pairs.{pairs_of}
 use Rattle.reference.specs.declared.reply.Kind.{Kind}
 use Rattle.reference.specs.declared.reply.Meta.{Meta}
-use Rattle.meta_index.specs.declared.index.Child.{Child}
+use Rattle.meta_index.specs.declared.entries.Child.{Child}
 use Rattle.meta_index.specs.declared.index.MetaIndex.{MetaIndex}
 use Rattle.meta_index.specs.Below.{below, kind_told}
 use Rattle.meta_index.specs.Children.{IsChildAt}
@@ -28,6 +28,13 @@ last_of (m ∷ k ∷ p) n = last_of (k ∷ p) n
 below_root : (p : Path) (n : Name) → p ++ n ∷ [] ≡ [] → ⊥
 below_root [] n e = cc
 below_root (m ∷ p) n e = cc
+
+-- one pair more
+pairs_push : (items : List (Kind × Vec ℕ Global)) (kind : Kind) (name : Vec ℕ Global) (k : Kind) (n : Name) → kind ≡ k → name.items ≡ n → pairs_of (items ++ (kind, name) ∷ []) ≡ pairs_of items ++ (k, n) ∷ []
+pairs_push items kind name k n e f =
+    map-append (λ (x : Kind × Vec ℕ Global). (x.0, x.1.items)) items ((kind, name) ∷ [])
+    ∙ ap (λ (x : Kind). pairs_of items ++ (x, name.items) ∷ []) e
+    ∙ ap (λ (x : Name). pairs_of items ++ (k, x) ∷ []) f
 
 module _ (t : Tree) (m : MetaIndex) (p : Path) (means : IsMeantBy t m) where
   -- before the first entry
@@ -56,8 +63,6 @@ module _ (t : Tree) (m : MetaIndex) (p : Path) (means : IsMeantBy t m) where
           let name : Some next.name ≡ Some child.name.items = sym (last_of p next.name) ∙ at.0 in
           let name_is : next.name ≡ child.name.items = cc in
           let pairs : pairs_of more ≡ pairs_of items ++ (kind_told v, next.name) ∷ [] =
-          ap pairs_of more_is ∙ map-append (λ (x : Kind × Vec ℕ Global). (x.0, x.1.items)) items ((kind, child.name) ∷ [])
-          ∙ ap (λ (x : Kind). pairs_of items ++ (x, child.name.items) ∷ []) kind_is
-          ∙ ap (λ (x : Name). pairs_of items ++ (kind_told v, x) ∷ []) (sym name_is) in
+          ap pairs_of more_is ∙ pairs_push items kind child.name (kind_told v) next.name kind_is (sym name_is) in
           subst (λ (x : List (Kind × Name)). Listed t m p x child.end hi) (sym pairs)
           (subst (λ (x : Key). Listed t m p (pairs_of items ++ (kind_told v, next.name) ∷ []) x hi) (sym (end_is p next.name child.end at.1)) next.more)

@@ -2,7 +2,7 @@
 use Rattle.std.specs.Prelude.{◌≡◌, [], Option, Some, MatchOption}
 use Rattle.pathkey.specs.Names.{Path, IsPath, last_name}
 use Rattle.pathkey.specs.Keys.{Key, enc, subtree}
-use Rattle.meta_index.specs.declared.index.Child.{Child}
+use Rattle.meta_index.specs.declared.entries.Child.{Child}
 
 -- the path that has the key is not the root: this is its last name, and where its subtree ends; none only for the root
 abbrev pub IsChildAt : Key → Option Child → Type 0

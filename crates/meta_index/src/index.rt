@@ -1,20 +1,18 @@
 //! The metadata index, and what stands at a path.
 ghost use Rattle.std.specs.Prelude.{◌≡◌, IfOk, None, not};
-ghost use Rattle.meta_index.specs.Below.{below, kind_told};
-ghost use Rattle.meta_index.specs.Children.{IsChildAt};
 ghost use Rattle.meta_index.specs.Means.{IsMeantBy, told};
-ghost use Rattle.pathkey.specs.Names.{IsPath};
 ghost use Rattle.reference.specs.Calls.{is_full, names_of, parent_fault};
 ghost use Rattle.reference.specs.Looks.{look};
 ghost use Rattle.reference.specs.Pairs.{pairs_of};
 ghost use Rattle.reference.specs.Tree.{Tree as DirectoryTree, entry_at};
 
 use crate::at::At;
+use crate::entries::{child_at, keys_below, kind_of};
 use crate::update::MetaUpdate;
 use lookup::get;
 use node::Tree;
-use pathkey::{Errno, Key, KeyRange, NoMemory, Path, dec, subtree};
-use reference::{Kind, Meta};
+use pathkey::{Errno, NoMemory, Path};
+use reference::Kind;
 use scan::first_in;
 use std::alloc::Global;
 
@@ -86,52 +84,5 @@ impl MetaIndex {
             rest.lo = child.end;
         }
         Ok(entries)
-    }
-}
-
-/// The keys of what lies below the path.
-fn keys_below(alloc: Global, path: &Path) -> Result<KeyRange, NoMemory>
-    ensures value { IfOk result (λ r. r ≡ below path.now) }
-    ensures valid { IfOk result (λ _. IsPath path.now) }
-{
-    let lo = path.key().next(alloc)?;
-    let hi = subtree(alloc, path)?.hi;
-    Ok(KeyRange { lo, hi })
-}
-
-/// An entry of a directory.
-#[derive(Drop)]
-struct Child {
-    /// The last name of its path.
-    name: Vec<u8>,
-    /// The least key behind all that lies below it.
-    end: Key,
-}
-
-/// The entry whose path has this key; none for the root, and where no path has it.
-fn child_at(alloc: Global, key: &Key) -> Result<Option<Child>, NoMemory>
-    ensures { IfOk result (λ r. IsChildAt key.now r) }
-{
-    let Some(path) = dec(alloc, key)? else {
-        return Ok(None);
-    };
-    let Some(last) = path.last() else {
-        return Ok(None);
-    };
-    let name = Vec::from_slice(alloc, last)?;
-    let hi = subtree(alloc, &path)?.hi;
-    let Some(end) = hi else {
-        return Ok(None);
-    };
-    Ok(Some(Child { name, end }))
-}
-
-/// Whether the metadata are those of a directory or of a file.
-fn kind_of(meta: Meta) -> Kind
-    ensures { result ≡ kind_told meta }
-{
-    match meta {
-        Meta::Dir => Kind::Dir,
-        Meta::File { .. } => Kind::File,
     }
 }

@@ -7,6 +7,7 @@
 #![tactic(auto)]
 
 pub mod at;
+mod entries;
 pub mod index;
 pub mod update;
 

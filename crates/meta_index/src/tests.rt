@@ -3,7 +3,7 @@
 use super::*;
 use message::Msg;
 use node::{Shape, Tree};
-use pathkey::{Errno, Path};
+use pathkey::{Errno, Path, subtree};
 use std::alloc::Global;
 use std::process::Abort;
 use std::test::Fail;
@@ -129,5 +129,76 @@ fn two_updates_are_one(rt: HostRuntime) -> Result<(), Fail> {
     assert_eq!(rt; grow(3).then(grow(2)), grow(3));
     assert_eq!(rt; set(3).then(grow(5)), set(5));
     assert_eq!(rt; grow(3).then(set(2)), set(2));
+    Ok(())
+}
+
+#[test]
+fn a_directory_is_empty_where_nothing_lies_below(rt: HostRuntime) -> Result<(), Fail> {
+    let alloc = rt.alloc();
+    let index = sample(alloc)?;
+    for (text, wanted) in [
+        (b"/".as_slice(), false),
+        (b"/a", false),
+        (b"/a/d", false),
+        (b"/b", true),
+        (b"/f", true),
+        (b"/c", true),
+    ] {
+        assert_eq!(rt; index.is_empty_dir(alloc, &path(alloc, text)?)?, wanted);
+    }
+    let mut msgs = Vec::new(alloc);
+    msgs.push(Msg::DelRange(subtree(alloc, &path(alloc, b"/a/d/y")?)?))?;
+    let mut index = index;
+    index.tree.append(alloc, msgs)?;
+    assert!(rt; index.is_empty_dir(alloc, &path(alloc, b"/a/d")?)?);
+    Ok(())
+}
+
+/// Compares the entries of a directory with the wanted ones.
+fn lists(
+    rt: &impl Abort,
+    alloc: Global,
+    index: &MetaIndex,
+    text: &[u8],
+    wanted: &[(Kind, &[u8])],
+) -> Result<(), Fail> {
+    let entries = index.children(alloc, &path(alloc, text)?)?;
+    assert_eq!(rt; entries.len(), wanted.len());
+    for i in 0..entries.len() {
+        if let (Some(entry), Some(want)) = (entries.get(i), wanted.get(i)) {
+            assert_eq!(rt; entry.0, want.0);
+            assert_eq!(rt; entry.1.as_slice(), want.1);
+        }
+    }
+    Ok(())
+}
+
+#[test]
+fn a_directory_lists_its_own_entries_in_order(rt: HostRuntime) -> Result<(), Fail> {
+    let alloc = rt.alloc();
+    let index = sample(alloc)?;
+    lists(
+        &rt,
+        alloc,
+        &index,
+        b"/",
+        &[
+            (Kind::Dir, b"a".as_slice()),
+            (Kind::File, b"a-b"),
+            (Kind::Dir, b"b"),
+            (Kind::File, b"f"),
+        ],
+    )?;
+    lists(
+        &rt,
+        alloc,
+        &index,
+        b"/a",
+        &[(Kind::Dir, b"d".as_slice()), (Kind::File, b"x")],
+    )?;
+    lists(&rt, alloc, &index, b"/a/d", &[(Kind::File, b"y".as_slice())])?;
+    lists(&rt, alloc, &index, b"/b", &[])?;
+    lists(&rt, alloc, &index, b"/f", &[])?;
+    lists(&rt, alloc, &index, b"/c", &[])?;
     Ok(())
 }

@@ -3,7 +3,7 @@ use Rattle.pathkey.specs.Names.{Path, last_name}
 use Rattle.pathkey.specs.Keys.{subtree}
 use Rattle.pathkey.specs.declared.range.KeyRange.{KeyRange}
 use Rattle.meta_index.proofs.ChildKeys.{one_path, no_last, no_end}
-use Rattle.meta_index.proofs.index.child_at.Goals as goal
+use Rattle.meta_index.proofs.entries.child_at.Goals as goal
 
 pub returns-in_default-last : goal.returns-in_default-last
 returns-in_default-last c = λ q is_path e.
