@@ -58,10 +58,10 @@ from_below p q u v h =
   where
     split : (r : Path) → q ≡ p ++ r → reaches (next_key (enc p)) (enc q) ≡ true → (n : Name) × (r : Path) × (q ≡ p ++ n ∷ r)
     split [] e f = absurd (
-      let is : enc q ≡ enc p = ap enc (e ∙ append-nil p) in
-      let never : reaches (next_key (enc p)) (enc p) ≡ false = not_reaches_from_before (enc p) (next_key (enc p)) (before-next (enc p)) in
-      let g : reaches (next_key (enc p)) (enc p) ≡ true = sym (ap (reaches (next_key (enc p))) is) ∙ f in
-      cc)
+        let is : enc q ≡ enc p = ap enc (e ∙ append-nil p) in
+        let never : reaches (next_key (enc p)) (enc p) ≡ false = not_reaches_from_before (enc p) (next_key (enc p)) (before-next (enc p)) in
+        let g : reaches (next_key (enc p)) (enc p) ≡ true = sym (ap (reaches (next_key (enc p))) is) ∙ f in
+        cc)
     split (n ∷ r) e f = (n, r, e)
 
 -- ---- entries
@@ -108,18 +108,18 @@ emptiness t m p first is_path means h = elim (is_full (entry_at t p)) as (λ b. 
   where
     some : (f : Option (Key × Meta)) → IsFirst (metadata m) (below p).lo (below p).hi f → is_full (entry_at t p) ≡ true → is_none f ≡ false
     some None g full = absurd (
-      let e : EntryOf (entry_at t p) = full_entry (entry_at t p) full in
-      let there : entry_at t (p ++ e.name ∷ []) ≡ Standing e.tree = along t p (e.name ∷ []) ∙ e.stands in
-      let meta : metadata m (enc (p ++ e.name ∷ [])) ≡ meta_of (look t (p ++ e.name ∷ [])) = means.meta.paths (p ++ e.name ∷ []) (means.tree.paths (p ++ e.name ∷ []) e.tree there) in
-      seen_some e.tree (sym (ap (λ (a : Place). meta_of (seen a)) there) ∙ sym meta ∙ g (enc (p ++ e.name ∷ [])) (in_below p e.name [])))
+        let e : EntryOf (entry_at t p) = full_entry (entry_at t p) full in
+        let there : entry_at t (p ++ e.name ∷ []) ≡ Standing e.tree = along t p (e.name ∷ []) ∙ e.stands in
+        let meta : metadata m (enc (p ++ e.name ∷ [])) ≡ meta_of (look t (p ++ e.name ∷ [])) = means.meta.paths (p ++ e.name ∷ []) (means.tree.paths (p ++ e.name ∷ []) e.tree there) in
+        seen_some e.tree (sym (ap (λ (a : Place). meta_of (seen a)) there) ∙ sym meta ∙ g (enc (p ++ e.name ∷ [])) (in_below p e.name [])))
     some (Some x) g full = refl
 
     none : (f : Option (Key × Meta)) → IsFirst (metadata m) (below p).lo (below p).hi f → is_full (entry_at t p) ≡ false → is_none f ≡ true
     none None g empty = refl
     none (Some x) g empty = absurd (
-      let of : PathOf x.0 = means.meta.only_paths x.0 x.1 g.1 in
-      let inside : within (below p).lo (below p).hi (enc of.path) ≡ true = subst (λ (k : Key). within (below p).lo (below p).hi k ≡ true) of.key g.0 in
-      let rest : (n : Name) × (r : Path) × (of.path ≡ p ++ n ∷ r) = from_below p of.path is_path.names of.is_path.names inside in
-      let unseen : look t of.path ≡ None = ap (look t) rest.2 ∙ ap seen (along t p (rest.0 ∷ rest.1)) ∙ nothing_below (entry_at t p) rest.0 rest.1 empty in
-      let clash : None ≡ Some x.1 = sym (ap meta_of unseen) ∙ sym (means.meta.paths of.path of.is_path) ∙ sym (ap (metadata m) of.key) ∙ g.1 in
-      cc)
+        let of : PathOf x.0 = means.meta.only_paths x.0 x.1 g.1 in
+        let inside : within (below p).lo (below p).hi (enc of.path) ≡ true = subst (λ (k : Key). within (below p).lo (below p).hi k ≡ true) of.key g.0 in
+        let rest : (n : Name) × (r : Path) × (of.path ≡ p ++ n ∷ r) = from_below p of.path is_path.names of.is_path.names inside in
+        let unseen : look t of.path ≡ None = ap (look t) rest.2 ∙ ap seen (along t p (rest.0 ∷ rest.1)) ∙ nothing_below (entry_at t p) rest.0 rest.1 empty in
+        let clash : None ≡ Some x.1 = sym (ap meta_of unseen) ∙ sym (means.meta.paths of.path of.is_path) ∙ sym (ap (metadata m) of.key) ∙ g.1 in
+        cc)

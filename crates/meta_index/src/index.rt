@@ -1,19 +1,21 @@
 //! The metadata index, and what stands at a path.
 ghost use Rattle.std.specs.Prelude.{◌≡◌, IfOk, None, not};
-ghost use Rattle.meta_index.specs.Means.{IsMeantBy, told};
+ghost use Rattle.meta_index.specs.Means.{IsMeantBy, metadata, told};
+ghost use Rattle.pathkey.specs.Keys.{subtree};
 ghost use Rattle.reference.specs.Calls.{is_full, names_of, parent_fault};
 ghost use Rattle.reference.specs.Looks.{look};
 ghost use Rattle.reference.specs.Pairs.{pairs_of};
 ghost use Rattle.reference.specs.Tree.{Tree as DirectoryTree, entry_at};
+ghost use Rattle.scan.specs.Pairs.{IsScan};
 
 use crate::at::At;
 use crate::entries::{child_at, keys_below, kind_of};
 use crate::update::MetaUpdate;
 use lookup::get;
 use node::Tree;
-use pathkey::{Errno, NoMemory, Path};
-use reference::Kind;
-use scan::first_in;
+use pathkey::{Errno, Key, NoMemory, Path, subtree};
+use reference::{Kind, Meta};
+use scan::{first_in, scan};
 use std::alloc::Global;
 
 /// The metadata of each path at which something stands, the root too, under the path's key.
@@ -59,7 +61,8 @@ impl MetaIndex {
         Ok(self.find(alloc, &parent)?.fault_of_directory())
     }
 
-    /// Whether nothing stands below the path, as below an empty directory. It fails only for want of memory.
+    /// Whether nothing stands below the path: so it is at an empty directory, and where no directory stands. It fails only
+    /// for want of memory.
     pub fn is_empty_dir(&self, alloc: Global, path: &Path) -> Result<bool, NoMemory>
         ensures { IfOk result (λ empty. (t : DirectoryTree) → IsMeantBy t self.now → empty ≡ not (is_full (entry_at t path.now))) }
     {
@@ -84,5 +87,18 @@ impl MetaIndex {
             rest.lo = child.end;
         }
         Ok(entries)
+    }
+
+    /// The first `limit` pairs of the path's subtree, its own too, in key order, or all where there are fewer. It fails
+    /// only for want of memory.
+    pub fn below(
+        &self,
+        alloc: Global,
+        path: &Path,
+        limit: usize,
+    ) -> Result<Vec<(Key, Meta)>, NoMemory>
+        ensures { IfOk result (λ v. IsScan (metadata self.now) (subtree path.now).lo (subtree path.now).hi limit v.items) }
+    {
+        scan(alloc, &self.tree, &subtree(alloc, path)?, limit)
     }
 }

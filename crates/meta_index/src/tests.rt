@@ -33,12 +33,7 @@ fn put(alloc: Global, index: &mut MetaIndex, text: &[u8], meta: Meta) -> Result<
 }
 
 /// Changes the entry at a path.
-fn edit(
-    alloc: Global,
-    index: &mut MetaIndex,
-    text: &[u8],
-    update: MetaUpdate,
-) -> Result<(), Fail> {
+fn edit(alloc: Global, index: &mut MetaIndex, text: &[u8], update: MetaUpdate) -> Result<(), Fail> {
     let mut msgs = Vec::new(alloc);
     msgs.push(Msg::Edit(path(alloc, text)?.key().copy(alloc)?, update))?;
     index.tree.append(alloc, msgs)?;
@@ -115,7 +110,10 @@ fn lengths_are_set_and_raised(rt: HostRuntime) -> Result<(), Fail> {
         assert_eq!(rt; index.find(alloc, &at)?, At::Found(file(wanted)));
     }
     edit(alloc, &mut index, b"/b", MetaUpdate::SetLen(2))?;
-    assert_eq!(rt; index.find(alloc, &path(alloc, b"/b")?)?, At::Found(Meta::Dir));
+    assert_eq!(rt;
+        index.find(alloc, &path(alloc, b"/b")?)?,
+        At::Found(Meta::Dir)
+    );
     edit(alloc, &mut index, b"/c", MetaUpdate::Grow(2))?;
     assert_eq!(rt; index.find(alloc, &path(alloc, b"/c")?)?, At::Missing);
     Ok(())
@@ -196,7 +194,13 @@ fn a_directory_lists_its_own_entries_in_order(rt: HostRuntime) -> Result<(), Fai
         b"/a",
         &[(Kind::Dir, b"d".as_slice()), (Kind::File, b"x")],
     )?;
-    lists(&rt, alloc, &index, b"/a/d", &[(Kind::File, b"y".as_slice())])?;
+    lists(
+        &rt,
+        alloc,
+        &index,
+        b"/a/d",
+        &[(Kind::File, b"y".as_slice())],
+    )?;
     lists(&rt, alloc, &index, b"/b", &[])?;
     lists(&rt, alloc, &index, b"/f", &[])?;
     lists(&rt, alloc, &index, b"/c", &[])?;

@@ -17,6 +17,7 @@ returns-in_default-hi c = λ q is_path e.
 
 pub returns : goal.returns
 returns c = λ q is_path e.
-    let here = one_path c.args.key.now c.in-Some.path q c.in_ok-path.field-0 c.in_ok-path.ensures c.in-Some.is is_path e in
-    (ap last_name here ∙ sym c.in-Some-last.ensures ∙ ap (λ (n : List ℕ). Some n) (sym c.in_ok-name.ensures.items),
-    ap (λ (p : Path). (subtree p).hi) here ∙ sym (ap (λ (r : KeyRange). r.hi) c.in_ok-hi.ensures) ∙ c.in-Some-hi.is)
+    let here = one_path c.args.key.now c.in-Some.path q c.in_ok-path.field-0 c.in_ok-path.ensures c.in-Some.is is_path e in (
+      ap last_name here ∙ sym c.in-Some-last.ensures ∙ ap (λ (n : List ℕ). Some n) (sym c.in_ok-name.ensures.items),
+      ap (λ (p : Path). (subtree p).hi) here ∙ sym (ap (λ (r : KeyRange). r.hi) c.in_ok-hi.ensures) ∙ c.in-Some-hi.is,
+    )
