@@ -45,14 +45,18 @@ fn sample(alloc: Global) -> Result<MetaIndex, Fail> {
     let mut index = MetaIndex {
         tree: Tree::new(alloc, SHAPE)?,
     };
-    put(alloc, &mut index, b"/", Meta::Dir)?;
-    put(alloc, &mut index, b"/f", file(5))?;
-    put(alloc, &mut index, b"/b", Meta::Dir)?;
-    put(alloc, &mut index, b"/a", Meta::Dir)?;
-    put(alloc, &mut index, b"/a/x", file(0))?;
-    put(alloc, &mut index, b"/a/d", Meta::Dir)?;
-    put(alloc, &mut index, b"/a/d/y", file(9))?;
-    put(alloc, &mut index, b"/a-b", file(1))?;
+    for (text, meta) in [
+        (b"/".as_slice(), Meta::Dir),
+        (b"/f", file(5)),
+        (b"/b", Meta::Dir),
+        (b"/a", Meta::Dir),
+        (b"/a/x", file(0)),
+        (b"/a/d", Meta::Dir),
+        (b"/a/d/y", file(9)),
+        (b"/a-b", file(1)),
+    ] {
+        put(alloc, &mut index, text, meta)?;
+    }
     Ok(index)
 }
 
