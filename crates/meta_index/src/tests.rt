@@ -3,7 +3,7 @@
 use super::*;
 use message::Msg;
 use node::{Shape, Tree};
-use pathkey::{Errno, Path, subtree};
+use pathkey::{Errno, Path};
 use std::alloc::Global;
 use std::process::Abort;
 use std::test::Fail;
@@ -148,11 +148,6 @@ fn a_directory_is_empty_where_nothing_lies_below(rt: HostRuntime) -> Result<(), 
     ] {
         assert_eq!(rt; index.is_empty_dir(alloc, &path(alloc, text)?)?, wanted);
     }
-    let mut msgs = Vec::new(alloc);
-    msgs.push(Msg::DelRange(subtree(alloc, &path(alloc, b"/a/d/y")?)?))?;
-    let mut index = index;
-    index.tree.append(alloc, msgs)?;
-    assert!(rt; index.is_empty_dir(alloc, &path(alloc, b"/a/d")?)?);
     Ok(())
 }
 
@@ -179,34 +174,39 @@ fn lists(
 fn a_directory_lists_its_own_entries_in_order(rt: HostRuntime) -> Result<(), Fail> {
     let alloc = rt.alloc();
     let index = sample(alloc)?;
-    lists(
-        &rt,
-        alloc,
-        &index,
-        b"/",
-        &[
-            (Kind::Dir, b"a".as_slice()),
-            (Kind::File, b"a-b"),
-            (Kind::Dir, b"b"),
-            (Kind::File, b"f"),
-        ],
-    )?;
-    lists(
-        &rt,
-        alloc,
-        &index,
-        b"/a",
-        &[(Kind::Dir, b"d".as_slice()), (Kind::File, b"x")],
-    )?;
-    lists(
-        &rt,
-        alloc,
-        &index,
-        b"/a/d",
-        &[(Kind::File, b"y".as_slice())],
-    )?;
-    lists(&rt, alloc, &index, b"/b", &[])?;
-    lists(&rt, alloc, &index, b"/f", &[])?;
-    lists(&rt, alloc, &index, b"/c", &[])?;
+    for (text, wanted) in [
+        (
+            b"/".as_slice(),
+            [
+                (Kind::Dir, b"a".as_slice()),
+                (Kind::File, b"a-b"),
+                (Kind::Dir, b"b"),
+                (Kind::File, b"f"),
+            ]
+            .as_slice(),
+        ),
+        (b"/a", &[(Kind::Dir, b"d"), (Kind::File, b"x")]),
+        (b"/a/d", &[(Kind::File, b"y")]),
+        (b"/b", &[]),
+        (b"/f", &[]),
+        (b"/c", &[]),
+    ] {
+        lists(&rt, alloc, &index, text, wanted)?;
+    }
+    Ok(())
+}
+
+#[test]
+fn the_pairs_of_a_subtree_begin_with_its_own(rt: HostRuntime) -> Result<(), Fail> {
+    let alloc = rt.alloc();
+    let index = sample(alloc)?;
+    let at = path(alloc, b"/a")?;
+    for (limit, wanted) in [(0, 0), (1, 1), (3, 3), (9, 4)] {
+        let pairs = index.below(alloc, &at, limit)?;
+        assert_eq!(rt; pairs.len(), wanted);
+        if let Some(pair) = pairs.first() {
+            assert_eq!(rt; pair.1, Meta::Dir);
+        }
+    }
     Ok(())
 }
