@@ -1,0 +1,112 @@
+-- What the metadata at a path tell of it, and at the paths above it where it has none.
+use Rattle.std.proofs.Common.{◌≡◌, ◌≢◌, ℕ, ◌+◌, ◌<◌, List, [], ◌∷◌, ◌++◌, length, refl, sym, ap, ◌∙◌, arith, Option, Some, None}
+use Rattle.std.specs.Prelude.{MatchOption, unwrap_or, option_map}
+use Rattle.pathkey.specs.Names.{Name, Path, IsPath, parent, parent_path}
+use Rattle.pathkey.specs.Enc.{enc}
+use Rattle.reference.specs.Tree.{Tree, Dir, File, entry_at, named, found, onward}
+use Rattle.reference.specs.Tree.{At as Place, Found as Standing, Missing as Absent, Blocked as Obstructed}
+use Rattle.reference.specs.Calls.{no_directory_fault, parent_fault}
+use Rattle.reference.specs.Shape.{IsDirectory}
+use Rattle.reference.specs.Looks.{Look, Directory, Bytes, seen, look}
+use Rattle.reference.specs.Indexes.{meta_of}
+use Rattle.reference.specs.declared.reply.Meta.{Meta}
+use Rattle.reference.proofs.EntryPaths.{along, last_name}
+use Rattle.meta_index.specs.declared.at.At.{At}
+use Rattle.meta_index.specs.declared.at.At.TheVariants.{Found, Missing, Blocked}
+use Rattle.meta_index.specs.declared.index.MetaIndex.{MetaIndex}
+use Rattle.meta_index.specs.Means.{metadata, IsMeantBy, told, beyond, Decides}
+
+-- ---- one path
+
+told_seen : (here : Place) (v : Meta) → meta_of (seen here) ≡ Some v → Found v ≡ told here
+told_seen (Standing (Dir es)) v e = cc
+told_seen (Standing (File b)) v e = cc
+told_seen Absent v e = absurd (cc)
+told_seen Obstructed v e = absurd (cc)
+
+unseen : (l : Option Look) → meta_of l ≡ None → l ≡ None
+unseen None e = refl
+unseen (Some Directory) e = absurd (cc)
+unseen (Some (Bytes b)) e = absurd (cc)
+
+-- the metadata at a path's key are those of what stands there
+pub found_told : (t : Tree) (m : MetaIndex) (p : Path) (v : Meta) → IsPath p → Some v ≡ metadata m (enc p) → IsMeantBy t m → Found v ≡ told (entry_at t p)
+found_told t m p v is_path e means = told_seen (entry_at t p) v (sym (means.meta.paths p is_path) ∙ sym e)
+
+-- and where there are none, nothing is seen
+pub none_seen : (t : Tree) (m : MetaIndex) (p : Path) → IsPath p → None ≡ metadata m (enc p) → IsMeantBy t m → look t p ≡ None
+none_seen t m p is_path e means = unseen (look t p) (sym (means.meta.paths p is_path) ∙ sym e)
+
+-- ---- the paths above
+
+-- what is left to climb
+abbrev pub height : Option Path → ℕ
+height None = 0
+height (Some p) = length p + 1
+
+parent_shorter : (n : Name) (p : Path) → length (parent (n ∷ p)) < length (n ∷ p)
+parent_shorter n [] = omega arith
+parent_shorter n (m ∷ p) = omega (arith, parent_shorter m p)
+
+height_of_parent : (p : Path) → height (parent_path p) < height (Some p)
+height_of_parent [] = omega arith
+height_of_parent (n ∷ p) = omega (arith, parent_shorter n p)
+
+-- the parent is nearer to the root
+pub height_falls : (a b : Option Path) (p : Path) → a ≡ parent_path p → b ≡ Some p → height a < height b
+height_falls a b p e f = omega (arith, ap height e, ap height f, height_of_parent p)
+
+lacking : (here : Place) (n : Name) → seen (onward here n) ≡ None → onward here n ≡ beyond here
+lacking (Standing (Dir es)) n e = absent (named n es) e
+  where
+    absent : (o : Option Tree) → seen (found o) ≡ None → found o ≡ Absent
+    absent None f = refl
+    absent (Some (Dir fs)) f = absurd (cc)
+    absent (Some (File b)) f = absurd (cc)
+lacking (Standing (File b)) n e = refl
+lacking Absent n e = refl
+lacking Obstructed n e = refl
+
+beyond_twice : (here : Place) → beyond (beyond here) ≡ beyond here
+beyond_twice (Standing (Dir es)) = refl
+beyond_twice (Standing (File b)) = refl
+beyond_twice Absent = refl
+beyond_twice Obstructed = refl
+
+root_seen : (t : Tree) → IsDirectory t → look t [] ≡ None → ⊥
+root_seen (Dir es) d e = cc
+root_seen (File b) d e = d
+
+-- the parent decides
+pub parent_decides : (m : MetaIndex) (p : Path) → Decides m p (parent_path p)
+parent_decides m [] t means none = root_seen t means.tree.root none
+parent_decides m (n ∷ p) t means none =
+    let last : (k : Name) × (n ∷ p ≡ parent (n ∷ p) ++ k ∷ []) = last_name (n ∷ p) (λ e. cc) in
+    let walk : entry_at t (n ∷ p) ≡ onward (entry_at t (parent (n ∷ p))) last.0 = ap (entry_at t) last.1 ∙ along t (parent (n ∷ p)) (last.0 ∷ []) in
+    walk ∙ lacking (entry_at t (parent (n ∷ p))) last.0 (sym (ap seen walk) ∙ none)
+
+-- where nothing is seen at the path that decides, its parent does
+pub parent_decides_for : (m : MetaIndex) (p q : Path) → IsPath q → None ≡ metadata m (enc q) → Decides m p (Some q) → Decides m p (parent_path q)
+parent_decides_for m p q is_path e decides t means none =
+    above q (decides t means none) (parent_decides m q t means (none_seen t m q is_path e means))
+  where
+    above : (q : Path) → entry_at t p ≡ beyond (entry_at t q) → MatchOption (parent_path q) ⊥ (λ r. entry_at t q ≡ beyond (entry_at t r)) → MatchOption (parent_path q) ⊥ (λ r. entry_at t p ≡ beyond (entry_at t r))
+    above [] f g = g
+    above (k ∷ q) f g = f ∙ ap beyond g ∙ beyond_twice (entry_at t (parent (k ∷ q)))
+
+-- what stands at the path that decides tells why nothing stands below it
+pub decided : (m : MetaIndex) (p q : Path) (v : Meta) (at : At) → IsPath q → Some v ≡ metadata m (enc q) → Decides m p (Some q) → ((here : Place) → Found v ≡ told here → at ≡ told (beyond here))
+    → (t : Tree) → IsMeantBy t m → look t p ≡ None → at ≡ told (entry_at t p)
+decided m p q v at is_path e decides tells t means none = tells (entry_at t q) (found_told t m q v is_path e means) ∙ ap told (sym (decides t means none))
+
+-- ---- parents
+
+-- the root has no parent's fault
+pub root_faultless : (t : Tree) (p : Path) → None ≡ parent_path p → None ≡ parent_fault t p
+root_faultless t [] e = refl
+root_faultless t (n ∷ p) e = absurd (cc)
+
+-- any other path has those of what stands at its parent
+pub fault_at_parent : (t : Tree) (p q : Path) → Some q ≡ parent_path p → no_directory_fault (entry_at t q) ≡ parent_fault t p
+fault_at_parent t [] q e = absurd (cc)
+fault_at_parent t (n ∷ p) q e = let f : q ≡ parent (n ∷ p) = cc in ap (λ (r : Path). no_directory_fault (entry_at t r)) f

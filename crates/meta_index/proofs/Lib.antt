@@ -1,0 +1,6 @@
+pub mod Climbing
+pub mod Lower
+pub mod ChildKeys
+pub mod ChildOrder
+pub mod Listed
+pub mod Steps

@@ -1,0 +1,17 @@
+-- What lies below a path: its keys, and what is told of an entry.
+use Rattle.pathkey.specs.Names.{Path}
+use Rattle.pathkey.specs.Keys.{enc, next_key, subtree}
+use Rattle.pathkey.specs.declared.range.KeyRange.{KeyRange}
+use Rattle.reference.specs.declared.reply.Kind.{Kind}
+use Rattle.reference.specs.declared.reply.Kind.TheVariants.{Dir as DirKind, File as FileKind}
+use Rattle.reference.specs.declared.reply.Meta.{Meta}
+use Rattle.reference.specs.declared.reply.Meta.TheVariants.{Dir as DirMeta, File as FileMeta}
+
+-- the keys of the path's subtree but for its own
+abbrev pub below : Path → KeyRange
+below p = record { lo = next_key (enc p); hi = (subtree p).hi }
+
+-- whether metadata are those of a directory or of a file
+abbrev pub kind_told : Meta → Kind
+kind_told DirMeta = DirKind
+kind_told (FileMeta n) = FileKind

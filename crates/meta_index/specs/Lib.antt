@@ -1,0 +1,4 @@
+pub mod Updates
+pub mod Means
+pub mod Below
+pub mod Children

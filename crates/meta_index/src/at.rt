@@ -1,0 +1,42 @@
+//! What stands at a path, as far as metadata tell.
+ghost use Rattle.std.specs.Prelude.{◌≡◌};
+ghost use Rattle.meta_index.specs.Means.{beyond, told};
+ghost use Rattle.reference.specs.Calls.{no_directory_fault};
+ghost use Rattle.reference.specs.Tree.{At as Place};
+
+use pathkey::Errno;
+use reference::Meta;
+
+/// What stands at a path.
+#[derive(Clone, Copy, Debug, PartialEq, Eq)]
+pub enum At {
+    /// An entry with this metadata.
+    Found(Meta),
+    /// Nothing: the first name that decides is absent from its directory.
+    Missing,
+    /// Nothing: a file stands before the last name.
+    Blocked,
+}
+
+impl At {
+    /// What stands at a name below an entry with this metadata, where no entry has that name. It takes no memory.
+    pub fn below(above: Meta) -> At
+        ensures { (here : Place) → At.Found above ≡ told here → result ≡ told (beyond here) }
+    {
+        match above {
+            Meta::Dir => At::Missing,
+            Meta::File { .. } => At::Blocked,
+        }
+    }
+
+    /// Why the path names no directory; none where it does. It takes no memory.
+    pub fn fault_of_directory(self) -> Option<Errno>
+        ensures { (here : Place) → self ≡ told here → result ≡ no_directory_fault here }
+    {
+        match self {
+            At::Found(Meta::Dir) => None,
+            At::Found(Meta::File { .. }) | At::Blocked => Some(Errno::ENOTDIR),
+            At::Missing => Some(Errno::ENOENT),
+        }
+    }
+}

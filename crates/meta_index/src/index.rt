@@ -1,0 +1,104 @@
+//! The metadata index, and what stands at a path.
+ghost use Rattle.std.specs.Prelude.{◌≡◌, IfOk, None, not};
+ghost use Rattle.meta_index.specs.Means.{IsMeantBy, metadata, told};
+ghost use Rattle.pathkey.specs.Keys.{subtree};
+ghost use Rattle.reference.specs.Calls.{is_full, names_of, parent_fault};
+ghost use Rattle.reference.specs.Looks.{look};
+ghost use Rattle.reference.specs.Pairs.{pairs_of};
+ghost use Rattle.reference.specs.Tree.{Tree as DirectoryTree, entry_at};
+ghost use Rattle.scan.specs.Pairs.{IsScan};
+
+use crate::at::At;
+use crate::entries::{child_at, keys_below, kind_of};
+use crate::update::MetaUpdate;
+use lookup::get;
+use node::Tree;
+use pathkey::{Errno, Key, NoMemory, Path, subtree};
+use reference::{Kind, Meta};
+use scan::{first_in, scan};
+use std::alloc::Global;
+
+/// The metadata of each path at which something stands, the root too, under the path's key.
+#[derive(Drop)]
+pub struct MetaIndex {
+    /// The buffered tree that holds them.
+    pub tree: Tree<MetaUpdate>,
+}
+
+impl MetaIndex {
+    /// What stands at the path. It fails only for want of memory.
+    pub fn find(&self, alloc: Global, path: &Path) -> Result<At, NoMemory>
+        ensures { IfOk result (λ at. (t : DirectoryTree) → IsMeantBy t self.now → at ≡ told (entry_at t path.now)) }
+    {
+        match get(alloc, &self.tree, path.key())? {
+            Some(meta) => Ok(At::Found(meta)),
+            None => self.find_obstacle(alloc, path),
+        }
+    }
+
+    /// Why nothing stands at the path: the nearest path above at which something stands is a directory, or a file.
+    fn find_obstacle(&self, alloc: Global, path: &Path) -> Result<At, NoMemory>
+        ensures { IfOk result (λ at. (t : DirectoryTree) → IsMeantBy t self.now → look t path.now ≡ None → at ≡ told (entry_at t path.now)) }
+    {
+        let mut ancestor = path.parent(alloc)?;
+        'climb: while let Some(above) = ancestor {
+            if let Some(meta) = get(alloc, &self.tree, above.key())? {
+                return Ok(At::below(meta));
+            }
+            ancestor = above.parent(alloc)?;
+        }
+        Ok(At::Missing)
+    }
+
+    /// Why no entry can be made at the path: its parent is no directory; none where it is one, and at the root. It fails
+    /// only for want of memory.
+    pub fn fault_of_parent(&self, alloc: Global, path: &Path) -> Result<Option<Errno>, NoMemory>
+        ensures { IfOk result (λ fault. (t : DirectoryTree) → IsMeantBy t self.now → fault ≡ parent_fault t path.now) }
+    {
+        let Some(parent) = path.parent(alloc)? else {
+            return Ok(None);
+        };
+        Ok(self.find(alloc, &parent)?.fault_of_directory())
+    }
+
+    /// Whether nothing stands below the path: so it is at an empty directory, and where no directory stands. It fails only
+    /// for want of memory.
+    pub fn is_empty_dir(&self, alloc: Global, path: &Path) -> Result<bool, NoMemory>
+        ensures { IfOk result (λ empty. (t : DirectoryTree) → IsMeantBy t self.now → empty ≡ not (is_full (entry_at t path.now))) }
+    {
+        let below = keys_below(alloc, path)?;
+        Ok(first_in(alloc, &self.tree, &below)?.is_none())
+    }
+
+    /// The entries of the directory at the path, kind and name of each, in byte order of names; none where no directory
+    /// stands there. It fails only for want of memory.
+    ///
+    /// It asks for one entry after the other, and passes what lies below each.
+    pub fn children(&self, alloc: Global, path: &Path) -> Result<Vec<(Kind, Vec<u8>)>, NoMemory>
+        ensures { IfOk result (λ v. (t : DirectoryTree) → IsMeantBy t self.now → pairs_of v.items ≡ names_of (entry_at t path.now)) }
+    {
+        let mut entries = Vec::new(alloc);
+        let mut rest = keys_below(alloc, path)?;
+        'entries: while let Some((key, meta)) = first_in(alloc, &self.tree, &rest)? {
+            let Some(child) = child_at(alloc, &key)? else {
+                return Ok(entries);
+            };
+            entries.push((kind_of(meta), child.name))?;
+            rest.lo = child.end;
+        }
+        Ok(entries)
+    }
+
+    /// The first `limit` pairs of the path's subtree, its own too, in key order, or all where there are fewer. It fails
+    /// only for want of memory.
+    pub fn below(
+        &self,
+        alloc: Global,
+        path: &Path,
+        limit: usize,
+    ) -> Result<Vec<(Key, Meta)>, NoMemory>
+        ensures { IfOk result (λ v. IsScan (metadata self.now) (subtree path.now).lo (subtree path.now).hi limit v.items) }
+    {
+        scan(alloc, &self.tree, &subtree(alloc, path)?, limit)
+    }
+}
