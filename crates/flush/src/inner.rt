@@ -64,12 +64,7 @@ fn fitting<U: Update>(slots: &[Slot<U>], msgs: &[Msg<U>], room: usize) -> usize
 
 /// Puts copies of the messages into the slots of the child, as many as it has room for: a node has room for `room`
 /// pieces.
-fn sink<U: Update>(
-    alloc: Global,
-    room: u16,
-    msgs: &[Msg<U>],
-    child: &mut Arc<Node<U>>,
-) -> StepReply
+fn sink<U: Update>(alloc: Global, room: u16, msgs: &[Msg<U>], child: &mut Arc<Node<U>>) -> StepReply
     ensures { Sunk U.means room result msgs.now child.old.value child.new.value }
 {
     if msgs.is_empty() {
