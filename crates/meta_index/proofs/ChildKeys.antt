@@ -1,6 +1,5 @@
 -- The path that has a key, its last name, and where its subtree ends.
-use Rattle.std.proofs.Common.{◌≡◌, ℕ, List, [], ◌∷◌, refl, sym, ap, subst, ◌∙◌, Option, Some, None}
-use Rattle.std.specs.Prelude.{MatchOption}
+use Rattle.std.proofs.Common.{◌≡◌, ℕ, List, [], ◌∷◌, refl, sym, subst, ◌∙◌, Option, Some, None}
 use Rattle.pathkey.specs.Names.{Path, IsPath, last_name}
 use Rattle.pathkey.specs.Keys.{Key, enc, subtree}
 use Rattle.pathkey.specs.PathKeys.{IsPathOf}

@@ -1,6 +1,6 @@
 -- What the metadata at a path tell of it, and at the paths above it where it has none.
-use Rattle.std.proofs.Common.{◌≡◌, ◌≢◌, ℕ, ◌+◌, ◌<◌, List, [], ◌∷◌, ◌++◌, length, refl, sym, ap, ◌∙◌, arith, Option, Some, None}
-use Rattle.std.specs.Prelude.{MatchOption, unwrap_or, option_map}
+use Rattle.std.proofs.Common.{◌≡◌, ℕ, ◌+◌, ◌<◌, [], ◌∷◌, ◌++◌, length, refl, sym, ap, ◌∙◌, arith, Option, Some, None}
+use Rattle.std.specs.Prelude.{MatchOption}
 use Rattle.pathkey.specs.Names.{Name, Path, IsPath, parent, parent_path}
 use Rattle.pathkey.specs.Enc.{enc}
 use Rattle.reference.specs.Tree.{Tree, Dir, File, entry_at, named, found, onward}
@@ -12,7 +12,7 @@ use Rattle.reference.specs.Indexes.{meta_of}
 use Rattle.reference.specs.declared.reply.Meta.{Meta}
 use Rattle.reference.proofs.EntryPaths.{along, last_name}
 use Rattle.meta_index.specs.declared.at.At.{At}
-use Rattle.meta_index.specs.declared.at.At.TheVariants.{Found, Missing, Blocked}
+use Rattle.meta_index.specs.declared.at.At.TheVariants.{Found}
 use Rattle.meta_index.specs.declared.index.MetaIndex.{MetaIndex}
 use Rattle.meta_index.specs.Means.{metadata, IsMeantBy, told, beyond, Decides}
 

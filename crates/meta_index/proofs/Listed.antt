@@ -1,13 +1,12 @@
 -- A directory's entries listed one after the other, each found as the first key behind all that lies below the one before.
-use Rattle.std.proofs.Common.{◌≡◌, ℕ, List, [], ◌∷◌, ◌++◌, Bool, true, false, cond, refl, sym, ap, subst, ◌∙◌, append_assoc, append-nil, Option, Some, None}
+use Rattle.std.proofs.Common.{◌≡◌, List, [], ◌∷◌, ◌++◌, Bool, true, false, cond, refl, sym, ap, subst, ◌∙◌, append_assoc, append-nil, Option, Some, None}
 use Rattle.std.specs.Prelude.{fold}
 use Rattle.std.specs.Ordering.{is_eq}
-use Rattle.std.specs.declared.cmp.Ordering.{Ordering}
 use Rattle.std.specs.declared.cmp.Ordering.TheVariants.{Less}
 use Rattle.std.proofs.lemmas.Bool.{and_parts}
 use Rattle.pathkey.specs.Order.{by_bytes, same}
-use Rattle.pathkey.specs.Names.{Name, Path, EachName, IsPath, HasNameBytes, last_name}
-use Rattle.pathkey.specs.Keys.{Key, enc, is_below, subtree}
+use Rattle.pathkey.specs.Names.{Name, Path, IsPath, HasNameBytes}
+use Rattle.pathkey.specs.Keys.{Key, enc, is_below}
 use Rattle.pathkey.proofs.OrderFacts.{same_itself, same_true}
 use Rattle.message.specs.Ranges.{before, reaches, within}
 use Rattle.message.proofs.KeyOrder.{le_le, reaches-from_before, reaches-from_not_before}
@@ -17,7 +16,7 @@ use Rattle.reference.specs.Tree.{Tree, Dir, File, Entries, nothing, entry, entry
 use Rattle.reference.specs.Tree.{At as Place, Found as Standing, Missing as Absent, Blocked as Obstructed}
 use Rattle.reference.specs.Calls.{kind_of, listing, names_of}
 use Rattle.reference.specs.Shape.{AllAbove, Rising, RisingEntries}
-use Rattle.reference.specs.Looks.{seen, look}
+use Rattle.reference.specs.Looks.{seen}
 use Rattle.reference.specs.Indexes.{meta_of, PathOf}
 use Rattle.reference.specs.declared.reply.Kind.{Kind}
 use Rattle.reference.specs.declared.reply.Meta.{Meta}
@@ -28,7 +27,7 @@ use Rattle.meta_index.specs.declared.index.MetaIndex.{MetaIndex}
 use Rattle.meta_index.specs.Below.{below, kind_told}
 use Rattle.meta_index.specs.Means.{metadata, IsMeantBy}
 use Rattle.meta_index.proofs.Lower.{in_below, from_below, seen_some}
-use Rattle.meta_index.proofs.ChildOrder.{end_key, end_is, child_before, end_before, child_inside, child_first}
+use Rattle.meta_index.proofs.ChildOrder.{end_key, child_before, end_before, child_inside, child_first}
 
 -- q lies at or below an entry of es, in the directory p
 pub record Among (p : Path) (es : Entries) (q : Path) : Type 0 where

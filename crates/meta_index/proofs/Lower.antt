@@ -1,24 +1,22 @@
 -- What lies below a path: its keys, and the entries of the directory there.
-use Rattle.std.proofs.Common.{◌≡◌, ◌≢◌, ℕ, ◌<◌, List, [], ◌∷◌, ◌++◌, Bool, true, false, not, cond, refl, sym, ap, subst, ◌∙◌, arith, Option, Some, None, append-nil}
-use Rattle.std.specs.Prelude.{fold, ◌&&◌}
+use Rattle.std.proofs.Common.{◌≡◌, ℕ, [], ◌∷◌, ◌++◌, Bool, true, false, not, cond, refl, sym, ap, subst, ◌∙◌, Option, Some, None, append-nil}
+use Rattle.std.specs.Prelude.{fold}
 use Rattle.std.specs.Option.{is_none, is_some}
-use Rattle.std.specs.Ordering.{is_le, nat_cmp, ordering_then}
-use Rattle.std.specs.declared.cmp.Ordering.{Ordering}
+use Rattle.std.specs.Ordering.{is_le}
 use Rattle.std.proofs.lemmas.Bool.{and_parts, and_from}
 use Rattle.pathkey.specs.Order.{by_bytes}
 use Rattle.pathkey.specs.Names.{Name, Path, EachName, IsPath}
 use Rattle.pathkey.specs.Keys.{Key, enc, is_in, is_below, next_key, subtree}
-use Rattle.pathkey.specs.declared.range.KeyRange.{KeyRange}
-use Rattle.pathkey.proofs.OrderFacts.{cmp_less, same_itself}
+use Rattle.pathkey.proofs.OrderFacts.{same_itself}
 use Rattle.pathkey.proofs.KeyFacts.{enc-append, path_in_subtree, path_in_subtree_from, same_beginning}
-use Rattle.message.specs.Ranges.{before, reaches, within}
+use Rattle.message.specs.Ranges.{reaches, within}
 use Rattle.message.proofs.KeyOrder.{le_le, not_reaches_from_before, reaches-from_before}
-use Rattle.scan.specs.Pairs.{HasNone, IsFirst}
+use Rattle.scan.specs.Pairs.{IsFirst}
 use Rattle.scan.proofs.NextKey.{before-next, reaches-next}
-use Rattle.reference.specs.Tree.{Tree, Dir, File, Entries, nothing, entry, entry_at, named, found, onward}
+use Rattle.reference.specs.Tree.{Tree, Dir, File, nothing, entry, entry_at, named, found, onward}
 use Rattle.reference.specs.Tree.{At as Place, Found as Standing, Missing as Absent, Blocked as Obstructed}
 use Rattle.reference.specs.Calls.{is_full}
-use Rattle.reference.specs.Looks.{Look, seen, look}
+use Rattle.reference.specs.Looks.{seen, look}
 use Rattle.reference.specs.Indexes.{meta_of, PathOf}
 use Rattle.reference.specs.declared.reply.Meta.{Meta}
 use Rattle.reference.proofs.Edits.{fold-Missing, fold-Blocked}

@@ -1,10 +1,10 @@
 -- The steps of a listing in the words of the code.
 use Rattle.std.proofs.Common.{◌≡◌, ℕ, List, [], ◌∷◌, ◌++◌, refl, sym, ap, subst, ◌∙◌, Option, Some, None}
-use Rattle.std.specs.Prelude.{MatchOption, map, Vec}
+use Rattle.std.specs.Prelude.{MatchOption, Vec}
 use Rattle.std.specs.declared.alloc.Global.{Global}
 use Rattle.std.proofs.lemmas.List.{map-append}
 use Rattle.pathkey.specs.Names.{Name, Path, IsPath, last_name}
-use Rattle.pathkey.specs.Keys.{Key, enc, subtree}
+use Rattle.pathkey.specs.Keys.{Key, subtree}
 use Rattle.pathkey.specs.declared.range.KeyRange.{KeyRange}
 use Rattle.scan.specs.Pairs.{IsFirst}
 use Rattle.reference.specs.Tree.{Tree, entry_at}
@@ -17,7 +17,7 @@ use Rattle.meta_index.specs.declared.index.MetaIndex.{MetaIndex}
 use Rattle.meta_index.specs.Below.{below, kind_told}
 use Rattle.meta_index.specs.Children.{IsChildAt}
 use Rattle.meta_index.specs.Means.{metadata, IsMeantBy}
-use Rattle.meta_index.proofs.ChildOrder.{end_key, end_is}
+use Rattle.meta_index.proofs.ChildOrder.{end_is}
 use Rattle.meta_index.proofs.Listed.{Listed, listed_none, Next, next_listed, all_listed}
 
 last_of : (p : Path) (n : Name) → last_name (p ++ n ∷ []) ≡ Some n

@@ -1,6 +1,6 @@
 -- When a metadata index means a directory tree, and what it tells of the tree.
 use Rattle.std.specs.Prelude.{◌≡◌, Option, None, length, MatchOption}
-use Rattle.pathkey.specs.Names.{Path, IsPath}
+use Rattle.pathkey.specs.Names.{Path}
 use Rattle.node.specs.Meaning.{value}
 use Rattle.reference.specs.Tree.{Tree, Dir, File, entry_at}
 use Rattle.reference.specs.Tree.{At as Place, Found as Standing, Missing as Absent, Blocked as Obstructed}

@@ -3,7 +3,7 @@ use Rattle.node.specs.Meaning.{value}
 use Rattle.pathkey.specs.Names.{Path}
 use Rattle.meta_index.specs.Updates.{means}
 use Rattle.meta_index.specs.Means.{Decides}
-use Rattle.meta_index.proofs.Climbing.{height_falls, parent_decides, parent_decides_for, decided}
+use Rattle.meta_index.proofs.Climbing.{height_falls, parent_decides, parent_decides_for}
 use Rattle.meta_index.proofs.index.MetaIndex.find_obstacle.Goals as goal
 
 pub climb-init : goal.climb-init

@@ -1,5 +1,4 @@
-use Rattle.std.proofs.Common.{sym, subst, ◌∙◌}
-use Rattle.node.specs.Pure.{PNode}
+use Rattle.std.proofs.Common.{subst, ◌∙◌}
 use Rattle.pathkey.specs.declared.range.KeyRange.{KeyRange}
 use Rattle.scan.specs.Pairs.{IsFirst}
 use Rattle.meta_index.specs.Means.{metadata}
