@@ -1,3 +1,4 @@
 pub mod Replies
 pub mod Batches
-pub mod Faults
+pub mod Answered
+pub mod Appending

@@ -48,14 +48,17 @@ pub record MeansAfter (t t' : Tree) (m : MetaIndex) (msgs : Messages) : Type 0 w
   pub meta : MetaMeans t' (after msgs (metadata m))
   pub blocks : (d : BlockIndex) → BlocksMean t d → BlocksMean t' d
 
--- what the call is compiled to: for each tree that the index means, the reply is the one of the table of calls, and
--- after the messages the indexes mean the tree that the table makes; a call that is refused, or that reads, has no
--- message, and any other at most one
+-- what a call is compiled to, where the index means a tree
 pub record IsCompiled (m : MetaIndex) (call : Call) (answer : Reply) (msgs : Messages) : Type 0 where
+  -- the reply is the one that the table of calls makes of this tree
   pub reply : (t : Tree) → IsMeantBy t m → answer ≡ (does t call).1
+  -- after the messages the indexes mean the tree that the table makes of it
   pub tree : (t : Tree) → IsMeantBy t m → MeansAfter t (does t call).0 m msgs
+  -- a call that is refused has no message
   pub fault : (e : Errno) → answer ≡ Fault e → msgs ≡ []
+  -- nor has one that reads
   pub reading : is_reading call ≡ true → msgs ≡ []
+  -- and no call has more than one
   pub few : length msgs ≤ 1
 
 -- ---- how the calls come to it

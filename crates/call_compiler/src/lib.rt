@@ -14,6 +14,7 @@ use std::alloc::Global;
 
 mod asking;
 pub mod batch;
+pub mod laws;
 mod making;
 mod removing;
 
@@ -30,11 +31,7 @@ pub fn is_compiled(call: &Call) -> bool
 }
 
 /// The reply to a file call, and the messages that do it. It changes nothing, and fails only for want of memory.
-pub fn compile(
-    alloc: Global,
-    indexes: &Indexes,
-    call: &Call,
-) -> Result<(Reply, Batch), NoMemory>
+pub fn compile(alloc: Global, indexes: &Indexes, call: &Call) -> Result<(Reply, Batch), NoMemory>
     requires { IsTrue (is_one_of_these call.now) }
     ensures { IfOk result (λ c. IsCompiled indexes.now.meta call.now c.0 c.1.meta.items) }
 {

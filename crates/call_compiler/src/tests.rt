@@ -1,8 +1,8 @@
 //! What calls are answered, beside the replies that the table of calls gives.
 
 use super::*;
-use meta_index::{Kind, Meta, MetaIndex};
 use message::Msg;
+use meta_index::{Kind, Meta, MetaIndex};
 use node::{Shape, Tree};
 use pathkey::{Errno, Path};
 use std::alloc::Global;
@@ -95,9 +95,18 @@ fn a_file_blocks_and_a_full_directory_stays(rt: HostRuntime) -> Result<(), Fail>
     let mut indexes = fresh(alloc)?;
     assert!(rt; is_done(&mkdir(alloc, &mut indexes, b"/a")?));
     assert!(rt; is_done(&create(alloc, &mut indexes, b"/a/x")?));
-    assert_eq!(rt; fault(&rmdir(alloc, &mut indexes, b"/a")?), Some(Errno::ENOTEMPTY));
-    assert_eq!(rt; fault(&stat(alloc, &mut indexes, b"/a/x/y")?), Some(Errno::ENOTDIR));
-    assert_eq!(rt; fault(&readdir(alloc, &mut indexes, b"/a/x")?), Some(Errno::ENOTDIR));
+    assert_eq!(rt;
+        fault(&rmdir(alloc, &mut indexes, b"/a")?),
+        Some(Errno::ENOTEMPTY)
+    );
+    assert_eq!(rt;
+        fault(&stat(alloc, &mut indexes, b"/a/x/y")?),
+        Some(Errno::ENOTDIR)
+    );
+    assert_eq!(rt;
+        fault(&readdir(alloc, &mut indexes, b"/a/x")?),
+        Some(Errno::ENOTDIR)
+    );
     assert!(rt; lists_file_alone(&readdir(alloc, &mut indexes, b"/a")?, b"x"));
     Ok(())
 }
@@ -137,7 +146,10 @@ fn an_empty_directory_goes(rt: HostRuntime) -> Result<(), Fail> {
         assert_eq!(rt; fault(&rmdir(alloc, &mut indexes, text)?), Some(wanted));
     }
     assert!(rt; is_done(&rmdir(alloc, &mut indexes, b"/a")?));
-    assert_eq!(rt; fault(&stat(alloc, &mut indexes, b"/a")?), Some(Errno::ENOENT));
+    assert_eq!(rt;
+        fault(&stat(alloc, &mut indexes, b"/a")?),
+        Some(Errno::ENOENT)
+    );
     Ok(())
 }
 
@@ -147,10 +159,31 @@ fn what_stands_is_told(rt: HostRuntime) -> Result<(), Fail> {
     let mut indexes = fresh(alloc)?;
     assert!(rt; is_done(&mkdir(alloc, &mut indexes, b"/a")?));
     assert!(rt; is_done(&create(alloc, &mut indexes, b"/f")?));
-    assert!(rt; matches!(&stat(alloc, &mut indexes, b"/")?, (Reply::Stat(Kind::Dir, 0), 0)));
-    assert!(rt; matches!(&stat(alloc, &mut indexes, b"/a")?, (Reply::Stat(Kind::Dir, 0), 0)));
-    assert!(rt; matches!(&stat(alloc, &mut indexes, b"/f")?, (Reply::Stat(Kind::File, 0), 0)));
-    assert_eq!(rt; fault(&readdir(alloc, &mut indexes, b"/c")?), Some(Errno::ENOENT));
-    assert_eq!(rt; fault(&stat(alloc, &mut indexes, b"/c/d")?), Some(Errno::ENOENT));
+    assert!(rt;
+        matches!(
+            &stat(alloc, &mut indexes, b"/")?,
+            (Reply::Stat(Kind::Dir, 0), 0)
+        )
+    );
+    assert!(rt;
+        matches!(
+            &stat(alloc, &mut indexes, b"/a")?,
+            (Reply::Stat(Kind::Dir, 0), 0)
+        )
+    );
+    assert!(rt;
+        matches!(
+            &stat(alloc, &mut indexes, b"/f")?,
+            (Reply::Stat(Kind::File, 0), 0)
+        )
+    );
+    assert_eq!(rt;
+        fault(&readdir(alloc, &mut indexes, b"/c")?),
+        Some(Errno::ENOENT)
+    );
+    assert_eq!(rt;
+        fault(&stat(alloc, &mut indexes, b"/c/d")?),
+        Some(Errno::ENOENT)
+    );
     Ok(())
 }

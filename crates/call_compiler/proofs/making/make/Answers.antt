@@ -3,7 +3,7 @@ use Rattle.pathkey.specs.Keys.{Key}
 use Rattle.message.specs.declared.msg.Msg.TheVariants.{Put}
 use Rattle.pathkey.specs.Enc.{enc}
 use Rattle.call_compiler.proofs.Batches.{if_ok_both}
-use Rattle.call_compiler.proofs.Faults.{new_refused, new_made}
+use Rattle.call_compiler.proofs.Answered.{new_refused, new_made}
 use Rattle.call_compiler.proofs.making.make.Goals as goal
 
 pub returns-in-Some : goal.returns-in-Some

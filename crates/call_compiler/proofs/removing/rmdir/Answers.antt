@@ -3,7 +3,7 @@ use Rattle.pathkey.specs.Keys.{Key}
 use Rattle.message.specs.declared.msg.Msg.TheVariants.{Del}
 use Rattle.pathkey.specs.Enc.{enc}
 use Rattle.call_compiler.proofs.Batches.{if_ok_both, compiled_rmdir}
-use Rattle.call_compiler.proofs.Faults.{rmdir_refused, rmdir_done}
+use Rattle.call_compiler.proofs.Answered.{rmdir_refused, rmdir_done}
 use Rattle.call_compiler.proofs.removing.rmdir.Goals as goal
 
 pub returns-in-Some : goal.returns-in-Some

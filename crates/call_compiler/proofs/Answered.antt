@@ -15,8 +15,6 @@ use Rattle.reference.specs.declared.reply.Reply.TheVariants.{Done, Fault}
 use Rattle.reference.proofs.Faults.{unless_fault}
 use Rattle.call_compiler.specs.Compiled.{Messages, if_done, IsAnswered, faults_of_rmdir}
 
--- ---- the replies
-
 -- the reply where the first fault is known
 pub replied_fault : (t : Tree) (faults : List (Option Errno)) (o : Outcome) (e : Errno) → Some e ≡ first_fault faults → Fault e ≡ (unless t faults o).1
 replied_fault t faults o e h = sym (ap (λ (x : Outcome). x.1) (unless_fault t faults o e (sym h)))
