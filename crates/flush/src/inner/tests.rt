@@ -1,6 +1,6 @@
 //! A flush of one slot, and of a new tree, which has none to flush.
 use super::*;
-use message::Changes;
+use message::{Changes, Pending};
 use pathkey::{KeyRange, NoMemory};
 
 /// An update that changes nothing.

@@ -1,0 +1,4 @@
+pub mod Replies
+pub mod Batches
+pub mod Answered
+pub mod Appending
