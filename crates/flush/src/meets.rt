@@ -5,19 +5,9 @@ ghost use Rattle.message.specs.Cuts.{cut_to};
 ghost use Rattle.message.specs.Ranges.{later_key, earlier_end};
 ghost use Rattle.pathkey.specs.Keys.{is_below};
 
-use message::ends::is_within;
+use message::ends::{earlier, is_before_end, is_within};
 use message::{Msg, Update};
 use pathkey::{Key, KeyRange};
-
-/// Whether the key stands before the end; `None` is no end.
-fn is_before(key: &Key, end: Option<&Key>) -> bool
-    ensures { result ≡ is_below key.now (option_copied end.entry) }
-{
-    match end {
-        None => true,
-        Some(end) => key.cmp(end).is_lt(),
-    }
-}
 
 /// Whether a key can lie both in the range and from `lo` up to and without `hi`. It takes no memory.
 fn overlaps(range: &KeyRange, lo: &Key, hi: Option<&Key>) -> bool
@@ -28,17 +18,7 @@ fn overlaps(range: &KeyRange, lo: &Key, hi: Option<&Key>) -> bool
     } else {
         lo
     };
-    match (hi, range.hi.as_ref()) {
-        (None, end) => is_before(from, end),
-        (Some(hi), None) => is_before(from, Some(hi)),
-        (Some(hi), Some(end)) => {
-            if hi.cmp(end).is_lt() {
-                is_before(from, Some(hi))
-            } else {
-                is_before(from, Some(end))
-            }
-        }
-    }
+    is_before_end(from, earlier(hi, range.hi.as_ref()))
 }
 
 /// Whether the message has a part from `lo` up to and without `hi`; `None` is no end. It takes no memory.
