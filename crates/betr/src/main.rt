@@ -1,7 +1,9 @@
 //! `betr`: runs the script on standard input over a new volume, and prints the replies to standard output.
 #![tactic(auto)]
 
-use shell::{Directories, ScriptFault, run_script};
+use call_compiler::Indexes;
+use node::Shape;
+use shell::{ScriptFault, run_script};
 use std::alloc::Global;
 use std::io;
 use std::io::{BufWriter, Read, Write};
@@ -26,13 +28,20 @@ fn main(rt: HostRuntime) -> anyhow::Result<ExitCode> {
     }
 }
 
+/// The shape of the trees: slots, pending pieces and entries of a node.
+const SHAPE: Shape = Shape {
+    fanout: 16,
+    pending: 256,
+    leaf: 256,
+};
+
 /// Runs a script over a new volume, with its replies gathered into large writes.
 fn run<R: Read, W: Write + Drop>(
     alloc: Global,
     reader: &mut R,
     writer: W,
 ) -> Result<(), ScriptFault> {
-    let Ok(mut volume) = Directories::new(alloc) else {
+    let Ok(mut volume) = Indexes::new(alloc, SHAPE) else {
         return Err(ScriptFault::Memory);
     };
     let Ok(mut output) = BufWriter::with_capacity(alloc, OUTPUT_BUFFER, writer) else {

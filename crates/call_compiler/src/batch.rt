@@ -1,8 +1,12 @@
 //! The indexes that a call asks, and the messages that it is compiled to.
-ghost use Rattle.std.specs.Prelude.{◌≡◌, [], ◌∷◌, IfOk};
+ghost use Rattle.std.specs.Prelude.{◌≡◌, [], ◌∷◌, IfOk, IsTrue};
+ghost use Rattle.meta_index.specs.Means.{IsMeantBy};
+ghost use Rattle.node.specs.Shapes.{is_shape};
+ghost use Rattle.reference.specs.Tree.{Dir, nothing};
 
 use message::Msg;
 use meta_index::{MetaIndex, MetaUpdate};
+use node::Shape;
 use pathkey::NoMemory;
 use reference::Reply;
 use std::alloc::Global;
@@ -12,6 +16,18 @@ use std::alloc::Global;
 pub struct Indexes {
     /// What stands at each path.
     pub meta: MetaIndex,
+}
+
+impl Indexes {
+    /// The indexes of the empty root directory, in new trees of this shape. It fails only for want of memory.
+    pub fn new(alloc: Global, shape: Shape) -> Result<Indexes, NoMemory>
+        requires { IsTrue (is_shape shape) }
+        ensures shape { IfOk result (λ i. i.meta.tree.shape ≡ shape) }
+        ensures empty { IfOk result (λ i. IsMeantBy (Dir nothing) i.meta) }
+    {
+        let meta = MetaIndex::new(alloc, shape)?;
+        Ok(Indexes { meta })
+    }
 }
 
 /// Messages for the indexes, the oldest first.

@@ -1,9 +1,8 @@
 //! What calls are answered, beside the replies that the table of calls gives.
 
 use super::*;
-use message::Msg;
-use meta_index::{Kind, Meta, MetaIndex};
-use node::{Shape, Tree};
+use meta_index::Kind;
+use node::Shape;
 use pathkey::{Errno, Path};
 use std::alloc::Global;
 use std::test::Fail;
@@ -17,16 +16,6 @@ const SHAPE: Shape = Shape {
 /// The path of a text. It ensures nothing, so that no proof of a test reads what a text parses as.
 fn path(alloc: Global, text: &[u8]) -> Result<Path, Errno> {
     Path::parse(alloc, text)
-}
-
-/// The indexes of the empty root directory.
-fn fresh(alloc: Global) -> Result<Indexes, Fail> {
-    let mut tree = Tree::new(alloc, SHAPE)?;
-    let mut msgs = Vec::new(alloc);
-    msgs.push(Msg::Put(Path::root(alloc).key().copy(alloc)?, Meta::Dir))?;
-    tree.append(alloc, msgs)?;
-    let meta = MetaIndex { tree };
-    Ok(Indexes { meta })
 }
 
 /// Does a call, and answers its reply and how many messages it took.
@@ -92,7 +81,7 @@ fn is_done(answer: &(Reply, usize)) -> bool {
 #[test]
 fn a_file_blocks_and_a_full_directory_stays(rt: HostRuntime) -> Result<(), Fail> {
     let alloc = rt.alloc();
-    let mut indexes = fresh(alloc)?;
+    let mut indexes = Indexes::new(alloc, SHAPE)?;
     assert!(rt; is_done(&mkdir(alloc, &mut indexes, b"/a")?));
     assert!(rt; is_done(&create(alloc, &mut indexes, b"/a/x")?));
     assert_eq!(rt;
@@ -114,7 +103,7 @@ fn a_file_blocks_and_a_full_directory_stays(rt: HostRuntime) -> Result<(), Fail>
 #[test]
 fn a_new_entry_wants_a_directory_above_and_a_free_name(rt: HostRuntime) -> Result<(), Fail> {
     let alloc = rt.alloc();
-    let mut indexes = fresh(alloc)?;
+    let mut indexes = Indexes::new(alloc, SHAPE)?;
     assert!(rt; is_done(&create(alloc, &mut indexes, b"/f")?));
     assert!(rt; is_done(&mkdir(alloc, &mut indexes, b"/a")?));
     for (text, wanted) in [
@@ -134,7 +123,7 @@ fn a_new_entry_wants_a_directory_above_and_a_free_name(rt: HostRuntime) -> Resul
 #[test]
 fn an_empty_directory_goes(rt: HostRuntime) -> Result<(), Fail> {
     let alloc = rt.alloc();
-    let mut indexes = fresh(alloc)?;
+    let mut indexes = Indexes::new(alloc, SHAPE)?;
     assert!(rt; is_done(&mkdir(alloc, &mut indexes, b"/a")?));
     assert!(rt; is_done(&create(alloc, &mut indexes, b"/f")?));
     for (text, wanted) in [
@@ -156,7 +145,7 @@ fn an_empty_directory_goes(rt: HostRuntime) -> Result<(), Fail> {
 #[test]
 fn what_stands_is_told(rt: HostRuntime) -> Result<(), Fail> {
     let alloc = rt.alloc();
-    let mut indexes = fresh(alloc)?;
+    let mut indexes = Indexes::new(alloc, SHAPE)?;
     assert!(rt; is_done(&mkdir(alloc, &mut indexes, b"/a")?));
     assert!(rt; is_done(&create(alloc, &mut indexes, b"/f")?));
     assert!(rt;

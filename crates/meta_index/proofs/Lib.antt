@@ -4,3 +4,4 @@ pub mod ChildKeys
 pub mod ChildOrder
 pub mod Listed
 pub mod Steps
+pub mod Fresh

@@ -1,18 +1,20 @@
 //! The metadata index, and what stands at a path.
-ghost use Rattle.std.specs.Prelude.{◌≡◌, IfOk, None, not};
+ghost use Rattle.std.specs.Prelude.{◌≡◌, IfOk, IsTrue, None, not};
 ghost use Rattle.meta_index.specs.Means.{IsMeantBy, metadata, told};
+ghost use Rattle.node.specs.Shapes.{is_shape};
 ghost use Rattle.pathkey.specs.Keys.{subtree};
 ghost use Rattle.reference.specs.Calls.{is_full, names_of, parent_fault};
 ghost use Rattle.reference.specs.Looks.{look};
 ghost use Rattle.reference.specs.Pairs.{pairs_of};
-ghost use Rattle.reference.specs.Tree.{Tree as DirectoryTree, entry_at};
+ghost use Rattle.reference.specs.Tree.{Dir, Tree as DirectoryTree, entry_at, nothing};
 ghost use Rattle.scan.specs.Pairs.{IsScan};
 
 use crate::at::At;
 use crate::entries::{child_at, keys_below, kind_of};
 use crate::update::MetaUpdate;
 use lookup::get;
-use node::Tree;
+use message::Msg;
+use node::{Shape, Tree};
 use pathkey::{Errno, Key, NoMemory, Path, subtree};
 use reference::{Kind, Meta};
 use scan::{first_in, scan};
@@ -26,6 +28,20 @@ pub struct MetaIndex {
 }
 
 impl MetaIndex {
+    /// The index of the empty root directory, whose entry waits as one message in a new tree. It fails only for want of
+    /// memory.
+    pub fn new(alloc: Global, shape: Shape) -> Result<MetaIndex, NoMemory>
+        requires { IsTrue (is_shape shape) }
+        ensures shape { IfOk result (λ m. m.tree.shape ≡ shape) }
+        ensures empty { IfOk result (λ m. IsMeantBy (Dir nothing) m) }
+    {
+        let mut tree = Tree::new(alloc, shape)?;
+        let mut msgs = Vec::with_capacity(alloc, 1)?;
+        msgs.push(Msg::Put(Key::new(alloc), Meta::Dir))?;
+        tree.append(alloc, msgs)?;
+        Ok(MetaIndex { tree })
+    }
+
     /// What stands at the path. It fails only for want of memory.
     pub fn find(&self, alloc: Global, path: &Path) -> Result<At, NoMemory>
         ensures { IfOk result (λ at. (t : DirectoryTree) → IsMeantBy t self.now → at ≡ told (entry_at t path.now)) }

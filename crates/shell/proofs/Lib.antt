@@ -5,6 +5,4 @@ pub mod Texts
 pub mod Progress
 pub mod Answering
 pub mod Reading
-pub mod Standing
-pub mod Making
 pub mod Executing

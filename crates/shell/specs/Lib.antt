@@ -5,5 +5,4 @@ pub mod Parts
 pub mod Script
 pub mod Runs
 pub mod Progress
-pub mod Nothing
-pub mod Directories
+pub mod Meant

@@ -1,12 +1,13 @@
 -- What a line of a script asks.
-use Rattle.std.specs.Prelude.{◌≡◌, ◌⊎◌, ⊤, ℕ, nat_lt, List, [], ◌∷◌, length, codes, bytes_eq, Result, Ok, Err, ◌==◌, if◌then◌else◌}
+use Rattle.std.specs.Prelude.{◌≡◌, ◌⊎◌, ⊤, ℕ, nat_lt, List, [], ◌∷◌, length, codes, bytes_eq, IsTrue, Result, Ok, Err, ◌==◌, if◌then◌else◌}
 use Rattle.percent_encoding.specs.Percent.{percent_decode}
 use Rattle.pathkey.specs.Names.{Path}
 use Rattle.pathkey.specs.Texts.{parsed}
 use Rattle.pathkey.specs.declared.errno.Errno.{Errno}
 use Rattle.pathkey.specs.declared.errno.Errno.TheVariants.{ENOMEM}
 use Rattle.reference.specs.declared.call.Call.{Call}
-use Rattle.reference.specs.declared.call.Call.TheVariants.{Mkdir, Stat as AskStat}
+use Rattle.reference.specs.declared.call.Call.TheVariants.{Mkdir, Create, Rmdir, Stat as AskStat, Readdir}
+use Rattle.call_compiler.specs.Compiled.{is_compiled}
 use Rattle.shell.specs.Lines.{words_of}
 use Rattle.shell.specs.declared.request.Request.{Request}
 use Rattle.shell.specs.declared.request.Request.TheVariants.{Silent, Overlong, Malformed, Refused, Wanted}
@@ -24,7 +25,10 @@ on_path call (Err e) = Refused e
 abbrev pub path_command : List ℕ → List ℕ → Request
 path_command name p =
     if bytes_eq name (codes "mkdir") then on_path Mkdir (path_of p)
+    else if bytes_eq name (codes "create") then on_path Create (path_of p)
+    else if bytes_eq name (codes "rmdir") then on_path Rmdir (path_of p)
     else if bytes_eq name (codes "stat") then on_path AskStat (path_of p)
+    else if bytes_eq name (codes "readdir") then on_path Readdir (path_of p)
     else Malformed
 
 -- the commands by their number of words
@@ -51,13 +55,7 @@ IsAsked _ = ⊥
 abbrev pub IsReadAs : Request → Request → Type 0
 IsReadAs wanted read = (read ≡ wanted) ⊎ ((read ≡ Refused ENOMEM) × IsAsked wanted)
 
--- the calls that a line can ask for
-abbrev pub IsServed : Call → Type 0
-IsServed (Mkdir p) = ⊤
-IsServed (AskStat p) = ⊤
-IsServed _ = ⊥
-
--- where the request is a call, it is one of these
+-- where the request is a call, it is one of those that are compiled
 abbrev pub AsksServed : Request → Type 0
-AsksServed (Wanted c) = IsServed c
+AsksServed (Wanted c) = IsTrue (is_compiled c)
 AsksServed _ = ⊤

@@ -48,8 +48,17 @@ fn read_path_command(alloc: Global, name: &[u8], word: &[u8]) -> Request
     if name == b"mkdir".as_slice() {
         return ask(read_path(alloc, word).map(Call::Mkdir));
     }
+    if name == b"create".as_slice() {
+        return ask(read_path(alloc, word).map(Call::Create));
+    }
+    if name == b"rmdir".as_slice() {
+        return ask(read_path(alloc, word).map(Call::Rmdir));
+    }
     if name == b"stat".as_slice() {
         return ask(read_path(alloc, word).map(Call::Stat));
+    }
+    if name == b"readdir".as_slice() {
+        return ask(read_path(alloc, word).map(Call::Readdir));
     }
     Request::Malformed
 }

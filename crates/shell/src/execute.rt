@@ -1,5 +1,6 @@
 //! What does the calls of a script.
-ghost use Rattle.shell.specs.Requests.{IsServed};
+ghost use Rattle.std.specs.Prelude.{IsTrue};
+ghost use Rattle.call_compiler.specs.Compiled.{is_compiled};
 ghost use Rattle.reference.specs.Worlds.{World, Ask, Replied, Fits, next};
 
 use reference::{Call, Reply};
@@ -12,7 +13,7 @@ pub trait Execute {
 
     /// Does a call: the reply fits each world that the state means, and the state then means the next one.
     fn execute(&mut self, alloc: Global, call: &Call) -> Reply
-        requires { IsServed call.now }
+        requires { IsTrue (is_compiled call.now) }
         ensures { (w : World) → means self.old w → Fits w (Ask call.now) (Replied result)
             × means self.new (next w (Ask call.now) (Replied result)) };
 }

@@ -6,8 +6,8 @@
 
 mod command;
 mod digits;
-mod directories;
 mod execute;
+mod indexes;
 mod input;
 mod output;
 mod reply;
@@ -16,7 +16,6 @@ mod script;
 mod words;
 
 pub use command::read_request;
-pub use directories::Directories;
 pub use execute::Execute;
 pub use output::WriteFailed;
 pub use reply::write_reply;

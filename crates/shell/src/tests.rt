@@ -1,14 +1,21 @@
 //! Scripts over readers and writers in memory, some of which fail, and the texts of replies.
 ghost use Rattle.std.specs.Prelude.{Some};
 
-use crate::directories::tests::waiting;
-use crate::{Directories, ScriptFault, run_script, write_reply};
+use crate::{ScriptFault, run_script, write_reply};
+use call_compiler::Indexes;
+use node::Shape;
 use pathkey::Errno;
 use reference::{FileBytes, Kind, Listing, Reply};
 use std::alloc::Global;
 use std::io;
 use std::io::{Read, Write};
 use std::test::Fail;
+
+const SHAPE: Shape = Shape {
+    fanout: 4,
+    pending: 4,
+    leaf: 4,
+};
 
 /// Gives a text, and fails where `cut` bytes are left.
 #[derive(Drop)]
@@ -60,9 +67,14 @@ impl Write for Small {
     }
 }
 
+/// How many messages wait in the index, the root directory's own among them.
+fn waiting(indexes: &Indexes) -> u128 {
+    indexes.meta.tree.shape_report().pending
+}
+
 /// What a script is answered where nothing stands but the root.
 fn answers(alloc: Global, script: &[u8]) -> Result<Vec<u8>, Fail> {
-    let mut state = Directories::new(alloc)?;
+    let mut state = Indexes::new(alloc, SHAPE)?;
     let mut out = Vec::new(alloc);
     let mut reader = script;
     run_script(alloc, &mut state, &mut reader, &mut out)?;
@@ -74,7 +86,24 @@ fn answers_each_line(rt: HostRuntime) -> Result<(), Fail> {
     let table = [
         (
             "mkdir /\nmkdir /a\nmkdir /a\nstat /b\ncreate /f\n",
-            "fault EEXIST\nok\nfault EEXIST\nfault ENOENT\nerror syntax\n",
+            "fault EEXIST\nok\nfault EEXIST\nfault ENOENT\nok\n",
+        ),
+        (
+            "mkdir /x/y\ncreate /x\nmkdir /x/y\n",
+            "fault ENOENT\nok\nfault ENOTDIR\n",
+        ),
+        (
+            "mkdir /a\ncreate /a/x\nrmdir /a\nstat /a/x/y\nreaddir /a/x\nreaddir /a\n",
+            "ok\nok\nfault ENOTEMPTY\nfault ENOTDIR\nfault ENOTDIR\nnames 1\nf x\n",
+        ),
+        (
+            "mkdir /a\ncreate /a\ncreate /b\nrmdir /b\nrmdir /\nrmdir /a\nreaddir /\nstat /b\n",
+            "ok\nfault EEXIST\nok\nfault ENOTDIR\nfault EBUSY\nok\nnames 1\nf b\nfile 0\n",
+        ),
+        ("readdir /\n", "names 0\n"),
+        (
+            "stat /a//b\nstat /a/\nstat a\nstat /..\nstat /%00\n",
+            "fault EINVAL\nfault EINVAL\nfault EINVAL\nfault EINVAL\nfault EINVAL\n",
         ),
         ("", ""),
         ("\n\n# a note\n#\n", ""),
@@ -111,6 +140,34 @@ fn answers_each_line(rt: HostRuntime) -> Result<(), Fail> {
 }
 
 #[test]
+fn measures_names(rt: HostRuntime) -> Result<(), Fail> {
+    for (length, want) in [(255, "ok\n"), (256, "fault ENAMETOOLONG\n")] {
+        let mut line = Vec::from_slice(rt.alloc(), b"create /")?;
+        line.resize(8 + length, b'n')?;
+        let got = answers(rt.alloc(), line.as_slice())?;
+        assert_eq!(rt; got.as_slice(), want.as_bytes(), "{length}");
+    }
+    Ok(())
+}
+
+#[test]
+fn a_done_call_waits_as_one_message(rt: HostRuntime) -> Result<(), Fail> {
+    let mut indexes = Indexes::new(rt.alloc(), SHAPE)?;
+    for (script, want) in [
+        ("", 1),
+        ("mkdir /a\n", 2),
+        ("create /a/x\n", 3),
+        ("stat /a/x\nreaddir /a\nmkdir /a\nrmdir /a\n", 3),
+        ("mkdir /b\nrmdir /b\n", 5),
+    ] {
+        let mut out = Vec::new(rt.alloc());
+        run_script(rt.alloc(), &mut indexes, &mut script.as_bytes(), &mut out)?;
+        assert_eq!(rt; waiting(&indexes), want, "{script:?}");
+    }
+    Ok(())
+}
+
+#[test]
 fn measures_long_lines(rt: HostRuntime) -> Result<(), Fail> {
     let table = [
         ("#", 65_536, ""),
@@ -135,16 +192,16 @@ fn measures_long_lines(rt: HostRuntime) -> Result<(), Fail> {
 #[test]
 fn stops_at_a_failing_read(rt: HostRuntime) -> Result<(), Fail> {
     let table = [
-        (0, "ok\ndir 0\n", 1),
-        (1, "ok\ndir 0\n", 1),
-        (8, "ok\ndir 0\n", 1),
-        (9, "ok\n", 1),
-        (16, "ok\n", 1),
-        (17, "", 0),
-        (25, "", 0),
+        (0, "ok\ndir 0\n", 2),
+        (1, "ok\ndir 0\n", 2),
+        (8, "ok\ndir 0\n", 2),
+        (9, "ok\n", 2),
+        (16, "ok\n", 2),
+        (17, "", 1),
+        (25, "", 1),
     ];
     for (cut, want, made) in table {
-        let mut state = Directories::new(rt.alloc())?;
+        let mut state = Indexes::new(rt.alloc(), SHAPE)?;
         let mut out = Vec::new(rt.alloc());
         let mut reader = Failing {
             text: b"mkdir /a\nstat /a\nmkdir /b",
@@ -162,7 +219,7 @@ fn stops_at_a_failing_read(rt: HostRuntime) -> Result<(), Fail> {
 fn stops_at_a_failing_write(rt: HostRuntime) -> Result<(), Fail> {
     let want = b"ok\ndir 0\nfault EEXIST\nok\n".as_slice();
     for most in 0..=want.len() {
-        let mut state = Directories::new(rt.alloc())?;
+        let mut state = Indexes::new(rt.alloc(), SHAPE)?;
         let mut reader = b"mkdir /a\nstat /a\nmkdir /a\nmkdir /b\n".as_slice();
         let mut writer = Small {
             got: Vec::new(rt.alloc()),
@@ -171,7 +228,7 @@ fn stops_at_a_failing_write(rt: HostRuntime) -> Result<(), Fail> {
         let ended = run_script(rt.alloc(), &mut state, &mut reader, &mut writer);
         assert_eq!(rt; ended.is_err(), most < want.len(), "{most}");
         assert_eq!(rt; writer.got.as_slice(), &want[..most], "{most}");
-        let made = if most < 22 { 1 } else { 2 };
+        let made = if most < 22 { 2 } else { 3 };
         assert_eq!(rt; waiting(&state), made, "{most}");
     }
     Ok(())
