@@ -7,7 +7,6 @@
 
 pub mod files;
 pub mod number;
-pub mod relief;
 pub mod work;
 
 use crate::files::{

@@ -1,6 +1,5 @@
 //! The same work on a tree and on a map of std.
 use crate::number::Set;
-use crate::relief::relieve;
 use lookup::get;
 use message::{Msg, Update};
 use node::node::count::held;
@@ -8,6 +7,7 @@ use node::{Body, Shape, Tree};
 use pathkey::{Key, NoMemory};
 use std::alloc::Global;
 use std::collections::BTreeMap;
+use tree_tests::relief::relieve;
 
 /// The shape of the trees.
 pub const SHAPE: Shape = Shape {

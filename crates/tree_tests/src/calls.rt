@@ -1,6 +1,6 @@
 //! File calls on compiled indexes, beside the plain program.
 use crate::Random;
-use crate::steps::{SMALL, some_step, take};
+use crate::steps::{SMALL, step};
 use call_compiler::{Indexes, compile, is_compiled};
 use message::Msg;
 use meta_index::MetaIndex;
@@ -96,13 +96,6 @@ impl Both {
         let plain = self.plain.call(alloc, call)?;
         Ok(are_equal(&reply, &plain).then_some(reply))
     }
-
-    /// Does a step of the indexes' tree.
-    fn step(&mut self, alloc: Global, random: &mut Random) {
-        let tree = &mut self.indexes.meta.tree;
-        let step = some_step(random, tree);
-        take(alloc, tree, step);
-    }
 }
 
 /// How often what can come of a call came.
@@ -181,7 +174,9 @@ fn calls_answer_as_the_plain_program(rt: HostRuntime) -> Result<(), Fail> {
             panic!(rt; "another reply in round {round}");
         };
         counts.count(&call, &reply);
-        both.step(alloc, &mut random);
+        if random.below(2) == 0 {
+            step(alloc, &mut random, &mut both.indexes.meta.tree);
+        }
     }
     assert!(rt; counts.least() >= 20, "{counts:?}");
     Ok(())

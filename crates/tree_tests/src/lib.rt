@@ -5,7 +5,9 @@
 
 pub mod digit;
 pub mod random;
+pub mod relief;
 pub mod row;
+pub mod steps;
 
 pub use digit::Digit;
 pub use random::Random;
@@ -13,7 +15,5 @@ pub use row::{KEYS, Message, Row, key};
 
 #[cfg(test)]
 mod calls;
-#[cfg(test)]
-mod steps;
 #[cfg(test)]
 mod tests;

@@ -1,20 +1,21 @@
 //! Steps of all eight kinds, at places that look random.
 use crate::Random;
-use flush::{flush_inner, flush_leaf, heaviest};
+use crate::relief::relieve;
+use flush::{flush_inner, flush_leaf};
 use message::Update;
-use node::{Place, Shape, StepKind, StepReply, Tree, TreeStep};
+use node::{Body, Node, Place, Shape, StepKind, StepReply, Tree, TreeStep};
 use split_merge::{drop_covered, merge_inner, merge_leaves, root_down, root_up, split_inner};
 use std::alloc::Global;
 
 /// The smallest shape.
-pub(crate) const SMALL: Shape = Shape {
+pub const SMALL: Shape = Shape {
     fanout: 4,
     pending: 4,
     leaf: 4,
 };
 
 /// Does a step.
-pub(crate) fn take<U: Update>(alloc: Global, tree: &mut Tree<U>, step: TreeStep) -> StepReply {
+pub fn take<U: Update>(alloc: Global, tree: &mut Tree<U>, step: TreeStep) -> StepReply {
     let TreeStep { kind, at, slot } = step;
     match kind {
         StepKind::FlushInner => flush_inner(alloc, tree, at, slot),
@@ -28,37 +29,52 @@ pub(crate) fn take<U: Update>(alloc: Global, tree: &mut Tree<U>, step: TreeStep)
     }
 }
 
-/// The step at the root's first slot.
-pub(crate) fn at_first(kind: StepKind) -> TreeStep {
-    TreeStep {
-        kind,
-        at: Place::root(),
-        slot: 0,
-    }
-}
-
-/// A place up to three levels below the root, and a slot.
-fn somewhere(random: &mut Random) -> (Place, u8) {
+/// The place of an inner node, and the number of a slot that it may have.
+fn somewhere<U: Update>(random: &mut Random, root: &Node<U>) -> (Place, u8) {
     let mut at = Place::root();
-    for _ in 0..random.below(4) {
-        at = at.under(random.below(4) as u8).unwrap_or(at);
+    let mut node = root;
+    for _ in 0..random.below(6) {
+        let number = random.below(4) as u8;
+        let (Some(below), Some(child)) = (at.under(number), inner_below(node, number)) else {
+            break;
+        };
+        at = below;
+        node = child;
     }
     (at, random.below(5) as u8)
 }
 
-/// A step of some kind: often what is heaviest.
-pub(crate) fn some_step<U: Update>(random: &mut Random, tree: &Tree<U>) -> TreeStep {
-    let (at, slot) = somewhere(random);
+/// The inner node below a slot.
+fn inner_below<U: Update>(node: &Node<U>, number: u8) -> Option<&Node<U>> {
+    let Body::Inner(slots) = node.body() else {
+        return None;
+    };
+    let child = &slots.get(number as usize)?.child;
+    if child.is_leaf() { None } else { Some(child) }
+}
+
+/// A step of some kind somewhere. Those that make a tree lower come more often than those that make it higher.
+fn some_step<U: Update>(random: &mut Random, root: &Node<U>) -> TreeStep {
+    let (at, slot) = somewhere(random, root);
     let kind = match random.below(20) {
-        0 => StepKind::FlushInner,
-        1 => StepKind::FlushLeaf,
-        2 | 3 => StepKind::SplitInner,
-        4 => StepKind::MergeLeaves,
-        5 => StepKind::MergeInner,
-        6 | 7 => StepKind::RootUp,
-        8 => StepKind::RootDown,
-        9 | 10 => StepKind::DropCovered,
-        _ => return heaviest(tree).unwrap_or(at_first(StepKind::MergeLeaves)),
+        0 | 1 | 2 | 3 => StepKind::FlushInner,
+        4 | 5 | 6 | 7 => StepKind::FlushLeaf,
+        8 => StepKind::SplitInner,
+        9 | 10 | 11 => StepKind::MergeLeaves,
+        12 | 13 | 14 => StepKind::MergeInner,
+        15 => StepKind::RootUp,
+        16 | 17 => StepKind::RootDown,
+        _ => StepKind::DropCovered,
     };
     TreeStep { kind, at, slot }
+}
+
+/// Does a step: one that relieves the heaviest slot, or one of any kind somewhere.
+pub fn step<U: Update>(alloc: Global, random: &mut Random, tree: &mut Tree<U>) {
+    if random.below(2) == 0 {
+        relieve(alloc, tree);
+        return;
+    }
+    let step = some_step(random, tree.root());
+    take(alloc, tree, step);
 }

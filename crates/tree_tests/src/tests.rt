@@ -1,13 +1,22 @@
 //! Steps on whole trees.
-use crate::steps::{SMALL, at_first, some_step, take};
+use crate::steps::{SMALL, step, take};
 use crate::{Digit, KEYS, Message, Random, Row, key};
 use flush::heaviest;
 use lookup::get;
 use message::Msg;
-use node::{ShapeReport, StepKind, StepReply, Tree};
+use node::{Place, ShapeReport, StepKind, StepReply, Tree, TreeStep};
 use pathkey::{Key, NoMemory};
 use std::alloc::Global;
 use std::test::Fail;
+
+/// The step at the root's first slot.
+fn at_first(kind: StepKind) -> TreeStep {
+    TreeStep {
+        kind,
+        at: Place::root(),
+        slot: 0,
+    }
+}
 
 /// Does a step at the root's first slot.
 fn take_first(alloc: Global, tree: &mut Tree<Digit>, kind: StepKind) -> StepReply {
@@ -195,8 +204,7 @@ fn no_step_changes_a_value(rt: HostRuntime) -> Result<(), Fail> {
     let mut pair = Pair::new(alloc)?;
     for round in 0..10_000 {
         pair.change(alloc, &mut random)?;
-        let step = some_step(&mut random, &pair.tree);
-        take(alloc, &mut pair.tree, step);
+        step(alloc, &mut random, &mut pair.tree);
         assert!(rt;
             pair.agrees_at(alloc, random.below(300) as usize)?,
             "round {round}"
@@ -214,8 +222,7 @@ fn shared_trees_never_change(rt: HostRuntime) -> Result<(), Fail> {
     let mut kept = Vec::new(alloc);
     for round in 0..10_000 {
         pair.change(alloc, &mut random)?;
-        let step = some_step(&mut random, &pair.tree);
-        take(alloc, &mut pair.tree, step);
+        step(alloc, &mut random, &mut pair.tree);
         if round % 100 == 0 {
             kept.push(Pair {
                 tree: pair.tree.share()?,

@@ -1,20 +1,9 @@
 //! Steps that make room.
-use flush::{flush_inner, flush_leaf, heaviest};
+use crate::steps::take;
+use flush::heaviest;
 use message::Update;
 use node::{Body, Node, Place, Slot, StepKind, StepReply, Tree, TreeStep};
-use split_merge::{root_up, split_inner};
 use std::alloc::Global;
-
-/// Does a step of those that grow a tree.
-fn take<U: Update>(alloc: Global, tree: &mut Tree<U>, step: TreeStep) -> StepReply {
-    match step.kind {
-        StepKind::FlushInner => flush_inner(alloc, tree, step.at, step.slot),
-        StepKind::FlushLeaf => flush_leaf(alloc, tree, step.at, step.slot),
-        StepKind::SplitInner => split_inner(alloc, tree, step.at, step.slot),
-        StepKind::RootUp => root_up(alloc, tree),
-        _ => StepReply::NotThere,
-    }
-}
 
 /// The slots of a node.
 fn slots_of<U: Update>(node: &Node<U>) -> Option<&Vec<Slot<U>>> {
