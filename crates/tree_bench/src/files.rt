@@ -127,7 +127,8 @@ pub fn list(
     let mut names = 0u64;
     for i in 0..count {
         let call = Call::Readdir(population.directory(alloc, i)?);
-        if let (Reply::Names(listing), _) = compile(alloc, indexes, &call)? {
+        let (reply, _batch) = compile(alloc, indexes, &call)?;
+        if let Reply::Names(listing) = reply {
             names = names.wrapping_add(listing.as_slice().len() as u64);
         }
     }
