@@ -2,16 +2,20 @@
 //!
 //! Without an argument it does a little of the work and says how much it found. `tree_bench measure` does all of it
 //! and prints nanoseconds an operation; `tree_bench tree` and `tree_bench map` do the appends alone, for a
-//! measurement of memory from outside.
+//! measurement of memory from outside. `tree_bench files` does file calls beside a map of the same paths.
 #![tactic(auto)]
 
+pub mod files;
 pub mod number;
-pub mod relief;
 pub mod work;
 
-use crate::work::{append, insert, look_up, look_up_map, new_tree, settle};
-use pathkey::NoMemory;
-use std::alloc::Global;
+use crate::files::{
+    Population, create, create_in_map, list, make_directories, stat, stat_in_map,
+};
+use crate::work::{SHAPE, append, insert, look_up, look_up_map, new_tree, settle};
+use call_compiler::Indexes;
+use meta_index::Meta;
+use pathkey::Key;
 use std::collections::BTreeMap;
 use std::io;
 use std::time::{Duration, Instant};
@@ -21,6 +25,23 @@ const KEYS: u64 = 100_000;
 
 /// How many messages are appended.
 const MESSAGES: u64 = 1_000_000;
+
+/// Large directories.
+const LARGE: Population = Population {
+    letter: 'l',
+    directories: 1000,
+    files: 100,
+};
+
+/// Small directories.
+const SMALL: Population = Population {
+    letter: 's',
+    directories: 100,
+    files: 10,
+};
+
+/// How many directories are listed.
+const LISTINGS: u64 = 10_000;
 
 fn main(rt: HostRuntime) -> anyhow::Result<()> {
     let alloc = rt.alloc();
@@ -34,6 +55,7 @@ fn main(rt: HostRuntime) -> anyhow::Result<()> {
             MESSAGES,
             MESSAGES,
         )?,
+        Some(word) if word.as_str() == "files" => file_calls(&rt)?,
         Some(_) => insert(alloc, &mut BTreeMap::new(alloc), MESSAGES, MESSAGES)?,
     }
     Ok(())
@@ -48,6 +70,12 @@ fn little(rt: &HostRuntime) -> anyhow::Result<()> {
     let found = look_up(alloc, &tree, 1000, 1000)?;
     let pending = tree.shape_report().pending;
     println!(rt; "{found} found, {pending} pending")?;
+    let mut indexes = Indexes::new(alloc, SHAPE)?;
+    make_directories(alloc, &mut indexes, SMALL)?;
+    let made = create(alloc, &mut indexes, SMALL)?;
+    let stood = stat(alloc, &indexes, SMALL, 2000)?;
+    let names = list(alloc, &indexes, SMALL, 100)?;
+    println!(rt; "{made} made, {stood} stood there, {names} names")?;
     Ok(())
 }
 
@@ -96,5 +124,63 @@ fn appends(rt: &HostRuntime) -> anyhow::Result<()> {
     let (levels, entries, pending) = (report.levels, report.entries, report.pending);
     println!(rt; "{levels} levels, {entries} entries, {pending} pending")?;
     println!(rt; "append: tree {tree_time} ns, map {map_time} ns")?;
+    Ok(())
+}
+
+/// File calls on indexes, and the same paths in a map.
+fn file_calls(rt: &HostRuntime) -> anyhow::Result<()> {
+    let alloc = rt.alloc();
+    let mut indexes = Indexes::new(alloc, SHAPE)?;
+    let mut map = BTreeMap::new(alloc);
+    for population in [SMALL, LARGE] {
+        make_directories(alloc, &mut indexes, population)?;
+    }
+    create(alloc, &mut indexes, SMALL)?;
+    creates(rt, &mut indexes, &mut map)?;
+    let steps = settle(alloc, &mut indexes.meta.tree);
+    println!(rt; "settled in {steps} steps")?;
+    stats(rt, &indexes, &map)?;
+    listings(rt, &indexes, SMALL)?;
+    listings(rt, &indexes, LARGE)
+}
+
+/// The files of the large directories.
+fn creates(
+    rt: &HostRuntime,
+    indexes: &mut Indexes,
+    map: &mut BTreeMap<Key, Meta>,
+) -> anyhow::Result<()> {
+    let alloc = rt.alloc();
+    let start = Instant::now(rt)?;
+    let made = create(alloc, indexes, LARGE)?;
+    let time = each(start.elapsed(rt)?, LARGE.count());
+    let start = Instant::now(rt)?;
+    create_in_map(alloc, map, LARGE)?;
+    let map_time = each(start.elapsed(rt)?, LARGE.count());
+    println!(rt; "create: {time} ns, map {map_time} ns; made {made}")?;
+    Ok(())
+}
+
+/// Files of the large directories in an order that looks random.
+fn stats(rt: &HostRuntime, indexes: &Indexes, map: &BTreeMap<Key, Meta>) -> anyhow::Result<()> {
+    let alloc = rt.alloc();
+    let start = Instant::now(rt)?;
+    let stood = stat(alloc, indexes, LARGE, MESSAGES)?;
+    let time = each(start.elapsed(rt)?, MESSAGES);
+    let start = Instant::now(rt)?;
+    let there = stat_in_map(alloc, map, LARGE, MESSAGES)?;
+    let map_time = each(start.elapsed(rt)?, MESSAGES);
+    println!(rt; "stat: {time} ns, map {map_time} ns; found {stood} and {there}")?;
+    Ok(())
+}
+
+/// The directories of a population in turn.
+fn listings(rt: &HostRuntime, indexes: &Indexes, population: Population) -> anyhow::Result<()> {
+    let alloc = rt.alloc();
+    let start = Instant::now(rt)?;
+    let names = list(alloc, indexes, population, LISTINGS)?;
+    let time = each(start.elapsed(rt)?, LISTINGS);
+    let files = population.files;
+    println!(rt; "readdir of {files} names: {time} ns; {names} names in all")?;
     Ok(())
 }

@@ -1,16 +1,16 @@
 //! The same work on a tree and on a map of std.
 use crate::number::Set;
-use crate::relief::relieve;
 use lookup::get;
-use message::Msg;
+use message::{Msg, Update};
 use node::node::count::held;
 use node::{Body, Shape, Tree};
 use pathkey::{Key, NoMemory};
 use std::alloc::Global;
 use std::collections::BTreeMap;
+use tree_tests::relief::relieve;
 
-/// The shape of the tree.
-const SHAPE: Shape = Shape {
+/// The shape of the trees.
+pub const SHAPE: Shape = Shape {
     fanout: 16,
     pending: 256,
     leaf: 256,
@@ -19,20 +19,35 @@ const SHAPE: Shape = Shape {
 /// How many pieces may wait in the root.
 const ROOT_LIMIT: usize = 4096;
 
+/// A number for each number, far from those of its neighbours.
+pub fn scattered(number: u64) -> u64 {
+    number.wrapping_mul(0x9E37_79B9_7F4A_7C15)
+}
+
 /// The key with a number: eight bytes in which neighbours lie far apart.
 fn key(alloc: Global, number: u64) -> Result<Key, NoMemory> {
-    Key::from_bytes(
-        alloc,
-        &number.wrapping_mul(0x9E37_79B9_7F4A_7C15).to_be_bytes(),
-    )
+    Key::from_bytes(alloc, &scattered(number).to_be_bytes())
 }
 
 /// How many messages wait in the root.
-fn waiting(tree: &Tree<Set>) -> usize {
+fn waiting<U: Update>(tree: &Tree<U>) -> usize {
     match tree.root().body() {
         Body::Inner(slots) => held(slots.as_slice()),
         Body::Leaf(_) => 0,
     }
+}
+
+/// Appends messages, and flushes once where the root has too many.
+pub fn append_batch<U: Update>(
+    alloc: Global,
+    tree: &mut Tree<U>,
+    batch: Vec<Msg<U>>,
+) -> Result<(), NoMemory> {
+    tree.append(alloc, batch)?;
+    if waiting(tree) > ROOT_LIMIT && !relieve(alloc, tree) {
+        return Err(NoMemory);
+    }
+    Ok(())
 }
 
 /// Puts the keys below `keys` into the tree in turn, `count` times in all; flushes while the root has too many.
@@ -41,10 +56,7 @@ pub fn append(alloc: Global, tree: &mut Tree<Set>, keys: u64, count: u64) -> Res
         let number = i.checked_rem(keys).unwrap_or(0);
         let mut one = Vec::with_capacity(alloc, 1)?;
         one.push(Msg::Put(key(alloc, number)?, i))?;
-        tree.append(alloc, one)?;
-        if waiting(tree) > ROOT_LIMIT && !relieve(alloc, tree) {
-            return Err(NoMemory);
-        }
+        append_batch(alloc, tree, one)?;
     }
     Ok(())
 }
@@ -55,7 +67,7 @@ pub fn new_tree(alloc: Global) -> Result<Tree<Set>, NoMemory> {
 }
 
 /// Flushes until nothing is pending; gives the number of steps.
-pub fn settle(alloc: Global, tree: &mut Tree<Set>) -> u64 {
+pub fn settle<U: Update>(alloc: Global, tree: &mut Tree<U>) -> u64 {
     for steps in 0..10_000_000 {
         if !relieve(alloc, tree) {
             return steps;

@@ -1,35 +1,13 @@
 //! Steps on whole trees.
+use crate::steps::{SMALL, step, take};
 use crate::{Digit, KEYS, Message, Random, Row, key};
-use flush::{flush_inner, flush_leaf, heaviest};
+use flush::heaviest;
 use lookup::get;
 use message::Msg;
-use node::{Place, Shape, ShapeReport, StepKind, StepReply, Tree, TreeStep};
+use node::{Place, ShapeReport, StepKind, StepReply, Tree, TreeStep};
 use pathkey::{Key, NoMemory};
-use split_merge::{drop_covered, merge_inner, merge_leaves, root_down, root_up, split_inner};
 use std::alloc::Global;
 use std::test::Fail;
-
-/// The smallest shape.
-const SMALL: Shape = Shape {
-    fanout: 4,
-    pending: 4,
-    leaf: 4,
-};
-
-/// Does a step.
-fn take(alloc: Global, tree: &mut Tree<Digit>, step: TreeStep) -> StepReply {
-    let TreeStep { kind, at, slot } = step;
-    match kind {
-        StepKind::FlushInner => flush_inner(alloc, tree, at, slot),
-        StepKind::FlushLeaf => flush_leaf(alloc, tree, at, slot),
-        StepKind::SplitInner => split_inner(alloc, tree, at, slot),
-        StepKind::MergeLeaves => merge_leaves(alloc, tree, at, slot),
-        StepKind::MergeInner => merge_inner(alloc, tree, at, slot),
-        StepKind::RootUp => root_up(alloc, tree),
-        StepKind::RootDown => root_down(alloc, tree),
-        StepKind::DropCovered => drop_covered(alloc, tree, at, slot),
-    }
-}
 
 /// The step at the root's first slot.
 fn at_first(kind: StepKind) -> TreeStep {
@@ -219,32 +197,6 @@ impl Pair {
     }
 }
 
-/// A place up to three levels below the root, and a slot.
-fn somewhere(random: &mut Random) -> (Place, u8) {
-    let mut at = Place::root();
-    for _ in 0..random.below(4) {
-        at = at.under(random.below(4) as u8).unwrap_or(at);
-    }
-    (at, random.below(5) as u8)
-}
-
-/// A step of some kind: often what is heaviest.
-fn some_step(random: &mut Random, tree: &Tree<Digit>) -> TreeStep {
-    let (at, slot) = somewhere(random);
-    let kind = match random.below(20) {
-        0 => StepKind::FlushInner,
-        1 => StepKind::FlushLeaf,
-        2 | 3 => StepKind::SplitInner,
-        4 => StepKind::MergeLeaves,
-        5 => StepKind::MergeInner,
-        6 | 7 => StepKind::RootUp,
-        8 => StepKind::RootDown,
-        9 | 10 => StepKind::DropCovered,
-        _ => return heaviest(tree).unwrap_or(at_first(StepKind::MergeLeaves)),
-    };
-    TreeStep { kind, at, slot }
-}
-
 #[test]
 fn no_step_changes_a_value(rt: HostRuntime) -> Result<(), Fail> {
     let alloc = rt.alloc();
@@ -252,8 +204,7 @@ fn no_step_changes_a_value(rt: HostRuntime) -> Result<(), Fail> {
     let mut pair = Pair::new(alloc)?;
     for round in 0..10_000 {
         pair.change(alloc, &mut random)?;
-        let step = some_step(&mut random, &pair.tree);
-        take(alloc, &mut pair.tree, step);
+        step(alloc, &mut random, &mut pair.tree);
         assert!(rt;
             pair.agrees_at(alloc, random.below(300) as usize)?,
             "round {round}"
@@ -271,8 +222,7 @@ fn shared_trees_never_change(rt: HostRuntime) -> Result<(), Fail> {
     let mut kept = Vec::new(alloc);
     for round in 0..10_000 {
         pair.change(alloc, &mut random)?;
-        let step = some_step(&mut random, &pair.tree);
-        take(alloc, &mut pair.tree, step);
+        step(alloc, &mut random, &mut pair.tree);
         if round % 100 == 0 {
             kept.push(Pair {
                 tree: pair.tree.share()?,

@@ -1,23 +1,12 @@
 //! Steps that make room.
-use crate::number::Set;
-use flush::{flush_inner, flush_leaf, heaviest};
+use crate::steps::take;
+use flush::heaviest;
+use message::Update;
 use node::{Body, Node, Place, Slot, StepKind, StepReply, Tree, TreeStep};
-use split_merge::{root_up, split_inner};
 use std::alloc::Global;
 
-/// Does a step of those that grow a tree.
-fn take(alloc: Global, tree: &mut Tree<Set>, step: TreeStep) -> StepReply {
-    match step.kind {
-        StepKind::FlushInner => flush_inner(alloc, tree, step.at, step.slot),
-        StepKind::FlushLeaf => flush_leaf(alloc, tree, step.at, step.slot),
-        StepKind::SplitInner => split_inner(alloc, tree, step.at, step.slot),
-        StepKind::RootUp => root_up(alloc, tree),
-        _ => StepReply::NotThere,
-    }
-}
-
 /// The slots of a node.
-fn slots_of(node: &Node<Set>) -> Option<&Vec<Slot<Set>>> {
+fn slots_of<U: Update>(node: &Node<U>) -> Option<&Vec<Slot<U>>> {
     match node.body() {
         Body::Inner(slots) => Some(slots),
         Body::Leaf(_) => None,
@@ -25,7 +14,7 @@ fn slots_of(node: &Node<Set>) -> Option<&Vec<Slot<Set>>> {
 }
 
 /// The slots of the node that these numbers lead to.
-fn slots_at<'a>(root: &'a Node<Set>, numbers: &[u8]) -> Option<&'a Vec<Slot<Set>>> {
+fn slots_at<'a, U: Update>(root: &'a Node<U>, numbers: &[u8]) -> Option<&'a Vec<Slot<U>>> {
     let mut slots = slots_of(root)?;
     for number in numbers {
         slots = slots_of(&slots.get(*number as usize)?.child)?;
@@ -43,7 +32,7 @@ fn place_of(numbers: &[u8]) -> Option<Place> {
 }
 
 /// The flush of the fullest slot of the node at a place.
-fn flush_of_fullest(tree: &Tree<Set>, at: Place) -> Option<TreeStep> {
+fn flush_of_fullest<U: Update>(tree: &Tree<U>, at: Place) -> Option<TreeStep> {
     let slots = slots_at(tree.root(), at.numbers())?;
     let mut fullest = 0;
     for (i, slot) in slots.iter().enumerate() {
@@ -64,7 +53,7 @@ fn flush_of_fullest(tree: &Tree<Set>, at: Place) -> Option<TreeStep> {
 }
 
 /// The step that gives the node at a place room for one slot more or for more pieces.
-fn widen(tree: &Tree<Set>, at: Place) -> Option<TreeStep> {
+fn widen<U: Update>(tree: &Tree<U>, at: Place) -> Option<TreeStep> {
     let numbers = at.numbers();
     let slots = slots_at(tree.root(), numbers)?;
     if slots.len() < tree.shape().fanout as usize {
@@ -85,7 +74,7 @@ fn widen(tree: &Tree<Set>, at: Place) -> Option<TreeStep> {
 }
 
 /// The step without which this one has no room.
-fn before(tree: &Tree<Set>, step: TreeStep) -> Option<TreeStep> {
+fn before<U: Update>(tree: &Tree<U>, step: TreeStep) -> Option<TreeStep> {
     match step.kind {
         StepKind::FlushInner => flush_of_fullest(tree, step.at.under(step.slot)?),
         StepKind::FlushLeaf | StepKind::SplitInner => widen(tree, step.at),
@@ -94,7 +83,7 @@ fn before(tree: &Tree<Set>, step: TreeStep) -> Option<TreeStep> {
 }
 
 /// Flushes the heaviest slot, or does the first step that makes room for it; says whether it did one.
-pub fn relieve(alloc: Global, tree: &mut Tree<Set>) -> bool {
+pub fn relieve<U: Update>(alloc: Global, tree: &mut Tree<U>) -> bool {
     let mut next = heaviest(tree);
     for _ in 0..64 {
         let Some(step) = next else {

@@ -1,0 +1,165 @@
+//! A long script line by line, with steps of the tree between, beside the plain program.
+use crate::Random;
+use crate::steps::{SMALL, step};
+use call_compiler::Indexes;
+use pathkey::Errno;
+use reference::plain::World;
+use reference::{Call, Kind, Reply};
+use shell::{Request, read_request, run_script, write_reply};
+use std::alloc::Global;
+use std::test::Fail;
+
+/// One of four names, of which two begin as another does.
+fn some_name(random: &mut Random) -> &'static [u8] {
+    match random.below(4) {
+        0 => b"a",
+        1 => b"a!",
+        2 => b"ab",
+        _ => b"b",
+    }
+}
+
+/// The text of a path of at least so many names, and of at most four where `least` is no more.
+fn some_path(alloc: Global, random: &mut Random, least: u32) -> Result<Vec<u8>, Fail> {
+    let mut text = Vec::new(alloc);
+    for _ in 0..random.below(5).max(random.below(5)).max(least) {
+        text.push(b'/')?;
+        text.extend_from_slice(some_name(random))?;
+    }
+    if text.is_empty() {
+        text.push(b'/')?;
+    }
+    Ok(text)
+}
+
+/// A line that asks one of the five calls. Most files are made deep down, since none is ever taken out.
+fn some_line(alloc: Global, random: &mut Random) -> Result<Vec<u8>, Fail> {
+    let kind = random.below(16);
+    let is_deep = kind == 0 && random.below(8) > 0;
+    let path = some_path(alloc, random, if is_deep { 3 } else { 0 })?;
+    let word = match kind {
+        0 => b"create ".as_slice(),
+        1 | 2 | 3 | 4 | 5 => b"mkdir ",
+        6 | 7 | 8 | 9 | 10 => b"rmdir ",
+        11 | 12 | 13 => b"stat ",
+        _ => b"readdir ",
+    };
+    let mut line = Vec::from_slice(alloc, word)?;
+    line.extend_from_slice(path.as_slice())?;
+    Ok(line)
+}
+
+/// Indexes on which a script runs, and the plain program under the same calls.
+#[derive(Drop)]
+struct Both {
+    indexes: Indexes,
+    plain: World,
+}
+
+impl Both {
+    /// An empty root directory in both.
+    fn new(alloc: Global) -> Result<Both, Fail> {
+        Ok(Both {
+            indexes: Indexes::new(alloc, SMALL)?,
+            plain: World::new(alloc)?,
+        })
+    }
+
+    /// Does a line in both: the call and its reply, where the script's text is that of the plain program's reply.
+    fn answer(&mut self, alloc: Global, line: &[u8]) -> Result<Option<(Call, Reply)>, Fail> {
+        let Request::Wanted(call) = read_request(alloc, line) else {
+            return Ok(None);
+        };
+        let mut text = line;
+        let mut got = Vec::new(alloc);
+        run_script(alloc, &mut self.indexes, &mut text, &mut got)?;
+        let reply = self.plain.call(alloc, &call)?;
+        let mut want = Vec::new(alloc);
+        write_reply(&mut want, &reply)?;
+        Ok((got.as_slice() == want.as_slice()).then_some((call, reply)))
+    }
+}
+
+/// How often what can come of a call came.
+#[derive(Default, Debug, Drop)]
+struct Counts {
+    /// Directories made.
+    made: u32,
+    /// Files made.
+    created: u32,
+    /// Directories taken out.
+    removed: u32,
+    /// Paths at which a directory was found.
+    directories: u32,
+    /// Paths at which a file was found.
+    files: u32,
+    /// Listings without an entry.
+    empty: u32,
+    /// Listings with entries.
+    listings: u32,
+    /// `ENOENT`.
+    missing: u32,
+    /// `ENOTDIR`.
+    blocked: u32,
+    /// `EEXIST`.
+    taken: u32,
+    /// `ENOTEMPTY`.
+    full: u32,
+    /// `EBUSY`.
+    busy: u32,
+}
+
+impl Counts {
+    /// Counts a call with its reply.
+    fn count(&mut self, call: &Call, reply: &Reply) {
+        let counter = match (call, reply) {
+            (Call::Mkdir(_), Reply::Done) => &mut self.made,
+            (Call::Create(_), Reply::Done) => &mut self.created,
+            (Call::Rmdir(_), Reply::Done) => &mut self.removed,
+            (_, Reply::Stat(Kind::Dir, _)) => &mut self.directories,
+            (_, Reply::Stat(Kind::File, _)) => &mut self.files,
+            (_, Reply::Names(names)) if names.as_slice().is_empty() => &mut self.empty,
+            (_, Reply::Names(_)) => &mut self.listings,
+            (_, Reply::Fault(Errno::ENOENT)) => &mut self.missing,
+            (_, Reply::Fault(Errno::ENOTDIR)) => &mut self.blocked,
+            (_, Reply::Fault(Errno::EEXIST)) => &mut self.taken,
+            (_, Reply::Fault(Errno::ENOTEMPTY)) => &mut self.full,
+            (_, Reply::Fault(Errno::EBUSY)) => &mut self.busy,
+            _ => return,
+        };
+        *counter = counter.saturating_add(1);
+    }
+
+    /// The least of the counts.
+    fn least(&self) -> u32 {
+        let done = self.made.min(self.created).min(self.removed);
+        let found = self.directories.min(self.files);
+        let listed = self.empty.min(self.listings);
+        let faults = self.missing.min(self.blocked).min(self.taken);
+        done.min(found)
+            .min(listed)
+            .min(faults)
+            .min(self.full)
+            .min(self.busy)
+    }
+}
+
+#[test]
+fn a_script_answers_as_the_plain_program(rt: HostRuntime) -> Result<(), Fail> {
+    let alloc = rt.alloc();
+    let mut random = Random(5);
+    let mut both = Both::new(alloc)?;
+    let mut counts = Counts::default();
+    for round in 0..20_000 {
+        let line = some_line(alloc, &mut random)?;
+        let Some((call, reply)) = both.answer(alloc, line.as_slice())? else {
+            panic!(rt; "another reply in round {round}");
+        };
+        counts.count(&call, &reply);
+        if random.below(2) == 0 {
+            step(alloc, &mut random, &mut both.indexes.meta.tree);
+        }
+    }
+    assert!(rt; counts.least() >= 20, "{counts:?}");
+    Ok(())
+}
