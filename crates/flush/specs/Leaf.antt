@@ -8,7 +8,7 @@ use Rattle.node.specs.declared.step.StepReply.{StepReply}
 use Rattle.node.specs.declared.step.StepReply.TheVariants.{Did, NotThere, NoRoom, NoMemory}
 use Rattle.node.specs.Leaves.{Applied, IsDivided}
 use Rattle.node.specs.Meaning.{lookup}
-use Rattle.node.specs.Pure.{PNode, leaf, inner, PSlots, none, more}
+use Rattle.node.specs.Pure.{PNode, leaf, inner, none, more}
 use Rattle.node.specs.Rows.{can_flush_leaf}
 
 module _ {U V : Type 0} (means : U → Option V → Option V) where

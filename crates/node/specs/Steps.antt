@@ -1,6 +1,6 @@
 -- The steps at a slot: where each can be done, where it has no room, and what it has done. RootUp and RootDown have no
 -- slot: see RootSteps.
-use Rattle.std.specs.Prelude.{◌≡◌, ℕ, ◌+◌, ◌<◌, ◌≤◌, ◌↔◌, ◌⊎◌, IfSome, Bool, true, false, List, [], ◌∷◌, Option, Some, None, ⊤, MatchOption}
+use Rattle.std.specs.Prelude.{◌≡◌, ℕ, ◌<◌, ◌≤◌, ◌↔◌, IfSome, Bool, true, false, List, [], ◌∷◌, Option, Some, None, ⊤, MatchOption}
 use Rattle.node.specs.declared.shape.Shape.{Shape}
 use Rattle.node.specs.declared.step.StepReply.{StepReply}
 use Rattle.node.specs.declared.step.StepReply.TheVariants.{Did, NotThere, NoRoom, NoMemory}

@@ -1,5 +1,5 @@
 -- A slot over an inner node cut in two, in the words of its row.
-use Rattle.std.proofs.Common.{◌≡◌, ℕ, suc, ◌+◌, ◌<◌, ◌≤◌, Bool, true, false, List, [], ◌∷◌, ◌++◌, length, get_or, take, drop, map, refl, ap, sym, ◌∙◌, subst, arith, cond, Option, Some, None, pred}
+use Rattle.std.proofs.Common.{◌≡◌, ℕ, suc, ◌+◌, ◌<◌, ◌≤◌, Bool, true, List, [], ◌∷◌, ◌++◌, length, get_or, take, drop, map, refl, ap, sym, ◌∙◌, subst, arith, cond, Option, Some, None, pred}
 use Rattle.std.proofs.Math.ListN.{set}
 use Rattle.std.specs.List.{insert}
 use Rattle.pathkey.specs.Keys.{is_below}
@@ -15,7 +15,7 @@ use Rattle.node.specs.declared.step.StepKind.TheVariants.{SplitInner}
 use Rattle.node.specs.See.{see_slot}
 use Rattle.node.specs.Pure.{PNode, inner, PSlots, none, more, slots}
 use Rattle.node.specs.Meaning.{slots_value, begins_by}
-use Rattle.node.specs.Lawful.{IsLawfulNode, AreLawfulSlots, slot_count, pending, starts_at, next_lo}
+use Rattle.node.specs.Lawful.{IsLawfulNode, AreLawfulSlots, slot_count, starts_at, next_lo}
 use Rattle.node.specs.Rows.{range_count, CanPart}
 use Rattle.node.specs.Site.{joined}
 use Rattle.node.specs.Sinks.{first_lo, Sinks}

@@ -1,4 +1,4 @@
-use Rattle.std.proofs.Common.{refl, ap, sym, subst, ◌≤◌, ◌<◌, length, arith, ◌≡◌, map, ◌∙◌, add-one}
+use Rattle.std.proofs.Common.{refl, ap, sym, subst, ◌≤◌, ◌<◌, length, arith, map, ◌∙◌, add-one}
 use Rattle.std.proofs.Math.ListN.{set}
 use Rattle.node.specs.Pure.{slots}
 use Rattle.node.specs.Rows.{can_split_inner, range_count, CanPart}
