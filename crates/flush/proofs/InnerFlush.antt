@@ -56,7 +56,7 @@ module _ {U V : Type 0} where
 
   module _ (means : U → Option V → Option V) (shape : Shape) (root : Bool) (i : ℕ) (b a : PSlots U V) (lo : List ℕ) (at_i : slot_count b ≡ i) where
     -- what became of the slot
-    sunk : (n : ℕ) (ms : List (Msg U V)) (cs ds : PSlots U V) → 1 ≤ n → n ≤ length ms → HaveTaken means cs (parts None (take n ms) cs) ds → pending cs + piece_count (take n ms) cs ≤ shape.pending → (h : ℕ) (e : Option (List ℕ)) → AreLawfulSlots shape (more lo ms (inner cs) none) h e → Sinks means n e (more lo ms (inner cs) none) (more lo (drop n ms) (inner ds) none) × Formed means FlushInner n (more lo ms (inner cs) none) (more lo (drop n ms) (inner ds) none) × AreLawfulSlots shape (more lo (drop n ms) (inner ds) none) h e
+    sunk : (n : ℕ) (ms : List (Msg U V)) (cs ds : PSlots U V) → 1 ≤ n → n ≤ length ms → HaveTaken means cs (parts None (take n ms) cs) ds → pending cs + piece_count (take n ms) cs ≤ shape.pending → (h : ℕ) (e : Option (List ℕ)) → AreLawfulSlots shape (more lo ms (inner cs) none) h e → Sinks means n e (more lo ms (inner cs) none) (more lo (drop n ms) (inner ds) none) × Formed means FlushInner shape n (more lo ms (inner cs) none) (more lo (drop n ms) (inner ds) none) × AreLawfulSlots shape (more lo (drop n ms) (inner ds) none) h e
     sunk n ms cs ds one has t fits h e l = (
       sinks means shape n (pred h) lo e ms cs ds t l.2,
       record { lo = lo; msgs = ms; below = cs; grown = ds; some = one; has = has; was = refl; is = refl; same_slots = emptied-taken means (take n ms) cs ds t; pieces_grow = pending-taken means (take n ms) cs ds t },

@@ -22,7 +22,7 @@ use Rattle.node.specs.Pure.{PNode, leaf, inner, PSlots, none, more, slots}
 use Rattle.node.specs.Lawful.{Rises, AreLawfulSlots, slot_count, next_lo}
 use Rattle.node.specs.Leaves.{Applied, IsDivided, IsPlace}
 use Rattle.node.specs.Meaning.{lookup}
-use Rattle.node.specs.Rows.{can_flush_leaf, LeafHasNoRoom}
+use Rattle.node.specs.Rows.{can_flush_leaf, range_count, LeafHasNoRoom, CanPart, CannotPart, Overflows}
 use Rattle.node.specs.Site.{joined, slots_from}
 use Rattle.node.specs.Sinks.{Sinks}
 use Rattle.node.specs.Steps.{Formed, Replies}
@@ -33,7 +33,7 @@ use Rattle.node.proofs.Parting.{Parted, parted_pieces, parted_lawful, parted_sin
 use Rattle.node.proofs.Sinking.{touch_only-take, touch_only-drop}
 use Rattle.node.proofs.Splice.{slots-split, slots-set_split, slot_count-take, slots_from-joined, slot_count-joined, pending-joined, lawful-split}
 use Rattle.flush.specs.Sunk.{left}
-use Rattle.flush.specs.Leaf.{AddsNone, Absorbed, Filled, AfterOldest, KeptOne, IsHalved, HasRoom, LacksRoom}
+use Rattle.flush.specs.Leaf.{AddsNone, Absorbed, Filled, AfterOldest, KeptOne, IsHalved}
 
 -- what the code reads as the rest of a list
 abbrev pub rest : {T : Type 0} → List T → List T
@@ -84,13 +84,17 @@ module _ {U V : Type 0} (means : U → Option V → Option V) where
   stays_within most m es new r a (inl h) l = omega (arith, a.longer)
   stays_within most m es new r a (inr h) l = omega (arith, l, no_more [] [] None None new es (rising_applied means (m ∷ []) es new a r) r (λ k n. a.value k ∙ ap (λ o. effect means m k o) n ∙ h k n))
 
+  -- entries with a message that are too many
+  too_many : (most : ℕ) (m : Msg U V) (es new : List (List ℕ × V)) → Applied means (m ∷ []) es new → Rises [] None new → most < length new → Overflows means most es (m ∷ [])
+  too_many most m es new q r l = record { after = new; rises = r; same = q.value; many = l }
+
   -- ---- the flush in place
 
   -- what became of the slot whose leaf took messages
-  absorbed : (shape : Shape) (n : ℕ) (lo : List ℕ) (ms : List (Msg U V)) (es fs : List (List ℕ × V)) → 1 ≤ n → n ≤ length ms → Applied means (take n ms) es fs → (length es ≤ shape.leaf → length fs ≤ shape.leaf) → (h : ℕ) (e : Option (List ℕ)) → AreLawfulSlots shape (more lo ms (leaf es) none) h e → Sinks means n e (more lo ms (leaf es) none) (more lo (drop n ms) (leaf fs) none) × Formed means FlushLeaf n (more lo ms (leaf es) none) (more lo (drop n ms) (leaf fs) none) × AreLawfulSlots shape (more lo (drop n ms) (leaf fs) none) h e
+  absorbed : (shape : Shape) (n : ℕ) (lo : List ℕ) (ms : List (Msg U V)) (es fs : List (List ℕ × V)) → 1 ≤ n → n ≤ length ms → Applied means (take n ms) es fs → (length es ≤ shape.leaf → length fs ≤ shape.leaf) → (h : ℕ) (e : Option (List ℕ)) → AreLawfulSlots shape (more lo ms (leaf es) none) h e → Sinks means n e (more lo ms (leaf es) none) (more lo (drop n ms) (leaf fs) none) × Formed means FlushLeaf shape n (more lo ms (leaf es) none) (more lo (drop n ms) (leaf fs) none) × AreLawfulSlots shape (more lo (drop n ms) (leaf fs) none) h e
   absorbed shape n lo ms es fs one has a fits h e l = (
     record { starts = refl; below = λ k w. a.value k; above = λ k v w. refl },
-    record { lo = lo; msgs = ms; entries = es; some = one; has = has; was = refl; leaves = tt; uncut = λ z. (fs, refl); pieces_grow = omega arith },
+    record { lo = lo; msgs = ms; entries = es; some = one; has = has; was = refl; leaves = tt; uncut = λ z. (fs, refl); cut = λ z. absurd (omega arith); pieces_grow = omega arith },
     (l.0, touch_only-drop n lo e ms l.1, (l.2.0, fits l.2.1, a.rises lo e l.2.2 (touch_only-take n lo e ms l.1)), tt),
   )
 
@@ -151,19 +155,19 @@ module _ {U V : Type 0} (means : U → Option V → Option V) where
 
       module _ (tl : Takes means [] (pieces lo (Some pivot) ms) lm) (tr : Takes means [] (pieces pivot None ms) rm) where
         -- what became of the slot
-        cut_in_two : length new ≤ shape.leaf + 1 → (h : ℕ) (e : Option (List ℕ)) → AreLawfulSlots shape old h e → Sinks means 1 e old two × Formed means FlushLeaf 1 old two × AreLawfulSlots shape two h e
-        cut_in_two few h e l =
+        cut_in_two : Overflows means shape.leaf es (m ∷ []) → length new ≤ shape.leaf + 1 → (h : ℕ) (e : Option (List ℕ)) → AreLawfulSlots shape old h e → Sinks means 1 e old two × Formed means FlushLeaf shape 1 old two × AreLawfulSlots shape two h e
+        cut_in_two over few h e l =
             let q = leaf_parted tl tr in
             let sum : length new ≡ length front + length back = ap length d.parts ∙ length-append front back in
             let rise = d.rise lo e (p.rises lo e l.2.2 (touch_only-take 1 lo e (m ∷ ms) l.1)) in (
               parted_sinks means 1 lo pivot (m ∷ ms) lm rm (leaf es) (leaf front) (leaf back) q e,
-              record { lo = lo; msgs = m ∷ ms; entries = es; some = omega arith; has = omega arith; was = refl; leaves = tt; uncut = λ z. absurd (omega arith); pieces_grow = omega (arith, parted_pieces means 1 lo pivot (m ∷ ms) lm rm (leaf es) (leaf front) (leaf back) q) },
+              record { lo = lo; msgs = m ∷ ms; entries = es; some = omega arith; has = omega arith; was = refl; leaves = tt; uncut = λ z. absurd (omega arith); cut = λ z. over; pieces_grow = omega (arith, parted_pieces means 1 lo pivot (m ∷ ms) lm rm (leaf es) (leaf front) (leaf back) q) },
               parted_lawful means 1 lo pivot (m ∷ ms) lm rm (leaf es) (leaf front) (leaf back) q shape h e l.1 rise.0 rise.1 (l.2.0, omega (arith, few, sum, d.back_some), rise.2) (l.2.0, omega (arith, few, sum, d.front_some), rise.3),
             )
 
         -- what the cut of a leaf has done to the node
-        pub was_cut : HasRoom shape root (joined b (more lo (m ∷ ms) (leaf es) a)) ms → Replies means FlushLeaf shape root i (Did 1) (joined b (more lo (m ∷ ms) (leaf es) a)) (joined b (more lo lm (leaf front) (more pivot rm (leaf back) a)))
-        was_cut room h lp hi l able =
+        pub was_cut : Overflows means shape.leaf es (m ∷ []) → CanPart shape root (joined b (more lo (m ∷ ms) (leaf es) a)) 1 (range_count ms) → Replies means FlushLeaf shape root i (Did 1) (joined b (more lo (m ∷ ms) (leaf es) a)) (joined b (more lo lm (leaf front) (more pivot rm (leaf back) a)))
+        was_cut over room h lp hi l able =
             let n = slot_count-joined b (more lo (m ∷ ms) (leaf es) a) in
             let w = pending-joined b (more lo (m ∷ ms) (leaf es) a) in
             let q = leaf_parted tl tr in
@@ -171,7 +175,7 @@ module _ {U V : Type 0} (means : U → Option V → Option V) where
             let small : length es ≤ shape.leaf = here.2.1 in
             let few : length new ≤ shape.leaf + 1 = omega (arith, small, p.longer) in
             let grow = parted_pieces means 1 lo pivot (m ∷ ms) lm rm (leaf es) (leaf front) (leaf back) q in
-            replies_did means FlushLeaf shape root i 1 b old two a at_i refl tt tt refl (λ z. omega (arith, room.0, n)) (λ r z. let y = room.1 r (omega (arith, w, z)) in omega (arith, y, w, grow)) (λ g e w able. cut_in_two few g (next_lo e a) w) h lp hi l able
+            replies_did means FlushLeaf shape root i 1 b old two a at_i refl tt tt refl (λ z. omega (arith, room.0, n)) (λ r z. let y = room.1 r in omega (arith, y, w, grow)) (λ g e w able. cut_in_two over few g (next_lo e a) w) h lp hi l able
 
 -- ---- the same of the slots as the code writes them
 
@@ -229,25 +233,25 @@ module _ {U V : Type 0} (means : U → Option V → Option V) where
     kept t NoMemory new q o l = unfilled t (ap (λ (x : Slot U V). x.lo) q) (ap (λ (x : Slot U V). x.pending.0) q) (ap (λ (x : Slot U V). x.child.value) q)
 
     -- where the leaf is too large and cannot be cut
-    full : (ms : List (Msg U V)) (c : PNode U V) (new : List (List ℕ × V)) (z : PSlots U V) → AfterOldest means ms c new → Rises [] None new → shape.leaf < length new → LacksRoom shape root z (drop 1 ms) → LeafHasNoRoom means shape root z (more s.lo ms c after)
+    full : (ms : List (Msg U V)) (c : PNode U V) (new : List (List ℕ × V)) (z : PSlots U V) → AfterOldest means ms c new → Rises [] None new → shape.leaf < length new → CannotPart shape root z 1 (range_count (drop 1 ms)) → LeafHasNoRoom means shape root z (more s.lo ms c after)
     full [] c new z q r l o = absurd q
     full (m ∷ ms) (inner cs) new z q r l o = absurd q
-    full (m ∷ ms) (leaf es) new z q r l o = (record { after = new; rises = r; same = q.value; many = l }, o)
+    full (m ∷ ms) (leaf es) new z q r l o = (too_many means shape.leaf m es new q r l, o)
 
     -- the same of all slots
-    pub no_room : (new : List (List ℕ × V)) → AfterOldest means s.pending.0 s.child.value new → Rises [] None new → shape.leaf < length new → LacksRoom shape root (slots (map see_slot xs)) (drop 1 s.pending.0) → LeafHasNoRoom means shape root (slots (map see_slot xs)) (slots_from i (slots (map see_slot xs)))
+    pub no_room : (new : List (List ℕ × V)) → AfterOldest means s.pending.0 s.child.value new → Rises [] None new → shape.leaf < length new → CannotPart shape root (slots (map see_slot xs)) 1 (range_count (drop 1 s.pending.0)) → LeafHasNoRoom means shape root (slots (map see_slot xs)) (slots_from i (slots (map see_slot xs)))
     no_room new q r l o = subst (λ z. LeafHasNoRoom means shape root (slots (map see_slot xs)) z) (sym (ap (slots_from i) was ∙ slots_from-joined i before (more s.lo s.pending.0 s.child.value after) number)) (full s.pending.0 s.child.value new (slots (map see_slot xs)) q r l o)
 
     -- the leaf cut in two
-    cut : (ms : List (Msg U V)) (c : PNode U V) (new : List (List ℕ × V)) (l r : Slot U V) → AfterOldest means ms c new → IsHalved means s.lo new (drop 1 ms) l r → HasRoom shape root (joined before (more s.lo ms c after)) (drop 1 ms) → Replies means FlushLeaf shape root i (Did 1) (joined before (more s.lo ms c after)) (joined before (more l.lo l.pending.0 l.child.value (more r.lo r.pending.0 r.child.value after)))
-    cut [] c new l r q p o = absurd q
-    cut (m ∷ ms) (inner cs) new l r q p o = absurd q
-    cut (m ∷ ms) (leaf es) new l r q p o =
-        let core = was_cut means shape root i before after s.lo number m ms l.pending.0 r.pending.0 es new p.front p.back r.lo q p.divided p.left_msgs p.right_msgs o in
+    cut : (ms : List (Msg U V)) (c : PNode U V) (new : List (List ℕ × V)) (l r : Slot U V) → AfterOldest means ms c new → Rises [] None new → shape.leaf < length new → IsHalved means s.lo new (drop 1 ms) l r → CanPart shape root (joined before (more s.lo ms c after)) 1 (range_count (drop 1 ms)) → Replies means FlushLeaf shape root i (Did 1) (joined before (more s.lo ms c after)) (joined before (more l.lo l.pending.0 l.child.value (more r.lo r.pending.0 r.child.value after)))
+    cut [] c new l r q up many p o = absurd q
+    cut (m ∷ ms) (inner cs) new l r q up many p o = absurd q
+    cut (m ∷ ms) (leaf es) new l r q up many p o =
+        let core = was_cut means shape root i before after s.lo number m ms l.pending.0 r.pending.0 es new p.front p.back r.lo q p.divided p.left_msgs p.right_msgs (too_many means shape.leaf m es new q up many) o in
         subst (λ z. Replies means FlushLeaf shape root i (Did 1) (joined before (more s.lo (m ∷ ms) (leaf es) after)) z) (λ j. joined before (more (sym p.left_lo j) l.pending.0 (sym p.left_is j) (more r.lo r.pending.0 (sym p.right_is j) after))) core
 
     -- the same of all slots
-    pub halved : (new : List (List ℕ × V)) (l r : Slot U V) → AfterOldest means s.pending.0 s.child.value new → IsHalved means s.lo new (drop 1 s.pending.0) l r → HasRoom shape root (slots (map see_slot xs)) (drop 1 s.pending.0) → Replies means FlushLeaf shape root i (Did 1) (slots (map see_slot xs)) (slots (map see_slot (set (insert xs (suc i) r) i l)))
-    halved new l r q p o =
-        let core = cut s.pending.0 s.child.value new l r q p (subst (λ z. HasRoom shape root z (drop 1 s.pending.0)) was o) in
+    pub halved : (new : List (List ℕ × V)) (l r : Slot U V) → AfterOldest means s.pending.0 s.child.value new → Rises [] None new → shape.leaf < length new → IsHalved means s.lo new (drop 1 s.pending.0) l r → CanPart shape root (slots (map see_slot xs)) 1 (range_count (drop 1 s.pending.0)) → Replies means FlushLeaf shape root i (Did 1) (slots (map see_slot xs)) (slots (map see_slot (set (insert xs (suc i) r) i l)))
+    halved new l r q up many p o =
+        let core = cut s.pending.0 s.child.value new l r q up many p (subst (λ z. CanPart shape root z 1 (range_count (drop 1 s.pending.0))) was o) in
         subst (λ z. Replies means FlushLeaf shape root i (Did 1) z (slots (map see_slot (set (insert xs (suc i) r) i l)))) (sym was) (subst (λ z. Replies means FlushLeaf shape root i (Did 1) (joined before (more s.lo s.pending.0 s.child.value after)) z) (sym (slots-insert xs i l r h)) core)

@@ -1,17 +1,15 @@
 -- What becomes of one slot and its leaf when messages are applied to it.
-use Rattle.std.specs.Prelude.{◌≡◌, ℕ, ◌+◌, ◌-◌, ◌<◌, ◌≤◌, ◌⊎◌, Bool, false, List, [], ◌∷◌, Option, Some, None, length, take, drop, slice_index_or}
+use Rattle.std.specs.Prelude.{◌≡◌, ℕ, ◌≤◌, false, List, [], ◌∷◌, Option, Some, None, length, take, drop, slice_index_or}
 use Rattle.message.specs.declared.msg.Msg.{Msg}
 use Rattle.message.specs.Cuts.{pieces}
 use Rattle.message.specs.Effects.{effect, Takes}
 use Rattle.node.specs.declared.node.Slot.{Slot}
-use Rattle.node.specs.declared.shape.Shape.{Shape}
 use Rattle.node.specs.declared.step.StepReply.{StepReply}
 use Rattle.node.specs.declared.step.StepReply.TheVariants.{Did, NotThere, NoRoom, NoMemory}
-use Rattle.node.specs.Lawful.{slot_count, pending}
 use Rattle.node.specs.Leaves.{Applied, IsDivided}
 use Rattle.node.specs.Meaning.{lookup}
-use Rattle.node.specs.Pure.{PNode, leaf, inner, PSlots, none, more}
-use Rattle.node.specs.Rows.{range_count, can_flush_leaf}
+use Rattle.node.specs.Pure.{PNode, leaf, inner, none, more}
+use Rattle.node.specs.Rows.{can_flush_leaf}
 
 module _ {U V : Type 0} (means : U → Option V → Option V) where
   -- a key without a value has none after the message either
@@ -58,11 +56,3 @@ KeptOne (Did n) es s t = (n ≡ 1) × (t.lo ≡ s.lo) × (t.pending.0 ≡ drop 1
 KeptOne NotThere es s t = ⊥
 KeptOne NoRoom es s t = ⊥
 KeptOne NoMemory es s t = t ≡ s
-
--- a node with these slots can take one slot more, and the messages of one of them without the oldest in two parts
-abbrev pub HasRoom : {U V : Type 0} → Shape → Bool → PSlots U V → List (Msg U V) → Type 0
-HasRoom shape root ss rest = (slot_count ss < shape.fanout) × (root ≡ false → pending ss ≤ shape.pending → pending ss + range_count rest ≤ shape.pending + 1)
-
--- it cannot
-abbrev pub LacksRoom : {U V : Type 0} → Shape → Bool → PSlots U V → List (Msg U V) → Type 0
-LacksRoom shape root ss rest = (shape.fanout ≤ slot_count ss) ⊎ ((root ≡ false) × (shape.pending < (pending ss - 1) + range_count rest))

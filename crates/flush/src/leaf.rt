@@ -16,11 +16,11 @@ ghost use Rattle.node.specs.Site.{slots_from};
 ghost use Rattle.node.specs.Steps.{Answers, Replies};
 ghost use Rattle.node.specs.declared.step.StepKind.TheVariants.{FlushLeaf};
 ghost use Rattle.flush.specs.Sunk.{left};
-ghost use Rattle.flush.specs.Leaf.{AddsNone, Filled, AfterOldest, AfterOldestAt, KeptOne, IsHalved, HasRoom, LacksRoom};
+ghost use Rattle.flush.specs.Leaf.{AddsNone, Filled, AfterOldest, AfterOldestAt, KeptOne, IsHalved};
 
 use message::{Msg, Pending, Update};
 use node::node::append::pieces;
-use node::node::count::{held, ranges_in};
+use node::node::count::can_part;
 use node::node::leaf::{applied, apply, divide, position};
 use node::{Body, Change, Node, Place, Shape, Slot, StepReply, Tree};
 use pathkey::{Key, NoMemory};
@@ -174,18 +174,6 @@ fn keep<U: Update>(alloc: Global, slot: &mut Slot<U>, entries: Vec<(Key, U::Valu
     StepReply::Did(1)
 }
 
-/// Whether a node has room for one slot more and, below the root, for the range-deletes among `rest` that would stand
-/// in both parts of a slot whose oldest message is gone. It takes no memory.
-fn can_part<U: Update>(shape: Shape, root: bool, slots: &[Slot<U>], rest: &[Msg<U>]) -> bool
-    ensures room { result ≡ true → HasRoom shape root (slots_of (map see_slot slots.now)) rest.now }
-    ensures none { result ≡ false → LacksRoom shape root (slots_of (map see_slot slots.now)) rest.now }
-{
-    if slots.len() >= shape.fanout as usize {
-        return false;
-    }
-    root || held(slots).saturating_add(ranges_in(rest)) <= shape.pending as usize + 1
-}
-
 /// The halves of a slot from `lo` on: over the halves of the entries, each with its part of the messages.
 fn halves<U: Update>(
     alloc: Global,
@@ -240,7 +228,7 @@ fn part<U: Update>(
 {
     let slot = &slots[i];
     let rest = &slot.pending.as_slice()[1..];
-    if !can_part(shape, root, slots.as_slice(), rest) {
+    if !can_part(shape, root, slots.as_slice(), 1, rest) {
         return StepReply::NoRoom;
     }
     let Ok((left, right)) = halves(alloc, &slot.lo, entries, rest) else {

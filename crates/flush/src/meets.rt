@@ -27,7 +27,6 @@ pub fn meets<U: Update>(msg: &Msg<U>, lo: &Key, hi: Option<&Key>) -> bool
 {
     match msg {
         Msg::DelRange(range) => overlaps(range, lo, hi),
-        Msg::Put(key, _) | Msg::Edit(key, _) => is_within(key, lo, hi),
-        Msg::Del(key) => is_within(key, lo, hi),
+        Msg::Put(key, _) | Msg::Del(key) | Msg::Edit(key, _) => is_within(key, lo, hi),
     }
 }

@@ -53,7 +53,7 @@ module _ {U V : Type 0} where
   pub record Outcome (means : U → Option V → Option V) (kind : StepKind) (shape : Shape) (p : List ℕ) (i h : ℕ) (r : StepReply) (a b : PNode U V) : Type 0 where
     pub lawful : IsLawfulRoot shape b h
     pub same : (k : List ℕ) → value means b k ≡ value means a k
-    pub did : IfDid r (λ n. Stepped means kind n p i a b)
+    pub did : IfDid r (λ n. Stepped means kind shape n p i a b)
     pub others : IfDid r (λ n. OthersStay kind p i a b)
     pub there : r ≡ NotThere → ⊥
     pub full : r ≡ NoRoom → IfSome (slots_at p a) (HasNoRoom means kind shape (is_top p) i)
@@ -69,7 +69,7 @@ module _ {U V : Type 0} where
 
   module _ (means : U → Option V → Option V) (kind : StepKind) (shape : Shape) (i : ℕ) where
     -- what sinks keeps the slots
-    kept : (root : Bool) (n h : ℕ) (lo : List ℕ) (hi : Option (List ℕ)) (ss new : PSlots U V) → LawfulSlots shape root h lo hi ss → Done means kind n i hi ss new → LawfulSlots shape root h lo hi new → SlotsKept means shape root h lo hi ss new (Done means kind n i hi ss new)
+    kept : (root : Bool) (n h : ℕ) (lo : List ℕ) (hi : Option (List ℕ)) (ss new : PSlots U V) → LawfulSlots shape root h lo hi ss → Done means kind shape n i hi ss new → LawfulSlots shape root h lo hi new → SlotsKept means shape root h lo hi ss new (Done means kind shape n i hi ss new)
     kept root n h lo hi ss new l d m =
         let a = joined d.before (joined d.old d.after) in
         let b = joined d.before (joined d.new d.after) in
@@ -86,7 +86,7 @@ module _ {U V : Type 0} where
         }
 
     -- the other slots of the root stay
-    others : (n : ℕ) (p : List ℕ) (h : ℕ) (a : PNode U V) (ss new : PSlots U V) → IsLawfulRoot shape a h → slots_at p a ≡ Some ss → Done means kind n i (end_at p None a) ss new → OthersStay kind p i a (with_slots p new a)
+    others : (n : ℕ) (p : List ℕ) (h : ℕ) (a : PNode U V) (ss new : PSlots U V) → IsLawfulRoot shape a h → slots_at p a ≡ Some ss → Done means kind shape n i (end_at p None a) ss new → OthersStay kind p i a (with_slots p new a)
     others n p h (leaf es) ss new l e d = absurd l
     others n [] h (inner ts) ss new l e d =
         let q : ts ≡ ss = (cc) in
@@ -101,7 +101,7 @@ module _ {U V : Type 0} where
       -- what the reply at the place says of the tree
       outcome_by : (r : StepReply) → Replies means kind shape (is_top p) i r ss new → Outcome means kind shape p i h r a b
       outcome_by (Did n) q =
-          let k = root_kept means shape ss new (Done means kind n i (end_at p None a) ss new) p a h e (λ g lo m. let x = q g lo (end_at p None a) m able in kept (is_top p) n g lo (end_at p None a) ss new m x.0 x.1) l in
+          let k = root_kept means shape ss new (Done means kind shape n i (end_at p None a) ss new) p a h e (λ g lo m. let x = q g lo (end_at p None a) m able in kept (is_top p) n g lo (end_at p None a) ss new m x.0 x.1) l in
           record {
             lawful = subst (λ z. IsLawfulRoot shape z h) (sym is) k.0;
             same = λ x. ap (λ z. value means z x) is ∙ k.1 x;

@@ -3,7 +3,7 @@ use Rattle.std.specs.Prelude.{◌≡◌, ℕ, ◌+◌, ◌-◌, ◌*◌, ◌<◌
 use Rattle.message.specs.declared.msg.Msg.{Msg}
 use Rattle.message.specs.declared.msg.Msg.TheVariants.{Put, Del, DelRange, Edit}
 use Rattle.message.specs.Cuts.{pieces}
-use Rattle.message.specs.Effects.{effect}
+use Rattle.message.specs.Effects.{effects}
 use Rattle.message.specs.Ranges.{reaches}
 use Rattle.node.specs.declared.shape.Shape.{Shape}
 use Rattle.node.specs.Pure.{PNode, leaf, inner, PSlots, none, more, depth}
@@ -30,6 +30,17 @@ module _ {U V : Type 0} where
   abbrev pub emptied : PSlots U V → PSlots U V
   emptied none = none
   emptied (more lo ms n ss) = more lo [] n (emptied ss)
+
+  -- ---- split_inner, flush_leaf: one slot more
+
+  -- a node with these slots has room for one more, and, once so many messages have left, for so many others; a root
+  -- has room for any
+  abbrev pub CanPart : Shape → Bool → PSlots U V → ℕ → ℕ → Type 0
+  CanPart shape root ss gone added = (slot_count ss < shape.fanout) × (root ≡ false → pending ss + added ≤ shape.pending + gone)
+
+  -- it has not
+  abbrev pub CannotPart : Shape → Bool → PSlots U V → ℕ → ℕ → Type 0
+  CannotPart shape root ss gone added = (shape.fanout ≤ slot_count ss) ⊎ ((root ≡ false) × (shape.pending < (pending ss - gone) + added))
 
   -- ---- flush_inner
 
@@ -107,18 +118,6 @@ module _ {U V : Type 0} where
   AreLeaves none = ⊤
   AreLeaves (more lo ms (leaf es) ss) = AreLeaves ss
   AreLeaves (more lo ms (inner cs) ss) = ⊥
-
-  -- one slot over a leaf gave its oldest n messages to it; the leaf may have been cut, with the rest of the list
-  pub record FlushedLeaf (n : ℕ) (old new : PSlots U V) : Type 0 where
-    pub lo : List ℕ
-    pub msgs : List (Msg U V)
-    pub entries : List (List ℕ × V)
-    pub some : 1 ≤ n
-    pub has : n ≤ length msgs
-    pub was : old ≡ more lo msgs (leaf entries) none
-    pub leaves : AreLeaves new
-    pub uncut : slot_count new ≡ 1 → (e : List (List ℕ × V)) × (new ≡ more lo (drop n msgs) (leaf e) none)
-    pub pieces_grow : pending new ≤ length (drop n msgs) + (slot_count new - 1) * range_count (drop n msgs)
 
   -- ---- merge_leaves, merge_inner
 
@@ -218,17 +217,31 @@ module _ {U V : Type 0} (means : U → Option V → Option V) where
     pub bare : IsBare empty
     pub nothing : (k : List ℕ) → value means empty k ≡ None
 
-  -- after the message the leaf would have more than so many entries
-  pub record Overflows (most : ℕ) (es : List (List ℕ × V)) (m : Msg U V) : Type 0 where
+  -- after the messages a leaf with these entries would have more than so many
+  pub record Overflows (most : ℕ) (es : List (List ℕ × V)) (ms : List (Msg U V)) : Type 0 where
     pub after : List (List ℕ × V)
     pub rises : Rises [] None after
-    pub same : (k : List ℕ) → lookup after k ≡ effect means m k (lookup es k)
+    pub same : (k : List ℕ) → lookup after k ≡ effects means ms k (lookup es k)
     pub many : most < length after
 
-  -- after its oldest message the leaf below the first of `rest` is too large, and it cannot be cut in two: its
-  -- node, with the slots ss, has no room for one slot more or for the messages that would stand in both
+  -- one slot over a leaf gave its oldest n messages to it; the leaf was cut, with the rest of the list, only where it
+  -- would have more than `most` entries after those messages
+  pub record FlushedLeaf (most : ℕ) (n : ℕ) (old new : PSlots U V) : Type 0 where
+    pub lo : List ℕ
+    pub msgs : List (Msg U V)
+    pub entries : List (List ℕ × V)
+    pub some : 1 ≤ n
+    pub has : n ≤ length msgs
+    pub was : old ≡ more lo msgs (leaf entries) none
+    pub leaves : AreLeaves new
+    pub uncut : slot_count new ≡ 1 → (e : List (List ℕ × V)) × (new ≡ more lo (drop n msgs) (leaf e) none)
+    pub cut : 1 < slot_count new → Overflows most entries (take n msgs)
+    pub pieces_grow : pending new ≤ length (drop n msgs) + (slot_count new - 1) * range_count (drop n msgs)
+
+  -- after its oldest message the leaf below the first of `rest` is too large, and its node, with the slots ss, cannot
+  -- have two in the place of that one
   abbrev pub LeafHasNoRoom : Shape → Bool → PSlots U V → PSlots U V → Type 0
-  LeafHasNoRoom shape root ss (more lo (m ∷ ms) (leaf es) rest) = Overflows shape.leaf es m × ((shape.fanout ≤ slot_count ss) ⊎ ((root ≡ false) × (shape.pending < (pending ss - 1) + range_count ms)))
+  LeafHasNoRoom shape root ss (more lo (m ∷ ms) (leaf es) rest) = Overflows shape.leaf es (m ∷ []) × CannotPart shape root ss 1 (range_count ms)
   LeafHasNoRoom shape root ss (more lo (m ∷ ms) (inner cs) rest) = ⊥
   LeafHasNoRoom shape root ss (more lo [] n rest) = ⊥
   LeafHasNoRoom shape root ss none = ⊥

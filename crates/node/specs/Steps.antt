@@ -1,6 +1,6 @@
 -- The steps at a slot: where each can be done, where it has no room, and what it has done. RootUp and RootDown have no
 -- slot: see RootSteps.
-use Rattle.std.specs.Prelude.{◌≡◌, ℕ, ◌+◌, ◌<◌, ◌≤◌, ◌↔◌, ◌⊎◌, IfSome, Bool, true, false, List, [], ◌∷◌, Option, Some, None, ⊤, MatchOption}
+use Rattle.std.specs.Prelude.{◌≡◌, ℕ, ◌<◌, ◌≤◌, ◌↔◌, IfSome, Bool, true, false, List, [], ◌∷◌, Option, Some, None, ⊤, MatchOption}
 use Rattle.node.specs.declared.shape.Shape.{Shape}
 use Rattle.node.specs.declared.step.StepReply.{StepReply}
 use Rattle.node.specs.declared.step.StepReply.TheVariants.{Did, NotThere, NoRoom, NoMemory}
@@ -11,7 +11,7 @@ use Rattle.node.specs.Meaning.{value}
 use Rattle.node.specs.Lawful.{slot_count, pending, starts_at, AreLawfulSlots}
 use Rattle.node.specs.Site.{slots_at, with_slots, slots_from, end_at, Spliced}
 use Rattle.node.specs.Sinks.{Sinks, first_lo}
-use Rattle.node.specs.Rows.{can_flush_inner, IsFullBelow, FlushedInner, can_split_inner, ranges_first, SplitInTwo, can_flush_leaf, FlushedLeaf, LeafHasNoRoom, can_merge_leaves, can_merge_inner, AreTooMany, MergedLeaves, MergedInner, can_drop_covered, DroppedCovered}
+use Rattle.node.specs.Rows.{can_flush_inner, IsFullBelow, FlushedInner, can_split_inner, ranges_first, SplitInTwo, can_flush_leaf, FlushedLeaf, LeafHasNoRoom, CannotPart, can_merge_leaves, can_merge_inner, AreTooMany, MergedLeaves, MergedInner, can_drop_covered, DroppedCovered}
 
 -- how many slots of a node the step names
 abbrev pub width : StepKind → ℕ
@@ -41,23 +41,23 @@ module _ {U V : Type 0} (means : U → Option V → Option V) where
   abbrev pub HasNoRoom : StepKind → Shape → Bool → ℕ → PSlots U V → Type 0
   HasNoRoom FlushInner shape root i ss = IsFullBelow shape.pending (slots_from i ss)
   HasNoRoom FlushLeaf shape root i ss = LeafHasNoRoom means shape root ss (slots_from i ss)
-  HasNoRoom SplitInner shape root i ss = (shape.fanout ≤ slot_count ss) ⊎ ((root ≡ false) × (shape.pending < pending ss + ranges_first (slots_from i ss)))
+  HasNoRoom SplitInner shape root i ss = CannotPart shape root ss 0 (ranges_first (slots_from i ss))
   HasNoRoom MergeLeaves shape root i ss = AreTooMany shape (slots_from i ss)
   HasNoRoom MergeInner shape root i ss = AreTooMany shape (slots_from i ss)
   HasNoRoom RootUp shape root i ss = ⊥
   HasNoRoom RootDown shape root i ss = ⊥
   HasNoRoom DropCovered shape root i ss = ⊥
 
-  -- the slots `new` that Did n of a step put in the place of the slots `old`
-  abbrev pub Formed : StepKind → ℕ → PSlots U V → PSlots U V → Type 0
-  Formed FlushInner n old new = FlushedInner n old new
-  Formed FlushLeaf n old new = FlushedLeaf n old new
-  Formed SplitInner n old new = (n ≡ 0) × SplitInTwo old new
-  Formed MergeLeaves n old new = (n ≡ 0) × MergedLeaves old new
-  Formed MergeInner n old new = (n ≡ 0) × MergedInner old new
-  Formed RootUp n old new = ⊥
-  Formed RootDown n old new = ⊥
-  Formed DropCovered n old new = DroppedCovered means n old new
+  -- the slots `new` that Did n of a step in a tree of the shape put in the place of the slots `old`
+  abbrev pub Formed : StepKind → Shape → ℕ → PSlots U V → PSlots U V → Type 0
+  Formed FlushInner shape n old new = FlushedInner n old new
+  Formed FlushLeaf shape n old new = FlushedLeaf means shape.leaf n old new
+  Formed SplitInner shape n old new = (n ≡ 0) × SplitInTwo old new
+  Formed MergeLeaves shape n old new = (n ≡ 0) × MergedLeaves old new
+  Formed MergeInner shape n old new = (n ≡ 0) × MergedInner old new
+  Formed RootUp shape n old new = ⊥
+  Formed RootDown shape n old new = ⊥
+  Formed DropCovered shape n old new = DroppedCovered means n old new
 
 -- the slots of a node, with keys from lo up to and without hi, h levels above the leaves; a root has no limit of pending pieces
 pub record LawfulSlots {U V : Type 0} (shape : Shape) (root : Bool) (h : ℕ) (lo : List ℕ) (hi : Option (List ℕ)) (ss : PSlots U V) : Type 0 where
@@ -67,13 +67,13 @@ pub record LawfulSlots {U V : Type 0} (shape : Shape) (root : Bool) (h : ℕ) (l
   pub starts : starts_at lo ss
   pub each : AreLawfulSlots shape ss h hi
 
--- what Did n of a step at the slot with number i of a node has done to the node's slots, which end at hi
-abbrev pub Done : {U V : Type 0} → (U → Option V → Option V) → StepKind → ℕ → ℕ → Option (List ℕ) → PSlots U V → PSlots U V → Type 0
-Done means kind n i hi a b = Spliced (λ e old new. Sinks means n e old new × Formed means kind n old new) i (width kind) hi a b
+-- what Did n of a step at the slot with number i of a node of a tree of the shape has done to the node's slots, which end at hi
+abbrev pub Done : {U V : Type 0} → (U → Option V → Option V) → StepKind → Shape → ℕ → ℕ → Option (List ℕ) → PSlots U V → PSlots U V → Type 0
+Done means kind shape n i hi a b = Spliced (λ e old new. Sinks means n e old new × Formed means kind shape n old new) i (width kind) hi a b
 
 -- what a step's reply says of the node's slots before and after
 abbrev pub Replies : {U V : Type 0} → (U → Option V → Option V) → StepKind → Shape → Bool → ℕ → StepReply → PSlots U V → PSlots U V → Type 0
-Replies means kind shape root i (Did n) a b = (h : ℕ) (lo : List ℕ) (hi : Option (List ℕ)) → LawfulSlots shape root h lo hi a → can kind hi (slots_from i a) ≡ true → Done means kind n i hi a b × LawfulSlots shape root h lo hi b
+Replies means kind shape root i (Did n) a b = (h : ℕ) (lo : List ℕ) (hi : Option (List ℕ)) → LawfulSlots shape root h lo hi a → can kind hi (slots_from i a) ≡ true → Done means kind shape n i hi a b × LawfulSlots shape root h lo hi b
 Replies means kind shape root i NotThere a b = (b ≡ a) × ((hi : Option (List ℕ)) → can kind hi (slots_from i a) ≡ false)
 Replies means kind shape root i NoRoom a b = (b ≡ a) × HasNoRoom means kind shape root i a
 Replies means kind shape root i NoMemory a b = b ≡ a
@@ -113,13 +113,13 @@ abbrev pub root_width : StepKind → List ℕ → ℕ
 root_width kind [] = width kind
 root_width kind (j ∷ p) = 1
 
--- Did n of the step at the slot with number i of the node at the place made b of a
-pub record Stepped {U V : Type 0} (means : U → Option V → Option V) (kind : StepKind) (n : ℕ) (p : List ℕ) (i : ℕ) (a b : PNode U V) : Type 0 where
+-- in a tree of the shape Did n of the step at the slot with number i of the node at the place made b of a
+pub record Stepped {U V : Type 0} (means : U → Option V → Option V) (kind : StepKind) (shape : Shape) (n : ℕ) (p : List ℕ) (i : ℕ) (a b : PNode U V) : Type 0 where
   pub old : PSlots U V
   pub new : PSlots U V
   pub was : slots_at p a ≡ Some old
   pub is : b ≡ with_slots p new a
-  pub done : Done means kind n i (end_at p None a) old new
+  pub done : Done means kind shape n i (end_at p None a) old new
 
 -- every root slot that the step neither names nor lies below stays as it is
 abbrev pub OthersStay : {U V : Type 0} → StepKind → List ℕ → ℕ → PNode U V → PNode U V → Type 0
@@ -145,7 +145,7 @@ UnlessDid NoMemory P = P
 pub record Answers {U V : Type 0} (means : U → Option V → Option V) (kind : StepKind) (p : List ℕ) (i : ℕ) (r : StepReply) (a b : PTree U V) : Type 0 where
   pub value_kept : (k : List ℕ) → value means b.root k ≡ value means a.root k
   pub shape_kept : b.shape ≡ a.shape
-  pub did : IfDid r (λ n. Stepped means kind n p i a.root b.root)
+  pub did : IfDid r (λ n. Stepped means kind a.shape n p i a.root b.root)
   pub others_stay : IfDid r (λ n. OthersStay kind p i a.root b.root)
   pub not_there : (r ≡ NotThere) ↔ (there kind i p None a.root ≡ false)
   pub no_room : r ≡ NoRoom → IfSome (slots_at p a.root) (HasNoRoom means kind a.shape (is_top p) i)

@@ -90,7 +90,7 @@ module _ {U V : Type 0} where
     able_there hi ms c = ap (can_drop_covered hi) (slots_from-joined i b (more lo ms c a) at_i)
 
     -- what became of the slot
-    swept : (r : KeyRange) (ms : List (Msg U V)) (c : PNode U V) (h : ℕ) (e : Option (List ℕ)) → AreLawfulSlots shape (more lo (DelRange r ∷ ms) c none) h e → (reaches r.lo lo && ends_within e r.hi) ≡ true → Sinks means 1 e (more lo (DelRange r ∷ ms) c none) (more lo ms (bare lo c) none) × Formed means DropCovered 1 (more lo (DelRange r ∷ ms) c none) (more lo ms (bare lo c) none) × AreLawfulSlots shape (more lo ms (bare lo c) none) h e
+    swept : (r : KeyRange) (ms : List (Msg U V)) (c : PNode U V) (h : ℕ) (e : Option (List ℕ)) → AreLawfulSlots shape (more lo (DelRange r ∷ ms) c none) h e → (reaches r.lo lo && ends_within e r.hi) ≡ true → Sinks means 1 e (more lo (DelRange r ∷ ms) c none) (more lo ms (bare lo c) none) × Formed means DropCovered shape 1 (more lo (DelRange r ∷ ms) c none) (more lo ms (bare lo c) none) × AreLawfulSlots shape (more lo ms (bare lo c) none) h e
     swept r ms c h e l covers =
         let below = lawful_bare shape c (pred h) lo lo e e l.0 l.2 in (
           sinks means lo e r ms c covers,

@@ -49,7 +49,7 @@ module _ {U V : Type 0} (means : U → Option V → Option V) (S : Shape) where
   record StandsFor (kind : StepKind) (l r c : PNode U V) : Type 0 where
     lawful : (h : ℕ) (lo p : List ℕ) (e : Option (List ℕ)) → IsLawfulNode S l h lo (Some p) → IsLawfulNode S r h p e → before lo p ≡ true → is_below p e ≡ true → IsLawfulNode S c h lo e
     same : (h : ℕ) (lo p : List ℕ) (e : Option (List ℕ)) (k : List ℕ) → IsLawfulNode S l h lo (Some p) → IsLawfulNode S r h p e → value means c k ≡ cond (reaches p k) (value means r k) (value means l k)
-    formed : (lo p : List ℕ) (lm rm ms : List (Msg U V)) → length ms ≤ length lm + length rm → Formed means kind 0 (more lo lm l (more p rm r none)) (more lo ms c none)
+    formed : (lo p : List ℕ) (lm rm ms : List (Msg U V)) → length ms ≤ length lm + length rm → Formed means kind S 0 (more lo lm l (more p rm r none)) (more lo ms c none)
 
   -- the joint leaf of two
   leaves : (es fs : List (List ℕ × V)) → length es + length fs ≤ S.leaf → StandsFor MergeLeaves (leaf es) (leaf fs) (leaf (es ++ fs))

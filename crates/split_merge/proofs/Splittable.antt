@@ -1,18 +1,15 @@
 -- Where an inner node can be split.
-use Rattle.std.proofs.Common.{◌≡◌, ℕ, ◌+◌, ◌<◌, ◌≤◌, Bool, false, List, [], ◌∷◌, length, get_or, map, ap, sym, ◌∙◌, inl, inr, ⊎_elim, Option, arith}
-use Rattle.std.specs.Prelude.{◌⊎◌}
+use Rattle.std.proofs.Common.{◌≡◌, ℕ, ◌<◌, Bool, false, List, [], ◌∷◌, length, get_or, map, ap, sym, ◌∙◌, subst, Option, arith}
 use Rattle.message.specs.declared.msg.Msg.{Msg}
 use Rattle.node.specs.declared.shape.Shape.{Shape}
 use Rattle.node.specs.declared.step.StepKind.TheVariants.{SplitInner}
-use Rattle.node.specs.Lawful.{pending}
 use Rattle.node.specs.Steps.{HasNoRoom}
-use Rattle.node.proofs.Placing.{slot_count-slots}
 use Rattle.std.proofs.Math.Dec.{leb}
 use Rattle.std.proofs.lemmas.Bool.{le-leb}
 use Rattle.node.specs.declared.node.Slot.{Slot}
 use Rattle.node.specs.See.{see_slot}
 use Rattle.node.specs.Pure.{PNode, inner, slots}
-use Rattle.node.specs.Rows.{can_split_inner, is_divisible, ranges_first, range_count}
+use Rattle.node.specs.Rows.{can_split_inner, is_divisible, ranges_first, range_count, CannotPart}
 use Rattle.node.specs.Site.{slots_from}
 use Rattle.node.proofs.There.{slots_from-get}
 
@@ -38,7 +35,7 @@ module _ {U V : Type 0} where
   ranges_first-is xs i s h e = ap ranges_first (slots_from-get xs i s h) ∙ ap (λ (y : Slot U V). range_count y.pending.0) (sym e)
 
   -- where the code says that there is no room, the node has none
-  pub no_room : (means : U → Option V → Option V) (shape : Shape) (root : Bool) (i : ℕ) (xs : List (Slot U V)) (s : Slot U V) (ys : List (Slot U V)) (ms : List (Msg U V)) → i < length xs → s ≡ get_or xs i s → ys ≡ xs → ms ≡ s.pending.0 → ((shape.fanout ≤ length ys) ⊎ ((root ≡ false) × (shape.pending < pending (slots (map see_slot ys)) + range_count ms))) → HasNoRoom means SplitInner shape root i (slots (map see_slot xs))
+  pub no_room : (means : U → Option V → Option V) (shape : Shape) (root : Bool) (i : ℕ) (xs : List (Slot U V)) (s : Slot U V) (ys : List (Slot U V)) (ms : List (Msg U V)) → i < length xs → s ≡ get_or xs i s → ys ≡ xs → ms ≡ s.pending.0 → CannotPart shape root (slots (map see_slot ys)) 0 (range_count ms) → HasNoRoom means SplitInner shape root i (slots (map see_slot xs))
   no_room means shape root i xs s ys ms h at same own full =
-      let e = ranges_first-is xs i s h at in
-      ⊎_elim (λ x. inl (omega (arith, x, slot_count-slots xs, ap length same))) (λ x. inr (x.0, omega (arith, x.1, e, ap range_count own, ap (λ z. pending (slots (map see_slot z))) same))) full
+      let here = subst (λ z. CannotPart shape root (slots (map see_slot z)) 0 (range_count ms)) same full in
+      subst (λ n. CannotPart shape root (slots (map see_slot xs)) 0 n) (ap range_count own ∙ sym (ranges_first-is xs i s h at)) here

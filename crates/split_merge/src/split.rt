@@ -1,19 +1,18 @@
 //! An inner node cut in two.
-ghost use Rattle.std.specs.Prelude.{◌≡◌, ◌≤◌, ◌<◌, ◌+◌, ◌⊎◌, true, false, length, map, IfOk};
-ghost use Rattle.node.specs.Lawful.{pending as pending_of};
+ghost use Rattle.std.specs.Prelude.{◌≡◌, map, IfOk};
 ghost use Rattle.node.specs.Places.{way};
 ghost use Rattle.node.specs.Pure.{slots as slots_of, inner};
-ghost use Rattle.node.specs.Rows.{range_count, can_split_inner, is_divisible as is_divided};
+ghost use Rattle.node.specs.Rows.{can_split_inner, is_divisible as is_divided};
 ghost use Rattle.node.specs.See.{see_slot};
 ghost use Rattle.node.specs.Site.{slots_from};
 ghost use Rattle.node.specs.Steps.{Answers, Replies};
 ghost use Rattle.node.specs.declared.step.StepKind.TheVariants.{SplitInner};
 ghost use Rattle.split_merge.specs.Halves.{IsHalved, HalvedOr};
 
-use message::{Msg, Pending, Update};
+use message::{Pending, Update};
 use node::node::append::pieces;
 use node::node::copy::copy_slots;
-use node::node::count::{held, ranges_in};
+use node::node::count::can_part;
 use node::{Body, Change, Node, Place, Shape, Slot, StepReply, Tree};
 use pathkey::{Key, NoMemory};
 use std::alloc::Global;
@@ -58,19 +57,6 @@ fn halves<U: Update>(alloc: Global, slot: &Slot<U>) -> Result<Option<(Slot<U>, S
     Ok(Some((left, right)))
 }
 
-/// Whether a node has room for one slot more and, below the root, for the range-deletes among the messages of one of
-/// its slots, which would stand in both parts of it. It takes no memory.
-fn has_room<U: Update>(shape: Shape, root: bool, slots: &[Slot<U>], msgs: &[Msg<U>]) -> bool
-    ensures few { result ≡ true → length slots.now < shape.fanout }
-    ensures light { result ≡ true → root ≡ false → pending_of (slots_of (map see_slot slots.now)) + range_count msgs.now ≤ shape.pending }
-    ensures none { result ≡ false → (shape.fanout ≤ length slots.now) ⊎ ((root ≡ false) × (shape.pending < pending_of (slots_of (map see_slot slots.now)) + range_count msgs.now)) }
-{
-    if slots.len() >= shape.fanout as usize {
-        return false;
-    }
-    root || held(slots).saturating_add(ranges_in(msgs)) <= shape.pending as usize
-}
-
 /// Splits the child of the slot with number `i` of a node.
 fn split_slot<U: Update>(
     alloc: Global,
@@ -85,7 +71,7 @@ fn split_slot<U: Update>(
         return StepReply::NotThere;
     }
     let slot = &slots[i];
-    if !has_room(shape, root, slots.as_slice(), slot.pending.as_slice()) {
+    if !can_part(shape, root, slots.as_slice(), 0, slot.pending.as_slice()) {
         return StepReply::NoRoom;
     }
     let Ok(parts) = halves(alloc, slot) else {

@@ -1,20 +1,21 @@
 //! How much a node holds.
-ghost use Rattle.std.specs.Prelude.{◌≡◌, ◌≤◌, ◌<◌, ◌+◌, ◌*◌, ◌^◌, length, map};
+ghost use Rattle.std.specs.Prelude.{◌≡◌, ◌≤◌, ◌<◌, ◌+◌, ◌*◌, ◌^◌, true, false, length, map};
 ghost use Rattle.node.specs.Lawful.{pending as pending_of};
 ghost use Rattle.node.specs.Report.{own as own_of, total as total_of, width};
 ghost use Rattle.node.specs.RootSteps.{levels};
-ghost use Rattle.node.specs.Rows.{range_count};
+ghost use Rattle.node.specs.Rows.{range_count, CanPart, CannotPart};
 ghost use Rattle.node.specs.Pure.{slots as slots_of};
 ghost use Rattle.node.specs.See.{see_slot};
 
 use super::{Body, Node, Slot};
 use crate::report::Quantity;
+use crate::shape::Shape;
 use message::{Msg, Update};
 
 /// How many messages wait in the slots, but at most `usize::MAX`. It takes no memory.
 pub fn held<U: Update>(slots: &[Slot<U>]) -> usize
     ensures at_most { result ≤ pending_of (slots_of (map see_slot slots.now)) }
-    ensures exact { result < 65536 → result ≡ pending_of (slots_of (map see_slot slots.now)) }
+    ensures exact { result < 18446744073709551615 → result ≡ pending_of (slots_of (map see_slot slots.now)) }
 {
     match slots.split_first() {
         None => 0,
@@ -23,7 +24,7 @@ pub fn held<U: Update>(slots: &[Slot<U>]) -> usize
 }
 
 /// How many of the messages are range-deletes. It takes no memory.
-pub fn ranges_in<U: Update>(msgs: &[Msg<U>]) -> usize
+fn ranges_in<U: Update>(msgs: &[Msg<U>]) -> usize
     ensures { result ≡ range_count msgs.now }
 {
     let mut count = 0;
@@ -47,6 +48,24 @@ fn waiting<U: Update>(slots: &[Slot<U>]) -> u128
         return 0;
     };
     slot.pending.len() as u128 + waiting(later)
+}
+
+/// Whether a node has room for one slot more and, below the root, for the range-deletes among `msgs`, messages of one of
+/// its slots that then would stand in both parts of it, once `gone` messages have left. It takes no memory.
+pub fn can_part<U: Update>(
+    shape: Shape,
+    root: bool,
+    slots: &[Slot<U>],
+    gone: u8,
+    msgs: &[Msg<U>],
+) -> bool
+    ensures room { result ≡ true → CanPart shape root (slots_of (map see_slot slots.now)) gone (range_count msgs.now) }
+    ensures none { result ≡ false → CannotPart shape root (slots_of (map see_slot slots.now)) gone (range_count msgs.now) }
+{
+    if slots.len() >= shape.fanout as usize {
+        return false;
+    }
+    root || held(slots).saturating_add(ranges_in(msgs)) <= shape.pending as usize + gone as usize
 }
 
 /// How much of the quantity the node itself has. It takes no memory.

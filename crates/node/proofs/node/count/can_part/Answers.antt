@@ -1,7 +1,7 @@
 use Rattle.std.proofs.Common.{arith, ◌<◌, ◌≤◌, ◌+◌, inl, inr, true≢false, sym, ◌∙◌}
 use Rattle.std.proofs.lemmas.Bool.{leb-true, leb-false}
 use Rattle.node.proofs.Placing.{slot_count-slots}
-use Rattle.flush.proofs.leaf.can_part.Goals as goal
+use Rattle.node.proofs.node.count.can_part.Goals as goal
 
 pub returns-then-slots-shape-clause-none : goal.returns-then-slots-shape-clause-none
 returns-then-slots-shape-clause-none g c = λ f. inl (omega (arith, slot_count-slots c.args.slots.now))
@@ -12,13 +12,15 @@ returns-then-root-clause-room g c = λ t. (omega (arith, slot_count-slots c.args
 pub returns-else-root-clause-room : goal.returns-else-root-clause-room
 returns-else-root-clause-room g c = λ t. (
   omega (arith, slot_count-slots c.args.slots.now),
-  λ r w.
-      let sum : c.saturating_add.result ≤ c.args.shape.pending + 1 = leb-true c.saturating_add.result (c.args.shape.pending + 1) t in
-      let small : c.held.result < 65536 = omega (arith, c.held.ensures.at_most, w) in
+  λ r.
+      let most = c.args.shape.pending + c.args.gone in
+      let sum : c.saturating_add.result ≤ most = leb-true c.saturating_add.result most t in
+      let small : c.held.result < 18446744073709551615 = omega (arith, sum, c.saturating_add.ensures) in
       omega (arith, sum, c.held.ensures.exact small, c.saturating_add.ensures, c.ranges_in.ensures),
 )
 
 pub returns-else-root-clause-none : goal.returns-else-root-clause-none
 returns-else-root-clause-none g c = λ f.
-    let sum : c.args.shape.pending + 1 < c.saturating_add.result = leb-false c.saturating_add.result (c.args.shape.pending + 1) f in
+    let most = c.args.shape.pending + c.args.gone in
+    let sum : most < c.saturating_add.result = leb-false c.saturating_add.result most f in
     inr (c.if-root.false, omega (arith, sum, c.held.ensures.at_most, c.saturating_add.ensures, c.ranges_in.ensures))
