@@ -1,5 +1,5 @@
 -- A reply of the table of calls fits its world, and the world after it is the table's.
-use Rattle.std.proofs.Common.{◌≡◌, Bool, true, false, cond, ap, sym, subst, ◌∙◌, inl}
+use Rattle.std.proofs.Common.{◌≡◌, Bool, false, cond, ap, sym, subst, ◌∙◌, inl}
 use Rattle.reference.specs.Calls.{does}
 use Rattle.reference.specs.Worlds.{World, Ask, Replied, Fits, next, is_lack, outcome}
 use Rattle.reference.specs.declared.call.Call.{Call}

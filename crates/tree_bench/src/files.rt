@@ -1,5 +1,5 @@
 //! File calls on compiled indexes, and the same paths in a map of std.
-use crate::work::{append_batch, scattered};
+use crate::work::{LOOKED_UP, append_batch, scattered};
 use call_compiler::{Indexes, compile, is_compiled};
 use pathkey::{Key, NoMemory, Path};
 use reference::{Call, Meta, Reply};
@@ -56,7 +56,7 @@ fn run(alloc: Global, indexes: &mut Indexes, call: &Call) -> Result<bool, NoMemo
         return Ok(false);
     }
     let (reply, batch) = compile(alloc, indexes, call)?;
-    append_batch(alloc, &mut indexes.meta.tree, batch.meta)?;
+    append_batch(alloc, &mut indexes.meta.tree, batch.meta, LOOKED_UP)?;
     Ok(matches!(reply, Reply::Done))
 }
 

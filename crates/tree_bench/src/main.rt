@@ -9,9 +9,7 @@ pub mod files;
 pub mod number;
 pub mod work;
 
-use crate::files::{
-    Population, create, create_in_map, list, make_directories, stat, stat_in_map,
-};
+use crate::files::{Population, create, create_in_map, list, make_directories, stat, stat_in_map};
 use crate::work::{SHAPE, append, insert, look_up, look_up_map, new_tree, settle};
 use call_compiler::Indexes;
 use meta_index::Meta;

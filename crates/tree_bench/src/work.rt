@@ -16,8 +16,11 @@ pub const SHAPE: Shape = Shape {
     leaf: 256,
 };
 
-/// How many pieces may wait in the root.
-const ROOT_LIMIT: usize = 4096;
+/// How many pieces may wait in the root where messages are only appended.
+const APPENDED: usize = 4096;
+
+/// How many may wait there where each call looks its path up first: a look-up reads what waits on its way.
+pub const LOOKED_UP: usize = 256;
 
 /// A number for each number, far from those of its neighbours.
 pub fn scattered(number: u64) -> u64 {
@@ -37,14 +40,15 @@ fn waiting<U: Update>(tree: &Tree<U>) -> usize {
     }
 }
 
-/// Appends messages, and flushes once where the root has too many.
+/// Appends messages, and flushes once where more than `limit` pieces wait in the root.
 pub fn append_batch<U: Update>(
     alloc: Global,
     tree: &mut Tree<U>,
     batch: Vec<Msg<U>>,
+    limit: usize,
 ) -> Result<(), NoMemory> {
     tree.append(alloc, batch)?;
-    if waiting(tree) > ROOT_LIMIT && !relieve(alloc, tree) {
+    if waiting(tree) > limit && !relieve(alloc, tree) {
         return Err(NoMemory);
     }
     Ok(())
@@ -56,7 +60,7 @@ pub fn append(alloc: Global, tree: &mut Tree<Set>, keys: u64, count: u64) -> Res
         let number = i.checked_rem(keys).unwrap_or(0);
         let mut one = Vec::with_capacity(alloc, 1)?;
         one.push(Msg::Put(key(alloc, number)?, i))?;
-        append_batch(alloc, tree, one)?;
+        append_batch(alloc, tree, one, APPENDED)?;
     }
     Ok(())
 }
