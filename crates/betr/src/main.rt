@@ -1,4 +1,4 @@
-//! `betr`: runs the script on standard input over a new volume, and prints the replies to standard output.
+//! `betr`: runs the script on standard input from the empty root directory on, and prints the replies to standard output.
 #![tactic(auto)]
 
 use call_compiler::Indexes;
@@ -35,18 +35,18 @@ const SHAPE: Shape = Shape {
     leaf: 256,
 };
 
-/// Runs a script over a new volume, with its replies gathered into large writes.
+/// Runs a script on new indexes, with its replies gathered into large writes.
 fn run<R: Read, W: Write + Drop>(
     alloc: Global,
     reader: &mut R,
     writer: W,
 ) -> Result<(), ScriptFault> {
-    let Ok(mut volume) = Indexes::new(alloc, SHAPE) else {
+    let Ok(mut indexes) = Indexes::new(alloc, SHAPE) else {
         return Err(ScriptFault::Memory);
     };
     let Ok(mut output) = BufWriter::with_capacity(alloc, OUTPUT_BUFFER, writer) else {
         return Err(ScriptFault::Memory);
     };
-    run_script(alloc, &mut volume, reader, &mut output)?;
+    run_script(alloc, &mut indexes, reader, &mut output)?;
     output.flush().map_err(|_| ScriptFault::Write)
 }

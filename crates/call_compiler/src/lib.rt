@@ -9,7 +9,6 @@ ghost use Rattle.std.specs.Prelude.{◌≡◌, IfOk, IsTrue};
 ghost use Rattle.call_compiler.specs.Compiled.{IsCompiled, is_compiled as is_one_of_these};
 
 use pathkey::NoMemory;
-use reference::{Call, Reply};
 use std::alloc::Global;
 
 mod asking;
@@ -19,6 +18,7 @@ mod making;
 mod removing;
 
 pub use batch::{Batch, Indexes};
+pub use reference::{Call, Reply};
 
 /// Whether this call is compiled: `mkdir`, `create`, `rmdir`, `stat` and `readdir` are. It takes no memory.
 pub fn is_compiled(call: &Call) -> bool
@@ -30,7 +30,8 @@ pub fn is_compiled(call: &Call) -> bool
     )
 }
 
-/// The reply to a file call, and the messages that do it. It changes nothing, and fails only for want of memory.
+/// The reply to a file call that is compiled (`is_compiled`), and the messages that do it. It changes nothing, and fails
+/// only for want of memory.
 pub fn compile(alloc: Global, indexes: &Indexes, call: &Call) -> Result<(Reply, Batch), NoMemory>
     requires { IsTrue (is_one_of_these call.now) }
     ensures { IfOk result (λ c. IsCompiled indexes.now.meta call.now c.0 c.1.meta.items) }

@@ -1,9 +1,8 @@
 //! Calls that take an entry out: `rmdir`.
 ghost use Rattle.std.specs.Prelude.{◌≡◌, IfOk};
-ghost use Rattle.call_compiler.specs.Compiled.{IsCompiled};
+ghost use Rattle.call_compiler.specs.Compiled.{IsCompiled, faults_of_rmdir};
 ghost use Rattle.meta_index.specs.Means.{IsMeantBy};
 ghost use Rattle.reference.specs.Plain.{first_fault};
-ghost use Rattle.call_compiler.specs.Compiled.{faults_of_rmdir};
 ghost use Rattle.reference.specs.Tree.{Tree};
 
 use crate::batch::{Batch, Indexes, done, without_messages};

@@ -20,7 +20,7 @@ pub enum At {
 
 impl At {
     /// What stands at a name below an entry with this metadata, where no entry has that name. It takes no memory.
-    pub fn below(above: Meta) -> At
+    pub(crate) fn below(above: Meta) -> At
         ensures { (here : Place) → At.Found above ≡ told here → result ≡ told (beyond here) }
     {
         match above {

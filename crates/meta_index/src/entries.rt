@@ -27,7 +27,7 @@ pub(crate) struct Child {
     pub(crate) end: Key,
 }
 
-/// The entry whose path has this key; none for the root, and where no path has it.
+/// The entry whose path has this key; none for the root. Of a key that no path has nothing is promised.
 pub(crate) fn child_at(alloc: Global, key: &Key) -> Result<Option<Child>, NoMemory>
     ensures { IfOk result (λ r. IsChildAt key.now r) }
 {

@@ -11,7 +11,7 @@ pub trait Execute {
     // this state means this world
     ghost means: { Self → World → Type 0 };
 
-    /// Does a call: the reply fits each world that the state means, and the state then means the next one.
+    /// Does a call that is compiled: the reply fits each world that the state means, and the state then means the next one.
     fn execute(&mut self, alloc: Global, call: &Call) -> Reply
         requires { IsTrue (is_compiled call.now) }
         ensures { (w : World) → means self.old w → Fits w (Ask call.now) (Replied result)

@@ -9,6 +9,7 @@ mod digits;
 mod execute;
 mod indexes;
 mod input;
+pub mod laws;
 mod output;
 mod reply;
 mod request;

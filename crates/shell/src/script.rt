@@ -20,7 +20,7 @@ use thiserror::Error;
 /// Why a script was not read to its end, or its replies not written.
 #[derive(Debug, Drop, PartialEq, Eq, Error)]
 pub enum ScriptFault {
-    /// The buffers for input could not be had; nothing was read.
+    /// Memory for the run could not be had; nothing was read.
     #[error("betr: no memory")]
     Memory,
     /// The reader failed; each whole line before was done and answered.

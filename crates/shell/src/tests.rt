@@ -17,6 +17,13 @@ const SHAPE: Shape = Shape {
     leaf: 4,
 };
 
+/// The shape that `betr` uses.
+const USUAL: Shape = Shape {
+    fanout: 16,
+    pending: 256,
+    leaf: 256,
+};
+
 /// Gives a text, and fails where `cut` bytes are left.
 #[derive(Drop)]
 struct Failing<'a> {
@@ -74,7 +81,7 @@ fn waiting(indexes: &Indexes) -> u128 {
 
 /// What a script is answered where nothing stands but the root.
 fn answers(alloc: Global, script: &[u8]) -> Result<Vec<u8>, Fail> {
-    let mut state = Indexes::new(alloc, SHAPE)?;
+    let mut state = Indexes::new(alloc, USUAL)?;
     let mut out = Vec::new(alloc);
     let mut reader = script;
     run_script(alloc, &mut state, &mut reader, &mut out)?;

@@ -54,7 +54,13 @@ fn main(rt: HostRuntime) -> anyhow::Result<()> {
             MESSAGES,
         )?,
         Some(word) if word.as_str() == "files" => file_calls(&rt)?,
-        Some(_) => insert(alloc, &mut BTreeMap::new(alloc), MESSAGES, MESSAGES)?,
+        Some(word) if word.as_str() == "map" => insert(
+            alloc,
+            &mut BTreeMap::new(alloc),
+            MESSAGES,
+            MESSAGES,
+        )?,
+        Some(word) => eprintln!(rt; "tree_bench: no such work: {word}")?,
     }
     Ok(())
 }

@@ -3,11 +3,11 @@ use crate::number::Set;
 use lookup::get;
 use message::{Msg, Update};
 use node::node::count::held;
-use node::{Body, Shape, Tree};
+use node::{Shape, Tree};
 use pathkey::{Key, NoMemory};
 use std::alloc::Global;
 use std::collections::BTreeMap;
-use tree_tests::relief::relieve;
+use tree_tests::relief::{relieve, slots_of};
 
 /// The shape of the trees.
 pub const SHAPE: Shape = Shape {
@@ -34,9 +34,9 @@ fn key(alloc: Global, number: u64) -> Result<Key, NoMemory> {
 
 /// How many messages wait in the root.
 fn waiting<U: Update>(tree: &Tree<U>) -> usize {
-    match tree.root().body() {
-        Body::Inner(slots) => held(slots.as_slice()),
-        Body::Leaf(_) => 0,
+    match slots_of(tree.root()) {
+        Some(slots) => held(slots.as_slice()),
+        None => 0,
     }
 }
 

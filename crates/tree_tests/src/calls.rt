@@ -2,6 +2,8 @@
 use crate::Random;
 use crate::steps::{SMALL, step};
 use call_compiler::Indexes;
+use message::Update;
+use node::{ShapeReport, Tree};
 use pathkey::Errno;
 use reference::plain::World;
 use reference::{Call, Kind, Reply};
@@ -9,17 +11,19 @@ use shell::{Request, read_request, run_script, write_reply};
 use std::alloc::Global;
 use std::test::Fail;
 
-/// One of four names, of which two begin as another does.
+/// One of six names, of which some begin as others do.
 fn some_name(random: &mut Random) -> &'static [u8] {
-    match random.below(4) {
+    match random.below(6) {
         0 => b"a",
         1 => b"a!",
         2 => b"ab",
-        _ => b"b",
+        3 => b"b",
+        4 => b"ba",
+        _ => b"c",
     }
 }
 
-/// The text of a path of at least so many names, and of at most four where `least` is no more.
+/// The text of a path of up to four names, and of at least `least` of them.
 fn some_path(alloc: Global, random: &mut Random, least: u32) -> Result<Vec<u8>, Fail> {
     let mut text = Vec::new(alloc);
     for _ in 0..random.below(5).max(random.below(5)).max(least) {
@@ -32,16 +36,16 @@ fn some_path(alloc: Global, random: &mut Random, least: u32) -> Result<Vec<u8>, 
     Ok(text)
 }
 
-/// A line that asks one of the five calls. Most files are made deep down, since none is ever taken out.
+/// A line that asks one of the five calls. Few files are made, and most of them deep down, since none is ever taken out.
 fn some_line(alloc: Global, random: &mut Random) -> Result<Vec<u8>, Fail> {
-    let kind = random.below(16);
+    let kind = random.below(64);
     let is_deep = kind == 0 && random.below(8) > 0;
     let path = some_path(alloc, random, if is_deep { 3 } else { 0 })?;
     let word = match kind {
         0 => b"create ".as_slice(),
-        1 | 2 | 3 | 4 | 5 => b"mkdir ",
-        6 | 7 | 8 | 9 | 10 => b"rmdir ",
-        11 | 12 | 13 => b"stat ",
+        1..=24 => b"mkdir ",
+        25..=44 => b"rmdir ",
+        45..=54 => b"stat ",
         _ => b"readdir ",
     };
     let mut line = Vec::from_slice(alloc, word)?;
@@ -144,22 +148,71 @@ impl Counts {
     }
 }
 
+/// What the tree went through.
+#[derive(Default, Debug, Drop)]
+struct Course {
+    /// Steps that were done.
+    steps: u32,
+    /// The most levels of inner nodes.
+    levels: u128,
+    /// The most messages that waited.
+    pending: u128,
+}
+
+impl Course {
+    /// Tries many steps, and looks at the tree before and after them.
+    fn shake<U: Update>(&mut self, alloc: Global, random: &mut Random, tree: &mut Tree<U>) {
+        self.look(tree.shape_report());
+        for _ in 0..random.below(200) {
+            let is_done = step(alloc, random, tree);
+            self.steps = self.steps.saturating_add(u32::from(is_done));
+        }
+        self.look(tree.shape_report());
+    }
+
+    /// Keeps what is more than before.
+    fn look(&mut self, report: ShapeReport) {
+        self.levels = self.levels.max(report.levels);
+        self.pending = self.pending.max(report.pending);
+    }
+}
+
+/// Does a quarter of the script, and counts what comes of its calls; the first line that was answered otherwise, if any.
+fn quarter(
+    alloc: Global,
+    random: &mut Random,
+    both: &mut Both,
+    course: &mut Course,
+    counts: &mut Counts,
+) -> Result<Option<Vec<u8>>, Fail> {
+    for _ in 0..5_000 {
+        let line = some_line(alloc, random)?;
+        let Some((call, reply)) = both.answer(alloc, line.as_slice())? else {
+            return Ok(Some(line));
+        };
+        counts.count(&call, &reply);
+        if random.below(64) == 0 {
+            course.shake(alloc, random, &mut both.indexes.meta.tree);
+        }
+    }
+    Ok(None)
+}
+
 #[test]
 fn a_script_answers_as_the_plain_program(rt: HostRuntime) -> Result<(), Fail> {
     let alloc = rt.alloc();
     let mut random = Random(5);
     let mut both = Both::new(alloc)?;
-    let mut counts = Counts::default();
-    for round in 0..20_000 {
-        let line = some_line(alloc, &mut random)?;
-        let Some((call, reply)) = both.answer(alloc, line.as_slice())? else {
-            panic!(rt; "another reply in round {round}");
-        };
-        counts.count(&call, &reply);
-        if random.below(2) == 0 {
-            step(alloc, &mut random, &mut both.indexes.meta.tree);
-        }
+    let mut course = Course::default();
+    for _ in 0..4 {
+        let mut counts = Counts::default();
+        let other = quarter(alloc, &mut random, &mut both, &mut course, &mut counts)?;
+        assert_eq!(rt; other, None);
+        assert!(rt; counts.least() >= 5, "{counts:?}");
     }
-    assert!(rt; counts.least() >= 20, "{counts:?}");
+    assert!(rt;
+        course.steps >= 1000 && course.levels >= 3 && course.pending >= 16,
+        "{course:?}"
+    );
     Ok(())
 }

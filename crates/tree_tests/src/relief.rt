@@ -5,8 +5,8 @@ use message::Update;
 use node::{Body, Node, Place, Slot, StepKind, StepReply, Tree, TreeStep};
 use std::alloc::Global;
 
-/// The slots of a node.
-fn slots_of<U: Update>(node: &Node<U>) -> Option<&Vec<Slot<U>>> {
+/// The slots of a node; none where it is a leaf.
+pub fn slots_of<U: Update>(node: &Node<U>) -> Option<&Vec<Slot<U>>> {
     match node.body() {
         Body::Inner(slots) => Some(slots),
         Body::Leaf(_) => None,

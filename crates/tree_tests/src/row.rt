@@ -27,7 +27,7 @@ pub enum Message {
 impl Message {
     /// One of the four forms.
     pub fn random(random: &mut Random) -> Message {
-        let at = random.below(300) as usize;
+        let at = random.below(KEYS as u32) as usize;
         let number = random.below(1000) as u64;
         match random.below(16) {
             0 | 1 => Message::Del(at),

@@ -1,9 +1,9 @@
 //! Steps of all eight kinds, at places that look random.
 use crate::Random;
-use crate::relief::relieve;
+use crate::relief::{relieve, slots_of};
 use flush::{flush_inner, flush_leaf};
 use message::Update;
-use node::{Body, Node, Place, Shape, StepKind, StepReply, Tree, TreeStep};
+use node::{Node, Place, Shape, StepKind, StepReply, Tree, TreeStep};
 use split_merge::{drop_covered, merge_inner, merge_leaves, root_down, root_up, split_inner};
 use std::alloc::Global;
 
@@ -46,10 +46,7 @@ fn somewhere<U: Update>(random: &mut Random, root: &Node<U>) -> (Place, u8) {
 
 /// The inner node below a slot.
 fn inner_below<U: Update>(node: &Node<U>, number: u8) -> Option<&Node<U>> {
-    let Body::Inner(slots) = node.body() else {
-        return None;
-    };
-    let child = &slots.get(number as usize)?.child;
+    let child = &slots_of(node)?.get(number as usize)?.child;
     if child.is_leaf() { None } else { Some(child) }
 }
 
@@ -69,12 +66,11 @@ fn some_step<U: Update>(random: &mut Random, root: &Node<U>) -> TreeStep {
     TreeStep { kind, at, slot }
 }
 
-/// Does a step: one that relieves the heaviest slot, or one of any kind somewhere.
-pub fn step<U: Update>(alloc: Global, random: &mut Random, tree: &mut Tree<U>) {
+/// Tries a step: one that relieves the heaviest slot, or one of any kind somewhere; says whether it was done.
+pub fn step<U: Update>(alloc: Global, random: &mut Random, tree: &mut Tree<U>) -> bool {
     if random.below(2) == 0 {
-        relieve(alloc, tree);
-        return;
+        return relieve(alloc, tree);
     }
     let step = some_step(random, tree.root());
-    take(alloc, tree, step);
+    matches!(take(alloc, tree, step), StepReply::Did(_))
 }

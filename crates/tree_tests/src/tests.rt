@@ -5,7 +5,8 @@ use flush::heaviest;
 use lookup::get;
 use message::Msg;
 use node::{Place, ShapeReport, StepKind, StepReply, Tree, TreeStep};
-use pathkey::{Key, NoMemory};
+use pathkey::{Key, KeyRange, NoMemory};
+use scan::{first_in, scan};
 use std::alloc::Global;
 use std::test::Fail;
 
@@ -186,6 +187,41 @@ impl Pair {
         Ok(get(alloc, &self.tree, &key(alloc, at)?)? == there)
     }
 
+    /// The row's first `limit` pairs from the key `lo` up to and without `hi`.
+    fn pairs(
+        &self,
+        alloc: Global,
+        lo: usize,
+        hi: usize,
+        limit: usize,
+    ) -> Result<Vec<(Key, u64)>, NoMemory> {
+        let mut pairs = Vec::new(alloc);
+        for at in lo..hi {
+            if pairs.len() == limit {
+                return Ok(pairs);
+            }
+            if let Some(value) = self.row.get(at).copied().flatten() {
+                pairs.push((key(alloc, at)?, value))?;
+            }
+        }
+        Ok(pairs)
+    }
+
+    /// Whether searches of a range find the row's pairs: the first, and a few.
+    fn finds_alike(&self, alloc: Global, random: &mut Random) -> Result<bool, NoMemory> {
+        let lo = random.below(KEYS as u32) as usize;
+        let hi = lo + random.below(60) as usize;
+        let range = KeyRange {
+            lo: key(alloc, lo)?,
+            hi: Some(key(alloc, hi)?),
+        };
+        let limit = 1 + random.below(8) as usize;
+        let wanted = self.pairs(alloc, lo, hi, limit)?;
+        let found = scan(alloc, &self.tree, &range, limit)?;
+        let first = first_in(alloc, &self.tree, &range)?;
+        Ok(found.as_slice() == wanted.as_slice() && first.as_ref() == wanted.first())
+    }
+
     /// The first key at which they differ.
     fn differs_at(&self, alloc: Global) -> Result<Option<usize>, NoMemory> {
         for at in 0..KEYS {
@@ -198,6 +234,19 @@ impl Pair {
 }
 
 #[test]
+fn searches_find_the_pairs_of_the_row(rt: HostRuntime) -> Result<(), Fail> {
+    let alloc = rt.alloc();
+    let mut random = Random(3);
+    let mut pair = Pair::new(alloc)?;
+    for round in 0..10_000 {
+        pair.change(alloc, &mut random)?;
+        step(alloc, &mut random, &mut pair.tree);
+        assert!(rt; pair.finds_alike(alloc, &mut random)?, "round {round}");
+    }
+    Ok(())
+}
+
+#[test]
 fn no_step_changes_a_value(rt: HostRuntime) -> Result<(), Fail> {
     let alloc = rt.alloc();
     let mut random = Random(11);
@@ -206,7 +255,7 @@ fn no_step_changes_a_value(rt: HostRuntime) -> Result<(), Fail> {
         pair.change(alloc, &mut random)?;
         step(alloc, &mut random, &mut pair.tree);
         assert!(rt;
-            pair.agrees_at(alloc, random.below(300) as usize)?,
+            pair.agrees_at(alloc, random.below(KEYS as u32) as usize)?,
             "round {round}"
         );
     }
