@@ -1,15 +1,38 @@
--- What a batch is for: appended to the index, it makes the index mean the tree after the call.
-use Rattle.node.specs.Appended.{Appended}
-use Rattle.reference.specs.Tree.{Tree}
+-- What a batch is for: appended to the indexes, it makes them mean the tree after the call. And what indexes begin with.
+use Rattle.std.proofs.Common.{◌≡◌, ◌∙◌, sym, ap, Option, None}
+use Rattle.block_index.specs.Means.{blocks}
+use Rattle.block_index.specs.declared.index.BlockIndex.{BlockIndex}
 use Rattle.meta_index.specs.declared.index.MetaIndex.{MetaIndex}
 use Rattle.meta_index.specs.Means.{metadata, IsMeantBy}
-use Rattle.meta_index.specs.Updates.{means}
 use Rattle.meta_index.proofs.Fresh.{means_alike}
-use Rattle.call_compiler.specs.Compiled.{Messages, after, MeansAfter}
+use Rattle.pathkey.specs.Keys.{Key, block_key}
+use Rattle.reference.specs.Tree.{Tree, Dir, nothing}
+use Rattle.reference.specs.Indexes.{Blocks, BlocksMean, IndexesMean}
+use Rattle.reference.proofs.FreshIndexes.{fresh_law}
+use Rattle.reference.proofs.PointIndexes.{hold_alike}
+use Rattle.call_compiler.specs.declared.indexes.Indexes.{Indexes}
+use Rattle.call_compiler.specs.Compiled.{Messages, metadata_after, blocks_after, MeanTree}
+use Rattle.call_compiler.specs.Laws.{HaveTaken}
 
--- the index to which the messages were appended means the tree after the call
-pub meant_after : (t t' : Tree) (old new : MetaIndex) (msgs : Messages) → MeansAfter t t' old msgs → Appended means msgs old.tree new.tree → IsMeantBy t' new
-meant_after t t' old new msgs makes appended = record {
-  tree = makes.tree;
-  meta = means_alike t' (after msgs (metadata old)) (metadata new) appended.value_after makes.meta;
+-- blocks that agree at each key mean the same
+blocks_alike : (t : Tree) (d e : Blocks) → ((k : Key) → e k ≡ d k) → BlocksMean t d → BlocksMean t e
+blocks_alike t d e alike old = record {
+  blocks = λ p b u f. hold_alike (λ i. d (block_key p i)) (λ i. e (block_key p i)) b (λ i li. sym (alike (block_key p i))) (old.blocks p b u f);
+  only_blocks = λ k v f. old.only_blocks k v (sym (alike k) ∙ f);
+}
+
+-- the indexes to which the messages were appended mean the tree after the call
+pub meant_after : (t : Tree) (old new : Indexes) (msgs : Messages) → IndexesMean t (metadata_after msgs (metadata old.meta)) (blocks_after msgs (blocks old.block)) → HaveTaken msgs old new → MeanTree new t
+meant_after t old new msgs means taken = record {
+  tree = means.tree;
+  meta = means_alike t (metadata_after msgs (metadata old.meta)) (metadata new.meta) taken.meta.value_after means.meta;
+  blocks = blocks_alike t (blocks_after msgs (blocks old.block)) (blocks new.block) taken.block.value_after means.blocks;
+}
+
+-- an index without blocks beside that of the empty root directory
+pub empty_meant : (m : MetaIndex) (d : BlockIndex) → IsMeantBy (Dir nothing) m → ((k : Key) → blocks d k ≡ None) → MeanTree (record { meta = m; block = d }) (Dir nothing)
+empty_meant m d means none = record {
+  tree = means.tree;
+  meta = means.meta;
+  blocks = blocks_alike (Dir nothing) (λ k. None) (blocks d) none fresh_law.blocks;
 }

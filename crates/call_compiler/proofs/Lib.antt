@@ -1,4 +1,6 @@
+pub mod Faults
+pub mod Compiling
+pub mod Entries
+pub mod OnFiles
 pub mod Replies
-pub mod Batches
-pub mod Answered
 pub mod Appending

@@ -1,11 +1,10 @@
 -- The replies of the table of calls, from what stands at a path.
 use Rattle.std.proofs.Common.{◌≡◌, [], ◌∷◌, refl, ap, Some, None}
 use Rattle.pathkey.specs.Names.{Path}
-use Rattle.pathkey.specs.Outcomes.{when}
 use Rattle.pathkey.specs.declared.errno.Errno.{Errno}
 use Rattle.pathkey.specs.declared.errno.Errno.TheVariants.{ENOTDIR}
 use Rattle.reference.specs.Tree.{Tree, Dir, File, At, Found, Missing, Blocked, entry_at}
-use Rattle.reference.specs.Calls.{unless, is_file, path_fault, no_directory_fault, stat_of, names_of, does}
+use Rattle.reference.specs.Calls.{when, unless, is_file, path_fault, no_directory_fault, stat_of, names_of, does}
 use Rattle.reference.specs.declared.call.Call.TheVariants.{Stat as AskStat, Readdir}
 use Rattle.reference.specs.declared.reply.Reply.TheVariants.{Names, Fault}
 use Rattle.reference.proofs.CallCases.{asked_keeps, listed_keeps}

@@ -1,87 +1,110 @@
 -- What a file call is compiled to, by the directory tree that the indexes mean.
-use Rattle.std.specs.Prelude.{◌≡◌, ◌≤◌, length, List, [], ◌∷◌, Bool, true, false, Option}
+use Rattle.std.specs.Prelude.{◌≡◌, ◌≤◌, ◌+◌, ◌⊎◌, ℕ, length, List, [], ◌∷◌, Bool, true, false}
+use Rattle.block_index.specs.Changed.{patches}
+use Rattle.block_index.specs.Means.{blocks}
+use Rattle.block_index.specs.Updates.{means as block_means}
+use Rattle.block_index.specs.declared.update.BlockUpdate.{BlockUpdate}
 use Rattle.message.specs.declared.msg.Msg.{Msg}
+use Rattle.message.specs.declared.msg.Msg.TheVariants.{Edit}
 use Rattle.message.specs.Effects.{effects}
-use Rattle.meta_index.specs.declared.index.MetaIndex.{MetaIndex}
 use Rattle.meta_index.specs.declared.update.MetaUpdate.{MetaUpdate}
-use Rattle.meta_index.specs.Means.{metadata, IsMeantBy}
-use Rattle.meta_index.specs.Updates.{means}
+use Rattle.meta_index.specs.declared.update.MetaUpdate.TheVariants.{Grow}
+use Rattle.meta_index.specs.Means.{metadata}
+use Rattle.meta_index.specs.Updates.{means as meta_means}
+use Rattle.pathkey.specs.Keys.{enc}
 use Rattle.pathkey.specs.Names.{Path, IsPath}
 use Rattle.pathkey.specs.declared.errno.Errno.{Errno}
-use Rattle.pathkey.specs.declared.errno.Errno.TheVariants.{ENOENT, ENOTDIR, ENOTEMPTY, EBUSY}
+use Rattle.pathkey.specs.declared.errno.Errno.TheVariants.{ENOENT, ENOTDIR}
 use Rattle.reference.specs.Tree.{Tree, At, Found, Missing, Blocked, entry_at}
-use Rattle.reference.specs.Calls.{Outcome, when, is_root, is_file, is_full, path_fault, stat_of, does}
-use Rattle.reference.specs.Shape.{IsTree}
-use Rattle.reference.specs.Indexes.{MetaIndex as Index, BlockIndex, MetaMeans, BlocksMean}
+use Rattle.reference.specs.Calls.{Outcome, bytes_of, stat_of, does}
+use Rattle.reference.specs.Indexes.{Metadata, Blocks, IndexesMean}
 use Rattle.reference.specs.declared.call.Call.{Call}
-use Rattle.reference.specs.declared.call.Call.TheVariants.{Mkdir, Create, Rmdir, Stat as AskStat, Readdir}
+use Rattle.reference.specs.declared.call.Call.TheVariants.{Mkdir, Create, Write, Truncate, Unlink, Rmdir, Read, Stat as AskStat, Readdir}
 use Rattle.reference.specs.declared.reply.Meta.{Meta}
 use Rattle.reference.specs.declared.reply.Reply.{Reply}
-use Rattle.reference.specs.declared.reply.Reply.TheVariants.{Done, Fault}
+use Rattle.reference.specs.declared.reply.Reply.TheVariants.{Fault}
+use Rattle.call_compiler.specs.declared.batch.Batch.{Batch}
+use Rattle.call_compiler.specs.declared.indexes.Indexes.{Indexes}
 
--- messages for the metadata index, the oldest first
-abbrev pub Messages : Type 0
-Messages = List (Msg MetaUpdate Meta)
+-- ---- messages
+
+-- messages for both indexes, the oldest first
+pub record Messages : Type 0 where
+  pub meta : List (Msg MetaUpdate Meta)
+  pub block : List (Msg BlockUpdate (List ℕ))
+
+-- those of a batch
+abbrev pub messages : Batch → Messages
+messages b = record { meta = b.meta.items; block = b.block.items }
+
+-- none
+abbrev pub no_messages : Messages
+no_messages = record { meta = []; block = [] }
+
+-- how many there are
+abbrev pub count : Messages → ℕ
+count msgs = length msgs.meta + length msgs.block
+
+-- the metadata, and the blocks, at each key after messages
+abbrev pub metadata_after : Messages → Metadata → Metadata
+metadata_after msgs m k = effects meta_means msgs.meta k (m k)
+
+abbrev pub blocks_after : Messages → Blocks → Blocks
+blocks_after msgs d k = effects block_means msgs.block k (d k)
+
+-- ---- calls
+
+-- both indexes mean the directory tree t
+abbrev pub MeanTree : Indexes → Tree → Type 0
+MeanTree i t = IndexesMean t (metadata i.meta) (blocks i.block)
 
 -- the calls that are compiled
 abbrev pub is_compiled : Call → Bool
 is_compiled (Mkdir p) = true
 is_compiled (Create p) = true
+is_compiled (Write p off w) = true
+is_compiled (Truncate p n) = true
+is_compiled (Unlink p) = true
 is_compiled (Rmdir p) = true
+is_compiled (Read p off n) = true
 is_compiled (AskStat p) = true
 is_compiled (Readdir p) = true
 is_compiled _ = false
 
--- those of them that only read
-abbrev pub is_reading : Call → Bool
-is_reading (AskStat p) = true
-is_reading (Readdir p) = true
-is_reading _ = false
+-- the messages of a write of w at off: the length is raised, and each block that the bytes touch gets its slice of them
+abbrev pub write_messages : Path → ℕ → List ℕ → Messages
+write_messages p off w = record { meta = Edit (enc p) (Grow (off + length w)) ∷ []; block = patches p off w }
 
--- the metadata at each key after messages
-abbrev pub after : Messages → Index → Index
-after msgs m k = effects means msgs k (m k)
+-- what a call may send over both indexes: one message where an entry comes or an empty directory goes, two where a
+-- file goes, three where it is cut, one where it is lengthened, for a write its patches and one, and nothing for a
+-- call that only reads
+abbrev pub Sends : Indexes → Call → Messages → Type 0
+Sends i (Mkdir p) msgs = count msgs ≤ 1
+Sends i (Create p) msgs = count msgs ≤ 1
+Sends i (Write p off w) msgs = (msgs ≡ no_messages) ⊎ (msgs ≡ write_messages p off w)
+Sends i (Truncate p n) msgs = (count msgs ≤ 3) × ((t : Tree) → MeanTree i t → length (bytes_of (entry_at t p)) ≤ n → count msgs ≤ 1)
+Sends i (Unlink p) msgs = count msgs ≤ 2
+Sends i (Rmdir p) msgs = count msgs ≤ 1
+Sends i (Read p off n) msgs = msgs ≡ no_messages
+Sends i (AskStat p) msgs = msgs ≡ no_messages
+Sends i (Readdir p) msgs = msgs ≡ no_messages
+Sends i _ msgs = ⊥
 
--- after the messages the metadata mean the tree t', and so do the blocks as they are
-pub record MeansAfter (t t' : Tree) (m : MetaIndex) (msgs : Messages) : Type 0 where
-  pub tree : IsTree t'
-  pub meta : MetaMeans t' (after msgs (metadata m))
-  pub blocks : (d : BlockIndex) → BlocksMean t d → BlocksMean t' d
-
--- what a call is compiled to, where the index means a tree
-pub record IsCompiled (m : MetaIndex) (call : Call) (answer : Reply) (msgs : Messages) : Type 0 where
-  -- the reply is the one that the table of calls makes of this tree
-  pub reply : (t : Tree) → IsMeantBy t m → answer ≡ (does t call).1
-  -- after the messages the indexes mean the tree that the table makes of it
-  pub tree : (t : Tree) → IsMeantBy t m → MeansAfter t (does t call).0 m msgs
+-- what a call is compiled to
+pub record IsCompiled (i : Indexes) (call : Call) (answer : Reply) (msgs : Messages) : Type 0 where
+  -- the reply is the one that the table of calls makes of the tree that the indexes mean
+  pub reply : (t : Tree) → MeanTree i t → answer ≡ (does t call).1
+  -- after the messages they mean the tree that the table makes of it
+  pub tree : (t : Tree) → MeanTree i t → IndexesMean (does t call).0 (metadata_after msgs (metadata i.meta)) (blocks_after msgs (blocks i.block))
   -- a call that is refused has no message
-  pub fault : (e : Errno) → answer ≡ Fault e → msgs ≡ []
-  -- nor has one that reads
-  pub reading : is_reading call ≡ true → msgs ≡ []
-  -- and no call has more than one
-  pub few : length msgs ≤ 1
+  pub fault : (e : Errno) → answer ≡ Fault e → msgs ≡ no_messages
+  -- and one that is done no more than it needs
+  pub sends : Sends i call msgs
 
 -- ---- how the calls come to it
-
--- the message of a call that is done; none of any other
-abbrev pub if_done : Reply → Msg MetaUpdate Meta → Messages
-if_done Done msg = msg ∷ []
-if_done _ msg = []
-
--- the reply is that of the outcome, and the message comes where the call is done
-pub record IsAnswered (m : MetaIndex) (p : Path) (outcome : Tree → Outcome) (msg : Msg MetaUpdate Meta) (answer : Reply) (msgs : Messages) : Type 0 where
-  pub reply : (t : Tree) → IsMeantBy t m → answer ≡ (outcome t).1
-  pub messages : msgs ≡ if_done answer msg
-  pub valid : IsPath p
 
 -- what `stat` replies for what stands at a path
 abbrev pub stat_at : At → Reply
 stat_at (Found x) = stat_of (Found x)
 stat_at Missing = Fault ENOENT
 stat_at Blocked = Fault ENOTDIR
-
--- why no empty directory can be taken out at a path
-abbrev pub faults_of_rmdir : Tree → Path → List (Option Errno)
-faults_of_rmdir t p =
-    let here = entry_at t p in
-    when (is_root p) EBUSY ∷ path_fault here ∷ when (is_file here) ENOTDIR ∷ when (is_full here) ENOTEMPTY ∷ []

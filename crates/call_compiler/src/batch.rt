@@ -1,57 +1,52 @@
-//! The indexes that a call asks, and the messages that it is compiled to.
-ghost use Rattle.std.specs.Prelude.{◌≡◌, [], ◌∷◌, IfOk, IsTrue};
-ghost use Rattle.meta_index.specs.Means.{IsMeantBy};
-ghost use Rattle.node.specs.Shapes.{is_shape};
-ghost use Rattle.reference.specs.Tree.{Dir, nothing};
+//! The messages that a call is compiled to.
+ghost use Rattle.std.specs.Prelude.{◌≡◌, [], ◌∷◌, IfOk};
+ghost use Rattle.call_compiler.specs.Compiled.{messages, no_messages};
 
+use block_index::BlockUpdate;
 use message::Msg;
-use meta_index::{MetaIndex, MetaUpdate};
-use node::Shape;
-use pathkey::NoMemory;
+use meta_index::MetaUpdate;
+use pathkey::{Errno, NoMemory};
 use reference::Reply;
 use std::alloc::Global;
-
-/// The indexes of a file system.
-#[derive(Drop)]
-pub struct Indexes {
-    /// What stands at each path.
-    pub meta: MetaIndex,
-}
-
-impl Indexes {
-    /// The indexes of the empty root directory, in new trees of this shape. It fails only for want of memory.
-    pub fn new(alloc: Global, shape: Shape) -> Result<Indexes, NoMemory>
-        requires { IsTrue (is_shape shape) }
-        ensures shape { IfOk result (λ i. i.meta.tree.shape ≡ shape) }
-        ensures empty { IfOk result (λ i. IsMeantBy (Dir nothing) i.meta) }
-    {
-        let meta = MetaIndex::new(alloc, shape)?;
-        Ok(Indexes { meta })
-    }
-}
 
 /// Messages for the indexes, the oldest first.
 #[derive(Drop)]
 pub struct Batch {
     /// Those for the metadata.
     pub meta: Vec<Msg<MetaUpdate>>,
+    /// Those for the blocks.
+    pub block: Vec<Msg<BlockUpdate>>,
 }
 
-/// A reply that comes without messages. It takes no memory.
+/// A reply that comes without messages.
 pub(crate) fn without_messages(alloc: Global, reply: Reply) -> (Reply, Batch)
     ensures reply { result.0 ≡ reply }
-    ensures messages { result.1.meta.items ≡ [] }
+    ensures messages { messages result.1 ≡ no_messages }
 {
     let meta = Vec::new(alloc);
-    (reply, Batch { meta })
+    let block = Vec::new(alloc);
+    (reply, Batch { meta, block })
 }
 
-/// What a call that is done by one message comes to.
-pub(crate) fn done(alloc: Global, msg: Msg<MetaUpdate>) -> Result<(Reply, Batch), NoMemory>
-    ensures reply { IfOk result (λ c. c.0 ≡ Reply.Done) }
-    ensures messages { IfOk result (λ c. c.1.meta.items ≡ msg ∷ []) }
+/// What a call that is refused comes to.
+pub(crate) fn refused(alloc: Global, fault: Errno) -> (Reply, Batch)
+    ensures reply { result.0 ≡ Reply.Fault fault }
+    ensures messages { messages result.1 ≡ no_messages }
+{
+    without_messages(alloc, Reply::Fault(fault))
+}
+
+/// What a call that is done by a message for the metadata and messages for blocks comes to.
+pub(crate) fn done(
+    alloc: Global,
+    reply: Reply,
+    msg: Msg<MetaUpdate>,
+    block: Vec<Msg<BlockUpdate>>,
+) -> Result<(Reply, Batch), NoMemory>
+    ensures reply { IfOk result (λ c. c.0 ≡ reply) }
+    ensures messages { IfOk result (λ c. messages c.1 ≡ record { meta = msg ∷ []; block = block.items }) }
 {
     let mut meta = Vec::with_capacity(alloc, 1)?;
     meta.push(msg)?;
-    Ok((Reply::Done, Batch { meta }))
+    Ok((reply, Batch { meta, block }))
 }

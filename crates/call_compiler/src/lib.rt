@@ -6,42 +6,47 @@
 #![tactic(auto)]
 
 ghost use Rattle.std.specs.Prelude.{◌≡◌, IfOk, IsTrue};
-ghost use Rattle.call_compiler.specs.Compiled.{IsCompiled, is_compiled as is_one_of_these};
+ghost use Rattle.call_compiler.specs.Compiled.{IsCompiled, is_compiled as is_one_of_these, messages};
 
 use pathkey::NoMemory;
 use std::alloc::Global;
 
-mod asking;
 pub mod batch;
+mod files;
+pub mod indexes;
 pub mod laws;
 mod making;
+mod reading;
 mod removing;
+mod writing;
 
-pub use batch::{Batch, Indexes};
+pub use batch::Batch;
+pub use indexes::Indexes;
 pub use reference::{Call, Reply};
 
-/// Whether this call is compiled: `mkdir`, `create`, `rmdir`, `stat` and `readdir` are. It takes no memory.
+/// Whether this call is compiled: all are but `rename` and `rmtree`.
 pub fn is_compiled(call: &Call) -> bool
     ensures { result ≡ is_one_of_these call.now }
 {
-    matches!(
-        call,
-        Call::Mkdir(_) | Call::Create(_) | Call::Rmdir(_) | Call::Stat(_) | Call::Readdir(_)
-    )
+    !matches!(call, Call::Rename(_, _) | Call::Rmtree(_))
 }
 
 /// The reply to a file call that is compiled (`is_compiled`), and the messages that do it. It changes nothing, and fails
 /// only for want of memory.
 pub fn compile(alloc: Global, indexes: &Indexes, call: &Call) -> Result<(Reply, Batch), NoMemory>
     requires { IsTrue (is_one_of_these call.now) }
-    ensures { IfOk result (λ c. IsCompiled indexes.now.meta call.now c.0 c.1.meta.items) }
+    ensures { IfOk result (λ c. IsCompiled indexes.now call.now c.0 (messages c.1)) }
 {
     match call {
         Call::Mkdir(path) => making::mkdir(alloc, indexes, path),
         Call::Create(path) => making::create(alloc, indexes, path),
+        Call::Write(path, offset, bytes) => writing::write(alloc, indexes, path, *offset, bytes),
+        Call::Truncate(path, len) => writing::truncate(alloc, indexes, path, *len),
+        Call::Unlink(path) => removing::unlink(alloc, indexes, path),
         Call::Rmdir(path) => removing::rmdir(alloc, indexes, path),
-        Call::Stat(path) => asking::stat(alloc, indexes, path),
-        Call::Readdir(path) => asking::readdir(alloc, indexes, path),
+        Call::Read(path, offset, count) => reading::read(alloc, indexes, path, *offset, *count),
+        Call::Stat(path) => reading::stat(alloc, indexes, path),
+        Call::Readdir(path) => reading::readdir(alloc, indexes, path),
         _ => unreachable!(),
     }
 }

@@ -1,15 +1,12 @@
 //! Calls that make an entry: `mkdir` and `create`.
-ghost use Rattle.std.specs.Prelude.{◌≡◌, IfOk};
-ghost use Rattle.call_compiler.specs.Compiled.{IsCompiled, IsAnswered};
-ghost use Rattle.message.specs.declared.msg.Msg.TheVariants.{Put};
+ghost use Rattle.std.specs.Prelude.{◌≡◌, [], ◌∷◌, IfOk};
+ghost use Rattle.call_compiler.specs.Compiled.{IsCompiled, messages};
 ghost use Rattle.meta_index.specs.Means.{IsMeantBy};
-ghost use Rattle.pathkey.specs.Enc.{enc};
-ghost use Rattle.reference.specs.Calls.{is_found, made};
-ghost use Rattle.reference.specs.Plain.{faults_of_new, first_fault};
-ghost use Rattle.reference.specs.Tree.{Tree, entry_at};
+ghost use Rattle.reference.specs.Calls.{faults_of_new, first_fault};
+ghost use Rattle.reference.specs.Tree.{Tree};
 
-use crate::batch::{Batch, Indexes, done, without_messages};
-use lookup::get;
+use crate::batch::{Batch, done, refused};
+use crate::indexes::Indexes;
 use message::Msg;
 use meta_index::Meta;
 use pathkey::{Errno, NoMemory, Path};
@@ -22,9 +19,14 @@ pub(crate) fn mkdir(
     indexes: &Indexes,
     path: &Path,
 ) -> Result<(Reply, Batch), NoMemory>
-    ensures { IfOk result (λ c. IsCompiled indexes.now.meta (Call.Mkdir path.now) c.0 c.1.meta.items) }
+    ensures { IfOk result (λ c. IsCompiled indexes.now (Call.Mkdir path.now) c.0 (messages c.1)) }
 {
-    make(alloc, indexes, path, Meta::Dir)
+    let key = path.key();
+    if let Some(fault) = fault_of_new(alloc, indexes, path)? {
+        return Ok(refused(alloc, fault));
+    }
+    let put = Msg::Put(key.copy(alloc)?, Meta::Dir);
+    done(alloc, Reply::Done, put, Vec::new(alloc))
 }
 
 /// Makes an empty file (open with O_CREAT and O_EXCL, without a descriptor).
@@ -33,25 +35,14 @@ pub(crate) fn create(
     indexes: &Indexes,
     path: &Path,
 ) -> Result<(Reply, Batch), NoMemory>
-    ensures { IfOk result (λ c. IsCompiled indexes.now.meta (Call.Create path.now) c.0 c.1.meta.items) }
-{
-    make(alloc, indexes, path, Meta::File { len: 0 })
-}
-
-/// Puts a new entry at the path, where none stands.
-fn make(
-    alloc: Global,
-    indexes: &Indexes,
-    path: &Path,
-    new: Meta,
-) -> Result<(Reply, Batch), NoMemory>
-    ensures { IfOk result (λ c. (x : Tree) → IsAnswered indexes.now.meta path.now (λ t. made t path.now x) (Put (enc path.now) new) c.0 c.1.meta.items) }
+    ensures { IfOk result (λ c. IsCompiled indexes.now (Call.Create path.now) c.0 (messages c.1)) }
 {
     let key = path.key();
     if let Some(fault) = fault_of_new(alloc, indexes, path)? {
-        return Ok(without_messages(alloc, Reply::Fault(fault)));
+        return Ok(refused(alloc, fault));
     }
-    done(alloc, Msg::Put(key.copy(alloc)?, new))
+    let put = Msg::Put(key.copy(alloc)?, Meta::File { len: 0 });
+    done(alloc, Reply::Done, put, Vec::new(alloc))
 }
 
 /// Why no new entry can be made at the path; none where one can.
@@ -61,16 +52,8 @@ fn fault_of_new(alloc: Global, indexes: &Indexes, path: &Path) -> Result<Option<
     if let Some(fault) = indexes.meta.fault_of_parent(alloc, path)? {
         return Ok(Some(fault));
     }
-    if is_taken(alloc, indexes, path)? {
+    if indexes.meta.has(alloc, path)? {
         return Ok(Some(Errno::EEXIST));
     }
     Ok(None)
-}
-
-/// Whether something stands at the path, by one look-up.
-fn is_taken(alloc: Global, indexes: &Indexes, path: &Path) -> Result<bool, NoMemory>
-    ensures { IfOk result (λ taken. (t : Tree) → IsMeantBy t indexes.now.meta → taken ≡ is_found (entry_at t path.now)) }
-{
-    let meta = get(alloc, &indexes.meta.tree, path.key())?;
-    Ok(meta.is_some())
 }

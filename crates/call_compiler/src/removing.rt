@@ -1,29 +1,49 @@
-//! Calls that take an entry out: `rmdir`.
-ghost use Rattle.std.specs.Prelude.{◌≡◌, IfOk};
-ghost use Rattle.call_compiler.specs.Compiled.{IsCompiled, faults_of_rmdir};
+//! Calls that take an entry out: `unlink` and `rmdir`.
+ghost use Rattle.std.specs.Prelude.{◌≡◌, [], ◌∷◌, IfOk};
+ghost use Rattle.call_compiler.specs.Compiled.{IsCompiled, messages};
 ghost use Rattle.meta_index.specs.Means.{IsMeantBy};
-ghost use Rattle.reference.specs.Plain.{first_fault};
+ghost use Rattle.reference.specs.Calls.{faults_of_rmdir, first_fault};
 ghost use Rattle.reference.specs.Tree.{Tree};
 
-use crate::batch::{Batch, Indexes, done, without_messages};
+use crate::batch::{Batch, done, refused};
+use crate::files::find_file;
+use crate::indexes::Indexes;
 use message::Msg;
-use pathkey::{Errno, NoMemory, Path};
+use pathkey::{Errno, NoMemory, Path, blocks_from};
 use reference::{Call, Reply};
 use std::alloc::Global;
 
-/// Takes an empty directory out (POSIX.1-2017, rmdir).
+/// Takes a file out, with all its blocks (POSIX.1-2017, unlink). A directory is refused.
+pub(crate) fn unlink(
+    alloc: Global,
+    indexes: &Indexes,
+    path: &Path,
+) -> Result<(Reply, Batch), NoMemory>
+    ensures { IfOk result (λ c. IsCompiled indexes.now (Call.Unlink path.now) c.0 (messages c.1)) }
+{
+    let key = path.key();
+    if let Err(fault) = find_file(alloc, indexes, path, Errno::EPERM)? {
+        return Ok(refused(alloc, fault));
+    }
+    let mut block = Vec::with_capacity(alloc, 1)?;
+    block.push(Msg::DelRange(blocks_from(alloc, path, 0)?))?;
+    done(alloc, Reply::Done, Msg::Del(key.copy(alloc)?), block)
+}
+
+/// Takes an empty directory out (rmdir).
 pub(crate) fn rmdir(
     alloc: Global,
     indexes: &Indexes,
     path: &Path,
 ) -> Result<(Reply, Batch), NoMemory>
-    ensures { IfOk result (λ c. IsCompiled indexes.now.meta (Call.Rmdir path.now) c.0 c.1.meta.items) }
+    ensures { IfOk result (λ c. IsCompiled indexes.now (Call.Rmdir path.now) c.0 (messages c.1)) }
 {
     let key = path.key();
     if let Some(fault) = fault_of_rmdir(alloc, indexes, path)? {
-        return Ok(without_messages(alloc, Reply::Fault(fault)));
+        return Ok(refused(alloc, fault));
     }
-    done(alloc, Msg::Del(key.copy(alloc)?))
+    let del = Msg::Del(key.copy(alloc)?);
+    done(alloc, Reply::Done, del, Vec::new(alloc))
 }
 
 /// Why no empty directory can be taken out at the path; none where one can.

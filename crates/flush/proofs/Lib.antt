@@ -1,5 +1,6 @@
 pub mod Counts
 pub mod Flushable
+pub mod Growth
 pub mod InnerFlush
 pub mod LeafFlush
 pub mod Loads

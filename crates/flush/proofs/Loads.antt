@@ -1,17 +1,17 @@
 -- The first heaviest of loads that come one after the other, and how many messages they have in all.
-use Rattle.std.proofs.Common.{◌≡◌, ℕ, zero, suc, ◌+◌, ◌++◌, ◌<◌, ◌≤◌, List, [], ◌∷◌, length, get_or, take, map, refl, ap, sym, ◌∙◌, subst, Option, Some, None, arith, add-one}
+use Rattle.std.proofs.Common.{◌≡◌, ℕ, zero, suc, ◌+◌, ◌++◌, ◌<◌, ◌≤◌, List, [], ◌∷◌, length, get_or, take, refl, ap, sym, ◌∙◌, subst, Option, Some, None, arith, add-one}
 use Rattle.std.specs.List.{All, sum_by}
 use Rattle.std.proofs.lemmas.List.{append_assoc, append-nil}
 use Rattle.std.proofs.lemmas.List.Elements.{All-weaker}
 use Rattle.std.proofs.lemmas.List.Sums.{sum_by-cons, sum_by-append, sum_by-le}
-use Rattle.flush.specs.declared.weigh.Candidate.{Candidate}
+use Rattle.flush.specs.declared.heaviest_slot.Candidate.{Candidate}
 use Rattle.flush.specs.Heaviest.{Load, load_of, flush_into, own_loads, loads, loads_below, IsFirstHeaviest, IsBest}
 use Rattle.node.specs.declared.node.Slot.{Slot}
 use Rattle.node.specs.declared.report.Quantity.TheVariants.{Pending}
 use Rattle.node.specs.Lawful.{pending}
-use Rattle.node.specs.Pure.{PNode, leaf, inner, PSlots, none, more, slots}
+use Rattle.node.specs.Pure.{PNode, leaf, inner, PSlots, none, more}
 use Rattle.node.specs.Report.{total, total_below}
-use Rattle.node.specs.See.{see_slot}
+use Rattle.node.specs.See.{seen_slots}
 
 module _ {U V : Type 0} where
   -- the load of a slot with this number
@@ -19,32 +19,32 @@ module _ {U V : Type 0} where
   slot_load at i s = record { at = at; slot = i; kind = flush_into s.child.value; count = length s.pending.0 }
 
   -- one slot more, by successors, of slots that are numbered from k on
-  own_loads-one_more : (at : List ℕ) (k : ℕ) (xs : List (Slot U V)) (i : ℕ) (d : Slot U V) → i < length xs → own_loads at k (slots (map see_slot (take (suc i) xs))) ≡ own_loads at k (slots (map see_slot (take i xs))) ++ slot_load at (k + i) (get_or xs i d) ∷ []
+  own_loads-one_more : (at : List ℕ) (k : ℕ) (xs : List (Slot U V)) (i : ℕ) (d : Slot U V) → i < length xs → own_loads at k (seen_slots (take (suc i) xs)) ≡ own_loads at k (seen_slots (take i xs)) ++ slot_load at (k + i) (get_or xs i d) ∷ []
   own_loads-one_more at k [] i d h = absurd (omega arith)
   own_loads-one_more at k (x ∷ xs) zero d h =
       let e : k ≡ k + 0 = omega arith in
       ap (λ j. slot_load at j x ∷ []) e
   own_loads-one_more at k (x ∷ xs) (suc i) d h =
       let e : k + 1 + i ≡ k + suc i = omega arith in
-      let rest = own_loads at (k + 1) (slots (map see_slot (take i xs))) in
+      let rest = own_loads at (k + 1) (seen_slots (take i xs)) in
       ap (λ z. slot_load at k x ∷ z) (own_loads-one_more at (k + 1) xs i d (omega arith) ∙ ap (λ j. rest ++ slot_load at j (get_or xs i d) ∷ []) e)
 
   -- one slot more
-  pub own_loads-take : (at : List ℕ) (xs : List (Slot U V)) (i : ℕ) (d : Slot U V) → i < length xs → own_loads at 0 (slots (map see_slot (take (i + 1) xs))) ≡ own_loads at 0 (slots (map see_slot (take i xs))) ++ slot_load at i (get_or xs i d) ∷ []
+  pub own_loads-take : (at : List ℕ) (xs : List (Slot U V)) (i : ℕ) (d : Slot U V) → i < length xs → own_loads at 0 (seen_slots (take (i + 1) xs)) ≡ own_loads at 0 (seen_slots (take i xs)) ++ slot_load at i (get_or xs i d) ∷ []
   own_loads-take at xs i d h =
       let e : 0 + i ≡ i = omega arith in
-      rw add-one (own_loads-one_more at 0 xs i d h ∙ ap (λ j. own_loads at 0 (slots (map see_slot (take i xs))) ++ slot_load at j (get_or xs i d) ∷ []) e)
+      rw add-one (own_loads-one_more at 0 xs i d h ∙ ap (λ j. own_loads at 0 (seen_slots (take i xs)) ++ slot_load at j (get_or xs i d) ∷ []) e)
 
   -- the best of so many slots and one more
-  pub best_of_slots : (best : Option Candidate) (ls : List Load) (at : List ℕ) (xs : List (Slot U V)) (i : ℕ) (s : Slot U V) (l : Load) → i < length xs → s ≡ get_or xs i s → l ≡ slot_load at i s → IsBest best (ls ++ own_loads at 0 (slots (map see_slot (take i xs))) ++ l ∷ []) → IsBest best (ls ++ own_loads at 0 (slots (map see_slot (take (i + 1) xs))))
+  pub best_of_slots : (best : Option Candidate) (ls : List Load) (at : List ℕ) (xs : List (Slot U V)) (i : ℕ) (s : Slot U V) (l : Load) → i < length xs → s ≡ get_or xs i s → l ≡ slot_load at i s → IsBest best (ls ++ own_loads at 0 (seen_slots (take i xs)) ++ l ∷ []) → IsBest best (ls ++ own_loads at 0 (seen_slots (take (i + 1) xs)))
   best_of_slots best ls at xs i s l h e el b =
-      let own = own_loads at 0 (slots (map see_slot (take i xs))) in
+      let own = own_loads at 0 (seen_slots (take i xs)) in
       let load_is : l ≡ slot_load at i (get_or xs i s) = el ∙ ap (slot_load at i) e in
       let one_more = ap (λ z. own ++ z ∷ []) load_is ∙ sym (own_loads-take at xs i s h) in
       subst (IsBest best) (append_assoc ls own (l ∷ []) ∙ ap (λ z. ls ++ z) one_more) b
 
   -- one child more, by successors, of slots that are numbered from k on
-  loads_below-one_more : (at : List ℕ) (k : ℕ) (xs : List (Slot U V)) (i : ℕ) (d : Slot U V) → i < length xs → loads_below at k (slots (map see_slot (take (suc i) xs))) ≡ loads_below at k (slots (map see_slot (take i xs))) ++ loads (at ++ (k + i) ∷ []) (get_or xs i d).child.value
+  loads_below-one_more : (at : List ℕ) (k : ℕ) (xs : List (Slot U V)) (i : ℕ) (d : Slot U V) → i < length xs → loads_below at k (seen_slots (take (suc i) xs)) ≡ loads_below at k (seen_slots (take i xs)) ++ loads (at ++ (k + i) ∷ []) (get_or xs i d).child.value
   loads_below-one_more at k [] i d h = absurd (omega arith)
   loads_below-one_more at k (x ∷ xs) zero d h =
       let e : k ≡ k + 0 = omega arith in
@@ -52,20 +52,20 @@ module _ {U V : Type 0} where
   loads_below-one_more at k (x ∷ xs) (suc i) d h =
       let e : k + 1 + i ≡ k + suc i = omega arith in
       let first = loads (at ++ k ∷ []) x.child.value in
-      let rest = loads_below at (k + 1) (slots (map see_slot (take i xs))) in
+      let rest = loads_below at (k + 1) (seen_slots (take i xs)) in
       let last = loads (at ++ (k + suc i) ∷ []) (get_or xs i d).child.value in
       ap (λ z. first ++ z) (loads_below-one_more at (k + 1) xs i d (omega arith) ∙ ap (λ j. rest ++ loads (at ++ j ∷ []) (get_or xs i d).child.value) e) ∙ sym (append_assoc first rest last)
 
   -- one child more
-  pub loads_below-take : (at : List ℕ) (xs : List (Slot U V)) (i : ℕ) (d : Slot U V) → i < length xs → loads_below at 0 (slots (map see_slot (take (i + 1) xs))) ≡ loads_below at 0 (slots (map see_slot (take i xs))) ++ loads (at ++ i ∷ []) (get_or xs i d).child.value
+  pub loads_below-take : (at : List ℕ) (xs : List (Slot U V)) (i : ℕ) (d : Slot U V) → i < length xs → loads_below at 0 (seen_slots (take (i + 1) xs)) ≡ loads_below at 0 (seen_slots (take i xs)) ++ loads (at ++ i ∷ []) (get_or xs i d).child.value
   loads_below-take at xs i d h =
       let e : 0 + i ≡ i = omega arith in
-      rw add-one (loads_below-one_more at 0 xs i d h ∙ ap (λ j. loads_below at 0 (slots (map see_slot (take i xs))) ++ loads (at ++ j ∷ []) (get_or xs i d).child.value) e)
+      rw add-one (loads_below-one_more at 0 xs i d h ∙ ap (λ j. loads_below at 0 (seen_slots (take i xs)) ++ loads (at ++ j ∷ []) (get_or xs i d).child.value) e)
 
   -- the best of a node's own slots, of all slots below so many children, and of those below one child more
-  pub best_of_children : (best : Option Candidate) (ls : List Load) (at under : List ℕ) (own : List Load) (xs : List (Slot U V)) (i : ℕ) (s : Slot U V) (child : PNode U V) → i < length xs → s ≡ get_or xs i s → child ≡ s.child.value → under ≡ at ++ i ∷ [] → IsBest best (ls ++ (own ++ loads_below at 0 (slots (map see_slot (take i xs)))) ++ loads under child) → IsBest best (ls ++ (own ++ loads_below at 0 (slots (map see_slot (take (i + 1) xs)))))
+  pub best_of_children : (best : Option Candidate) (ls : List Load) (at under : List ℕ) (own : List Load) (xs : List (Slot U V)) (i : ℕ) (s : Slot U V) (child : PNode U V) → i < length xs → s ≡ get_or xs i s → child ≡ s.child.value → under ≡ at ++ i ∷ [] → IsBest best (ls ++ (own ++ loads_below at 0 (seen_slots (take i xs))) ++ loads under child) → IsBest best (ls ++ (own ++ loads_below at 0 (seen_slots (take (i + 1) xs))))
   best_of_children best ls at under own xs i s child h e ec eu b =
-      let below = loads_below at 0 (slots (map see_slot (take i xs))) in
+      let below = loads_below at 0 (seen_slots (take i xs)) in
       let loads_are : loads under child ≡ loads (at ++ i ∷ []) (get_or xs i s).child.value = ap (λ z. loads z child) eu ∙ ap (loads (at ++ i ∷ [])) (ec ∙ ap (λ (x : Slot U V). x.child.value) e) in
       let one_more = ap (λ z. below ++ z) loads_are ∙ sym (loads_below-take at xs i s h) in
       subst (IsBest best) (append_assoc ls (own ++ below) (loads under child) ∙ ap (λ z. ls ++ z) (append_assoc own below (loads under child) ∙ ap (λ z. own ++ z) one_more)) b

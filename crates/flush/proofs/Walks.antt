@@ -1,5 +1,5 @@
 -- Which nodes can be walked by numbers of slots, and how far down.
-use Rattle.std.proofs.Common.{◌≡◌, ℕ, zero, suc, pred, ◌+◌, ◌-◌, ◌++◌, ◌^◌, ◌<◌, ◌≤◌, List, [], ◌∷◌, length, get_or, map, refl, ap, sym, ◌∙◌, subst, Option, None, arith}
+use Rattle.std.proofs.Common.{◌≡◌, ℕ, zero, suc, pred, ◌+◌, ◌-◌, ◌++◌, ◌^◌, ◌<◌, ◌≤◌, List, [], ◌∷◌, length, get_or, refl, ap, sym, ◌∙◌, subst, Option, None, arith}
 use Rattle.std.proofs.lemmas.List.{append-nil, length-append}
 use Rattle.flush.specs.Heaviest.{flush_into, own_loads, loads, loads_below, IsWalkable, AreWalkable}
 use Rattle.node.specs.declared.node.Slot.{Slot}
@@ -7,9 +7,9 @@ use Rattle.node.specs.declared.shape.Shape.{Shape}
 use Rattle.node.specs.declared.step.StepKind.{StepKind}
 use Rattle.node.specs.declared.step.StepKind.TheVariants.{FlushInner, FlushLeaf}
 use Rattle.node.specs.Lawful.{IsLawfulNode, AreLawfulSlots, IsLawfulRoot, IsLawful, next_lo}
-use Rattle.node.specs.Pure.{PNode, leaf, inner, PSlots, none, more, PTree, slots}
+use Rattle.node.specs.Pure.{PNode, leaf, inner, PSlots, none, more, PTree}
 use Rattle.node.specs.RootSteps.{levels}
-use Rattle.node.specs.See.{see_slot}
+use Rattle.node.specs.See.{seen_slots}
 use Rattle.node.proofs.Roots.{small_shape}
 use Rattle.node.proofs.Sizes.{exact_levels, root_levels}
 
@@ -19,13 +19,13 @@ length-under under at i e = ap length e ∙ length-append at (i ∷ [])
 
 module _ {U V : Type 0} where
   -- the child of the slot that the code reads
-  pub walkable_child : (h : ℕ) (xs : List (Slot U V)) (i : ℕ) (d : Slot U V) → i < length xs → AreWalkable h (slots (map see_slot xs)) → IsWalkable (pred h) (get_or xs i d).child.value
+  pub walkable_child : (h : ℕ) (xs : List (Slot U V)) (i : ℕ) (d : Slot U V) → i < length xs → AreWalkable h (seen_slots xs) → IsWalkable (pred h) (get_or xs i d).child.value
   walkable_child h [] i d l w = absurd (omega arith)
   walkable_child h (x ∷ xs) zero d l w = w.0
   walkable_child h (x ∷ xs) (suc i) d l w = walkable_child h xs i d (omega arith) w.1
 
-  -- the same of the child as the code names it
-  pub walkable_below : (h : ℕ) (xs : List (Slot U V)) (i : ℕ) (s : Slot U V) (child : PNode U V) → i < length xs → s ≡ get_or xs i s → child ≡ s.child.value → AreWalkable h (slots (map see_slot xs)) → IsWalkable (h - 1) child
+  -- likewise for the child as the code names it
+  pub walkable_below : (h : ℕ) (xs : List (Slot U V)) (i : ℕ) (s : Slot U V) (child : PNode U V) → i < length xs → s ≡ get_or xs i s → child ≡ s.child.value → AreWalkable h (seen_slots xs) → IsWalkable (h - 1) child
   walkable_below h xs i s child l es ec w =
       let e : pred h ≡ h - 1 = omega arith in
       let at : child ≡ (get_or xs i s).child.value = ec ∙ ap (λ (x : Slot U V). x.child.value) es in

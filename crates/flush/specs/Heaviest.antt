@@ -2,7 +2,7 @@
 use Rattle.std.specs.Prelude.{◌≡◌, ℕ, ◌+◌, ◌<◌, ◌≤◌, ◌++◌, List, [], ◌∷◌, Option, Some, None, length, ⊤, MatchOption}
 use Rattle.std.proofs.Common.{pred}
 use Rattle.std.specs.List.{All}
-use Rattle.flush.specs.declared.weigh.Candidate.{Candidate}
+use Rattle.flush.specs.declared.heaviest_slot.Candidate.{Candidate}
 use Rattle.node.specs.declared.place.TreeStep.{TreeStep}
 use Rattle.node.specs.declared.step.StepKind.{StepKind}
 use Rattle.node.specs.declared.step.StepKind.TheVariants.{FlushInner, FlushLeaf}

@@ -1,5 +1,5 @@
 -- What becomes of one slot and its leaf when messages are applied to it.
-use Rattle.std.specs.Prelude.{◌≡◌, ℕ, ◌≤◌, false, List, [], ◌∷◌, Option, Some, None, length, take, drop, slice_index_or}
+use Rattle.std.specs.Prelude.{◌≡◌, ℕ, ◌<◌, ◌≤◌, ◌⊎◌, false, List, [], ◌∷◌, Option, Some, None, length, take, drop, slice_index_or}
 use Rattle.message.specs.declared.msg.Msg.{Msg}
 use Rattle.message.specs.Cuts.{pieces}
 use Rattle.message.specs.Effects.{effect, Takes}
@@ -9,7 +9,7 @@ use Rattle.node.specs.declared.step.StepReply.TheVariants.{Did, NotThere, NoRoom
 use Rattle.node.specs.Leaves.{Applied, IsDivided}
 use Rattle.node.specs.Meaning.{lookup}
 use Rattle.node.specs.Pure.{PNode, leaf, inner, none, more}
-use Rattle.node.specs.Rows.{can_flush_leaf}
+use Rattle.node.specs.StepRows.{can_flush_leaf}
 
 module _ {U V : Type 0} (means : U → Option V → Option V) where
   -- a key without a value has none after the message either
@@ -22,11 +22,18 @@ module _ {U V : Type 0} (means : U → Option V → Option V) where
   Absorbed most ms (leaf es) (inner ds) = ⊥
   Absorbed most ms (inner cs) d = ⊥
 
-  -- what the reply of a flush in place says of a slot's messages and its leaf, before and after
+  -- the leaf c has room for the oldest of the messages as it is: it has fewer entries, or the message adds none
+  abbrev pub HasPlace : ℕ → List (Msg U V) → PNode U V → Type 0
+  HasPlace most [] c = ⊥
+  HasPlace most (m ∷ ms) (leaf es) = (length es < most) ⊎ AddsNone es m
+  HasPlace most (m ∷ ms) (inner cs) = ⊥
+
+  -- what the reply of a flush in place says of a slot's messages and its leaf, before and after; it is asked only where
+  -- there is room for the oldest message, so that no room is no answer, and want of memory none for lack of room
   abbrev pub Filled : ℕ → StepReply → List (Msg U V) → PNode U V → PNode U V → Type 0
   Filled most (Did n) ms c d = (1 ≤ n) × (n ≤ length ms) × Absorbed most (take n ms) c d
   Filled most NotThere ms c d = (d ≡ c) × (can_flush_leaf (more [] ms c none) ≡ false)
-  Filled most NoRoom ms c d = d ≡ c
+  Filled most NoRoom ms c d = ⊥
   Filled most NoMemory ms c d = d ≡ c
 
   -- these are the entries of the leaf c after the oldest message
@@ -35,7 +42,7 @@ module _ {U V : Type 0} (means : U → Option V → Option V) where
   AfterOldest (m ∷ ms) (leaf es) new = Applied means (m ∷ []) es new
   AfterOldest (m ∷ ms) (inner cs) new = ⊥
 
-  -- the same of the slot with this number
+  -- likewise for the slot with this number
   abbrev pub AfterOldestAt : ℕ → List (Slot U V) → List (List ℕ × V) → Type 0
   AfterOldestAt i xs new = (s : Slot U V) → s ≡ slice_index_or xs i s → AfterOldest s.pending.0 s.child.value new
 

@@ -6,7 +6,7 @@ use Rattle.node.specs.declared.step.StepReply.TheVariants.{Did, NotThere, NoRoom
 use Rattle.node.specs.Appended.{parts, HaveTaken}
 use Rattle.node.specs.Lawful.{pending}
 use Rattle.node.specs.Pure.{PNode, leaf, inner, none, more}
-use Rattle.node.specs.Rows.{piece_count, can_flush_inner, IsFullBelow}
+use Rattle.node.specs.StepRows.{piece_count, can_flush_inner, IsFullBelow}
 
 -- the messages that a reply leaves in their slot
 abbrev pub left : {U V : Type 0} → StepReply → List (Msg U V) → List (Msg U V)

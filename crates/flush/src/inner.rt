@@ -1,19 +1,16 @@
 //! A flush into an inner node.
-ghost use Rattle.std.specs.Prelude.{◌≡◌, ◌+◌, ◌≤◌, ◌<◌, ◌∷◌, [], length, map, take};
+ghost use Rattle.std.specs.Prelude.{◌≡◌, true, false, ◌+◌, ◌≤◌, ◌<◌, ◌∷◌, [], length, take};
 ghost use Rattle.node.specs.Lawful.{pending as pending_of};
 ghost use Rattle.node.specs.Places.{way};
-ghost use Rattle.node.specs.Pure.{slots as slots_of};
-ghost use Rattle.node.specs.Rows.{can_flush_inner, piece_count};
-ghost use Rattle.node.specs.See.{see_slot};
-ghost use Rattle.node.specs.Site.{slots_from};
-ghost use Rattle.node.specs.Steps.{Answers, Replies};
+ghost use Rattle.node.specs.StepRows.{piece_count};
+ghost use Rattle.node.specs.See.{seen_slots};
+ghost use Rattle.node.specs.Steps.{Answers};
 ghost use Rattle.node.specs.declared.step.StepKind.TheVariants.{FlushInner};
 ghost use Rattle.flush.specs.Sunk.{Sunk, left};
 
-use crate::meets::meets;
 use message::{Msg, Update};
 use node::node::append::append_copies;
-use node::node::count::held;
+use node::node::count::{held, pieces_in};
 use node::{Body, Change, Node, Place, Shape, Slot, StepReply, Tree};
 use pathkey::Key;
 use std::alloc::Global;
@@ -22,35 +19,20 @@ use std::sync::Arc;
 #[cfg(test)]
 pub(crate) mod tests;
 
-/// How many pieces the message makes in slots. It takes no memory.
-fn pieces_in<U: Update>(slots: &[Slot<U>], msg: &Msg<U>) -> usize
-    ensures bound { result ≤ length slots.now }
-    ensures exact { result ≡ piece_count (msg.now ∷ []) (slots_of (map see_slot slots.now)) }
-{
-    let Some((slot, later)) = slots.split_first() else {
-        return 0;
-    };
-    let is_met = match later.first() {
-        None => meets(msg, &slot.lo, None),
-        Some(next) => meets(msg, &slot.lo, Some(&next.lo)),
-    };
-    let more = pieces_in(later, msg);
-    if is_met { more + 1 } else { more }
-}
-
 /// How many of the messages, from the oldest on, make with what waits in the slots at most `room` pieces.
 fn fitting<U: Update>(slots: &[Slot<U>], msgs: &[Msg<U>], room: usize) -> usize
     requires { room < 65536 }
     ensures within { result ≤ length msgs.now }
     ensures small { result < 65536 }
-    ensures fits { 0 < result → pending_of (slots_of (map see_slot slots.now)) + piece_count (take result msgs.now) (slots_of (map see_slot slots.now)) ≤ room }
-    ensures full { result ≡ 0 → 0 < length msgs.now → room < pending_of (slots_of (map see_slot slots.now)) + piece_count (take 1 msgs.now) (slots_of (map see_slot slots.now)) }
+    ensures fits { 0 < result → pending_of (seen_slots slots.now) + piece_count (take result msgs.now) (seen_slots slots.now) ≤ room }
+    ensures full { result ≡ 0 → 0 < length msgs.now → room < pending_of (seen_slots slots.now) + piece_count (take 1 msgs.now) (seen_slots slots.now) }
 {
-    let mut total = held(slots);
-    let mut count = 0;
-    if total > room {
+    let waiting = held(slots);
+    if waiting > room as u128 {
         return 0;
     }
+    let mut total = waiting as usize;
+    let mut count = 0;
     for msg in msgs {
         let more = pieces_in(slots, msg);
         if count == 65535 || more > room - total {
@@ -86,7 +68,7 @@ fn sink<U: Update>(alloc: Global, room: u16, msgs: &[Msg<U>], child: &mut Arc<No
     StepReply::Did(count as u32)
 }
 
-/// The same of a slot, which loses the messages that its child has.
+/// Likewise for a slot, which loses the messages that its child has.
 fn sink_oldest<U: Update>(alloc: Global, room: u16, slot: &mut Slot<U>) -> StepReply
     ensures lo { slot.new.lo ≡ slot.old.lo }
     ensures left { slot.new.pending.0 ≡ left result slot.old.pending.0 }
@@ -99,35 +81,12 @@ fn sink_oldest<U: Update>(alloc: Global, room: u16, slot: &mut Slot<U>) -> StepR
     reply
 }
 
-/// Whether the slot with number `i` has a message and an inner node below it. It takes no memory.
-fn is_flushable<U: Update>(slots: &[Slot<U>], i: usize) -> bool
-    ensures { result ≡ can_flush_inner (slots_from i (slots_of (map see_slot slots.now))) }
+/// Whether a node with these slots, which has room for `room` pieces, has room for those of the message.
+fn takes<U: Update>(slots: &[Slot<U>], msg: &Msg<U>, room: u16) -> bool
+    ensures yes { result ≡ true → pending_of (seen_slots slots.now) + piece_count (msg.now ∷ []) (seen_slots slots.now) ≤ room }
+    ensures no { result ≡ false → room < pending_of (seen_slots slots.now) + piece_count (msg.now ∷ []) (seen_slots slots.now) }
 {
-    if i >= slots.len() {
-        return false;
-    }
-    let slot = &slots[i];
-    if slot.pending.len() == 0 {
-        return false;
-    }
-    !slot.child.is_leaf()
-}
-
-/// Flushes the slot with number `i` of a node.
-fn flush_slot<U: Update>(
-    alloc: Global,
-    shape: Shape,
-    root: bool,
-    slots: &mut Vec<Slot<U>>,
-    i: usize,
-) -> StepReply
-    ensures { Replies U.means FlushInner shape root i result (slots_of (map see_slot slots.old.items)) (slots_of (map see_slot slots.new.items)) }
-{
-    if i >= slots.len() {
-        return StepReply::NotThere;
-    }
-    let slot = &mut slots[i];
-    sink_oldest(alloc, shape.pending, slot)
+    held(slots) + pieces_in(slots, msg) as u128 <= room as u128
 }
 
 /// The flush of one slot into an inner node.
@@ -137,18 +96,43 @@ impl<U: Update> Change<U> for InnerFlush {
     ghost kind = { FlushInner };
 
     fn can(&self, slots: &[Slot<U>], i: usize, _hi: Option<&Key>) -> bool {
-        is_flushable(slots, i)
+        if i >= slots.len() {
+            return false;
+        }
+        let slot = &slots[i];
+        if slot.pending.len() == 0 {
+            return false;
+        }
+        !slot.child.is_leaf()
+    }
+
+    fn has_room(&self, shape: Shape, _root: bool, slots: &[Slot<U>], i: usize) -> bool {
+        if i >= slots.len() {
+            return true;
+        }
+        let slot = &slots[i];
+        let Some((oldest, _)) = slot.pending.as_slice().split_first() else {
+            return true;
+        };
+        match slot.child.body() {
+            Body::Leaf(_) => true,
+            Body::Inner(below) => takes(below.as_slice(), oldest, shape.pending),
+        }
     }
 
     fn change(
         &self,
         alloc: Global,
         shape: Shape,
-        root: bool,
+        _root: bool,
         slots: &mut Vec<Slot<U>>,
         i: usize,
     ) -> StepReply {
-        flush_slot(alloc, shape, root, slots, i)
+        if i >= slots.len() {
+            return StepReply::NotThere;
+        }
+        let slot = &mut slots[i];
+        sink_oldest(alloc, shape.pending, slot)
     }
 }
 

@@ -3,20 +3,19 @@
 //! Messages are applied to the leaf in its place, the oldest first, as many as it has room for. Only where the leaf is
 //! full and the oldest message needs an entry more is the leaf cut in two, on a copy: one message then leaves the slot,
 //! and the next flush finds a leaf with half its room free.
-ghost use Rattle.std.specs.Prelude.{◌≡◌, ◌≤◌, ◌<◌, ◌∷◌, [], None, true, false, length, map, take, drop, ◌⊎◌, ⊤, IsTrue, IfOk, MatchOption};
+ghost use Rattle.std.specs.Prelude.{◌≡◌, ◌≤◌, ◌<◌, ◌∷◌, [], None, true, false, length, take, drop, ◌⊎◌, ⊤, IsTrue, IfOk, MatchOption};
 ghost use Rattle.node.specs.Lawful.{Rises};
 ghost use Rattle.node.specs.Leaves.{Applied};
 ghost use Rattle.node.specs.Places.{way};
-ghost use Rattle.node.specs.Pure.{slots as slots_of, inner, none, more};
-ghost use Rattle.node.specs.Ready.{IsSearchable};
-ghost use Rattle.node.specs.Rows.{can_flush_leaf};
-ghost use Rattle.node.specs.See.{see_slot};
+ghost use Rattle.node.specs.Pure.{inner, leaf, none, more};
+ghost use Rattle.node.specs.Searchable.{IsSearchable};
+ghost use Rattle.node.specs.StepRows.{can_flush_leaf, EditsAbsent, Overflows};
+ghost use Rattle.node.specs.See.{seen_slots};
 ghost use Rattle.node.specs.Shapes.{is_shape};
-ghost use Rattle.node.specs.Site.{slots_from};
 ghost use Rattle.node.specs.Steps.{Answers, Replies};
 ghost use Rattle.node.specs.declared.step.StepKind.TheVariants.{FlushLeaf};
 ghost use Rattle.flush.specs.Sunk.{left};
-ghost use Rattle.flush.specs.Leaf.{AddsNone, Filled, AfterOldest, AfterOldestAt, KeptOne, IsHalved};
+ghost use Rattle.flush.specs.Leaf.{AddsNone, HasPlace, Filled, AfterOldest, AfterOldestAt, KeptOne, IsHalved};
 
 use message::{Msg, Pending, Update};
 use node::node::append::pieces;
@@ -30,7 +29,7 @@ use std::sync::Arc;
 #[cfg(test)]
 mod tests;
 
-/// Whether the message may give a value to a key that has none. It takes no memory.
+/// Whether the message may give a value to a key that has none.
 fn may_add<U: Update>(entries: &[(Key, U::Value)], msg: &Msg<U>) -> bool
     requires { Rises [] None entries.now }
     ensures { result ≡ false → AddsNone U.means entries.now msg.now }
@@ -41,12 +40,26 @@ fn may_add<U: Update>(entries: &[(Key, U::Value)], msg: &Msg<U>) -> bool
     }
 }
 
-/// Whether a leaf of at most `most` entries stays one under the message. It takes no memory.
+/// Whether a leaf of at most `most` entries stays one under the message.
 fn has_room<U: Update>(entries: &[(Key, U::Value)], msg: &Msg<U>, most: usize) -> bool
     requires { Rises [] None entries.now }
     ensures { result ≡ true → length entries.now < most ⊎ AddsNone U.means entries.now msg.now }
 {
     entries.len() < most || !may_add(entries, msg)
+}
+
+/// Whether a leaf of at least `most` entries has none for the key that the message puts.
+///
+/// An update of an absent key may give it a value too, but only applying it tells.
+fn is_overfull<U: Update>(entries: &[(Key, U::Value)], msg: &Msg<U>, most: u16) -> bool
+    requires { Rises [] None entries.now }
+    ensures yes { result ≡ true → Overflows U.means most entries.now (msg.now ∷ []) }
+    ensures no { result ≡ false → length entries.now ≤ most → Overflows U.means most entries.now (msg.now ∷ []) → EditsAbsent (more [] (msg.now ∷ []) (leaf entries.now) none) }
+{
+    let Msg::Put(key, _) = msg else {
+        return false;
+    };
+    entries.len() >= most as usize && position(entries, key).is_err()
 }
 
 /// Applies the message where there is room for it, and says whether it did.
@@ -92,9 +105,21 @@ fn fill<U: Update>(
     count
 }
 
+/// Whether the slot's leaf has room for the oldest message as it is.
+fn takes_oldest<U: Update>(slot: &Slot<U>, most: u16) -> bool
+    requires { IsSearchable slot.now.child.value }
+    ensures { result ≡ true → HasPlace U.means most slot.now.pending.0 slot.now.child.value }
+{
+    let Some((oldest, _)) = slot.pending.as_slice().split_first() else {
+        return false;
+    };
+    match slot.child.body() {
+        Body::Inner(_) => false,
+        Body::Leaf(entries) => has_room(entries.as_slice(), oldest, most as usize),
+    }
+}
+
 /// Applies as many of the messages to the leaf as its room takes, in its place.
-///
-/// It answers `NoRoom` where there may be no room for the oldest.
 fn absorb<U: Update>(
     alloc: Global,
     most: u16,
@@ -113,9 +138,6 @@ fn absorb<U: Update>(
     let Body::Leaf(entries) = &mut own.body else {
         return StepReply::NotThere;
     };
-    if !has_room(entries.as_slice(), &msgs[0], most as usize) {
-        return StepReply::NoRoom;
-    }
     let count = fill(alloc, entries, msgs, most as usize);
     if count == 0 {
         return StepReply::NoMemory;
@@ -123,9 +145,10 @@ fn absorb<U: Update>(
     StepReply::Did(count as u32)
 }
 
-/// The same of a slot, which loses the messages that its leaf has.
+/// Likewise for a slot whose leaf has room for the oldest message: it loses the messages that its leaf has.
 fn absorb_oldest<U: Update>(alloc: Global, most: u16, slot: &mut Slot<U>) -> StepReply
-    requires { IsSearchable slot.old.child.value }
+    requires searchable { IsSearchable slot.old.child.value }
+    requires place { HasPlace U.means most slot.old.pending.0 slot.old.child.value }
     ensures lo { slot.new.lo ≡ slot.old.lo }
     ensures left { slot.new.pending.0 ≡ left result slot.old.pending.0 }
     ensures filled { Filled U.means most result slot.old.pending.0 slot.old.child.value slot.new.child.value }
@@ -224,7 +247,7 @@ fn part<U: Update>(
     requires many { shape.leaf < length entries.items }
     requires rising { Rises [] None entries.items }
     requires after { AfterOldestAt U.means i slots.old.items entries.items }
-    ensures { Replies U.means FlushLeaf shape root i result (slots_of (map see_slot slots.old.items)) (slots_of (map see_slot slots.new.items)) }
+    ensures { Replies U.means FlushLeaf shape root i result (seen_slots slots.old.items) (seen_slots slots.new.items) }
 {
     let slot = &slots[i];
     let rest = &slot.pending.as_slice()[1..];
@@ -251,8 +274,8 @@ fn apply_oldest<U: Update>(
 ) -> StepReply
     requires shape { IsTrue (is_shape shape) }
     requires bound { i < length slots.old.items }
-    requires searchable { IsSearchable (inner (slots_of (map see_slot slots.old.items))) }
-    ensures { Replies U.means FlushLeaf shape root i result (slots_of (map see_slot slots.old.items)) (slots_of (map see_slot slots.new.items)) }
+    requires searchable { IsSearchable (inner (seen_slots slots.old.items)) }
+    ensures { Replies U.means FlushLeaf shape root i result (seen_slots slots.old.items) (seen_slots slots.new.items) }
 {
     let Ok(after) = after_oldest(alloc, &slots[i]) else {
         return StepReply::NoMemory;
@@ -266,42 +289,6 @@ fn apply_oldest<U: Update>(
     part(alloc, shape, root, slots, i, entries)
 }
 
-/// Whether the slot with number `i` has a message and a leaf below it. It takes no memory.
-fn is_flushable<U: Update>(slots: &[Slot<U>], i: usize) -> bool
-    ensures { result ≡ can_flush_leaf (slots_from i (slots_of (map see_slot slots.now))) }
-{
-    if i >= slots.len() {
-        return false;
-    }
-    let slot = &slots[i];
-    if slot.pending.len() == 0 {
-        return false;
-    }
-    slot.child.is_leaf()
-}
-
-/// Flushes the slot with number `i` of a node.
-fn flush_slot<U: Update>(
-    alloc: Global,
-    shape: Shape,
-    root: bool,
-    slots: &mut Vec<Slot<U>>,
-    i: usize,
-) -> StepReply
-    requires shape { IsTrue (is_shape shape) }
-    requires searchable { IsSearchable (inner (slots_of (map see_slot slots.old.items))) }
-    ensures { Replies U.means FlushLeaf shape root i result (slots_of (map see_slot slots.old.items)) (slots_of (map see_slot slots.new.items)) }
-{
-    if i >= slots.len() {
-        return StepReply::NotThere;
-    }
-    let slot = &mut slots[i];
-    match absorb_oldest(alloc, shape.leaf, slot) {
-        StepReply::NoRoom => apply_oldest(alloc, shape, root, slots, i),
-        reply => reply,
-    }
-}
-
 /// The flush of one slot into a leaf.
 struct LeafFlush;
 
@@ -309,7 +296,31 @@ impl<U: Update> Change<U> for LeafFlush {
     ghost kind = { FlushLeaf };
 
     fn can(&self, slots: &[Slot<U>], i: usize, _hi: Option<&Key>) -> bool {
-        is_flushable(slots, i)
+        if i >= slots.len() {
+            return false;
+        }
+        let slot = &slots[i];
+        if slot.pending.len() == 0 {
+            return false;
+        }
+        slot.child.is_leaf()
+    }
+
+    fn has_room(&self, shape: Shape, root: bool, slots: &[Slot<U>], i: usize) -> bool {
+        if i >= slots.len() {
+            return true;
+        }
+        let slot = &slots[i];
+        let Some((oldest, rest)) = slot.pending.as_slice().split_first() else {
+            return true;
+        };
+        match slot.child.body() {
+            Body::Inner(_) => true,
+            Body::Leaf(entries) => {
+                !is_overfull(entries.as_slice(), oldest, shape.leaf)
+                    || can_part(shape, root, slots, 1, rest)
+            }
+        }
     }
 
     fn change(
@@ -320,7 +331,13 @@ impl<U: Update> Change<U> for LeafFlush {
         slots: &mut Vec<Slot<U>>,
         i: usize,
     ) -> StepReply {
-        flush_slot(alloc, shape, root, slots, i)
+        if i >= slots.len() {
+            return StepReply::NotThere;
+        }
+        if !takes_oldest(&slots[i], shape.leaf) {
+            return apply_oldest(alloc, shape, root, slots, i);
+        }
+        absorb_oldest(alloc, shape.leaf, &mut slots[i])
     }
 }
 

@@ -5,12 +5,11 @@
 //! flush that moves most: that of a slot than which no slot has more pending messages.
 #![tactic(auto)]
 
+pub mod heaviest_slot;
 pub mod inner;
 pub mod leaf;
-pub mod meets;
-pub mod weigh;
 
+pub use heaviest_slot::heaviest;
 pub use inner::flush_inner;
 pub use leaf::flush_leaf;
 pub use node::StepReply;
-pub use weigh::heaviest;

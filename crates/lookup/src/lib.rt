@@ -4,7 +4,7 @@
 ghost use Rattle.std.specs.Prelude.{◌≡◌, IfOk, [], None};
 ghost use Rattle.node.specs.Lawful.{Rises};
 ghost use Rattle.node.specs.Meaning.{lookup, value as value_at};
-ghost use Rattle.node.specs.Ready.{IsSearchable};
+ghost use Rattle.node.specs.Searchable.{IsSearchable};
 
 use message::Update;
 use node::node::leaf::position;

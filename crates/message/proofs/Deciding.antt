@@ -22,7 +22,7 @@ module _ {U V : Type 0} where
   none-settled ms i k h = false_from_ne_true (is_settled (drop i ms) k) (λ t. false≢true (sym h ∙ settled-all ms i k t))
 
 module _ {U V : Type 0} (means : U → Option V → Option V) where
-  -- a message that settles makes the same of every old value
+  -- a message that settles has one outcome, whatever the old value
   made_alike : (m : Msg U V) (a b : Option V) → is_settling m ≡ true → made_of means m a ≡ made_of means m b
   made_alike (Put q v) a b s = refl
   made_alike (Del q) a b s = refl

@@ -25,7 +25,7 @@ module _ {U V : Type 0} where
   point (DelRange r) = None
   point (Edit q u) = Some q
 
-  -- the message makes the same of every old value of a key that it touches
+  -- the message has one outcome, whatever the old value of a key that it touches
   abbrev pub is_settling : Msg U V → Bool
   is_settling (Put q v) = true
   is_settling (Del q) = true

@@ -15,7 +15,7 @@ pub fn later_key(alloc: Global, a: &Key, b: &Key) -> Result<Key, NoMemory>
     later.copy(alloc)
 }
 
-/// The earlier of two ends; `None` is no end. It takes no memory.
+/// The earlier of two ends; `None` is no end.
 pub fn earlier<'a>(a: Option<&'a Key>, b: Option<&'a Key>) -> Option<&'a Key>
     ensures { option_copied result ≡ earlier_end (option_copied a.entry) (option_copied b.entry) }
 {
@@ -42,7 +42,7 @@ pub fn copy_end(alloc: Global, end: Option<&Key>) -> Result<Option<Key>, NoMemor
     }
 }
 
-/// Whether the key lies before the end; `None` is no end. It takes no memory.
+/// Whether the key lies before the end; `None` is no end.
 pub fn is_before_end(key: &Key, end: Option<&Key>) -> bool
     ensures { result ≡ is_below key.now (option_copied end.entry) }
 {

@@ -1,4 +1,4 @@
-//! Messages: what is touched, what is changed, and the part of a message that lies in a range.
+//! Messages: which keys they touch, what they make of a value, and the part of a message that lies in a range.
 ghost use Rattle.std.specs.Prelude.{◌≡◌, IfOk};
 ghost use Rattle.std.specs.Option.{option_copied};
 ghost use Rattle.message.specs.Effects.{touches as is_touched, effect, point as point_of, is_settling};
@@ -45,7 +45,7 @@ impl<U: Update> Msg<U> {
         }
     }
 
-    /// Whether the message makes the same of every old value of a key that it touches.
+    /// Whether the message settles the value of a key that it touches, whatever the value was.
     pub fn settles(&self) -> bool
         ensures { result ≡ is_settling self.now }
     {
@@ -70,7 +70,7 @@ impl<U: Update> Msg<U> {
         match self {
             Msg::Put(_, value) => Ok(Some(U::copy_value(alloc, value)?)),
             Msg::Del(_) | Msg::DelRange(_) => Ok(None),
-            Msg::Edit(_, update) => update.apply(alloc, old.as_ref()),
+            Msg::Edit(_, update) => edited(alloc, update, old),
         }
     }
 
@@ -100,6 +100,24 @@ impl<U: Update> Msg<U> {
     }
 }
 
+/// The value after the update, where `old` was there. It is changed in its place where the update can.
+fn edited<U: Update>(
+    alloc: Global,
+    update: &U,
+    old: Option<U::Value>,
+) -> Result<Option<U::Value>, NoMemory>
+    ensures { IfOk result (λ v. v ≡ U.means update.now old) }
+{
+    let Some(mut value) = old else {
+        return update.apply(alloc, old.as_ref());
+    };
+    if update.change(alloc, &mut value)? {
+        Ok(Some(value))
+    } else {
+        Ok(None)
+    }
+}
+
 /// A range-delete from `lo` up to and without `hi`, if any key can lie there.
 fn range_delete<U: Update>(lo: Key, hi: Option<Key>) -> Option<Msg<U>>
     ensures { result ≡ cut_range lo hi }
@@ -114,7 +132,7 @@ fn range_delete<U: Update>(lo: Key, hi: Option<Key>) -> Option<Msg<U>>
     Some(Msg::DelRange(KeyRange { lo, hi }))
 }
 
-/// Whether the message can change the value at the key. It takes no memory.
+/// Whether the message can change the value at the key.
 pub fn touches<U: Update>(msg: &Msg<U>, key: &Key) -> bool
     ensures { result ≡ is_touched msg.now key.now }
 {

@@ -38,7 +38,7 @@ impl<U: Update> Pending<U> {
         }
     }
 
-    /// A list of these messages, the oldest first. It takes no memory.
+    /// A list of these messages, the oldest first.
     pub fn of(msgs: Vec<Msg<U>>) -> Pending<U>
         ensures { Takes U.means [] msgs.items result.0 }
     {
@@ -52,14 +52,14 @@ impl<U: Update> Pending<U> {
         self.msgs.len()
     }
 
-    /// The messages, the oldest first. It takes no memory.
+    /// The messages, the oldest first.
     pub fn as_slice(&self) -> &[Msg<U>]
         ensures { result.now ≡ self.now.0 }
     {
         self.msgs.as_slice()
     }
 
-    /// Makes room for so many messages more. The messages and the room that was there stay, whatever it
+    /// Reserves room for that many more messages. The messages and the room that was there stay, whatever it
     /// answers, and it is refused only where it needed more room.
     pub fn reserve(&mut self, more: usize) -> Result<(), NoMemory>
         ensures messages { self.new.0 ≡ self.old.0 }
@@ -143,7 +143,7 @@ impl<U: Update> Pending<U> {
         lay_all(alloc, self.msgs.as_slice(), key, old)
     }
 
-    /// The same after the messages from number `from` on.
+    /// Likewise after the messages from number `from` on alone.
     pub fn apply_from(
         &self,
         alloc: Global,

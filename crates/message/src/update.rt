@@ -1,5 +1,5 @@
 //! Updates: changes of one value that may depend on the value.
-ghost use Rattle.std.specs.Prelude.{◌≡◌, Option, IfOk, IfSome, None};
+ghost use Rattle.std.specs.Prelude.{◌≡◌, Option, IfOk, IfSome, OnErr, None, Some, if◌then◌else◌};
 ghost use Rattle.std.specs.Option.{option_copied};
 
 use pathkey::NoMemory;
@@ -27,7 +27,22 @@ pub trait Update: Changes + Drop {
     ) -> Result<Option<Self::Value>, NoMemory>
         ensures { IfOk result (λ v. v ≡ means self.now (option_copied old.entry)) };
 
-    /// One update that means this one and then `later`, on every old value, where there is one.
+    /// Changes a value that is there in its place, and answers whether there still is one. On want of memory it is
+    /// as it was.
+    fn change(&self, alloc: Global, value: &mut Self::Value) -> Result<bool, NoMemory>
+        ensures ok { IfOk result (λ stays. (if stays then Some value.new else None) ≡ means self.now (Some value.old)) }
+        ensures err { OnErr result (value.new ≡ value.old) }
+    {
+        match self.apply(alloc, Some(value))? {
+            Some(new) => {
+                *value = new;
+                Ok(true)
+            }
+            None => Ok(false),
+        }
+    }
+
+    /// One update that does what this one and then `later` do to every old value, if the type has one.
     fn join(&self, alloc: Global, later: &Self) -> Result<Option<Self>, NoMemory>
         ensures { IfOk result (λ r. IfSome r (λ j. (old : Option Self.Value) → means j old ≡ means later.now (means self.now old))) };
 

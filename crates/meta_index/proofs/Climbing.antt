@@ -4,25 +4,24 @@ use Rattle.std.specs.Prelude.{MatchOption}
 use Rattle.pathkey.specs.Names.{Name, Path, IsPath, parent, parent_path}
 use Rattle.pathkey.specs.Enc.{enc}
 use Rattle.reference.specs.Tree.{Tree, Dir, File, entry_at, named, found, onward}
-use Rattle.reference.specs.Tree.{At as Place, Found as Standing, Missing as Absent, Blocked as Obstructed}
+use Rattle.reference.specs.Tree.{At, Found, Missing, Blocked}
 use Rattle.reference.specs.Calls.{no_directory_fault, parent_fault}
 use Rattle.reference.specs.Shape.{IsDirectory}
 use Rattle.reference.specs.Looks.{Look, Directory, Bytes, seen, look}
 use Rattle.reference.specs.Indexes.{meta_of}
 use Rattle.reference.specs.declared.reply.Meta.{Meta}
 use Rattle.reference.proofs.EntryPaths.{along, last_name}
-use Rattle.meta_index.specs.declared.at.At.{At}
-use Rattle.meta_index.specs.declared.at.At.TheVariants.{Found}
+use Rattle.meta_index.specs.declared.at.At as meta
 use Rattle.meta_index.specs.declared.index.MetaIndex.{MetaIndex}
 use Rattle.meta_index.specs.Means.{metadata, IsMeantBy, told, beyond, Decides}
 
 -- ---- one path
 
-told_seen : (here : Place) (v : Meta) → meta_of (seen here) ≡ Some v → Found v ≡ told here
-told_seen (Standing (Dir es)) v e = cc
-told_seen (Standing (File b)) v e = cc
-told_seen Absent v e = absurd (cc)
-told_seen Obstructed v e = absurd (cc)
+told_seen : (here : At) (v : Meta) → meta_of (seen here) ≡ Some v → meta.TheVariants.Found v ≡ told here
+told_seen (Found (Dir es)) v e = cc
+told_seen (Found (File b)) v e = cc
+told_seen Missing v e = absurd (cc)
+told_seen Blocked v e = absurd (cc)
 
 unseen : (l : Option Look) → meta_of l ≡ None → l ≡ None
 unseen None e = refl
@@ -30,7 +29,7 @@ unseen (Some Directory) e = absurd (cc)
 unseen (Some (Bytes b)) e = absurd (cc)
 
 -- the metadata at a path's key are those of what stands there
-pub found_told : (t : Tree) (m : MetaIndex) (p : Path) (v : Meta) → IsPath p → Some v ≡ metadata m (enc p) → IsMeantBy t m → Found v ≡ told (entry_at t p)
+pub found_told : (t : Tree) (m : MetaIndex) (p : Path) (v : Meta) → IsPath p → Some v ≡ metadata m (enc p) → IsMeantBy t m → meta.TheVariants.Found v ≡ told (entry_at t p)
 found_told t m p v is_path e means = told_seen (entry_at t p) v (sym (means.meta.paths p is_path) ∙ sym e)
 
 -- and where there are none, nothing is seen
@@ -56,22 +55,22 @@ height_of_parent (n ∷ p) = omega (arith, parent_shorter n p)
 pub height_falls : (a b : Option Path) (p : Path) → a ≡ parent_path p → b ≡ Some p → height a < height b
 height_falls a b p e f = omega (arith, ap height e, ap height f, height_of_parent p)
 
-lacking : (here : Place) (n : Name) → seen (onward here n) ≡ None → onward here n ≡ beyond here
-lacking (Standing (Dir es)) n e = absent (named n es) e
+lacking : (here : At) (n : Name) → seen (onward here n) ≡ None → onward here n ≡ beyond here
+lacking (Found (Dir es)) n e = absent (named n es) e
   where
-    absent : (o : Option Tree) → seen (found o) ≡ None → found o ≡ Absent
+    absent : (o : Option Tree) → seen (found o) ≡ None → found o ≡ Missing
     absent None f = refl
     absent (Some (Dir fs)) f = absurd (cc)
     absent (Some (File b)) f = absurd (cc)
-lacking (Standing (File b)) n e = refl
-lacking Absent n e = refl
-lacking Obstructed n e = refl
+lacking (Found (File b)) n e = refl
+lacking Missing n e = refl
+lacking Blocked n e = refl
 
-beyond_twice : (here : Place) → beyond (beyond here) ≡ beyond here
-beyond_twice (Standing (Dir es)) = refl
-beyond_twice (Standing (File b)) = refl
-beyond_twice Absent = refl
-beyond_twice Obstructed = refl
+beyond_twice : (here : At) → beyond (beyond here) ≡ beyond here
+beyond_twice (Found (Dir es)) = refl
+beyond_twice (Found (File b)) = refl
+beyond_twice Missing = refl
+beyond_twice Blocked = refl
 
 root_seen : (t : Tree) → IsDirectory t → look t [] ≡ None → ⊥
 root_seen (Dir es) d e = cc
@@ -95,7 +94,7 @@ parent_decides_for m p q is_path e decides t means none =
     above (k ∷ q) f g = f ∙ ap beyond g ∙ beyond_twice (entry_at t (parent (k ∷ q)))
 
 -- what stands at the path that decides tells why nothing stands below it
-pub decided : (m : MetaIndex) (p q : Path) (v : Meta) (at : At) → IsPath q → Some v ≡ metadata m (enc q) → Decides m p (Some q) → ((here : Place) → Found v ≡ told here → at ≡ told (beyond here))
+pub decided : (m : MetaIndex) (p q : Path) (v : Meta) (at : meta.At) → IsPath q → Some v ≡ metadata m (enc q) → Decides m p (Some q) → ((here : At) → meta.TheVariants.Found v ≡ told here → at ≡ told (beyond here))
     → (t : Tree) → IsMeantBy t m → look t p ≡ None → at ≡ told (entry_at t p)
 decided m p q v at is_path e decides tells t means none = tells (entry_at t q) (found_told t m q v is_path e means) ∙ ap told (sym (decides t means none))
 

@@ -6,7 +6,7 @@ use Rattle.node.specs.Meaning.{value}
 use Rattle.node.specs.Pure.{PNode, PTree, empty_root}
 use Rattle.pathkey.specs.Keys.{Key, enc}
 use Rattle.reference.specs.Tree.{Tree, Dir, nothing}
-use Rattle.reference.specs.Indexes.{MetaIndex as Index, MetaMeans, put_at}
+use Rattle.reference.specs.Indexes.{Metadata, MetaMeans, put_at}
 use Rattle.reference.specs.declared.reply.Meta.{Meta}
 use Rattle.reference.specs.declared.reply.Meta.TheVariants.{Dir as DirMeta}
 use Rattle.reference.proofs.FreshIndexes.{fresh_law}
@@ -16,7 +16,7 @@ use Rattle.meta_index.specs.Means.{metadata, IsMeantBy}
 use Rattle.meta_index.specs.Updates.{means}
 
 -- an index that agrees at each key means the same
-pub means_alike : (t : Tree) (m n : Index) → ((k : Key) → n k ≡ m k) → MetaMeans t m → MetaMeans t n
+pub means_alike : (t : Tree) (m n : Metadata) → ((k : Key) → n k ≡ m k) → MetaMeans t m → MetaMeans t n
 means_alike t m n alike old = record {
   paths = λ p u. alike (enc p) ∙ old.paths p u;
   only_paths = λ k v e. old.only_paths k v (sym (alike k) ∙ e);

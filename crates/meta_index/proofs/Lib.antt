@@ -1,5 +1,5 @@
 pub mod Climbing
-pub mod Lower
+pub mod BelowPath
 pub mod ChildKeys
 pub mod ChildOrder
 pub mod Listed

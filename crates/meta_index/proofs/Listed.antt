@@ -13,7 +13,7 @@ use Rattle.message.proofs.KeyOrder.{le_le, reaches-from_before, reaches-from_not
 use Rattle.scan.specs.Pairs.{HasNone, IsFirst}
 use Rattle.scan.proofs.NextKey.{by_bool, in_range, not_reaches, one_key}
 use Rattle.reference.specs.Tree.{Tree, Dir, File, Entries, nothing, entry, entry_at, named, found, onward}
-use Rattle.reference.specs.Tree.{At as Place, Found as Standing, Missing as Absent, Blocked as Obstructed}
+use Rattle.reference.specs.Tree.{At, Found, Missing, Blocked}
 use Rattle.reference.specs.Calls.{kind_of, listing, names_of}
 use Rattle.reference.specs.Shape.{AllAbove, Rising, RisingEntries}
 use Rattle.reference.specs.Looks.{seen}
@@ -26,7 +26,7 @@ use Rattle.reference.proofs.Standing.{rising-found}
 use Rattle.meta_index.specs.declared.index.MetaIndex.{MetaIndex}
 use Rattle.meta_index.specs.Below.{below, kind_told}
 use Rattle.meta_index.specs.Means.{metadata, IsMeantBy}
-use Rattle.meta_index.proofs.Lower.{in_below, from_below, seen_some}
+use Rattle.meta_index.proofs.BelowPath.{in_below, from_below, seen_some}
 use Rattle.meta_index.proofs.ChildOrder.{end_key, child_before, end_before, child_inside, child_first}
 
 -- q lies at or below an entry of es, in the directory p
@@ -42,7 +42,7 @@ module _ (t : Tree) (m : MetaIndex) (p : Path) where
   pub record IsRest (es : Entries) (listed : List (Kind × Name)) (lo : Key) (hi : Option Key) : Type 0 where
     pub whole : listed ++ listing es ≡ names_of (entry_at t p)
     pub rising : RisingEntries es
-    pub stand : (n : Name) (x : Tree) → named n es ≡ Some x → entry_at t (p ++ n ∷ []) ≡ Standing x
+    pub stand : (n : Name) (x : Tree) → named n es ≡ Some x → entry_at t (p ++ n ∷ []) ≡ Found x
     pub ahead : (n : Name) (x : Tree) → named n es ≡ Some x → reaches lo (enc (p ++ n ∷ [])) ≡ true
     pub only : (q : Path) (v : Meta) → IsPath q → within lo hi (enc q) ≡ true → metadata m (enc q) ≡ Some v → Among p es q
     pub high : hi ≡ (below p).hi
@@ -53,38 +53,38 @@ module _ (t : Tree) (m : MetaIndex) (p : Path) where
     pub rest : IsRest entries listed lo hi
 
 -- the directory's entries; none where there is no directory
-abbrev pub entries_of : Place → Entries
-entries_of (Standing (Dir es)) = es
-entries_of (Standing (File b)) = nothing
-entries_of Absent = nothing
-entries_of Obstructed = nothing
+abbrev pub entries_of : At → Entries
+entries_of (Found (Dir es)) = es
+entries_of (Found (File b)) = nothing
+entries_of Missing = nothing
+entries_of Blocked = nothing
 
-names_listed : (here : Place) → listing (entries_of here) ≡ names_of here
-names_listed (Standing (Dir es)) = refl
-names_listed (Standing (File b)) = refl
-names_listed Absent = refl
-names_listed Obstructed = refl
+names_listed : (here : At) → listing (entries_of here) ≡ names_of here
+names_listed (Found (Dir es)) = refl
+names_listed (Found (File b)) = refl
+names_listed Missing = refl
+names_listed Blocked = refl
 
-entry_stands : (here : Place) (n : Name) (x : Tree) → named n (entries_of here) ≡ Some x → onward here n ≡ Standing x
-entry_stands (Standing (Dir es)) n x e = ap found e
-entry_stands (Standing (File b)) n x e = absurd (cc)
-entry_stands Absent n x e = absurd (cc)
-entry_stands Obstructed n x e = absurd (cc)
+entry_stands : (here : At) (n : Name) (x : Tree) → named n (entries_of here) ≡ Some x → onward here n ≡ Found x
+entry_stands (Found (Dir es)) n x e = ap found e
+entry_stands (Found (File b)) n x e = absurd (cc)
+entry_stands Missing n x e = absurd (cc)
+entry_stands Blocked n x e = absurd (cc)
 
-some_entry : (here : Place) (n : Name) (r : Path) (v : Meta) → meta_of (seen (fold onward here (n ∷ r))) ≡ Some v → (x : Tree) × (named n (entries_of here) ≡ Some x)
-some_entry (Standing (Dir es)) n r v e = elim (named n es) as (λ o. named n es ≡ o → meta_of (seen (fold onward (found o) r)) ≡ Some v → (x : Tree) × (named n es ≡ Some x)) [
-  | None ↦ λ f g. absurd (let clash : None ≡ Some v = sym (ap (λ (a : Place). meta_of (seen a)) (fold-Missing r)) ∙ g in cc)
+some_entry : (here : At) (n : Name) (r : Path) (v : Meta) → meta_of (seen (fold onward here (n ∷ r))) ≡ Some v → (x : Tree) × (named n (entries_of here) ≡ Some x)
+some_entry (Found (Dir es)) n r v e = elim (named n es) as (λ o. named n es ≡ o → meta_of (seen (fold onward (found o) r)) ≡ Some v → (x : Tree) × (named n es ≡ Some x)) [
+  | None ↦ λ f g. absurd (let clash : None ≡ Some v = sym (ap (λ (a : At). meta_of (seen a)) (fold-Missing r)) ∙ g in cc)
   | Some x ↦ λ f g. (x, f)
 ] refl e
-some_entry (Standing (File b)) n r v e = absurd (let clash : None ≡ Some v = sym (ap (λ (a : Place). meta_of (seen a)) (fold-Blocked r)) ∙ e in cc)
-some_entry Absent n r v e = absurd (let clash : None ≡ Some v = sym (ap (λ (a : Place). meta_of (seen a)) (fold-Missing r)) ∙ e in cc)
-some_entry Obstructed n r v e = absurd (let clash : None ≡ Some v = sym (ap (λ (a : Place). meta_of (seen a)) (fold-Blocked r)) ∙ e in cc)
+some_entry (Found (File b)) n r v e = absurd (let clash : None ≡ Some v = sym (ap (λ (a : At). meta_of (seen a)) (fold-Blocked r)) ∙ e in cc)
+some_entry Missing n r v e = absurd (let clash : None ≡ Some v = sym (ap (λ (a : At). meta_of (seen a)) (fold-Missing r)) ∙ e in cc)
+some_entry Blocked n r v e = absurd (let clash : None ≡ Some v = sym (ap (λ (a : At). meta_of (seen a)) (fold-Blocked r)) ∙ e in cc)
 
-entries_rise : (t : Tree) (p : Path) (here : Place) → entry_at t p ≡ here → Rising t → RisingEntries (entries_of here)
-entries_rise t p (Standing (Dir es)) e h = rising-found p t (Dir es) e h
-entries_rise t p (Standing (File b)) e h = tt
-entries_rise t p Absent e h = tt
-entries_rise t p Obstructed e h = tt
+entries_rise : (t : Tree) (p : Path) (here : At) → entry_at t p ≡ here → Rising t → RisingEntries (entries_of here)
+entries_rise t p (Found (Dir es)) e h = rising-found p t (Dir es) e h
+entries_rise t p (Found (File b)) e h = tt
+entries_rise t p Missing e h = tt
+entries_rise t p Blocked e h = tt
 
 -- nothing is listed yet
 pub listed_none : (t : Tree) (m : MetaIndex) (p : Path) → IsPath p → IsMeantBy t m → Listed t m p [] (below p).lo (below p).hi
@@ -97,7 +97,7 @@ listed_none t m p is_path means = record {
     ahead = λ n x e. (and_parts _ _ (in_below p n [])).0;
     only = λ q v of inside e.
         let at : (n : Name) × (r : Path) × (q ≡ p ++ n ∷ r) = from_below p q is_path.names of.names inside in
-        let meta : meta_of (seen (fold onward (entry_at t p) (at.0 ∷ at.1))) ≡ Some v = ap (λ (a : Place). meta_of (seen a)) (sym (along t p (at.0 ∷ at.1)) ∙ ap (entry_at t) (sym at.2)) ∙ sym (means.meta.paths q of) ∙ e in
+        let meta : meta_of (seen (fold onward (entry_at t p) (at.0 ∷ at.1))) ≡ Some v = ap (λ (a : At). meta_of (seen a)) (sym (along t p (at.0 ∷ at.1)) ∙ ap (entry_at t) (sym at.2)) ∙ sym (means.meta.paths q of) ∙ e in
         let some : (x : Tree) × (named at.0 (entries_of (entry_at t p)) ≡ Some x) = some_entry (entry_at t p) at.0 at.1 v meta in
         record { name = at.0; rest = at.1; tree = some.0; path = at.2; entry = some.1 };
     high = refl;
@@ -131,7 +131,7 @@ later_named k n x y es h e = by_bool (same k n) (named k (entry n y es) ≡ Some
 name_bytes : (p : Path) (n : Name) (r : Path) → IsPath (p ++ n ∷ r) → HasNameBytes n
 name_bytes p n r h = (each_rest p (n ∷ r) h.names).0.bytes
 
-kind_is : (x : Tree) (v : Meta) → meta_of (seen (Standing x)) ≡ Some v → kind_told v ≡ kind_of x
+kind_is : (x : Tree) (v : Meta) → meta_of (seen (Found x)) ≡ Some v → kind_told v ≡ kind_of x
 kind_is (Dir es) v e = cc
 kind_is (File b) v e = cc
 
@@ -146,10 +146,10 @@ pub record Next (t : Tree) (m : MetaIndex) (p : Path) (listed : List (Kind × Na
 
 module _ (t : Tree) (m : MetaIndex) (p : Path) (means : IsMeantBy t m) (listed : List (Kind × Name)) (lo : Key) (hi : Option Key) where
   -- the metadata of an entry that is left
-  own_meta : (es : Entries) → IsRest t m p es listed lo hi → (n : Name) (x : Tree) → named n es ≡ Some x → metadata m (enc (p ++ n ∷ [])) ≡ meta_of (seen (Standing x))
+  own_meta : (es : Entries) → IsRest t m p es listed lo hi → (n : Name) (x : Tree) → named n es ≡ Some x → metadata m (enc (p ++ n ∷ [])) ≡ meta_of (seen (Found x))
   own_meta es r n x e =
-      let there : entry_at t (p ++ n ∷ []) ≡ Standing x = r.stand n x e in
-      means.meta.paths (p ++ n ∷ []) (means.tree.paths (p ++ n ∷ []) x there) ∙ ap (λ (a : Place). meta_of (seen a)) there
+      let there : entry_at t (p ++ n ∷ []) ≡ Found x = r.stand n x e in
+      means.meta.paths (p ++ n ∷ []) (means.tree.paths (p ++ n ∷ []) x there) ∙ ap (λ (a : At). meta_of (seen a)) there
 
   -- no key from lo on where the first entry's key is not reached yet
   reached : (es : Entries) → IsRest t m p es listed lo hi → (n : Name) (x : Tree) → named n es ≡ Some x → (k : Key) → HasNone (metadata m) lo (Some k) → reaches k (enc (p ++ n ∷ [])) ≡ true
@@ -179,7 +179,7 @@ module _ (t : Tree) (m : MetaIndex) (p : Path) (means : IsMeantBy t m) (listed :
     rising = r.rising.2;
     stand = λ k y e. r.stand k y (later_named k n y x es r.rising.0 e);
     ahead = λ k y e.
-        let there : entry_at t (p ++ k ∷ []) ≡ Standing y = r.stand k y (later_named k n y x es r.rising.0 e) in
+        let there : entry_at t (p ++ k ∷ []) ≡ Found y = r.stand k y (later_named k n y x es r.rising.0 e) in
         end_before p n k [] (name_bytes p k [] (means.tree.paths (p ++ k ∷ []) y there)) (above_named n k es y r.rising.0 e);
     only = λ q w of inside e.
         let parts : (reaches (end_key p n) (enc q) ≡ true) × (is_below (enc q) hi ≡ true) = and_parts _ _ inside in
@@ -201,7 +201,7 @@ module _ (t : Tree) (m : MetaIndex) (p : Path) (means : IsMeantBy t m) (listed :
   next_of nothing k v r h q e of among = absurd (let f : None ≡ Some among.tree = among.entry in cc)
   next_of (entry n x es) k v r h q e of among =
       let key : k ≡ enc (p ++ n ∷ []) = first_key n x es r k q e of among h.2 in
-      let meta : meta_of (seen (Standing x)) ≡ Some v = sym (own_meta (entry n x es) r n x (first_named n x es)) ∙ ap (metadata m) (sym key) ∙ h.1 in
+      let meta : meta_of (seen (Found x)) ≡ Some v = sym (own_meta (entry n x es) r n x (first_named n x es)) ∙ ap (metadata m) (sym key) ∙ h.1 in
       record {
         name = n;
         path = means.tree.paths (p ++ n ∷ []) x (r.stand n x (first_named n x es));

@@ -2,7 +2,7 @@
 ghost use Rattle.std.specs.Prelude.{◌≡◌};
 ghost use Rattle.meta_index.specs.Means.{beyond, told};
 ghost use Rattle.reference.specs.Calls.{no_directory_fault};
-ghost use Rattle.reference.specs.Tree.{At as Place};
+ghost use Rattle.reference.specs.Tree as trees;
 
 use pathkey::Errno;
 use reference::Meta;
@@ -19,9 +19,9 @@ pub enum At {
 }
 
 impl At {
-    /// What stands at a name below an entry with this metadata, where no entry has that name. It takes no memory.
+    /// What stands at a name below an entry with this metadata, where no entry has that name.
     pub(crate) fn below(above: Meta) -> At
-        ensures { (here : Place) → At.Found above ≡ told here → result ≡ told (beyond here) }
+        ensures { (here : trees.At) → At.Found above ≡ told here → result ≡ told (beyond here) }
     {
         match above {
             Meta::Dir => At::Missing,
@@ -29,9 +29,9 @@ impl At {
         }
     }
 
-    /// Why the path names no directory; none where it does. It takes no memory.
+    /// Why the path names no directory; none where it does.
     pub fn fault_of_directory(self) -> Option<Errno>
-        ensures { (here : Place) → self ≡ told here → result ≡ no_directory_fault here }
+        ensures { (here : trees.At) → self ≡ told here → result ≡ no_directory_fault here }
     {
         match self {
             At::Found(Meta::Dir) => None,

@@ -3,7 +3,7 @@ ghost use Rattle.std.specs.Prelude.{◌≡◌, IfOk, IsTrue, None, not};
 ghost use Rattle.meta_index.specs.Means.{IsMeantBy, metadata, told};
 ghost use Rattle.node.specs.Shapes.{is_shape};
 ghost use Rattle.pathkey.specs.Keys.{subtree};
-ghost use Rattle.reference.specs.Calls.{is_full, names_of, parent_fault};
+ghost use Rattle.reference.specs.Calls.{is_found, is_full, names_of, parent_fault};
 ghost use Rattle.reference.specs.Looks.{look};
 ghost use Rattle.reference.specs.Pairs.{pairs_of};
 ghost use Rattle.reference.specs.Tree.{Dir, Tree as DirectoryTree, entry_at, nothing};
@@ -50,6 +50,14 @@ impl MetaIndex {
             Some(meta) => Ok(At::Found(meta)),
             None => self.find_obstacle(alloc, path),
         }
+    }
+
+    /// Whether something stands at the path, by one look-up. It fails only for want of memory.
+    pub fn has(&self, alloc: Global, path: &Path) -> Result<bool, NoMemory>
+        ensures { IfOk result (λ there. (t : DirectoryTree) → IsMeantBy t self.now → there ≡ is_found (entry_at t path.now)) }
+    {
+        let meta = get(alloc, &self.tree, path.key())?;
+        Ok(meta.is_some())
     }
 
     /// Why nothing stands at the path: the nearest path above at which something stands is a directory, or a file.

@@ -197,15 +197,17 @@ fn a_directory_lists_its_own_entries_in_order(rt: HostRuntime) -> Result<(), Fai
 }
 
 #[test]
-fn the_pairs_of_a_subtree_begin_with_its_own(rt: HostRuntime) -> Result<(), Fail> {
+fn the_pairs_of_a_subtree_stand_in_the_order_of_their_keys(rt: HostRuntime) -> Result<(), Fail> {
     let alloc = rt.alloc();
     let index = sample(alloc)?;
     let at = path(alloc, b"/a")?;
-    for (limit, wanted) in [(0, 0), (1, 1), (3, 3), (9, 4)] {
+    let wanted: [&[u8]; 4] = [b"/a", b"/a/d", b"/a/d/y", b"/a/x"];
+    for (limit, count) in [(0, 0), (1, 1), (3, 3), (9, 4), (usize::MAX, 4)] {
         let pairs = index.below(alloc, &at, limit)?;
-        assert_eq!(rt; pairs.len(), wanted);
-        if let Some(pair) = pairs.first() {
-            assert_eq!(rt; pair.1, Meta::Dir);
+        assert_eq!(rt; pairs.len(), count);
+        for (pair, text) in pairs.as_slice().iter().zip(wanted) {
+            let own = path(alloc, text)?;
+            assert!(rt; &pair.0 == own.key(), "at most {limit}");
         }
     }
     Ok(())

@@ -18,7 +18,7 @@ pub enum MetaUpdate {
 }
 
 impl MetaUpdate {
-    /// The metadata after the update. It takes no memory.
+    /// The metadata after the update.
     pub fn after(self, old: Meta) -> Meta
         ensures { Some result ≡ meant self (Some old) }
     {
@@ -29,7 +29,7 @@ impl MetaUpdate {
         }
     }
 
-    /// The one update that means this one and then `later`. It takes no memory.
+    /// The one update that means this one and then `later`.
     pub fn then(self, later: MetaUpdate) -> MetaUpdate
         ensures { (old : Option MetaValue) → meant result old ≡ meant later (meant self old) }
     {

@@ -70,7 +70,7 @@ module _ {U V : Type 0} (means : U → Option V → Option V) where
   pub effects-taken : (lo : List ℕ) (hi : Option (List ℕ)) (old ms new : List (Msg U V)) (k : List ℕ) (v : Option V) → Takes means old (pieces lo hi ms) new → within lo hi k ≡ true → effects means new k v ≡ effects means ms k (effects means old k v)
   effects-taken lo hi old ms new k v t h = t.meaning k v ∙ effects-pieces means lo hi ms k (effects means old k v) h
 
-  -- the same of the slot that holds the key
+  -- likewise for the slot that holds the key
   slot-taken : (lo : List ℕ) (hi : Option (List ℕ)) (old ms new : List (Msg U V)) (n n' : PNode U V) (k : List ℕ) → Takes means old (pieces lo hi ms) new → n' ≡ n → reaches lo k ≡ true → is_below k hi ≡ true
       → effects means new k (value means n' k) ≡ effects means ms k (effects means old k (value means n k))
   slot-taken lo hi old ms new n n' k t same low high =

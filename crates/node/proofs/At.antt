@@ -1,11 +1,11 @@
 -- A change at a place, one level up.
-use Rattle.std.proofs.Common.{◌≡◌, ℕ, zero, suc, ◌<◌, ◌≤◌, List, [], ◌∷◌, length, get_or, map, refl, ap, sym, ◌∙◌, subst, arith, Some, None}
+use Rattle.std.proofs.Common.{◌≡◌, ℕ, zero, suc, ◌<◌, ◌≤◌, List, [], ◌∷◌, length, get_or, refl, ap, sym, ◌∙◌, subst, arith, Some, None}
 use Rattle.std.proofs.Math.ListN.{set}
 use Rattle.std.specs.Prelude.{MatchOption}
 use Rattle.node.specs.declared.step.StepReply.{StepReply}
 use Rattle.node.specs.declared.node.Slot.{Slot}
-use Rattle.node.specs.See.{see_slot}
-use Rattle.node.specs.Pure.{PNode, leaf, inner, PSlots, none, more, slots}
+use Rattle.node.specs.See.{seen_slots}
+use Rattle.node.specs.Pure.{PNode, leaf, inner, PSlots, none, more}
 use Rattle.node.specs.Site.{slots_at, with_slots, of_child, child_changed}
 use Rattle.node.specs.Steps.{At, IsMissing}
 
@@ -23,13 +23,13 @@ module _ {U V : Type 0} where
   IsChild (more lo ms n ss) (suc i) c = IsChild ss i c
 
   -- a slot written with its child changed
-  pub slots-set : (xs : List (Slot U V)) (i : ℕ) (s d : Slot U V) (n : PNode U V) → i < length xs → s.lo ≡ (get_or xs i d).lo → s.pending.0 ≡ (get_or xs i d).pending.0 → s.child.value ≡ n → slots (map see_slot (set xs i s)) ≡ with_child (slots (map see_slot xs)) i n
+  pub slots-set : (xs : List (Slot U V)) (i : ℕ) (s d : Slot U V) (n : PNode U V) → i < length xs → s.lo ≡ (get_or xs i d).lo → s.pending.0 ≡ (get_or xs i d).pending.0 → s.child.value ≡ n → seen_slots (set xs i s) ≡ with_child (seen_slots xs) i n
   slots-set [] i s d n h a b e = absurd (omega arith)
-  slots-set (x ∷ xs) zero s d n h a b e = λ j. more (a j) (b j) (e j) (slots (map see_slot xs))
+  slots-set (x ∷ xs) zero s d n h a b e = λ j. more (a j) (b j) (e j) (seen_slots xs)
   slots-set (x ∷ xs) (suc i) s d n h a b e = ap (more x.lo x.pending.0 x.child.value) (slots-set xs i s d n (omega arith) a b e)
 
   -- the child of the slot that the code reads
-  pub IsChild-get : (xs : List (Slot U V)) (i : ℕ) (s : Slot U V) → i < length xs → s ≡ get_or xs i s → IsChild (slots (map see_slot xs)) i s.child.value
+  pub IsChild-get : (xs : List (Slot U V)) (i : ℕ) (s : Slot U V) → i < length xs → s ≡ get_or xs i s → IsChild (seen_slots xs) i s.child.value
   IsChild-get [] i s h e = absurd (omega arith)
   IsChild-get (x ∷ xs) zero s h e = ap (λ (t : Slot U V). t.child.value) (sym e)
   IsChild-get (x ∷ xs) (suc i) s h e = IsChild-get xs i s (omega arith) e
@@ -53,7 +53,7 @@ module _ {U V : Type 0} where
   child_changed-is f (more lo ms n ss) (suc i) c h = ap (more lo ms n) (child_changed-is f ss i c h)
 
   -- past the last slot there is no child
-  pub of_child-past : {X : Type 0} (d : X) (f : PNode U V → X) (xs : List (Slot U V)) (i : ℕ) → length xs ≤ i → of_child d f (slots (map see_slot xs)) i ≡ d
+  pub of_child-past : {X : Type 0} (d : X) (f : PNode U V → X) (xs : List (Slot U V)) (i : ℕ) → length xs ≤ i → of_child d f (seen_slots xs) i ≡ d
   of_child-past d f [] i h = refl
   of_child-past d f (x ∷ xs) zero h = absurd (omega arith)
   of_child-past d f (x ∷ xs) (suc i) h = of_child-past d f xs i (omega arith)
@@ -93,13 +93,13 @@ module _ {U V : Type 0} where
         | Some s ↦ λ t. (t.0, ap (λ x. inner (with_child ss i x)) t.1 ∙ ap inner (sym (child_changed-is (with_slots p t.0) ss i c h)), t.2)
       ]) q)
 
-  -- the same of the slots as the code writes them: b is a with the child of s changed to n
-  pub at_below : (q p : List ℕ) (r : StepReply) (R : PSlots U V → PSlots U V → Type 0) (xs : List (Slot U V)) (i : ℕ) (s t : Slot U V) (n a b : PNode U V) → q ≡ i ∷ p → i < length xs → s ≡ get_or xs i s → t.lo ≡ s.lo → t.pending.0 ≡ s.pending.0 → t.child.value ≡ n → At p r R s.child.value n → inner (slots (map see_slot xs)) ≡ a → b ≡ inner (slots (map see_slot (set xs i t))) → At q r R a b
+  -- likewise for the slots as the code writes them: b is a with the child of s changed to n
+  pub at_below : (q p : List ℕ) (r : StepReply) (R : PSlots U V → PSlots U V → Type 0) (xs : List (Slot U V)) (i : ℕ) (s t : Slot U V) (n a b : PNode U V) → q ≡ i ∷ p → i < length xs → s ≡ get_or xs i s → t.lo ≡ s.lo → t.pending.0 ≡ s.pending.0 → t.child.value ≡ n → At p r R s.child.value n → inner (seen_slots xs) ≡ a → b ≡ inner (seen_slots (set xs i t)) → At q r R a b
   at_below q p r R xs i s t n a b eq h e el em en u ea eb =
       let lo = el ∙ ap (λ (x : Slot U V). x.lo) e in
       let ms = em ∙ ap (λ (x : Slot U V). x.pending.0) e in
-      let new : inner (with_child (slots (map see_slot xs)) i n) ≡ b = sym (eb ∙ ap inner (slots-set xs i t s n h lo ms en)) in
-      subst (λ z. At z r R a b) (sym eq) (subst (λ y. At (i ∷ p) r R a y) new (subst (λ x. At (i ∷ p) r R x (inner (with_child (slots (map see_slot xs)) i n))) ea (at_child p i r R (slots (map see_slot xs)) s.child.value n (IsChild-get xs i s h e) u)))
+      let new : inner (with_child (seen_slots xs) i n) ≡ b = sym (eb ∙ ap inner (slots-set xs i t s n h lo ms en)) in
+      subst (λ z. At z r R a b) (sym eq) (subst (λ y. At (i ∷ p) r R a y) new (subst (λ x. At (i ∷ p) r R x (inner (with_child (seen_slots xs) i n))) ea (at_child p i r R (seen_slots xs) s.child.value n (IsChild-get xs i s h e) u)))
 
   -- at the node itself
   pub at_here : (r : StepReply) (R : PSlots U V → PSlots U V → Type 0) (ss ts : PSlots U V) (a b : PNode U V) → inner ss ≡ a → b ≡ inner ts → R ss ts → At [] r R a b

@@ -16,7 +16,7 @@ module _ {V : Type 0} where
   before_first lo hi x xs k r h = lookup_outside x.0 hi (x ∷ xs) k (reaches-refl x.0, r.1, r.2) (ap (λ b. b && is_below k hi) (not_reaches_from_before k x.0 h))
 
   -- the key of the first entry has no other
-  only_first : (lo : List ℕ) (hi : Option (List ℕ)) (x : List ℕ × V) (xs : List (List ℕ × V)) → Rises lo hi (x ∷ xs) → lookup xs x.0 ≡ None
+  pub only_first : (lo : List ℕ) (hi : Option (List ℕ)) (x : List ℕ × V) (xs : List (List ℕ × V)) → Rises lo hi (x ∷ xs) → lookup xs x.0 ≡ None
   only_first lo hi x [] r = refl
   only_first lo hi x (z ∷ zs) r = before_first x.0 hi z zs x.0 r.2 r.1
 

@@ -2,7 +2,7 @@
 use Rattle.std.proofs.Common.{◌≡◌, ℕ, zero, suc, ◌<◌, ◌≤◌, max, Bool, true, false, List, [], ◌∷◌, ◌++◌, length, get_or, set, insert, remove, take, drop, refl, ap, sym, ◌∙◌, subst, Option, Some, None, cond, arith, length-append, length-take, length-drop, take-append-drop}
 use Rattle.std.specs.Prelude.{◌&&◌}
 use Rattle.std.specs.Option.{option_or}
-use Rattle.std.proofs.lemmas.List.{set_split}
+use Rattle.std.proofs.lemmas.List.{set_split, take-set, drop-set-lt}
 use Rattle.pathkey.specs.Order.{same}
 use Rattle.pathkey.specs.Keys.{is_below}
 use Rattle.pathkey.proofs.OrderFacts.{same_true, same_false, same_itself}
@@ -99,10 +99,19 @@ module _ {V : Type 0} (k : List ℕ) (es : List (List ℕ × V)) (i : ℕ) where
 pub is_changed_to : {V : Type 0} (picks : List ℕ → Bool) (v w : Option V) (old new : List (List ℕ × V)) → v ≡ w → IsChanged picks v old new → IsChanged picks w old new
 is_changed_to picks v w old new e h = subst (λ o. IsChanged picks o old new) e h
 
--- what an update makes of the value of an entry is what it makes of the value at its key
-pub is_edited : {V : Type 0} (makes : Option V → Option V) (k : List ℕ) (es new : List (List ℕ × V)) (i : ℕ) (x : List ℕ × V) (v : Option V) → IsEntry es k i → x ≡ get_or es i x → v ≡ makes (Some x.1) → IsChanged (same k) v es new → IsChanged (same k) (makes (lookup es k)) es new
-is_edited {V} makes k es new i x v g at made h =
-    is_changed_to (same k) v (makes (lookup es k)) es new (made ∙ ap makes (ap (λ (y : List ℕ × V). Some y.1) at ∙ sym (g.value x))) h
+-- an update changes the value of an entry, or leaves none
+module _ {V : Type 0} (makes : Option V → Option V) (k : List ℕ) (es : List (List ℕ × V)) (i : ℕ) (x : List ℕ × V) (v : V) (g : IsEntry es k i) (r : Rises [] None es) (at : x ≡ get_or es i x) where
+  -- what it makes of the value of the entry is what it makes of the value at its key
+  made_at : (w : Option V) → w ≡ makes (Some x.1) → w ≡ makes (lookup es k)
+  made_at w made = made ∙ ap makes (ap (λ (y : List ℕ × V). Some y.1) at ∙ sym (g.value x))
+
+  pub is_edited : Some v ≡ makes (Some x.1) → IsChanged (same k) (makes (lookup es k)) es (set es i (x.0, v))
+  is_edited made = is_changed_to (same k) (Some v) (makes (lookup es k)) es (set es i (x.0, v)) (made_at (Some v) made) (is_replaced k es i x v g r at)
+
+  pub is_edited_away : (new : List (List ℕ × V)) → None ≡ makes (Some x.1) → new ≡ remove (set es i (x.0, v)) i → IsChanged (same k) (makes (lookup es k)) es new
+  is_edited_away new made is =
+      let gone : remove (set es i (x.0, v)) i ≡ remove es i = ap (λ (front : List (List ℕ × V)). front ++ drop (suc i) (set es i (x.0, v))) (take-set es i (x.0, v)) ∙ ap (λ (back : List (List ℕ × V)). take i es ++ back) (drop-set-lt (suc i) es i (x.0, v) (omega arith)) in
+      subst (λ (n : List (List ℕ × V)). IsChanged (same k) (makes (lookup es k)) es n) (sym (is ∙ gone)) (is_changed_to (same k) None (makes (lookup es k)) es (remove es i) (made_at None made) (is_removed k es i g r))
 
 -- the entries from number i up to j lie in the range, the others do not
 cleared : {V : Type 0} (lo : List ℕ) (hi : Option (List ℕ)) (es : List (List ℕ × V)) (i j : ℕ) → IsCount es (Some lo) i → IsCount es hi j → IsChanged (within lo hi) None es (take i es ++ drop (max j i) es)

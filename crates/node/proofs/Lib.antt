@@ -9,11 +9,11 @@ pub mod LeafChanges
 pub mod Fewer
 pub mod Applying
 pub mod At
-pub mod There
+pub mod StepPlaces
 pub mod Splice
 pub mod Kept
 pub mod Outcome
 pub mod Parting
-pub mod Doing
+pub mod StepDone
 pub mod Sinking
 pub mod Sizes

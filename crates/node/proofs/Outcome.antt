@@ -1,6 +1,6 @@
 -- What a step at a node does to the tree.
-use Rattle.std.proofs.Common.{◌≡◌, ℕ, zero, suc, ◌≤◌, Bool, true, false, List, [], ◌∷◌, length, refl, ap, sym, ◌∙◌, subst, arith, Option, Some, None}
-use Rattle.std.specs.Prelude.{MatchOption, IfSome, ◌==◌}
+use Rattle.std.proofs.Common.{◌≡◌, ℕ, zero, suc, ◌≤◌, Bool, true, false, List, [], ◌∷◌, length, refl, ap, sym, ◌∙◌, subst, arith, Option, Some, None, inl, inr}
+use Rattle.std.specs.Prelude.{MatchOption, IfSome, ◌==◌, ◌⊎◌}
 use Rattle.node.specs.declared.shape.Shape.{Shape}
 use Rattle.node.specs.declared.step.StepReply.{StepReply}
 use Rattle.node.specs.declared.step.StepReply.TheVariants.{Did, NotThere, NoRoom, NoMemory}
@@ -13,7 +13,7 @@ use Rattle.node.specs.Meaning.{value, slots_value}
 use Rattle.node.specs.Lawful.{IsLawfulRoot, AreLawfulSlots, slot_count, starts_at}
 use Rattle.node.specs.Site.{slots_at, with_slots, end_at, of_child, child_changed, joined, slots_from, Spliced}
 use Rattle.node.specs.Sinks.{first_lo}
-use Rattle.node.specs.Steps.{LawfulSlots, is_top, width, OthersStay, Stepped, Done, Replies, At, IsMissing, IfDid, UnlessDid, HasNoRoom, there, can, can_from, Answers}
+use Rattle.node.specs.Steps.{LawfulSlots, is_top, width, OthersStay, Stepped, Done, Replies, At, IsMissing, IfDid, UnlessDid, HasNoRoom, OnlyDoingTells, MayHaveRoom, IsAdmitted, IsRefused, Refusal, there, can, Answers}
 use Rattle.message.proofs.KeyOrder.{both}
 use Rattle.node.proofs.At.{with_slots-same}
 use Rattle.node.proofs.Splice.{value-spliced, counted-more, starts-more, starts-first}
@@ -56,7 +56,8 @@ module _ {U V : Type 0} where
     pub did : IfDid r (λ n. Stepped means kind shape n p i a b)
     pub others : IfDid r (λ n. OthersStay kind p i a b)
     pub there : r ≡ NotThere → ⊥
-    pub full : r ≡ NoRoom → IfSome (slots_at p a) (HasNoRoom means kind shape (is_top p) i)
+    pub full : r ≡ NoRoom → IsRefused means kind shape (is_top p) i (end_at p None a) (slots_at p a)
+    pub told : IsRefused means kind shape (is_top p) i (end_at p None a) (slots_at p a) → (r ≡ NoRoom) ⊎ ((r ≡ NoMemory) × MatchOption (slots_at p a) ⊥ (λ ss. OnlyDoingTells kind (slots_from i ss)))
     pub unchanged : UnlessDid r (b ≡ a)
 
   -- a changed child is a change of its slot alone
@@ -69,12 +70,12 @@ module _ {U V : Type 0} where
 
   module _ (means : U → Option V → Option V) (kind : StepKind) (shape : Shape) (i : ℕ) where
     -- what sinks keeps the slots
-    kept : (root : Bool) (n h : ℕ) (lo : List ℕ) (hi : Option (List ℕ)) (ss new : PSlots U V) → LawfulSlots shape root h lo hi ss → Done means kind shape n i hi ss new → LawfulSlots shape root h lo hi new → SlotsKept means shape root h lo hi ss new (Done means kind shape n i hi ss new)
-    kept root n h lo hi ss new l d m =
+    kept : (root : Bool) (n h : ℕ) (lo : List ℕ) (hi : Option (List ℕ)) (ss new : PSlots U V) → LawfulSlots shape root h lo hi ss → Done means kind shape n i hi ss new → LawfulSlots shape root h lo hi new → (HasNoRoom means kind shape root i ss → ⊥) → SlotsKept means shape root h lo hi ss new (Done means kind shape n i hi ss new × (HasNoRoom means kind shape root i ss → ⊥))
+    kept root n h lo hi ss new l d m f =
         let a = joined d.before (joined d.old d.after) in
         let b = joined d.before (joined d.new d.after) in
         record {
-          fact = d;
+          fact = (d, f);
           lawful = m;
           same = λ k w.
               let q = both (reaches lo k) (is_below k hi) w in
@@ -93,22 +94,33 @@ module _ {U V : Type 0} where
         record { before = d.before; old = d.old; new = d.new; after = d.after; was = q ∙ d.was; is = d.is; number = d.number; width = d.width; changed = d.changed.0.starts }
     others n (j ∷ p) h (inner ts) ss new l e d = child-spliced (with_slots p new) (slots_at p) ss ts j None e
 
-    module _ (p : List ℕ) (h : ℕ) (a b : PNode U V) (ss new : PSlots U V) (l : IsLawfulRoot shape a h) (e : slots_at p a ≡ Some ss) (is : b ≡ with_slots p new a) (able : can kind (end_at p None a) (slots_from i ss) ≡ true) where
+    module _ (p : List ℕ) (h : ℕ) (a b : PNode U V) (ss new : PSlots U V) (l : IsLawfulRoot shape a h) (e : slots_at p a ≡ Some ss) (is : b ≡ with_slots p new a) (able : can kind (end_at p None a) (slots_from i ss) ≡ true) (room : (g : ℕ) (lo : List ℕ) → LawfulSlots shape (is_top p) g lo (end_at p None a) ss → MayHaveRoom means kind shape (is_top p) i ss) where
       -- slots that stay leave the tree
       same : new ≡ ss → b ≡ a
       same q = is ∙ ap (λ z. with_slots p z a) q ∙ with_slots-same p a ss e
 
+      -- where there is no room at the place, the slots there have none
+      lacks : IsRefused means kind shape (is_top p) i (end_at p None a) (slots_at p a) → HasNoRoom means kind shape (is_top p) i ss
+      lacks z = subst (λ o. IfSome o (HasNoRoom means kind shape (is_top p) i)) e z.1
+
+      -- and if so, only doing the step tells
+      untold : HasNoRoom means kind shape (is_top p) i ss → MatchOption (slots_at p a) ⊥ (λ ts. OnlyDoingTells kind (slots_from i ts))
+      untold z =
+          let m = (root_kept means shape ss ss (MayHaveRoom means kind shape (is_top p) i ss) p a h e (λ g lo m. record { fact = room g lo m; lawful = m; same = λ k w. refl }) l).2 in
+          subst (λ o. MatchOption o ⊥ (λ ts. OnlyDoingTells kind (slots_from i ts))) (sym e) (m z)
+
       -- what the reply at the place says of the tree
       outcome_by : (r : StepReply) → Replies means kind shape (is_top p) i r ss new → Outcome means kind shape p i h r a b
       outcome_by (Did n) q =
-          let k = root_kept means shape ss new (Done means kind shape n i (end_at p None a) ss new) p a h e (λ g lo m. let x = q g lo (end_at p None a) m able in kept (is_top p) n g lo (end_at p None a) ss new m x.0 x.1) l in
+          let k = root_kept means shape ss new (Done means kind shape n i (end_at p None a) ss new × (HasNoRoom means kind shape (is_top p) i ss → ⊥)) p a h e (λ g lo m. let x = q g lo (end_at p None a) m able (room g lo m) in kept (is_top p) n g lo (end_at p None a) ss new m x.0 x.1 x.2) l in
           record {
             lawful = subst (λ z. IsLawfulRoot shape z h) (sym is) k.0;
             same = λ x. ap (λ z. value means z x) is ∙ k.1 x;
-            did = record { old = ss; new = new; was = e; is = is; done = k.2 };
-            others = subst (λ z. OthersStay kind p i a z) (sym is) (others n p h a ss new l e k.2);
+            did = record { old = ss; new = new; was = e; is = is; done = k.2.0 };
+            others = subst (λ z. OthersStay kind p i a z) (sym is) (others n p h a ss new l e k.2.0);
             there = λ z. (cc);
             full = λ z. (cc);
+            told = λ z. absurd (k.2.1 (lacks z));
             unchanged = tt;
           }
       outcome_by NotThere q = absurd (clash (can kind (end_at p None a) (slots_from i ss)) able (q.1 (end_at p None a)))
@@ -118,7 +130,8 @@ module _ {U V : Type 0} where
         did = tt;
         others = tt;
         there = λ z. (cc);
-        full = λ z. subst (λ o. IfSome o (HasNoRoom means kind shape (is_top p) i)) (sym e) q.1;
+        full = λ z. subst (λ o. IsRefused means kind shape (is_top p) i (end_at p None a) o) (sym e) (able, q.1);
+        told = λ z. inl refl;
         unchanged = same q.0;
       }
       outcome_by NoMemory q = record {
@@ -128,15 +141,16 @@ module _ {U V : Type 0} where
         others = tt;
         there = λ z. (cc);
         full = λ z. (cc);
+        told = λ z. inr (refl, untold (lacks z));
         unchanged = same q;
       }
 
-    -- the same, where the test said that the step can be done
-    pub outcome : (p : List ℕ) (h : ℕ) (r : StepReply) (a b : PNode U V) → IsLawfulRoot shape a h → there kind i p None a ≡ true → At p r (Replies means kind shape (is_top p) i r) a b → Outcome means kind shape p i h r a b
+    -- the same, where reading did not refuse the step
+    pub outcome : (p : List ℕ) (h : ℕ) (r : StepReply) (a b : PNode U V) → IsLawfulRoot shape a h → IsAdmitted means kind shape (is_top p) i (end_at p None a) (slots_at p a) → At p r (Replies means kind shape (is_top p) i r) a b → Outcome means kind shape p i h r a b
     outcome p h r a b l able q =
-        (elim (slots_at p a) as (λ o. slots_at p a ≡ o → can_from kind i (end_at p None a) o ≡ true → MatchOption o ((b ≡ a) × IsMissing r) (λ ss. (new : PSlots U V) × (b ≡ with_slots p new a) × Replies means kind shape (is_top p) i r ss new) → Outcome means kind shape p i h r a b) [
-          | None ↦ λ e t m. (cc)
-          | Some ss ↦ λ e t m. outcome_by p h a b ss m.0 l e m.1 t r m.2
+        (elim (slots_at p a) as (λ o. slots_at p a ≡ o → IsAdmitted means kind shape (is_top p) i (end_at p None a) o → MatchOption o ((b ≡ a) × IsMissing r) (λ ss. (new : PSlots U V) × (b ≡ with_slots p new a) × Replies means kind shape (is_top p) i r ss new) → Outcome means kind shape p i h r a b) [
+          | None ↦ λ e t m. absurd (let f : false ≡ true = t.0 in (cc))
+          | Some ss ↦ λ e t m. outcome_by p h a b ss m.0 l e m.1 t.0 t.1 r m.2
         ]) refl able q
 
   -- the outcome in the words of a contract
@@ -148,5 +162,35 @@ module _ {U V : Type 0} where
     others_stay = o.others;
     not_there = (λ z. absurd (o.there z), λ z. absurd (clash (there kind i p None a) able z));
     no_room = o.full;
+    no_room_told = o.told;
     unchanged = on_undone r (b ≡ a) (tree_of shape b ≡ tree_of shape a) (ap (tree_of shape)) o.unchanged;
   })
+
+  -- what a step answers that reading refuses
+  pub refused : (means : U → Option V → Option V) (kind : StepKind) (i : ℕ) (p : List ℕ) (r : StepReply) (t : PTree U V) → Refusal means kind t.shape (is_top p) i (end_at p None t.root) (slots_at p t.root) (Some r) → Answers means kind p i r t t
+  refused means kind i p (Did n) t q = absurd q
+  refused means kind i p NotThere t q = record {
+    value_kept = λ k. refl;
+    shape_kept = refl;
+    did = tt;
+    others_stay = tt;
+    not_there = (λ z. q, λ z. refl);
+    no_room = λ z. (cc);
+    no_room_told = λ z. absurd (clash (there kind i p None t.root) z.0 q);
+    unchanged = refl;
+  }
+  refused means kind i p NoRoom t q = record {
+    value_kept = λ k. refl;
+    shape_kept = refl;
+    did = tt;
+    others_stay = tt;
+    not_there = (λ z. (cc), λ z. absurd (clash (there kind i p None t.root) q.0 z));
+    no_room = λ z. q;
+    no_room_told = λ z. inl refl;
+    unchanged = refl;
+  }
+  refused means kind i p NoMemory t q = absurd q
+
+  -- what reading told of the tree, which it knew by other names
+  pub told : (means : U → Option V → Option V) (kind : StepKind) (shape : Shape) (i : ℕ) (p : List ℕ) (r : Option StepReply) (top : Bool) (x a : PNode U V) → top ≡ is_top p → x ≡ a → Refusal means kind shape top i (end_at p None x) (slots_at p x) r → Refusal means kind shape (is_top p) i (end_at p None a) (slots_at p a) r
+  told means kind shape i p r top x a e f q = subst (λ z. Refusal means kind shape z i (end_at p None a) (slots_at p a) r) e (subst (λ z. Refusal means kind shape top i (end_at p None z) (slots_at p z) r) f q)

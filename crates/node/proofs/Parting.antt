@@ -14,7 +14,7 @@ use Rattle.node.specs.declared.shape.Shape.{Shape}
 use Rattle.node.specs.Pure.{PNode, PSlots, none, more}
 use Rattle.node.specs.Meaning.{value}
 use Rattle.node.specs.Lawful.{IsLawfulNode, AreLawfulSlots, TouchOnly}
-use Rattle.node.specs.Rows.{range_count}
+use Rattle.node.specs.StepRows.{range_count}
 use Rattle.node.specs.Sinks.{Sinks}
 use Rattle.node.proofs.Appending.{pieces_outside}
 use Rattle.node.proofs.Sinking.{pieces_end, touch_only-drop}

@@ -17,11 +17,11 @@ use Rattle.message.proofs.KeyOrder.{le_le, both, from_start, before_from_not_rea
 use Rattle.node.specs.declared.node.Slot.{Slot}
 use Rattle.node.specs.declared.shape.Shape.{Shape}
 use Rattle.node.specs.Meaning.{begins_by, slot_number}
-use Rattle.node.specs.Appended.{parts, placed, all_placed}
-use Rattle.node.specs.Pure.{PNode, leaf, inner, depth, PSlots, none, more, slots}
+use Rattle.node.specs.Appended.{parts, placed}
+use Rattle.node.specs.Pure.{PNode, leaf, inner, depth, PSlots, none, more}
 use Rattle.node.specs.Lawful.{slot_count, next_lo, TouchOnly, starts_at, IsLawfulNode, AreLawfulSlots, IsLawfulRoot}
-use Rattle.node.specs.Ready.{AreRising, Fits, AllFit, IsRoot, IsSearchable, AreSearchable, see_list}
-use Rattle.node.specs.See.{see_slot}
+use Rattle.node.specs.Searchable.{AreRising, Fits, AllFit, IsRoot, IsSearchable, AreSearchable, see_list}
+use Rattle.node.specs.See.{seen_slots}
 use Rattle.node.proofs.EntryFacts.{rises_all}
 
 abbrev or_empty : Option (List ℕ) → List ℕ
@@ -53,21 +53,26 @@ module _ {U V : Type 0} where
       λ i. e i ∷ placed-parts hi ms m ss i
 
   -- no message yet
-  pub parts-none : (hi : Option (List ℕ)) (xs : List (Slot U V)) → parts hi [] (slots (map see_slot xs)) ≡ map (λ s. []) xs
+  pub parts-none : (hi : Option (List ℕ)) (xs : List (Slot U V)) → parts hi [] (seen_slots xs) ≡ map (λ s. []) xs
   parts-none hi [] = refl
   parts-none hi (x ∷ xs) = ap (λ z. [] ∷ z) (parts-none hi xs)
 
-  pub length-parts : (hi : Option (List ℕ)) (ms : List (Msg U V)) (xs : List (Slot U V)) → length (parts hi ms (slots (map see_slot xs))) ≡ length xs
+  pub length-parts : (hi : Option (List ℕ)) (ms : List (Msg U V)) (xs : List (Slot U V)) → length (parts hi ms (seen_slots xs)) ≡ length xs
   length-parts hi ms [] = refl
   length-parts hi ms (x ∷ xs) = ap suc (length-parts hi ms xs)
+
+  -- the parts with what each slot takes of messages put behind, one message after the other
+  abbrev pub all_placed : Option (List ℕ) → List (Msg U V) → PSlots U V → List (List (Msg U V)) → List (List (Msg U V))
+  all_placed hi [] ss ps = ps
+  all_placed hi (m ∷ ms) ss ps = all_placed hi ms ss (placed hi m ss ps)
 
   all_placed-parts : (hi : Option (List ℕ)) (ms done : List (Msg U V)) (ss : PSlots U V) → all_placed hi ms ss (parts hi done ss) ≡ parts hi (done ++ ms) ss
   all_placed-parts hi [] done ss = ap (λ z. parts hi z ss) (sym (append-nil done))
   all_placed-parts hi (m ∷ ms) done ss = ap (all_placed hi ms ss) (placed-parts hi done m ss) ∙ all_placed-parts hi ms (done ++ m ∷ []) ss ∙ ap (λ z. parts hi z ss) (append_assoc done (m ∷ []) ms)
 
   -- all messages, placed one after the other in empty parts
-  pub all_placed-empty : (hi : Option (List ℕ)) (ms : List (Msg U V)) (xs : List (Slot U V)) → all_placed hi ms (slots (map see_slot xs)) (map (λ s. []) xs) ≡ parts hi ms (slots (map see_slot xs))
-  all_placed-empty hi ms xs = ap (all_placed hi ms (slots (map see_slot xs))) (sym (parts-none hi xs)) ∙ all_placed-parts hi ms [] (slots (map see_slot xs))
+  pub all_placed-empty : (hi : Option (List ℕ)) (ms : List (Msg U V)) (xs : List (Slot U V)) → all_placed hi ms (seen_slots xs) (map (λ s. []) xs) ≡ parts hi ms (seen_slots xs)
+  all_placed-empty hi ms xs = ap (all_placed hi ms (seen_slots xs)) (sym (parts-none hi xs)) ∙ all_placed-parts hi ms [] (seen_slots xs)
 
   -- a message for one key is taken whole where its key lies, and not at all elsewhere
   cut-by : (lo : List ℕ) (hi : Option (List ℕ)) (m : Msg U V) (q : List ℕ) → point m ≡ Some q → cut_to lo hi m ≡ cond (within lo hi q) (Some m) None
@@ -127,15 +132,15 @@ module _ {U V : Type 0} where
     | false ↦ λ f. absurd (let g : (touches m q || false) ≡ false = only q f in let h : touches m q ≡ true = touched_itself m q e in let k : (true || false) ≡ false = sym (ap (λ b. b || false) h) ∙ g in cc)
   ] refl
 
-  pub slot_count-slots : (xs : List (Slot U V)) → slot_count (slots (map see_slot xs)) ≡ length xs
+  pub slot_count-slots : (xs : List (Slot U V)) → slot_count (seen_slots xs) ≡ length xs
   slot_count-slots [] = refl
   slot_count-slots (x ∷ xs) = ap (λ n. n + 1) (slot_count-slots xs) ∙ add-one (length xs)
 
   -- the same in the words of the code: v is what the slot's part becomes
-  pub placed-set : (hi : Option (List ℕ)) (m : Msg U V) (q : List ℕ) (xs : List (Slot U V)) (ps : List (Vec (Msg U V))) (i : ℕ) (d v : Vec (Msg U V)) → Some q ≡ point m → AreRising (slots (map see_slot xs)) → Fits hi (slots (map see_slot xs)) m → length ps ≡ length xs → i < length xs → i ≡ slot_number (slots (map see_slot xs)) q → v.items ≡ (get_or ps i d).items ++ m ∷ [] → map see_list (set ps i v) ≡ placed hi m (slots (map see_slot xs)) (map see_list ps)
+  pub placed-set : (hi : Option (List ℕ)) (m : Msg U V) (q : List ℕ) (xs : List (Slot U V)) (ps : List (Vec (Msg U V))) (i : ℕ) (d v : Vec (Msg U V)) → Some q ≡ point m → AreRising (seen_slots xs) → Fits hi (seen_slots xs) m → length ps ≡ length xs → i < length xs → i ≡ slot_number (seen_slots xs) q → v.items ≡ (get_or ps i d).items ++ m ∷ [] → map see_list (set ps i v) ≡ placed hi m (seen_slots xs) (map see_list ps)
   placed-set hi m q [] ps i d v e r f l b n h = absurd f
   placed-set hi m q (x ∷ xs) ps i d v e r f l b n h =
-      let ss = slots (map see_slot (x ∷ xs)) in
+      let ss = seen_slots (x ∷ xs) in
       let w = begins q x.lo m hi (sym e) f in
       let p = both (reaches x.lo q) (is_below q hi) w in
       let len : length (map see_list ps) ≡ slot_count ss = length-map ps see_list ∙ l ∙ sym (slot_count-slots (x ∷ xs)) in
@@ -177,12 +182,12 @@ module _ {U V : Type 0} where
   searchable_root S h (leaf es) l = absurd l
   searchable_root S h (inner ss) l = (rising-lawful S h None ss l.4, all_searchable S h None ss l.4)
 
-  pub searchable_child : (xs : List (Slot U V)) (i : ℕ) (d : Slot U V) → i < length xs → AreSearchable (slots (map see_slot xs)) → IsSearchable (get_or xs i d).child.value
+  pub searchable_child : (xs : List (Slot U V)) (i : ℕ) (d : Slot U V) → i < length xs → AreSearchable (seen_slots xs) → IsSearchable (get_or xs i d).child.value
   searchable_child [] i d b a = absurd (omega arith)
   searchable_child (x ∷ xs) zero d b a = a.0
   searchable_child (x ∷ xs) (suc i) d b a = searchable_child xs i d (omega arith) a.1
 
-  pub depth_child : (xs : List (Slot U V)) (i : ℕ) (d : Slot U V) → i < length xs → depth (get_or xs i d).child.value < depth (inner (slots (map see_slot xs)))
+  pub depth_child : (xs : List (Slot U V)) (i : ℕ) (d : Slot U V) → i < length xs → depth (get_or xs i d).child.value < depth (inner (seen_slots xs))
   depth_child [] i d b = absurd (omega arith)
   depth_child (x ∷ xs) zero d b = omega arith
   depth_child (x ∷ xs) (suc i) d b = let r = depth_child xs i d (omega arith) in omega (arith, r)

@@ -10,7 +10,7 @@ use Rattle.node.specs.Shapes.{is_between, is_shape}
 use Rattle.node.specs.Pure.{PNode, PTree, empty_root}
 use Rattle.node.specs.Lawful.{IsLawfulRoot, IsLawful}
 use Rattle.node.specs.Appended.{IsAppended, Appended}
-use Rattle.node.specs.Ready.{IsRoot, IsSearchable}
+use Rattle.node.specs.Searchable.{IsRoot, IsSearchable}
 use Rattle.node.proofs.Appending.{lawful-appended, value-appended, appended-nothing}
 use Rattle.node.proofs.Placing.{is_root, searchable_root}
 

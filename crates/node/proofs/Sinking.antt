@@ -15,7 +15,7 @@ use Rattle.node.specs.declared.shape.Shape.{Shape}
 use Rattle.node.specs.Pure.{PNode, PSlots, none, more}
 use Rattle.node.specs.Lawful.{next_lo, pending, TouchOnly, IsLawfulNode, AreLawfulSlots}
 use Rattle.node.specs.Appended.{parts, HaveTaken}
-use Rattle.node.specs.Rows.{piece_count, emptied}
+use Rattle.node.specs.StepRows.{piece_count, emptied}
 use Rattle.node.proofs.Placing.{and_false}
 use Rattle.node.proofs.Appending.{pieces_outside, next_lo-taken}
 

@@ -1,5 +1,5 @@
 -- How large a lawful tree can be.
-use Rattle.std.proofs.Common.{◌≡◌, ℕ, zero, suc, pred, ◌+◌, ◌*◌, ◌^◌, ◌<◌, ◌≤◌, List, [], ◌∷◌, length, get_or, take, map, refl, sym, subst, Option, None, arith, add-one}
+use Rattle.std.proofs.Common.{◌≡◌, ℕ, zero, suc, pred, ◌+◌, ◌*◌, ◌^◌, ◌<◌, ◌≤◌, List, [], ◌∷◌, length, get_or, take, refl, sym, subst, Option, None, arith, add-one}
 use Rattle.std.proofs.Math.Nat.{add-mul, mul-le-mul_right}
 use Rattle.node.specs.declared.node.Slot.{Slot}
 use Rattle.node.specs.declared.report.Quantity.{Quantity}
@@ -10,18 +10,18 @@ use Rattle.node.specs.Lawful.{IsLawfulNode, AreLawfulSlots, IsLawfulRoot, IsLawf
 use Rattle.node.specs.Report.{own, width, total, total_below, report_of}
 use Rattle.node.specs.RootSteps.{levels}
 use Rattle.node.proofs.Roots.{small_shape}
-use Rattle.node.specs.Pure.{PNode, leaf, inner, PSlots, none, more, PTree, slots, depth, depths}
-use Rattle.node.specs.See.{see_slot}
+use Rattle.node.specs.Pure.{PNode, leaf, inner, PSlots, none, more, PTree, depth, depths}
+use Rattle.node.specs.See.{seen_slots}
 
 module _ {U V : Type 0} where
   -- the same by successors
-  total_below-one_more : (q : Quantity) (xs : List (Slot U V)) (i : ℕ) (d : Slot U V) → i < length xs → total_below q (slots (map see_slot (take (suc i) xs))) ≡ total_below q (slots (map see_slot (take i xs))) + total q (get_or xs i d).child.value
+  total_below-one_more : (q : Quantity) (xs : List (Slot U V)) (i : ℕ) (d : Slot U V) → i < length xs → total_below q (seen_slots (take (suc i) xs)) ≡ total_below q (seen_slots (take i xs)) + total q (get_or xs i d).child.value
   total_below-one_more q [] i d h = absurd (omega arith)
   total_below-one_more q (x ∷ xs) zero d h = omega arith
   total_below-one_more q (x ∷ xs) (suc i) d h = omega (arith, total_below-one_more q xs i d (omega arith))
 
   -- one slot more
-  pub total_below-take : (q : Quantity) (xs : List (Slot U V)) (i : ℕ) (d : Slot U V) → i < length xs → total_below q (slots (map see_slot (take (i + 1) xs))) ≡ total_below q (slots (map see_slot (take i xs))) + total q (get_or xs i d).child.value
+  pub total_below-take : (q : Quantity) (xs : List (Slot U V)) (i : ℕ) (d : Slot U V) → i < length xs → total_below q (seen_slots (take (i + 1) xs)) ≡ total_below q (seen_slots (take i xs)) + total q (get_or xs i d).child.value
   total_below-take q xs i d h = rw add-one (total_below-one_more q xs i d h)
 
 -- a lawful node at this height has at most so much of each quantity in itself and below
@@ -109,7 +109,7 @@ module _ {U V : Type 0} where
   low_root S (leaf es) h l = absurd l
   low_root S (inner ss) h l = l.1
 
-  -- the same of its levels
+  -- likewise for its levels
   pub exact_levels : (t : PTree U V) (x : ℕ) (n : PNode U V) → n ≡ t.root → IsLawful t → x ≤ levels n → (x < 2 ^ 127 → x ≡ levels n) → x ≡ levels t.root
   exact_levels t x n e l low exact =
       let up : x ≤ levels t.root = subst (λ z. x ≤ levels z) e low in

@@ -1,51 +1,50 @@
 -- Facts on slots by their numbers.
-use Rattle.std.proofs.Common.{◌≡◌, ℕ, zero, suc, ◌+◌, ◌<◌, ◌≤◌, Bool, true, false, List, [], ◌∷◌, length, get_or, map, refl, ap, sym, ◌∙◌, subst, arith, cond, Option, add-one}
+use Rattle.std.proofs.Common.{◌≡◌, ℕ, zero, suc, ◌+◌, ◌<◌, ◌≤◌, Bool, true, false, List, [], ◌∷◌, length, get_or, refl, ap, sym, ◌∙◌, subst, arith, cond, Option, add-one}
 use Rattle.message.specs.Ranges.{reaches}
-use Rattle.node.specs.Pure.{slots}
 use Rattle.message.specs.Effects.{effects}
 use Rattle.node.specs.Meaning.{value, slots_value, slot_number}
 use Rattle.node.specs.declared.node.Slot.{Slot}
-use Rattle.node.specs.See.{see_slot}
-use Rattle.node.specs.Ready.{AreRising}
+use Rattle.node.specs.See.{seen_slots}
+use Rattle.node.specs.Searchable.{AreRising}
 use Rattle.std.specs.List.Sorted.{IsPartitionedBy, IsPartitionPoint}
 use Rattle.message.proofs.KeyOrder.{reaches-from_before, le_le}
 
 module _ {U V : Type 0} where
   -- the slot whose successor is the first that begins above k
-  pub slot_number_is : (k : List ℕ) (ss : List (Slot U V)) (i : ℕ) → i < length ss → ((j : ℕ) (d : Slot U V) → j < i → reaches (get_or ss (suc j) d).lo k ≡ true) → ((d : Slot U V) → suc i < length ss → reaches (get_or ss (suc i) d).lo k ≡ false) → i ≡ slot_number (slots (map see_slot ss)) k
+  pub slot_number_is : (k : List ℕ) (ss : List (Slot U V)) (i : ℕ) → i < length ss → ((j : ℕ) (d : Slot U V) → j < i → reaches (get_or ss (suc j) d).lo k ≡ true) → ((d : Slot U V) → suc i < length ss → reaches (get_or ss (suc i) d).lo k ≡ false) → i ≡ slot_number (seen_slots ss) k
   slot_number_is k [] i h up stop = absurd (omega arith)
   slot_number_is k (s ∷ []) zero h up stop = refl
   slot_number_is k (s ∷ []) (suc i) h up stop = absurd (omega arith)
   slot_number_is k (s ∷ (r ∷ ss)) zero h up stop = rw (stop s (omega arith))
   slot_number_is k (s ∷ (r ∷ ss)) (suc i) h up stop =
-      let rest = slots (map see_slot (r ∷ ss)) in
+      let rest = seen_slots (r ∷ ss) in
       let e = slot_number_is k (r ∷ ss) i (omega arith) (λ j d q. up (suc j) d (omega arith)) (λ d q. stop d (omega arith)) in
       ap suc e ∙ sym (add-one (slot_number rest k)) ∙ sym (ap (λ (b : Bool). cond b (slot_number rest k + 1) 0) (up 0 s (omega arith)))
 
   -- the value is what the messages of that slot make of its child's value
-  pub slots_value_is : (means : U → Option V → Option V) (k : List ℕ) (ss : List (Slot U V)) (d : Slot U V) → 0 < length ss → slots_value means (slots (map see_slot ss)) k ≡ effects means (get_or ss (slot_number (slots (map see_slot ss)) k) d).pending.0 k (value means (get_or ss (slot_number (slots (map see_slot ss)) k) d).child.value k)
+  pub slots_value_is : (means : U → Option V → Option V) (k : List ℕ) (ss : List (Slot U V)) (d : Slot U V) → 0 < length ss → slots_value means (seen_slots ss) k ≡ effects means (get_or ss (slot_number (seen_slots ss) k) d).pending.0 k (value means (get_or ss (slot_number (seen_slots ss) k) d).child.value k)
   slots_value_is means k [] d h = absurd (omega arith)
   slots_value_is means k (s ∷ []) d h = refl
   slots_value_is means k (s ∷ (r ∷ ss)) d h =
-      let rest = slots (map see_slot (r ∷ ss)) in
+      let rest = seen_slots (r ∷ ss) in
       elim (reaches r.lo k) as (λ b. cond b (slots_value means rest k) (effects means s.pending.0 k (value means s.child.value k)) ≡ effects means (get_or (s ∷ (r ∷ ss)) (cond b (slot_number rest k + 1) 0) d).pending.0 k (value means (get_or (s ∷ (r ∷ ss)) (cond b (slot_number rest k + 1) 0) d).child.value k)) [
         | true ↦ subst (λ (i : ℕ). slots_value means rest k ≡ effects means (get_or (s ∷ (r ∷ ss)) i d).pending.0 k (value means (get_or (s ∷ (r ∷ ss)) i d).child.value k)) (sym (add-one (slot_number rest k))) (slots_value_is means k (r ∷ ss) d (omega arith))
         | false ↦ refl
       ]
 
   -- each later slot begins at or above the first
-  first_reaches : (x : Slot U V) (xs : List (Slot U V)) (j : ℕ) (d : Slot U V) → AreRising (slots (map see_slot (x ∷ xs))) → j < length xs → reaches x.lo (get_or xs j d).lo ≡ true
+  first_reaches : (x : Slot U V) (xs : List (Slot U V)) (j : ℕ) (d : Slot U V) → AreRising (seen_slots (x ∷ xs)) → j < length xs → reaches x.lo (get_or xs j d).lo ≡ true
   first_reaches x [] j d r h = absurd (omega arith)
   first_reaches x (y ∷ ys) zero d r h = reaches-from_before x.lo y.lo r.0
   first_reaches x (y ∷ ys) (suc j) d r h = le_le x.lo y.lo (get_or ys j d).lo (reaches-from_before x.lo y.lo r.0) (first_reaches y ys j d r.1 (omega arith))
 
   -- what a binary search asks of rising pivots
-  pub partitioned-rising : (k : List ℕ) (xs : List (Slot U V)) → AreRising (slots (map see_slot xs)) → IsPartitionedBy (λ (s : Slot U V). reaches s.lo k) xs
+  pub partitioned-rising : (k : List ℕ) (xs : List (Slot U V)) → AreRising (seen_slots xs) → IsPartitionedBy (λ (s : Slot U V). reaches s.lo k) xs
   partitioned-rising k [] r i j d a b e = absurd (omega arith)
   partitioned-rising k (x ∷ xs) r zero zero d a b e = e
   partitioned-rising k (x ∷ xs) r zero (suc j) d a b e = le_le x.lo (get_or xs j d).lo k (first_reaches x xs j d r (omega arith)) e
   partitioned-rising k (x ∷ xs) r (suc i) zero d a b e = absurd (omega arith)
   partitioned-rising k (x ∷ xs) r (suc i) (suc j) d a b e = partitioned-rising k xs r.1 i j d (omega arith) (omega arith) e
 
-  pub number-by_search : (k : List ℕ) (x : Slot U V) (xs : List (Slot U V)) (i : ℕ) → i ≤ length xs → IsPartitionPoint (λ (s : Slot U V). reaches s.lo k ≡ true) (λ (s : Slot U V). reaches s.lo k ≡ false) xs i → i ≡ slot_number (slots (map see_slot (x ∷ xs))) k
+  pub number-by_search : (k : List ℕ) (x : Slot U V) (xs : List (Slot U V)) (i : ℕ) → i ≤ length xs → IsPartitionPoint (λ (s : Slot U V). reaches s.lo k ≡ true) (λ (s : Slot U V). reaches s.lo k ≡ false) xs i → i ≡ slot_number (seen_slots (x ∷ xs)) k
   number-by_search k x xs i b p = slot_number_is k (x ∷ xs) i (omega arith) (λ j d h. p.0 j d (omega arith) h) (λ d h. p.1 i d (omega arith) (omega arith))

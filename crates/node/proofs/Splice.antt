@@ -1,11 +1,11 @@
 -- Slots in the place of others.
-use Rattle.std.proofs.Common.{◌≡◌, ℕ, zero, suc, ◌+◌, ◌<◌, ◌≤◌, true, false, List, [], ◌∷◌, length, get_or, take, drop, map, refl, ap, sym, ◌∙◌, subst, arith, cond, Option, Some, pred}
+use Rattle.std.proofs.Common.{◌≡◌, ℕ, zero, suc, ◌+◌, ◌<◌, ◌≤◌, true, false, List, [], ◌∷◌, length, get_or, take, drop, refl, ap, sym, ◌∙◌, subst, arith, cond, Option, Some, pred}
 use Rattle.std.proofs.Math.ListN.{set}
 use Rattle.std.specs.Prelude.{◌&&◌, ⊤}
 use Rattle.message.specs.declared.msg.Msg.{Msg}
 use Rattle.node.specs.declared.node.Slot.{Slot}
-use Rattle.node.specs.See.{see_slot}
-use Rattle.node.specs.Pure.{PNode, PSlots, none, more, slots}
+use Rattle.node.specs.See.{seen_slots}
+use Rattle.node.specs.Pure.{PNode, PSlots, none, more}
 use Rattle.pathkey.specs.Keys.{is_below}
 use Rattle.message.specs.Ranges.{reaches, within}
 use Rattle.message.specs.Effects.{effects}
@@ -66,26 +66,26 @@ module _ {U V : Type 0} where
   slots_from-joined (suc i) (more lo ms n ss) y e = slots_from-joined i ss y (omega arith)
 
   -- the slots before a number, the one with it, and those behind
-  pub slots-split : (xs : List (Slot U V)) (i : ℕ) (d : Slot U V) → i < length xs → slots (map see_slot xs) ≡ joined (slots (map see_slot (take i xs))) (more (get_or xs i d).lo (get_or xs i d).pending.0 (get_or xs i d).child.value (slots (map see_slot (drop (suc i) xs))))
+  pub slots-split : (xs : List (Slot U V)) (i : ℕ) (d : Slot U V) → i < length xs → seen_slots xs ≡ joined (seen_slots (take i xs)) (more (get_or xs i d).lo (get_or xs i d).pending.0 (get_or xs i d).child.value (seen_slots (drop (suc i) xs)))
   slots-split [] i d h = absurd (omega arith)
   slots-split (x ∷ xs) zero d h = refl
   slots-split (x ∷ xs) (suc i) d h = ap (more x.lo x.pending.0 x.child.value) (slots-split xs i d (omega arith))
 
   -- the same where another was put there
-  pub slots-set_split : (xs : List (Slot U V)) (i : ℕ) (s : Slot U V) → i < length xs → slots (map see_slot (set xs i s)) ≡ joined (slots (map see_slot (take i xs))) (more s.lo s.pending.0 s.child.value (slots (map see_slot (drop (suc i) xs))))
+  pub slots-set_split : (xs : List (Slot U V)) (i : ℕ) (s : Slot U V) → i < length xs → seen_slots (set xs i s) ≡ joined (seen_slots (take i xs)) (more s.lo s.pending.0 s.child.value (seen_slots (drop (suc i) xs)))
   slots-set_split [] i s h = absurd (omega arith)
   slots-set_split (x ∷ xs) zero s h = refl
   slots-set_split (x ∷ xs) (suc i) s h = ap (more x.lo x.pending.0 x.child.value) (slots-set_split xs i s (omega arith))
 
   -- there are so many before it
-  pub slot_count-take : (xs : List (Slot U V)) (i : ℕ) → i ≤ length xs → slot_count (slots (map see_slot (take i xs))) ≡ i
+  pub slot_count-take : (xs : List (Slot U V)) (i : ℕ) → i ≤ length xs → slot_count (seen_slots (take i xs)) ≡ i
   slot_count-take [] zero h = refl
   slot_count-take [] (suc i) h = absurd (omega arith)
   slot_count-take (x ∷ xs) zero h = refl
   slot_count-take (x ∷ xs) (suc i) h = omega (arith, slot_count-take xs i (omega arith))
 
   -- past the last slot there is none
-  pub slots_from-past : (xs : List (Slot U V)) (i : ℕ) → length xs ≤ i → slots_from i (slots (map see_slot xs)) ≡ none
+  pub slots_from-past : (xs : List (Slot U V)) (i : ℕ) → length xs ≤ i → slots_from i (seen_slots xs) ≡ none
   slots_from-past [] i h = refl
   slots_from-past (x ∷ xs) zero h = absurd (omega arith)
   slots_from-past (x ∷ xs) (suc i) h = slots_from-past xs i (omega arith)

@@ -20,11 +20,6 @@ module _ {U V : Type 0} where
   placed hi m (more lo old n ss) [] = []
   placed hi m (more lo old n ss) (p ∷ ps) = (p ++ option_to_list (cut_to lo (next_lo hi ss) m)) ∷ placed hi m ss ps
 
-  -- the same for one message after the other
-  abbrev pub all_placed : Option (List ℕ) → List (Msg U V) → PSlots U V → List (List (Msg U V)) → List (List (Msg U V))
-  all_placed hi [] ss ps = ps
-  all_placed hi (m ∷ ms) ss ps = all_placed hi ms ss (placed hi m ss ps)
-
 module _ {U V : Type 0} (means : U → Option V → Option V) where
   -- each list takes its part; ranges and children stay
   abbrev pub HaveTaken : PSlots U V → List (List (Msg U V)) → PSlots U V → Type 0

@@ -1,16 +1,16 @@
 -- Each child is less deep than its node.
-use Rattle.std.specs.Prelude.{◌+◌, ◌≤◌, max, List, [], ◌∷◌, map}
+use Rattle.std.specs.Prelude.{◌+◌, ◌≤◌, max, List, [], ◌∷◌}
 use Rattle.std.proofs.Common.{arith}
 use denote.Param.Weighed.{most, w_this}
 use Rattle.node.specs.declared.node.Body.{Body}
 use Rattle.node.specs.declared.node.Body.TheVariants.{Leaf, Inner}
 use Rattle.node.specs.declared.node.Slot.{Slot}
 use Rattle.node.specs.declared.node.Node.TheDeep.{deep-Body, deep-Slot}
-use Rattle.node.specs.Pure.{slots, depth, depths}
-use Rattle.node.specs.See.{see, see_slot}
+use Rattle.node.specs.Pure.{depth, depths}
+use Rattle.node.specs.See.{see, seen_slots}
 
 module _ {U V : Type 0} where
-  most_falls : (ss : List (Slot U V)) → most (w_this.weight (Slot U V) (deep-Slot U V)) ss ≤ depths (slots (map see_slot ss)) + 1
+  most_falls : (ss : List (Slot U V)) → most (w_this.weight (Slot U V) (deep-Slot U V)) ss ≤ depths (seen_slots ss) + 1
   most_falls [] = omega arith
   most_falls (s ∷ ss) = omega (arith, most_falls ss)
 

@@ -6,12 +6,12 @@ pub mod Falls
 pub mod Meaning
 pub mod Lawful
 pub mod Appended
-pub mod Ready
+pub mod Searchable
 pub mod Leaves
 pub mod Places
 pub mod Site
 pub mod Sinks
-pub mod Rows
+pub mod StepRows
 pub mod Steps
 pub mod RootSteps
 pub mod Report

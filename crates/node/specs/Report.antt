@@ -8,7 +8,7 @@ use Rattle.node.specs.Lawful.{slot_count, pending}
 use Rattle.node.specs.RootSteps.{levels}
 
 module _ {U V : Type 0} where
-  -- how much of the quantity the node itself has
+  -- how much the node itself has of what is counted
   abbrev pub own : Quantity → PNode U V → ℕ
   own Slots (leaf es) = 0
   own Slots (inner ss) = slot_count ss

@@ -9,7 +9,7 @@ use Rattle.node.specs.declared.step.StepKind.TheVariants.{FlushInner, FlushLeaf,
 use Rattle.node.specs.Pure.{PNode, leaf, inner, PSlots, none, more, PTree}
 use Rattle.node.specs.Lawful.{pending}
 use Rattle.node.specs.Meaning.{value}
-use Rattle.node.specs.Rows.{emptied, piece_count}
+use Rattle.node.specs.StepRows.{emptied, piece_count}
 use Rattle.node.specs.Sinks.{msgs_at}
 use Rattle.node.specs.Steps.{Answers, IfDid, UnlessDid}
 
@@ -66,10 +66,10 @@ module _ {U V : Type 0} (means : U → Option V → Option V) where
     pub shape_kept : b.shape ≡ a.shape
     pub did : IfDid r (λ n. (n ≡ 0) × RootRaised a.root b.root)
     pub not_there : (r ≡ NotThere) ↔ (has_one_slot a.root ≡ true)
-    pub no_room : r ≡ NoRoom → 16 ≤ levels a.root
+    pub no_room : (r ≡ NoRoom) ↔ ((has_one_slot a.root ≡ false) × (16 ≤ levels a.root))
     pub unchanged : UnlessDid r (b ≡ a)
 
-  -- the same of root_down, which always has room
+  -- likewise for root_down, which always has room
   pub record AnswersDown (r : StepReply) (a b : PTree U V) : Type 0 where
     pub value_kept : (k : List ℕ) → value means b.root k ≡ value means a.root k
     pub shape_kept : b.shape ≡ a.shape

@@ -1,6 +1,6 @@
 -- The steps at a slot: where each can be done, where it has no room, and what it has done. RootUp and RootDown have no
 -- slot: see RootSteps.
-use Rattle.std.specs.Prelude.{◌≡◌, ℕ, ◌<◌, ◌≤◌, ◌↔◌, IfSome, Bool, true, false, List, [], ◌∷◌, Option, Some, None, ⊤, MatchOption}
+use Rattle.std.specs.Prelude.{◌≡◌, ℕ, ◌<◌, ◌≤◌, ◌↔◌, ◌⊎◌, IfSome, Bool, true, false, List, [], ◌∷◌, Option, Some, None, ⊤, MatchOption}
 use Rattle.node.specs.declared.shape.Shape.{Shape}
 use Rattle.node.specs.declared.step.StepReply.{StepReply}
 use Rattle.node.specs.declared.step.StepReply.TheVariants.{Did, NotThere, NoRoom, NoMemory}
@@ -11,7 +11,7 @@ use Rattle.node.specs.Meaning.{value}
 use Rattle.node.specs.Lawful.{slot_count, pending, starts_at, AreLawfulSlots}
 use Rattle.node.specs.Site.{slots_at, with_slots, slots_from, end_at, Spliced}
 use Rattle.node.specs.Sinks.{Sinks, first_lo}
-use Rattle.node.specs.Rows.{can_flush_inner, IsFullBelow, FlushedInner, can_split_inner, ranges_first, SplitInTwo, can_flush_leaf, FlushedLeaf, LeafHasNoRoom, CannotPart, can_merge_leaves, can_merge_inner, AreTooMany, MergedLeaves, MergedInner, can_drop_covered, DroppedCovered}
+use Rattle.node.specs.StepRows.{can_flush_inner, IsFullBelow, FlushedInner, can_split_inner, ranges_first, SplitInTwo, can_flush_leaf, EditsAbsent, FlushedLeaf, LeafHasNoRoom, CannotPart, can_merge_leaves, can_merge_inner, AreTooMany, MergedLeaves, MergedInner, can_drop_covered, DroppedCovered}
 
 -- how many slots of a node the step names
 abbrev pub width : StepKind → ℕ
@@ -36,6 +36,17 @@ module _ {U V : Type 0} where
   can RootDown hi ss = false
   can DropCovered hi ss = can_drop_covered hi ss
 
+  -- only doing the step tells whether there is room for it at the first of these slots
+  abbrev pub OnlyDoingTells : StepKind → PSlots U V → Type 0
+  OnlyDoingTells FlushInner ss = ⊥
+  OnlyDoingTells FlushLeaf ss = EditsAbsent ss
+  OnlyDoingTells SplitInner ss = ⊥
+  OnlyDoingTells MergeLeaves ss = ⊥
+  OnlyDoingTells MergeInner ss = ⊥
+  OnlyDoingTells RootUp ss = ⊥
+  OnlyDoingTells RootDown ss = ⊥
+  OnlyDoingTells DropCovered ss = ⊥
+
 module _ {U V : Type 0} (means : U → Option V → Option V) where
   -- there is no room for the step at the slot with this number of a node
   abbrev pub HasNoRoom : StepKind → Shape → Bool → ℕ → PSlots U V → Type 0
@@ -47,6 +58,10 @@ module _ {U V : Type 0} (means : U → Option V → Option V) where
   HasNoRoom RootUp shape root i ss = ⊥
   HasNoRoom RootDown shape root i ss = ⊥
   HasNoRoom DropCovered shape root i ss = ⊥
+
+  -- there is room, as far as is told before the step is done
+  abbrev pub MayHaveRoom : StepKind → Shape → Bool → ℕ → PSlots U V → Type 0
+  MayHaveRoom kind shape root i ss = HasNoRoom kind shape root i ss → OnlyDoingTells kind (slots_from i ss)
 
   -- the slots `new` that Did n of a step in a tree of the shape put in the place of the slots `old`
   abbrev pub Formed : StepKind → Shape → ℕ → PSlots U V → PSlots U V → Type 0
@@ -71,9 +86,9 @@ pub record LawfulSlots {U V : Type 0} (shape : Shape) (root : Bool) (h : ℕ) (l
 abbrev pub Done : {U V : Type 0} → (U → Option V → Option V) → StepKind → Shape → ℕ → ℕ → Option (List ℕ) → PSlots U V → PSlots U V → Type 0
 Done means kind shape n i hi a b = Spliced (λ e old new. Sinks means n e old new × Formed means kind shape n old new) i (width kind) hi a b
 
--- what a step's reply says of the node's slots before and after
+-- what a step's reply says of the node's slots before and after: Did of slots where it can be done and may have room
 abbrev pub Replies : {U V : Type 0} → (U → Option V → Option V) → StepKind → Shape → Bool → ℕ → StepReply → PSlots U V → PSlots U V → Type 0
-Replies means kind shape root i (Did n) a b = (h : ℕ) (lo : List ℕ) (hi : Option (List ℕ)) → LawfulSlots shape root h lo hi a → can kind hi (slots_from i a) ≡ true → Done means kind shape n i hi a b × LawfulSlots shape root h lo hi b
+Replies means kind shape root i (Did n) a b = (h : ℕ) (lo : List ℕ) (hi : Option (List ℕ)) → LawfulSlots shape root h lo hi a → can kind hi (slots_from i a) ≡ true → MayHaveRoom means kind shape root i a → Done means kind shape n i hi a b × LawfulSlots shape root h lo hi b × (HasNoRoom means kind shape root i a → ⊥)
 Replies means kind shape root i NotThere a b = (b ≡ a) × ((hi : Option (List ℕ)) → can kind hi (slots_from i a) ≡ false)
 Replies means kind shape root i NoRoom a b = (b ≡ a) × HasNoRoom means kind shape root i a
 Replies means kind shape root i NoMemory a b = b ≡ a
@@ -97,6 +112,22 @@ can_from kind i hi (Some ss) = can kind hi (slots_from i ss)
 -- the step can be done at the slot with number i of the node at the place
 abbrev pub there : {U V : Type 0} → StepKind → ℕ → List ℕ → Option (List ℕ) → PNode U V → Bool
 there kind i p hi a = can_from kind i (end_at p hi a) (slots_at p a)
+
+-- the step can be done at the slot with this number of these slots, which end at hi, but there is no room for it
+abbrev pub IsRefused : {U V : Type 0} → (U → Option V → Option V) → StepKind → Shape → Bool → ℕ → Option (List ℕ) → Option (PSlots U V) → Type 0
+IsRefused means kind shape root i hi ss = (can_from kind i hi ss ≡ true) × IfSome ss (HasNoRoom means kind shape root i)
+
+-- it can be done, and in lawful slots there is room as far as reading tells
+abbrev pub IsAdmitted : {U V : Type 0} → (U → Option V → Option V) → StepKind → Shape → Bool → ℕ → Option (List ℕ) → Option (PSlots U V) → Type 0
+IsAdmitted means kind shape root i hi ss = (can_from kind i hi ss ≡ true) × IfSome ss (λ a. (h : ℕ) (lo : List ℕ) → LawfulSlots shape root h lo hi a → MayHaveRoom means kind shape root i a)
+
+-- what reading alone answers: the reply that refuses the step at the slot with this number of these slots, or none
+abbrev pub Refusal : {U V : Type 0} → (U → Option V → Option V) → StepKind → Shape → Bool → ℕ → Option (List ℕ) → Option (PSlots U V) → Option StepReply → Type 0
+Refusal means kind shape root i hi ss None = IsAdmitted means kind shape root i hi ss
+Refusal means kind shape root i hi ss (Some (Did n)) = ⊥
+Refusal means kind shape root i hi ss (Some NotThere) = can_from kind i hi ss ≡ false
+Refusal means kind shape root i hi ss (Some NoRoom) = IsRefused means kind shape root i hi ss
+Refusal means kind shape root i hi ss (Some NoMemory) = ⊥
 
 -- whether a place is that of the root
 abbrev pub is_top : List ℕ → Bool
@@ -141,6 +172,14 @@ UnlessDid NotThere P = P
 UnlessDid NoRoom P = P
 UnlessDid NoMemory P = P
 
+-- the step can be done at the slot with number i of the node at the place, but there is no room for it
+abbrev pub LacksRoom : {U V : Type 0} → (U → Option V → Option V) → StepKind → List ℕ → ℕ → PTree U V → Type 0
+LacksRoom means kind p i t = (there kind i p None t.root ≡ true) × IfSome (slots_at p t.root) (HasNoRoom means kind t.shape (is_top p) i)
+
+-- only doing the step tells whether there is room for it at the slot with number i of the node at the place
+abbrev pub TellsByDoing : {U V : Type 0} → StepKind → List ℕ → ℕ → PTree U V → Type 0
+TellsByDoing kind p i t = MatchOption (slots_at p t.root) ⊥ (λ ss. OnlyDoingTells kind (slots_from i ss))
+
 -- what the reply of a step at the slot with number i of the node at the place says of the tree before and after
 pub record Answers {U V : Type 0} (means : U → Option V → Option V) (kind : StepKind) (p : List ℕ) (i : ℕ) (r : StepReply) (a b : PTree U V) : Type 0 where
   pub value_kept : (k : List ℕ) → value means b.root k ≡ value means a.root k
@@ -148,5 +187,6 @@ pub record Answers {U V : Type 0} (means : U → Option V → Option V) (kind : 
   pub did : IfDid r (λ n. Stepped means kind a.shape n p i a.root b.root)
   pub others_stay : IfDid r (λ n. OthersStay kind p i a.root b.root)
   pub not_there : (r ≡ NotThere) ↔ (there kind i p None a.root ≡ false)
-  pub no_room : r ≡ NoRoom → IfSome (slots_at p a.root) (HasNoRoom means kind a.shape (is_top p) i)
+  pub no_room : r ≡ NoRoom → LacksRoom means kind p i a
+  pub no_room_told : LacksRoom means kind p i a → (r ≡ NoRoom) ⊎ ((r ≡ NoMemory) × TellsByDoing kind p i a)
   pub unchanged : UnlessDid r (b ≡ a)

@@ -12,7 +12,7 @@ pub struct Place {
 }
 
 impl Place {
-    /// The root's place. It takes no memory.
+    /// The root's place.
     pub fn root() -> Place
         ensures { take result.len result.numbers ≡ [] }
     {
@@ -22,7 +22,7 @@ impl Place {
         }
     }
 
-    /// The place of the node below the slot with this number; `None` at 15 numbers. It takes no memory.
+    /// The place of the node below the slot with this number; `None` at 15 numbers.
     pub fn under(&self, slot: u8) -> Option<Place>
         ensures { MatchOption result (self.now.len ≡ 15) (λ p. take p.len p.numbers ≡ take self.now.len self.now.numbers ++ slot ∷ []) }
     {
@@ -37,7 +37,7 @@ impl Place {
         })
     }
 
-    /// The slot numbers from the root down. It takes no memory.
+    /// The slot numbers from the root down.
     pub fn numbers(&self) -> &[u8]
         ensures { result.now ≡ take self.now.len self.now.numbers }
     {

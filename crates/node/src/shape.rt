@@ -15,7 +15,7 @@ pub struct Shape {
 impl Shape {
     ghost use Rattle.node.specs.Shapes.{is_shape};
 
-    /// Whether a tree may have the shape. It takes no memory.
+    /// Whether a tree may have the shape.
     pub fn ok(&self) -> bool
         ensures { result ≡ is_shape self.now }
     {

@@ -1,12 +1,9 @@
 //! Appends of messages on numbers, at keys of one byte, seen in the slots where they wait.
-ghost use Rattle.std.specs.Prelude.{◌+◌, ◌*◌, ◌%◌, Some};
-ghost use Rattle.std.specs.Option.{unwrap_or};
-
 use crate::node::{Body, Node, Slot};
 use crate::shape::Shape;
 use crate::tree::{Tree, append_both};
-use message::{Changes, Msg, Update};
-use pathkey::{Key, KeyRange, NoMemory};
+use pathkey::NoMemory;
+use samples::{Digit, Plain, batch};
 use std::alloc::Global;
 use std::test::Fail;
 
@@ -15,91 +12,6 @@ const SMALL: Shape = Shape {
     pending: 8,
     leaf: 4,
 };
-
-/// Writes a digit behind the last two digits of a number, so that the order of two updates shows.
-#[derive(Drop)]
-struct Digit(u64);
-
-impl Changes for Digit {
-    type Value = u64;
-}
-
-impl Update for Digit {
-    ghost means = { λ digit old. Some (unwrap_or old 0 % 100 * 10 + digit.0 % 10) };
-
-    fn apply(&self, _alloc: Global, old: Option<&u64>) -> Result<Option<u64>, NoMemory> {
-        let number = old.copied().unwrap_or(0);
-        Ok(Some(number % 100 * 10 + self.0 % 10))
-    }
-
-    fn join(&self, _alloc: Global, _later: &Digit) -> Result<Option<Digit>, NoMemory> {
-        Ok(None)
-    }
-
-    fn copy(&self, _alloc: Global) -> Result<Digit, NoMemory> {
-        Ok(Digit(self.0))
-    }
-
-    fn copy_value(_alloc: Global, value: &u64) -> Result<u64, NoMemory> {
-        Ok(*value)
-    }
-}
-
-/// A message in plain numbers, where a number stands for the key of that one byte.
-#[derive(Clone, Copy, Debug, PartialEq, Eq)]
-enum Plain {
-    Put(u8, u64),
-    Del(u8),
-    DelRange(u8, Option<u8>),
-    Edit(u8, u64),
-}
-
-impl Plain {
-    fn message(self, alloc: Global) -> Result<Msg<Digit>, NoMemory> {
-        match self {
-            Plain::Put(at, value) => Ok(Msg::Put(key(alloc, at)?, value)),
-            Plain::Del(at) => Ok(Msg::Del(key(alloc, at)?)),
-            Plain::DelRange(lo, hi) => Ok(Msg::DelRange(range(alloc, lo, hi)?)),
-            Plain::Edit(at, digit) => Ok(Msg::Edit(key(alloc, at)?, Digit(digit))),
-        }
-    }
-
-    fn read(msg: &Msg<Digit>) -> Plain {
-        match msg {
-            Msg::Put(at, value) => Plain::Put(byte(at), *value),
-            Msg::Del(at) => Plain::Del(byte(at)),
-            Msg::DelRange(range) => Plain::DelRange(byte(&range.lo), range.hi.as_ref().map(byte)),
-            Msg::Edit(at, digit) => Plain::Edit(byte(at), digit.0),
-        }
-    }
-}
-
-fn key(alloc: Global, byte: u8) -> Result<Key, NoMemory> {
-    Key::from_bytes(alloc, &[byte])
-}
-
-fn byte(key: &Key) -> u8 {
-    key.as_bytes().first().copied().unwrap_or(0)
-}
-
-fn range(alloc: Global, lo: u8, hi: Option<u8>) -> Result<KeyRange, NoMemory> {
-    let hi = match hi {
-        None => None,
-        Some(hi) => Some(key(alloc, hi)?),
-    };
-    Ok(KeyRange {
-        lo: key(alloc, lo)?,
-        hi,
-    })
-}
-
-fn batch(alloc: Global, plain: &[Plain]) -> Result<Vec<Msg<Digit>>, NoMemory> {
-    let mut msgs = Vec::new(alloc);
-    for msg in plain {
-        msgs.push(msg.message(alloc)?)?;
-    }
-    Ok(msgs)
-}
 
 fn slot_count(node: &Node<Digit>) -> usize {
     match node.body() {
@@ -123,7 +35,7 @@ fn waiting(alloc: Global, node: &Node<Digit>, slot: usize) -> Result<Vec<Plain>,
     let pending = &slot_at(node, slot)?.pending;
     let mut plain = Vec::new(alloc);
     for msg in &pending.copy_front(alloc, pending.len())? {
-        plain.push(Plain::read(msg))?;
+        plain.push(Plain::of(msg))?;
     }
     Ok(plain)
 }

@@ -5,7 +5,7 @@ ghost use Rattle.node.specs.Lawful.{IsLawful};
 ghost use Rattle.node.specs.Pure.{empty_root};
 ghost use Rattle.node.specs.Report.{report_of};
 ghost use Rattle.node.specs.RootSteps.{with_root};
-ghost use Rattle.node.specs.Ready.{IsSearchable};
+ghost use Rattle.node.specs.Searchable.{IsSearchable};
 ghost use Rattle.node.specs.Shapes.{is_shape};
 
 use crate::node::count::{height, total};
@@ -63,14 +63,14 @@ impl<U: Update> Tree<U> {
         })
     }
 
-    /// The tree's shape. It takes no memory.
+    /// The tree's shape.
     pub fn shape(&self) -> Shape
         ensures { result ≡ self.now.shape }
     {
         self.shape
     }
 
-    /// The tree's root. It takes no memory.
+    /// The tree's root.
     pub fn root(&self) -> &Node<U>
         ensures root { result.now ≡ self.now.root }
         ensures searchable { IsSearchable result.now }
@@ -79,7 +79,7 @@ impl<U: Update> Tree<U> {
         &self.root
     }
 
-    /// How large the tree is. It takes no memory.
+    /// How large the tree is.
     pub fn shape_report(&self) -> ShapeReport
         ensures { result ≡ report_of self.now }
     {
@@ -91,7 +91,7 @@ impl<U: Update> Tree<U> {
         }
     }
 
-    /// Puts another root in the place of the tree's, for a step that keeps the tree lawful. It takes no memory.
+    /// Replaces the root, for a step that keeps the tree lawful.
     pub fn replace_root(&mut self, root: Arc<Node<U>>)
         requires { IsLawful (with_root root.value self.old) }
         ensures { self.new ≡ with_root root.value self.old }

@@ -168,7 +168,7 @@ path_in_subtree p q u v h =
 pub path_in_subtree_from : (p q r : Path) → q ≡ p ++ r → is_in (subtree p) (enc q) ≡ true
 path_in_subtree_from p q r e = subst (λ (k : Key). is_in (subtree p) k ≡ true) (sym (ap enc e ∙ enc-append p r)) (in_subtree_from p (enc r))
 
--- the same of a block's key
+-- likewise for a block's key
 pub block_in_subtree : (p q : Path) (i : ℕ) → EachName p → EachName q → is_in (subtree p) (block_key q i) ≡ true → (r : Path) × (q ≡ p ++ r)
 unfolding block_key
 block_in_subtree p q i u v h =

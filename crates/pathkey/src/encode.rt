@@ -50,7 +50,7 @@ pub fn block_key(alloc: Global, path: &Path, index: u32) -> Result<Key, NoMemory
     Key::joined(alloc, path.key().as_bytes(), &[0, a, b, c, d])
 }
 
-/// The key with the key of `old` at its beginning made that of `new`; none where it does not begin so.
+/// The key with its beginning, the key of `old`, replaced by the key of `new`; none where it begins otherwise.
 pub fn rekey(alloc: Global, key: &Key, old: &Path, new: &Path) -> Result<Option<Key>, NoMemory>
     ensures { IfOk result (IsRekeyed key.now old.now new.now) }
 {

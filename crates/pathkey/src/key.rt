@@ -60,7 +60,7 @@ impl Key {
         Ok(Key { bytes })
     }
 
-    /// The key of the path whose text goes on as given after its first slash.
+    /// The key of the path whose text is a slash and then this.
     pub(crate) fn of_text(alloc: Global, text: &[u8]) -> Result<Key, NoMemory>
         ensures { IfOk result (λ k. k ≡ map null_for_slash text.now ++ 0 ∷ []) }
     {

@@ -1,7 +1,7 @@
 //! Laws of paths, texts and keys, each proved once for those who rely on it. The functions do nothing.
 ghost use Rattle.pathkey.specs.Laws.{ReadBackLaw, OnlyTextsLaw, UnderLaw, EncLaw, SubtreeLaw, BlockSubtreeLaw, BlockKeyLaw, BlocksDifferLaw, BlocksFromLaw, NoPathAmongBlocksLaw};
 
-/// The text of a path is read as that path, and no other text is read at all.
+/// The text of a path is read as that path, and every other text is refused.
 pub fn texts()
     ensures read_back { ReadBackLaw }
     ensures only_texts { OnlyTextsLaw }
@@ -25,7 +25,7 @@ pub fn subtrees()
     ensures blocks { BlockSubtreeLaw }
 {}
 
-/// The keys of a file's blocks from a number on are those of its blocks from there on alone.
+/// The range of a file's blocks from a number on holds those blocks' keys and no others.
 pub fn blocks()
     ensures blocks { BlocksFromLaw }
     ensures no_path { NoPathAmongBlocksLaw }

@@ -4,7 +4,7 @@ use Rattle.pathkey.specs.Names.{Path, IsPath}
 use Rattle.pathkey.specs.Keys.{Key, block_key, blocks_from, is_in}
 use Rattle.pathkey.proofs.KeyFacts.{block_in_blocks, block_in_blocks_from}
 use Rattle.reference.specs.Tree.{Tree}
-use Rattle.reference.specs.Indexes.{BlockIndex, most_blocks, BlockOf, BlocksMean, cleared, BlocksChange}
+use Rattle.reference.specs.Indexes.{Blocks, most_blocks, BlockOf, BlocksMean, cleared, BlocksChange}
 
 -- what is left of a cleared range stood outside it
 pub cleared_some : {V : Type 0} (b : Bool) (o : Option V) (v : V) → cond b None o ≡ Some v → (b ≡ false) × (o ≡ Some v)
@@ -12,7 +12,7 @@ cleared_some true o v h = absurd (cc)
 cleared_some false o v h = (refl, h)
 
 -- to clear the range takes out the blocks of the path, and no other
-pub blocks_cleared : (t : Tree) (p : Path) (d : BlockIndex) → IsPath p → BlocksMean t d → BlocksChange (λ i o. None) p d (cleared (blocks_from p 0) d)
+pub blocks_cleared : (t : Tree) (p : Path) (d : Blocks) → IsPath p → BlocksMean t d → BlocksChange (λ i o. None) p d (cleared (blocks_from p 0) d)
 blocks_cleared t p d is_path means = record {
   block = λ i li. ap (λ (b : Bool). cond b None (d (block_key p i))) (block_in_blocks_from p p 0 i (omega arith) (omega arith) (refl, omega arith));
   elsewhere = λ k off. elim (is_in (blocks_from p 0) k) as (λ b. is_in (blocks_from p 0) k ≡ b → cond b None (d k) ≡ d k) [

@@ -1,13 +1,13 @@
 -- The cases of each call: what holds of every refusal, and of what the call does where its table lets it, holds of its outcome.
-use Rattle.std.proofs.Common.{◌≡◌, ◌≢◌, ℕ, ◌+◌, List, [], ◌∷◌, length, take, drop, true, false, cond, ◌&&◌, refl, Option, Some, None}
+use Rattle.std.proofs.Common.{◌≡◌, ◌≢◌, ℕ, ◌+◌, List, [], ◌∷◌, length, take, drop, true, false, cond, not, ◌&&◌, refl, Option, Some, None}
 use Rattle.std.specs.Prelude.{nat_lt}
 use Rattle.pathkey.specs.declared.errno.Errno.{Errno}
 use Rattle.pathkey.specs.declared.errno.Errno.TheVariants.{EISDIR, EEXIST, ENOTDIR, ENOTEMPTY, EPERM, EINVAL, ENAMETOOLONG, EFBIG, EBUSY}
 use Rattle.reference.specs.Tree.{Path, Tree, File, At, entry_at, edited, over, sized}
-use Rattle.reference.specs.Calls.{Outcome, when, is_root, is_under, same_path, text_len, is_empty, is_directory, is_file, is_full, is_found, bytes_of, path_fault, parent_fault, deepest_at, greatest_file, unless, made, written, truncated, unlinked, directory_removed, removed, placed, renamed, read, stat_of, asked, names_of, listed}
+use Rattle.reference.specs.Calls.{Outcome, when, is_root, is_under, same_path, text_len, is_empty, is_directory, is_file, is_full, is_found, bytes_of, path_fault, parent_fault, deepest_at, greatest_file, unless, faults_of_new, made, faults_of_write, written, faults_of_truncate, truncated, faults_of_unlink, unlinked, faults_of_rmdir, directory_removed, faults_of_rmtree, removed, placed, faults_of_rename_from, faults_of_rename, renamed, faults_of_read, read, faults_of_stat, stat_of, asked, faults_of_readdir, names_of, listed}
 use Rattle.reference.specs.declared.reply.Reply.TheVariants.{Done, Count, Data, Names, Fault}
 use Rattle.reference.proofs.EntryPaths.{not_root}
-use Rattle.reference.proofs.Tables.{NoFaults, unless_holds, when_none}
+use Rattle.reference.proofs.NoFaults.{NoFaults, unless_holds, when_none}
 
 -- P holds of every refusal of a call on t
 abbrev pub OfRefusals : (Outcome → Type 0) → Tree → Type 0
@@ -18,7 +18,7 @@ pub made_cases : (P : Outcome → Type 0) (t : Tree) (p : Path) (x : Tree) → O
     → P (made t p x)
 unfolding NoFaults
 made_cases P t p x refused done =
-    unless_holds P t (when (is_root p) EEXIST ∷ parent_fault t p ∷ when (is_found (entry_at t p)) EEXIST ∷ []) (edited t p (Some x), Done) refused
+    unless_holds P t (faults_of_new t p) (edited t p (Some x), Done) refused
     (λ f. done (not_root p (when_none (is_root p) EEXIST f.0)) f.1.0 (when_none (is_found (entry_at t p)) EEXIST f.1.1.0))
 
 pub written_cases : (P : Outcome → Type 0) (t : Tree) (p : Path) (off : ℕ) (w : List ℕ) → OfRefusals P t
@@ -28,13 +28,12 @@ pub written_cases : (P : Outcome → Type 0) (t : Tree) (p : Path) (off : ℕ) (
 unfolding NoFaults
 written_cases P t p off w refused empty done =
     let here : At = entry_at t p in
-    let large : List (Option Errno) = when (nat_lt greatest_file (off + length w)) EFBIG ∷ [] in
     let laid : Outcome = (edited t p (Some (File (over (bytes_of here) off w))), Count (length w)) in
-    unless_holds P t (path_fault here ∷ when (is_directory here) EISDIR ∷ []) (cond (is_empty w) (t, Count 0) (unless t large laid)) refused
-    (λ f. elim (is_empty w) as (λ b. is_empty w ≡ b → P (cond {A = Outcome} b (t, Count 0) (unless t large laid))) [
-      | true ↦ λ e. empty e
-      | false ↦ λ e. unless_holds P t large laid refused (λ g. done f.0 (when_none (is_directory here) EISDIR f.1.0) e (when_none (nat_lt greatest_file (off + length w)) EFBIG g.0))
-    ] refl)
+    unless_holds P t (faults_of_write t p off w) (cond (is_empty w) (t, Count 0) laid) refused
+    (λ f. elim (is_empty w) as (λ b. is_empty w ≡ b → when (not b && nat_lt greatest_file (off + length w)) EFBIG ≡ None → P (cond {A = Outcome} b (t, Count 0) laid)) [
+      | true ↦ λ e g. empty e
+      | false ↦ λ e g. done f.0 (when_none (is_directory here) EISDIR f.1.0) e (when_none (nat_lt greatest_file (off + length w)) EFBIG g)
+    ] refl f.1.1.0)
 
 pub truncated_cases : (P : Outcome → Type 0) (t : Tree) (p : Path) (n : ℕ) → OfRefusals P t
     → (path_fault (entry_at t p) ≡ None → is_directory (entry_at t p) ≡ false → nat_lt greatest_file n ≡ false → P (edited t p (Some (File (sized (bytes_of (entry_at t p)) n))), Done))
@@ -42,7 +41,7 @@ pub truncated_cases : (P : Outcome → Type 0) (t : Tree) (p : Path) (n : ℕ) �
 unfolding NoFaults
 truncated_cases P t p n refused done =
     let here : At = entry_at t p in
-    unless_holds P t (path_fault here ∷ when (is_directory here) EISDIR ∷ when (nat_lt greatest_file n) EFBIG ∷ []) (edited t p (Some (File (sized (bytes_of here) n))), Done) refused
+    unless_holds P t (faults_of_truncate t p n) (edited t p (Some (File (sized (bytes_of here) n))), Done) refused
     (λ f. done f.0 (when_none (is_directory here) EISDIR f.1.0) (when_none (nat_lt greatest_file n) EFBIG f.1.1.0))
 
 pub unlinked_cases : (P : Outcome → Type 0) (t : Tree) (p : Path) → OfRefusals P t
@@ -51,7 +50,7 @@ pub unlinked_cases : (P : Outcome → Type 0) (t : Tree) (p : Path) → OfRefusa
 unfolding NoFaults
 unlinked_cases P t p refused done =
     let here : At = entry_at t p in
-    unless_holds P t (path_fault here ∷ when (is_directory here) EPERM ∷ []) (edited t p None, Done) refused (λ f. done f.0 (when_none (is_directory here) EPERM f.1.0))
+    unless_holds P t (faults_of_unlink t p) (edited t p None, Done) refused (λ f. done f.0 (when_none (is_directory here) EPERM f.1.0))
 
 pub directory_removed_cases : (P : Outcome → Type 0) (t : Tree) (p : Path) → OfRefusals P t
     → (p ≢ [] → path_fault (entry_at t p) ≡ None → is_file (entry_at t p) ≡ false → is_full (entry_at t p) ≡ false → P (edited t p None, Done))
@@ -59,7 +58,7 @@ pub directory_removed_cases : (P : Outcome → Type 0) (t : Tree) (p : Path) →
 unfolding NoFaults
 directory_removed_cases P t p refused done =
     let here : At = entry_at t p in
-    unless_holds P t (when (is_root p) EBUSY ∷ path_fault here ∷ when (is_file here) ENOTDIR ∷ when (is_full here) ENOTEMPTY ∷ []) (edited t p None, Done) refused
+    unless_holds P t (faults_of_rmdir t p) (edited t p None, Done) refused
     (λ f. done (not_root p (when_none (is_root p) EBUSY f.0)) f.1.0 (when_none (is_file here) ENOTDIR f.1.1.0) (when_none (is_full here) ENOTEMPTY f.1.1.1.0))
 
 pub removed_cases : (P : Outcome → Type 0) (t : Tree) (p : Path) → OfRefusals P t
@@ -67,7 +66,7 @@ pub removed_cases : (P : Outcome → Type 0) (t : Tree) (p : Path) → OfRefusal
     → P (removed t p)
 unfolding NoFaults
 removed_cases P t p refused done =
-    unless_holds P t (when (is_root p) EBUSY ∷ path_fault (entry_at t p) ∷ []) (edited t p None, Done) refused (λ f. done (not_root p (when_none (is_root p) EBUSY f.0)) f.1.0)
+    unless_holds P t (faults_of_rmtree t p) (edited t p None, Done) refused (λ f. done (not_root p (when_none (is_root p) EBUSY f.0)) f.1.0)
 
 -- what the table says of a rename that moves something
 pub record MayMove (t : Tree) (o n : Path) : Type 0 where
@@ -89,12 +88,11 @@ unfolding NoFaults
 renamed_cases P t o n refused stay done =
     let from : At = entry_at t o in
     let to : At = entry_at t n in
-    let faults : List (Option Errno) = when (is_directory from && is_under o n) EINVAL ∷ parent_fault t n ∷ when (is_directory to && is_file from) EISDIR ∷ when (is_file to && is_directory from) ENOTDIR ∷ when (is_full to) ENOTEMPTY ∷ when (nat_lt 1023 (text_len n + deepest_at from)) ENAMETOOLONG ∷ [] in
     let laid : Outcome = (placed (edited t o None) n from, Done) in
-    unless_holds P t (when (is_root o) EBUSY ∷ path_fault from ∷ []) (cond (same_path o n) (t, Done) (unless t faults laid)) refused
-    (λ f. elim (same_path o n) as (λ b. same_path o n ≡ b → P (cond {A = Outcome} b (t, Done) (unless t faults laid))) [
+    unless_holds P t (faults_of_rename_from t o) (cond (same_path o n) (t, Done) (unless t (faults_of_rename t o n) laid)) refused
+    (λ f. elim (same_path o n) as (λ b. same_path o n ≡ b → P (cond {A = Outcome} b (t, Done) (unless t (faults_of_rename t o n) laid))) [
       | true ↦ λ e. stay e
-      | false ↦ λ e. unless_holds P t faults laid refused (λ g. done (record {
+      | false ↦ λ e. unless_holds P t (faults_of_rename t o n) laid refused (λ g. done (record {
         not_root = not_root o (when_none (is_root o) EBUSY f.0);
         there = f.1.0;
         apart = e;
@@ -109,10 +107,10 @@ renamed_cases P t o n refused stay done =
 
 -- the calls that read do nothing to the tree
 pub read_keeps : (t : Tree) (p : Path) (off n : ℕ) → (read t p off n).0 ≡ t
-read_keeps t p off n = unless_holds (λ z. z.0 ≡ t) t (path_fault (entry_at t p) ∷ when (is_directory (entry_at t p)) EISDIR ∷ when (nat_lt 1048576 n) EINVAL ∷ []) (t, Data (take n (drop off (bytes_of (entry_at t p))))) (λ e. refl) (λ f. refl)
+read_keeps t p off n = unless_holds (λ z. z.0 ≡ t) t (faults_of_read t p n) (t, Data (take n (drop off (bytes_of (entry_at t p))))) (λ e. refl) (λ f. refl)
 
 pub asked_keeps : (t : Tree) (p : Path) → (asked t p).0 ≡ t
-asked_keeps t p = unless_holds (λ z. z.0 ≡ t) t (path_fault (entry_at t p) ∷ []) (t, stat_of (entry_at t p)) (λ e. refl) (λ f. refl)
+asked_keeps t p = unless_holds (λ z. z.0 ≡ t) t (faults_of_stat t p) (t, stat_of (entry_at t p)) (λ e. refl) (λ f. refl)
 
 pub listed_keeps : (t : Tree) (p : Path) → (listed t p).0 ≡ t
-listed_keeps t p = unless_holds (λ z. z.0 ≡ t) t (path_fault (entry_at t p) ∷ when (is_file (entry_at t p)) ENOTDIR ∷ []) (t, Names (names_of (entry_at t p))) (λ e. refl) (λ f. refl)
+listed_keeps t p = unless_holds (λ z. z.0 ≡ t) t (faults_of_readdir t p) (t, Names (names_of (entry_at t p))) (λ e. refl) (λ f. refl)

@@ -1,6 +1,6 @@
 -- What is seen at each path after an edit.
 use Rattle.std.proofs.Common.{◌≡◌, ◌≢◌, [], ◌∷◌, true, false, cond, sym, ap, refl, ◌∙◌, subst, Option, Some, None}
-use Rattle.std.specs.Prelude.{fold, unwrap_or}
+use Rattle.std.specs.Prelude.{fold, option_map}
 use Rattle.std.specs.Ordering.{is_eq}
 use Rattle.std.specs.declared.cmp.Ordering.TheVariants.{Less, Equal, Greater}
 use Rattle.reference.specs.Tree.{by_bytes, same, by_order, Name, Path, Tree, Dir, File, Entries, nothing, entry, named, put, take_out, set_entry, At, Missing, Blocked, found, onward, edited}
@@ -81,7 +81,7 @@ edit_law (n ∷ m ∷ p) (File b) o q ne h =
 edit_law (n ∷ m ∷ p) (Dir es) o [] ne h = refl
 edit_law (n ∷ m ∷ p) (Dir es) o (k ∷ q) ne h =
     elim (named n es) as (λ c. named n es ≡ c → no_directory_fault (fold onward (found c) (parent (m ∷ p))) ≡ None
-    → seen (fold onward (found (named k (put n (edited (unwrap_or c (Dir nothing)) (m ∷ p) o) es))) q) ≡ look_after (cond (same n k) (rest_of (m ∷ p) q) None) o (seen (fold onward (found (named k es)) q))) [
+    → seen (fold onward (found (named k (set_entry n (option_map (λ x. edited x (m ∷ p) o) c) es))) q) ≡ look_after (cond (same n k) (rest_of (m ∷ p) q) None) o (seen (fold onward (found (named k es)) q))) [
       | None ↦ λ e f. absurd (let g : no_directory_fault Missing ≡ None = subst (λ (a : At). no_directory_fault a ≡ None) (fold-Missing (parent (m ∷ p))) f in cc)
       | Some x ↦ λ e f.
           let ih : look (edited x (m ∷ p) o) q ≡ look_after (rest_of (m ∷ p) q) o (look x q) = edit_law (m ∷ p) x o q (λ z. cc) f in
@@ -90,3 +90,21 @@ edit_law (n ∷ m ∷ p) (Dir es) o (k ∷ q) ne h =
             | false ↦ λ g. refl
           ] refl
     ] refl h
+
+-- what is not there is not taken out
+take_out_absent : (n : Name) (es : Entries) → named n es ≡ None → take_out n es ≡ es
+take_out_absent n nothing h = refl
+take_out_absent n (entry m y rest) h =
+    elim (same n m) as (λ b. cond b (Some y) (named n rest) ≡ None → cond b (take_out n rest) (entry m y (take_out n rest)) ≡ entry m y rest) [
+      | true ↦ λ f. absurd (cc)
+      | false ↦ λ f. ap (λ (z : Entries). entry m y z) (take_out_absent n rest f)
+    ] h
+
+-- below a name that a directory lacks nothing is put or taken out
+pub edited_nowhere : (t : Tree) (es : Entries) (n m : Name) (p q : Path) (o : Option Tree) → t ≡ Dir es → q ≡ m ∷ p → named n es ≡ None → edited t (n ∷ q) o ≡ t
+edited_nowhere t es n m p q o is more none =
+    ap (λ (x : Tree). edited x (n ∷ q) o) is
+    ∙ ap (λ (z : Path). edited (Dir es) (n ∷ z) o) more
+    ∙ ap (λ (c : Option Tree). Dir (set_entry n (option_map (λ x. edited x (m ∷ p) o) c) es)) none
+    ∙ ap Dir (take_out_absent n es none)
+    ∙ sym is

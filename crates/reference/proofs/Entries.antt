@@ -6,7 +6,7 @@ use Rattle.reference.specs.Shape.{IsTree}
 use Rattle.reference.specs.Looks.{Look, Directory, Bytes, seen}
 use Rattle.pathkey.specs.Names.{IsPath}
 use Rattle.pathkey.specs.Keys.{enc, block_key, blocks_from}
-use Rattle.reference.specs.Indexes.{MetaIndex, BlockIndex, MetaMeans, most_blocks, Hold, BlocksMean, put_at, deleted_at, cleared}
+use Rattle.reference.specs.Indexes.{Metadata, Blocks, MetaMeans, most_blocks, Hold, BlocksMean, put_at, deleted_at, cleared}
 use Rattle.reference.specs.declared.call.Call.TheVariants.{Mkdir, Create, Unlink, Rmdir}
 use Rattle.reference.specs.declared.reply.Reply.TheVariants.{Done}
 use Rattle.reference.specs.declared.reply.Meta.TheVariants.{Dir as DirMeta, File as FileMeta}
@@ -62,26 +62,26 @@ unlink_becomes t t' p is = unlinked_cases (Gives t' Done ((b : List ℕ) × Beca
 
 -- ---- the metadata index
 -- a directory is put
-pub mkdir_meta : (t t' : Tree) (p : Path) (m : MetaIndex) → MetaMeans t m → IsPath p → ◌≡◌ {A = Outcome} (does t (Mkdir p)) (t', Done) → MetaMeans t' (put_at (enc p) DirMeta m)
+pub mkdir_meta : (t t' : Tree) (p : Path) (m : Metadata) → MetaMeans t m → IsPath p → ◌≡◌ {A = Outcome} (does t (Mkdir p)) (t', Done) → MetaMeans t' (put_at (enc p) DirMeta m)
 unfolding does
 mkdir_meta t t' p m old is_path e = meta_at_point t t' p (Some Directory) (λ o. Some DirMeta) m is_path (made_becomes t t' p (Dir nothing) bare_empty e).point refl old
 
 -- a file of length 0 is put
-pub create_meta : (t t' : Tree) (p : Path) (m : MetaIndex) → MetaMeans t m → IsPath p → ◌≡◌ {A = Outcome} (does t (Create p)) (t', Done) → MetaMeans t' (put_at (enc p) (FileMeta 0) m)
+pub create_meta : (t t' : Tree) (p : Path) (m : Metadata) → MetaMeans t m → IsPath p → ◌≡◌ {A = Outcome} (does t (Create p)) (t', Done) → MetaMeans t' (put_at (enc p) (FileMeta 0) m)
 unfolding does
 create_meta t t' p m old is_path e = meta_at_point t t' p (Some (Bytes [])) (λ o. Some (FileMeta 0)) m is_path (made_becomes t t' p (File []) (bare_file []) e).point refl old
 
 -- the metadata of what is taken out go
-pub rmdir_meta : (t t' : Tree) (p : Path) (m : MetaIndex) → MetaMeans t m → IsPath p → ◌≡◌ {A = Outcome} (does t (Rmdir p)) (t', Done) → MetaMeans t' (deleted_at (enc p) m)
+pub rmdir_meta : (t t' : Tree) (p : Path) (m : Metadata) → MetaMeans t m → IsPath p → ◌≡◌ {A = Outcome} (does t (Rmdir p)) (t', Done) → MetaMeans t' (deleted_at (enc p) m)
 rmdir_meta t t' p m old is_path e = meta_at_point t t' p None (λ o. None) m is_path (rmdir_becomes t t' p e).point refl old
 
 -- of a file too
-pub unlink_meta : (t t' : Tree) (p : Path) (m : MetaIndex) → IsTree t → MetaMeans t m → IsPath p → ◌≡◌ {A = Outcome} (does t (Unlink p)) (t', Done) → MetaMeans t' (deleted_at (enc p) m)
+pub unlink_meta : (t t' : Tree) (p : Path) (m : Metadata) → IsTree t → MetaMeans t m → IsPath p → ◌≡◌ {A = Outcome} (does t (Unlink p)) (t', Done) → MetaMeans t' (deleted_at (enc p) m)
 unlink_meta t t' p m tree old is_path e = meta_at_point t t' p None (λ o. None) m is_path (unlink_becomes t t' p tree e).1.point refl old
 
 -- ---- the block index
 -- where neither before nor after a file stands at the path, the blocks stay
-no_file_blocks : (t t' : Tree) (p : Path) (old new : Option Look) (d : BlockIndex) → ((b : List ℕ) → old ≡ Some (Bytes b) → ⊥) → ((b : List ℕ) → new ≡ Some (Bytes b) → ⊥) → BlocksMean t d → IsPath p → Became t t' p old new → BlocksMean t' d
+no_file_blocks : (t t' : Tree) (p : Path) (old new : Option Look) (d : Blocks) → ((b : List ℕ) → old ≡ Some (Bytes b) → ⊥) → ((b : List ℕ) → new ≡ Some (Bytes b) → ⊥) → BlocksMean t d → IsPath p → Became t t' p old new → BlocksMean t' d
 no_file_blocks t t' p old new d was now means is_path b = blocks_at_point t t' p new (λ i o. o) d d is_path b.point (unchanged p d)
     (record {
       hold = λ x e. absurd (now x e);
@@ -90,16 +90,16 @@ no_file_blocks t t' p old new d was now means is_path b = blocks_at_point t t' p
     means
 
 -- a directory comes without blocks
-pub mkdir_blocks : (t t' : Tree) (p : Path) (d : BlockIndex) → BlocksMean t d → IsPath p → ◌≡◌ {A = Outcome} (does t (Mkdir p)) (t', Done) → BlocksMean t' d
+pub mkdir_blocks : (t t' : Tree) (p : Path) (d : Blocks) → BlocksMean t d → IsPath p → ◌≡◌ {A = Outcome} (does t (Mkdir p)) (t', Done) → BlocksMean t' d
 unfolding does
 mkdir_blocks t t' p d means is_path e = no_file_blocks t t' p None (Some Directory) d (λ b. (λ f. cc)) (λ b. (λ f. cc)) means is_path (made_becomes t t' p (Dir nothing) bare_empty e)
 
 -- and goes without
-pub rmdir_blocks : (t t' : Tree) (p : Path) (d : BlockIndex) → BlocksMean t d → IsPath p → ◌≡◌ {A = Outcome} (does t (Rmdir p)) (t', Done) → BlocksMean t' d
+pub rmdir_blocks : (t t' : Tree) (p : Path) (d : Blocks) → BlocksMean t d → IsPath p → ◌≡◌ {A = Outcome} (does t (Rmdir p)) (t', Done) → BlocksMean t' d
 rmdir_blocks t t' p d means is_path e = no_file_blocks t t' p (Some Directory) None d (λ b. (λ f. cc)) (λ b. (λ f. cc)) means is_path (rmdir_becomes t t' p e)
 
 -- a new file has no bytes and so no blocks
-pub create_blocks : (t t' : Tree) (p : Path) (d : BlockIndex) → BlocksMean t d → IsPath p → ◌≡◌ {A = Outcome} (does t (Create p)) (t', Done) → BlocksMean t' d
+pub create_blocks : (t t' : Tree) (p : Path) (d : Blocks) → BlocksMean t d → IsPath p → ◌≡◌ {A = Outcome} (does t (Create p)) (t', Done) → BlocksMean t' d
 unfolding does
 create_blocks t t' p d means is_path e =
     blocks_at_point t t' p (Some (Bytes [])) (λ i o. o) d d is_path b.point (unchanged p d) (record { hold = λ x f. let is : [] ≡ x = cc in subst (λ (y : List ℕ). Hold (λ i. d (block_key p i)) y) is none; file = λ i v li f. ([], refl) }) means
@@ -115,6 +115,6 @@ create_blocks t t' p d means is_path e =
     none = no_bytes (λ i. d (block_key p i)) (λ i li. absent i (d (block_key p i)) li refl)
 
 -- the blocks of a file that is taken out go
-pub unlink_blocks : (t t' : Tree) (p : Path) (d : BlockIndex) → IsTree t → BlocksMean t d → IsPath p → ◌≡◌ {A = Outcome} (does t (Unlink p)) (t', Done) → BlocksMean t' (cleared (blocks_from p 0) d)
+pub unlink_blocks : (t t' : Tree) (p : Path) (d : Blocks) → IsTree t → BlocksMean t d → IsPath p → ◌≡◌ {A = Outcome} (does t (Unlink p)) (t', Done) → BlocksMean t' (cleared (blocks_from p 0) d)
 unlink_blocks t t' p d tree means is_path e =
     blocks_at_point t t' p None (λ i o. None) d (cleared (blocks_from p 0) d) is_path (unlink_becomes t t' p tree e).1.point (blocks_cleared t p d is_path means) (record { hold = λ b f. absurd (cc); file = λ i v li f. absurd (cc) }) means

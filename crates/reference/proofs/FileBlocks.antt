@@ -23,7 +23,7 @@ sized_past b n x h = get_or_past (sized b n) x 0 (let l : length (sized b n) ≡
 
 -- ---- overlaid
 -- before the offset the old byte
-over_before : (b : List ℕ) (off : ℕ) (w : List ℕ) (x : ℕ) → x < off → get_or (over b off w) x 0 ≡ get_or b x 0
+pub over_before : (b : List ℕ) (off : ℕ) (w : List ℕ) (x : ℕ) → x < off → get_or (over b off w) x 0 ≡ get_or b x 0
 over_before b off w x h =
     let l : length (sized b off) ≡ off = length-sized b off in
     let m : length (sized b off ++ w) ≡ length (sized b off) + length w = length-append (sized b off) w in
@@ -32,7 +32,7 @@ over_before b off w x h =
     ∙ sized_at b off x h
 
 -- from the offset on the new one
-over_inside : (b : List ℕ) (off : ℕ) (w : List ℕ) (x : ℕ) → off ≤ x → x < off + length w → get_or (over b off w) x 0 ≡ get_or w (x - off) 0
+pub over_inside : (b : List ℕ) (off : ℕ) (w : List ℕ) (x : ℕ) → off ≤ x → x < off + length w → get_or (over b off w) x 0 ≡ get_or w (x - off) 0
 over_inside b off w x h g =
     let l : length (sized b off) ≡ off = length-sized b off in
     let m : length (sized b off ++ w) ≡ length (sized b off) + length w = length-append (sized b off) w in
@@ -40,7 +40,7 @@ over_inside b off w x h g =
     ∙ get_or-append_right (sized b off) w off x 0 l h
 
 -- past the new bytes the old one
-over_after : (b : List ℕ) (off : ℕ) (w : List ℕ) (x : ℕ) → off + length w ≤ x → get_or (over b off w) x 0 ≡ get_or b x 0
+pub over_after : (b : List ℕ) (off : ℕ) (w : List ℕ) (x : ℕ) → off + length w ≤ x → get_or (over b off w) x 0 ≡ get_or b x 0
 over_after b off w x h =
     let l : length (sized b off) ≡ off = length-sized b off in
     let m : length (sized b off ++ w) ≡ length (sized b off) + length w = length-append (sized b off) w in
@@ -51,7 +51,7 @@ over_after b off w x h =
 
 -- ---- the blocks of a file after a write
 -- a byte of a block is that of the bytes it holds
-byte-held : (o : Option (List ℕ)) (j : ℕ) → byte_of o j ≡ get_or (held o) j 0
+pub byte-held : (o : Option (List ℕ)) (j : ℕ) → byte_of o j ≡ get_or (held o) j 0
 byte-held None j = refl
 byte-held (Some v) j = refl
 

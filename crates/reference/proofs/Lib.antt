@@ -29,6 +29,6 @@ pub mod Sight
 pub mod SnapshotRows
 pub mod Snapshots
 pub mod Standing
-pub mod Tables
+pub mod NoFaults
 pub mod TreeEdits
 pub mod Unique

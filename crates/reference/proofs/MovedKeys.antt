@@ -8,7 +8,7 @@ use Rattle.reference.specs.Shape.{IsTree}
 use Rattle.reference.specs.Looks.{Look, Bytes, look}
 use Rattle.pathkey.specs.Names.{EachName, IsPath}
 use Rattle.pathkey.specs.Keys.{Key, enc, block_key, subtree, is_in}
-use Rattle.reference.specs.Indexes.{MetaIndex, BlockIndex, meta_of, PathOf, MetaMeans, Hold, BlockOf, BlocksMean, moved}
+use Rattle.reference.specs.Indexes.{Metadata, Blocks, meta_of, PathOf, MetaMeans, Hold, BlockOf, BlocksMean, moved}
 use Rattle.reference.specs.declared.reply.Meta.{Meta}
 use Rattle.pathkey.proofs.KeyFacts.{enc_law, enc-append, under_from_key, under_from_zero, in_subtree, in_subtree_from, path_in_subtree, path_in_subtree_from, block_in_subtree, block_in_subtree_from}
 use Rattle.reference.proofs.EntryPaths.{each-append, each_rest, path_moved}
@@ -77,7 +77,7 @@ module _ (t t' : Tree) (o n : Path) (tree : IsTree t) (old : IsPath o) (new : Is
   block_outside : (p q : Path) (i : ℕ) → IsPath p → IsPath q → ((r : Path) → q ≡ p ++ r → ⊥) → is_in (subtree p) (block_key q i) ≡ false
   block_outside p q i u v off = false_from_ne_true (is_in (subtree p) (block_key q i)) (λ g. let r : (r : Path) × (q ≡ p ++ r) = block_in_subtree p q i u.names v.names g in off r.0 r.1)
 
-  module _ (m : MetaIndex) (means : MetaMeans t m) where
+  module _ (m : Metadata) (means : MetaMeans t m) where
     -- the index at any path of good names
     meta_at : (s : Path) → EachName s → m (enc s) ≡ meta_of (look t s)
     meta_at s u =
@@ -130,7 +130,7 @@ module _ (t t' : Tree) (o n : Path) (tree : IsTree t) (old : IsPath o) (new : Is
     pub moved_meta : MetaMeans t' (moved o n m)
     moved_meta = record { paths = moved_paths; only_paths = λ k v e. moved_only_paths k v (origin o n m k v e) }
 
-  module _ (d : BlockIndex) (means : BlocksMean t d) where
+  module _ (d : Blocks) (means : BlocksMean t d) where
     -- the blocks of a file at or below n are those it had below o
     blocks_came : (q : Path) (b : List ℕ) (r : Path) → q ≡ n ++ r → look t' q ≡ Some (Bytes b) → Hold (λ i. moved o n d (block_key q i)) b
     blocks_came q b r at f =

@@ -1,10 +1,10 @@
 -- The table of calls never answers want of memory.
 use Rattle.std.proofs.Common.{◌≡◌, ◌≢◌, List, [], ◌∷◌, Bool, true, false, cond, refl, sym, ap, ◌∙◌, Option, Some, None, length, ◌+◌, ℕ}
-use Rattle.std.specs.Prelude.{◌&&◌, nat_lt, take, drop}
+use Rattle.std.specs.Prelude.{not, ◌&&◌, nat_lt, take, drop}
 use Rattle.pathkey.specs.declared.errno.Errno.{Errno}
 use Rattle.pathkey.specs.declared.errno.Errno.TheVariants.{EISDIR, EEXIST, ENOTDIR, ENOTEMPTY, EPERM, EINVAL, ENAMETOOLONG, EFBIG, EBUSY, ENOMEM}
 use Rattle.reference.specs.Tree.{Path, Tree, Dir, File, nothing, At, Found, Missing, Blocked, entry_at, with_entry, without, over, sized}
-use Rattle.reference.specs.Calls.{Outcome, when, is_root, is_under, same_path, text_len, is_empty, is_directory, is_file, is_full, is_found, bytes_of, path_fault, no_directory_fault, parent, parent_fault, deepest_at, greatest_file, unless, placed, stat_of, names_of, does}
+use Rattle.reference.specs.Calls.{Outcome, when, is_root, is_under, same_path, text_len, is_empty, is_directory, is_file, is_full, is_found, bytes_of, path_fault, no_directory_fault, parent, parent_fault, deepest_at, greatest_file, greatest_read, unless, faults_of_new, made, faults_of_write, faults_of_truncate, faults_of_unlink, faults_of_rmdir, faults_of_rmtree, faults_of_rename_from, faults_of_rename, faults_of_read, faults_of_stat, faults_of_readdir, placed, stat_of, names_of, does}
 use Rattle.reference.specs.Worlds.{Replied, is_lack}
 use Rattle.reference.specs.declared.call.Call.{Call}
 use Rattle.reference.specs.declared.call.Call.TheVariants.{Mkdir, Create, Write, Truncate, Unlink, Rmdir, Rename, Rmtree, Read, Stat as AskStat, Readdir}
@@ -55,8 +55,8 @@ stat_other (Found (File b)) = refl
 stat_other Missing = refl
 stat_other Blocked = refl
 
-made_other : (t : Tree) (p : Path) (x : Tree) → is_lack (Replied (unless t (when (is_root p) EEXIST ∷ parent_fault t p ∷ when (is_found (entry_at t p)) EEXIST ∷ []) (with_entry t p x, Done)).1) ≡ false
-made_other t p x = unless_other t (when (is_root p) EEXIST ∷ parent_fault t p ∷ when (is_found (entry_at t p)) EEXIST ∷ []) (with_entry t p x, Done) (when_other (is_root p) EEXIST refl, (parent_other t p, (when_other (is_found (entry_at t p)) EEXIST refl, tt))) refl
+made_other : (t : Tree) (p : Path) (x : Tree) → is_lack (Replied (made t p x).1) ≡ false
+made_other t p x = unless_other t (faults_of_new t p) (with_entry t p x, Done) (when_other (is_root p) EEXIST refl, (parent_other t p, (when_other (is_found (entry_at t p)) EEXIST refl, tt))) refl
 
 pub no_lack : (t : Tree) (c : Call) → is_lack (Replied (does t c).1) ≡ false
 unfolding does
@@ -64,46 +64,35 @@ no_lack t (Mkdir p) = made_other t p (Dir nothing)
 no_lack t (Create p) = made_other t p (File [])
 no_lack t (Write p off w) =
     let here : At = entry_at t p in
-    let large : List (Option Errno) = when (nat_lt greatest_file (off + length w)) EFBIG ∷ [] in
     let laid : Outcome = (with_entry t p (File (over (bytes_of here) off w)), Count (length w)) in
-    unless_other t (path_fault here ∷ when (is_directory here) EISDIR ∷ []) (cond (is_empty w) (t, Count 0) (unless t large laid))
-    (path_other here, (when_other (is_directory here) EISDIR refl, tt))
-    (either_other (is_empty w) (t, Count 0) (unless t large laid) refl (unless_other t large laid (when_other (nat_lt greatest_file (off + length w)) EFBIG refl, tt) refl))
+    unless_other t (faults_of_write t p off w) (cond (is_empty w) (t, Count 0) laid)
+    (path_other here, (when_other (is_directory here) EISDIR refl, (when_other (not (is_empty w) && nat_lt greatest_file (off + length w)) EFBIG refl, tt)))
+    (either_other (is_empty w) (t, Count 0) laid refl refl)
 no_lack t (Truncate p n) =
     let here : At = entry_at t p in
-    unless_other t (path_fault here ∷ when (is_directory here) EISDIR ∷ when (nat_lt greatest_file n) EFBIG ∷ []) (with_entry t p (File (sized (bytes_of here) n)), Done)
+    unless_other t (faults_of_truncate t p n) (with_entry t p (File (sized (bytes_of here) n)), Done)
     (path_other here, (when_other (is_directory here) EISDIR refl, (when_other (nat_lt greatest_file n) EFBIG refl, tt))) refl
 no_lack t (Unlink p) =
-    let here : At = entry_at t p in
-    unless_other t (path_fault here ∷ when (is_directory here) EPERM ∷ []) (without t p, Done) (path_other here, (when_other (is_directory here) EPERM refl, tt)) refl
+    unless_other t (faults_of_unlink t p) (without t p, Done) (path_other (entry_at t p), (when_other (is_directory (entry_at t p)) EPERM refl, tt)) refl
 no_lack t (Rmdir p) =
     let here : At = entry_at t p in
-    unless_other t (when (is_root p) EBUSY ∷ path_fault here ∷ when (is_file here) ENOTDIR ∷ when (is_full here) ENOTEMPTY ∷ []) (without t p, Done)
+    unless_other t (faults_of_rmdir t p) (without t p, Done)
     (when_other (is_root p) EBUSY refl, (path_other here, (when_other (is_file here) ENOTDIR refl, (when_other (is_full here) ENOTEMPTY refl, tt)))) refl
 no_lack t (Rename o n) =
     let from : At = entry_at t o in
     let to : At = entry_at t n in
-    let faults : List (Option Errno) =
-    when (is_directory from && is_under o n) EINVAL
-    ∷ parent_fault t n
-    ∷ when (is_directory to && is_file from) EISDIR
-    ∷ when (is_file to && is_directory from) ENOTDIR
-    ∷ when (is_full to) ENOTEMPTY
-    ∷ when (nat_lt 1023 (text_len n + deepest_at from)) ENAMETOOLONG
-    ∷ [] in
     let moved : Outcome = (placed (without t o) n from, Done) in
-    unless_other t (when (is_root o) EBUSY ∷ path_fault from ∷ []) (cond (same_path o n) (t, Done) (unless t faults moved))
+    unless_other t (faults_of_rename_from t o) (cond (same_path o n) (t, Done) (unless t (faults_of_rename t o n) moved))
     (when_other (is_root o) EBUSY refl, (path_other from, tt))
-    (either_other (same_path o n) (t, Done) (unless t faults moved) refl
-    (unless_other t faults moved (when_other (is_directory from && is_under o n) EINVAL refl, (parent_other t n, (when_other (is_directory to && is_file from) EISDIR refl, (when_other (is_file to && is_directory from) ENOTDIR refl, (when_other (is_full to) ENOTEMPTY refl, (when_other (nat_lt 1023 (text_len n + deepest_at from)) ENAMETOOLONG refl, tt)))))) refl))
-no_lack t (Rmtree p) = unless_other t (when (is_root p) EBUSY ∷ path_fault (entry_at t p) ∷ []) (without t p, Done) (when_other (is_root p) EBUSY refl, (path_other (entry_at t p), tt)) refl
+    (either_other (same_path o n) (t, Done) (unless t (faults_of_rename t o n) moved) refl
+    (unless_other t (faults_of_rename t o n) moved (when_other (is_directory from && is_under o n) EINVAL refl, (parent_other t n, (when_other (is_directory to && is_file from) EISDIR refl, (when_other (is_file to && is_directory from) ENOTDIR refl, (when_other (is_full to) ENOTEMPTY refl, (when_other (nat_lt 1023 (text_len n + deepest_at from)) ENAMETOOLONG refl, tt)))))) refl))
+no_lack t (Rmtree p) = unless_other t (faults_of_rmtree t p) (without t p, Done) (when_other (is_root p) EBUSY refl, (path_other (entry_at t p), tt)) refl
 no_lack t (Read p off n) =
     let here : At = entry_at t p in
-    unless_other t (path_fault here ∷ when (is_directory here) EISDIR ∷ when (nat_lt 1048576 n) EINVAL ∷ []) (t, Data (take n (drop off (bytes_of here)))) (path_other here, (when_other (is_directory here) EISDIR refl, (when_other (nat_lt 1048576 n) EINVAL refl, tt))) refl
-no_lack t (AskStat p) = unless_other t (path_fault (entry_at t p) ∷ []) (t, stat_of (entry_at t p)) (path_other (entry_at t p), tt) (stat_other (entry_at t p))
+    unless_other t (faults_of_read t p n) (t, Data (take n (drop off (bytes_of here)))) (path_other here, (when_other (is_directory here) EISDIR refl, (when_other (nat_lt greatest_read n) EINVAL refl, tt))) refl
+no_lack t (AskStat p) = unless_other t (faults_of_stat t p) (t, stat_of (entry_at t p)) (path_other (entry_at t p), tt) (stat_other (entry_at t p))
 no_lack t (Readdir p) =
-    let here : At = entry_at t p in
-    unless_other t (path_fault here ∷ when (is_file here) ENOTDIR ∷ []) (t, Names (names_of here)) (path_other here, (when_other (is_file here) ENOTDIR refl, tt)) refl
+    unless_other t (faults_of_readdir t p) (t, Names (names_of (entry_at t p))) (path_other (entry_at t p), (when_other (is_file (entry_at t p)) ENOTDIR refl, tt)) refl
 
 -- no call is answered by want of memory in the table
 pub never_lacks : (t : Tree) (c : Call) → (does t c).1 ≢ Fault ENOMEM

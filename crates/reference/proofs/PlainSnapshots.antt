@@ -86,6 +86,6 @@ len-from_entries (e ∷ kept) h =
     in
     omega (arith, grown, len-from_entries kept h.1)
 
--- the same of a world's snapshots
+-- likewise for a world's snapshots
 pub len-snapshots_of : (m : BTreeMap (List ℕ) PlainTree) → tree.IsOrdered by_bytes m → finite.len (snapshots_of m) ≡ length m.entries
 len-snapshots_of m o = len-from_entries m.entries o

@@ -4,7 +4,7 @@ use Rattle.reference.specs.Tree.{same, Path, Tree}
 use Rattle.pathkey.specs.Names.{EachName, IsPath}
 use Rattle.pathkey.specs.Keys.{Key, enc, block_key}
 use Rattle.reference.specs.Looks.{Look, Bytes, look}
-use Rattle.reference.specs.Indexes.{MetaIndex, BlockIndex, meta_of, PathOf, MetaMeans, most_blocks, byte_of, Hold, BlockOf, BlocksMean, edit_at, BlocksChange}
+use Rattle.reference.specs.Indexes.{Metadata, Blocks, meta_of, PathOf, MetaMeans, most_blocks, byte_of, Hold, BlockOf, BlocksMean, edit_at, BlocksChange}
 use Rattle.reference.specs.declared.reply.Meta.{Meta}
 use Rattle.pathkey.proofs.OrderFacts.{same_true, apart}
 use Rattle.pathkey.proofs.KeyFacts.{enc_law, block_key_injective}
@@ -18,7 +18,7 @@ path_cases p q u v = elim (same (enc p) (enc q)) as (λ b. same (enc p) (enc q) 
 ] refl
 
 -- the metadata index follows a change of f at the path's key that makes of what was there what is there
-pub meta_at_point : (t t' : Tree) (p : Path) (l : Option Look) (f : Option Meta → Option Meta) (m : MetaIndex) → IsPath p → IsPoint t t' p l → f (meta_of (look t p)) ≡ meta_of l → MetaMeans t m → MetaMeans t' (edit_at (enc p) f m)
+pub meta_at_point : (t t' : Tree) (p : Path) (l : Option Look) (f : Option Meta → Option Meta) (m : Metadata) → IsPath p → IsPoint t t' p l → f (meta_of (look t p)) ≡ meta_of l → MetaMeans t m → MetaMeans t' (edit_at (enc p) f m)
 meta_at_point t t' p l f m is_path n fits old = record {
   paths = λ q u. elim (same (enc p) (enc q)) as (λ x. same (enc p) (enc q) ≡ x → cond x (f (m (enc q))) (m (enc q)) ≡ meta_of (look t' q)) [
     | true ↦ λ g.
@@ -56,7 +56,7 @@ pub one_path : (p q : Path) (i j : ℕ) → EachName p → EachName q → i < mo
 one_path p q i j u v li lj e = (block_key_injective p q i j u v (omega arith) (omega arith) e).0
 
 -- the block index follows a change of the path's blocks
-pub blocks_at_point : (t t' : Tree) (p : Path) (l : Option Look) (change : ℕ → Option (List ℕ) → Option (List ℕ)) (d d' : BlockIndex) → IsPath p → IsPoint t t' p l → BlocksChange change p d d' → BlocksFit (λ i. change i (d (block_key p i))) l → BlocksMean t d → BlocksMean t' d'
+pub blocks_at_point : (t t' : Tree) (p : Path) (l : Option Look) (change : ℕ → Option (List ℕ) → Option (List ℕ)) (d d' : Blocks) → IsPath p → IsPoint t t' p l → BlocksChange change p d d' → BlocksFit (λ i. change i (d (block_key p i))) l → BlocksMean t d → BlocksMean t' d'
 blocks_at_point t t' p l change d d' is_path n new fit old = record {
   blocks = λ q b u f. ⊎_elim
       (λ (is : q ≡ p).
@@ -85,11 +85,11 @@ blocks_at_point t t' p l change d d' is_path n new fit old = record {
         record { path = p; index = i; bytes = c.0; is_path = is_path; few = li; key = e; file = n.itself ∙ c.1 }
 
 -- where the path is no file, it has no blocks
-pub no_blocks : (t : Tree) (p : Path) (d : BlockIndex) → IsPath p → ((b : List ℕ) → look t p ≡ Some (Bytes b) → ⊥) → BlocksMean t d → (i : ℕ) (v : List ℕ) → i < most_blocks → d (block_key p i) ≡ Some v → ⊥
+pub no_blocks : (t : Tree) (p : Path) (d : Blocks) → IsPath p → ((b : List ℕ) → look t p ≡ Some (Bytes b) → ⊥) → BlocksMean t d → (i : ℕ) (v : List ℕ) → i < most_blocks → d (block_key p i) ≡ Some v → ⊥
 no_blocks t p d is_path plain old i v li e =
     let o : BlockOf t (block_key p i) = old.only_blocks (block_key p i) v e in
     plain o.bytes (ap (look t) (one_path p o.path i o.index is_path.names o.is_path.names li o.few o.key) ∙ o.file)
 
 -- an index that is left as it was
-pub unchanged : (p : Path) (d : BlockIndex) → BlocksChange (λ i o. o) p d d
+pub unchanged : (p : Path) (d : Blocks) → BlocksChange (λ i o. o) p d d
 unchanged p d = record { block = λ i li. refl; elsewhere = λ k off. refl; only = λ k v e. inl (v, e) }

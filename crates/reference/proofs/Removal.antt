@@ -6,7 +6,7 @@ use Rattle.reference.specs.Calls.{Outcome, parent_fault, does}
 use Rattle.reference.specs.Looks.{Bytes, seen, look}
 use Rattle.pathkey.specs.Names.{IsPath}
 use Rattle.pathkey.specs.Keys.{enc, block_key, subtree, is_in}
-use Rattle.reference.specs.Indexes.{MetaIndex, BlockIndex, meta_of, MetaMeans, BlockOf, BlocksMean, cleared}
+use Rattle.reference.specs.Indexes.{Metadata, Blocks, meta_of, MetaMeans, BlockOf, BlocksMean, cleared}
 use Rattle.reference.specs.declared.call.Call.TheVariants.{Rmtree}
 use Rattle.reference.specs.declared.reply.Reply.TheVariants.{Done}
 use Rattle.pathkey.proofs.KeyFacts.{path_in_subtree, path_in_subtree_from, block_in_subtree, block_in_subtree_from}
@@ -37,7 +37,7 @@ removes t t' p = removed_cases (Gives t' Done (Removed t t' p)) t p (not_done t 
 
 -- ---- the metadata index
 -- the metadata at and below the path go
-pub rmtree_meta : (t t' : Tree) (p : Path) (m : MetaIndex) → MetaMeans t m → IsPath p → ◌≡◌ {A = Outcome} (does t (Rmtree p)) (t', Done) → MetaMeans t' (cleared (subtree p) m)
+pub rmtree_meta : (t t' : Tree) (p : Path) (m : Metadata) → MetaMeans t m → IsPath p → ◌≡◌ {A = Outcome} (does t (Rmtree p)) (t', Done) → MetaMeans t' (cleared (subtree p) m)
 rmtree_meta t t' p m old is_path e = record {
   paths = λ q u. elim (is_in (subtree p) (enc q)) as (λ b. is_in (subtree p) (enc q) ≡ b → cond b None (m (enc q)) ≡ meta_of (look t' q)) [
     | true ↦ λ g. let r : (r : Path) × (q ≡ p ++ r) = path_in_subtree p q is_path.names u.names g in ap meta_of (sym (gone.below r.0)) ∙ ap (λ (x : Path). meta_of (look t' x)) (sym r.1)
@@ -51,7 +51,7 @@ rmtree_meta t t' p m old is_path e = record {
 
 -- ---- the block index
 -- the blocks of all files at and below the path go
-pub rmtree_blocks : (t t' : Tree) (p : Path) (d : BlockIndex) → BlocksMean t d → IsPath p → ◌≡◌ {A = Outcome} (does t (Rmtree p)) (t', Done) → BlocksMean t' (cleared (subtree p) d)
+pub rmtree_blocks : (t t' : Tree) (p : Path) (d : Blocks) → BlocksMean t d → IsPath p → ◌≡◌ {A = Outcome} (does t (Rmtree p)) (t', Done) → BlocksMean t' (cleared (subtree p) d)
 rmtree_blocks t t' p d old is_path e = record {
   blocks = λ q b u f.
       let off : (r : Path) → q ≡ p ++ r → ⊥ = λ r e. (let x : None ≡ Some (Bytes b) = sym (gone.below r) ∙ ap (look t') (sym e) ∙ f in cc) in

@@ -6,7 +6,7 @@ use Rattle.reference.specs.Shape.{IsTree}
 use Rattle.reference.specs.Looks.{Look, Bytes, seen, look}
 use Rattle.pathkey.specs.Names.{IsPath}
 use Rattle.pathkey.specs.Keys.{enc, block_key}
-use Rattle.reference.specs.Indexes.{MetaIndex, BlockIndex, meta_of, MetaMeans, Hold, BlocksMean, edit_at, grow, set_len, patched, cut_block, BlocksChange}
+use Rattle.reference.specs.Indexes.{Metadata, Blocks, meta_of, MetaMeans, Hold, BlocksMean, edit_at, grow, set_len, patched, cut_block, BlocksChange}
 use Rattle.reference.specs.declared.call.Call.TheVariants.{Write, Truncate}
 use Rattle.reference.specs.declared.reply.Reply.TheVariants.{Done, Count}
 use Rattle.reference.specs.declared.reply.Meta.{Meta}
@@ -53,20 +53,20 @@ truncate_becomes t t' p n is = truncated_cases (Gives t' Done (Rewritten t t' p 
 
 -- ---- the metadata index
 -- a length that changes as the file's does
-file_meta : (t t' : Tree) (p : Path) (f : List ℕ → List ℕ) (g : Option Meta → Option Meta) (m : MetaIndex) → ((b : List ℕ) → g (Some (FileMeta (length b))) ≡ Some (FileMeta (length (f b)))) → MetaMeans t m → IsPath p → Rewritten t t' p f → MetaMeans t' (edit_at (enc p) g m)
+file_meta : (t t' : Tree) (p : Path) (f : List ℕ → List ℕ) (g : Option Meta → Option Meta) (m : Metadata) → ((b : List ℕ) → g (Some (FileMeta (length b))) ≡ Some (FileMeta (length (f b)))) → MetaMeans t m → IsPath p → Rewritten t t' p f → MetaMeans t' (edit_at (enc p) g m)
 file_meta t t' p f g m fits old is_path r = meta_at_point t t' p (Some (Bytes (f r.0))) g m is_path r.1.point (ap (λ (l : Option Look). g (meta_of l)) r.1.before ∙ fits r.0) old
 
 -- a write raises the length
-pub write_meta : (t t' : Tree) (p : Path) (off : ℕ) (w : List ℕ) (m : MetaIndex) → IsTree t → MetaMeans t m → IsPath p → is_empty w ≡ false → ◌≡◌ {A = Outcome} (does t (Write p off w)) (t', Count (length w)) → MetaMeans t' (edit_at (enc p) (grow (off + length w)) m)
+pub write_meta : (t t' : Tree) (p : Path) (off : ℕ) (w : List ℕ) (m : Metadata) → IsTree t → MetaMeans t m → IsPath p → is_empty w ≡ false → ◌≡◌ {A = Outcome} (does t (Write p off w)) (t', Count (length w)) → MetaMeans t' (edit_at (enc p) (grow (off + length w)) m)
 write_meta t t' p off w m tree old is_path some e = file_meta t t' p (λ b. over b off w) (grow (off + length w)) m (λ b. ap (λ (l : ℕ). Some (FileMeta l)) (sym (length-over b off w))) old is_path (write_becomes t t' p off w tree some e)
 
 -- a truncate sets it
-pub truncate_meta : (t t' : Tree) (p : Path) (n : ℕ) (m : MetaIndex) → IsTree t → MetaMeans t m → IsPath p → ◌≡◌ {A = Outcome} (does t (Truncate p n)) (t', Done) → MetaMeans t' (edit_at (enc p) (set_len n) m)
+pub truncate_meta : (t t' : Tree) (p : Path) (n : ℕ) (m : Metadata) → IsTree t → MetaMeans t m → IsPath p → ◌≡◌ {A = Outcome} (does t (Truncate p n)) (t', Done) → MetaMeans t' (edit_at (enc p) (set_len n) m)
 truncate_meta t t' p n m tree old is_path e = file_meta t t' p (λ b. sized b n) (set_len n) m (λ b. ap (λ (l : ℕ). Some (FileMeta l)) (sym (length-sized b n))) old is_path (truncate_becomes t t' p n tree e)
 
 -- ---- the block index
 -- blocks that change as the file's bytes do
-file_blocks : (t t' : Tree) (p : Path) (f : List ℕ → List ℕ) (change : ℕ → Option (List ℕ) → Option (List ℕ)) (d d' : BlockIndex) → ((b : List ℕ) → look t p ≡ Some (Bytes b) → Hold (λ i. d (block_key p i)) b → Hold (λ i. change i (d (block_key p i))) (f b))
+file_blocks : (t t' : Tree) (p : Path) (f : List ℕ → List ℕ) (change : ℕ → Option (List ℕ) → Option (List ℕ)) (d d' : Blocks) → ((b : List ℕ) → look t p ≡ Some (Bytes b) → Hold (λ i. d (block_key p i)) b → Hold (λ i. change i (d (block_key p i))) (f b))
     → BlocksChange change p d d' → BlocksMean t d → IsPath p → Rewritten t t' p f → BlocksMean t' d'
 file_blocks t t' p f change d d' holds new means is_path r =
     blocks_at_point t t' p (Some (Bytes (f r.0))) change d d' is_path r.1.point new
@@ -77,17 +77,17 @@ file_blocks t t' p f change d d' holds new means is_path r =
     means
 
 -- a write patches the blocks that it reaches
-pub write_blocks : (t t' : Tree) (p : Path) (off : ℕ) (w : List ℕ) (d d' : BlockIndex) → IsTree t → BlocksMean t d → IsPath p → is_empty w ≡ false → BlocksChange (patched off w) p d d' → ◌≡◌ {A = Outcome} (does t (Write p off w)) (t', Count (length w)) → BlocksMean t' d'
+pub write_blocks : (t t' : Tree) (p : Path) (off : ℕ) (w : List ℕ) (d d' : Blocks) → IsTree t → BlocksMean t d → IsPath p → is_empty w ≡ false → BlocksChange (patched off w) p d d' → ◌≡◌ {A = Outcome} (does t (Write p off w)) (t', Count (length w)) → BlocksMean t' d'
 write_blocks t t' p off w d d' tree means is_path some new e =
     file_blocks t t' p (λ b. over b off w) (patched off w) d d' (λ b h hold. write_holds off w (λ i. d (block_key p i)) b hold) new means is_path (write_becomes t t' p off w tree some e)
 
 -- a truncate cuts the blocks
-pub truncate_blocks : (t t' : Tree) (p : Path) (n : ℕ) (d d' : BlockIndex) → IsTree t → BlocksMean t d → IsPath p → BlocksChange (cut_block n) p d d' → ◌≡◌ {A = Outcome} (does t (Truncate p n)) (t', Done) → BlocksMean t' d'
+pub truncate_blocks : (t t' : Tree) (p : Path) (n : ℕ) (d d' : Blocks) → IsTree t → BlocksMean t d → IsPath p → BlocksChange (cut_block n) p d d' → ◌≡◌ {A = Outcome} (does t (Truncate p n)) (t', Done) → BlocksMean t' d'
 truncate_blocks t t' p n d d' tree means is_path new e =
     file_blocks t t' p (λ b. sized b n) (cut_block n) d d' (λ b h hold. cut_holds n (λ i. d (block_key p i)) b hold) new means is_path (truncate_becomes t t' p n tree e)
 
 -- to lengthen a file changes no block
-pub lengthen_blocks : (t t' : Tree) (p : Path) (n : ℕ) (b : List ℕ) (d : BlockIndex) → IsTree t → BlocksMean t d → IsPath p → look t p ≡ Some (Bytes b) → length b ≤ n → ◌≡◌ {A = Outcome} (does t (Truncate p n)) (t', Done) → BlocksMean t' d
+pub lengthen_blocks : (t t' : Tree) (p : Path) (n : ℕ) (b : List ℕ) (d : Blocks) → IsTree t → BlocksMean t d → IsPath p → look t p ≡ Some (Bytes b) → length b ≤ n → ◌≡◌ {A = Outcome} (does t (Truncate p n)) (t', Done) → BlocksMean t' d
 lengthen_blocks t t' p n b d tree means is_path file longer e =
     file_blocks t t' p (λ b. sized b n) (λ i o. o) d d
     (λ c h hold. let is : b ≡ c = (let g : Some (Bytes b) ≡ Some (Bytes c) = sym file ∙ h in cc) in lengthen_holds n (λ i. d (block_key p i)) c (subst (λ (y : List ℕ). length y ≤ n) is longer) hold)

@@ -1,10 +1,10 @@
 -- An edit keeps directories in order, and two trees in order that look alike are one.
 use Rattle.std.proofs.Common.{◌≡◌, [], ◌∷◌, true, false, cond, sym, ap, refl, ◌∙◌, subst, Option, Some, None}
-use Rattle.std.specs.Prelude.{unwrap_or}
+use Rattle.std.specs.Prelude.{option_map}
 use Rattle.std.specs.Ordering.{ordering_reverse}
 use Rattle.std.specs.declared.cmp.Ordering.TheVariants.{Less, Equal, Greater}
 use Rattle.std.proofs.lemmas.Cmp.{nat_list_cmp_total}
-use Rattle.reference.specs.Tree.{by_bytes, same, by_order, Name, Path, Tree, Dir, File, Entries, nothing, entry, named, put, take_out, set_entry, child, edited}
+use Rattle.reference.specs.Tree.{by_bytes, same, by_order, Name, Path, Tree, Dir, File, Entries, nothing, entry, named, put, take_out, set_entry, edited}
 use Rattle.reference.specs.Shape.{AllAbove, Rising, RisingEntries}
 use Rattle.pathkey.proofs.OrderFacts.{equal}
 
@@ -61,20 +61,26 @@ unfolding RisingOption
 rising-set n (Some x) es u v = rising-put n x es u v
 rising-set n None es u v = rising-take_out n es v
 
-rising-child : (n : Name) (es : Entries) → RisingEntries es → Rising (child n es)
-rising-child n nothing v = tt
-rising-child n (entry m y rest) v =
-    elim (same n m) as (λ b. Rising (unwrap_or (cond b (Some y) (named n rest)) (Dir nothing))) [
+rising-named : (n : Name) (es : Entries) → RisingEntries es → RisingOption (named n es)
+unfolding RisingOption
+rising-named n nothing v = tt
+rising-named n (entry m y rest) v =
+    elim (same n m) as (λ b. RisingOption (cond b (Some y) (named n rest))) [
       | true ↦ v.1
-      | false ↦ rising-child n rest v.2
+      | false ↦ rising-named n rest v.2
     ]
 
 rising_edit_at : (p : Path) (t : Tree) (o : Option Tree) → RisingOption o → Rising t → Rising (edited t p o)
+unfolding RisingOption
 rising_edit_at [] t o u v = v
 rising_edit_at (n ∷ []) (File b) o u v = tt
 rising_edit_at (n ∷ []) (Dir es) o u v = rising-set n o es u v
 rising_edit_at (n ∷ m ∷ p) (File b) o u v = tt
-rising_edit_at (n ∷ m ∷ p) (Dir es) o u v = rising-put n (edited (child n es) (m ∷ p) o) es (rising_edit_at (m ∷ p) (child n es) o u (rising-child n es v)) v
+rising_edit_at (n ∷ m ∷ p) (Dir es) o u v = rising-set n (option_map (λ x. edited x (m ∷ p) o) (named n es)) es
+    (elim (named n es) as (λ c. RisingOption c → RisingOption (option_map (λ x. edited x (m ∷ p) o) c)) [
+      | None ↦ λ w. tt
+      | Some x ↦ λ w. rising_edit_at (m ∷ p) x o u w
+    ] (rising-named n es v)) v
 
 pub rising-with : (t : Tree) (p : Path) (x : Tree) → Rising x → Rising t → Rising (edited t p (Some x))
 unfolding RisingOption

@@ -6,7 +6,7 @@ use Rattle.pathkey.specs.Names.{IsPath}
 use Rattle.pathkey.specs.Keys.{block_key}
 use Rattle.reference.specs.Looks.{Look, Directory, Bytes, look}
 use Rattle.reference.specs.Shape.{IsContent}
-use Rattle.reference.specs.Indexes.{MetaIndex, BlockIndex, meta_of, Hold, IndexesMean}
+use Rattle.reference.specs.Indexes.{Metadata, Blocks, meta_of, Hold, IndexesMean}
 use Rattle.reference.proofs.TreeEdits.{MayBeSeen, looks_may}
 use Rattle.reference.proofs.Sight.{one_tree}
 
@@ -31,7 +31,7 @@ agree (Some (Bytes b)) (Some Directory) h f = absurd (cc)
 agree (Some (Bytes b)) (Some (Bytes c)) h f = let l : length b ≡ length c = cc in ap (λ (x : List ℕ). Some (Bytes x)) (f b c refl refl l)
 
 -- two trees of the same indexes look alike at each path, and so are one
-pub one_meaning : (t u : Tree) (m : MetaIndex) (d : BlockIndex) → IndexesMean t m d → IndexesMean u m d → t ≡ u
+pub one_meaning : (t u : Tree) (m : Metadata) (d : Blocks) → IndexesMean t m d → IndexesMean u m d → t ≡ u
 one_meaning t u m d of_t of_u = one_tree t u of_t.tree.rising of_u.tree.rising (λ p. cases p (look t p) (look u p) refl refl)
   where
     small : (p : Path) (b : List ℕ) → look t p ≡ Some (Bytes b) → length b ≤ 2 ^ 40

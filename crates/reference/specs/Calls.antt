@@ -1,7 +1,7 @@
 -- What each file call does to a tree, and what it answers: the table of calls, case by case, the first that
 -- fits deciding (POSIX.1-2017: mkdir, open, pwrite, truncate, unlink, rmdir, rename, pread, stat, readdir;
 -- where POSIX leaves a choice, the profile makes it once, here).
-use Rattle.std.specs.Prelude.{ℕ, ◌+◌, ◌^◌, max, nat_lt, List, [], ◌∷◌, length, take, drop, Bool, true, false, cond, ◌&&◌, Option, Some, None}
+use Rattle.std.specs.Prelude.{ℕ, ◌+◌, ◌^◌, max, nat_lt, List, [], ◌∷◌, ◌++◌, length, take, drop, Bool, true, false, cond, not, ◌&&◌, Option, Some, None}
 pub use Rattle.pathkey.specs.Names.{is_root, parent, is_under, same_path, text_len}
 pub use Rattle.pathkey.specs.Outcomes.{when}
 use Rattle.reference.specs.Tree.{Name, Path, Tree, Dir, File, Entries, nothing, entry, At, Found, Missing, Blocked, entry_at, with_entry, without, over, sized}
@@ -85,51 +85,80 @@ listing (entry n x rest) = (kind_of x, n) ∷ listing rest
 abbrev pub Outcome : Type 0
 Outcome = Tree × Reply
 
+-- the first fault of the list, if there is one
+abbrev pub first_fault : List (Option Errno) → Option Errno
+first_fault [] = None
+first_fault (None ∷ faults) = first_fault faults
+first_fault (Some e ∷ faults) = Some e
+
 -- the first fault of the list, with the tree as it was; or else the outcome
 abbrev pub unless : Tree → List (Option Errno) → Outcome → Outcome
 unless t [] o = o
 unless t (None ∷ faults) o = unless t faults o
 unless t (Some e ∷ faults) o = (t, Fault e)
 
--- the most bytes of a file
+-- the most bytes of a file, and the most that one read may ask for
 abbrev pub greatest_file : ℕ
 greatest_file = 2 ^ 40
 
+abbrev pub greatest_read : ℕ
+greatest_read = 1048576
+
+-- why `mkdir` and `create` make no entry at a path
+abbrev pub faults_of_new : Tree → Path → List (Option Errno)
+faults_of_new t p = when (is_root p) EEXIST ∷ parent_fault t p ∷ when (is_found (entry_at t p)) EEXIST ∷ []
+
 -- `mkdir` and `create`: a new entry, where its parent is a directory and nothing stands there
 abbrev pub made : Tree → Path → Tree → Outcome
-made t p x = unless t (when (is_root p) EEXIST ∷ parent_fault t p ∷ when (is_found (entry_at t p)) EEXIST ∷ []) (with_entry t p x, Done)
+made t p x = unless t (faults_of_new t p) (with_entry t p x, Done)
+
+-- why no file stands there; e is the fault of a directory
+abbrev pub faults_of_file : At → Errno → List (Option Errno)
+faults_of_file here e = path_fault here ∷ when (is_directory here) e ∷ []
+
+-- why `write` is refused; no bytes are never too many, at any offset
+abbrev pub faults_of_write : Tree → Path → ℕ → List ℕ → List (Option Errno)
+faults_of_write t p off w = faults_of_file (entry_at t p) EISDIR ++ when (not (is_empty w) && nat_lt greatest_file (off + length w)) EFBIG ∷ []
 
 -- `write`: the bytes laid over the file, which is lengthened by zeros where it is shorter; no bytes change nothing
 abbrev pub written : Tree → Path → ℕ → List ℕ → Outcome
 written t p off w =
-    let here = entry_at t p in
-    unless t (path_fault here ∷ when (is_directory here) EISDIR ∷ [])
-    (cond (is_empty w) (t, Count 0)
-    (unless t (when (nat_lt greatest_file (off + length w)) EFBIG ∷ [])
-    (with_entry t p (File (over (bytes_of here) off w)), Count (length w))))
+    unless t (faults_of_write t p off w)
+    (cond (is_empty w) (t, Count 0) (with_entry t p (File (over (bytes_of (entry_at t p)) off w)), Count (length w)))
+
+-- why `truncate` is refused
+abbrev pub faults_of_truncate : Tree → Path → ℕ → List (Option Errno)
+faults_of_truncate t p n = faults_of_file (entry_at t p) EISDIR ++ when (nat_lt greatest_file n) EFBIG ∷ []
 
 -- `truncate`: the file cut to n bytes, or lengthened by zeros to n
 abbrev pub truncated : Tree → Path → ℕ → Outcome
-truncated t p n =
-    let here = entry_at t p in
-    unless t (path_fault here ∷ when (is_directory here) EISDIR ∷ when (nat_lt greatest_file n) EFBIG ∷ [])
-    (with_entry t p (File (sized (bytes_of here) n)), Done)
+truncated t p n = unless t (faults_of_truncate t p n) (with_entry t p (File (sized (bytes_of (entry_at t p)) n)), Done)
+
+-- why `unlink` is refused
+abbrev pub faults_of_unlink : Tree → Path → List (Option Errno)
+faults_of_unlink t p = faults_of_file (entry_at t p) EPERM
 
 -- `unlink`: the file taken out; a directory is refused
 abbrev pub unlinked : Tree → Path → Outcome
-unlinked t p =
+unlinked t p = unless t (faults_of_unlink t p) (without t p, Done)
+
+-- why `rmdir` is refused
+abbrev pub faults_of_rmdir : Tree → Path → List (Option Errno)
+faults_of_rmdir t p =
     let here = entry_at t p in
-    unless t (path_fault here ∷ when (is_directory here) EPERM ∷ []) (without t p, Done)
+    when (is_root p) EBUSY ∷ path_fault here ∷ when (is_file here) ENOTDIR ∷ when (is_full here) ENOTEMPTY ∷ []
 
 -- `rmdir`: the empty directory taken out
 abbrev pub directory_removed : Tree → Path → Outcome
-directory_removed t p =
-    let here = entry_at t p in
-    unless t (when (is_root p) EBUSY ∷ path_fault here ∷ when (is_file here) ENOTDIR ∷ when (is_full here) ENOTEMPTY ∷ []) (without t p, Done)
+directory_removed t p = unless t (faults_of_rmdir t p) (without t p, Done)
+
+-- why `rmtree` is refused
+abbrev pub faults_of_rmtree : Tree → Path → List (Option Errno)
+faults_of_rmtree t p = when (is_root p) EBUSY ∷ path_fault (entry_at t p) ∷ []
 
 -- `rmtree`: the entry taken out with all below it
 abbrev pub removed : Tree → Path → Outcome
-removed t p = unless t (when (is_root p) EBUSY ∷ path_fault (entry_at t p) ∷ []) (without t p, Done)
+removed t p = unless t (faults_of_rmtree t p) (without t p, Done)
 
 -- the tree with what stood elsewhere put at a path
 abbrev pub placed : Tree → Path → At → Tree
@@ -141,49 +170,62 @@ abbrev pub deepest_at : At → ℕ
 deepest_at (Found x) = deepest x
 deepest_at _ = 0
 
+-- why `rename` moves nothing from a path, wherever to
+abbrev pub faults_of_rename_from : Tree → Path → List (Option Errno)
+faults_of_rename_from t o = when (is_root o) EBUSY ∷ path_fault (entry_at t o) ∷ []
+
+-- why what stands at one path cannot take the place of what stands at another
+abbrev pub faults_of_replacing : At → At → List (Option Errno)
+faults_of_replacing from to =
+    when (is_directory to && is_file from) EISDIR ∷ when (is_file to && is_directory from) ENOTDIR ∷ when (is_full to) ENOTEMPTY ∷ []
+
+-- why `rename` does not move what stands at o to another path n
+abbrev pub faults_of_rename : Tree → Path → Path → List (Option Errno)
+faults_of_rename t o n =
+    let from = entry_at t o in
+    when (is_directory from && is_under o n) EINVAL
+    ∷ parent_fault t n
+    ∷ faults_of_replacing from (entry_at t n) ++ when (nat_lt 1023 (text_len n + deepest_at from)) ENAMETOOLONG ∷ []
+
 -- `rename`: the entry taken out at o and put at n, where it replaces a file or an empty directory
 abbrev pub renamed : Tree → Path → Path → Outcome
 renamed t o n =
-    let from = entry_at t o in
-    let to = entry_at t n in
-    unless t (when (is_root o) EBUSY ∷ path_fault from ∷ [])
-    (cond (same_path o n) (t, Done)
-    (unless t
-    (when (is_directory from && is_under o n) EINVAL
-    ∷ parent_fault t n
-    ∷ when (is_directory to && is_file from) EISDIR
-    ∷ when (is_file to && is_directory from) ENOTDIR
-    ∷ when (is_full to) ENOTEMPTY
-    ∷ when (nat_lt 1023 (text_len n + deepest_at from)) ENAMETOOLONG
-    ∷ [])
-    (placed (without t o) n from, Done)))
+    unless t (faults_of_rename_from t o)
+    (cond (same_path o n) (t, Done) (unless t (faults_of_rename t o n) (placed (without t o) n (entry_at t o), Done)))
+
+-- why `read` is refused
+abbrev pub faults_of_read : Tree → Path → ℕ → List (Option Errno)
+faults_of_read t p n = faults_of_file (entry_at t p) EISDIR ++ when (nat_lt greatest_read n) EINVAL ∷ []
 
 -- `read`: the bytes from off on, at most n, none past the end
 abbrev pub read : Tree → Path → ℕ → ℕ → Outcome
-read t p off n =
-    let here = entry_at t p in
-    unless t (path_fault here ∷ when (is_directory here) EISDIR ∷ when (nat_lt 1048576 n) EINVAL ∷ [])
-    (t, Data (take n (drop off (bytes_of here))))
+read t p off n = unless t (faults_of_read t p n) (t, Data (take n (drop off (bytes_of (entry_at t p)))))
 
 -- the kind and length of what stands there; a directory has length 0
 abbrev pub stat_of : At → Reply
 stat_of (Found (File b)) = Stat Plain (length b)
 stat_of _ = Stat Directory 0
 
+-- why `stat` is refused
+abbrev pub faults_of_stat : Tree → Path → List (Option Errno)
+faults_of_stat t p = path_fault (entry_at t p) ∷ []
+
 -- `stat`
 abbrev pub asked : Tree → Path → Outcome
-asked t p = unless t (path_fault (entry_at t p) ∷ []) (t, stat_of (entry_at t p))
+asked t p = unless t (faults_of_stat t p) (t, stat_of (entry_at t p))
 
 -- what a directory lists
 abbrev pub names_of : At → List (Kind × Name)
 names_of (Found (Dir es)) = listing es
 names_of _ = []
 
+-- why `readdir` is refused
+abbrev pub faults_of_readdir : Tree → Path → List (Option Errno)
+faults_of_readdir t p = path_fault (entry_at t p) ∷ when (is_file (entry_at t p)) ENOTDIR ∷ []
+
 -- `readdir`
 abbrev pub listed : Tree → Path → Outcome
-listed t p =
-    let here = entry_at t p in
-    unless t (path_fault here ∷ when (is_file here) ENOTDIR ∷ []) (t, Names (names_of here))
+listed t p = unless t (faults_of_readdir t p) (t, Names (names_of (entry_at t p)))
 
 -- the tree after a call, and the answer, for each of the eleven calls
 unfoldable pub does : Tree → Call → Outcome

@@ -11,11 +11,13 @@ use Rattle.reference.specs.Looks.{Look, Directory, Bytes, look}
 use Rattle.reference.specs.declared.reply.Meta.{Meta}
 use Rattle.reference.specs.declared.reply.Meta.TheVariants.{Dir as DirMeta, File as FileMeta}
 
-abbrev pub MetaIndex : Type 0
-MetaIndex = Key → Option Meta
+-- the metadata of each key; none where it has no value
+abbrev pub Metadata : Type 0
+Metadata = Key → Option Meta
 
-abbrev pub BlockIndex : Type 0
-BlockIndex = Key → Option (List ℕ)
+-- the bytes of the block at each key; none where it has no value
+abbrev pub Blocks : Type 0
+Blocks = Key → Option (List ℕ)
 
 -- the metadata of what is seen
 abbrev pub meta_of : Option Look → Option Meta
@@ -30,7 +32,7 @@ pub record PathOf (k : Key) : Type 0 where
   pub key : k ≡ enc path
 
 -- the metadata half: each path's key has the metadata of what is seen there, and no other key has a value
-pub record MetaMeans (t : Tree) (m : MetaIndex) : Type 0 where
+pub record MetaMeans (t : Tree) (m : Metadata) : Type 0 where
   pub paths : (p : Path) → IsPath p → m (enc p) ≡ meta_of (look t p)
   pub only_paths : (k : Key) (v : Meta) → m k ≡ Some v → PathOf k
 
@@ -59,12 +61,12 @@ pub record BlockOf (t : Tree) (k : Key) : Type 0 where
   pub key : k ≡ block_key path index
 
 -- the block half: each file's blocks hold its bytes, and no other key has a value
-pub record BlocksMean (t : Tree) (d : BlockIndex) : Type 0 where
+pub record BlocksMean (t : Tree) (d : Blocks) : Type 0 where
   pub blocks : (p : Path) (b : List ℕ) → IsPath p → look t p ≡ Some (Bytes b) → Hold (λ i. d (block_key p i)) b
   pub only_blocks : (k : Key) (v : List ℕ) → d k ≡ Some v → BlockOf t k
 
 -- the two indexes mean the directory tree t
-pub record IndexesMean (t : Tree) (m : MetaIndex) (d : BlockIndex) : Type 0 where
+pub record IndexesMean (t : Tree) (m : Metadata) (d : Blocks) : Type 0 where
   pub tree : IsTree t
   pub meta : MetaMeans t m
   pub blocks : BlocksMean t d
@@ -116,16 +118,24 @@ touches off w i = nat_lt off (4096 * i + 4096) && nat_lt (4096 * i) (off + lengt
 abbrev pub piece : ℕ → List ℕ → ℕ → List ℕ
 piece off w i = take (4096 - (off - 4096 * i)) (drop (4096 * i - off) w)
 
+-- a block with w laid over it from off on, an absent one as one without bytes
+abbrev pub overlaid : ℕ → List ℕ → Option (List ℕ) → Option (List ℕ)
+overlaid off w o = Some (over (held o) off w)
+
+-- the first n bytes of a block; an absent one stays absent
+abbrev pub shortened : ℕ → Option (List ℕ) → Option (List ℕ)
+shortened n o = option_map (take n) o
+
 -- block i after the write of w at off
 abbrev pub patched : ℕ → List ℕ → ℕ → Option (List ℕ) → Option (List ℕ)
-patched off w i o = cond (touches off w i) (Some (over (held o) (off - 4096 * i) (piece off w i))) o
+patched off w i o = cond (touches off w i) (overlaid (off - 4096 * i) (piece off w i) o) o
 
 -- block i of a file that was cut to n bytes
 abbrev pub cut_block : ℕ → ℕ → Option (List ℕ) → Option (List ℕ)
-cut_block n i o = cond (nat_le n (4096 * i)) None (option_map (take (n - 4096 * i)) o)
+cut_block n i o = cond (nat_le n (4096 * i)) None (shortened (n - 4096 * i) o)
 
 -- the index d' is d with block i of p changed by change i, and all else as it was
-pub record BlocksChange (change : ℕ → Option (List ℕ) → Option (List ℕ)) (p : Path) (d d' : BlockIndex) : Type 0 where
+pub record BlocksChange (change : ℕ → Option (List ℕ) → Option (List ℕ)) (p : Path) (d d' : Blocks) : Type 0 where
   pub block : (i : ℕ) → i < most_blocks → d' (block_key p i) ≡ change i (d (block_key p i))
   pub elsewhere : (k : Key) → ((i : ℕ) → i < most_blocks → k ≡ block_key p i → ⊥) → d' k ≡ d k
   pub only : (k : Key) (v : List ℕ) → d' k ≡ Some v → ((u : List ℕ) × (d k ≡ Some u)) ⊎ ((i : ℕ) × (i < most_blocks) × (k ≡ block_key p i))

@@ -9,7 +9,7 @@ use Rattle.reference.specs.Tree.{Name, Path, Tree, Dir, Entries, nothing, edited
 use Rattle.reference.specs.Calls.{Outcome, same_path, is_empty, parent_fault, listing, does}
 use Rattle.reference.specs.Shape.{Rising, IsTree, IsCall}
 use Rattle.reference.specs.Looks.{Directory, Bytes, seen, look, kind_at, rest_of, look_after}
-use Rattle.reference.specs.Indexes.{MetaIndex, BlockIndex, IndexesMean, put_at, deleted_at, cleared, edit_at, moved, grow, set_len, patched, cut_block, BlocksChange}
+use Rattle.reference.specs.Indexes.{Metadata, Blocks, IndexesMean, put_at, deleted_at, cleared, edit_at, moved, grow, set_len, patched, cut_block, BlocksChange}
 use Rattle.reference.specs.declared.call.Call.{Call}
 use Rattle.reference.specs.declared.call.Call.TheVariants.{Mkdir, Create, Write, Truncate, Unlink, Rmdir, Rename, Rmtree, Read, Stat as AskStat, Readdir}
 use Rattle.reference.specs.declared.reply.Reply.TheVariants.{Done, Count, Fault}
@@ -75,7 +75,7 @@ ListingLaw = (t : Tree) (p : Path) (es : Entries) (k : Kind) (n : Name) → Risi
 
 -- two indexes mean at most one tree
 abbrev pub OneMeaningLaw : Type 0
-OneMeaningLaw = (t u : Tree) (m : MetaIndex) (d : BlockIndex) → IndexesMean t m d → IndexesMean u m d → t ≡ u
+OneMeaningLaw = (t u : Tree) (m : Metadata) (d : Blocks) → IndexesMean t m d → IndexesMean u m d → t ≡ u
 
 -- the root's metadata alone, and no block, mean the empty tree
 abbrev pub FreshLaw : Type 0
@@ -83,32 +83,32 @@ FreshLaw = IndexesMean (Dir nothing) (put_at (enc []) DirMeta (λ k. None)) (λ 
 
 -- where two indexes mean a tree, these changes of them mean these calls when they are done
 abbrev pub MkdirLaw : Type 0
-MkdirLaw = (t t' : Tree) (p : Path) (m : MetaIndex) (d : BlockIndex) → IndexesMean t m d → IsCall (Mkdir p) → ◌≡◌ {A = Outcome} (does t (Mkdir p)) (t', Done) → IndexesMean t' (put_at (enc p) DirMeta m) d
+MkdirLaw = (t t' : Tree) (p : Path) (m : Metadata) (d : Blocks) → IndexesMean t m d → IsCall (Mkdir p) → ◌≡◌ {A = Outcome} (does t (Mkdir p)) (t', Done) → IndexesMean t' (put_at (enc p) DirMeta m) d
 
 abbrev pub CreateLaw : Type 0
-CreateLaw = (t t' : Tree) (p : Path) (m : MetaIndex) (d : BlockIndex) → IndexesMean t m d → IsCall (Create p) → ◌≡◌ {A = Outcome} (does t (Create p)) (t', Done) → IndexesMean t' (put_at (enc p) (FileMeta 0) m) d
+CreateLaw = (t t' : Tree) (p : Path) (m : Metadata) (d : Blocks) → IndexesMean t m d → IsCall (Create p) → ◌≡◌ {A = Outcome} (does t (Create p)) (t', Done) → IndexesMean t' (put_at (enc p) (FileMeta 0) m) d
 
 abbrev pub WriteLaw : Type 0
-WriteLaw = (t t' : Tree) (p : Path) (off : ℕ) (w : List ℕ) (m : MetaIndex) (d d' : BlockIndex) → IndexesMean t m d → IsCall (Write p off w) → is_empty w ≡ false → BlocksChange (patched off w) p d d'
+WriteLaw = (t t' : Tree) (p : Path) (off : ℕ) (w : List ℕ) (m : Metadata) (d d' : Blocks) → IndexesMean t m d → IsCall (Write p off w) → is_empty w ≡ false → BlocksChange (patched off w) p d d'
     → ◌≡◌ {A = Outcome} (does t (Write p off w)) (t', Count (length w)) → IndexesMean t' (edit_at (enc p) (grow (off + length w)) m) d'
 
 abbrev pub TruncateLaw : Type 0
-TruncateLaw = (t t' : Tree) (p : Path) (n : ℕ) (m : MetaIndex) (d d' : BlockIndex) → IndexesMean t m d → IsCall (Truncate p n) → BlocksChange (cut_block n) p d d'
+TruncateLaw = (t t' : Tree) (p : Path) (n : ℕ) (m : Metadata) (d d' : Blocks) → IndexesMean t m d → IsCall (Truncate p n) → BlocksChange (cut_block n) p d d'
     → ◌≡◌ {A = Outcome} (does t (Truncate p n)) (t', Done) → IndexesMean t' (edit_at (enc p) (set_len n) m) d'
 
 -- to lengthen a file changes no block
 abbrev pub LengthenLaw : Type 0
-LengthenLaw = (t t' : Tree) (p : Path) (n : ℕ) (b : List ℕ) (m : MetaIndex) (d : BlockIndex) → IndexesMean t m d → IsCall (Truncate p n) → look t p ≡ Some (Bytes b) → length b ≤ n
+LengthenLaw = (t t' : Tree) (p : Path) (n : ℕ) (b : List ℕ) (m : Metadata) (d : Blocks) → IndexesMean t m d → IsCall (Truncate p n) → look t p ≡ Some (Bytes b) → length b ≤ n
     → ◌≡◌ {A = Outcome} (does t (Truncate p n)) (t', Done) → IndexesMean t' (edit_at (enc p) (set_len n) m) d
 
 abbrev pub UnlinkLaw : Type 0
-UnlinkLaw = (t t' : Tree) (p : Path) (m : MetaIndex) (d : BlockIndex) → IndexesMean t m d → IsCall (Unlink p) → ◌≡◌ {A = Outcome} (does t (Unlink p)) (t', Done) → IndexesMean t' (deleted_at (enc p) m) (cleared (blocks_from p 0) d)
+UnlinkLaw = (t t' : Tree) (p : Path) (m : Metadata) (d : Blocks) → IndexesMean t m d → IsCall (Unlink p) → ◌≡◌ {A = Outcome} (does t (Unlink p)) (t', Done) → IndexesMean t' (deleted_at (enc p) m) (cleared (blocks_from p 0) d)
 
 abbrev pub RmdirLaw : Type 0
-RmdirLaw = (t t' : Tree) (p : Path) (m : MetaIndex) (d : BlockIndex) → IndexesMean t m d → IsCall (Rmdir p) → ◌≡◌ {A = Outcome} (does t (Rmdir p)) (t', Done) → IndexesMean t' (deleted_at (enc p) m) d
+RmdirLaw = (t t' : Tree) (p : Path) (m : Metadata) (d : Blocks) → IndexesMean t m d → IsCall (Rmdir p) → ◌≡◌ {A = Outcome} (does t (Rmdir p)) (t', Done) → IndexesMean t' (deleted_at (enc p) m) d
 
 abbrev pub RmtreeLaw : Type 0
-RmtreeLaw = (t t' : Tree) (p : Path) (m : MetaIndex) (d : BlockIndex) → IndexesMean t m d → IsCall (Rmtree p) → ◌≡◌ {A = Outcome} (does t (Rmtree p)) (t', Done) → IndexesMean t' (cleared (subtree p) m) (cleared (subtree p) d)
+RmtreeLaw = (t t' : Tree) (p : Path) (m : Metadata) (d : Blocks) → IndexesMean t m d → IsCall (Rmtree p) → ◌≡◌ {A = Outcome} (does t (Rmtree p)) (t', Done) → IndexesMean t' (cleared (subtree p) m) (cleared (subtree p) d)
 
 abbrev pub RenameLaw : Type 0
-RenameLaw = (t t' : Tree) (o n : Path) (m : MetaIndex) (d : BlockIndex) → IndexesMean t m d → IsCall (Rename o n) → same_path o n ≡ false → ◌≡◌ {A = Outcome} (does t (Rename o n)) (t', Done) → IndexesMean t' (moved o n m) (moved o n d)
+RenameLaw = (t t' : Tree) (o n : Path) (m : Metadata) (d : Blocks) → IndexesMean t m d → IsCall (Rename o n) → same_path o n ≡ false → ◌≡◌ {A = Outcome} (does t (Rename o n)) (t', Done) → IndexesMean t' (moved o n m) (moved o n d)

@@ -1,6 +1,6 @@
 -- A directory tree, the walk along a path, and the tree with one entry put or taken out
 -- (POSIX.1-2017, 4.13 Pathname Resolution, for files and directories without links).
-use Rattle.std.specs.Prelude.{ℕ, ◌+◌, ◌-◌, List, [], ◌∷◌, ◌++◌, length, take, drop, replicate, cond, Option, Some, None, unwrap_or, fold}
+use Rattle.std.specs.Prelude.{ℕ, ◌+◌, ◌-◌, List, [], ◌∷◌, ◌++◌, length, take, drop, replicate, cond, Option, Some, None, option_map, fold}
 use Rattle.std.specs.declared.cmp.Ordering.{Ordering}
 use Rattle.std.specs.declared.cmp.Ordering.TheVariants.{Less, Equal, Greater}
 pub use Rattle.pathkey.specs.Order.{by_bytes, same}
@@ -63,16 +63,12 @@ abbrev pub set_entry : Name → Option Tree → Entries → Entries
 set_entry n (Some x) es = put n x es
 set_entry n None es = take_out n es
 
--- the entry of that name, or an empty directory
-abbrev pub child : Name → Entries → Tree
-child n es = unwrap_or (named n es) (Dir nothing)
-
--- the tree with the entry at a path that is not the root put or taken out
+-- the tree with the entry at a path put or taken out; as it was at the root, and where no directory stands above the path
 abbrev pub edited : Tree → Path → Option Tree → Tree
 edited t [] o = t
 edited (File b) (n ∷ p) o = File b
 edited (Dir es) (n ∷ []) o = Dir (set_entry n o es)
-edited (Dir es) (n ∷ m ∷ p) o = Dir (put n (edited (child n es) (m ∷ p) o) es)
+edited (Dir es) (n ∷ m ∷ p) o = Dir (set_entry n (option_map (λ x. edited x (m ∷ p) o) (named n es)) es)
 
 abbrev pub with_entry : Tree → Path → Tree → Tree
 with_entry t p x = edited t p (Some x)

@@ -7,9 +7,12 @@
 #![tactic(auto)]
 
 pub mod call;
+pub mod digits;
 pub mod laws;
+pub mod limits;
 pub mod plain;
 pub mod reply;
 
 pub use call::Call;
+pub use limits::{GREATEST_FILE, GREATEST_READ, fits_file};
 pub use reply::{FileBytes, Kind, Listing, Meta, Reply};

@@ -40,7 +40,7 @@ impl Model for FileBytes {
 }
 
 impl FileBytes {
-    /// These bytes. It takes no memory.
+    /// These bytes.
     pub fn from_vec(bytes: Vec<u8>) -> FileBytes
         ensures { result ≡ bytes.items }
     {
@@ -54,7 +54,7 @@ impl FileBytes {
         self.bytes.as_slice()
     }
 
-    /// The vector that holds the bytes. It takes no memory.
+    /// The vector that holds the bytes.
     pub fn into_vec(self) -> Vec<u8>
         ensures { result.items ≡ self }
     {
@@ -81,7 +81,7 @@ impl Model for Listing {
 impl Listing {
     ghost use Rattle.reference.specs.Pairs.{pairs_of};
 
-    /// A listing of these kinds and names. It takes no memory.
+    /// A listing of these kinds and names.
     pub fn from_vec(entries: Vec<(Kind, Vec<u8>)>) -> Listing
         ensures { result ≡ pairs_of entries.items }
     {
@@ -95,7 +95,7 @@ impl Listing {
         self.entries.as_slice()
     }
 
-    /// The vector that holds the kinds and names. It takes no memory.
+    /// The vector that holds the kinds and names.
     pub fn into_vec(self) -> Vec<(Kind, Vec<u8>)>
         ensures { pairs_of result.items ≡ self }
     {

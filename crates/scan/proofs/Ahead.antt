@@ -1,5 +1,5 @@
 -- The ends that lie ahead of a key: a search passes one with each stretch.
-use Rattle.std.proofs.Common.{◌≡◌, ℕ, zero, suc, ◌+◌, ◌<◌, ◌≤◌, ◌⊎◌, inl, inr, Bool, true, false, List, [], ◌∷◌, ◌++◌, map, length, get_or, refl, ap, ◌∙◌, Option, Some, None, cond, arith}
+use Rattle.std.proofs.Common.{◌≡◌, ℕ, zero, suc, ◌+◌, ◌<◌, ◌≤◌, ◌⊎◌, inl, inr, Bool, true, false, List, [], ◌∷◌, ◌++◌, length, get_or, refl, ap, ◌∙◌, Option, Some, None, cond, arith}
 use Rattle.std.specs.Prelude.{Contains}
 use Rattle.std.specs.Option.{option_to_list}
 use Rattle.std.proofs.lemmas.Option.{same_Some}
@@ -7,9 +7,8 @@ use Rattle.std.proofs.lemmas.List.Elements.{Contains-append_left, Contains-appen
 use Rattle.message.specs.Ranges.{before, earlier_end}
 use Rattle.message.proofs.KeyOrder.{lt_le, reaches-refl, reaches-from_before, not_before_from_reaches}
 use Rattle.node.specs.declared.node.Slot.{Slot}
-use Rattle.node.specs.See.{see_slot}
+use Rattle.node.specs.See.{seen_slots}
 use Rattle.node.specs.Site.{end_of}
-use Rattle.node.specs.Pure.{slots}
 use Rattle.scan.specs.Stretches.{all_ends}
 
 -- how many of the keys lie after c
@@ -72,7 +71,7 @@ module _ {U V : Type 0} where
   message_end (s ∷ ss) (suc i) d k l h = Contains-append_right (s.lo ∷ all_ends s.pending.0) (slot_ends ss) k (message_end ss i d k (omega arith) h)
 
   -- and where a slot ends
-  pub pivot_end : (ss : List (Slot U V)) (i : ℕ) (k : List ℕ) → end_of None (slots (map see_slot ss)) i ≡ Some k → Contains (slot_ends ss) k
+  pub pivot_end : (ss : List (Slot U V)) (i : ℕ) (k : List ℕ) → end_of None (seen_slots ss) i ≡ Some k → Contains (slot_ends ss) k
   pivot_end [] i k e = (cc)
   pivot_end (s ∷ []) zero k e = (cc)
   pivot_end (s ∷ (r ∷ ss)) zero k e = Contains-append_right (s.lo ∷ all_ends s.pending.0) (slot_ends (r ∷ ss)) k (0, omega arith, same_Some r.lo k e)

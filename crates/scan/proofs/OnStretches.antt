@@ -1,4 +1,4 @@
--- On a stretch the messages make the same of a value at each key, and the first pair of what is below decides.
+-- On a stretch the messages change a value in the same way at each key, and the first pair of what is below decides.
 use Rattle.std.proofs.Common.{◌≡◌, ℕ, suc, ◌⊎◌, inl, inr, ⊎_elim, Bool, true, false, List, [], ◌∷◌, take, drop, take-append-drop, refl, ap, sym, ◌∙◌, subst, Option, Some, None, cond, arith}
 use Rattle.std.specs.Prelude.{All, IfOk, Result, Ok, Err}
 use Rattle.std.proofs.lemmas.Option.{none-some}
@@ -33,7 +33,7 @@ first_of_one f from stop some None e = e
 first_of_one f from stop some (Some v) e = let here = in_range from from stop (reaches-refl from) some in (here, e from here, none_start f from)
 
 module _ {U V : Type 0} (means : U → Option V → Option V) where
-  -- messages that touch two keys alike make the same of a value at both
+  -- messages that touch two keys alike change a value in the same way at both
   effects-alike : (ms : List (Msg U V)) (from k : List ℕ) (o : Option V) → All (λ m. touches m k ≡ touches m from) ms → effects means ms k o ≡ effects means ms from o
   effects-alike [] from k o a = refl
   effects-alike (m ∷ ms) from k o a =

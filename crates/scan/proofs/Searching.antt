@@ -1,13 +1,13 @@
 -- A search of an inner node, stretch by stretch.
-use Rattle.std.proofs.Common.{◌≡◌, ℕ, ◌<◌, ◌⊎◌, ⊎_elim, Bool, true, List, [], ◌∷◌, map, length, get_or, refl, ap, sym, ◌∙◌, subst, Option, Some, None, arith}
+use Rattle.std.proofs.Common.{◌≡◌, ℕ, ◌<◌, ◌⊎◌, ⊎_elim, Bool, true, List, [], ◌∷◌, length, get_or, refl, ap, sym, ◌∙◌, subst, Option, Some, None, arith}
 use Rattle.std.specs.Prelude.{Contains, IfSome}
 use Rattle.pathkey.specs.Keys.{is_below}
 use Rattle.message.specs.Ranges.{reaches, earlier_end}
 use Rattle.message.proofs.KeyOrder.{both, le_le, reaches-from_before}
 use Rattle.message.specs.declared.msg.Msg.{Msg}
 use Rattle.node.specs.declared.node.Slot.{Slot}
-use Rattle.node.specs.See.{see_slot}
-use Rattle.node.specs.Pure.{PNode, inner, slots}
+use Rattle.node.specs.See.{seen_slots}
+use Rattle.node.specs.Pure.{PNode, inner}
 use Rattle.node.specs.Meaning.{slot_number, value}
 use Rattle.node.specs.Site.{end_of}
 use Rattle.scan.specs.Pairs.{HasNone, IsFirst}
@@ -30,26 +30,26 @@ module _ {U V : Type 0} (means : U → Option V → Option V) where
 
   -- the search stands at `from` in slot i, which is s, and its stretch goes up to `stop`
   pub record IsAt (items : List (Slot U V)) (n : PNode U V) (lo : List ℕ) (hi : Option (List ℕ)) (from : List ℕ) (i : ℕ) (s : Slot U V) (stop : Option (List ℕ)) : Type 0 where
-    pub seen : inner (slots (map see_slot items)) ≡ n
+    pub seen : inner (seen_slots items) ≡ n
     pub bound : i < length items
-    pub number : i ≡ slot_number (slots (map see_slot items)) from
+    pub number : i ≡ slot_number (seen_slots items) from
     pub slot : s ≡ get_or items i s
     pub passed : HasPassed n lo from
     pub after : is_below from stop ≡ true
-    pub inside : (k : List ℕ) → is_below k stop ≡ true → is_below k (earlier_end hi (end_of None (slots (map see_slot items)) i)) ≡ true
-    pub an_end : IfSome stop (λ d. (earlier_end hi (end_of None (slots (map see_slot items)) i) ≡ Some d) ⊎ Contains (all_ends s.pending.0) d)
+    pub inside : (k : List ℕ) → is_below k stop ≡ true → is_below k (earlier_end hi (end_of None (seen_slots items) i)) ≡ true
+    pub an_end : IfSome stop (λ d. (earlier_end hi (end_of None (seen_slots items) i) ≡ Some d) ⊎ Contains (all_ends s.pending.0) d)
 
   -- the same in the words of the code: xs and ys are the slots, ms the messages of s that count, and `end` where its
   -- stretches end
-  pub stands_at : (items xs ys : List (Slot U V)) (ms : List (Msg U V)) (j : ℕ) (settled : Bool) (n : PNode U V) (lo : List ℕ) (hi : Option (List ℕ)) (from : List ℕ) (i : ℕ) (s : Slot U V) (end stop : Option (List ℕ)) → xs ≡ items → ys ≡ items → ms ≡ counting j settled s.pending.0 → inner (slots (map see_slot items)) ≡ n → i < length xs → i ≡ slot_number (slots (map see_slot xs)) from → s ≡ get_or items i s → HasPassed n lo from → end ≡ earlier_end hi (end_of None (slots (map see_slot ys)) i) → IsStretch ms from end stop → IsAt items n lo hi from i s stop
+  pub stands_at : (items xs ys : List (Slot U V)) (ms : List (Msg U V)) (j : ℕ) (settled : Bool) (n : PNode U V) (lo : List ℕ) (hi : Option (List ℕ)) (from : List ℕ) (i : ℕ) (s : Slot U V) (end stop : Option (List ℕ)) → xs ≡ items → ys ≡ items → ms ≡ counting j settled s.pending.0 → inner (seen_slots items) ≡ n → i < length xs → i ≡ slot_number (seen_slots xs) from → s ≡ get_or items i s → HasPassed n lo from → end ≡ earlier_end hi (end_of None (seen_slots ys) i) → IsStretch ms from end stop → IsAt items n lo hi from i s stop
   stands_at items xs ys ms j settled n lo hi from i s end stop ex ey em seen b number slot passed ee h =
-      let ends : Option (List ℕ) = earlier_end hi (end_of None (slots (map see_slot items)) i) in
-      let same : end ≡ ends = ee ∙ ap (λ (zs : List (Slot U V)). earlier_end hi (end_of None (slots (map see_slot zs)) i)) ey in
+      let ends : Option (List ℕ) = earlier_end hi (end_of None (seen_slots items) i) in
+      let same : end ≡ ends = ee ∙ ap (λ (zs : List (Slot U V)). earlier_end hi (end_of None (seen_slots zs) i)) ey in
       let stretch : IsStretch (counting j settled s.pending.0) from ends stop = subst (λ e. IsStretch (counting j settled s.pending.0) from e stop) same (subst (λ (zs : List (Msg U V)). IsStretch zs from end stop) em h) in
       record {
         seen = seen;
         bound = subst (λ (zs : List (Slot U V)). i < length zs) ex b;
-        number = number ∙ ap (λ (zs : List (Slot U V)). slot_number (slots (map see_slot zs)) from) ex;
+        number = number ∙ ap (λ (zs : List (Slot U V)). slot_number (seen_slots zs) from) ex;
         slot = slot;
         passed = passed;
         after = stretch.after;
@@ -58,14 +58,14 @@ module _ {U V : Type 0} (means : U → Option V → Option V) where
       }
 
   -- a key below the end lies below the end of its slot
-  pub from_below : (items xs ys : List (Slot U V)) (hi : Option (List ℕ)) (from : List ℕ) (i : ℕ) (end : Option (List ℕ)) → xs ≡ items → ys ≡ items → i ≡ slot_number (slots (map see_slot xs)) from → is_below from hi ≡ true → end ≡ earlier_end hi (end_of None (slots (map see_slot ys)) i) → is_below from end ≡ true
+  pub from_below : (items xs ys : List (Slot U V)) (hi : Option (List ℕ)) (from : List ℕ) (i : ℕ) (end : Option (List ℕ)) → xs ≡ items → ys ≡ items → i ≡ slot_number (seen_slots xs) from → is_below from hi ≡ true → end ≡ earlier_end hi (end_of None (seen_slots ys) i) → is_below from end ≡ true
   from_below items xs ys hi from i end ex ey number h ee =
-      let e : i ≡ slot_number (slots (map see_slot items)) from = number ∙ ap (λ (zs : List (Slot U V)). slot_number (slots (map see_slot zs)) from) ex in
-      ap (is_below from) (ee ∙ ap (λ (zs : List (Slot U V)). earlier_end hi (end_of None (slots (map see_slot zs)) i)) ey) ∙ below_earlier hi (end_of None (slots (map see_slot items)) i) from h (subst (λ j. is_below from (end_of None (slots (map see_slot items)) j) ≡ true) (sym e) (number_inside (slots (map see_slot items)) from))
+      let e : i ≡ slot_number (seen_slots items) from = number ∙ ap (λ (zs : List (Slot U V)). slot_number (seen_slots zs) from) ex in
+      ap (is_below from) (ee ∙ ap (λ (zs : List (Slot U V)). earlier_end hi (end_of None (seen_slots zs) i)) ey) ∙ below_earlier hi (end_of None (seen_slots items) i) from h (subst (λ j. is_below from (end_of None (seen_slots items) j) ≡ true) (sym e) (number_inside (seen_slots items) from))
 
   module _ (items : List (Slot U V)) (n : PNode U V) (lo : List ℕ) (hi : Option (List ℕ)) (from : List ℕ) (i : ℕ) (s : Slot U V) (stop : Option (List ℕ)) (x : IsAt items n lo hi from i s stop) where
-    below_ends : (k : List ℕ) → is_below k stop ≡ true → (is_below k hi ≡ true) × (is_below k (end_of None (slots (map see_slot items)) i) ≡ true)
-    below_ends k h = below_both hi (end_of None (slots (map see_slot items)) i) k (x.inside k h)
+    below_ends : (k : List ℕ) → is_below k stop ≡ true → (is_below k hi ≡ true) × (is_below k (end_of None (seen_slots items) i) ≡ true)
+    below_ends k h = below_both hi (end_of None (seen_slots items) i) k (x.inside k h)
 
     -- the first pair of the slot on the stretch is that of the node
     first_of_node : (r : Option (List ℕ × V)) → IsFirst (slot_value means s) from stop r → IsFirst (value means n) from stop r
@@ -96,13 +96,13 @@ module _ {U V : Type 0} (means : U → Option V → Option V) where
     pub fewer_ahead : (next : List ℕ) → stop ≡ Some next → ahead next (search_ends hi items) < ahead from (search_ends hi items)
     fewer_ahead next e =
         let after : is_below from (Some next) ≡ true = subst (λ o. is_below from o ≡ true) e x.after in
-        let one : (earlier_end hi (end_of None (slots (map see_slot items)) i) ≡ Some next) ⊎ Contains (all_ends s.pending.0) next = subst (λ o. IfSome o (λ d. (earlier_end hi (end_of None (slots (map see_slot items)) i) ≡ Some d) ⊎ Contains (all_ends s.pending.0) d)) e x.an_end in
+        let one : (earlier_end hi (end_of None (seen_slots items) i) ≡ Some next) ⊎ Contains (all_ends s.pending.0) next = subst (λ o. IfSome o (λ d. (earlier_end hi (end_of None (seen_slots items) i) ≡ Some d) ⊎ Contains (all_ends s.pending.0) d)) e x.an_end in
         ahead_falls from next (search_ends hi items) after (⊎_elim
-        (λ t. ⊎_elim (λ h. range_end_is hi items next h) (λ p. slot_end_is hi items next (pivot_end items i next p)) (earlier_is hi (end_of None (slots (map see_slot items)) i) next t))
+        (λ t. ⊎_elim (λ h. range_end_is hi items next h) (λ p. slot_end_is hi items next (pivot_end items i next p)) (earlier_is hi (end_of None (seen_slots items) i) next t))
         (λ t. slot_end_is hi items next (message_end items i s next x.bound (subst (λ (z : Slot U V). Contains (all_ends z.pending.0) next) x.slot t)))
         one)
 
   -- a node without slots has no value
-  pub no_slots : (items : List (Slot U V)) (n : PNode U V) (lo : List ℕ) (hi : Option (List ℕ)) → length items ≡ 0 → inner (slots (map see_slot items)) ≡ n → HasNone (value means n) lo hi
+  pub no_slots : (items : List (Slot U V)) (n : PNode U V) (lo : List ℕ) (hi : Option (List ℕ)) → length items ≡ 0 → inner (seen_slots items) ≡ n → HasNone (value means n) lo hi
   no_slots [] n lo hi e seen k h = ap (λ (m : PNode U V). value means m k) (sym seen)
   no_slots (s ∷ ss) n lo hi e seen k h = absurd (omega (arith, e))

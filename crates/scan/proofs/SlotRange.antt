@@ -1,20 +1,18 @@
 -- The value within the range of one slot.
-use Rattle.std.proofs.Common.{◌≡◌, ℕ, ◌+◌, ◌<◌, ◌≤◌, Bool, true, false, List, length, map, get_or, refl, ap, sym, ◌∙◌, subst, Option, Some, None, cond, arith, add-one}
+use Rattle.std.proofs.Common.{◌≡◌, ℕ, ◌+◌, ◌<◌, Bool, true, false, List, length, get_or, refl, ap, sym, ◌∙◌, subst, Option, None, cond, add-one}
 use Rattle.pathkey.specs.Keys.{is_below}
 use Rattle.message.specs.declared.msg.Msg.{Msg}
-use Rattle.message.specs.Ranges.{reaches, earlier_end}
+use Rattle.message.specs.Ranges.{reaches}
 use Rattle.message.proofs.KeyOrder.{le_le, before_from_not_reaches}
 use Rattle.node.specs.declared.node.Slot.{Slot}
-use Rattle.node.specs.See.{see_slot}
-use Rattle.node.specs.Pure.{PNode, PSlots, none, more, slots}
+use Rattle.node.specs.See.{seen_slots}
+use Rattle.node.specs.Pure.{PNode, PSlots, none, more}
 use Rattle.node.specs.Lawful.{next_lo}
 use Rattle.node.specs.Meaning.{begins_by, slot_number, slots_value}
 use Rattle.node.specs.Site.{end_of}
 use Rattle.node.proofs.SlotFacts.{slots_value_is}
-use Rattle.node.proofs.There.{end_of-next, end_of-last}
 use Rattle.scan.specs.Stretches.{slot_value}
 use Rattle.scan.proofs.NextKey.{not_reaches}
-use Rattle.scan.proofs.StretchEnds.{earlier-none}
 
 module _ {U V : Type 0} where
   begins_later : (ss : PSlots U V) (c k : List ℕ) → reaches c k ≡ true → begins_by ss c ≡ true → begins_by ss k ≡ true
@@ -48,16 +46,8 @@ module _ {U V : Type 0} where
   number_same (more lo ms n ss) c k h u = number_same_by (begins_by ss c) lo ms n ss c k refl h (number_same ss c k h) u
 
   -- so that the node's value there is the slot's
-  pub value_in_slot : (means : U → Option V → Option V) (ss : List (Slot U V)) (i : ℕ) (s : Slot U V) (c k : List ℕ) → 0 < length ss → i ≡ slot_number (slots (map see_slot ss)) c → s ≡ get_or ss i s → reaches c k ≡ true → is_below k (end_of None (slots (map see_slot ss)) i) ≡ true → slots_value means (slots (map see_slot ss)) k ≡ slot_value means s k
+  pub value_in_slot : (means : U → Option V → Option V) (ss : List (Slot U V)) (i : ℕ) (s : Slot U V) (c k : List ℕ) → 0 < length ss → i ≡ slot_number (seen_slots ss) c → s ≡ get_or ss i s → reaches c k ≡ true → is_below k (end_of None (seen_slots ss) i) ≡ true → slots_value means (seen_slots ss) k ≡ slot_value means s k
   value_in_slot means ss i s c k l e is h u =
-      let ps : PSlots U V = slots (map see_slot ss) in
+      let ps : PSlots U V = seen_slots ss in
       let same : slot_number ps k ≡ i = number_same ps c k h (subst (λ j. is_below k (end_of None ps j) ≡ true) e u) ∙ sym e in
       slots_value_is means k ss s l ∙ ap (λ j. slot_value means (get_or ss j s) k) same ∙ ap (λ (t : Slot U V). slot_value means t k) (sym is)
-
-  -- where a slot before another ends, or an end before that
-  pub end_before_next : (ss : List (Slot U V)) (i : ℕ) (d : Slot U V) (hi r : Option (List ℕ)) → i + 1 < length ss → r ≡ earlier_end hi (Some (get_or ss (i + 1) d).lo) → r ≡ earlier_end hi (end_of None (slots (map see_slot ss)) i)
-  end_before_next ss i d hi r b is = is ∙ ap (λ j. earlier_end hi (Some (get_or ss j d).lo)) (add-one i) ∙ ap (earlier_end hi) (sym (end_of-next ss i None d (omega (arith, b))))
-
-  -- where the last slot ends
-  pub end_of_last : (ss : List (Slot U V)) (i : ℕ) (hi : Option (List ℕ)) → length ss ≤ i + 1 → hi ≡ earlier_end hi (end_of None (slots (map see_slot ss)) i)
-  end_of_last ss i hi b = sym (ap (earlier_end hi) (end_of-last ss i None (omega (arith, b))) ∙ earlier-none hi)

@@ -86,7 +86,7 @@ module _ {U V : Type 0} where
     alike = λ n k h. t k ∙ unlike q from k (sym p ∙ n) h ∙ sym (t from);
   }
 
-  -- the same of each such message
+  -- likewise for each such message
   pub put_or_edit_end : (from q : List ℕ) (m : Msg U V) (stop : Option (List ℕ)) → ((v : V) × (m ≡ Put q v)) ⊎ ((m ≡ Del q) ⊎ ((u : U) × (m ≡ Edit q u))) → stop ≡ ahead_of from (Some q) → IsNextEnd from m stop
   put_or_edit_end from q m stop (inl (v, e)) s = subst (IsNextEnd from m) (sym s) (subst (λ x. IsNextEnd from x (ahead_of from (Some q))) (sym e) (point_end from q (Put q v) (0, omega arith, refl) (λ k. refl) refl))
   put_or_edit_end from q m stop (inr (inl e)) s = subst (IsNextEnd from m) (sym s) (subst (λ x. IsNextEnd from x (ahead_of from (Some q))) (sym e) (point_end from q (Del q) (0, omega arith, refl) (λ k. refl) refl))
@@ -227,6 +227,3 @@ module _ {U V : Type 0} where
   })
 
 -- the earlier of an end and none
-pub earlier-none : (a : Option (List ℕ)) → earlier_end a None ≡ a
-earlier-none None = refl
-earlier-none (Some a) = refl

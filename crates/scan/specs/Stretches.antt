@@ -50,7 +50,7 @@ module _ {U V : Type 0} where
   ends_of (DelRange r) = r.lo ∷ option_to_list r.hi
   ends_of (Edit q u) = q ∷ next_key q ∷ []
 
-  -- the same of all messages
+  -- likewise for all messages
   abbrev pub all_ends : List (Msg U V) → List (List ℕ)
   all_ends [] = []
   all_ends (m ∷ ms) = ends_of m ++ all_ends ms

@@ -4,7 +4,7 @@ ghost use Rattle.std.specs.Option.{option_copied};
 ghost use Rattle.pathkey.specs.Keys.{is_below};
 ghost use Rattle.message.specs.Effects.{IsDecisive};
 ghost use Rattle.node.specs.Meaning.{value as value_at};
-ghost use Rattle.node.specs.Ready.{IsSearchable};
+ghost use Rattle.node.specs.Searchable.{IsSearchable};
 ghost use Rattle.scan.specs.Pairs.{IsFirst};
 ghost use Rattle.scan.specs.Stretches.{ActAlike, counting, slot_value};
 

@@ -1,16 +1,16 @@
 //! What the messages of a slot make of a stretch of its child.
-ghost use Rattle.std.specs.Prelude.{◌≡◌, ◌<◌, ◌≤◌, IfOk, None, Some, length, map, drop};
+ghost use Rattle.std.specs.Prelude.{◌≡◌, ◌<◌, ◌≤◌, IfOk, None, Some, length, drop};
 ghost use Rattle.std.specs.Option.{option_copied};
 ghost use Rattle.message.specs.Effects.{effects};
 ghost use Rattle.message.specs.Ranges.{earlier_end};
-ghost use Rattle.node.specs.Pure.{slots as slots_of};
-ghost use Rattle.node.specs.See.{see_slot};
+ghost use Rattle.node.specs.See.{seen_slots};
 ghost use Rattle.node.specs.Site.{end_of};
 ghost use Rattle.scan.specs.Stretches.{counting, pair_of};
 
 use message::ends::earlier;
 use message::{Msg, Pending, Update};
 use node::Slot;
+use node::node::search::end_of;
 use pathkey::{Key, NoMemory};
 use std::alloc::Global;
 
@@ -21,15 +21,12 @@ pub fn slot_end<'a, U: Update>(
     hi: Option<&'a Key>,
 ) -> Option<&'a Key>
     requires { i < length slots.now }
-    ensures { option_copied result ≡ earlier_end (option_copied hi.entry) (end_of None (slots_of (map see_slot slots.now)) i) }
+    ensures { option_copied result ≡ earlier_end (option_copied hi.entry) (end_of None (seen_slots slots.now) i) }
 {
-    if i + 1 == slots.len() {
-        return hi;
-    }
-    earlier(hi, Some(&slots[i + 1].lo))
+    earlier(hi, end_of(slots, i, None))
 }
 
-/// The messages that count from a key on: those from the one on that settles the value there, or else all.
+/// The messages that decide values from a key on: those from the one that settles the value there, or else all.
 pub fn counting<U: Update>(pending: &Pending<U>, decisive: usize, settled: bool) -> &[Msg<U>]
     requires { decisive ≤ length pending.now.0 }
     ensures { result.now ≡ counting decisive settled pending.now.0 }
@@ -40,7 +37,7 @@ pub fn counting<U: Update>(pending: &Pending<U>, decisive: usize, settled: bool)
     pending.as_slice()
 }
 
-/// The key with what the messages from number `first` on make of no value there, if that is a value.
+/// The key and the value that the messages from number `first` on give it where it has none below, if they give one.
 pub fn made_of_none<U: Update>(
     alloc: Global,
     pending: &Pending<U>,
@@ -56,8 +53,8 @@ pub fn made_of_none<U: Update>(
     }
 }
 
-/// The pair with what the messages from number `first` on, as they touch the key `from`, make of its value, if that is
-/// a value.
+/// The pair after the messages from number `first` on, which act on its key as they do on `from`; none where they take
+/// its value away.
 pub fn made_of_pair<U: Update>(
     alloc: Global,
     pending: &Pending<U>,

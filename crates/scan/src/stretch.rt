@@ -29,7 +29,7 @@ fn range_end<'a>(from: &Key, range: &'a KeyRange) -> Option<&'a Key>
     ahead_of(from, range.hi.as_ref())
 }
 
-/// Where the message next begins or ends to touch keys after `from`, if it is none for `from` alone.
+/// The next key after `from` where the message begins or ceases to touch keys, unless it is for `from` alone.
 fn next_end<'a, U: Update>(from: &Key, msg: &'a Msg<U>) -> Option<&'a Key>
     ensures { IsNextEnd from.now msg.now (option_copied result) }
 {
@@ -39,7 +39,7 @@ fn next_end<'a, U: Update>(from: &Key, msg: &'a Msg<U>) -> Option<&'a Key>
     }
 }
 
-/// Whether the message is one for the key alone.
+/// Whether the message is for this key alone.
 fn is_for<U: Update>(msg: &Msg<U>, key: &Key) -> bool
     ensures { result ≡ is_for msg.now key.now }
 {
@@ -49,7 +49,7 @@ fn is_for<U: Update>(msg: &Msg<U>, key: &Key) -> bool
     }
 }
 
-/// Where the stretch from `from` on ends, which is at `end` or before it.
+/// Where the stretch that begins at `from` ends: at `end` or before it.
 pub fn stretch_end<U: Update>(
     alloc: Global,
     msgs: &[Msg<U>],

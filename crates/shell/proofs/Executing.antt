@@ -1,16 +1,14 @@
 -- A reply of the table of calls fits its world, and the world after it is the table's; and what a script begins with.
-use Rattle.std.proofs.Common.{◌≡◌, Bool, false, cond, ap, sym, subst, ◌∙◌, inl, None}
+use Rattle.std.proofs.Common.{◌≡◌, Bool, false, cond, ap, sym, subst, ◌∙◌, inl}
 use Rattle.reference.specs.Calls.{does}
-use Rattle.reference.specs.Indexes.{BlocksMean}
 use Rattle.reference.specs.Tree.{Tree, Dir, nothing}
 use Rattle.reference.specs.Worlds.{World, Ask, Replied, Fits, next, is_lack, outcome}
 use Rattle.reference.specs.declared.call.Call.{Call}
 use Rattle.reference.specs.declared.reply.Reply.{Reply}
 use Rattle.reference.proofs.NeverLacks.{no_lack}
-use Rattle.reference.proofs.FreshIndexes.{fresh_law}
-use Rattle.meta_index.specs.Means.{IsMeantBy}
-use Rattle.call_compiler.specs.declared.batch.Indexes.{Indexes}
-use Rattle.shell.specs.Meant.{IsTreeOf, IsWorldOf}
+use Rattle.call_compiler.specs.Compiled.{MeanTree}
+use Rattle.call_compiler.specs.declared.indexes.Indexes.{Indexes}
+use Rattle.shell.specs.Meant.{IsWorldOf}
 
 next_live : (w : World) (c : Call) (r : Reply) → r ≡ (does w.live c).1 → (does w.live c).0 ≡ (next w (Ask c) (Replied r)).live
 next_live w c r e =
@@ -18,12 +16,9 @@ next_live w c r e =
     sym (ap (λ (b : Bool). (cond {A = World} b w (outcome w (Ask c)).0).live) given)
 
 -- the reply fits, and the indexes mean the live tree of the next world
-pub executed : (w : World) (c : Call) (r : Reply) (i : Indexes) → r ≡ (does w.live c).1 → IsTreeOf i (does w.live c).0 → Fits w (Ask c) (Replied r) × IsWorldOf i (next w (Ask c) (Replied r))
-executed w c r i e means = (inl (ap Replied e), subst (IsTreeOf i) (next_live w c r e) means)
+pub executed : (w : World) (c : Call) (r : Reply) (i : Indexes) → r ≡ (does w.live c).1 → MeanTree i (does w.live c).0 → Fits w (Ask c) (Replied r) × IsWorldOf i (next w (Ask c) (Replied r))
+executed w c r i e means = (inl (ap Replied e), subst (λ (t : Tree). MeanTree i t) (next_live w c r e) means)
 
 -- indexes of the empty root directory mean the world of it
-pub starts_empty : (i : Indexes) (w : World) → IsMeantBy (Dir nothing) i.meta → w.live ≡ Dir nothing → IsWorldOf i w
-starts_empty i w means e = record {
-  meta = subst (λ (t : Tree). IsMeantBy t i.meta) (sym e) means;
-  blocks = subst (λ (t : Tree). BlocksMean t (λ k. None)) (sym e) fresh_law.blocks;
-}
+pub starts_empty : (i : Indexes) (w : World) → MeanTree i (Dir nothing) → w.live ≡ Dir nothing → IsWorldOf i w
+starts_empty i w means e = subst (λ (t : Tree). MeanTree i t) (sym e) means

@@ -1,8 +1,10 @@
 pub mod Known
 pub mod WordFacts
+pub mod ValueFacts
 pub mod Asking
 pub mod Texts
 pub mod Progress
 pub mod Answering
 pub mod Reading
 pub mod Executing
+pub mod OneAnswer

@@ -1,5 +1,5 @@
 -- The loop over the pieces of a text: what holds at its head, and what each way out of it comes to.
-use Rattle.std.proofs.Common.{◌≡◌, ◌++◌, ℕ, List, [], IfSome, ap, subst, ◌∙◌, append-nil}
+use Rattle.std.proofs.Common.{◌≡◌, ◌++◌, ℕ, List, [], ap, subst, ◌∙◌, append-nil}
 use Rattle.std.specs.Prelude.{Option}
 use Rattle.std.specs.Io.KnownBytes.{Appends, Consumes, IsAtEnd, Keeps}
 use Rattle.std.proofs.KnownBytes.{Appends-kept, Appends-trans, Consumes-kept, Consumes-trans}
@@ -30,15 +30,14 @@ flush_fails meant means had has old kept new items so keeps first m =
     let (later, is) = known_text had has text read in
     (out, after, (text ++ later, is, stopped_between text later first after out held went), m', Appends-kept _ _ _ _ wrote keeps)
 
--- a reader that gave nothing more had no more than what it gave
-at_end : (had has end : Option (List ℕ)) (text none : List ℕ) → Consumes had has text → Consumes has end none → none ≡ [] → IsAtEnd end → IfSome had (λ all. all ≡ text)
-at_end had has end text none read last empty ended =
-    known_whole had end text (subst (Consumes had end) (ap (λ l. text ++ l) empty ∙ append-nil text) (Consumes-trans _ _ _ _ _ read last)) ended
+-- a last read that gave nothing
+gave_all : (had has end : Option (List ℕ)) (text none : List ℕ) → Consumes had has text → Consumes has end none → none ≡ [] → Consumes had end text
+gave_all had has end text none read last empty = subst (Consumes had end) (ap (λ l. text ++ l) empty ∙ append-nil text) (Consumes-trans _ _ _ _ _ read last)
 
 -- all was read, and the last line done
 pub ends : (meant means means' : Worlds) (had has end : Option (List ℕ)) (old now kept new : Option (List ℕ)) (items none : List ℕ)
     → Leads meant means (Reads had has items) (Appends old now) → Consumes has end none → none ≡ [] → IsAtEnd end → Keeps now kept
-    → Leads means means' (λ before. Script before (last_line items)) (Appends kept new) → Leads meant means' (DoesAll had) (Appends old new)
+    → Leads means means' (λ before. Script before (last_line items)) (Appends kept new) → Leads meant means' (DoesAll had end) (Appends old new)
 ends meant means means' had has end old now kept new items none so last empty ended flushed f first m =
     let (out, before, (text, held, read, holds, went), m', wrote) = so first m in
     let (reply, after, did, m'', more) = f before m' in (
@@ -46,7 +45,8 @@ ends meant means means' had has end old now kept new items none so last empty en
       after,
       (
         text,
-        at_end had has end text none read last empty ended,
+        gave_all had has end text none read last empty,
+        ended,
         script_at_end text first before after out held reply went holds.free (script_held held items before after reply holds did),
       ),
       m'',
@@ -64,7 +64,7 @@ end_fails meant means means' had has end old now kept new items none so last emp
       after,
       (
         text,
-        at_end had has end text none read last empty ended,
+        known_whole had end text (gave_all had has end text none read last empty) ended,
         stopped_at_end text first before after out held part rest went holds.free
             (subst (λ (r : List ℕ). Script before (last_line held) r after) is (script_held held items before after reply holds did)),
       ),

@@ -1,4 +1,5 @@
 pub mod Lines
+pub mod Values
 pub mod Requests
 pub mod Replies
 pub mod Parts

@@ -1,14 +1,15 @@
--- What a line of a script asks.
-use Rattle.std.specs.Prelude.{◌≡◌, ◌⊎◌, ⊤, ℕ, nat_lt, List, [], ◌∷◌, length, codes, bytes_eq, IsTrue, Result, Ok, Err, ◌==◌, if◌then◌else◌}
+-- What a line of a script asks for.
+use Rattle.std.specs.Prelude.{◌≡◌, ◌⊎◌, ⊤, ℕ, nat_lt, List, [], ◌∷◌, length, codes, bytes_eq, IsTrue, Option, Some, None, Result, Ok, Err, ◌==◌, if◌then◌else◌}
 use Rattle.percent_encoding.specs.Percent.{percent_decode}
 use Rattle.pathkey.specs.Names.{Path}
 use Rattle.pathkey.specs.Texts.{parsed}
 use Rattle.pathkey.specs.declared.errno.Errno.{Errno}
 use Rattle.pathkey.specs.declared.errno.Errno.TheVariants.{ENOMEM}
 use Rattle.reference.specs.declared.call.Call.{Call}
-use Rattle.reference.specs.declared.call.Call.TheVariants.{Mkdir, Create, Rmdir, Stat as AskStat, Readdir}
+use Rattle.reference.specs.declared.call.Call.TheVariants.{Mkdir, Create, Write, Truncate, Unlink, Rmdir, Read, Stat as AskStat, Readdir}
 use Rattle.call_compiler.specs.Compiled.{is_compiled}
 use Rattle.shell.specs.Lines.{words_of}
+use Rattle.shell.specs.Values.{bytes_of, number_of}
 use Rattle.shell.specs.declared.request.Request.{Request}
 use Rattle.shell.specs.declared.request.Request.TheVariants.{Silent, Overlong, Malformed, Refused, Wanted}
 
@@ -21,19 +22,48 @@ abbrev pub on_path : (Path → Call) → Result Path Errno → Request
 on_path call (Ok p) = Wanted (call p)
 on_path call (Err e) = Refused e
 
+-- what is asked for with the value of a word, where the word has one
+abbrev pub with_value : {A : Type 0} → (A → Request) → Option A → Request
+with_value ask (Some a) = ask a
+with_value ask None = Malformed
+
 -- the commands of two words, the second of which is a path
 abbrev pub path_command : List ℕ → List ℕ → Request
 path_command name p =
     if bytes_eq name (codes "mkdir") then on_path Mkdir (path_of p)
     else if bytes_eq name (codes "create") then on_path Create (path_of p)
+    else if bytes_eq name (codes "unlink") then on_path Unlink (path_of p)
     else if bytes_eq name (codes "rmdir") then on_path Rmdir (path_of p)
     else if bytes_eq name (codes "stat") then on_path AskStat (path_of p)
     else if bytes_eq name (codes "readdir") then on_path Readdir (path_of p)
     else Malformed
 
+-- the command of a path and a length
+abbrev pub length_command : List ℕ → List ℕ → List ℕ → Request
+length_command name p len =
+    if bytes_eq name (codes "truncate") then with_value (λ n. on_path (λ path. Truncate path n) (path_of p)) (number_of len)
+    else Malformed
+
+-- to write bytes from an offset on
+abbrev pub write_command : List ℕ → List ℕ → List ℕ → Request
+write_command p off hex = with_value (λ at. with_value (λ bytes. on_path (λ path. Write path at bytes) (path_of p)) (bytes_of hex)) (number_of off)
+
+-- to read from an offset on at most so many bytes
+abbrev pub read_command : List ℕ → List ℕ → List ℕ → Request
+read_command p off count = with_value (λ at. with_value (λ n. on_path (λ path. Read path at n) (path_of p)) (number_of count)) (number_of off)
+
+-- the commands of a path, an offset, and bytes or a number of them
+abbrev pub offset_command : List ℕ → List ℕ → List ℕ → List ℕ → Request
+offset_command name p off what =
+    if bytes_eq name (codes "write") then write_command p off what
+    else if bytes_eq name (codes "read") then read_command p off what
+    else Malformed
+
 -- the commands by their number of words
 abbrev pub command_of : List (List ℕ) → Request
 command_of (name ∷ p ∷ []) = path_command name p
+command_of (name ∷ p ∷ len ∷ []) = length_command name p len
+command_of (name ∷ p ∷ off ∷ what ∷ []) = offset_command name p off what
 command_of _ = Malformed
 
 -- a line that begins with `#` is a note
@@ -41,7 +71,7 @@ abbrev pub short_request : List ℕ → Request
 short_request [] = Silent
 short_request (b ∷ line) = if b == 35 then Silent else command_of (words_of (b ∷ line))
 
--- what a line asks: one of more than 65,536 bytes is not looked at
+-- what a line asks for: one of more than 65,536 bytes is not looked at
 abbrev pub request_of : List ℕ → Request
 request_of line = if nat_lt 65536 (length line) then Overlong else short_request line
 
@@ -54,6 +84,15 @@ IsAsked _ = ⊥
 -- the request was read as it stands; or memory was wanting, which refuses a call
 abbrev pub IsReadAs : Request → Request → Type 0
 IsReadAs wanted read = (read ≡ wanted) ⊎ ((read ≡ Refused ENOMEM) × IsAsked wanted)
+
+-- what is done of a request: a call that is not compiled yet is no command
+abbrev pub served : Request → Request
+served (Wanted c) = if is_compiled c then Wanted c else Malformed
+served r = r
+
+-- what is done of the request was read; or memory was wanting
+abbrev pub IsServedAs : Request → Request → Type 0
+IsServedAs wanted read = (read ≡ served wanted) ⊎ ((read ≡ Refused ENOMEM) × IsAsked wanted)
 
 -- where the request is a call, it is one of those that are compiled
 abbrev pub AsksServed : Request → Type 0

@@ -1,6 +1,6 @@
 -- What a run of a script comes to: from the worlds that its state meant to those that it means after it.
 use Rattle.std.specs.Prelude.{◌≡◌, ℕ, List, Option, IfSome}
-use Rattle.std.specs.Io.KnownBytes.{Consumes}
+use Rattle.std.specs.Io.KnownBytes.{Consumes, IsAtEnd}
 use Rattle.reference.specs.Worlds.{World}
 use Rattle.shell.specs.Lines.{lines_of, whole}
 use Rattle.shell.specs.Script.{Script, Stopped}
@@ -13,9 +13,9 @@ Worlds = World → Type 0
 abbrev pub Leads : Worlds → Worlds → (World → List ℕ → World → Type 0) → (List ℕ → Type 0) → Type 0
 Leads meant means step wrote = (first : World) → meant first → (text : List ℕ) × (after : World) × step first text after × means after × wrote text
 
--- all that the reader had was done
-abbrev pub DoesAll : Option (List ℕ) → World → List ℕ → World → Type 0
-DoesAll had first out after = (text : List ℕ) × IfSome had (λ all. all ≡ text) × Script first (lines_of text) out after
+-- the reader is at its end, and all the lines of what it gave were done
+abbrev pub DoesAll : Option (List ℕ) → Option (List ℕ) → World → List ℕ → World → Type 0
+DoesAll had has first out after = (text : List ℕ) × Consumes had has text × IsAtEnd has × Script first (lines_of text) out after
 
 -- of what the reader gave the whole lines were done
 abbrev pub DoesGiven : Option (List ℕ) → Option (List ℕ) → World → List ℕ → World → Type 0

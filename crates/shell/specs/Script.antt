@@ -1,5 +1,5 @@
 -- What a script means: what its lines are answered, and what they make of a world.
-use Rattle.std.specs.Prelude.{◌≡◌, ◌⊎◌, ◌≤◌, ℕ, List, [], ◌∷◌, ◌++◌, length, codes}
+use Rattle.std.specs.Prelude.{◌≡◌, ◌≢◌, ◌⊎◌, ◌≤◌, All, ℕ, List, [], ◌∷◌, ◌++◌, length, codes}
 use Rattle.pathkey.specs.declared.errno.Errno.TheVariants.{ENOMEM}
 use Rattle.reference.specs.Worlds.{World, Ask, Replied, Fits, next}
 use Rattle.reference.specs.declared.reply.Reply.{Reply}
@@ -7,7 +7,7 @@ use Rattle.reference.specs.declared.reply.Reply.TheVariants.{Fault}
 use Rattle.shell.specs.declared.request.Request.{Request}
 use Rattle.shell.specs.declared.request.Request.TheVariants.{Silent, Overlong, Malformed, Refused, Wanted}
 use Rattle.shell.specs.Lines.{lines_of}
-use Rattle.shell.specs.Requests.{request_of, IsAsked}
+use Rattle.shell.specs.Requests.{request_of, served, IsAsked}
 use Rattle.shell.specs.Replies.{reply_text}
 
 -- what a request is answered in a world, and the world after it
@@ -18,15 +18,24 @@ Answers w Malformed text w' = (text ≡ codes "error syntax\n") × (w' ≡ w)
 Answers w (Refused e) text w' = (text ≡ reply_text (Fault e)) × (w' ≡ w)
 Answers w (Wanted c) text w' = (r : Reply) × Fits w (Ask c) (Replied r) × (text ≡ reply_text r) × (w' ≡ next w (Ask c) (Replied r))
 
--- a line is answered as what it asks; or, where it asks a call, by want of memory, and the world is kept
+-- a line is answered as what it asks for; or, where it asks for a call, by want of memory, and the world is kept
 abbrev pub Does : World → List ℕ → List ℕ → World → Type 0
-Does w line text w' = Answers w (request_of line) text w' ⊎ (IsAsked (request_of line) × Answers w (Refused ENOMEM) text w')
+Does w line text w' = Answers w (served (request_of line)) text w' ⊎ (IsAsked (request_of line) × Answers w (Refused ENOMEM) text w')
 
 -- the lines, one after the other, with their answers joined
 abbrev pub Script : World → List (List ℕ) → List ℕ → World → Type 0
 Script first [] out last = (out ≡ []) × (last ≡ first)
 Script first (line ∷ lines) out last = (w : World) × (text : List ℕ) × (rest : List ℕ)
     × Does first line text w × (out ≡ text ++ rest) × Script w lines rest last
+
+-- no line of the output tells of want of memory
+abbrev pub LacksNothing : List ℕ → Type 0
+LacksNothing out = All (λ line. line ≢ codes "fault ENOMEM") (lines_of out)
+
+-- where no line was answered by want of memory, the output and the world after it follow from the world before it and the text
+abbrev pub OneAnswerLaw : Type 0
+OneAnswerLaw = (w : World) (text out out' : List ℕ) (after after' : World) → Script w (lines_of text) out after → Script w (lines_of text) out' after'
+    → LacksNothing out → LacksNothing out' → (out ≡ out') × (after ≡ after')
 
 -- where a failed write leaves a script: the lines `done` and the line `last`, if there is one, were done,
 -- and all answers to `done` and a beginning of the answer to `last` were written

@@ -1,12 +1,14 @@
-//! Reads a line as what it asks.
+//! Reads what a line asks for.
 ghost use Rattle.std.specs.Prelude.{◌≡◌, ◌⊎◌, Err, MatchResult};
 ghost use Rattle.pathkey.specs.declared.errno.Errno.TheVariants.{ENOMEM};
 ghost use Rattle.shell.specs.Lines.{words_of};
-ghost use Rattle.shell.specs.Requests.{AsksServed, IsReadAs, command_of, path_command, path_of, request_of};
+ghost use Rattle.shell.specs.Requests.{AsksServed, IsReadAs, IsServedAs, command_of, length_command, offset_command, path_command, path_of, read_command, request_of, served, write_command};
 
 use crate::request::Request;
+use crate::values::{read_bytes, read_number, writes_bytes};
 use crate::words::cut_word;
-use pathkey::{Errno, Path};
+use call_compiler::is_compiled;
+use pathkey::{Errno, NoMemory, Path};
 use percent_encoding::percent_decode;
 use reference::Call;
 use std::alloc::Global;
@@ -14,10 +16,33 @@ use std::alloc::Global;
 /// The most bytes of a line that is looked at.
 pub const LONGEST_LINE: usize = 65_536;
 
-/// What a line asks.
+/// What a line asks for. A call that is not compiled yet is no command.
 pub fn read_request(alloc: Global, line: &[u8]) -> Request
-    ensures read { IsReadAs (request_of line.now) result }
+    ensures read { IsServedAs (request_of line.now) result }
     ensures served { AsksServed result }
+{
+    serve(read_line(alloc, line))
+}
+
+// A request whose call is compiled, as it stands.
+fn serve(request: Request) -> Request
+    ensures value { result ≡ served request }
+    ensures served { AsksServed result }
+{
+    match request {
+        Request::Wanted(call) => {
+            if is_compiled(&call) {
+                return Request::Wanted(call);
+            }
+            Request::Malformed
+        }
+        request => request,
+    }
+}
+
+/// What a line asks for, whether or not its call is compiled.
+pub fn read_line(alloc: Global, line: &[u8]) -> Request
+    ensures { IsReadAs (request_of line.now) result }
 {
     if line.len() > LONGEST_LINE {
         return Request::Overlong;
@@ -28,20 +53,26 @@ pub fn read_request(alloc: Global, line: &[u8]) -> Request
     }
 }
 
-// What the words of a line ask.
+// What the words of a line ask for.
 fn read_command(alloc: Global, line: &[u8]) -> Request
     ensures { IsReadAs (command_of (words_of line.now)) result }
 {
     let Some((name, rest)) = cut_word(line) else {
         return Request::Malformed;
     };
+    let Some((path, rest)) = cut_word(rest) else {
+        return read_path_command(alloc, name, rest);
+    };
+    let Some((second, rest)) = cut_word(rest) else {
+        return read_length_command(alloc, name, path, rest);
+    };
     match cut_word(rest) {
-        None => read_path_command(alloc, name, rest),
+        None => read_offset_command(alloc, name, path, second, rest),
         Some(_) => Request::Malformed,
     }
 }
 
-// What a command of two words asks, the second of which is a path.
+// What a command of two words asks for, the second of which is a path.
 fn read_path_command(alloc: Global, name: &[u8], word: &[u8]) -> Request
     ensures { IsReadAs (path_command name.now word.now) result }
 {
@@ -50,6 +81,9 @@ fn read_path_command(alloc: Global, name: &[u8], word: &[u8]) -> Request
     }
     if name == b"create".as_slice() {
         return ask(read_path(alloc, word).map(Call::Create));
+    }
+    if name == b"unlink".as_slice() {
+        return ask(read_path(alloc, word).map(Call::Unlink));
     }
     if name == b"rmdir".as_slice() {
         return ask(read_path(alloc, word).map(Call::Rmdir));
@@ -61,6 +95,76 @@ fn read_path_command(alloc: Global, name: &[u8], word: &[u8]) -> Request
         return ask(read_path(alloc, word).map(Call::Readdir));
     }
     Request::Malformed
+}
+
+// What a command of three words asks for: to cut or lengthen a file.
+fn read_length_command(alloc: Global, name: &[u8], path: &[u8], length: &[u8]) -> Request
+    ensures { IsReadAs (length_command name.now path.now length.now) result }
+{
+    if name != b"truncate".as_slice() {
+        return Request::Malformed;
+    }
+    let Some(length) = read_number(length) else {
+        return Request::Malformed;
+    };
+    let path = match read_path(alloc, path) {
+        Ok(path) => path,
+        Err(fault) => return Request::Refused(fault),
+    };
+    Request::Wanted(Call::Truncate(path, length))
+}
+
+// What a command of four words asks for: to write bytes, or to read some.
+fn read_offset_command(
+    alloc: Global,
+    name: &[u8],
+    path: &[u8],
+    offset: &[u8],
+    what: &[u8],
+) -> Request
+    ensures { IsReadAs (offset_command name.now path.now offset.now what.now) result }
+{
+    if name == b"write".as_slice() {
+        return read_write(alloc, path, offset, what);
+    }
+    if name == b"read".as_slice() {
+        return read_read(alloc, path, offset, what);
+    }
+    Request::Malformed
+}
+
+// What the words of a `write` ask for.
+fn read_write(alloc: Global, path: &[u8], offset: &[u8], hex: &[u8]) -> Request
+    ensures { IsReadAs (write_command path.now offset.now hex.now) result }
+{
+    let Some(offset) = read_number(offset) else {
+        return Request::Malformed;
+    };
+    if !writes_bytes(hex) {
+        return Request::Malformed;
+    }
+    let path = match read_path(alloc, path) {
+        Ok(path) => path,
+        Err(fault) => return Request::Refused(fault),
+    };
+    match read_bytes(alloc, hex) {
+        Ok(bytes) => Request::Wanted(Call::Write(path, offset, bytes)),
+        Err(NoMemory) => Request::Refused(Errno::ENOMEM),
+    }
+}
+
+// What the words of a `read` ask for.
+fn read_read(alloc: Global, path: &[u8], offset: &[u8], count: &[u8]) -> Request
+    ensures { IsReadAs (read_command path.now offset.now count.now) result }
+{
+    let (Some(offset), Some(count)) = (read_number(offset), read_number(count)) else {
+        return Request::Malformed;
+    };
+    let path = match read_path(alloc, path) {
+        Ok(path) => path,
+        Err(fault) => return Request::Refused(fault),
+    };
+    Request::Wanted(Call::Read(path, offset, count))
 }
 
 // The request of a call, or of its refusal.

@@ -1,4 +1,4 @@
-//! What does the calls of a script.
+//! The file system that a script runs on.
 ghost use Rattle.std.specs.Prelude.{IsTrue};
 ghost use Rattle.call_compiler.specs.Compiled.{is_compiled};
 ghost use Rattle.reference.specs.Worlds.{World, Ask, Replied, Fits, next};

@@ -1,9 +1,8 @@
-//! Calls done on the indexes of a file system: what a script runs on until snapshots come.
+//! Calls done on the indexes of a file system, which scripts run on until there are snapshots.
 ghost use Rattle.std.specs.Prelude.{◌≡◌, IfOk, IsTrue, OnErr};
-ghost use Rattle.call_compiler.specs.Compiled.{is_compiled};
+ghost use Rattle.call_compiler.specs.Compiled.{MeanTree, is_compiled};
 ghost use Rattle.reference.specs.Calls.{does};
 ghost use Rattle.reference.specs.Tree.{Tree};
-ghost use Rattle.shell.specs.Meant.{IsTreeOf};
 
 use crate::execute::Execute;
 use call_compiler::{Indexes, compile};
@@ -11,15 +10,14 @@ use pathkey::{Errno, NoMemory};
 use reference::{Call, Reply};
 use std::alloc::Global;
 
-/// Does a call: asks the indexes what it comes to, and appends its messages. It fails only for want of memory, and
-/// then changes nothing.
+/// Does a call: compiles it, and appends its messages. It fails only for want of memory, and then changes nothing.
 fn do_call(alloc: Global, indexes: &mut Indexes, call: &Call) -> Result<Reply, NoMemory>
     requires { IsTrue (is_compiled call.now) }
-    ensures done { IfOk result (λ r. (t : Tree) → IsTreeOf indexes.old t → (r ≡ (does t call.now).1) × IsTreeOf indexes.new (does t call.now).0) }
+    ensures done { IfOk result (λ r. (t : Tree) → MeanTree indexes.old t → (r ≡ (does t call.now).1) × MeanTree indexes.new (does t call.now).0) }
     ensures err { OnErr result (indexes.new ≡ indexes.old) }
 {
     let (reply, batch) = compile(alloc, indexes, call)?;
-    indexes.meta.tree.append(alloc, batch.meta)?;
+    indexes.append(alloc, batch)?;
     Ok(reply)
 }
 

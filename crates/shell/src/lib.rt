@@ -5,7 +5,6 @@
 #![tactic(auto)]
 
 mod command;
-mod digits;
 mod execute;
 mod indexes;
 mod input;
@@ -14,6 +13,7 @@ mod output;
 mod reply;
 mod request;
 mod script;
+mod values;
 mod words;
 
 pub use command::read_request;

@@ -1,4 +1,4 @@
-//! Writes bytes, and knows what was written where a write fails.
+//! Writes bytes; where a write fails it is known what was written.
 ghost use Rattle.std.specs.Prelude.{◌≡◌, ℕ, take, length, ◌≤◌, OnOk, OnErr, IfOk};
 ghost use Rattle.std.specs.Io.KnownBytes.{Appends, Keeps};
 ghost use Rattle.shell.specs.Parts.{AppendsPart};
@@ -9,7 +9,7 @@ use std::io::{ErrorKind, Write};
 #[derive(Debug, Drop)]
 pub struct WriteFailed;
 
-// One write, again where a signal came between.
+// Writes once, and again where a signal interrupted the write.
 fn write_some<W: Write>(writer: &mut W, bytes: &[u8]) -> Result<usize, WriteFailed>
     ensures bound { IfOk result (λ n. n ≤ length bytes.now) }
     ensures ok { IfOk result (λ n. Appends (W.contents writer.old) (W.contents writer.new) (take n bytes.now)) }
@@ -47,7 +47,7 @@ pub fn put<W: Write>(writer: &mut W, bytes: &[u8]) -> Result<(), WriteFailed>
     Err(WriteFailed)
 }
 
-/// Sends on what the writer holds back.
+/// Flushes the writer.
 pub fn flush<W: Write>(writer: &mut W) -> Result<(), WriteFailed>
     ensures { Keeps (W.contents writer.old) (W.contents writer.new) }
 {

@@ -8,10 +8,10 @@ ghost use Rattle.shell.specs.Parts.{AppendsPart};
 ghost use Rattle.reference.specs.declared.reply.Reply.TheVariants.{Names};
 ghost use Rattle.shell.specs.Replies.{entry_line, hex_text, number_line, reply_text, name_word};
 
-use crate::digits::{escape, lower_digits};
 use crate::output::{WriteFailed, put};
 use itoa::Buffer;
 use pathkey::Errno;
+use reference::digits::{escape, lower_digits};
 use reference::{Kind, Reply};
 use std::io::Write;
 
@@ -137,8 +137,8 @@ fn put_percent_byte<W: Write>(writer: &mut W, byte: u8) -> Result<(), WriteFaile
     ensures ok { OnOk result (Appends (W.contents writer.old) (W.contents writer.new) (percent byte)) }
     ensures err { OnErr result (AppendsPart (W.contents writer.old) (W.contents writer.new) (percent byte)) }
 {
-    if byte < 33 || byte == b'%' || byte > 126 {
-        return put(writer, &escape(byte));
+    match escape(byte) {
+        Some(form) => put(writer, &form),
+        None => put(writer, &[byte]),
     }
-    put(writer, &[byte])
 }

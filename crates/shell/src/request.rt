@@ -1,9 +1,9 @@
-//! What a line of a script asks.
+//! What a line of a script asks for.
 
 use pathkey::Errno;
 use reference::Call;
 
-/// What a line asks.
+/// What a line asks for.
 #[derive(Drop)]
 pub enum Request {
     /// Nothing: an empty line or a note.

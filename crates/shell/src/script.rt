@@ -1,4 +1,4 @@
-//! The loop over the lines.
+//! Runs a script: reads it piece by piece, does each line, and writes its reply.
 ghost use Rattle.std.specs.Prelude.{◌≡◌, ◌≢◌, ◌≤◌, ◌<◌, ◌++◌, ℕ, List, [], ◌∷◌, take, length, vec_capacity, vec_len, OnOk, OnErr};
 ghost use Rattle.std.specs.Io.KnownBytes.{Appends};
 ghost use Rattle.shell.specs.Parts.{AppendsPart};
@@ -31,16 +31,16 @@ pub enum ScriptFault {
     Write,
 }
 
-/// What is read at once.
+/// How many bytes are read at a time.
 const PIECE: usize = 65_536;
 
-/// What ends a line.
+/// The byte that ends a line.
 const LINE_FEED: u8 = b'\n';
 
 /// Runs all the lines of the reader, and writes a reply to each as it is done.
 ///
-/// At most one line is held, and of a line that is too long no more than shows it. The writer is flushed
-/// before each read.
+/// At most one line is held, and of a line that is too long no more than shows that it is. The writer is flushed before each
+/// read and at the end.
 pub fn run_script<S: Execute, R: Read, W: Write>(
     alloc: Global,
     state: &mut S,
@@ -49,7 +49,7 @@ pub fn run_script<S: Execute, R: Read, W: Write>(
 ) -> Result<(), ScriptFault>
     ensures memory { result ≡ Err ScriptFault.Memory → (state.new ≡ state.old) × (reader.new ≡ reader.old)
         × (writer.new ≡ writer.old) }
-    ensures done { OnOk result (Leads (S.means state.old) (S.means state.new) (DoesAll (R.remaining reader.old))
+    ensures done { OnOk result (Leads (S.means state.old) (S.means state.new) (DoesAll (R.remaining reader.old) (R.remaining reader.new))
         (Appends (W.contents writer.old) (W.contents writer.new))) }
     ensures read { result ≡ Err ScriptFault.Read → Leads (S.means state.old) (S.means state.new)
         (DoesGiven (R.remaining reader.old) (R.remaining reader.new)) (Appends (W.contents writer.old) (W.contents writer.new)) }
@@ -72,7 +72,7 @@ pub fn run_script<S: Execute, R: Read, W: Write>(
     )
 }
 
-// The loop over the pieces, in buffers that are there.
+// Reads and does piece after piece, in the given buffers.
 fn run_over<S: Execute, R: Read, W: Write>(
     alloc: Global,
     state: &mut S,
@@ -85,7 +85,7 @@ fn run_over<S: Execute, R: Read, W: Write>(
     requires room { 65536 < vec_capacity line.old }
     requires empty { line.old.items ≡ [] }
     ensures kinds { result ≢ Err ScriptFault.Memory }
-    ensures done { OnOk result (Leads (S.means state.old) (S.means state.new) (DoesAll (R.remaining reader.old))
+    ensures done { OnOk result (Leads (S.means state.old) (S.means state.new) (DoesAll (R.remaining reader.old) (R.remaining reader.new))
         (Appends (W.contents writer.old) (W.contents writer.new))) }
     ensures read { result ≡ Err ScriptFault.Read → Leads (S.means state.old) (S.means state.new)
         (DoesGiven (R.remaining reader.old) (R.remaining reader.new)) (Appends (W.contents writer.old) (W.contents writer.new)) }
@@ -112,7 +112,7 @@ fn run_over<S: Execute, R: Read, W: Write>(
     Err(ScriptFault::Read)
 }
 
-// Goes on with a piece of the text: does each line that ends in it.
+// Does each line that ends in a piece of the text, and holds what follows the last of them.
 fn take_piece<S: Execute, W: Write>(
     alloc: Global,
     state: &mut S,
@@ -151,7 +151,7 @@ fn hold(line: &mut Vec<u8>, byte: u8)
     }
 }
 
-// Does what stands after the last line feed, if anything does.
+// Does the last line, where the text does not end with a line feed.
 fn finish<S: Execute, W: Write>(
     alloc: Global,
     state: &mut S,
@@ -186,7 +186,7 @@ fn answer_line<S: Execute, W: Write>(
     answer(alloc, state, request, writer)
 }
 
-// Does what is asked, and writes its reply.
+// Does what is asked for, and writes the reply.
 fn answer<S: Execute, W: Write>(
     alloc: Global,
     state: &mut S,

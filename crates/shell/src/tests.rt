@@ -1,6 +1,7 @@
 //! Scripts over readers and writers in memory, some of which fail, and the texts of replies.
 ghost use Rattle.std.specs.Prelude.{Some};
 
+use crate::values::{read_bytes, read_number, writes_bytes};
 use crate::{ScriptFault, run_script, write_reply};
 use call_compiler::Indexes;
 use node::Shape;
@@ -74,6 +75,55 @@ impl Write for Small {
     }
 }
 
+/// Gives a text after one read that a signal came between.
+#[derive(Drop)]
+struct Interrupted<'a> {
+    text: &'a [u8],
+    met: bool,
+}
+
+impl<'a> Read for Interrupted<'a> {
+    ghost remaining = { λ r. Some r.text.now };
+
+    fn read(&mut self, buf: &mut [u8]) -> io::Result<usize> {
+        if !self.met {
+            self.met = true;
+            return Err(io::Error::from(io::ErrorKind::Interrupted));
+        }
+        self.text.read(buf)
+    }
+}
+
+/// Counts its flushes, of which the one with the number `fails` fails; and its first write, where `met` is false, is one that a
+/// signal came between.
+#[derive(Drop)]
+struct Flushed {
+    got: Vec<u8>,
+    flushes: u32,
+    fails: u32,
+    met: bool,
+}
+
+impl Write for Flushed {
+    ghost contents = { λ w. Some w.got.items };
+
+    fn write(&mut self, buf: &[u8]) -> io::Result<usize> {
+        if !self.met {
+            self.met = true;
+            return Err(io::Error::from(io::ErrorKind::Interrupted));
+        }
+        self.got.write(buf)
+    }
+
+    fn flush(&mut self) -> io::Result<()> {
+        self.flushes = self.flushes.saturating_add(1);
+        if self.flushes == self.fails {
+            return Err(io::Error::from(io::ErrorKind::BrokenPipe));
+        }
+        Ok(())
+    }
+}
+
 /// How many messages wait in the index, the root directory's own among them.
 fn waiting(indexes: &Indexes) -> u128 {
     indexes.meta.tree.shape_report().pending
@@ -142,6 +192,111 @@ fn answers_each_line(rt: HostRuntime) -> Result<(), Fail> {
     for (script, want) in table {
         let got = answers(rt.alloc(), script.as_bytes())?;
         assert_eq!(rt; got.as_slice(), want.as_bytes(), "{script:?}");
+    }
+    Ok(())
+}
+
+#[test]
+fn answers_lines_of_bytes(rt: HostRuntime) -> Result<(), Fail> {
+    let table = [
+        (
+            "create /f\nwrite /f 4095 aabb\nread /f 4094 4\nstat /f\n",
+            "ok\ncount 2\nbytes 00aabb\nfile 4097\n",
+        ),
+        (
+            "create /f\nwrite /f 0 ffffffffffffffffffff\ntruncate /f 5\ntruncate /f 9000\nread /f 0 8\n",
+            "ok\ncount 10\nok\nok\nbytes ffffffffff000000\n",
+        ),
+        (
+            "create /f\nwrite /f 1099511627775 01\nwrite /f 1099511627776 01\nwrite /f 1099511627776 -\nstat /f\nread /f 1099511627775 2\n",
+            "ok\ncount 1\nfault EFBIG\ncount 0\nfile 1099511627776\nbytes 01\n",
+        ),
+        (
+            "mkdir /a\nunlink /a\nunlink /\nrmdir /\ncreate /f\nrmdir /f\nunlink /f/x\nread /a 0 1\nread /f 0 1048577\nread /f 9 1\n",
+            "ok\nfault EPERM\nfault EPERM\nfault EBUSY\nok\nfault ENOTDIR\nfault ENOTDIR\nfault EISDIR\nfault EINVAL\nbytes -\n",
+        ),
+        (
+            "create /f\nwrite /f 0 aa\ntruncate /f 0\nstat /f\nunlink /f\ncreate /f\nwrite /f 1 bb\nread /f 0 9\n",
+            "ok\ncount 1\nok\nfile 0\nok\nok\ncount 1\nbytes 00bb\n",
+        ),
+        (
+            "stat\nstat /a /b\nread /a 00 1\nwrite /a 0 abc\n",
+            "error syntax\nerror syntax\nerror syntax\nerror syntax\n",
+        ),
+        (
+            "unlink f\nwrite f 0 aa\nread  0 1\ntruncate /f/ 7\n",
+            "fault EINVAL\nfault EINVAL\nfault ENOENT\nfault EINVAL\n",
+        ),
+        // what is wrong with the words comes before what is wrong with the path
+        (
+            "read a 00 1\nwrite a 0 abc\ntruncate a +1\n",
+            "error syntax\nerror syntax\nerror syntax\n",
+        ),
+        (
+            "read /a 0\nread /a 0 1 2\nread /a 0 1 \n",
+            "error syntax\nerror syntax\nerror syntax\n",
+        ),
+        (
+            "write /a 0\nwrite /a 0 \nwrite /a aa 0\nwrite /a 0 aa bb\n",
+            "error syntax\nerror syntax\nerror syntax\nerror syntax\n",
+        ),
+        (
+            "truncate /a\ntruncate /a 1 2\ntruncate /a -\nunlink\nunlink /a /b\n",
+            "error syntax\nerror syntax\nerror syntax\nerror syntax\nerror syntax\n",
+        ),
+        (
+            "create /f\nread /f 0 18446744073709551615\nwrite /f 18446744073709551615 aa\ntruncate /f 1099511627777\ntruncate /f 1099511627776\nstat /f\n",
+            "ok\nfault EINVAL\nfault EFBIG\nfault EFBIG\nok\nfile 1099511627776\n",
+        ),
+    ];
+    for (script, want) in table {
+        let got = answers(rt.alloc(), script.as_bytes())?;
+        assert_eq!(rt; got.as_slice(), want.as_bytes(), "{script:?}");
+    }
+    Ok(())
+}
+
+#[test]
+fn reads_numbers(rt: HostRuntime) -> Result<(), Fail> {
+    let table = [
+        ("0", Some(0)),
+        ("7", Some(7)),
+        ("4096", Some(4_096)),
+        ("18446744073709551615", Some(u64::MAX)),
+        ("18446744073709551616", None),
+        ("28446744073709551615", None),
+        ("100000000000000000000000000", None),
+        ("", None),
+        ("00", None),
+        ("01", None),
+        ("+1", None),
+        ("-1", None),
+        ("-0", None),
+        ("1a", None),
+        ("a", None),
+        ("\u{661}", None),
+    ];
+    for (word, want) in table {
+        assert_eq!(rt; read_number(word.as_bytes()), want, "{word:?}");
+    }
+    Ok(())
+}
+
+#[test]
+fn reads_bytes(rt: HostRuntime) -> Result<(), Fail> {
+    let table = [
+        ("-", b"".as_slice()),
+        ("00", b"\x00"),
+        ("aB", b"\xab"),
+        ("09fFA0", b"\x09\xff\xa0"),
+    ];
+    for (word, want) in table {
+        assert!(rt; writes_bytes(word.as_bytes()), "{word:?}");
+        let bytes = read_bytes(rt.alloc(), word.as_bytes())?;
+        assert_eq!(rt; bytes.as_slice(), want, "{word:?}");
+    }
+    for word in ["", "a", "abc", "0g", "0x", "--", "-0", "g0", " 0", "+1"] {
+        assert!(rt; !writes_bytes(word.as_bytes()), "{word:?}");
     }
     Ok(())
 }
@@ -237,6 +392,78 @@ fn stops_at_a_failing_write(rt: HostRuntime) -> Result<(), Fail> {
         assert_eq!(rt; writer.got.as_slice(), &want[..most], "{most}");
         let made = if most < 22 { 2 } else { 3 };
         assert_eq!(rt; waiting(&state), made, "{most}");
+    }
+    Ok(())
+}
+
+#[test]
+fn flushes_before_each_read(rt: HostRuntime) -> Result<(), Fail> {
+    // a piece of 65,536 bytes is read at once, and a last read gives none: so many pieces, and so many flushes
+    let table = [(0, 2), (1, 3), (65_536, 3), (65_537, 4), (131_073, 5)];
+    for (length, want) in table {
+        let mut text = Vec::new(rt.alloc());
+        text.resize(length, b'\n')?;
+        let mut state = Indexes::new(rt.alloc(), SHAPE)?;
+        let mut writer = Flushed {
+            got: Vec::new(rt.alloc()),
+            flushes: 0,
+            fails: 0,
+            met: true,
+        };
+        run_script(rt.alloc(), &mut state, &mut text.as_slice(), &mut writer)?;
+        assert_eq!(rt; writer.flushes, want, "{length}");
+    }
+    Ok(())
+}
+
+#[test]
+fn stops_at_a_failing_flush(rt: HostRuntime) -> Result<(), Fail> {
+    for (fails, want, made) in [(1, "", 1), (2, "ok\n", 2), (3, "ok\nok\n", 3)] {
+        let mut state = Indexes::new(rt.alloc(), SHAPE)?;
+        let mut writer = Flushed {
+            got: Vec::new(rt.alloc()),
+            flushes: 0,
+            fails,
+            met: true,
+        };
+        let mut reader = b"mkdir /a\nmkdir /b".as_slice();
+        let ended = run_script(rt.alloc(), &mut state, &mut reader, &mut writer);
+        assert!(rt; ended == Err(ScriptFault::Write), "{fails}");
+        assert_eq!(rt; writer.got.as_slice(), want.as_bytes(), "{fails}");
+        assert_eq!(rt; waiting(&state), made, "{fails}");
+    }
+    Ok(())
+}
+
+#[test]
+fn goes_on_after_a_signal(rt: HostRuntime) -> Result<(), Fail> {
+    let mut state = Indexes::new(rt.alloc(), SHAPE)?;
+    let mut reader = Interrupted {
+        text: b"mkdir /a\nstat /a\n",
+        met: false,
+    };
+    let mut writer = Flushed {
+        got: Vec::new(rt.alloc()),
+        flushes: 0,
+        fails: 0,
+        met: false,
+    };
+    run_script(rt.alloc(), &mut state, &mut reader, &mut writer)?;
+    assert!(rt; reader.met);
+    assert!(rt; writer.met);
+    assert_eq!(rt; writer.got.as_slice(), b"ok\ndir 0\n".as_slice());
+    Ok(())
+}
+
+#[test]
+fn tells_each_fault(rt: HostRuntime) -> Result<(), Fail> {
+    for (fault, want) in [
+        (ScriptFault::Memory, "betr: no memory"),
+        (ScriptFault::Read, "betr: read failed"),
+        (ScriptFault::Write, "betr: write failed"),
+    ] {
+        let told = format!(in rt.alloc(); "{fault}")?;
+        assert_eq!(rt; told.as_str(), want);
     }
     Ok(())
 }

@@ -1,4 +1,4 @@
-//! The words of a line, which lie in it and take no memory.
+//! The words of a line, as slices of it.
 ghost use Rattle.std.specs.Prelude.{◌≡◌, ◌≢◌, ◌<◌, [], ◌∷◌, All, MatchOption, length, take, slice_index};
 ghost use Rattle.shell.specs.Lines.{words_of};
 

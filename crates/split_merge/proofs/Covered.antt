@@ -1,5 +1,5 @@
 -- A slot's subtree that goes at once, in the words of its row.
-use Rattle.std.proofs.Common.{◌≡◌, ℕ, zero, suc, ◌-◌, ◌<◌, Bool, true, List, [], ◌∷◌, length, get_or, take, drop, map, refl, ap, sym, ◌∙◌, subst, arith, cond, Option, Some, None, pred, length-drop}
+use Rattle.std.proofs.Common.{◌≡◌, ℕ, zero, suc, ◌-◌, ◌<◌, Bool, true, List, [], ◌∷◌, length, get_or, take, drop, refl, ap, sym, ◌∙◌, subst, arith, cond, Option, Some, None, pred, length-drop}
 use Rattle.std.proofs.Math.ListN.{set}
 use Rattle.std.proofs.lemmas.List.{take_all}
 use Rattle.std.specs.Prelude.{◌&&◌}
@@ -14,15 +14,15 @@ use Rattle.node.specs.declared.shape.Shape.{Shape}
 use Rattle.node.specs.declared.step.StepReply.{StepReply}
 use Rattle.node.specs.declared.step.StepReply.TheVariants.{Did, NotThere, NoRoom, NoMemory}
 use Rattle.node.specs.declared.step.StepKind.TheVariants.{DropCovered}
-use Rattle.node.specs.See.{see_slot}
-use Rattle.node.specs.Pure.{PNode, leaf, inner, PSlots, none, more, slots}
+use Rattle.node.specs.See.{seen_slots}
+use Rattle.node.specs.Pure.{PNode, leaf, inner, PSlots, none, more}
 use Rattle.node.specs.Meaning.{value}
 use Rattle.node.specs.Lawful.{IsLawfulNode, AreLawfulSlots, slot_count, next_lo}
 use Rattle.node.specs.Site.{joined, slots_from}
 use Rattle.node.specs.Sinks.{Sinks}
-use Rattle.node.specs.Rows.{can_drop_covered, ends_within, IsBare}
+use Rattle.node.specs.StepRows.{can_drop_covered, ends_within, IsBare}
 use Rattle.node.specs.Steps.{Formed, Replies}
-use Rattle.node.proofs.Doing.{replies_did}
+use Rattle.node.proofs.StepDone.{replies_did}
 use Rattle.node.proofs.Outcome.{clash}
 use Rattle.node.proofs.Sinking.{touch_only-drop}
 use Rattle.node.proofs.Sizes.{lawful_depth}
@@ -98,13 +98,13 @@ module _ {U V : Type 0} where
           lawful_swept shape h lo e (DelRange r) ms c l,
         )
 
-    -- the same of each oldest message: one that covers the slot is a range-delete
+    -- likewise for each oldest message: one that covers the slot is a range-delete
     did : (ms : List (Msg U V)) (c : PNode U V) → Replies means DropCovered shape root i (Did 1) (from ms c) (from (drop 1 ms) (bare lo c))
-    did [] c h lp hi l able = absurd (clash _ able (able_there hi [] c))
-    did (Put q v ∷ ms) c h lp hi l able = absurd (clash _ able (able_there hi (Put q v ∷ ms) c))
-    did (Del q ∷ ms) c h lp hi l able = absurd (clash _ able (able_there hi (Del q ∷ ms) c))
-    did (Edit q u ∷ ms) c h lp hi l able = absurd (clash _ able (able_there hi (Edit q u ∷ ms) c))
-    did (DelRange r ∷ ms) c h lp hi l able = replies_did means DropCovered shape root i 1 b (more lo (DelRange r ∷ ms) c none) (more lo ms (bare lo c) none) a at_i refl tt tt refl (λ z. z) (λ q z. omega (arith, z)) (λ g e w able. swept r ms c g (next_lo e a) w (sym (able_there e (DelRange r ∷ ms) c) ∙ able)) h lp hi l able
+    did [] c h lp hi l able may = absurd (clash _ able (able_there hi [] c))
+    did (Put q v ∷ ms) c h lp hi l able may = absurd (clash _ able (able_there hi (Put q v ∷ ms) c))
+    did (Del q ∷ ms) c h lp hi l able may = absurd (clash _ able (able_there hi (Del q ∷ ms) c))
+    did (Edit q u ∷ ms) c h lp hi l able may = absurd (clash _ able (able_there hi (Edit q u ∷ ms) c))
+    did (DelRange r ∷ ms) c h lp hi l able may = replies_did means DropCovered shape root i 1 b (more lo (DelRange r ∷ ms) c none) (more lo ms (bare lo c) none) a at_i refl tt tt refl (λ z. z) (λ q z. omega (arith, z)) (λ g e w able. swept r ms c g (next_lo e a) w (sym (able_there e (DelRange r ∷ ms) c) ∙ able)) (λ z. z) h lp hi l able may
 
     -- what each reply says of the node
     pub replies : (r : StepReply) (ms ns : List (Msg U V)) (c d : PNode U V) → Swept r lo ms ns c d → Replies means DropCovered shape root i r (from ms c) (from ns d)
@@ -115,22 +115,22 @@ module _ {U V : Type 0} where
     replies NoRoom ms ns c d q = absurd q
     replies NoMemory ms ns c d q = λ j. from (q.0 j) (q.1 j)
 
-  -- the same of the slots as the code writes them
-  pub dropped : (means : U → Option V → Option V) (shape : Shape) (root : Bool) (i : ℕ) (xs : List (Slot U V)) (s t : Slot U V) (r : StepReply) → i < length xs → s ≡ get_or xs i s → t.lo ≡ s.lo → Swept r s.lo s.pending.0 t.pending.0 s.child.value t.child.value → Replies means DropCovered shape root i r (slots (map see_slot xs)) (slots (map see_slot (set xs i t)))
+  -- likewise for the slots as the code writes them
+  pub dropped : (means : U → Option V → Option V) (shape : Shape) (root : Bool) (i : ℕ) (xs : List (Slot U V)) (s t : Slot U V) (r : StepReply) → i < length xs → s ≡ get_or xs i s → t.lo ≡ s.lo → Swept r s.lo s.pending.0 t.pending.0 s.child.value t.child.value → Replies means DropCovered shape root i r (seen_slots xs) (seen_slots (set xs i t))
   dropped means shape root i xs s t r h e el q =
-      let b = slots (map see_slot (take i xs)) in
-      let a = slots (map see_slot (drop (suc i) xs)) in
-      let was : slots (map see_slot xs) ≡ joined b (more s.lo s.pending.0 s.child.value a) = slots-split xs i s h ∙ ap (λ (x : Slot U V). joined b (more x.lo x.pending.0 x.child.value a)) (sym e) in
-      let is : slots (map see_slot (set xs i t)) ≡ joined b (more s.lo t.pending.0 t.child.value a) = slots-set_split xs i t h ∙ ap (λ z. joined b (more z t.pending.0 t.child.value a)) el in
+      let b = seen_slots (take i xs) in
+      let a = seen_slots (drop (suc i) xs) in
+      let was : seen_slots xs ≡ joined b (more s.lo s.pending.0 s.child.value a) = slots-split xs i s h ∙ ap (λ (x : Slot U V). joined b (more x.lo x.pending.0 x.child.value a)) (sym e) in
+      let is : seen_slots (set xs i t) ≡ joined b (more s.lo t.pending.0 t.child.value a) = slots-set_split xs i t h ∙ ap (λ z. joined b (more z t.pending.0 t.child.value a)) el in
       let core = replies means shape root i b a s.lo (slot_count-take xs i (omega arith)) r s.pending.0 t.pending.0 s.child.value t.child.value q in
-      subst (λ z. Replies means DropCovered shape root i r z (slots (map see_slot (set xs i t)))) (sym was) (subst (λ z. Replies means DropCovered shape root i r (joined b (more s.lo s.pending.0 s.child.value a)) z) (sym is) core)
+      subst (λ z. Replies means DropCovered shape root i r z (seen_slots (set xs i t))) (sym was) (subst (λ z. Replies means DropCovered shape root i r (joined b (more s.lo s.pending.0 s.child.value a)) z) (sym is) core)
 
   -- the slots from a number on, as the code cuts them
-  pub slots_from-cut : (xs : List (Slot U V)) (i : ℕ) → i < length xs → slots_from i (slots (map see_slot xs)) ≡ slots (map see_slot (take (length xs - i) (drop i xs)))
-  slots_from-cut xs i h = from_drop xs i h ∙ ap (λ z. slots (map see_slot z)) (sym (take_all (length xs - i) (drop i xs) (omega (arith, length-drop i xs))))
+  pub slots_from-cut : (xs : List (Slot U V)) (i : ℕ) → i < length xs → slots_from i (seen_slots xs) ≡ seen_slots (take (length xs - i) (drop i xs))
+  slots_from-cut xs i h = from_drop xs i h ∙ ap (λ z. seen_slots z) (sym (take_all (length xs - i) (drop i xs) (omega (arith, length-drop i xs))))
     where
       -- the same before the cut
-      from_drop : (xs : List (Slot U V)) (i : ℕ) → i < length xs → slots_from i (slots (map see_slot xs)) ≡ slots (map see_slot (drop i xs))
+      from_drop : (xs : List (Slot U V)) (i : ℕ) → i < length xs → slots_from i (seen_slots xs) ≡ seen_slots (drop i xs)
       from_drop [] i h = absurd (omega arith)
       from_drop (x ∷ xs) zero h = refl
       from_drop (x ∷ xs) (suc i) h = from_drop xs i (omega arith)

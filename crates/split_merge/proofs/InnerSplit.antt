@@ -1,5 +1,5 @@
 -- A slot over an inner node cut in two, in the words of its row.
-use Rattle.std.proofs.Common.{◌≡◌, ℕ, suc, ◌+◌, ◌<◌, ◌≤◌, Bool, true, List, [], ◌∷◌, ◌++◌, length, get_or, take, drop, map, refl, ap, sym, ◌∙◌, subst, arith, cond, Option, Some, None, pred}
+use Rattle.std.proofs.Common.{◌≡◌, ℕ, suc, ◌+◌, ◌<◌, ◌≤◌, Bool, true, List, [], ◌∷◌, ◌++◌, length, get_or, take, drop, refl, ap, sym, ◌∙◌, subst, arith, cond, Option, Some, None, pred}
 use Rattle.std.proofs.Math.ListN.{set}
 use Rattle.std.specs.List.{insert}
 use Rattle.pathkey.specs.Keys.{is_below}
@@ -12,18 +12,19 @@ use Rattle.node.specs.declared.node.Slot.{Slot}
 use Rattle.node.specs.declared.shape.Shape.{Shape}
 use Rattle.node.specs.declared.step.StepReply.TheVariants.{Did}
 use Rattle.node.specs.declared.step.StepKind.TheVariants.{SplitInner}
-use Rattle.node.specs.See.{see_slot}
-use Rattle.node.specs.Pure.{PNode, inner, PSlots, none, more, slots}
+use Rattle.node.specs.See.{seen_slots}
+use Rattle.node.specs.Pure.{PNode, inner, PSlots, none, more}
 use Rattle.node.specs.Meaning.{slots_value, begins_by}
 use Rattle.node.specs.Lawful.{IsLawfulNode, AreLawfulSlots, slot_count, starts_at, next_lo}
-use Rattle.node.specs.Rows.{range_count, CanPart}
-use Rattle.node.specs.Site.{joined}
+use Rattle.node.specs.StepRows.{range_count, ranges_first, CanPart, CannotPart}
+use Rattle.node.specs.Site.{joined, slots_from}
 use Rattle.node.specs.Sinks.{first_lo, Sinks}
 use Rattle.node.specs.Steps.{Formed, Replies}
-use Rattle.node.proofs.Doing.{replies_did, slots-insert}
+use Rattle.node.proofs.StepDone.{replies_did, slots-insert}
 use Rattle.node.proofs.Parting.{Parted, pieces-apart, parted_pieces, parted_lawful, parted_sinks}
-use Rattle.node.proofs.Splice.{IsMore, slots-split, slot_count-take, slot_count-joined, pending-joined, lawful-split, slots_value-joined, counted-more}
+use Rattle.node.proofs.Splice.{IsMore, slots-split, slot_count-take, slots_from-joined, slot_count-joined, pending-joined, lawful-split, slots_value-joined, counted-more}
 use Rattle.split_merge.specs.Halves.{IsHalved}
+use Rattle.split_merge.proofs.Splittable.{can_part}
 
 module _ {U V : Type 0} where
   module _ (S : Shape) (h : ℕ) where
@@ -108,29 +109,32 @@ module _ {U V : Type 0} where
         )
 
     -- what a split that is done has done to the node
-    did : (root : Bool) (i : ℕ) (b a : PSlots U V) → slot_count b ≡ i → 1 ≤ slot_count x → 1 ≤ slot_count y → CanPart shape root (joined b (joined old a)) 0 (range_count ms) → Replies means SplitInner shape root i (Did 0) (joined b (joined old a)) (joined b (joined new a))
-    did root i b a at_i cx cy room =
+    did : (root : Bool) (i : ℕ) (b a : PSlots U V) → slot_count b ≡ i → 1 ≤ slot_count x → 1 ≤ slot_count y → Replies means SplitInner shape root i (Did 0) (joined b (joined old a)) (joined b (joined new a))
+    did root i b a at_i cx cy h lp hi l able may =
+        let all = joined b (joined old a) in
+        let ranges : ranges_first (slots_from i all) ≡ range_count ms = ap ranges_first (slots_from-joined i b (joined old a) at_i) in
+        let room : CanPart shape root all 0 (range_count ms) = can_part shape root all (range_count ms) (λ z. may (subst (CannotPart shape root all 0) (sym ranges) z)) in
         let n = slot_count-joined b (joined old a) in
         let w = pending-joined b (joined old a) in
         let grow : length lm + length rm ≤ length ms + range_count ms = omega (arith, pieces-apart lo pivot ms, tl.bound, tr.bound) in
-        replies_did means SplitInner shape root i 0 b old new a at_i refl tt tt refl (λ z. omega (arith, room.0, n)) (λ r z. let y = room.1 r in omega (arith, y, w, grow)) (λ h hi l able. was_split cx cy h (next_lo hi a) l)
+        replies_did means SplitInner shape root i 0 b old new a at_i refl tt tt refl (λ z. omega (arith, room.0, n)) (λ r z. let y = room.1 r in omega (arith, y, w, grow)) (λ h hi l able. was_split cx cy h (next_lo hi a) l) (λ z. z) h lp hi l able may
 
   -- slots end to end
-  pub slots-append : (xs ys : List (Slot U V)) → slots (map see_slot (xs ++ ys)) ≡ joined (slots (map see_slot xs)) (slots (map see_slot ys))
+  pub slots-append : (xs ys : List (Slot U V)) → seen_slots (xs ++ ys) ≡ joined (seen_slots xs) (seen_slots ys)
   slots-append [] ys = refl
   slots-append (x ∷ xs) ys = ap (more x.lo x.pending.0 x.child.value) (slots-append xs ys)
 
   -- where the first begins, as the code reads it
-  pub first_lo-get : (xs : List (Slot U V)) (d : Slot U V) → 0 < length xs → (get_or xs 0 d).lo ≡ first_lo (slots (map see_slot xs))
+  pub first_lo-get : (xs : List (Slot U V)) (d : Slot U V) → 0 < length xs → (get_or xs 0 d).lo ≡ first_lo (seen_slots xs)
   first_lo-get [] d h = absurd (omega arith)
   first_lo-get (x ∷ xs) d h = refl
 
-  -- the same of the slots as the code writes them
-  pub halved : (means : U → Option V → Option V) (shape : Shape) (root : Bool) (i : ℕ) (xs : List (Slot U V)) (s l r : Slot U V) → i < length xs → s ≡ get_or xs i s → IsHalved means s l r → CanPart shape root (slots (map see_slot xs)) 0 (range_count s.pending.0) → Replies means SplitInner shape root i (Did 0) (slots (map see_slot xs)) (slots (map see_slot (set (insert xs (suc i) r) i l)))
-  halved means shape root i xs s l r h e p room =
-      let b = slots (map see_slot (take i xs)) in
-      let a = slots (map see_slot (drop (suc i) xs)) in
-      let was : slots (map see_slot xs) ≡ joined b (more s.lo s.pending.0 (inner (joined p.left p.right)) a) = slots-split xs i s h ∙ ap (λ (x : Slot U V). joined b (more x.lo x.pending.0 x.child.value a)) (sym e) ∙ ap (λ z. joined b (more s.lo s.pending.0 z a)) p.was in
-      let is : slots (map see_slot (set (insert xs (suc i) r) i l)) ≡ joined b (more s.lo l.pending.0 (inner p.left) (more (first_lo p.right) r.pending.0 (inner p.right) a)) = slots-insert xs i l r h ∙ (λ j. joined b (more (p.left_lo j) l.pending.0 (p.left_is j) (more (p.right_lo j) r.pending.0 (p.right_is j) a))) in
-      let core = did means shape s.lo s.pending.0 l.pending.0 r.pending.0 p.left p.right (counted-more p.left p.some_left) (counted-more p.right p.some_right) p.left_msgs p.right_msgs root i b a (slot_count-take xs i (omega arith)) p.some_left p.some_right (subst (λ z. CanPart shape root z 0 (range_count s.pending.0)) was room) in
-      subst (λ z. Replies means SplitInner shape root i (Did 0) z (slots (map see_slot (set (insert xs (suc i) r) i l)))) (sym was) (subst (λ z. Replies means SplitInner shape root i (Did 0) (joined b (more s.lo s.pending.0 (inner (joined p.left p.right)) a)) z) (sym is) core)
+  -- likewise for the slots as the code writes them
+  pub halved : (means : U → Option V → Option V) (shape : Shape) (root : Bool) (i : ℕ) (xs : List (Slot U V)) (s l r : Slot U V) → i < length xs → s ≡ get_or xs i s → IsHalved means s l r → Replies means SplitInner shape root i (Did 0) (seen_slots xs) (seen_slots (set (insert xs (suc i) r) i l))
+  halved means shape root i xs s l r h e p =
+      let b = seen_slots (take i xs) in
+      let a = seen_slots (drop (suc i) xs) in
+      let was : seen_slots xs ≡ joined b (more s.lo s.pending.0 (inner (joined p.left p.right)) a) = slots-split xs i s h ∙ ap (λ (x : Slot U V). joined b (more x.lo x.pending.0 x.child.value a)) (sym e) ∙ ap (λ z. joined b (more s.lo s.pending.0 z a)) p.was in
+      let is : seen_slots (set (insert xs (suc i) r) i l) ≡ joined b (more s.lo l.pending.0 (inner p.left) (more (first_lo p.right) r.pending.0 (inner p.right) a)) = slots-insert xs i l r h ∙ (λ j. joined b (more (p.left_lo j) l.pending.0 (p.left_is j) (more (p.right_lo j) r.pending.0 (p.right_is j) a))) in
+      let core = did means shape s.lo s.pending.0 l.pending.0 r.pending.0 p.left p.right (counted-more p.left p.some_left) (counted-more p.right p.some_right) p.left_msgs p.right_msgs root i b a (slot_count-take xs i (omega arith)) p.some_left p.some_right in
+      subst (λ z. Replies means SplitInner shape root i (Did 0) z (seen_slots (set (insert xs (suc i) r) i l))) (sym was) (subst (λ z. Replies means SplitInner shape root i (Did 0) (joined b (more s.lo s.pending.0 (inner (joined p.left p.right)) a)) z) (sym is) core)

@@ -1,5 +1,5 @@
 -- Two slots made one, in the words of their rows.
-use Rattle.std.proofs.Common.{◌≡◌, ℕ, zero, suc, ◌+◌, ◌<◌, ◌≤◌, Bool, true, false, List, [], ◌∷◌, ◌++◌, length, get_or, take, drop, map, refl, ap, sym, ◌∙◌, subst, arith, cond, Option, Some, pred, length-append}
+use Rattle.std.proofs.Common.{◌≡◌, ℕ, zero, suc, ◌+◌, ◌<◌, ◌≤◌, Bool, true, false, List, [], ◌∷◌, ◌++◌, length, get_or, take, drop, refl, ap, sym, ◌∙◌, subst, arith, cond, Option, Some, pred, length-append, inl, inr}
 use Rattle.std.proofs.Math.ListN.{set}
 use Rattle.std.proofs.lemmas.List.{get_or_default}
 use Rattle.std.proofs.lemmas.List.Edits.{get_or-remove_below}
@@ -17,20 +17,21 @@ use Rattle.node.specs.declared.step.StepReply.{StepReply}
 use Rattle.node.specs.declared.step.StepReply.TheVariants.{Did, NotThere, NoRoom, NoMemory}
 use Rattle.node.specs.declared.step.StepKind.{StepKind}
 use Rattle.node.specs.declared.step.StepKind.TheVariants.{MergeLeaves, MergeInner}
-use Rattle.node.specs.See.{see_slot}
-use Rattle.node.specs.Pure.{PNode, leaf, inner, PSlots, none, more, slots}
+use Rattle.node.specs.See.{see_slot, seen_slots}
+use Rattle.node.specs.Pure.{PNode, leaf, inner, PSlots, none, more}
 use Rattle.node.specs.Meaning.{value, lookup, slots_value, begins_by}
 use Rattle.node.specs.Lawful.{IsLawfulNode, AreLawfulSlots, TouchOnly, slot_count, pending, starts_at, next_lo}
-use Rattle.node.specs.Rows.{AreTooMany, can_merge_leaves, can_merge_inner}
+use Rattle.node.specs.StepRows.{AreTooMany, can_merge_leaves, can_merge_inner}
 use Rattle.node.specs.Site.{joined, slots_from}
 use Rattle.node.specs.Sinks.{Sinks}
-use Rattle.node.specs.Steps.{Replies, Formed, width}
-use Rattle.node.proofs.Doing.{replies_did}
+use Rattle.node.specs.Steps.{Replies, Formed, HasNoRoom, MayHaveRoom, width}
+use Rattle.node.proofs.StepDone.{replies_did}
 use Rattle.node.proofs.EntryFacts.{below_next, rises-append, lookup-front, lookup-back}
 use Rattle.node.proofs.Placing.{and_false}
 use Rattle.node.proofs.Splice.{starts-more, slot_count-take, slot_count-joined, pending-joined, slots_from-joined, lawful-join, slots_value-joined}
-use Rattle.split_merge.specs.Merged.{both, FitInOne, Refuses, IsJoined, MergeReplies}
+use Rattle.split_merge.specs.Merged.{are_alike, both, IsJoined, MergeReplies}
 use Rattle.split_merge.proofs.Mergeable.{slots_from-two, can_merge_leaves-last, can_merge_inner-last, unlike_leaves, unlike_inner, same_many}
+use Rattle.split_merge.proofs.Splittable.{not_less}
 use Rattle.split_merge.proofs.Untouched.{effects_untouched}
 
 -- a key behind the pivot lies outside the range before it
@@ -120,99 +121,115 @@ module _ {U V : Type 0} (means : U → Option V → Option V) (S : Shape) where
       }
 
     -- what a merge that is done has done to the node
-    did : (root : Bool) (i : ℕ) (b a : PSlots U V) → slot_count b ≡ i → Replies means kind S root i (Did 0) (joined b (joined old a)) (joined b (joined new a))
-    did root i b a at_i = replies_did means kind S root i 0 b old new a at_i (sym two) tt tt refl (λ z. omega (arith, z)) (λ r z. omega (arith, z, t.bound)) (λ h hi w able. (sinks h (next_lo hi a) w, s.formed lo p lm rm ms t.bound, lawful h (next_lo hi a) w))
+    did : (root : Bool) (i : ℕ) (b a : PSlots U V) → slot_count b ≡ i → (MayHaveRoom means kind S root i (joined b (joined old a)) → HasNoRoom means kind S root i (joined b (joined old a)) → ⊥) → Replies means kind S root i (Did 0) (joined b (joined old a)) (joined b (joined new a))
+    did root i b a at_i fits = replies_did means kind S root i 0 b old new a at_i (sym two) tt tt refl (λ z. omega (arith, z)) (λ r z. omega (arith, z, t.bound)) (λ h hi w able. (sinks h (next_lo hi a) w, s.formed lo p lm rm ms t.bound, lawful h (next_lo hi a) w)) fits
 
   module _ (root : Bool) (i : ℕ) (b a : PSlots U V) (at_i : slot_count b ≡ i) (lo p : List ℕ) (lm rm ms : List (Msg U V)) (t : Takes means lm rm ms) where
+    -- where the slots are not too many, no more are they between others
+    not_many : (l r : PNode U V) → (AreTooMany S (slots_from i (joined b (more lo lm l (more p rm r a)))) → ⊥) → AreTooMany S (more lo lm l (more p rm r a)) → ⊥
+    not_many l r f many = f (subst (AreTooMany S) (sym (slots_from-joined i b (more lo lm l (more p rm r a)) at_i)) many)
+
     -- of other nodes than leaves nothing is said
-    did_leaves : (l r : PNode U V) → FitInOne S l r → Replies means MergeLeaves S root i (Did 0) (joined b (more lo lm l (more p rm r a))) (joined b (more lo ms (both l r) a))
-    did_leaves (leaf es) (leaf fs) fit = did MergeLeaves refl lo p lm rm ms (leaf es) (leaf fs) (leaf (es ++ fs)) (leaves es fs fit) t root i b a at_i
-    did_leaves (leaf es) (inner ds) fit = absurd fit
-    did_leaves (inner cs) (leaf fs) fit = absurd fit
-    did_leaves (inner cs) (inner ds) fit = λ h lp hi w able. absurd (
+    did_leaves : (l r : PNode U V) → are_alike l r ≡ true → Replies means MergeLeaves S root i (Did 0) (joined b (more lo lm l (more p rm r a))) (joined b (more lo ms (both l r) a))
+    did_leaves (leaf es) (leaf fs) alike = λ h lp hi w able may.
+        let few : length es + length fs ≤ S.leaf = not_less S.leaf (length es + length fs) (not_many (leaf es) (leaf fs) may) in
+        did MergeLeaves refl lo p lm rm ms (leaf es) (leaf fs) (leaf (es ++ fs)) (leaves es fs few) t root i b a at_i (λ z. z) h lp hi w able may
+    did_leaves (leaf es) (inner ds) alike = absurd (let f : false ≡ true = alike in (cc))
+    did_leaves (inner cs) (leaf fs) alike = absurd (let f : false ≡ true = alike in (cc))
+    did_leaves (inner cs) (inner ds) alike = λ h lp hi w able may. absurd (
         let never : can_merge_leaves (slots_from i (joined b (more lo lm (inner cs) (more p rm (inner ds) a)))) ≡ false = ap can_merge_leaves (slots_from-joined i b (more lo lm (inner cs) (more p rm (inner ds) a)) at_i) in
         (cc))
 
     -- nor of other nodes than inner ones
-    did_inner : (l r : PNode U V) → FitInOne S l r → Replies means MergeInner S root i (Did 0) (joined b (more lo lm l (more p rm r a))) (joined b (more lo ms (both l r) a))
-    did_inner (leaf es) (leaf fs) fit = λ h lp hi w able. absurd (
+    did_inner : (l r : PNode U V) → are_alike l r ≡ true → Replies means MergeInner S root i (Did 0) (joined b (more lo lm l (more p rm r a))) (joined b (more lo ms (both l r) a))
+    did_inner (leaf es) (leaf fs) alike = λ h lp hi w able may. absurd (
         let never : can_merge_inner (slots_from i (joined b (more lo lm (leaf es) (more p rm (leaf fs) a)))) ≡ false = ap can_merge_inner (slots_from-joined i b (more lo lm (leaf es) (more p rm (leaf fs) a)) at_i) in
         (cc))
-    did_inner (leaf es) (inner ds) fit = absurd fit
-    did_inner (inner cs) (leaf fs) fit = absurd fit
-    did_inner (inner cs) (inner ds) fit = did MergeInner refl lo p lm rm ms (inner cs) (inner ds) (inner (joined cs ds)) (inners cs ds fit.0 fit.1) t root i b a at_i
+    did_inner (leaf es) (inner ds) alike = absurd (let f : false ≡ true = alike in (cc))
+    did_inner (inner cs) (leaf fs) alike = absurd (let f : false ≡ true = alike in (cc))
+    did_inner (inner cs) (inner ds) alike = λ h lp hi w able may.
+        let fits = not_many (inner cs) (inner ds) may in
+        let few : slot_count cs + slot_count ds ≤ S.fanout = not_less S.fanout (slot_count cs + slot_count ds) (λ z. fits (inl z)) in
+        let light : pending cs + pending ds ≤ S.pending = not_less S.pending (pending cs + pending ds) (λ z. fits (inr z)) in
+        did MergeInner refl lo p lm rm ms (inner cs) (inner ds) (inner (joined cs ds)) (inners cs ds few light) t root i b a at_i (λ z. z) h lp hi w able may
 
 -- ---- the same in the words of the code
 
 module _ {U V : Type 0} where
   -- the slots before a number, and those from it on
-  slots-parts : (xs : List (Slot U V)) (i : ℕ) → slots (map see_slot xs) ≡ joined (slots (map see_slot (take i xs))) (slots_from i (slots (map see_slot xs)))
+  slots-parts : (xs : List (Slot U V)) (i : ℕ) → seen_slots xs ≡ joined (seen_slots (take i xs)) (slots_from i (seen_slots xs))
   slots-parts [] zero = refl
   slots-parts [] (suc i) = refl
   slots-parts (x ∷ xs) zero = refl
   slots-parts (x ∷ xs) (suc i) = ap (more x.lo x.pending.0 x.child.value) (slots-parts xs i)
 
   -- the slots with one for two
-  slots-merged : (xs : List (Slot U V)) (i : ℕ) (m : Slot U V) → suc i < length xs → slots (map see_slot (set (remove xs (suc i)) i m)) ≡ joined (slots (map see_slot (take i xs))) (more m.lo m.pending.0 m.child.value (slots (map see_slot (drop (suc (suc i)) xs))))
+  slots-merged : (xs : List (Slot U V)) (i : ℕ) (m : Slot U V) → suc i < length xs → seen_slots (set (remove xs (suc i)) i m) ≡ joined (seen_slots (take i xs)) (more m.lo m.pending.0 m.child.value (seen_slots (drop (suc (suc i)) xs)))
   slots-merged [] i m h = absurd (omega arith)
   slots-merged (x ∷ []) i m h = absurd (omega arith)
   slots-merged (x ∷ (y ∷ xs)) zero m h = refl
   slots-merged (x ∷ (y ∷ xs)) (suc i) m h = ap (more x.lo x.pending.0 x.child.value) (slots-merged (y ∷ xs) i m (omega arith))
 
   -- a slot put back where it was taken, behind one that is as it was
-  slots-put_back : (xs : List (Slot U V)) (i : ℕ) (s t l r : Slot U V) → suc i < length xs → s ≡ get_or xs i s → t ≡ get_or xs (suc i) t → see_slot l ≡ see_slot s → see_slot r ≡ see_slot t → slots (map see_slot (insert (set (remove xs (suc i)) i l) (suc i) r)) ≡ slots (map see_slot xs)
+  slots-put_back : (xs : List (Slot U V)) (i : ℕ) (s t l r : Slot U V) → suc i < length xs → s ≡ get_or xs i s → t ≡ get_or xs (suc i) t → see_slot l ≡ see_slot s → see_slot r ≡ see_slot t → seen_slots (insert (set (remove xs (suc i)) i l) (suc i) r) ≡ seen_slots xs
   slots-put_back [] i s t l r h e f p q = absurd (omega arith)
   slots-put_back (x ∷ []) i s t l r h e f p q = absurd (omega arith)
   slots-put_back (x ∷ (y ∷ xs)) zero s t l r h e f p q =
       let a = p ∙ ap see_slot e in
       let b = q ∙ ap see_slot f in
-      λ j. more (a j).lo (a j).msgs (a j).child (more (b j).lo (b j).msgs (b j).child (slots (map see_slot xs)))
+      λ j. more (a j).lo (a j).msgs (a j).child (more (b j).lo (b j).msgs (b j).child (seen_slots xs))
   slots-put_back (x ∷ (y ∷ xs)) (suc i) s t l r h e f p q = ap (more x.lo x.pending.0 x.child.value) (slots-put_back (y ∷ xs) i s t l r (omega arith) e f p q)
 
   module _ (means : U → Option V → Option V) (S : Shape) (root : Bool) (i : ℕ) (xs : List (Slot U V)) where
     -- where there is no next slot
-    pub without_next : length xs ≤ suc i → MergeReplies means S root i NotThere (slots (map see_slot xs)) (slots (map see_slot xs))
+    pub without_next : length xs ≤ suc i → MergeReplies means S root i NotThere (seen_slots xs) (seen_slots xs)
     without_next h = ((refl, λ hi. can_merge_leaves-last xs i h), (refl, λ hi. can_merge_inner-last xs i h))
 
     module _ (s t : Slot U V) (h : suc i < length xs) (e : s ≡ get_or xs i s) (f : t ≡ get_or xs (suc i) t) where
-      -- where the children do not fit in one
-      pub refused : (r : StepReply) → Refuses S r s.child.value t.child.value → MergeReplies means S root i r (slots (map see_slot xs)) (slots (map see_slot xs))
-      refused (Did n) q = absurd q
-      refused NotThere q = (
+      -- where the children are of two kinds
+      pub unlike : are_alike s.child.value t.child.value ≡ false → MergeReplies means S root i NotThere (seen_slots xs) (seen_slots xs)
+      unlike q = (
         (refl, λ hi. ap can_merge_leaves (slots_from-two xs i s t h e f) ∙ unlike_leaves s.lo t.lo s.pending.0 t.pending.0 s.child.value t.child.value _ q),
         (refl, λ hi. ap can_merge_inner (slots_from-two xs i s t h e f) ∙ unlike_inner s.lo t.lo s.pending.0 t.pending.0 s.child.value t.child.value _ q),
       )
-      refused NoRoom q =
-          let many = subst (AreTooMany S) (sym (slots_from-two xs i s t h e f)) (same_many S [] [] s.lo t.lo [] [] s.pending.0 t.pending.0 s.child.value t.child.value none _ q) in
-          ((refl, many), (refl, many))
-      refused NoMemory q = absurd q
+
+      -- whether there is room rests on the children alone
+      pub too_many : AreTooMany S (more [] [] s.child.value (more [] [] t.child.value none)) → AreTooMany S (slots_from i (seen_slots xs))
+      too_many q = subst (AreTooMany S) (sym (slots_from-two xs i s t h e f)) (same_many S [] [] s.lo t.lo [] [] s.pending.0 t.pending.0 s.child.value t.child.value none _ q)
+
+      pub too_many_below : AreTooMany S (slots_from i (seen_slots xs)) → AreTooMany S (more [] [] s.child.value (more [] [] t.child.value none))
+      too_many_below q = same_many S s.lo t.lo [] [] s.pending.0 t.pending.0 [] [] s.child.value t.child.value _ none (subst (AreTooMany S) (slots_from-two xs i s t h e f) q)
 
       -- where they have become one
-      merged : (m : Slot U V) → IsJoined means s t m → FitInOne S s.child.value t.child.value → MergeReplies means S root i (Did 0) (slots (map see_slot xs)) (slots (map see_slot (set (remove xs (suc i)) i m)))
-      merged m j fit =
-          let b = slots (map see_slot (take i xs)) in
-          let a = slots (map see_slot (drop (suc (suc i)) xs)) in
-          let was : slots (map see_slot xs) ≡ joined b (more s.lo s.pending.0 s.child.value (more t.lo t.pending.0 t.child.value a)) = slots-parts xs i ∙ ap (joined b) (slots_from-two xs i s t h e f) in
-          let is : slots (map see_slot (set (remove xs (suc i)) i m)) ≡ joined b (more s.lo m.pending.0 (both s.child.value t.child.value) a) = slots-merged xs i m h ∙ (λ k. joined b (more (j.same_lo k) m.pending.0 (j.child k) a)) in
+      merged : (m : Slot U V) → IsJoined means s t m → are_alike s.child.value t.child.value ≡ true → MergeReplies means S root i (Did 0) (seen_slots xs) (seen_slots (set (remove xs (suc i)) i m))
+      merged m j alike =
+          let b = seen_slots (take i xs) in
+          let a = seen_slots (drop (suc (suc i)) xs) in
+          let was : seen_slots xs ≡ joined b (more s.lo s.pending.0 s.child.value (more t.lo t.pending.0 t.child.value a)) = slots-parts xs i ∙ ap (joined b) (slots_from-two xs i s t h e f) in
+          let is : seen_slots (set (remove xs (suc i)) i m) ≡ joined b (more s.lo m.pending.0 (both s.child.value t.child.value) a) = slots-merged xs i m h ∙ (λ k. joined b (more (j.same_lo k) m.pending.0 (j.child k) a)) in
           let at_i = slot_count-take xs i (omega arith) in
-          let over_leaves = did_leaves means S root i b a at_i s.lo t.lo s.pending.0 t.pending.0 m.pending.0 j.taken s.child.value t.child.value fit in
-          let over_inner = did_inner means S root i b a at_i s.lo t.lo s.pending.0 t.pending.0 m.pending.0 j.taken s.child.value t.child.value fit in
-          subst (λ z. MergeReplies means S root i (Did 0) z (slots (map see_slot (set (remove xs (suc i)) i m)))) (sym was) (subst (λ z. MergeReplies means S root i (Did 0) (joined b (more s.lo s.pending.0 s.child.value (more t.lo t.pending.0 t.child.value a))) z) (sym is) (over_leaves, over_inner))
+          let over_leaves = did_leaves means S root i b a at_i s.lo t.lo s.pending.0 t.pending.0 m.pending.0 j.taken s.child.value t.child.value alike in
+          let over_inner = did_inner means S root i b a at_i s.lo t.lo s.pending.0 t.pending.0 m.pending.0 j.taken s.child.value t.child.value alike in
+          subst (λ z. MergeReplies means S root i (Did 0) z (seen_slots (set (remove xs (suc i)) i m))) (sym was) (subst (λ z. MergeReplies means S root i (Did 0) (joined b (more s.lo s.pending.0 s.child.value (more t.lo t.pending.0 t.child.value a))) z) (sym is) (over_leaves, over_inner))
 
+  module _ (means : U → Option V → Option V) (i : ℕ) (xs : List (Slot U V)) where
     -- the slots without the second of the two, where the code reads the first
     module _ (ys : List (Slot U V)) (s t : Slot U V) (h : suc i < length xs) (left : ys ≡ remove xs (suc i)) (at_s : s ≡ get_or ys i s) (at_t : t ≡ get_or xs (suc i) t) where
       -- it is the first of the two
       same_first : s ≡ get_or xs i s
       same_first = at_s ∙ ap (λ z. get_or z i s) left ∙ get_or-remove_below xs (suc i) s i (omega arith) h
 
-      -- what a merge leaves, where a and b are the two slots as they were read before it
-      pub merged_left : (a b m : Slot U V) → a ≡ get_or xs i a → b ≡ get_or xs (suc i) b → FitInOne S a.child.value b.child.value → IsJoined means s t m → MergeReplies means S root i (Did 0) (slots (map see_slot xs)) (slots (map see_slot (set ys i m)))
-      merged_left a b m at_a at_b fit j =
+      -- they are of one kind, where a and b are the two as they were read before
+      pub alike_left : (a b : Slot U V) → a ≡ get_or xs i a → b ≡ get_or xs (suc i) b → are_alike a.child.value b.child.value ≡ true → are_alike s.child.value t.child.value ≡ true
+      alike_left a b at_a at_b alike =
           let first : a ≡ s = at_a ∙ get_or_default xs i a s (omega arith) ∙ sym same_first in
           let second : b ≡ t = at_b ∙ get_or_default xs (suc i) b t h ∙ sym at_t in
-          let both_fit = subst (λ (z : Slot U V). FitInOne S z.child.value t.child.value) first (subst (λ (z : Slot U V). FitInOne S a.child.value z.child.value) second fit) in
-          subst (λ z. MergeReplies means S root i (Did 0) (slots (map see_slot xs)) (slots (map see_slot (set z i m)))) (sym left) (merged s t h same_first at_t m j both_fit)
+          subst (λ (z : Slot U V). are_alike z.child.value t.child.value ≡ true) first (subst (λ (z : Slot U V). are_alike a.child.value z.child.value ≡ true) second alike)
+
+      -- what a merge leaves
+      pub merged_left : (S : Shape) (root : Bool) (a b m : Slot U V) → a ≡ get_or xs i a → b ≡ get_or xs (suc i) b → are_alike a.child.value b.child.value ≡ true → IsJoined means s t m → MergeReplies means S root i (Did 0) (seen_slots xs) (seen_slots (set ys i m))
+      merged_left S root a b m at_a at_b alike j = subst (λ z. MergeReplies means S root i (Did 0) (seen_slots xs) (seen_slots (set z i m))) (sym left) (merged means S root i xs s t h same_first at_t m j (alike_left a b at_a at_b alike))
 
       -- the slots with the second put back, where both are as they were
-      pub put_back : (l r : Slot U V) → see_slot l ≡ see_slot s → see_slot r ≡ see_slot t → slots (map see_slot (insert (set ys i l) (suc i) r)) ≡ slots (map see_slot xs)
-      put_back l r p q = ap (λ z. slots (map see_slot (insert (set z i l) (suc i) r))) left ∙ slots-put_back xs i s t l r h same_first at_t p q
+      pub put_back : (l r : Slot U V) → see_slot l ≡ see_slot s → see_slot r ≡ see_slot t → seen_slots (insert (set ys i l) (suc i) r) ≡ seen_slots xs
+      put_back l r p q = ap (λ z. seen_slots (insert (set z i l) (suc i) r)) left ∙ slots-put_back xs i s t l r h same_first at_t p q

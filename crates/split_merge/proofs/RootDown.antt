@@ -1,5 +1,5 @@
 -- The only child of a root in the root's place.
-use Rattle.std.proofs.Common.{◌≡◌, ℕ, true, false, List, [], ◌∷◌, length, map, refl, ap, sym, ◌∙◌, subst, arith, cond, Option, Some, None, pred}
+use Rattle.std.proofs.Common.{◌≡◌, ℕ, true, false, List, [], ◌∷◌, length, refl, ap, sym, ◌∙◌, subst, arith, cond, Option, Some, None, pred}
 use Rattle.std.specs.Prelude.{◌&&◌}
 use Rattle.pathkey.specs.Keys.{is_below}
 use Rattle.message.specs.declared.msg.Msg.{Msg}
@@ -10,8 +10,8 @@ use Rattle.node.specs.declared.node.Slot.{Slot}
 use Rattle.node.specs.declared.shape.Shape.{Shape}
 use Rattle.node.specs.declared.step.StepReply.TheVariants.{Did}
 use Rattle.node.specs.Appended.{parts, HaveTaken, IsAppended}
-use Rattle.node.specs.See.{see_slot}
-use Rattle.node.specs.Pure.{PNode, leaf, inner, PSlots, none, more, PTree, slots}
+use Rattle.node.specs.See.{seen_slots}
+use Rattle.node.specs.Pure.{PNode, leaf, inner, PSlots, none, more, PTree}
 use Rattle.node.specs.Lawful.{IsLawfulRoot, IsLawful, starts_at}
 use Rattle.node.specs.RootSteps.{has_one_inner, with_root, RootLowered, AnswersDown}
 use Rattle.node.specs.Sinks.{msgs_at}
@@ -91,7 +91,7 @@ module _ {U V : Type 0} where
   -- ---- as the code reads the root
 
   -- another number of slots than one
-  pub not_one : (xs : List (Slot U V)) (a : PNode U V) → inner (slots (map see_slot xs)) ≡ a → (length xs ≡ 1 → ⊥) → has_one_inner a ≡ false
+  pub not_one : (xs : List (Slot U V)) (a : PNode U V) → inner (seen_slots xs) ≡ a → (length xs ≡ 1 → ⊥) → has_one_inner a ≡ false
   not_one [] a e h = ap has_one_inner (sym e)
   not_one (x ∷ []) a e h = absurd (h refl)
   not_one (x ∷ (y ∷ xs)) a e h = ap has_one_inner (sym e)

@@ -11,12 +11,12 @@ use Rattle.node.specs.declared.node.Slot.{Slot}
 use Rattle.node.specs.declared.shape.Shape.{Shape}
 use Rattle.node.specs.declared.step.StepReply.{StepReply}
 use Rattle.node.specs.declared.step.StepReply.TheVariants.{Did, NotThere, NoRoom, NoMemory}
-use Rattle.node.specs.See.{see_slot}
+use Rattle.node.specs.See.{seen_slots}
 use Rattle.node.specs.Shapes.{is_shape}
 use Rattle.node.specs.Pure.{PNode, leaf, inner, PSlots, none, more, PTree, slots}
 use Rattle.node.specs.Meaning.{value, slots_value, begins_by}
 use Rattle.node.specs.Lawful.{IsLawfulNode, IsLawfulRoot, AreLawfulSlots, IsLawful, TouchOnly, slot_count, pending, starts_at, next_lo}
-use Rattle.node.specs.Rows.{emptied}
+use Rattle.node.specs.StepRows.{emptied}
 use Rattle.node.specs.RootSteps.{levels, has_one_slot, with_root, RootRaised, AnswersUp}
 use Rattle.node.specs.Sinks.{msgs_at, child_value}
 use Rattle.node.proofs.Outcome.{clash}
@@ -33,7 +33,7 @@ module _ {U V : Type 0} where
   past lo hi (more lp ms n ss) k e = and_false (reaches lo k) (before k lp) (not_before_from_reaches lp k e)
 
   -- slots seen without messages are the slots emptied
-  pub emptied-hollow : (xs : List (Slot U V)) → slots (map hollow xs) ≡ emptied (slots (map see_slot xs))
+  pub emptied-hollow : (xs : List (Slot U V)) → slots (map hollow xs) ≡ emptied (seen_slots xs)
   emptied-hollow [] = refl
   emptied-hollow (x ∷ xs) = ap (more x.lo [] x.child.value) (emptied-hollow xs)
 
@@ -90,7 +90,7 @@ module _ {U V : Type 0} where
         not_by false lo lp k x y z = refl
         not_by true lo lp k x y z = sym (le_le lo lp k (reaches-from_before lo lp y) x) ∙ z
 
-        -- the same of the next slot
+        -- likewise for the next slot
         not_behind : (lo : List ℕ) (ss : PSlots U V) (k : List ℕ) → is_below lo (next_lo hi ss) ≡ true → reaches lo k ≡ false → begins_by ss k ≡ false
         not_behind lo none k y z = refl
         not_behind lo (more lp mt o ss) k y z = not_by (reaches lp k) lo lp k refl y z
@@ -135,13 +135,13 @@ module _ {U V : Type 0} where
       (omega arith, omega (arith, e, root_levels S h (inner ss) l), omega (arith, s, l.2), refl, (refl, touch_only-all i.msgs, (l.0, n, omega (arith, pending-emptied ss), starts_at-emptied [] ss l.3, lawful-emptied S h None ss l.4), tt))
 
   -- one slot, as the code counts it
-  pub one_slot : (xs : List (Slot U V)) (a : PNode U V) → inner (slots (map see_slot xs)) ≡ a → length xs ≡ 1 → has_one_slot a ≡ true
+  pub one_slot : (xs : List (Slot U V)) (a : PNode U V) → inner (seen_slots xs) ≡ a → length xs ≡ 1 → has_one_slot a ≡ true
   one_slot [] a e h = absurd (omega arith)
   one_slot (x ∷ []) a e h = ap has_one_slot (sym e)
   one_slot (x ∷ (y ∷ xs)) a e h = absurd (omega arith)
 
   -- any other number of slots
-  pub other_slots : (xs : List (Slot U V)) (a : PNode U V) → inner (slots (map see_slot xs)) ≡ a → (length xs ≡ 1 → ⊥) → has_one_slot a ≡ false
+  pub other_slots : (xs : List (Slot U V)) (a : PNode U V) → inner (seen_slots xs) ≡ a → (length xs ≡ 1 → ⊥) → has_one_slot a ≡ false
   other_slots [] a e h = ap has_one_slot (sym e)
   other_slots (x ∷ []) a e h = absurd (h refl)
   other_slots (x ∷ (y ∷ xs)) a e h = ap has_one_slot (sym e)
@@ -165,13 +165,13 @@ module _ {U V : Type 0} where
         shape_kept = refl;
         did = (refl, raised-above means a.shape l.levels ss n m.4 q.2);
         not_there = (λ z. (cc), λ z. absurd (clash (has_one_slot (inner ss)) z q.0));
-        no_room = λ z. (cc);
+        no_room = (λ z. (cc), λ z. absurd (omega (arith, z.1, q.1)));
         unchanged = tt;
       }
 
   -- and where it has refused
   pub answers_refused : (means : U → Option V → Option V) (r : StepReply) (a : PTree U V) → Refused means r a.root → AnswersUp means r a a
   answers_refused means (Did n) a q = absurd q
-  answers_refused means NotThere a q = record { value_kept = λ k. refl; shape_kept = refl; did = tt; not_there = (λ z. q, λ z. refl); no_room = λ z. (cc); unchanged = refl }
-  answers_refused means NoRoom a q = record { value_kept = λ k. refl; shape_kept = refl; did = tt; not_there = (λ z. (cc), λ z. absurd (clash (has_one_slot a.root) z q.0)); no_room = λ z. q.1; unchanged = refl }
-  answers_refused means NoMemory a q = record { value_kept = λ k. refl; shape_kept = refl; did = tt; not_there = (λ z. (cc), λ z. absurd (clash (has_one_slot a.root) z q)); no_room = λ z. (cc); unchanged = refl }
+  answers_refused means NotThere a q = record { value_kept = λ k. refl; shape_kept = refl; did = tt; not_there = (λ z. q, λ z. refl); no_room = (λ z. (cc), λ z. absurd (clash (has_one_slot a.root) q z.0)); unchanged = refl }
+  answers_refused means NoRoom a q = record { value_kept = λ k. refl; shape_kept = refl; did = tt; not_there = (λ z. (cc), λ z. absurd (clash (has_one_slot a.root) z q.0)); no_room = (λ z. q, λ z. refl); unchanged = refl }
+  answers_refused means NoMemory a q = record { value_kept = λ k. refl; shape_kept = refl; did = tt; not_there = (λ z. (cc), λ z. absurd (clash (has_one_slot a.root) z q.0)); no_room = (λ z. (cc), λ z. absurd (omega (arith, z.1, q.1))); unchanged = refl }

@@ -5,7 +5,7 @@ use Rattle.message.specs.Effects.{Takes}
 use Rattle.node.specs.declared.node.Slot.{Slot}
 use Rattle.node.specs.Pure.{PSlots, inner}
 use Rattle.node.specs.Lawful.{slot_count}
-use Rattle.node.specs.Rows.{is_divisible}
+use Rattle.node.specs.StepRows.{is_divisible}
 use Rattle.node.specs.Site.{joined}
 use Rattle.node.specs.Sinks.{first_lo}
 

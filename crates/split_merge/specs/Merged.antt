@@ -8,7 +8,7 @@ use Rattle.node.specs.declared.step.StepReply.TheVariants.{Did, NotThere, NoRoom
 use Rattle.node.specs.declared.step.StepKind.TheVariants.{MergeLeaves, MergeInner}
 use Rattle.node.specs.Pure.{PNode, PSlots, leaf, inner, none, more}
 use Rattle.node.specs.Lawful.{slot_count, pending}
-use Rattle.node.specs.Rows.{AreTooMany}
+use Rattle.node.specs.StepRows.{AreTooMany}
 use Rattle.node.specs.Site.{joined}
 use Rattle.node.specs.Steps.{Replies}
 
@@ -26,20 +26,6 @@ module _ {U V : Type 0} where
   both (leaf es) (inner ds) = leaf es
   both (inner cs) (leaf fs) = inner cs
   both (inner cs) (inner ds) = inner (joined cs ds)
-
-  -- two nodes are of one kind, and one node has room for what both hold
-  abbrev pub FitInOne : Shape → PNode U V → PNode U V → Type 0
-  FitInOne shape (leaf es) (leaf fs) = length es + length fs ≤ shape.leaf
-  FitInOne shape (leaf es) (inner ds) = ⊥
-  FitInOne shape (inner cs) (leaf fs) = ⊥
-  FitInOne shape (inner cs) (inner ds) = (slot_count cs + slot_count ds ≤ shape.fanout) × (pending cs + pending ds ≤ shape.pending)
-
-  -- why they do not fit
-  abbrev pub Refuses : Shape → StepReply → PNode U V → PNode U V → Type 0
-  Refuses shape (Did n) l r = ⊥
-  Refuses shape NotThere l r = are_alike l r ≡ false
-  Refuses shape NoRoom l r = AreTooMany shape (more [] [] l (more [] [] r none))
-  Refuses shape NoMemory l r = ⊥
 
 -- the slot m begins where l does, over what both children hold, and its list has taken that of r behind its own
 pub record IsJoined {U V : Type 0} (means : U → Option V → Option V) (l r m : Slot U V) : Type 0 where

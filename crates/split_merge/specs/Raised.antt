@@ -7,7 +7,7 @@ use Rattle.node.specs.declared.step.StepReply.{StepReply}
 use Rattle.node.specs.declared.step.StepReply.TheVariants.{Did, NotThere, NoRoom, NoMemory}
 use Rattle.node.specs.Pure.{PNode, leaf, inner, PSlots, none, more, PSlot}
 use Rattle.node.specs.RootSteps.{levels, has_one_slot}
-use Rattle.node.specs.Rows.{emptied}
+use Rattle.node.specs.StepRows.{emptied}
 
 module _ {U V : Type 0} where
   -- the slot seen without its messages
@@ -36,4 +36,4 @@ module _ {U V : Type 0} (means : U → Option V → Option V) where
   Refused (Did n) root = ⊥
   Refused NotThere root = has_one_slot root ≡ true
   Refused NoRoom root = (has_one_slot root ≡ false) × (16 ≤ levels root)
-  Refused NoMemory root = has_one_slot root ≡ false
+  Refused NoMemory root = (has_one_slot root ≡ false) × (levels root < 16)

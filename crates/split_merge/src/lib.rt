@@ -5,18 +5,18 @@
 //! the list of the messages that wait in it.
 #![tactic(auto)]
 
-pub mod cover;
-pub mod lower;
+pub mod drop_subtree;
+pub mod lower_root;
 pub mod merge;
-pub mod root;
+pub mod raise_root;
 pub mod split;
 
-pub use cover::drop_covered;
-pub use lower::root_down;
+pub use drop_subtree::drop_covered;
+pub use lower_root::root_down;
 pub use merge::{merge_inner, merge_leaves};
 pub use node::StepReply;
-pub use root::root_up;
+pub use raise_root::root_up;
 pub use split::split_inner;
 
 #[cfg(test)]
-pub(crate) mod samples;
+pub(crate) mod small_nodes;

@@ -2,16 +2,16 @@
 //!
 //! The ranges of the slots are disjoint, so the left slot's messages and then the right slot's mean at each key what
 //! its own list meant.
-ghost use Rattle.std.specs.Prelude.{◌≡◌, ◌≤◌, ◌<◌, ◌+◌, ◌⊎◌, true, false, map, length, OnOk, OnErr, IfErr};
+ghost use Rattle.std.specs.Prelude.{◌≡◌, ◌≤◌, ◌<◌, ◌+◌, ◌⊎◌, [], Bool, true, false, length, OnOk, OnErr};
 ghost use Rattle.node.specs.Lawful.{pending as pending_of};
 ghost use Rattle.node.specs.Places.{way};
-ghost use Rattle.node.specs.Pure.{slots as slots_of};
-ghost use Rattle.node.specs.Rows.{can_merge_leaves, can_merge_inner};
-ghost use Rattle.node.specs.See.{see_slot};
+ghost use Rattle.node.specs.Pure.{more, none};
+ghost use Rattle.node.specs.StepRows.{AreTooMany};
+ghost use Rattle.node.specs.See.{see_slot, seen_slots};
 ghost use Rattle.node.specs.Site.{slots_from};
 ghost use Rattle.node.specs.Steps.{Answers};
 ghost use Rattle.node.specs.declared.step.StepKind.TheVariants.{MergeLeaves, MergeInner};
-ghost use Rattle.split_merge.specs.Merged.{are_alike, both, FitInOne, Refuses, IsJoined, MergeReplies};
+ghost use Rattle.split_merge.specs.Merged.{are_alike, both, IsJoined, MergeReplies};
 
 use message::Update;
 use node::node::count::held;
@@ -31,64 +31,65 @@ fn has_next<U: Update>(slots: &[Slot<U>], i: usize) -> bool
     slots.len().saturating_sub(i) > 1
 }
 
-/// Whether the children of the slot with number `i` and of the next are leaves. It takes no memory.
-fn are_leaves<U: Update>(slots: &[Slot<U>], i: usize) -> bool
-    ensures { result ≡ can_merge_leaves (slots_from i (slots_of (map see_slot slots.now))) }
-{
-    if !has_next(slots, i) {
-        return false;
-    }
-    let first = &slots[i];
-    let next = &slots[i + 1];
-    first.child.is_leaf() && next.child.is_leaf()
-}
-
-/// Whether the children of the slot with number `i` and of the next are inner nodes. It takes no memory.
-fn are_inner<U: Update>(slots: &[Slot<U>], i: usize) -> bool
-    ensures { result ≡ can_merge_inner (slots_from i (slots_of (map see_slot slots.now))) }
-{
-    if !has_next(slots, i) {
-        return false;
-    }
-    let first = &slots[i];
-    let next = &slots[i + 1];
-    !first.child.is_leaf() && !next.child.is_leaf()
-}
-
 /// Whether two numbers are together at most this.
-fn fit(left: usize, right: usize, most: u16) -> bool
+fn fit(left: u128, right: u128, most: u16) -> bool
     ensures yes { result ≡ true → left + right ≤ most }
     ensures no { result ≡ false → most < left + right }
 {
-    left.saturating_add(right) <= most as usize
+    left.saturating_add(right) <= most as u128
 }
 
 /// Whether one inner node has room for the slots of two.
 fn slots_fit<U: Update>(shape: Shape, left: &[Slot<U>], right: &[Slot<U>]) -> bool
     ensures few { result ≡ true → length left.now + length right.now ≤ shape.fanout }
-    ensures light { result ≡ true → pending_of (slots_of (map see_slot left.now)) + pending_of (slots_of (map see_slot right.now)) ≤ shape.pending }
-    ensures no { result ≡ false → (shape.fanout < length left.now + length right.now) ⊎ (shape.pending < pending_of (slots_of (map see_slot left.now)) + pending_of (slots_of (map see_slot right.now))) }
+    ensures light { result ≡ true → pending_of (seen_slots left.now) + pending_of (seen_slots right.now) ≤ shape.pending }
+    ensures no { result ≡ false → (shape.fanout < length left.now + length right.now) ⊎ (shape.pending < pending_of (seen_slots left.now) + pending_of (seen_slots right.now)) }
 {
-    fit(left.len(), right.len(), shape.fanout) && fit(held(left), held(right), shape.pending)
+    fit(left.len() as u128, right.len() as u128, shape.fanout)
+        && fit(held(left), held(right), shape.pending)
 }
 
-/// Whether one node has room for what two nodes of one kind hold, or why not. It takes no memory.
-fn check_room<U: Update>(shape: Shape, left: &Node<U>, right: &Node<U>) -> Result<(), StepReply>
-    ensures ok { OnOk result (FitInOne shape left.now right.now) }
-    ensures err { IfErr result (λ e. Refuses shape e left.now right.now) }
+/// Whether one node has room for what two nodes hold, or they are of two kinds.
+fn fit_in_one<U: Update>(shape: Shape, left: &Node<U>, right: &Node<U>) -> bool
+    ensures yes { result ≡ true → AreTooMany shape (more [] [] left.now (more [] [] right.now none)) → ⊥ }
+    ensures no { result ≡ false → AreTooMany shape (more [] [] left.now (more [] [] right.now none)) }
 {
-    let has_room = match (&left.body, &right.body) {
-        (Body::Leaf(entries), Body::Leaf(later)) => fit(entries.len(), later.len(), shape.leaf),
+    match (&left.body, &right.body) {
+        (Body::Leaf(entries), Body::Leaf(later)) => fit(
+            entries.len() as u128,
+            later.len() as u128,
+            shape.leaf,
+        ),
         (Body::Inner(slots), Body::Inner(later)) => {
             slots_fit(shape, slots.as_slice(), later.as_slice())
         }
-        (Body::Leaf(_), Body::Inner(_)) => return Err(StepReply::NotThere),
-        (Body::Inner(_), Body::Leaf(_)) => return Err(StepReply::NotThere),
-    };
-    if has_room {
-        Ok(())
-    } else {
-        Err(StepReply::NoRoom)
+        (Body::Leaf(_), Body::Inner(_)) => true,
+        (Body::Inner(_), Body::Leaf(_)) => true,
+    }
+}
+
+/// Likewise for the children of the slot with number `i` and of the next, if there is one.
+fn pair_fits<U: Update>(shape: Shape, slots: &[Slot<U>], i: usize) -> bool
+    ensures yes { result ≡ true → AreTooMany shape (slots_from i (seen_slots slots.now)) → ⊥ }
+    ensures no { result ≡ false → AreTooMany shape (slots_from i (seen_slots slots.now)) }
+{
+    if !has_next(slots, i) {
+        return true;
+    }
+    let first = &slots[i];
+    let next = &slots[i + 1];
+    fit_in_one(shape, &first.child, &next.child)
+}
+
+/// Whether both nodes are leaves or both are inner nodes.
+fn are_of_one_kind<U: Update>(left: &Node<U>, right: &Node<U>) -> bool
+    ensures { result ≡ are_alike left.now right.now }
+{
+    match (&left.body, &right.body) {
+        (Body::Leaf(_), Body::Leaf(_)) => true,
+        (Body::Inner(_), Body::Inner(_)) => true,
+        (Body::Leaf(_), Body::Inner(_)) => false,
+        (Body::Inner(_), Body::Leaf(_)) => false,
     }
 }
 
@@ -122,14 +123,16 @@ fn join<U: Update>(left: &mut Slot<U>, right: &mut Slot<U>) -> Result<(), NoMemo
 }
 
 /// Makes one slot of the slot with number `i` of a node and the next.
-fn merge_slots<U: Update>(shape: Shape, root: bool, slots: &mut Vec<Slot<U>>, i: usize) -> StepReply
-    ensures { MergeReplies U.means shape root i result (slots_of (map see_slot slots.old.items)) (slots_of (map see_slot slots.new.items)) }
+///
+/// It asks for no room.
+fn merge_slots<U: Update>(slots: &mut Vec<Slot<U>>, i: usize) -> StepReply
+    ensures { (shape : Shape) (root : Bool) → MergeReplies U.means shape root i result (seen_slots slots.old.items) (seen_slots slots.new.items) }
 {
     if !has_next(slots.as_slice(), i) {
         return StepReply::NotThere;
     }
-    if let Err(reply) = check_room(shape, &slots[i].child, &slots[i + 1].child) {
-        return reply;
+    if !are_of_one_kind(&slots[i].child, &slots[i + 1].child) {
+        return StepReply::NotThere;
     }
     let mut right = slots.remove(i + 1);
     if join(&mut slots[i], &mut right).is_ok() {
@@ -148,18 +151,27 @@ impl<U: Update> Change<U> for LeafMerge {
     ghost kind = { MergeLeaves };
 
     fn can(&self, slots: &[Slot<U>], i: usize, _hi: Option<&Key>) -> bool {
-        are_leaves(slots, i)
+        if !has_next(slots, i) {
+            return false;
+        }
+        let first = &slots[i];
+        let next = &slots[i + 1];
+        first.child.is_leaf() && next.child.is_leaf()
+    }
+
+    fn has_room(&self, shape: Shape, _root: bool, slots: &[Slot<U>], i: usize) -> bool {
+        pair_fits(shape, slots, i)
     }
 
     fn change(
         &self,
         _alloc: Global,
-        shape: Shape,
-        root: bool,
+        _shape: Shape,
+        _root: bool,
         slots: &mut Vec<Slot<U>>,
         i: usize,
     ) -> StepReply {
-        merge_slots(shape, root, slots, i)
+        merge_slots(slots, i)
     }
 }
 
@@ -170,18 +182,27 @@ impl<U: Update> Change<U> for InnerMerge {
     ghost kind = { MergeInner };
 
     fn can(&self, slots: &[Slot<U>], i: usize, _hi: Option<&Key>) -> bool {
-        are_inner(slots, i)
+        if !has_next(slots, i) {
+            return false;
+        }
+        let first = &slots[i];
+        let next = &slots[i + 1];
+        !first.child.is_leaf() && !next.child.is_leaf()
+    }
+
+    fn has_room(&self, shape: Shape, _root: bool, slots: &[Slot<U>], i: usize) -> bool {
+        pair_fits(shape, slots, i)
     }
 
     fn change(
         &self,
         _alloc: Global,
-        shape: Shape,
-        root: bool,
+        _shape: Shape,
+        _root: bool,
         slots: &mut Vec<Slot<U>>,
         i: usize,
     ) -> StepReply {
-        merge_slots(shape, root, slots, i)
+        merge_slots(slots, i)
     }
 }
 

@@ -1,11 +1,10 @@
 //! An inner node cut in two.
-ghost use Rattle.std.specs.Prelude.{◌≡◌, map, IfOk};
+ghost use Rattle.std.specs.Prelude.{◌≡◌, IfOk};
 ghost use Rattle.node.specs.Places.{way};
-ghost use Rattle.node.specs.Pure.{slots as slots_of, inner};
-ghost use Rattle.node.specs.Rows.{can_split_inner, is_divisible as is_divided};
-ghost use Rattle.node.specs.See.{see_slot};
-ghost use Rattle.node.specs.Site.{slots_from};
-ghost use Rattle.node.specs.Steps.{Answers, Replies};
+ghost use Rattle.node.specs.Pure.{inner};
+ghost use Rattle.node.specs.StepRows.{is_divisible as is_divided};
+ghost use Rattle.node.specs.See.{seen_slots};
+ghost use Rattle.node.specs.Steps.{Answers};
 ghost use Rattle.node.specs.declared.step.StepKind.TheVariants.{SplitInner};
 ghost use Rattle.split_merge.specs.Halves.{IsHalved, HalvedOr};
 
@@ -23,7 +22,7 @@ mod tests;
 
 /// A node over copies of the slots, which share the children.
 fn node_over<U: Update>(alloc: Global, slots: &[Slot<U>]) -> Result<Arc<Node<U>>, NoMemory>
-    ensures { IfOk result (λ n. n.value ≡ inner (slots_of (map see_slot slots.now))) }
+    ensures { IfOk result (λ n. n.value ≡ inner (seen_slots slots.now)) }
 {
     let body = Body::Inner(copy_slots(alloc, slots)?);
     Ok(Arc::new(alloc, Node { body })?)
@@ -57,37 +56,7 @@ fn halves<U: Update>(alloc: Global, slot: &Slot<U>) -> Result<Option<(Slot<U>, S
     Ok(Some((left, right)))
 }
 
-/// Splits the child of the slot with number `i` of a node.
-fn split_slot<U: Update>(
-    alloc: Global,
-    shape: Shape,
-    root: bool,
-    slots: &mut Vec<Slot<U>>,
-    i: usize,
-) -> StepReply
-    ensures { Replies U.means SplitInner shape root i result (slots_of (map see_slot slots.old.items)) (slots_of (map see_slot slots.new.items)) }
-{
-    if i >= slots.len() {
-        return StepReply::NotThere;
-    }
-    let slot = &slots[i];
-    if !can_part(shape, root, slots.as_slice(), 0, slot.pending.as_slice()) {
-        return StepReply::NoRoom;
-    }
-    let Ok(parts) = halves(alloc, slot) else {
-        return StepReply::NoMemory;
-    };
-    let Some((left, right)) = parts else {
-        return StepReply::NotThere;
-    };
-    if slots.insert(i + 1, right).is_err() {
-        return StepReply::NoMemory;
-    }
-    slots[i] = left;
-    StepReply::Did(0)
-}
-
-/// Whether the node is an inner one with two slots or more. It takes no memory.
+/// Whether the node is an inner one with two slots or more.
 fn is_divisible<U: Update>(node: &Node<U>) -> bool
     ensures { result ≡ is_divided node.now }
 {
@@ -97,17 +66,6 @@ fn is_divisible<U: Update>(node: &Node<U>) -> bool
     slots.len() >= 2
 }
 
-/// Whether the child of the slot with number `i` is one. It takes no memory.
-fn is_splittable<U: Update>(slots: &[Slot<U>], i: usize) -> bool
-    ensures { result ≡ can_split_inner (slots_from i (slots_of (map see_slot slots.now))) }
-{
-    if i >= slots.len() {
-        return false;
-    }
-    let slot = &slots[i];
-    is_divisible(&slot.child)
-}
-
 /// The split of the inner node below one slot.
 struct InnerSplit;
 
@@ -115,18 +73,43 @@ impl<U: Update> Change<U> for InnerSplit {
     ghost kind = { SplitInner };
 
     fn can(&self, slots: &[Slot<U>], i: usize, _hi: Option<&Key>) -> bool {
-        is_splittable(slots, i)
+        if i >= slots.len() {
+            return false;
+        }
+        let slot = &slots[i];
+        is_divisible(&slot.child)
+    }
+
+    fn has_room(&self, shape: Shape, root: bool, slots: &[Slot<U>], i: usize) -> bool {
+        if i >= slots.len() {
+            return true;
+        }
+        let slot = &slots[i];
+        can_part(shape, root, slots, 0, slot.pending.as_slice())
     }
 
     fn change(
         &self,
         alloc: Global,
-        shape: Shape,
-        root: bool,
+        _shape: Shape,
+        _root: bool,
         slots: &mut Vec<Slot<U>>,
         i: usize,
     ) -> StepReply {
-        split_slot(alloc, shape, root, slots, i)
+        if i >= slots.len() {
+            return StepReply::NotThere;
+        }
+        let Ok(parts) = halves(alloc, &slots[i]) else {
+            return StepReply::NoMemory;
+        };
+        let Some((left, right)) = parts else {
+            return StepReply::NotThere;
+        };
+        if slots.insert(i + 1, right).is_err() {
+            return StepReply::NoMemory;
+        }
+        slots[i] = left;
+        StepReply::Did(0)
     }
 }
 

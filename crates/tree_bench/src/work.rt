@@ -3,11 +3,12 @@ use crate::number::Set;
 use lookup::get;
 use message::{Msg, Update};
 use node::node::count::held;
-use node::{Shape, Tree};
+use node::{Shape, StepReply, Tree};
 use pathkey::{Key, NoMemory};
 use std::alloc::Global;
 use std::collections::BTreeMap;
-use tree_tests::relief::{relieve, slots_of};
+use steps::relieve;
+use steps::room::slots_of;
 
 /// The shape of the trees.
 pub const SHAPE: Shape = Shape {
@@ -33,10 +34,18 @@ fn key(alloc: Global, number: u64) -> Result<Key, NoMemory> {
 }
 
 /// How many messages wait in the root.
-fn waiting<U: Update>(tree: &Tree<U>) -> usize {
+fn waiting<U: Update>(tree: &Tree<U>) -> u128 {
     match slots_of(tree.root()) {
-        Some(slots) => held(slots.as_slice()),
+        Some(slots) => held(slots),
         None => 0,
+    }
+}
+
+/// Does a step that relieves the tree; whether one was done.
+fn is_relieved<U: Update>(alloc: Global, tree: &mut Tree<U>) -> bool {
+    match relieve(alloc, tree) {
+        Some(turn) => matches!(turn.reply, StepReply::Did(_)),
+        None => false,
     }
 }
 
@@ -48,7 +57,7 @@ pub fn append_batch<U: Update>(
     limit: usize,
 ) -> Result<(), NoMemory> {
     tree.append(alloc, batch)?;
-    if waiting(tree) > limit && !relieve(alloc, tree) {
+    if waiting(tree) > limit as u128 && !is_relieved(alloc, tree) {
         return Err(NoMemory);
     }
     Ok(())
@@ -73,7 +82,7 @@ pub fn new_tree(alloc: Global) -> Result<Tree<Set>, NoMemory> {
 /// Flushes until nothing is pending; gives the number of steps.
 pub fn settle<U: Update>(alloc: Global, tree: &mut Tree<U>) -> u64 {
     for steps in 0..10_000_000 {
-        if !relieve(alloc, tree) {
+        if !is_relieved(alloc, tree) {
             return steps;
         }
     }

@@ -1,14 +1,15 @@
 //! A long script line by line, with steps of the tree between, beside the plain program.
-use crate::Random;
-use crate::steps::{SMALL, step};
+use crate::some_steps::{Done, SMALL, try_step};
 use call_compiler::Indexes;
 use message::Update;
 use node::{ShapeReport, Tree};
 use pathkey::Errno;
 use reference::plain::World;
 use reference::{Call, Kind, Reply};
+use samples::Random;
 use shell::{Request, read_request, run_script, write_reply};
 use std::alloc::Global;
+use std::process::Abort;
 use std::test::Fail;
 
 /// One of six names, of which some begin as others do.
@@ -152,7 +153,7 @@ impl Counts {
 #[derive(Default, Debug, Drop)]
 struct Course {
     /// Steps that were done.
-    steps: u32,
+    steps: Done,
     /// The most levels of inner nodes.
     levels: u128,
     /// The most messages that waited.
@@ -161,11 +162,16 @@ struct Course {
 
 impl Course {
     /// Tries many steps, and looks at the tree before and after them.
-    fn shake<U: Update>(&mut self, alloc: Global, random: &mut Random, tree: &mut Tree<U>) {
+    fn shake<U: Update>(
+        &mut self,
+        rt: &impl Abort,
+        alloc: Global,
+        random: &mut Random,
+        tree: &mut Tree<U>,
+    ) {
         self.look(tree.shape_report());
         for _ in 0..random.below(200) {
-            let is_done = step(alloc, random, tree);
-            self.steps = self.steps.saturating_add(u32::from(is_done));
+            try_step(rt, alloc, random, tree, &mut self.steps);
         }
         self.look(tree.shape_report());
     }
@@ -179,6 +185,7 @@ impl Course {
 
 /// Does a quarter of the script, and counts what comes of its calls; the first line that was answered otherwise, if any.
 fn quarter(
+    rt: &impl Abort,
     alloc: Global,
     random: &mut Random,
     both: &mut Both,
@@ -192,7 +199,7 @@ fn quarter(
         };
         counts.count(&call, &reply);
         if random.below(64) == 0 {
-            course.shake(alloc, random, &mut both.indexes.meta.tree);
+            course.shake(rt, alloc, random, &mut both.indexes.meta.tree);
         }
     }
     Ok(None)
@@ -206,12 +213,12 @@ fn a_script_answers_as_the_plain_program(rt: HostRuntime) -> Result<(), Fail> {
     let mut course = Course::default();
     for _ in 0..4 {
         let mut counts = Counts::default();
-        let other = quarter(alloc, &mut random, &mut both, &mut course, &mut counts)?;
+        let other = quarter(&rt, alloc, &mut random, &mut both, &mut course, &mut counts)?;
         assert_eq!(rt; other, None);
         assert!(rt; counts.least() >= 5, "{counts:?}");
     }
     assert!(rt;
-        course.steps >= 1000 && course.levels >= 3 && course.pending >= 16,
+        course.steps.all() >= 1000 && course.levels >= 3 && course.pending >= 16,
         "{course:?}"
     );
     Ok(())

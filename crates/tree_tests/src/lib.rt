@@ -3,17 +3,13 @@
 //! program.
 #![tactic(auto)]
 
-pub mod digit;
-pub mod random;
-pub mod relief;
-pub mod row;
-pub mod steps;
-
-pub use digit::Digit;
-pub use random::Random;
-pub use row::{KEYS, Message, Row, key};
-
 #[cfg(test)]
 mod calls;
+#[cfg(test)]
+mod pair;
+#[cfg(test)]
+mod settling;
+#[cfg(test)]
+mod some_steps;
 #[cfg(test)]
 mod tests;

@@ -1,14 +1,14 @@
 //! Steps on whole trees.
-use crate::steps::{SMALL, step, take};
-use crate::{Digit, KEYS, Message, Random, Row, key};
+use crate::pair::Pair;
+use crate::some_steps::{Done, SMALL, try_step};
 use flush::heaviest;
 use lookup::get;
-use message::Msg;
 use node::{Place, ShapeReport, StepKind, StepReply, Tree, TreeStep};
-use pathkey::{Key, KeyRange, NoMemory};
-use scan::{first_in, scan};
+use pathkey::NoMemory;
+use samples::{Digit, Plain, Random, batch, key};
 use std::alloc::Global;
 use std::test::Fail;
+use steps::do_step;
 
 /// The step at the root's first slot.
 fn at_first(kind: StepKind) -> TreeStep {
@@ -21,7 +21,7 @@ fn at_first(kind: StepKind) -> TreeStep {
 
 /// Does a step at the root's first slot.
 fn take_first(alloc: Global, tree: &mut Tree<Digit>, kind: StepKind) -> StepReply {
-    take(alloc, tree, at_first(kind))
+    do_step(alloc, tree, at_first(kind))
 }
 
 #[test]
@@ -48,9 +48,7 @@ fn new_tree_has_no_step_to_do(rt: HostRuntime) -> Result<(), Fail> {
 fn five_puts(alloc: Global) -> Result<Tree<Digit>, NoMemory> {
     let mut tree = Tree::new(alloc, SMALL)?;
     for name in *b"abcde" {
-        let mut batch = Vec::new(alloc);
-        batch.push(Msg::Put(Key::from_bytes(alloc, &[name])?, name as u64))?;
-        tree.append(alloc, batch)?;
+        tree.append(alloc, batch(alloc, &[Plain::Put(name, name as u64)])?)?;
     }
     Ok(tree)
 }
@@ -59,7 +57,7 @@ fn five_puts(alloc: Global) -> Result<Tree<Digit>, NoMemory> {
 fn found(alloc: Global, tree: &Tree<Digit>) -> Result<usize, NoMemory> {
     let mut count = 0usize;
     for name in *b"abcde" {
-        if get(alloc, tree, &Key::from_bytes(alloc, &[name])?)? == Some(name as u64) {
+        if get(alloc, tree, &key(alloc, name)?)? == Some(name as u64) {
             count = count.saturating_add(1);
         }
     }
@@ -79,7 +77,7 @@ fn five_keys_sink_into_two_leaves(rt: HostRuntime) -> Result<(), Fail> {
     for _ in 0..5 {
         assert_eq!(rt; found(alloc, &tree)?, 5);
         if let Some(step) = heaviest(&tree) {
-            take(alloc, &mut tree, step);
+            do_step(alloc, &mut tree, step);
         }
     }
     assert!(rt; heaviest(&tree).is_none());
@@ -101,7 +99,7 @@ fn five_sunk(alloc: Global) -> Result<Tree<Digit>, NoMemory> {
     let mut tree = five_puts(alloc)?;
     for _ in 0..5 {
         if let Some(step) = heaviest(&tree) {
-            take(alloc, &mut tree, step);
+            do_step(alloc, &mut tree, step);
         }
     }
     Ok(tree)
@@ -128,13 +126,11 @@ fn empty_leaves_become_one(rt: HostRuntime) -> Result<(), Fail> {
     let alloc = rt.alloc();
     let mut tree = five_sunk(alloc)?;
     for name in *b"abcde" {
-        let mut batch = Vec::new(alloc);
-        batch.push(Msg::Del(Key::from_bytes(alloc, &[name])?))?;
-        tree.append(alloc, batch)?;
+        tree.append(alloc, batch(alloc, &[Plain::Del(name)])?)?;
     }
     for _ in 0..5 {
         if let Some(step) = heaviest(&tree) {
-            take(alloc, &mut tree, step);
+            do_step(alloc, &mut tree, step);
         }
     }
     assert!(rt; heaviest(&tree).is_none());
@@ -154,93 +150,15 @@ fn empty_leaves_become_one(rt: HostRuntime) -> Result<(), Fail> {
     Ok(())
 }
 
-/// A tree beside a plain row under the same messages.
-#[derive(Drop)]
-struct Pair {
-    tree: Tree<Digit>,
-    row: Row,
-}
-
-impl Pair {
-    /// An empty tree beside an empty row.
-    fn new(alloc: Global) -> Result<Pair, NoMemory> {
-        Ok(Pair {
-            tree: Tree::new(alloc, SMALL)?,
-            row: [None; KEYS],
-        })
-    }
-
-    /// Puts up to two messages into both.
-    fn change(&mut self, alloc: Global, random: &mut Random) -> Result<(), NoMemory> {
-        let mut batch = Vec::new(alloc);
-        for _ in 0..random.below(3) {
-            let message = Message::random(random);
-            batch.push(message.for_tree(alloc)?)?;
-            message.lay(&mut self.row);
-        }
-        self.tree.append(alloc, batch)
-    }
-
-    /// Whether they agree at a key.
-    fn agrees_at(&self, alloc: Global, at: usize) -> Result<bool, NoMemory> {
-        let there = self.row.get(at).copied().flatten();
-        Ok(get(alloc, &self.tree, &key(alloc, at)?)? == there)
-    }
-
-    /// The row's first `limit` pairs from the key `lo` up to and without `hi`.
-    fn pairs(
-        &self,
-        alloc: Global,
-        lo: usize,
-        hi: usize,
-        limit: usize,
-    ) -> Result<Vec<(Key, u64)>, NoMemory> {
-        let mut pairs = Vec::new(alloc);
-        for at in lo..hi {
-            if pairs.len() == limit {
-                return Ok(pairs);
-            }
-            if let Some(value) = self.row.get(at).copied().flatten() {
-                pairs.push((key(alloc, at)?, value))?;
-            }
-        }
-        Ok(pairs)
-    }
-
-    /// Whether searches of a range find the row's pairs: the first, and a few.
-    fn finds_alike(&self, alloc: Global, random: &mut Random) -> Result<bool, NoMemory> {
-        let lo = random.below(KEYS as u32) as usize;
-        let hi = lo + random.below(60) as usize;
-        let range = KeyRange {
-            lo: key(alloc, lo)?,
-            hi: Some(key(alloc, hi)?),
-        };
-        let limit = 1 + random.below(8) as usize;
-        let wanted = self.pairs(alloc, lo, hi, limit)?;
-        let found = scan(alloc, &self.tree, &range, limit)?;
-        let first = first_in(alloc, &self.tree, &range)?;
-        Ok(found.as_slice() == wanted.as_slice() && first.as_ref() == wanted.first())
-    }
-
-    /// The first key at which they differ.
-    fn differs_at(&self, alloc: Global) -> Result<Option<usize>, NoMemory> {
-        for at in 0..KEYS {
-            if !self.agrees_at(alloc, at)? {
-                return Ok(Some(at));
-            }
-        }
-        Ok(None)
-    }
-}
-
 #[test]
 fn searches_find_the_pairs_of_the_row(rt: HostRuntime) -> Result<(), Fail> {
     let alloc = rt.alloc();
     let mut random = Random(3);
     let mut pair = Pair::new(alloc)?;
+    let mut done = Done::default();
     for round in 0..10_000 {
         pair.change(alloc, &mut random)?;
-        step(alloc, &mut random, &mut pair.tree);
+        try_step(&rt, alloc, &mut random, &mut pair.tree, &mut done);
         assert!(rt; pair.finds_alike(alloc, &mut random)?, "round {round}");
     }
     Ok(())
@@ -251,15 +169,16 @@ fn no_step_changes_a_value(rt: HostRuntime) -> Result<(), Fail> {
     let alloc = rt.alloc();
     let mut random = Random(11);
     let mut pair = Pair::new(alloc)?;
-    for round in 0..10_000 {
+    let mut done = Done::default();
+    for round in 0..20_000 {
         pair.change(alloc, &mut random)?;
-        step(alloc, &mut random, &mut pair.tree);
-        assert!(rt;
-            pair.agrees_at(alloc, random.below(KEYS as u32) as usize)?,
-            "round {round}"
-        );
+        for _ in 0..3 {
+            try_step(&rt, alloc, &mut random, &mut pair.tree, &mut done);
+        }
+        assert!(rt; pair.agrees_at(alloc, random.byte())?, "round {round}");
     }
     assert_eq!(rt; pair.differs_at(alloc)?, None);
+    assert!(rt; done.all() >= 10_000 && done.rarest() >= 5, "{done:?}");
     Ok(())
 }
 
@@ -268,15 +187,13 @@ fn shared_trees_never_change(rt: HostRuntime) -> Result<(), Fail> {
     let alloc = rt.alloc();
     let mut random = Random(23);
     let mut pair = Pair::new(alloc)?;
+    let mut done = Done::default();
     let mut kept = Vec::new(alloc);
     for round in 0..10_000 {
         pair.change(alloc, &mut random)?;
-        step(alloc, &mut random, &mut pair.tree);
+        try_step(&rt, alloc, &mut random, &mut pair.tree, &mut done);
         if round % 100 == 0 {
-            kept.push(Pair {
-                tree: pair.tree.share()?,
-                row: pair.row,
-            })?;
+            kept.push(pair.share()?)?;
         }
     }
     for old in &kept {

@@ -1,35 +1,8 @@
 //! A flush of one slot, and of a new tree, which has none to flush.
 use super::*;
-use message::{Changes, Pending};
+use message::Pending;
 use pathkey::{KeyRange, NoMemory};
-
-/// An update that changes nothing.
-#[derive(Clone, Copy, Debug, PartialEq, Eq)]
-pub(crate) struct NoUpdate;
-
-impl Changes for NoUpdate {
-    type Value = u8;
-}
-
-impl Update for NoUpdate {
-    ghost means = { λ u old. old };
-
-    fn apply(&self, _alloc: Global, old: Option<&u8>) -> Result<Option<u8>, NoMemory> {
-        Ok(old.copied())
-    }
-
-    fn join(&self, _alloc: Global, _later: &NoUpdate) -> Result<Option<NoUpdate>, NoMemory> {
-        Ok(Some(NoUpdate))
-    }
-
-    fn copy(&self, _alloc: Global) -> Result<NoUpdate, NoMemory> {
-        Ok(NoUpdate)
-    }
-
-    fn copy_value(_alloc: Global, value: &u8) -> Result<u8, NoMemory> {
-        Ok(*value)
-    }
-}
+use samples::NoUpdate;
 
 /// The smallest shape.
 pub(crate) const SMALL: Shape = Shape {
@@ -80,19 +53,29 @@ fn waiting(slots: &[Slot<NoUpdate>], i: usize) -> Option<usize> {
 
 #[test]
 fn messages_go_to_both_sides_of_a_pivot(rt: HostRuntime) -> Result<(), NoMemory> {
-    let mut slots = Vec::new(rt.alloc());
-    slots.push(full_slot(rt.alloc())?)?;
-    let reply = flush_slot(rt.alloc(), SMALL, true, &mut slots, 0);
+    let mut slot = full_slot(rt.alloc())?;
+    let reply = sink_oldest(rt.alloc(), SMALL.pending, &mut slot);
     assert_eq!(rt; reply, StepReply::Did(3));
-    assert_eq!(rt; waiting(slots.as_slice(), 0), Some(0));
-    let Some(slot) = slots.first() else {
-        return Ok(());
-    };
+    assert_eq!(rt; slot.pending.len(), 0);
     let Body::Inner(below) = &slot.child.body else {
-        return Ok(());
+        panic!(rt; "the child is an inner node");
     };
     assert_eq!(rt; waiting(below.as_slice(), 0), Some(2));
     assert_eq!(rt; waiting(below.as_slice(), 1), Some(2));
+    Ok(())
+}
+
+#[test]
+fn pieces_of_the_oldest_message_fill_the_child(rt: HostRuntime) -> Result<(), NoMemory> {
+    let slot = full_slot(rt.alloc())?;
+    let Body::Inner(below) = &slot.child.body else {
+        panic!(rt; "the child is an inner node");
+    };
+    let Some(every_key) = slot.pending.as_slice().get(1) else {
+        panic!(rt; "a range-delete is the second message");
+    };
+    assert!(rt; takes(below.as_slice(), every_key, 2));
+    assert!(rt; !takes(below.as_slice(), every_key, 1));
     Ok(())
 }
 

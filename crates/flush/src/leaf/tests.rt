@@ -1,6 +1,7 @@
 //! Flushes into leaves of whole trees: with room, full, and where the node is full too.
 use super::*;
-use crate::inner::tests::{NoUpdate, SMALL};
+use crate::inner::tests::SMALL;
+use samples::NoUpdate;
 
 /// Puts a key of one byte.
 fn put(alloc: Global, tree: &mut Tree<NoUpdate>, byte: u8) -> Result<(), NoMemory> {
@@ -51,6 +52,29 @@ fn full_leaf_takes_what_adds_nothing(rt: HostRuntime) -> Result<(), NoMemory> {
 }
 
 #[test]
+fn full_leaf_is_cut_for_the_oldest_message(rt: HostRuntime) -> Result<(), NoMemory> {
+    let alloc = rt.alloc();
+    let mut tree = Tree::new(alloc, SMALL)?;
+    for byte in *b"abcd" {
+        put(alloc, &mut tree, byte)?;
+    }
+    assert_eq!(rt;
+        flush_leaf(alloc, &mut tree, Place::root(), 0),
+        StepReply::Did(4)
+    );
+    for byte in *b"ea" {
+        put(alloc, &mut tree, byte)?;
+    }
+    assert_eq!(rt;
+        flush_leaf(alloc, &mut tree, Place::root(), 0),
+        StepReply::Did(1)
+    );
+    let report = tree.shape_report();
+    assert_eq!(rt; (report.slots, report.entries, report.pending), (2, 5, 1));
+    Ok(())
+}
+
+#[test]
 fn full_node_has_no_room_for_a_cut(rt: HostRuntime) -> Result<(), NoMemory> {
     let alloc = rt.alloc();
     let mut tree = Tree::new(alloc, SMALL)?;
@@ -65,6 +89,11 @@ fn full_node_has_no_room_for_a_cut(rt: HostRuntime) -> Result<(), NoMemory> {
     }
     assert_eq!(rt; reply, StepReply::NoRoom);
     assert_eq!(rt; last, 3);
+    put(alloc, &mut tree, 6)?;
+    assert_eq!(rt;
+        flush_leaf(alloc, &mut tree, Place::root(), last),
+        StepReply::NoRoom
+    );
     Ok(())
 }
 

@@ -7,12 +7,11 @@ ghost use Rattle.std.specs.Prelude.{◌≡◌, OnOk, OnErr, IfOk, map, length, �
 ghost use Rattle.std.specs.Option.{option_copied, option_to_list};
 ghost use Rattle.message.specs.Cuts.{pieces as pieces_of};
 ghost use Rattle.node.specs.Appended.{parts as parts_of, placed, HaveTaken, IsAppended};
-ghost use Rattle.node.specs.Lawful.{next_lo};
-ghost use Rattle.node.specs.Pure.{slots as slots_of, inner};
-ghost use Rattle.node.specs.Ready.{AreRising, Fits, AllFit, IsRoot, HasRoom, see_list};
-ghost use Rattle.node.specs.See.{see_slot};
+ghost use Rattle.node.specs.Pure.{inner};
+ghost use Rattle.node.specs.Searchable.{AreRising, Fits, AllFit, IsRoot, HasRoom, see_list};
+ghost use Rattle.node.specs.See.{see_slot, seen_slots};
 
-use super::search::slot_of;
+use super::search::{next_pivot, slot_of};
 use super::{Body, Node, Slot};
 use message::{Msg, Update};
 use pathkey::{Key, NoMemory};
@@ -28,17 +27,7 @@ fn push_some<U: Update>(part: &mut Vec<Msg<U>>, piece: Option<Msg<U>>) -> Result
     }
 }
 
-/// Where the slot before `later` ends: where they begin, or at `hi`. It takes no memory.
-pub fn end_of<'a, U: Update>(later: &'a [Slot<U>], hi: Option<&'a Key>) -> Option<&'a Key>
-    ensures { option_copied result ≡ next_lo (option_copied hi.entry) (slots_of (map see_slot later.now)) }
-{
-    match later.first() {
-        None => hi,
-        Some(next) => Some(&next.lo),
-    }
-}
-
-/// Puts what each slot takes of the message at the end of the slot's part.
+/// Puts the piece of the message that lies in each slot's range at the end of that slot's part.
 fn place_in_all<U: Update>(
     alloc: Global,
     slots: &[Slot<U>],
@@ -46,7 +35,7 @@ fn place_in_all<U: Update>(
     parts: &mut [Vec<Msg<U>>],
     msg: &Msg<U>,
 ) -> Result<(), NoMemory>
-    ensures { OnOk result (map see_list parts.new ≡ placed (option_copied hi.entry) msg.now (slots_of (map see_slot slots.now)) (map see_list parts.old)) }
+    ensures { OnOk result (map see_list parts.new ≡ placed (option_copied hi.entry) msg.now (seen_slots slots.now) (map see_list parts.old)) }
 {
     let Some((slot, slots)) = slots.split_first() else {
         return Ok(());
@@ -54,12 +43,12 @@ fn place_in_all<U: Update>(
     let Some((part, parts)) = parts.split_first_mut() else {
         return Ok(());
     };
-    let piece = msg.cut_between(alloc, &slot.lo, end_of(slots, hi))?;
+    let piece = msg.cut_between(alloc, &slot.lo, next_pivot(slots, hi))?;
     push_some(part, piece)?;
     place_in_all(alloc, slots, hi, parts, msg)
 }
 
-/// The same, where a message for one key is moved and not cut.
+/// Likewise, but a message for one key is moved to its slot's part and not cut.
 fn place<U: Update>(
     alloc: Global,
     slots: &[Slot<U>],
@@ -67,10 +56,10 @@ fn place<U: Update>(
     parts: &mut [Vec<Msg<U>>],
     msg: Msg<U>,
 ) -> Result<(), NoMemory>
-    requires rising { AreRising (slots_of (map see_slot slots.now)) }
-    requires fits { Fits (option_copied hi) (slots_of (map see_slot slots.now)) msg }
+    requires rising { AreRising (seen_slots slots.now) }
+    requires fits { Fits (option_copied hi) (seen_slots slots.now) msg }
     requires pairs { length parts.old ≡ length slots.now }
-    ensures { OnOk result (map see_list parts.new ≡ placed (option_copied hi.entry) msg (slots_of (map see_slot slots.now)) (map see_list parts.old)) }
+    ensures { OnOk result (map see_list parts.new ≡ placed (option_copied hi.entry) msg (seen_slots slots.now) (map see_list parts.old)) }
 {
     match msg.point() {
         None => place_in_all(alloc, slots, hi, parts, &msg),
@@ -93,16 +82,16 @@ fn empty_parts<U: Update>(alloc: Global, slots: &[Slot<U>]) -> Result<Vec<Vec<Ms
     Ok(parts)
 }
 
-/// What each slot takes of the messages; `hi` is the end of the last slot, if it has one.
+/// The messages as each slot takes them, cut at the pivots; `hi` is where the last slot ends, if it does.
 pub fn parts<U: Update>(
     alloc: Global,
     slots: &[Slot<U>],
     hi: Option<&Key>,
     msgs: Vec<Msg<U>>,
 ) -> Result<Vec<Vec<Msg<U>>>, NoMemory>
-    requires rising { AreRising (slots_of (map see_slot slots.now)) }
-    requires fits { AllFit (option_copied hi) (slots_of (map see_slot slots.now)) msgs.items }
-    ensures { IfOk result (λ v. map see_list v.items ≡ parts_of (option_copied hi.entry) msgs.items (slots_of (map see_slot slots.now))) }
+    requires rising { AreRising (seen_slots slots.now) }
+    requires fits { AllFit (option_copied hi) (seen_slots slots.now) msgs.items }
+    ensures { IfOk result (λ v. map see_list v.items ≡ parts_of (option_copied hi.entry) msgs.items (seen_slots slots.now)) }
 {
     let mut parts = empty_parts(alloc, slots)?;
     for msg in msgs {
@@ -111,7 +100,7 @@ pub fn parts<U: Update>(
     Ok(parts)
 }
 
-/// The parts of messages from `lo` up to and without `hi`, in their order.
+/// The pieces of the messages that lie from `lo` up to and without `hi`, in their order.
 pub fn pieces<U: Update>(
     alloc: Global,
     lo: &Key,
@@ -129,23 +118,22 @@ pub fn pieces<U: Update>(
     Ok(found)
 }
 
-/// Puts what each slot takes of the messages behind other parts; the last slot has no end.
-fn push_parts<U: Update>(
+/// Copies of the messages as each slot takes them, cut at the pivots; the last slot has no end.
+fn copied_parts<U: Update>(
     alloc: Global,
     slots: &[Slot<U>],
     msgs: &[Msg<U>],
-    parts: &mut Vec<Vec<Msg<U>>>,
-) -> Result<(), NoMemory>
-    ensures { OnOk result (map see_list parts.new.items ≡ map see_list parts.old.items ++ parts_of None msgs.now (slots_of (map see_slot slots.now))) }
+) -> Result<Vec<Vec<Msg<U>>>, NoMemory>
+    ensures { IfOk result (λ v. map see_list v.items ≡ parts_of None msgs.now (seen_slots slots.now)) }
 {
-    let Some((slot, later)) = slots.split_first() else {
-        return Ok(());
-    };
-    parts.push(pieces(alloc, &slot.lo, end_of(later, None), msgs)?)?;
-    push_parts(alloc, later, msgs, parts)
+    let mut parts = empty_parts(alloc, slots)?;
+    for msg in msgs {
+        place_in_all(alloc, slots, None, parts.as_mut_slice(), msg)?;
+    }
+    Ok(parts)
 }
 
-/// Makes room in each slot for its part. The slots look the same, whatever it answers.
+/// Reserves room in each slot's list for its part. The slots mean what they meant, whatever it answers.
 pub fn make_room<U: Update>(slots: &mut [Slot<U>], parts: &[Vec<Msg<U>>]) -> Result<(), NoMemory>
     ensures same { map see_slot slots.new ≡ map see_slot slots.old }
     ensures room { OnOk result (HasRoom slots.new parts.now) }
@@ -163,7 +151,7 @@ pub fn make_room<U: Update>(slots: &mut [Slot<U>], parts: &[Vec<Msg<U>>]) -> Res
 /// Puts each part behind what waits in its slot, where there is room for it.
 pub fn put<U: Update>(slots: &mut [Slot<U>], parts: &mut [Vec<Msg<U>>])
     requires { HasRoom slots.old parts.old }
-    ensures { HaveTaken U.means (slots_of (map see_slot slots.old)) (map see_list parts.old) (slots_of (map see_slot slots.new)) }
+    ensures { HaveTaken U.means (seen_slots slots.old) (map see_list parts.old) (seen_slots slots.new) }
 {
     let Some((slot, slots)) = slots.split_first_mut() else {
         return;
@@ -175,16 +163,16 @@ pub fn put<U: Update>(slots: &mut [Slot<U>], parts: &mut [Vec<Msg<U>>])
     put(slots, parts)
 }
 
-/// The parts of the messages, with room for them in a root's slots.
+/// Cuts the messages for a root's slots and reserves room for the parts in them.
 fn prepare<U: Update>(
     alloc: Global,
     slots: &mut [Slot<U>],
     msgs: Vec<Msg<U>>,
 ) -> Result<Vec<Vec<Msg<U>>>, NoMemory>
-    requires { IsRoot (inner (slots_of (map see_slot slots.old))) }
+    requires { IsRoot (inner (seen_slots slots.old)) }
     ensures same { map see_slot slots.new ≡ map see_slot slots.old }
     ensures room { IfOk result (λ v. HasRoom slots.new v.items) }
-    ensures parts { IfOk result (λ v. map see_list v.items ≡ parts_of None msgs.items (slots_of (map see_slot slots.old))) }
+    ensures parts { IfOk result (λ v. map see_list v.items ≡ parts_of None msgs.items (seen_slots slots.old)) }
 {
     let parts = parts(alloc, slots, None, msgs)?;
     make_room(slots, parts.as_slice())?;
@@ -197,8 +185,8 @@ fn append_slots<U: Update>(
     slots: &mut [Slot<U>],
     msgs: Vec<Msg<U>>,
 ) -> Result<(), NoMemory>
-    requires { IsRoot (inner (slots_of (map see_slot slots.old))) }
-    ensures ok { OnOk result (IsAppended U.means msgs.items (inner (slots_of (map see_slot slots.old))) (inner (slots_of (map see_slot slots.new)))) }
+    requires { IsRoot (inner (seen_slots slots.old)) }
+    ensures ok { OnOk result (IsAppended U.means msgs.items (inner (seen_slots slots.old)) (inner (seen_slots slots.new))) }
     ensures err { OnErr result (map see_slot slots.new ≡ map see_slot slots.old) }
 {
     let mut parts = prepare(alloc, slots, msgs)?;
@@ -206,7 +194,7 @@ fn append_slots<U: Update>(
     Ok(())
 }
 
-/// The same for two roots, both or none.
+/// Likewise for two roots: both or neither.
 fn append_both_slots<A: Update, B: Update>(
     alloc: Global,
     first: &mut [Slot<A>],
@@ -214,11 +202,11 @@ fn append_both_slots<A: Update, B: Update>(
     second: &mut [Slot<B>],
     second_msgs: Vec<Msg<B>>,
 ) -> Result<(), NoMemory>
-    requires first { IsRoot (inner (slots_of (map see_slot first.old))) }
-    requires second { IsRoot (inner (slots_of (map see_slot second.old))) }
-    ensures first_ok { OnOk result (IsAppended A.means first_msgs.items (inner (slots_of (map see_slot first.old))) (inner (slots_of (map see_slot first.new)))) }
+    requires first { IsRoot (inner (seen_slots first.old)) }
+    requires second { IsRoot (inner (seen_slots second.old)) }
+    ensures first_ok { OnOk result (IsAppended A.means first_msgs.items (inner (seen_slots first.old)) (inner (seen_slots first.new))) }
     ensures first_err { OnErr result (map see_slot first.new ≡ map see_slot first.old) }
-    ensures second_ok { OnOk result (IsAppended B.means second_msgs.items (inner (slots_of (map see_slot second.old))) (inner (slots_of (map see_slot second.new)))) }
+    ensures second_ok { OnOk result (IsAppended B.means second_msgs.items (inner (seen_slots second.old)) (inner (seen_slots second.new))) }
     ensures second_err { OnErr result (map see_slot second.new ≡ map see_slot second.old) }
 {
     let mut first_parts = prepare(alloc, first, first_msgs)?;
@@ -235,11 +223,10 @@ pub fn append_copies<U: Update>(
     slots: &mut [Slot<U>],
     msgs: &[Msg<U>],
 ) -> Result<(), NoMemory>
-    ensures ok { OnOk result (HaveTaken U.means (slots_of (map see_slot slots.old)) (parts_of None msgs.now (slots_of (map see_slot slots.old))) (slots_of (map see_slot slots.new))) }
+    ensures ok { OnOk result (HaveTaken U.means (seen_slots slots.old) (parts_of None msgs.now (seen_slots slots.old)) (seen_slots slots.new)) }
     ensures err { OnErr result (map see_slot slots.new ≡ map see_slot slots.old) }
 {
-    let mut parts = Vec::new(alloc);
-    push_parts(alloc, slots, msgs, &mut parts)?;
+    let mut parts = copied_parts(alloc, slots, msgs)?;
     make_room(slots, parts.as_slice())?;
     put(slots, parts.as_mut_slice());
     Ok(())
@@ -259,7 +246,7 @@ impl<U: Update> Node<U> {
     }
 }
 
-/// Puts messages into the slots of two roots, both or none.
+/// Puts messages into the slots of two roots: both or neither.
 pub fn append_both<A: Update, B: Update>(
     alloc: Global,
     first: &mut Node<A>,

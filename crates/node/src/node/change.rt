@@ -1,12 +1,12 @@
 //! A change of the slots of one node, which a walk down the tree brings to its place.
-ghost use Rattle.std.specs.Prelude.{◌≡◌, IsTrue, map};
+ghost use Rattle.std.specs.Prelude.{◌≡◌, IsTrue, true, false, ℕ, List, Option};
 ghost use Rattle.std.specs.Option.{option_copied};
-ghost use Rattle.node.specs.Pure.{slots as slots_of, inner};
-ghost use Rattle.node.specs.Ready.{IsSearchable};
-ghost use Rattle.node.specs.See.{see_slot};
+ghost use Rattle.node.specs.Pure.{inner};
+ghost use Rattle.node.specs.Searchable.{IsSearchable};
+ghost use Rattle.node.specs.See.{seen_slots};
 ghost use Rattle.node.specs.Shapes.{is_shape};
 ghost use Rattle.node.specs.Site.{slots_from};
-ghost use Rattle.node.specs.Steps.{can, Replies};
+ghost use Rattle.node.specs.Steps.{can, HasNoRoom, LawfulSlots, MayHaveRoom, Replies};
 ghost use Rattle.node.specs.declared.step.StepKind.{StepKind};
 
 use super::Slot;
@@ -21,11 +21,18 @@ pub trait Change<U: Update> {
     /// Which step it is.
     ghost kind: { StepKind };
 
-    /// Whether the step can be done there, where the node's range ends at `hi`. It takes no memory.
+    /// Whether the step can be done there, where the node's range ends at `hi`.
     fn can(&self, slots: &[Slot<U>], i: usize, hi: Option<&Key>) -> bool
-        ensures { result ≡ can kind (option_copied hi.entry) (slots_from i (slots_of (map see_slot slots.now))) };
+        ensures { result ≡ can kind (option_copied hi.entry) (slots_from i (seen_slots slots.now)) };
 
-    /// Does the step; `root` says whether the node is the tree's root.
+    /// Whether there is room for the step where it can be done, as far as reading tells; `root` says whether the node is
+    /// the tree's root.
+    fn has_room(&self, shape: Shape, root: bool, slots: &[Slot<U>], i: usize) -> bool
+        requires { IsSearchable (inner (seen_slots slots.now)) }
+        ensures yes { result ≡ true → (h : ℕ) (lo : List ℕ) (hi : Option (List ℕ)) → LawfulSlots shape root h lo hi (seen_slots slots.now) → can kind hi (slots_from i (seen_slots slots.now)) ≡ true → MayHaveRoom U.means kind shape root i (seen_slots slots.now) }
+        ensures no { result ≡ false → HasNoRoom U.means kind shape root i (seen_slots slots.now) };
+
+    /// Does the step, where it can be done and reading told of no lack of room.
     fn change(
         &self,
         alloc: Global,
@@ -35,6 +42,6 @@ pub trait Change<U: Update> {
         i: usize,
     ) -> StepReply
         requires shape { IsTrue (is_shape shape) }
-        requires searchable { IsSearchable (inner (slots_of (map see_slot slots.old.items))) }
-        ensures { Replies U.means kind shape root i result (slots_of (map see_slot slots.old.items)) (slots_of (map see_slot slots.new.items)) };
+        requires searchable { IsSearchable (inner (seen_slots slots.old.items)) }
+        ensures { Replies U.means kind shape root i result (seen_slots slots.old.items) (seen_slots slots.new.items) };
 }

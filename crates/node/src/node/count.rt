@@ -1,29 +1,46 @@
 //! How much a node holds.
-ghost use Rattle.std.specs.Prelude.{◌≡◌, ◌≤◌, ◌<◌, ◌+◌, ◌*◌, ◌^◌, true, false, length, map};
+ghost use Rattle.std.specs.Prelude.{◌≡◌, ◌≤◌, ◌<◌, ◌+◌, ◌*◌, ◌^◌, ◌∷◌, [], true, false, length};
 ghost use Rattle.node.specs.Lawful.{pending as pending_of};
 ghost use Rattle.node.specs.Report.{own as own_of, total as total_of, width};
 ghost use Rattle.node.specs.RootSteps.{levels};
-ghost use Rattle.node.specs.Rows.{range_count, CanPart, CannotPart};
-ghost use Rattle.node.specs.Pure.{slots as slots_of};
-ghost use Rattle.node.specs.See.{see_slot};
+ghost use Rattle.node.specs.StepRows.{piece_count, range_count, CanPart, CannotPart};
+ghost use Rattle.node.specs.See.{seen_slots};
 
+use super::meets::meets;
+use super::search::next_pivot;
 use super::{Body, Node, Slot};
 use crate::report::Quantity;
 use crate::shape::Shape;
 use message::{Msg, Update};
 
-/// How many messages wait in the slots, but at most `usize::MAX`. It takes no memory.
-pub fn held<U: Update>(slots: &[Slot<U>]) -> usize
-    ensures at_most { result ≤ pending_of (slots_of (map see_slot slots.now)) }
-    ensures exact { result < 18446744073709551615 → result ≡ pending_of (slots_of (map see_slot slots.now)) }
+/// How many messages wait in the slots.
+pub fn held<U: Update>(slots: &[Slot<U>]) -> u128
+    ensures exact { result ≡ pending_of (seen_slots slots.now) }
+    ensures bound { result ≤ 18446744073709551615 * length slots.now }
 {
-    match slots.split_first() {
-        None => 0,
-        Some((first, rest)) => first.pending.len().saturating_add(held(rest)),
+    if slots.len() == 0 {
+        return 0;
     }
+    let Some((slot, later)) = slots.split_first() else {
+        return 0;
+    };
+    slot.pending.len() as u128 + held(later)
 }
 
-/// How many of the messages are range-deletes. It takes no memory.
+/// How many of the slots take a part of the message.
+pub fn pieces_in<U: Update>(slots: &[Slot<U>], msg: &Msg<U>) -> usize
+    ensures bound { result ≤ length slots.now }
+    ensures exact { result ≡ piece_count (msg.now ∷ []) (seen_slots slots.now) }
+{
+    let Some((slot, later)) = slots.split_first() else {
+        return 0;
+    };
+    let is_met = meets(msg, &slot.lo, next_pivot(later, None));
+    let more = pieces_in(later, msg);
+    if is_met { more + 1 } else { more }
+}
+
+/// How many of the messages are range-deletes.
 fn ranges_in<U: Update>(msgs: &[Msg<U>]) -> usize
     ensures { result ≡ range_count msgs.now }
 {
@@ -36,22 +53,8 @@ fn ranges_in<U: Update>(msgs: &[Msg<U>]) -> usize
     count
 }
 
-/// How many messages wait in the slots. It takes no memory.
-fn waiting<U: Update>(slots: &[Slot<U>]) -> u128
-    ensures exact { result ≡ pending_of (slots_of (map see_slot slots.now)) }
-    ensures bound { result ≤ 18446744073709551615 * length slots.now }
-{
-    if slots.len() == 0 {
-        return 0;
-    }
-    let Some((slot, later)) = slots.split_first() else {
-        return 0;
-    };
-    slot.pending.len() as u128 + waiting(later)
-}
-
-/// Whether a node has room for one slot more and, below the root, for the range-deletes among `msgs`, messages of one of
-/// its slots that then would stand in both parts of it, once `gone` messages have left. It takes no memory.
+/// Whether one of a node's slots can become two: the node has room for one slot more and, unless it is the root, for the
+/// range-deletes among the slot's messages `msgs`, which would then wait in both, once `gone` messages have left.
 pub fn can_part<U: Update>(
     shape: Shape,
     root: bool,
@@ -59,23 +62,23 @@ pub fn can_part<U: Update>(
     gone: u8,
     msgs: &[Msg<U>],
 ) -> bool
-    ensures room { result ≡ true → CanPart shape root (slots_of (map see_slot slots.now)) gone (range_count msgs.now) }
-    ensures none { result ≡ false → CannotPart shape root (slots_of (map see_slot slots.now)) gone (range_count msgs.now) }
+    ensures room { result ≡ true → CanPart shape root (seen_slots slots.now) gone (range_count msgs.now) }
+    ensures none { result ≡ false → CannotPart shape root (seen_slots slots.now) gone (range_count msgs.now) }
 {
     if slots.len() >= shape.fanout as usize {
         return false;
     }
-    root || held(slots).saturating_add(ranges_in(msgs)) <= shape.pending as usize + gone as usize
+    root || held(slots) + ranges_in(msgs) as u128 <= shape.pending as u128 + gone as u128
 }
 
-/// How much of the quantity the node itself has. It takes no memory.
+/// The count for the node alone.
 fn own<U: Update>(node: &Node<U>, quantity: Quantity) -> u128
     ensures exact { result ≡ own_of quantity node.now }
     ensures bound { own_of quantity node.now ≤ 18446744073709551615 * width node.now + 18446744073709551615 }
 {
     match (quantity, &node.body) {
         (Quantity::Slots, Body::Inner(slots)) => slots.len() as u128,
-        (Quantity::Pending, Body::Inner(slots)) => waiting(slots.as_slice()),
+        (Quantity::Pending, Body::Inner(slots)) => held(slots.as_slice()),
         (Quantity::Entries, Body::Leaf(entries)) => entries.len() as u128,
         (Quantity::Slots, Body::Leaf(_)) => 0,
         (Quantity::Pending, Body::Leaf(_)) => 0,
@@ -83,7 +86,7 @@ fn own<U: Update>(node: &Node<U>, quantity: Quantity) -> u128
     }
 }
 
-/// How much of the quantity the node and all nodes below it have, but at most `u128::MAX`. It takes no memory.
+/// The count for the node and all nodes below it, but at most `u128::MAX`.
 pub fn total<U: Update>(node: &Node<U>, quantity: Quantity) -> u128
     ensures at_most { result ≤ total_of quantity node.now }
     ensures exact { result < 2 ^ 127 → result ≡ total_of quantity node.now }
@@ -98,7 +101,7 @@ pub fn total<U: Update>(node: &Node<U>, quantity: Quantity) -> u128
     sum
 }
 
-/// How many inner nodes stand above the first leaf, but at most `u128::MAX`. It takes no memory.
+/// The levels of inner nodes above the first leaf, but at most `u128::MAX`.
 pub fn height<U: Update>(node: &Node<U>) -> u128
     ensures at_most { result ≤ levels node.now }
     ensures exact { result < 2 ^ 127 → result ≡ levels node.now }

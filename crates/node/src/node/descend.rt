@@ -1,11 +1,16 @@
-//! The walks down to the place of a step: the first finds by `&` whether the step can be done, the second does it.
-ghost use Rattle.std.specs.Prelude.{◌≡◌, IsTrue, map};
+//! The walks down to the place of a step: the first only reads, and finds whether the step can be done there and has
+//! room; the second does it.
+ghost use Rattle.std.specs.Prelude.{◌≡◌, IsTrue, Some};
 ghost use Rattle.std.specs.Option.{option_copied};
-ghost use Rattle.node.specs.Ready.{IsSearchable};
+ghost use Rattle.node.specs.Pure.{inner};
+ghost use Rattle.node.specs.Searchable.{IsSearchable};
+ghost use Rattle.node.specs.See.{seen_slots};
 ghost use Rattle.node.specs.Shapes.{is_shape};
-ghost use Rattle.node.specs.Steps.{At, Replies, there};
+ghost use Rattle.node.specs.Site.{end_at, slots_at};
+ghost use Rattle.node.specs.Steps.{At, Refusal, Replies};
 
 use super::change::Change;
+use super::search::end_of;
 use super::{Body, Node, Slot};
 use crate::shape::Shape;
 use crate::step::StepReply;
@@ -14,33 +19,53 @@ use pathkey::Key;
 use std::alloc::Global;
 use std::sync::Arc;
 
-/// Whether the change can be done at the slot with number `slot` of the node that `place` leads to, below or at
-/// `node`, whose range ends at `hi`. It takes no memory.
-pub fn is_there<U: Update, C: Change<U>>(
-    node: &Node<U>,
+/// Why the change is not done at the slot with number `slot` of this node, whose range ends at `hi`, as far as reading
+/// tells.
+fn refusal_here<U: Update, C: Change<U>>(
     change: &C,
+    shape: Shape,
+    root: bool,
+    slots: &[Slot<U>],
+    slot: usize,
+    hi: Option<&Key>,
+) -> Option<StepReply>
+    requires { IsSearchable (inner (seen_slots slots.now)) }
+    ensures { Refusal U.means C.kind shape root slot (option_copied hi.entry) (Some (seen_slots slots.now)) result }
+{
+    if !change.can(slots, slot, hi) {
+        return Some(StepReply::NotThere);
+    }
+    if !change.has_room(shape, root, slots, slot) {
+        return Some(StepReply::NoRoom);
+    }
+    None
+}
+
+/// Likewise for the node that `place` leads to, below or at `node`, whose range ends at `hi`.
+pub fn refusal<U: Update, C: Change<U>>(
+    change: &C,
+    shape: Shape,
+    root: bool,
+    node: &Node<U>,
     place: &[u8],
     slot: usize,
     hi: Option<&Key>,
-) -> bool
-    ensures { result ≡ there C.kind slot place.now (option_copied hi.entry) node.now }
+) -> Option<StepReply>
+    requires { IsSearchable node.now }
+    ensures { Refusal U.means C.kind shape root slot (end_at place.now (option_copied hi.entry) node.now) (slots_at place.now node.now) result }
 {
     let Body::Inner(slots) = &node.body else {
-        return false;
+        return Some(StepReply::NotThere);
     };
     let Some((first, rest)) = place.split_first() else {
-        return change.can(slots.as_slice(), slot, hi);
+        return refusal_here(change, shape, root, slots.as_slice(), slot, hi);
     };
     let i = *first as usize;
     if i >= slots.len() {
-        return false;
+        return Some(StepReply::NotThere);
     }
-    let end = if i + 1 < slots.len() {
-        Some(&slots[i + 1].lo)
-    } else {
-        hi
-    };
-    is_there(&slots[i].child, change, rest, slot, end)
+    let end = end_of(slots.as_slice(), i, hi);
+    refusal(change, shape, root, &slots[i].child, rest, slot, end)
 }
 
 /// Does the change at the slot with number `slot` of the node that `place` leads to, below or at `node`.

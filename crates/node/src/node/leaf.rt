@@ -84,6 +84,24 @@ fn set<V: Drop>(
     }
 }
 
+/// Changes the value of entry `i` by the update, in its place, or takes the entry away where no value is left.
+fn edit_entry<U: Update>(
+    alloc: Global,
+    entries: &mut Vec<(Key, U::Value)>,
+    i: usize,
+    update: &U,
+) -> Result<(), NoMemory>
+    requires bound { i < length entries.old.items }
+    requires rising { Rises [] None entries.old.items }
+    ensures ok { OnOk result ((k : List ℕ) → IsEntry entries.old.items k i → IsChanged (same k) (U.means update.now (lookup entries.old.items k)) entries.old.items entries.new.items) }
+    ensures err { OnErr result (entries.new.items ≡ entries.old.items) }
+{
+    if !update.change(alloc, &mut entries[i].1)? {
+        entries.remove(i);
+    }
+    Ok(())
+}
+
 /// Gives the key what the update makes of its value, or of its absence.
 fn edit<U: Update>(
     alloc: Global,
@@ -96,11 +114,7 @@ fn edit<U: Update>(
     ensures err { OnErr result (entries.new.items ≡ entries.old.items) }
 {
     match position(entries.as_slice(), key) {
-        Ok(i) => {
-            let value = update.apply(alloc, Some(&entries[i].1))?;
-            replace(entries, i, value);
-            Ok(())
-        }
+        Ok(i) => edit_entry(alloc, entries, i, update),
         Err(i) => {
             let nothing: Option<U::Value> = None;
             let value = update.apply(alloc, nothing.as_ref())?;

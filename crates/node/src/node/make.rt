@@ -1,7 +1,7 @@
 //! New nodes.
 ghost use Rattle.std.specs.Prelude.{◌≡◌, IfOk, []};
 ghost use Rattle.node.specs.Pure.{empty_root, leaf as pure_leaf};
-ghost use Rattle.node.specs.Ready.{IsRoot};
+ghost use Rattle.node.specs.Searchable.{IsRoot};
 ghost use Rattle.node.specs.See.{see_slot};
 
 use super::{Body, Node, Slot};

@@ -1,9 +1,12 @@
-//! Which slot holds a key.
-ghost use Rattle.std.specs.Prelude.{◌≡◌, ◌<◌, length, map};
+//! Which slot holds a key, and where a slot ends.
+ghost use Rattle.std.specs.Prelude.{◌≡◌, ◌<◌, length};
+ghost use Rattle.std.specs.Option.{option_copied};
+ghost use Rattle.node.specs.Lawful.{next_lo};
 ghost use Rattle.node.specs.Meaning.{slot_number};
-ghost use Rattle.node.specs.Pure.{is_leaf, slots as slots_of};
-ghost use Rattle.node.specs.Ready.{AreRising};
-ghost use Rattle.node.specs.See.{see, see_slot};
+ghost use Rattle.node.specs.Pure.{is_leaf};
+ghost use Rattle.node.specs.Searchable.{AreRising};
+ghost use Rattle.node.specs.See.{see, seen_slots};
+ghost use Rattle.node.specs.Site.{end_of};
 
 use super::{Body, Node, Slot};
 use message::{Changes, Update};
@@ -12,14 +15,32 @@ use pathkey::Key;
 /// The number of the slot whose range holds the key, found by bisection.
 pub fn slot_of<U: Update>(slots: &[Slot<U>], key: &Key) -> usize
     requires some { 0 < length slots.now }
-    requires rising { AreRising (slots_of (map see_slot slots.now)) }
+    requires rising { AreRising (seen_slots slots.now) }
     ensures bound { result < length slots.now }
-    ensures number { result ≡ slot_number (slots_of (map see_slot slots.now)) key.now }
+    ensures number { result ≡ slot_number (seen_slots slots.now) key.now }
 {
     let Some((_, later)) = slots.split_first() else {
         return 0;
     };
     later.partition_point(|slot| slot.lo.cmp(key).is_le())
+}
+
+/// The pivot of the first of these slots, or `hi` where there is none: so the end of the slot before them.
+pub fn next_pivot<'a, U: Update>(later: &'a [Slot<U>], hi: Option<&'a Key>) -> Option<&'a Key>
+    ensures { option_copied result ≡ next_lo (option_copied hi.entry) (seen_slots later.now) }
+{
+    match later.first() {
+        None => hi,
+        Some(next) => Some(&next.lo),
+    }
+}
+
+/// Where the slot with number `i` ends, where the last slot ends at `hi`.
+pub fn end_of<'a, U: Update>(slots: &'a [Slot<U>], i: usize, hi: Option<&'a Key>) -> Option<&'a Key>
+    requires { i < length slots.now }
+    ensures { option_copied result ≡ end_of (option_copied hi.entry) (seen_slots slots.now) i }
+{
+    next_pivot(&slots[i + 1..], hi)
 }
 
 impl<U: Changes> Node<U> {
@@ -30,7 +51,7 @@ impl<U: Changes> Node<U> {
         &self.body
     }
 
-    /// Whether it is a leaf. It takes no memory.
+    /// Whether it is a leaf.
     pub fn is_leaf(&self) -> bool
         ensures { result ≡ is_leaf self.now }
     {

@@ -4,7 +4,7 @@ ghost use Rattle.node.specs.Steps.{Answers};
 
 use super::Tree;
 use crate::node::change::Change;
-use crate::node::descend::{descend, is_there};
+use crate::node::descend::{descend, refusal};
 use crate::place::Place;
 use crate::step::StepReply;
 use message::Update;
@@ -13,8 +13,8 @@ use std::alloc::Global;
 impl<U: Update> Tree<U> {
     /// Does a change at the slot with number `slot` of the node at `at`.
     ///
-    /// That it can be done there is found first, without memory. The nodes on the way are owned, and copied where
-    /// they are shared, one level each.
+    /// That it can be done there and has room is found first, by reading alone. Then the nodes on the way are owned, and
+    /// copied where they are shared, one level each.
     pub fn step<C: Change<U>>(
         &mut self,
         alloc: Global,
@@ -27,7 +27,7 @@ impl<U: Update> Tree<U> {
         self.step_below(alloc, change, at.numbers(), slot)
     }
 
-    /// The same of the node that these slot numbers lead to.
+    /// Likewise for the node that these slot numbers lead to.
     fn step_below<C: Change<U>>(
         &mut self,
         alloc: Global,
@@ -38,10 +38,11 @@ impl<U: Update> Tree<U> {
         ensures { Answers U.means C.kind numbers.now slot result self.old self.new }
     {
         let i = slot as usize;
-        if !is_there(&self.root, change, numbers, i, None) {
-            return StepReply::NotThere;
-        }
         let is_root = numbers.is_empty();
+        let refused = refusal(change, self.shape, is_root, &self.root, numbers, i, None);
+        if let Some(reply) = refused {
+            return reply;
+        }
         descend(
             alloc,
             change,

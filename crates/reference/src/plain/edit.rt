@@ -1,6 +1,6 @@
 //! One entry of a tree put in or taken out.
 ghost use Rattle.std.specs.Prelude.{◌≡◌, ◌∷◌, IfOk};
-ghost use Rattle.reference.specs.Tree.{child, set_entry, edited};
+ghost use Rattle.reference.specs.Tree.{set_entry, edited};
 ghost use Rattle.reference.specs.Plain.{tree_of, entries_of, tree_given};
 
 use super::entries::{entry_named, put_entry, without_entry};
@@ -23,16 +23,6 @@ fn set_name(
     }
 }
 
-/// A copy of the entry of that name, or an empty directory.
-fn copy_child(alloc: Global, entries: &Entries, name: &[u8]) -> Result<Tree, NoMemory>
-    ensures { IfOk result (λ t. tree_of t ≡ child name.now (entries_of entries.now)) }
-{
-    match entry_named(entries, name) {
-        None => Tree::directory(alloc, Entries::Nothing),
-        Some(tree) => copy_tree(alloc, tree),
-    }
-}
-
 /// The tree with the entry at a name and those after it put in or taken out.
 fn edit_below(
     alloc: Global,
@@ -51,8 +41,10 @@ fn edit_below(
                 Tree::directory(alloc, entries)
             }
             Some((next, after)) => {
-                let child = copy_child(alloc, entries, name)?;
-                let child = edit_below(alloc, &child, next, after, entry)?;
+                let Some(child) = entry_named(entries, name) else {
+                    return copy_tree(alloc, tree);
+                };
+                let child = edit_below(alloc, child, next, after, entry)?;
                 let entries = put_entry(alloc, entries, name, child)?;
                 Tree::directory(alloc, entries)
             }
@@ -60,7 +52,7 @@ fn edit_below(
     }
 }
 
-/// A tree with the entry at a path that is not the root put in or taken out.
+/// A tree with the entry at a path put in or taken out; as it was at the root, and where no directory stands above the path.
 pub fn edit(alloc: Global, tree: &Tree, path: &Path, entry: Option<Tree>) -> Result<Tree, NoMemory>
     ensures { IfOk result (λ t. tree_of t ≡ edited (tree_of tree.now) path.now (tree_given entry)) }
 {

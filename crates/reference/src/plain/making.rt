@@ -1,21 +1,19 @@
 //! The calls that put something in: `mkdir`, `create`, `write`, `truncate`.
-ghost use Rattle.std.specs.Prelude.{◌≡◌, ◌+◌, [], nat_le};
+ghost use Rattle.std.specs.Prelude.{◌≡◌, []};
 ghost use Rattle.reference.specs.Tree.{Dir, File, nothing, with_entry};
-ghost use Rattle.reference.specs.Calls.{made, written, truncated, greatest_file};
-ghost use Rattle.reference.specs.Plain.{tree_of, HasEffect, first_fault, faults_of_new};
+ghost use Rattle.reference.specs.Calls.{faults_of_new, first_fault, made, truncated, written};
+ghost use Rattle.reference.specs.Plain.{tree_of, HasEffect};
 
 use super::contents::{copy_over, copy_sized};
 use super::edit::edit;
 use super::effect::Effect;
 use super::tree::{Entries, Tree};
-use super::walk::{Place, fault_of_parent, find};
+use super::walk::{At, fault_of_parent, find};
+use crate::limits::{GREATEST_FILE, fits_file};
 use crate::reply::Reply;
 use bytes::Bytes;
 use pathkey::{Errno, NoMemory, Path};
 use std::alloc::Global;
-
-/// The most bytes of a file.
-const GREATEST_FILE: u64 = 1_099_511_627_776;
 
 /// The tree with a new entry at the path.
 fn put_at(
@@ -42,7 +40,7 @@ fn fault_of_new(tree: &Tree, path: &Path) -> Option<Errno>
         return Some(fault);
     }
     match find(tree, path) {
-        Place::Found(_) => Some(Errno::EEXIST),
+        At::Found(_) => Some(Errno::EEXIST),
         _ => None,
     }
 }
@@ -72,16 +70,6 @@ pub fn make_file(alloc: Global, tree: &Tree, path: &Path) -> Result<Effect, NoMe
     make(alloc, tree, path, Tree::File(Vec::new(alloc)))
 }
 
-/// Whether so many bytes fit a file from the offset on.
-fn fits_file(offset: u64, count: usize) -> bool
-    ensures { result ≡ nat_le (offset + count) greatest_file }
-{
-    match offset.checked_add(count as u64) {
-        None => false,
-        Some(end) => end <= GREATEST_FILE,
-    }
-}
-
 /// `write`: the bytes laid over the file from the offset on; no bytes change nothing.
 pub fn write_file(
     alloc: Global,
@@ -93,9 +81,9 @@ pub fn write_file(
     ensures { HasEffect result (tree_of tree.now) (written (tree_of tree.now) path.now offset new.now) }
 {
     match find(tree, path) {
-        Place::Missing => Ok(Effect::refused(Errno::ENOENT)),
-        Place::Blocked => Ok(Effect::refused(Errno::ENOTDIR)),
-        Place::Found(found) => match found {
+        At::Missing => Ok(Effect::refused(Errno::ENOENT)),
+        At::Blocked => Ok(Effect::refused(Errno::ENOTDIR)),
+        At::Found(found) => match found {
             Tree::Dir(_) => Ok(Effect::refused(Errno::EISDIR)),
             Tree::File(bytes) => {
                 if new.is_empty() {
@@ -122,9 +110,9 @@ pub fn truncate_file(alloc: Global, tree: &Tree, path: &Path, len: u64) -> Resul
     ensures { HasEffect result (tree_of tree.now) (truncated (tree_of tree.now) path.now len) }
 {
     match find(tree, path) {
-        Place::Missing => Ok(Effect::refused(Errno::ENOENT)),
-        Place::Blocked => Ok(Effect::refused(Errno::ENOTDIR)),
-        Place::Found(found) => match found {
+        At::Missing => Ok(Effect::refused(Errno::ENOENT)),
+        At::Blocked => Ok(Effect::refused(Errno::ENOTDIR)),
+        At::Found(found) => match found {
             Tree::Dir(_) => Ok(Effect::refused(Errno::EISDIR)),
             Tree::File(bytes) => {
                 if len > GREATEST_FILE {

@@ -1,14 +1,14 @@
 //! `rename`.
 ghost use Rattle.std.specs.Prelude.{◌≡◌, ◌+◌, false, nat_lt};
 ghost use Rattle.reference.specs.Tree.{Found, entry_at, with_entry, without};
-ghost use Rattle.reference.specs.Calls.{is_root, text_len, deepest, same_path, renamed};
-ghost use Rattle.reference.specs.Plain.{tree_of, place_of, HasEffect, first_fault, faults_of_replacing, faults_of_move};
+ghost use Rattle.reference.specs.Calls.{deepest, faults_of_rename, faults_of_replacing, first_fault, is_root, renamed, same_path, text_len};
+ghost use Rattle.reference.specs.Plain.{tree_of, at_of, HasEffect};
 
 use super::depth::is_within;
 use super::edit::edit;
 use super::effect::Effect;
 use super::tree::{Entries, Tree, copy_tree};
-use super::walk::{Place, fault_of_parent, find};
+use super::walk::{At, fault_of_parent, find};
 use crate::reply::{Kind, Reply};
 use pathkey::{Errno, NoMemory, Path};
 use std::alloc::Global;
@@ -17,13 +17,13 @@ use std::alloc::Global;
 const GREATEST_TEXT: usize = 1_023;
 
 /// Why an entry cannot take the place of what stands there.
-fn fault_of_replacing(from: &Tree, to: &Place<'_>) -> Option<Errno>
-    ensures { result ≡ first_fault (faults_of_replacing (Found (tree_of from.now)) (place_of to.now)) }
+fn fault_of_replacing(from: &Tree, to: &At<'_>) -> Option<Errno>
+    ensures { result ≡ first_fault (faults_of_replacing (Found (tree_of from.now)) (at_of to.now)) }
 {
     match to {
-        Place::Missing => None,
-        Place::Blocked => None,
-        Place::Found(found) => match (from, *found) {
+        At::Missing => None,
+        At::Blocked => None,
+        At::Found(found) => match (from, *found) {
             (Tree::File(_), Tree::File(_)) => None,
             (Tree::File(_), Tree::Dir(_)) => Some(Errno::EISDIR),
             (Tree::Dir(_), Tree::File(_)) => Some(Errno::ENOTDIR),
@@ -45,7 +45,7 @@ fn is_too_long(from: &Tree, new: &Path) -> bool
 
 /// Why what stands at the old path cannot be moved to the new one.
 fn fault_of_move(tree: &Tree, from: &Tree, old: &Path, new: &Path) -> Option<Errno>
-    ensures { entry_at (tree_of tree.now) old.now ≡ Found (tree_of from.now) → result ≡ first_fault (faults_of_move (tree_of tree.now) old.now new.now) }
+    ensures { entry_at (tree_of tree.now) old.now ≡ Found (tree_of from.now) → result ≡ first_fault (faults_of_rename (tree_of tree.now) old.now new.now) }
 {
     if from.kind() == Kind::Dir && new.is_under(old) {
         return Some(Errno::EINVAL);
@@ -112,8 +112,8 @@ pub fn rename(alloc: Global, tree: &Tree, old: &Path, new: &Path) -> Result<Effe
         return Ok(Effect::refused(Errno::EBUSY));
     }
     match find(tree, old) {
-        Place::Missing => Ok(Effect::refused(Errno::ENOENT)),
-        Place::Blocked => Ok(Effect::refused(Errno::ENOTDIR)),
-        Place::Found(from) => rename_entry(alloc, tree, from, old, new),
+        At::Missing => Ok(Effect::refused(Errno::ENOENT)),
+        At::Blocked => Ok(Effect::refused(Errno::ENOTDIR)),
+        At::Found(from) => rename_entry(alloc, tree, from, old, new),
     }
 }

@@ -6,13 +6,11 @@ ghost use Rattle.reference.specs.Plain.{tree_of};
 use super::contents::copy_part;
 use super::entries::list_entries;
 use super::tree::Tree;
-use super::walk::{Place, find};
+use super::walk::{At, find};
+use crate::limits::GREATEST_READ;
 use crate::reply::{FileBytes, Kind, Reply};
 use pathkey::{Errno, NoMemory, Path};
 use std::alloc::Global;
-
-/// The most bytes that one read may ask for.
-const GREATEST_READ: u64 = 1_048_576;
 
 /// `read`: the bytes from the offset on, at most `count`, none past the end.
 pub fn read_file(
@@ -25,9 +23,9 @@ pub fn read_file(
     ensures { IfOk result (λ r. ◌≡◌ {A = Outcome} (tree_of tree.now, r) (read (tree_of tree.now) path.now offset count)) }
 {
     match find(tree, path) {
-        Place::Missing => Ok(Reply::Fault(Errno::ENOENT)),
-        Place::Blocked => Ok(Reply::Fault(Errno::ENOTDIR)),
-        Place::Found(found) => match found {
+        At::Missing => Ok(Reply::Fault(Errno::ENOENT)),
+        At::Blocked => Ok(Reply::Fault(Errno::ENOTDIR)),
+        At::Found(found) => match found {
             Tree::Dir(_) => Ok(Reply::Fault(Errno::EISDIR)),
             Tree::File(bytes) => {
                 if count > GREATEST_READ {
@@ -45,9 +43,9 @@ pub fn stat(tree: &Tree, path: &Path) -> Reply
     ensures { ◌≡◌ {A = Outcome} (tree_of tree.now, result) (asked (tree_of tree.now) path.now) }
 {
     match find(tree, path) {
-        Place::Missing => Reply::Fault(Errno::ENOENT),
-        Place::Blocked => Reply::Fault(Errno::ENOTDIR),
-        Place::Found(found) => match found {
+        At::Missing => Reply::Fault(Errno::ENOENT),
+        At::Blocked => Reply::Fault(Errno::ENOTDIR),
+        At::Found(found) => match found {
             Tree::Dir(_) => Reply::Stat(Kind::Dir, 0),
             Tree::File(bytes) => Reply::Stat(Kind::File, bytes.len() as u64),
         },
@@ -59,9 +57,9 @@ pub fn list_directory(alloc: Global, tree: &Tree, path: &Path) -> Result<Reply, 
     ensures { IfOk result (λ r. ◌≡◌ {A = Outcome} (tree_of tree.now, r) (listed (tree_of tree.now) path.now)) }
 {
     match find(tree, path) {
-        Place::Missing => Ok(Reply::Fault(Errno::ENOENT)),
-        Place::Blocked => Ok(Reply::Fault(Errno::ENOTDIR)),
-        Place::Found(found) => match found {
+        At::Missing => Ok(Reply::Fault(Errno::ENOENT)),
+        At::Blocked => Ok(Reply::Fault(Errno::ENOTDIR)),
+        At::Found(found) => match found {
             Tree::File(_) => Ok(Reply::Fault(Errno::ENOTDIR)),
             Tree::Dir(entries) => Ok(Reply::Names(list_entries(alloc, entries)?)),
         },

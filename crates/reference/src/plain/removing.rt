@@ -1,13 +1,13 @@
 //! The calls that take something out: `unlink`, `rmdir`, `rmtree`.
-ghost use Rattle.std.specs.Prelude.{◌≡◌, ◌∷◌, []};
+ghost use Rattle.std.specs.Prelude.{◌≡◌};
 ghost use Rattle.reference.specs.Tree.{without};
-ghost use Rattle.reference.specs.Calls.{when, path_fault, is_file, is_full, unlinked, directory_removed, removed};
-ghost use Rattle.reference.specs.Plain.{tree_of, place_of, HasEffect, first_fault};
+ghost use Rattle.reference.specs.Calls.{directory_removed, faults_of_rmdir, first_fault, removed, unlinked};
+ghost use Rattle.reference.specs.Plain.{tree_of, HasEffect};
 
 use super::edit::edit;
 use super::effect::Effect;
 use super::tree::{Entries, Tree};
-use super::walk::{Place, fault_of_path, find};
+use super::walk::{At, fault_of_path, find};
 use crate::reply::Reply;
 use pathkey::{Errno, NoMemory, Path};
 use std::alloc::Global;
@@ -25,23 +25,26 @@ pub fn unlink(alloc: Global, tree: &Tree, path: &Path) -> Result<Effect, NoMemor
     ensures { HasEffect result (tree_of tree.now) (unlinked (tree_of tree.now) path.now) }
 {
     match find(tree, path) {
-        Place::Missing => Ok(Effect::refused(Errno::ENOENT)),
-        Place::Blocked => Ok(Effect::refused(Errno::ENOTDIR)),
-        Place::Found(found) => match found {
+        At::Missing => Ok(Effect::refused(Errno::ENOENT)),
+        At::Blocked => Ok(Effect::refused(Errno::ENOTDIR)),
+        At::Found(found) => match found {
             Tree::Dir(_) => Ok(Effect::refused(Errno::EPERM)),
             Tree::File(_) => take_out_at(alloc, tree, path),
         },
     }
 }
 
-/// Why what stands at a place cannot be taken out as an empty directory.
-fn fault_of_rmdir(place: &Place<'_>) -> Option<Errno>
-    ensures { result ≡ first_fault (path_fault (place_of place.now) ∷ when (is_file (place_of place.now)) Errno.ENOTDIR ∷ when (is_full (place_of place.now)) Errno.ENOTEMPTY ∷ []) }
+/// Why no empty directory can be taken out at the path.
+fn fault_of_rmdir(tree: &Tree, path: &Path) -> Option<Errno>
+    ensures { result ≡ first_fault (faults_of_rmdir (tree_of tree.now) path.now) }
 {
-    match place {
-        Place::Missing => Some(Errno::ENOENT),
-        Place::Blocked => Some(Errno::ENOTDIR),
-        Place::Found(found) => match found {
+    if path.is_root() {
+        return Some(Errno::EBUSY);
+    }
+    match find(tree, path) {
+        At::Missing => Some(Errno::ENOENT),
+        At::Blocked => Some(Errno::ENOTDIR),
+        At::Found(found) => match found {
             Tree::File(_) => Some(Errno::ENOTDIR),
             Tree::Dir(entries) => match **entries {
                 Entries::Nothing => None,
@@ -55,10 +58,7 @@ fn fault_of_rmdir(place: &Place<'_>) -> Option<Errno>
 pub fn remove_directory(alloc: Global, tree: &Tree, path: &Path) -> Result<Effect, NoMemory>
     ensures { HasEffect result (tree_of tree.now) (directory_removed (tree_of tree.now) path.now) }
 {
-    if path.is_root() {
-        return Ok(Effect::refused(Errno::EBUSY));
-    }
-    match fault_of_rmdir(&find(tree, path)) {
+    match fault_of_rmdir(tree, path) {
         Some(fault) => Ok(Effect::refused(fault)),
         None => take_out_at(alloc, tree, path),
     }

@@ -2,7 +2,7 @@
 ghost use Rattle.std.specs.Prelude.{◌≡◌, ◌∷◌, fold};
 ghost use Rattle.reference.specs.Tree.{onward, entry_at};
 ghost use Rattle.reference.specs.Calls.{parent, parent_fault, path_fault, no_directory_fault};
-ghost use Rattle.reference.specs.Plain.{tree_of, place_of};
+ghost use Rattle.reference.specs.Plain.{tree_of, at_of};
 
 use super::entries::entry_named;
 use super::tree::Tree;
@@ -10,7 +10,7 @@ use pathkey::{Errno, Names, Path};
 
 /// What stands at a path.
 #[derive(Drop)]
-pub enum Place<'a> {
+pub enum At<'a> {
     /// An entry, or the root.
     Found(&'a Tree),
     /// Nothing: the first name that decides is absent from its directory.
@@ -20,71 +20,71 @@ pub enum Place<'a> {
 }
 
 /// What stands one name further.
-pub fn step<'a>(place: Place<'a>, name: &[u8]) -> Place<'a>
-    ensures { place_of result ≡ onward (place_of place.entry) name.now }
+pub fn step<'a>(at: At<'a>, name: &[u8]) -> At<'a>
+    ensures { at_of result ≡ onward (at_of at.entry) name.now }
 {
-    match place {
-        Place::Missing => Place::Missing,
-        Place::Blocked => Place::Blocked,
-        Place::Found(tree) => match tree {
-            Tree::File(_) => Place::Blocked,
+    match at {
+        At::Missing => At::Missing,
+        At::Blocked => At::Blocked,
+        At::Found(tree) => match tree {
+            Tree::File(_) => At::Blocked,
             Tree::Dir(entries) => match entry_named(entries, name) {
-                None => Place::Missing,
-                Some(child) => Place::Found(child),
+                None => At::Missing,
+                Some(child) => At::Found(child),
             },
         },
     }
 }
 
 /// What stands at the end of the names.
-fn walk<'a>(place: Place<'a>, names: Names<'_>) -> Place<'a>
-    ensures { place_of result ≡ fold onward (place_of place.entry) names.entry }
+fn walk<'a>(at: At<'a>, names: Names<'_>) -> At<'a>
+    ensures { at_of result ≡ fold onward (at_of at.entry) names.entry }
 {
     match names.split_first() {
-        None => place,
-        Some((name, rest)) => walk(step(place, name), rest),
+        None => at,
+        Some((name, rest)) => walk(step(at, name), rest),
     }
 }
 
 /// What stands before the last of the names, of which there is one at least.
-fn walk_to_parent<'a>(place: Place<'a>, name: &[u8], rest: Names<'_>) -> Place<'a>
-    ensures { place_of result ≡ fold onward (place_of place.entry) (parent (name.now ∷ rest.entry)) }
+fn walk_to_parent<'a>(at: At<'a>, name: &[u8], rest: Names<'_>) -> At<'a>
+    ensures { at_of result ≡ fold onward (at_of at.entry) (parent (name.now ∷ rest.entry)) }
 {
     match rest.split_first() {
-        None => place,
-        Some((next, after)) => walk_to_parent(step(place, name), next, after),
+        None => at,
+        Some((next, after)) => walk_to_parent(step(at, name), next, after),
     }
 }
 
 /// What stands at the path.
-pub fn find<'a>(tree: &'a Tree, path: &Path) -> Place<'a>
-    ensures { place_of result ≡ entry_at (tree_of tree.now) path.now }
+pub fn find<'a>(tree: &'a Tree, path: &Path) -> At<'a>
+    ensures { at_of result ≡ entry_at (tree_of tree.now) path.now }
 {
-    walk(Place::Found(tree), path.names())
+    walk(At::Found(tree), path.names())
 }
 
 /// Why nothing is found at a path: a name is absent, or a file stands on the way.
-pub fn fault_of_path(place: &Place<'_>) -> Option<Errno>
-    ensures { result ≡ path_fault (place_of place.now) }
+pub fn fault_of_path(at: &At<'_>) -> Option<Errno>
+    ensures { result ≡ path_fault (at_of at.now) }
 {
-    match place {
-        Place::Found(_) => None,
-        Place::Missing => Some(Errno::ENOENT),
-        Place::Blocked => Some(Errno::ENOTDIR),
+    match at {
+        At::Found(_) => None,
+        At::Missing => Some(Errno::ENOENT),
+        At::Blocked => Some(Errno::ENOTDIR),
     }
 }
 
 /// Why a place is no directory.
-fn fault_of_directory(place: &Place<'_>) -> Option<Errno>
-    ensures { result ≡ no_directory_fault (place_of place.now) }
+fn fault_of_directory(at: &At<'_>) -> Option<Errno>
+    ensures { result ≡ no_directory_fault (at_of at.now) }
 {
-    match place {
-        Place::Found(tree) => match tree {
+    match at {
+        At::Found(tree) => match tree {
             Tree::Dir(_) => None,
             Tree::File(_) => Some(Errno::ENOTDIR),
         },
-        Place::Missing => Some(Errno::ENOENT),
-        Place::Blocked => Some(Errno::ENOTDIR),
+        At::Missing => Some(Errno::ENOENT),
+        At::Blocked => Some(Errno::ENOTDIR),
     }
 }
 
@@ -94,8 +94,6 @@ pub fn fault_of_parent(tree: &Tree, path: &Path) -> Option<Errno>
 {
     match path.names().split_first() {
         None => None,
-        Some((name, rest)) => {
-            fault_of_directory(&walk_to_parent(Place::Found(tree), name, rest))
-        }
+        Some((name, rest)) => { fault_of_directory(&walk_to_parent(At::Found(tree), name, rest)) }
     }
 }

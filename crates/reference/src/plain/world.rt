@@ -107,7 +107,7 @@ impl World {
         Ok(())
     }
 
-    /// Removes the snapshot of that name. It takes no memory.
+    /// Removes the snapshot of that name.
     pub fn drop_snapshot(&mut self, name: &SnapName) -> Result<(), Errno>
         ensures answer { result ≡ (dropped (world_of self.old) name.now).1 }
         ensures world { world_of self.new ≡ (dropped (world_of self.old) name.now).0 }

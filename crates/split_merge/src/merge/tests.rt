@@ -1,7 +1,8 @@
 //! Merges of two slots over leaves and over inner nodes, and of a new tree, which has none to merge.
 use super::*;
-use crate::samples::{NoUpdate, SMALL, slot_over, two_leaves, waiting};
+use crate::small_nodes::{SMALL, slot_over, two_leaves, waiting};
 use message::Msg;
+use samples::NoUpdate;
 
 /// A leaf of entries under these bytes, each with its byte as the value.
 fn leaf_of(alloc: Global, keys: &[u8]) -> Result<Body<NoUpdate>, NoMemory> {
@@ -51,7 +52,7 @@ fn values(alloc: Global, slots: &[Slot<NoUpdate>]) -> Result<Vec<u8>, NoMemory> 
 #[test]
 fn two_leaves_become_one(rt: HostRuntime) -> Result<(), NoMemory> {
     let mut slots = pair(rt.alloc(), b"ab", b"ny")?;
-    let reply = merge_slots(SMALL, true, &mut slots, 0);
+    let reply = merge_slots(&mut slots, 0);
     assert_eq!(rt; reply, StepReply::Did(0));
     assert_eq!(rt; waiting(slots.as_slice(), 0), Some(3));
     assert_eq!(rt; waiting(slots.as_slice(), 1), None);
@@ -67,7 +68,7 @@ fn a_shared_leaf_stays(rt: HostRuntime) -> Result<(), NoMemory> {
         panic!(rt; "two slots were made");
     };
     let other = Arc::try_clone(&second.child)?;
-    let reply = merge_slots(SMALL, true, &mut slots, 0);
+    let reply = merge_slots(&mut slots, 0);
     assert_eq!(rt; reply, StepReply::Did(0));
     let Body::Leaf(entries) = &other.body else {
         panic!(rt; "a leaf was shared");
@@ -78,11 +79,10 @@ fn a_shared_leaf_stays(rt: HostRuntime) -> Result<(), NoMemory> {
 
 #[test]
 fn five_entries_are_too_many_for_a_leaf_of_four(rt: HostRuntime) -> Result<(), NoMemory> {
-    let mut slots = pair(rt.alloc(), b"abc", b"ny")?;
-    let reply = merge_slots(SMALL, true, &mut slots, 0);
-    assert_eq!(rt; reply, StepReply::NoRoom);
-    assert_eq!(rt; waiting(slots.as_slice(), 0), Some(1));
-    assert_eq!(rt; waiting(slots.as_slice(), 1), Some(2));
+    let five = pair(rt.alloc(), b"abc", b"ny")?;
+    assert!(rt; !pair_fits(SMALL, five.as_slice(), 0));
+    let four = pair(rt.alloc(), b"ab", b"ny")?;
+    assert!(rt; pair_fits(SMALL, four.as_slice(), 0));
     Ok(())
 }
 
@@ -94,7 +94,7 @@ fn two_inner_nodes_become_one(rt: HostRuntime) -> Result<(), NoMemory> {
     let mut slots = Vec::new(alloc);
     slots.push(with_puts(alloc, first, b"c")?)?;
     slots.push(with_puts(alloc, second, b"xz")?)?;
-    let reply = merge_slots(SMALL, true, &mut slots, 0);
+    let reply = merge_slots(&mut slots, 0);
     assert_eq!(rt; reply, StepReply::Did(0));
     assert_eq!(rt; waiting(slots.as_slice(), 0), Some(3));
     assert_eq!(rt; waiting(slots.as_slice(), 1), None);
@@ -114,7 +114,7 @@ fn a_leaf_and_an_inner_node_are_not_merged(rt: HostRuntime) -> Result<(), NoMemo
     let mut slots = Vec::new(alloc);
     slots.push(slot_over(alloc, b"", two_leaves(alloc, b"", b"g")?)?)?;
     slots.push(slot_over(alloc, b"m", leaf_of(alloc, b"n")?)?)?;
-    let reply = merge_slots(SMALL, true, &mut slots, 0);
+    let reply = merge_slots(&mut slots, 0);
     assert_eq!(rt; reply, StepReply::NotThere);
     Ok(())
 }

@@ -1,18 +1,18 @@
 //! A split of one slot, and of a new tree, which has none to split.
 use super::*;
-use crate::root::root_up;
-use crate::samples::{NoUpdate, SMALL, full_slot, waiting};
+use crate::raise_root::root_up;
+use crate::small_nodes::{SMALL, full_slot};
 use node::ShapeReport;
+use samples::NoUpdate;
 
 #[test]
 fn only_the_range_delete_stands_on_both_sides(rt: HostRuntime) -> Result<(), NoMemory> {
-    let mut slots = Vec::new(rt.alloc());
-    slots.push(full_slot(rt.alloc())?)?;
-    let reply = split_slot(rt.alloc(), SMALL, true, &mut slots, 0);
-    assert_eq!(rt; reply, StepReply::Did(0));
-    assert_eq!(rt; waiting(slots.as_slice(), 0), Some(2));
-    assert_eq!(rt; waiting(slots.as_slice(), 1), Some(2));
-    assert_eq!(rt; waiting(slots.as_slice(), 2), None);
+    let slot = full_slot(rt.alloc())?;
+    let Some((left, right)) = halves(rt.alloc(), &slot)? else {
+        panic!(rt; "the child has two slots");
+    };
+    assert_eq!(rt; left.pending.len(), 2);
+    assert_eq!(rt; right.pending.len(), 2);
     Ok(())
 }
 

@@ -1,6 +1,18 @@
-use Rattle.std.proofs.lemmas.Result.{IfOk-weaker}
-use Rattle.call_compiler.proofs.Batches.{compiled_mkdir}
+use Rattle.std.proofs.Common.{[], ◌∷◌, ap, ◌∙◌}
+use Rattle.message.specs.declared.msg.Msg.TheVariants.{Put}
+use Rattle.pathkey.specs.Keys.{Key}
+use Rattle.reference.specs.declared.reply.Meta.TheVariants.{Dir as DirMeta}
+use Rattle.call_compiler.specs.Compiled.{messages}
+use Rattle.call_compiler.proofs.Compiling.{if_ok_both, halves}
+use Rattle.call_compiler.proofs.Entries.{mkdir_is_refused, mkdir_is_done}
 use Rattle.call_compiler.proofs.making.mkdir.Goals as goal
 
+pub returns-in-Some : goal.returns-in-Some
+returns-in-Some c = mkdir_is_refused c.args.indexes.now c.args.path.now c.refused.result.0 (messages c.refused.result.1)
+    c.in_ok-fault.field-0 c.in_ok-fault.ensures c.in-Some.fault c.in-Some.is c.refused.ensures.reply c.refused.ensures.messages
+
 pub returns : goal.returns
-returns c = IfOk-weaker c.make.result _ _ (λ a answered. compiled_mkdir c.args.indexes.now.meta c.args.path.now a.0 a.1.meta.items answered) c.make.ensures
+returns c = if_ok_both c.done.result _ _ _
+    (λ a reply sent. mkdir_is_done c.args.indexes.now c.args.path.now a.0 (messages a.1) c.in_ok-fault.field-0 c.in_ok-fault.ensures c.in_default.is c.key-key.ensures.valid reply
+    (sent ∙ halves _ _ _ _ (ap (λ (k : Key). Put k DirMeta ∷ []) (c.in_ok-copy.ensures ∙ c.key-key.ensures.value)) c.new.ensures.items))
+    c.done.ensures.reply c.done.ensures.messages

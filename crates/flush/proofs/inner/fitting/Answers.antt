@@ -1,21 +1,20 @@
-use Rattle.std.proofs.Common.{arith, ◌∷◌, [], ap, take, map, ◌≡◌, ◌+◌, ◌<◌, length, get_or, ◌∙◌}
-use Rattle.node.specs.Pure.{slots}
-use Rattle.node.specs.See.{see_slot}
+use Rattle.std.proofs.Common.{arith, ◌∷◌, [], ap, take, ◌≡◌, ◌+◌, ◌<◌, length, get_or, ◌∙◌}
+use Rattle.node.specs.See.{seen_slots}
 use Rattle.node.specs.Lawful.{pending}
-use Rattle.node.specs.Rows.{piece_count}
+use Rattle.node.specs.StepRows.{piece_count}
 use Rattle.flush.proofs.Counts.{piece_count-none, piece_count-take}
 use Rattle.flush.proofs.inner.fitting.Goals as goal
 use Rattle.flush.proofs.inner.fitting.Goals.{then-count-eq65535-via-then-count-eq65535, then-count-eq65535-via-else-count-eq65535+then-more-room}
 
 pub loop-msg-init : goal.loop-msg-init
 loop-msg-init g c =
-    let e = piece_count-none (slots (map see_slot c.args.slots.now)) in
-    let x = c.held-total.ensures.exact (omega arith) in
+    let e = piece_count-none (seen_slots c.args.slots.now) in
+    let x = c.held-waiting.ensures.exact in
     record { counted = search arith; small = omega arith; room = omega arith; sum = omega (arith, e, x) }
 
 pub loop-msg-preserved : goal.loop-msg-preserved
 loop-msg-preserved g c =
-    let ss = slots (map see_slot c.args.slots.now) in
+    let ss = seen_slots c.args.slots.now in
     let h : c.loop-msg.msg-index < length c.args.msgs.now = omega arith in
     let e = piece_count-take c.args.msgs.now c.loop-msg.msg-index c.msg-item.result ss h in
     let f = ap (λ m. piece_count (m ∷ []) ss) c.msg-item.is in
@@ -23,7 +22,7 @@ loop-msg-preserved g c =
 
 pub returns-then-count-eq65535-clause-full : goal.returns-then-count-eq65535-clause-full
 returns-then-count-eq65535-clause-full g c none some =
-    let ss = slots (map see_slot c.args.slots.now) in
+    let ss = seen_slots c.args.slots.now in
     let e = piece_count-take c.args.msgs.now 0 c.msg-item.result ss some in
     let z = piece_count-none ss in
     let m = c.msg-item.is in

@@ -1,6 +1,6 @@
 use Rattle.std.proofs.Common.{arith, refl, sym, ◌∙◌, subst}
 use Rattle.std.proofs.lemmas.List.{get_or_default}
-use Rattle.node.specs.Ready.{IsSearchable}
+use Rattle.node.specs.Searchable.{IsSearchable}
 use Rattle.node.proofs.Placing.{searchable_child}
 use Rattle.flush.specs.Leaf.{AfterOldest}
 use Rattle.flush.proofs.LeafFlush.{not_there, kept}
@@ -19,4 +19,4 @@ returns-then-len-shape g c =
     let one = c.index.ensures ∙ get_or_default xs c.args.i c.index.result.now s c.requires.bound ∙ sym c.index_mut.ensures.value in
     let found = rw c.in-Some.is at c.in-Ok.ensures.found in
     let after = subst (λ z. AfterOldest g.U.Update.means z.pending.0 z.child.value c.in-Some.entries.items) one found in
-    kept g.U.Update.means c.args.shape c.args.root c.args.i xs s c.requires.bound c.index_mut.ensures.value c.keep.new.slot c.keep.result c.in-Some.entries.items c.keep.ensures after (omega arith)
+    kept g.U.Update.means c.args.shape c.args.root c.args.i xs s c.requires.bound c.index_mut.ensures.value c.keep.new.slot c.keep.result c.in-Some.entries.items c.keep.ensures after (rw c.in-Some.is at c.in-Ok.ensures.rising) (omega arith)

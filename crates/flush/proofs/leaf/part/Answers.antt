@@ -1,12 +1,11 @@
-use Rattle.std.proofs.Common.{arith, refl, sym, ◌∙◌, subst, map, add-one}
+use Rattle.std.proofs.Common.{arith, refl, sym, ◌∙◌, subst, add-one}
 use Rattle.std.proofs.Math.ListN.{set}
-use Rattle.node.specs.Pure.{slots}
-use Rattle.node.specs.See.{see_slot}
+use Rattle.node.specs.See.{seen_slots}
 use Rattle.node.specs.Steps.{Replies}
 use Rattle.node.specs.declared.step.StepReply.TheVariants.{Did}
 use Rattle.node.specs.declared.step.StepKind.TheVariants.{FlushLeaf}
-use Rattle.node.proofs.Doing.{inserted}
-use Rattle.node.specs.Rows.{range_count, CanPart, CannotPart}
+use Rattle.node.proofs.StepDone.{inserted}
+use Rattle.node.specs.StepRows.{range_count, CanPart, CannotPart}
 use Rattle.flush.specs.Leaf.{IsHalved}
 use Rattle.flush.proofs.LeafFlush.{rest, rest_is, some_leaf, no_room, halved}
 use Rattle.flush.proofs.leaf.part.Goals as goal
@@ -15,9 +14,9 @@ pub returns-then-not-can_part : goal.returns-then-not-can_part
 returns-then-not-can_part g c =
     let xs = c.args.slots.now.items in
     let s = c.index-slot.result.now in
-    let lacks = subst (λ z. CannotPart c.args.shape c.args.root (slots (map see_slot z)) 1 (range_count (rest c.as_slice.result.now))) c.as_slice-2.ensures.value (c.can_part.ensures.none c.if-not-can_part.true) in
-    let here = subst (λ z. CannotPart c.args.shape c.args.root (slots (map see_slot xs)) 1 (range_count (rest z))) c.as_slice.ensures lacks in
-    let all = subst (λ z. CannotPart c.args.shape c.args.root (slots (map see_slot xs)) 1 (range_count z)) (rest_is s.pending.0) here in
+    let lacks = subst (λ z. CannotPart c.args.shape c.args.root (seen_slots z) 1 (range_count (rest c.as_slice.result.now))) c.as_slice-2.ensures.value (c.can_part.ensures.none c.if-not-can_part.true) in
+    let here = subst (λ z. CannotPart c.args.shape c.args.root (seen_slots xs) 1 (range_count (rest z))) c.as_slice.ensures lacks in
+    let all = subst (λ z. CannotPart c.args.shape c.args.root (seen_slots xs) 1 (range_count z)) (rest_is s.pending.0) here in
     (refl, no_room g.U.Update.means c.args.shape c.args.root c.args.i xs s c.requires.bound c.index-slot.ensures c.args.entries.items (c.requires.after s c.index-slot.ensures) c.requires.rising c.requires.many all)
 
 pub halves-requires-clause-two : goal.halves-requires-clause-two
@@ -27,10 +26,10 @@ pub returns : goal.returns
 returns g c =
     let xs = c.args.slots.now.items in
     let s = c.index-slot.result.now in
-    let room = subst (λ z. CanPart c.args.shape c.args.root (slots (map see_slot z)) 1 (range_count (rest c.as_slice.result.now))) c.as_slice-2.ensures.value (c.can_part.ensures.room c.if-not-can_part.false) in
-    let here = subst (λ z. CanPart c.args.shape c.args.root (slots (map see_slot xs)) 1 (range_count (rest z))) c.as_slice.ensures room in
-    let all = subst (λ z. CanPart c.args.shape c.args.root (slots (map see_slot xs)) 1 (range_count z)) (rest_is s.pending.0) here in
+    let room = subst (λ z. CanPart c.args.shape c.args.root (seen_slots z) 1 (range_count (rest c.as_slice.result.now))) c.as_slice-2.ensures.value (c.can_part.ensures.room c.if-not-can_part.false) in
+    let here = subst (λ z. CanPart c.args.shape c.args.root (seen_slots xs) 1 (range_count (rest z))) c.as_slice.ensures room in
+    let all = subst (λ z. CanPart c.args.shape c.args.root (seen_slots xs) 1 (range_count z)) (rest_is s.pending.0) here in
     let cut = subst (λ z. IsHalved g.U.Update.means s.lo c.args.entries.items (rest z) c.in-Ok.left c.in-Ok.right) c.as_slice.ensures c.in-Ok.ensures in
     let now = c.insert.ensures.items ∙ inserted c.insert.result _ _ (sym c.is_err.ensures.value ∙ c.if-is_err.false) in
     let core = halved g.U.Update.means c.args.shape c.args.root c.args.i xs s c.requires.bound c.index-slot.ensures c.args.entries.items c.in-Ok.left c.in-Ok.right (c.requires.after s c.index-slot.ensures) c.requires.rising c.requires.many (subst (λ z. IsHalved g.U.Update.means s.lo c.args.entries.items z c.in-Ok.left c.in-Ok.right) (rest_is s.pending.0) cut) all in
-    subst (λ z. Replies g.U.Update.means FlushLeaf c.args.shape c.args.root c.args.i (Did 1) (slots (map see_slot xs)) (slots (map see_slot (set z c.args.i c.in-Ok.left)))) (sym (rw add-one at now)) core
+    subst (λ z. Replies g.U.Update.means FlushLeaf c.args.shape c.args.root c.args.i (Did 1) (seen_slots xs) (seen_slots (set z c.args.i c.in-Ok.left))) (sym (rw add-one at now)) core

@@ -1,79 +1,12 @@
 //! Messages on numbers at keys of one byte, applied to leaves.
-ghost use Rattle.std.specs.Prelude.{◌+◌, ◌*◌, ◌%◌, ◌==◌, if◌then◌else◌, Some, None, [], IfOk};
-ghost use Rattle.std.specs.Option.{unwrap_or};
+ghost use Rattle.std.specs.Prelude.{None, [], IfOk};
 ghost use Rattle.node.specs.Lawful.{Rises};
 
 use super::{applied, divide, position};
-use message::{Changes, Msg, Update};
-use pathkey::{Key, KeyRange, NoMemory};
+use pathkey::{Key, NoMemory};
+use samples::{Digit, Plain, batch, key, numbers};
 use std::alloc::Global;
 use std::test::Fail;
-
-/// Writes a digit behind the last two digits of a number, so that the order of two updates shows; 9 takes the
-/// number away.
-#[derive(Drop)]
-struct Digit(u64);
-
-impl Changes for Digit {
-    type Value = u64;
-}
-
-impl Update for Digit {
-    ghost means = { λ digit old. if digit.0 == 9 then None else Some (unwrap_or old 0 % 100 * 10 + digit.0 % 10) };
-
-    fn apply(&self, _alloc: Global, old: Option<&u64>) -> Result<Option<u64>, NoMemory> {
-        if self.0 == 9 {
-            return Ok(None);
-        }
-        let number = old.copied().unwrap_or(0);
-        Ok(Some(number % 100 * 10 + self.0 % 10))
-    }
-
-    fn join(&self, _alloc: Global, _later: &Digit) -> Result<Option<Digit>, NoMemory> {
-        Ok(None)
-    }
-
-    fn copy(&self, _alloc: Global) -> Result<Digit, NoMemory> {
-        Ok(Digit(self.0))
-    }
-
-    fn copy_value(_alloc: Global, value: &u64) -> Result<u64, NoMemory> {
-        Ok(*value)
-    }
-}
-
-/// A message in plain numbers, where a number stands for the key of that one byte.
-#[derive(Clone, Copy, Debug)]
-enum Plain {
-    Put(u8, u64),
-    Del(u8),
-    DelRange(u8, Option<u8>),
-    Edit(u8, u64),
-}
-
-fn message(alloc: Global, plain: Plain) -> Result<Msg<Digit>, NoMemory> {
-    match plain {
-        Plain::Put(at, value) => Ok(Msg::Put(key(alloc, at)?, value)),
-        Plain::Del(at) => Ok(Msg::Del(key(alloc, at)?)),
-        Plain::DelRange(lo, hi) => Ok(Msg::DelRange(range(alloc, lo, hi)?)),
-        Plain::Edit(at, digit) => Ok(Msg::Edit(key(alloc, at)?, Digit(digit))),
-    }
-}
-
-fn key(alloc: Global, byte: u8) -> Result<Key, NoMemory> {
-    Key::from_bytes(alloc, &[byte])
-}
-
-fn range(alloc: Global, lo: u8, hi: Option<u8>) -> Result<KeyRange, NoMemory> {
-    let hi = match hi {
-        None => None,
-        Some(hi) => Some(key(alloc, hi)?),
-    };
-    Ok(KeyRange {
-        lo: key(alloc, lo)?,
-        hi,
-    })
-}
 
 /// The entries after the messages.
 fn after(
@@ -84,10 +17,7 @@ fn after(
     requires { Rises [] None entries.now }
     ensures { IfOk result (λ v. Rises [] None v.items) }
 {
-    let mut msgs = Vec::new(alloc);
-    for msg in plain {
-        msgs.push(message(alloc, *msg)?)?;
-    }
+    let msgs = batch(alloc, plain)?;
     applied::<Digit>(alloc, entries, msgs.as_slice())
 }
 
@@ -102,14 +32,6 @@ fn even(alloc: Global) -> Result<Vec<(Key, u64)>, NoMemory>
         Plain::Put(4, 40),
     ];
     after(alloc, &[], &puts)
-}
-
-fn numbers(alloc: Global, entries: &[(Key, u64)]) -> Result<Vec<(u8, u64)>, NoMemory> {
-    let mut numbers = Vec::new(alloc);
-    for entry in entries {
-        numbers.push((entry.0.as_bytes().first().copied().unwrap_or(0), entry.1))?;
-    }
-    Ok(numbers)
 }
 
 #[test]

@@ -1,10 +1,10 @@
-use Rattle.std.proofs.Common.{arith, ap, sym, subst, ◌∙◌, ◌≡◌, ◌<◌, ◌+◌, ◌*◌, map, length, List, true, Some, None}
+use Rattle.std.proofs.Common.{arith, ap, sym, subst, ◌∙◌, ◌≡◌, ◌<◌, ◌+◌, ◌*◌, length, List, true, Some, None}
 use Rattle.std.specs.Option.{option_copied}
 use Rattle.message.proofs.KeyOrder.{reaches-refl}
 use Rattle.node.specs.Meaning.{value}
-use Rattle.node.specs.Pure.{PNode, inner, slots, depth}
-use Rattle.node.specs.Ready.{IsSearchable}
-use Rattle.node.specs.See.{see, see_slot}
+use Rattle.node.specs.Pure.{PNode, inner, depth}
+use Rattle.node.specs.Searchable.{IsSearchable}
+use Rattle.node.specs.See.{see, seen_slots}
 use Rattle.node.specs.declared.node.Slot.{Slot}
 use Rattle.node.proofs.Placing.{searchable_child, depth_child}
 use Rattle.pathkey.specs.Keys.{is_below}
@@ -29,10 +29,10 @@ first-first_of_slot-requires g t c κs within =
     let i = c.slot_of-i.result in
     let s = c.index-slot.result.now in
     let b : i < length xs = omega (arith, c.slot_of-i.ensures.bound, ap length c.as_slice-in-stretches.ensures.value) in
-    let seen : inner (slots (map see_slot xs)) ≡ c.args.node.now = ap see (sym c.in-Inner.is) ∙ c.body.ensures in
+    let seen : inner (seen_slots xs) ≡ c.args.node.now = ap see (sym c.in-Inner.is) ∙ c.body.ensures in
     let all = subst (λ (n : PNode U V). IsSearchable n) (sym seen) c.requires in
     let child = subst (λ (x : Slot U V). IsSearchable x.child.value) (sym c.index-slot.ensures) (searchable_child xs i s b all.1) in
-    let low = subst (λ (x : Slot U V). depth x.child.value < depth (inner (slots (map see_slot xs)))) (sym c.index-slot.ensures) (depth_child xs i s b) in
+    let low = subst (λ (x : Slot U V). depth x.child.value < depth (inner (seen_slots xs))) (sym c.index-slot.ensures) (depth_child xs i s b) in
     let below : depth s.child.value < depth c.args.node.now = subst (λ (n : PNode U V). depth s.child.value < depth n) seen low in
     let falls : 2 * depth s.child.value + 1 < 2 * depth c.args.node.now = omega (arith, below) in
     let d : 2 * depth c.args.node.now ≡ t = c.decreases in

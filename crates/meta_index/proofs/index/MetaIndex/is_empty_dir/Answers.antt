@@ -2,7 +2,7 @@ use Rattle.std.proofs.Common.{subst, ◌∙◌}
 use Rattle.pathkey.specs.declared.range.KeyRange.{KeyRange}
 use Rattle.scan.specs.Pairs.{IsFirst}
 use Rattle.meta_index.specs.Means.{metadata}
-use Rattle.meta_index.proofs.Lower.{emptiness, none_from_some}
+use Rattle.meta_index.proofs.BelowPath.{emptiness, none_from_some}
 use Rattle.meta_index.proofs.index.MetaIndex.is_empty_dir.Goals as goal
 
 pub returns : goal.returns

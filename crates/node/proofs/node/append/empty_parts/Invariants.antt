@@ -1,5 +1,5 @@
 use Rattle.std.proofs.Common.{◌≡◌, take, map, []}
-use Rattle.node.specs.Ready.{see_list}
+use Rattle.node.specs.Searchable.{see_list}
 use Rattle.node.proofs.node.append.empty_parts.Given as goal
 
 abbrev pub invariant-loop : goal.invariant-loop

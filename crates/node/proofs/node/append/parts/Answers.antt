@@ -1,18 +1,16 @@
 use Rattle.std.proofs.Common.{map, ap, ◌∙◌, sym, subst, length, [], rules}
 use Rattle.std.specs.Option.{option_copied}
 use Rattle.std.proofs.lemmas.List.{length-map}
-use Rattle.node.specs.Appended.{all_placed}
-use Rattle.node.specs.Ready.{AllFit, see_list}
-use Rattle.node.specs.Pure.{slots}
-use Rattle.node.specs.See.{see_slot}
-use Rattle.node.proofs.Placing.{all_placed-empty}
+use Rattle.node.specs.Searchable.{AllFit, see_list}
+use Rattle.node.specs.See.{seen_slots}
+use Rattle.node.proofs.Placing.{all_placed, all_placed-empty}
 use Rattle.node.proofs.node.append.parts.Goals as goal
 
 pub loop-msg-init : goal.loop-msg-init
 loop-msg-init g c =
     let hi = option_copied c.args.hi in
     let xs = c.args.slots.now in
-    let ss = slots (map see_slot xs) in
+    let ss = seen_slots xs in
     let items = c.into_iter-msg-iterator.ensures.into_iter_gives.0 in
     let empties = c.in_ok-parts.ensures in (
       tt,

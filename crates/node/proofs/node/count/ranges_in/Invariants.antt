@@ -1,5 +1,5 @@
 use Rattle.std.proofs.Common.{◌≡◌, ◌+◌, ◌≤◌, drop}
-use Rattle.node.specs.Rows.{range_count}
+use Rattle.node.specs.StepRows.{range_count}
 use Rattle.node.proofs.node.count.ranges_in.Given as goal
 
 abbrev pub invariant-loop-msg : goal.invariant-loop-msg

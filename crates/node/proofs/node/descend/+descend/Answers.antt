@@ -1,8 +1,8 @@
-use Rattle.std.proofs.Common.{◌≡◌, arith, rules, subst, ap, sym, ◌∙◌, refl, ⊎_elim, ◌<◌, ◌≤◌, length, is_ok, ◌∷◌, None, map}
-use Rattle.node.specs.See.{see, see_slot}
-use Rattle.node.specs.Pure.{inner, slots}
+use Rattle.std.proofs.Common.{◌≡◌, arith, rules, subst, ap, sym, ◌∙◌, refl, ⊎_elim, ◌<◌, ◌≤◌, length, is_ok, ◌∷◌, None}
+use Rattle.node.specs.See.{see, seen_slots}
+use Rattle.node.specs.Pure.{inner}
 use Rattle.node.specs.Site.{slots_at}
-use Rattle.node.specs.Ready.{IsSearchable}
+use Rattle.node.specs.Searchable.{IsSearchable}
 use Rattle.node.specs.Steps.{Replies}
 use Rattle.node.specs.declared.step.StepReply.TheVariants.{NotThere, NoMemory}
 use Rattle.node.proofs.Placing.{searchable_child}
@@ -20,9 +20,9 @@ returns-then-i-len g t c =
     let i = c.in-Some.first.now in
     let h : length items ≤ i = omega arith in
     let own = ⊎_elim (λ x. x) (λ x. x) (rw c.in-Ok.is at c.make_mut.ensures.value) in
-    let was : inner (slots (map see_slot items)) ≡ c.args.node.now.value = ap see (sym c.in-Inner.is) ∙ c.own.view_is ∙ own in
-    let new = c.make_mut.follows.holds (inner (slots (map see_slot items))) (ap is_ok c.in-Ok.is) ∙ was in
-    let none : slots_at (i ∷ c.in-Some.rest.now) (inner (slots (map see_slot items))) ≡ None = of_child-past None (slots_at c.in-Some.rest.now) items i h in
+    let was : inner (seen_slots items) ≡ c.args.node.now.value = ap see (sym c.in-Inner.is) ∙ c.own.view_is ∙ own in
+    let new = c.make_mut.follows.holds (inner (seen_slots items)) (ap is_ok c.in-Ok.is) ∙ was in
+    let none : slots_at (i ∷ c.in-Some.rest.now) (inner (seen_slots items)) ≡ None = of_child-past None (slots_at c.in-Some.rest.now) items i h in
     let gone : slots_at c.args.place.now c.args.node.now.value ≡ None = ap (λ p. slots_at p c.args.node.now.value) c.in-Some.ensures.cases.0 ∙ ap (slots_at (i ∷ c.in-Some.rest.now)) (sym was) ∙ none in
     at_none c.args.place.now NotThere (Replies g.U.Update.means g.C.Change.kind c.args.shape c.args.root c.args.slot NotThere) c.args.node.now.value _ new tt gone
 
@@ -41,7 +41,7 @@ descend-requires g t c κs within =
     let i = c.in-Some.first.now in
     let s = c.index_mut.result.now in
     let own = ⊎_elim (λ x. x) (λ x. x) (rw c.in-Ok.is at c.make_mut.ensures.value) in
-    let was : inner (slots (map see_slot items)) ≡ c.args.node.now.value = ap see (sym c.in-Inner.is) ∙ c.own.view_is ∙ own in
+    let was : inner (seen_slots items) ≡ c.args.node.now.value = ap see (sym c.in-Inner.is) ∙ c.own.view_is ∙ own in
     let all = subst IsSearchable (sym was) c.requires.searchable in
     let child = searchable_child items i s (omega arith) all.1 in
     let here : IsSearchable s.child.value = subst (λ x. IsSearchable x.child.value) (sym c.index_mut.ensures.value) child in

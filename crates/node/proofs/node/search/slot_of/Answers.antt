@@ -1,10 +1,9 @@
-use Rattle.std.proofs.Common.{◌≡◌, ◌∷◌, map, rules, ap, sym, ◌∙◌, subst}
+use Rattle.std.proofs.Common.{◌≡◌, ◌∷◌, rules, ap, sym, ◌∙◌, subst}
 use Rattle.std.proofs.lemmas.List.Sorted.{IsPartitionPoint-from_clause}
 use Rattle.message.specs.Ranges.{reaches}
 use Rattle.node.specs.Meaning.{slot_number}
-use Rattle.node.specs.Pure.{slots}
-use Rattle.node.specs.Ready.{AreRising}
-use Rattle.node.specs.See.{see_slot}
+use Rattle.node.specs.Searchable.{AreRising}
+use Rattle.node.specs.See.{seen_slots}
 use Rattle.node.proofs.SlotFacts.{partitioned-rising, number-by_search}
 use Rattle.node.proofs.node.search.slot_of.Goals as goal
 
@@ -14,6 +13,6 @@ returns-clause-number g c =
     let first = c.in-Some.field-0-0.now in
     let later = c.in-Some.later.now in
     let e : c.args.slots.now ≡ first ∷ later = search rules in
-    let rising = subst (λ xs. AreRising (slots (map see_slot xs))) e c.requires.rising in
+    let rising = subst (λ xs. AreRising (seen_slots xs)) e c.requires.rising in
     let point = IsPartitionPoint-from_clause (λ s. reaches s.lo k) later _ c.partition_point.ensures.partitioned (partitioned-rising k later rising.1) (λ a r q h. search rules) in
-    number-by_search k first later _ c.partition_point.ensures.bound point ∙ ap (λ xs. slot_number (slots (map see_slot xs)) k) (sym e)
+    number-by_search k first later _ c.partition_point.ensures.bound point ∙ ap (λ xs. slot_number (seen_slots xs) k) (sym e)

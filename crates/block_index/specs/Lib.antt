@@ -1,0 +1,5 @@
+pub mod Patches
+pub mod Stored
+pub mod Updates
+pub mod Changed
+pub mod Means

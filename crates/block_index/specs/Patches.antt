@@ -1,0 +1,11 @@
+-- What a patch is: bytes, and where in a block they begin.
+use Rattle.std.specs.Prelude.{ℕ, ◌+◌, ◌-◌, List, ◌++◌, length, take, drop}
+
+-- bytes to be laid over a block from the offset on
+pub record Overlay : Type 0 where
+  pub off : ℕ
+  pub bytes : List ℕ
+
+-- the bytes of two patches that meet, w from c on over v from a on, from the earlier of both beginnings on
+abbrev pub joined : ℕ → List ℕ → ℕ → List ℕ → List ℕ
+joined a v c w = take (c - a) v ++ w ++ drop (c + length w - a) v

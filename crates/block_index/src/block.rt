@@ -1,0 +1,109 @@
+//! Blocks of a file.
+ghost use Rattle.std.specs.Prelude.{◌≡◌, ◌≤◌, length, take, IfOk, OnOk, OnErr};
+ghost use Rattle.block_index.specs.Stored.{bytes_of};
+ghost use Rattle.reference.specs.Tree.{over};
+
+use crate::patch::Patch;
+use crate::stored::Stored;
+use pathkey::NoMemory;
+use std::alloc::Global;
+use std::marker::Model;
+use std::sync::Arc;
+
+/// How many bytes a block has at most.
+pub const BLOCK: u64 = 4096;
+
+/// At most 4,096 bytes of a file, which contracts see as their list. They are shared: a copy is one more owner.
+#[derive(Drop)]
+pub struct Block {
+    stored: Stored,
+}
+
+impl Model for Block {
+    ghost use Rattle.std.specs.Prelude.{List, ℕ, length, ◌≤◌};
+    ghost use Rattle.block_index.specs.Stored.{bytes_of};
+
+    ghost Value = { List ℕ };
+
+    ghost view = { λ b. bytes_of b.stored };
+
+    ghost invariant = { λ b. length (bytes_of b.stored) ≤ 4096 };
+}
+
+impl Block {
+    /// A block of copies of these bytes.
+    pub fn copied(alloc: Global, bytes: &[u8]) -> Result<Block, NoMemory>
+        requires { length bytes.now ≤ 4096 }
+        ensures { IfOk result (λ b. b ≡ bytes.now) }
+    {
+        let mut own = Vec::with_capacity(alloc, bytes.len())?;
+        own.extend_from_slice(bytes)?;
+        Ok(Block {
+            stored: Stored::Own(Arc::new(alloc, own)?),
+        })
+    }
+
+    /// These bytes with the patch laid over them. Where it covers them all, the block shares its bytes.
+    pub fn patched(alloc: Global, old: &[u8], patch: &Patch) -> Result<Block, NoMemory>
+        requires { length old.now ≤ 4096 }
+        ensures { IfOk result (λ b. b ≡ over old.now patch.now.off patch.now.bytes) }
+    {
+        let off = patch.off();
+        let end = off + patch.bytes().len();
+        if off == 0 && old.len() <= end {
+            return Ok(Block {
+                stored: Stored::Slice(patch.share()?),
+            });
+        }
+        let mut own = Vec::with_capacity(alloc, old.len().max(end))?;
+        own.extend_from_slice(&old[..old.len().min(off)])?;
+        own.resize(off, 0)?;
+        own.extend_from_slice(patch.bytes())?;
+        if end < old.len() {
+            own.extend_from_slice(&old[end..])?;
+        }
+        Ok(Block {
+            stored: Stored::Own(Arc::new(alloc, own)?),
+        })
+    }
+
+    /// Its bytes.
+    pub fn as_slice(&self) -> &[u8]
+        ensures value { result.now ≡ self.now }
+        ensures short { length self.now ≤ 4096 }
+    {
+        self.stored.as_slice()
+    }
+
+    /// An equal block: one more owner of its bytes.
+    pub fn copy(&self) -> Result<Block, NoMemory>
+        ensures { IfOk result (λ b. b ≡ self.now) }
+    {
+        Ok(Block {
+            stored: self.stored.copy()?,
+        })
+    }
+
+    /// Lays the patch over the block, in its place where no other block shares its bytes.
+    pub fn lay(&mut self, alloc: Global, patch: &Patch) -> Result<(), NoMemory>
+        ensures ok { OnOk result (self.new ≡ over self.old patch.now.off patch.now.bytes) }
+        ensures err { OnErr result (self.new ≡ self.old) }
+    {
+        if !self.stored.lay(patch)? {
+            *self = Block::patched(alloc, self.as_slice(), patch)?;
+        }
+        Ok(())
+    }
+
+    /// Keeps the first `n` bytes, or all where there are fewer.
+    pub fn cut(&mut self, alloc: Global, n: u16) -> Result<(), NoMemory>
+        ensures ok { OnOk result (self.new ≡ take n self.old) }
+        ensures err { OnErr result (self.new ≡ self.old) }
+    {
+        if !self.stored.truncate(n as usize) {
+            let kept = self.as_slice().len().min(n as usize);
+            *self = Block::copied(alloc, &self.as_slice()[..kept])?;
+        }
+        Ok(())
+    }
+}

@@ -1,0 +1,20 @@
+//! The bytes of files: a buffered tree that has, at the key of each block, at most 4,096 bytes of a file.
+//!
+//! A write is one patch for each block that it reaches, whatever the file's size, and a cut is at most one shorter
+//! block and one range-delete. Contracts speak of the blocks that the index means: what messages make of them, block by
+//! block, and which bytes of the file a read gives.
+#![tactic(auto)]
+
+pub mod block;
+pub mod index;
+pub mod patch;
+mod stored;
+pub mod update;
+
+pub use block::{BLOCK, Block};
+pub use index::BlockIndex;
+pub use patch::Patch;
+pub use update::BlockUpdate;
+
+#[cfg(test)]
+mod tests;

@@ -1,0 +1,94 @@
+//! Where the bytes of a block lie.
+ghost use Rattle.std.specs.Prelude.{◌≡◌, ◌+◌, ◌≤◌, length, take, if◌then◌else◌, IfOk, OnOk, OnErr};
+ghost use Rattle.block_index.specs.Stored.{bytes_of};
+ghost use Rattle.reference.specs.Tree.{over};
+
+use crate::patch::Patch;
+use bytes::Bytes;
+use pathkey::NoMemory;
+use std::sync::Arc;
+
+/// Shared bytes.
+#[derive(Drop)]
+pub enum Stored {
+    /// A slice of the bytes that a call brought. They are never changed.
+    Slice(Bytes),
+    /// Bytes of the block's own. Where they have one owner, they are changed in their place.
+    Own(Arc<Vec<u8>>),
+}
+
+impl Stored {
+    /// The bytes.
+    pub fn as_slice(&self) -> &[u8]
+        ensures { result.now ≡ bytes_of self.now }
+    {
+        match self {
+            Stored::Slice(bytes) => bytes.as_slice(),
+            Stored::Own(bytes) => bytes.as_slice(),
+        }
+    }
+
+    /// One more owner of the bytes.
+    pub fn copy(&self) -> Result<Stored, NoMemory>
+        ensures { IfOk result (λ s. bytes_of s ≡ bytes_of self.now) }
+    {
+        match self {
+            Stored::Slice(bytes) => Ok(Stored::Slice(bytes.clone()?)),
+            Stored::Own(bytes) => Ok(Stored::Own(Arc::try_clone(bytes)?)),
+        }
+    }
+
+    /// Keeps the first `n` bytes alone, and answers whether it could do so without a copy.
+    pub fn truncate(&mut self, n: usize) -> bool
+        ensures { bytes_of self.new ≡ (if result then take n (bytes_of self.old) else bytes_of self.old) }
+    {
+        match self {
+            Stored::Slice(bytes) => {
+                bytes.truncate(n);
+                true
+            }
+            Stored::Own(bytes) => match Arc::get_mut(bytes) {
+                Some(own) => {
+                    own.truncate(n);
+                    true
+                }
+                None => false,
+            },
+        }
+    }
+
+    /// Lays the patch over the bytes where it can do so in their place, and answers whether it did.
+    pub fn lay(&mut self, patch: &Patch) -> Result<bool, NoMemory>
+        requires { length (bytes_of self.old) ≤ 4096 }
+        ensures ok { IfOk result (λ done. bytes_of self.new ≡ (if done then over (bytes_of self.old) patch.now.off patch.now.bytes else bytes_of self.old)) }
+        ensures short { IfOk result (λ _. length (bytes_of self.new) ≤ 4096) }
+        ensures err { OnErr result (bytes_of self.new ≡ bytes_of self.old) }
+    {
+        match self {
+            Stored::Slice(_) => Ok(false),
+            Stored::Own(bytes) => match Arc::get_mut(bytes) {
+                Some(own) => {
+                    overlay(own, patch)?;
+                    Ok(true)
+                }
+                None => Ok(false),
+            },
+        }
+    }
+}
+
+/// Lays the patch over the bytes in their place.
+fn overlay(own: &mut Vec<u8>, patch: &Patch) -> Result<(), NoMemory>
+    requires { length own.old.items ≤ 4096 }
+    ensures ok { OnOk result (own.new.items ≡ over own.old.items patch.now.off patch.now.bytes) }
+    ensures short { OnOk result (length own.new.items ≤ 4096) }
+    ensures err { OnErr result (own.new.items ≡ own.old.items) }
+{
+    let off = patch.off();
+    let end = off + patch.bytes().len();
+    if own.len() < end {
+        own.resize(end, 0)?;
+    }
+    own[off..end].copy_from_slice(patch.bytes());
+    Ok(())
+}

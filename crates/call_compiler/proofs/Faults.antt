@@ -1,0 +1,136 @@
+-- The reply of a call whose first fault is known.
+use Rattle.std.proofs.Common.{◌≡◌, ℕ, ◌+◌, ◌≤◌, List, [], ◌∷◌, ◌++◌, length, Bool, true, false, cond, refl, sym, ap, ◌∙◌, arith, Option, Some, None}
+use Rattle.std.specs.Prelude.{nat_le, nat_lt, not, ◌&&◌, take, drop}
+use Rattle.pathkey.specs.Names.{Path}
+use Rattle.pathkey.specs.declared.errno.Errno.{Errno}
+use Rattle.pathkey.specs.declared.errno.Errno.TheVariants.{EISDIR, EPERM, EINVAL, EFBIG}
+use Rattle.reference.specs.Tree.{Tree, Dir, File, nothing, At, Found, entry_at, with_entry, without, over, sized}
+use Rattle.reference.specs.Calls.{Outcome, when, first_fault, unless, is_empty, bytes_of, greatest_file, greatest_read, faults_of_new, faults_of_file, faults_of_write, faults_of_truncate, faults_of_unlink, faults_of_rmdir, faults_of_read, does}
+use Rattle.reference.specs.declared.call.Call.TheVariants.{Mkdir, Create, Write, Truncate, Unlink, Rmdir, Read}
+use Rattle.reference.specs.declared.reply.Reply.TheVariants.{Done, Count, Data, Fault}
+use Rattle.reference.proofs.Faults.{unless_fault, unless_none}
+
+-- ---- lists of faults
+
+-- the first fault is answered
+refused : (t : Tree) (faults : List (Option Errno)) (o : Outcome) (e : Errno) → first_fault faults ≡ Some e → (unless t faults o).1 ≡ Fault e
+refused t faults o e h = ap (λ (x : Outcome). x.1) (unless_fault t faults o e h)
+
+-- the first of a list is the first of a longer one
+first_of : (faults more : List (Option Errno)) (e : Errno) → first_fault faults ≡ Some e → first_fault (faults ++ more) ≡ Some e
+first_of [] more e h = absurd (cc)
+first_of (None ∷ faults) more e h = first_of faults more e h
+first_of (Some d ∷ faults) more e h = h
+
+-- where a file stands the others count
+of_file : (here : At) (b : List ℕ) (e : Errno) (more : List (Option Errno)) → here ≡ Found (File b) → first_fault (faults_of_file here e ++ more) ≡ first_fault more
+of_file here b e more is = ap (λ (a : At). first_fault (faults_of_file a e ++ more)) is
+
+-- one fault more, that comes or does not
+last_comes : (b : Bool) (e : Errno) → b ≡ true → first_fault (when b e ∷ []) ≡ Some e
+last_comes b e h = ap (λ (x : Bool). first_fault (when x e ∷ [])) h
+
+last_stays_away : (b : Bool) (e : Errno) → b ≡ false → first_fault (when b e ∷ []) ≡ None
+last_stays_away b e h = ap (λ (x : Bool). first_fault (when x e ∷ [])) h
+
+-- ---- `mkdir`, `create`, `rmdir`
+
+pub mkdir_refused : (t : Tree) (p : Path) (e : Errno) → first_fault (faults_of_new t p) ≡ Some e → (does t (Mkdir p)).1 ≡ Fault e
+unfolding does
+mkdir_refused t p e h = refused t (faults_of_new t p) (with_entry t p (Dir nothing), Done) e h
+
+pub mkdir_done : (t : Tree) (p : Path) → first_fault (faults_of_new t p) ≡ None → (does t (Mkdir p)).1 ≡ Done
+unfolding does
+mkdir_done t p h = ap (λ (x : Outcome). x.1) (unless_none t (faults_of_new t p) (with_entry t p (Dir nothing), Done) h)
+
+pub create_refused : (t : Tree) (p : Path) (e : Errno) → first_fault (faults_of_new t p) ≡ Some e → (does t (Create p)).1 ≡ Fault e
+unfolding does
+create_refused t p e h = refused t (faults_of_new t p) (with_entry t p (File []), Done) e h
+
+pub create_done : (t : Tree) (p : Path) → first_fault (faults_of_new t p) ≡ None → (does t (Create p)).1 ≡ Done
+unfolding does
+create_done t p h = ap (λ (x : Outcome). x.1) (unless_none t (faults_of_new t p) (with_entry t p (File []), Done) h)
+
+pub rmdir_refused : (t : Tree) (p : Path) (e : Errno) → first_fault (faults_of_rmdir t p) ≡ Some e → (does t (Rmdir p)).1 ≡ Fault e
+unfolding does
+rmdir_refused t p e h = refused t (faults_of_rmdir t p) (without t p, Done) e h
+
+pub rmdir_done : (t : Tree) (p : Path) → first_fault (faults_of_rmdir t p) ≡ None → (does t (Rmdir p)).1 ≡ Done
+unfolding does
+rmdir_done t p h = ap (λ (x : Outcome). x.1) (unless_none t (faults_of_rmdir t p) (without t p, Done) h)
+
+-- ---- `unlink`
+
+pub unlink_refused : (t : Tree) (p : Path) (e : Errno) → first_fault (faults_of_file (entry_at t p) EPERM) ≡ Some e → (does t (Unlink p)).1 ≡ Fault e
+unfolding does
+unlink_refused t p e h = refused t (faults_of_unlink t p) (without t p, Done) e h
+
+pub unlink_done : (t : Tree) (p : Path) (b : List ℕ) → entry_at t p ≡ Found (File b) → (does t (Unlink p)).1 ≡ Done
+unfolding does
+unlink_done t p b is = ap (λ (x : Outcome). x.1) (unless_none t (faults_of_unlink t p) (without t p, Done) (of_file (entry_at t p) b EPERM [] is))
+
+-- ---- `write`
+
+abbrev too_large : ℕ → List ℕ → Bool
+too_large off w = not (is_empty w) && nat_lt greatest_file (off + length w)
+
+abbrev laid : Tree → Path → ℕ → List ℕ → Outcome
+laid t p off w = cond (is_empty w) (t, Count 0) (with_entry t p (File (over (bytes_of (entry_at t p)) off w)), Count (length w))
+
+pub write_refused : (t : Tree) (p : Path) (off : ℕ) (w : List ℕ) (e : Errno) → first_fault (faults_of_file (entry_at t p) EISDIR) ≡ Some e → (does t (Write p off w)).1 ≡ Fault e
+unfolding does
+write_refused t p off w e h = refused t (faults_of_write t p off w) (laid t p off w) e (first_of (faults_of_file (entry_at t p) EISDIR) (when (too_large off w) EFBIG ∷ []) e h)
+
+module _ (t : Tree) (p : Path) (off : ℕ) (w b : List ℕ) (is : entry_at t p ≡ Found (File b)) where
+  pub write_too_large : is_empty w ≡ false → nat_lt greatest_file (off + length w) ≡ true → (does t (Write p off w)).1 ≡ Fault EFBIG
+  unfolding does
+  write_too_large some large =
+      let h : too_large off w ≡ true = ap (λ (x : Bool). not x && nat_lt greatest_file (off + length w)) some ∙ large in
+      refused t (faults_of_write t p off w) (laid t p off w) EFBIG (of_file (entry_at t p) b EISDIR (when (too_large off w) EFBIG ∷ []) is ∙ last_comes (too_large off w) EFBIG h)
+
+  write_allowed : too_large off w ≡ false → unless t (faults_of_write t p off w) (laid t p off w) ≡ laid t p off w
+  write_allowed h = unless_none t (faults_of_write t p off w) (laid t p off w) (of_file (entry_at t p) b EISDIR (when (too_large off w) EFBIG ∷ []) is ∙ last_stays_away (too_large off w) EFBIG h)
+
+  pub write_nothing : is_empty w ≡ true → does t (Write p off w) ≡ (t, Count 0)
+  unfolding does
+  write_nothing empty =
+      write_allowed (ap (λ (x : Bool). not x && nat_lt greatest_file (off + length w)) empty)
+      ∙ ap (λ (x : Bool). cond {A = Outcome} x (t, Count 0) (with_entry t p (File (over (bytes_of (entry_at t p)) off w)), Count (length w))) empty
+
+  pub write_done : is_empty w ≡ false → nat_lt greatest_file (off + length w) ≡ false → (does t (Write p off w)).1 ≡ Count (length w)
+  unfolding does
+  write_done some short =
+      ap (λ (x : Outcome). x.1) (write_allowed (ap (λ (x : Bool). not x && nat_lt greatest_file (off + length w)) some ∙ short)
+      ∙ ap (λ (x : Bool). cond {A = Outcome} x (t, Count 0) (with_entry t p (File (over (bytes_of (entry_at t p)) off w)), Count (length w))) some)
+
+-- ---- `truncate`
+
+pub truncate_refused : (t : Tree) (p : Path) (n : ℕ) (e : Errno) → first_fault (faults_of_file (entry_at t p) EISDIR) ≡ Some e → (does t (Truncate p n)).1 ≡ Fault e
+unfolding does
+truncate_refused t p n e h = refused t (faults_of_truncate t p n) (with_entry t p (File (sized (bytes_of (entry_at t p)) n)), Done) e (first_of (faults_of_file (entry_at t p) EISDIR) (when (nat_lt greatest_file n) EFBIG ∷ []) e h)
+
+module _ (t : Tree) (p : Path) (n : ℕ) (b : List ℕ) (is : entry_at t p ≡ Found (File b)) where
+  pub truncate_too_large : nat_lt greatest_file n ≡ true → (does t (Truncate p n)).1 ≡ Fault EFBIG
+  unfolding does
+  truncate_too_large h = refused t (faults_of_truncate t p n) (with_entry t p (File (sized (bytes_of (entry_at t p)) n)), Done) EFBIG (of_file (entry_at t p) b EISDIR (when (nat_lt greatest_file n) EFBIG ∷ []) is ∙ last_comes (nat_lt greatest_file n) EFBIG h)
+
+  pub truncate_done : nat_lt greatest_file n ≡ false → (does t (Truncate p n)).1 ≡ Done
+  unfolding does
+  truncate_done h = ap (λ (x : Outcome). x.1) (unless_none t (faults_of_truncate t p n) (with_entry t p (File (sized (bytes_of (entry_at t p)) n)), Done) (of_file (entry_at t p) b EISDIR (when (nat_lt greatest_file n) EFBIG ∷ []) is ∙ last_stays_away (nat_lt greatest_file n) EFBIG h))
+
+-- ---- `read`
+
+pub read_refused : (t : Tree) (p : Path) (off n : ℕ) (e : Errno) → first_fault (faults_of_file (entry_at t p) EISDIR) ≡ Some e → (does t (Read p off n)).1 ≡ Fault e
+unfolding does
+read_refused t p off n e h = refused t (faults_of_read t p n) (t, Data (take n (drop off (bytes_of (entry_at t p))))) e (first_of (faults_of_file (entry_at t p) EISDIR) (when (nat_lt greatest_read n) EINVAL ∷ []) e h)
+
+module _ (t : Tree) (p : Path) (off n : ℕ) (b : List ℕ) (is : entry_at t p ≡ Found (File b)) where
+  pub read_too_much : nat_lt greatest_read n ≡ true → (does t (Read p off n)).1 ≡ Fault EINVAL
+  unfolding does
+  read_too_much h = refused t (faults_of_read t p n) (t, Data (take n (drop off (bytes_of (entry_at t p))))) EINVAL (of_file (entry_at t p) b EISDIR (when (nat_lt greatest_read n) EINVAL ∷ []) is ∙ last_comes (nat_lt greatest_read n) EINVAL h)
+
+  pub read_done : nat_lt greatest_read n ≡ false → (does t (Read p off n)).1 ≡ Data (take n (drop off b))
+  unfolding does
+  read_done h =
+      ap (λ (x : Outcome). x.1) (unless_none t (faults_of_read t p n) (t, Data (take n (drop off (bytes_of (entry_at t p))))) (of_file (entry_at t p) b EISDIR (when (nat_lt greatest_read n) EINVAL ∷ []) is ∙ last_stays_away (nat_lt greatest_read n) EINVAL h))
+      ∙ ap (λ (a : At). Data (take n (drop off (bytes_of a)))) is

@@ -1,0 +1,51 @@
+//! The indexes of a file system, which a call asks and to which its messages go.
+ghost use Rattle.std.specs.Prelude.{◌≡◌, IfOk, IsTrue, OnErr, OnOk};
+ghost use Rattle.call_compiler.specs.Compiled.{MeanTree, messages};
+ghost use Rattle.call_compiler.specs.Laws.{HaveTaken};
+ghost use Rattle.node.specs.Shapes.{is_shape};
+ghost use Rattle.reference.specs.Tree.{Dir, nothing};
+
+use crate::batch::Batch;
+use block_index::BlockIndex;
+use meta_index::MetaIndex;
+use node::{Shape, append_both};
+use pathkey::NoMemory;
+use std::alloc::Global;
+
+/// The indexes of a file system.
+#[derive(Drop)]
+pub struct Indexes {
+    /// What stands at each path.
+    pub meta: MetaIndex,
+    /// The bytes of each file.
+    pub block: BlockIndex,
+}
+
+impl Indexes {
+    /// The indexes of the empty root directory, in new trees of this shape. It fails only for want of memory.
+    pub fn new(alloc: Global, shape: Shape) -> Result<Indexes, NoMemory>
+        requires { IsTrue (is_shape shape) }
+        ensures meta_shape { IfOk result (λ i. i.meta.tree.shape ≡ shape) }
+        ensures block_shape { IfOk result (λ i. i.block.tree.shape ≡ shape) }
+        ensures empty { IfOk result (λ i. MeanTree i (Dir nothing)) }
+    {
+        let meta = MetaIndex::new(alloc, shape)?;
+        let block = BlockIndex::new(alloc, shape)?;
+        Ok(Indexes { meta, block })
+    }
+
+    /// Puts the messages of a batch into both trees, whole or not at all. It fails only for want of memory; a tree that
+    /// gets no message is not touched.
+    pub fn append(&mut self, alloc: Global, batch: Batch) -> Result<(), NoMemory>
+        ensures done { OnOk result (HaveTaken (messages batch) self.old self.new) }
+        ensures err { OnErr result (self.new ≡ self.old) }
+    {
+        append_both(
+            alloc,
+            &mut self.meta.tree,
+            batch.meta,
+            &mut self.block.tree,
+            batch.block,
+        )
+    }
+}

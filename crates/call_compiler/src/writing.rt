@@ -1,0 +1,92 @@
+//! Calls that change the bytes of a file: `write` and `truncate`.
+ghost use Rattle.std.specs.Prelude.{◌≡◌, ◌≢◌, ◌<◌, ◌≤◌, ◌^◌, [], IfOk, length};
+ghost use Rattle.block_index.specs.Changed.{CutsWhereMeant};
+ghost use Rattle.call_compiler.specs.Compiled.{IsCompiled, messages};
+ghost use Rattle.reference.specs.Shape.{AreBytes};
+
+use crate::batch::{Batch, done, refused, without_messages};
+use crate::files::find_file;
+use crate::indexes::Indexes;
+use block_index::{BlockIndex, BlockUpdate};
+use bytes::Bytes;
+use message::Msg;
+use meta_index::MetaUpdate;
+use pathkey::{Errno, NoMemory, Path};
+use reference::{Call, GREATEST_FILE, Reply, fits_file};
+use std::alloc::Global;
+
+/// Lays bytes over a file from the offset on (POSIX.1-2017, pwrite). No bytes change nothing, at any offset.
+pub(crate) fn write(
+    alloc: Global,
+    indexes: &Indexes,
+    path: &Path,
+    offset: u64,
+    bytes: &Bytes,
+) -> Result<(Reply, Batch), NoMemory>
+    ensures { IfOk result (λ c. IsCompiled indexes.now (Call.Write path.now offset bytes.now) c.0 (messages c.1)) }
+{
+    let key = path.key();
+    if let Err(fault) = find_file(alloc, indexes, path, Errno::EISDIR)? {
+        return Ok(refused(alloc, fault));
+    }
+    if bytes.is_empty() {
+        return Ok(without_messages(alloc, Reply::Count(0)));
+    }
+    if !fits_file(offset, bytes.len()) {
+        return Ok(refused(alloc, Errno::EFBIG));
+    }
+    let len = count(bytes.as_slice());
+    let block = indexes.block.write_msgs(alloc, path, offset, bytes)?;
+    let grow = Msg::Edit(key.copy(alloc)?, MetaUpdate::Grow(offset + len));
+    done(alloc, Reply::Count(len), grow, block)
+}
+
+/// How many bytes there are.
+fn count(bytes: &[u8]) -> u64
+    ensures value { result ≡ length bytes.now }
+    ensures bytes { AreBytes bytes.now }
+{
+    bytes.len() as u64
+}
+
+/// Cuts a file to a length, or lengthens it by zeros (truncate).
+pub(crate) fn truncate(
+    alloc: Global,
+    indexes: &Indexes,
+    path: &Path,
+    len: u64,
+) -> Result<(Reply, Batch), NoMemory>
+    ensures { IfOk result (λ c. IsCompiled indexes.now (Call.Truncate path.now len) c.0 (messages c.1)) }
+{
+    let key = path.key();
+    let old = match find_file(alloc, indexes, path, Errno::EISDIR)? {
+        Ok(old) => old,
+        Err(fault) => return Ok(refused(alloc, fault)),
+    };
+    if len > GREATEST_FILE {
+        return Ok(refused(alloc, Errno::EFBIG));
+    }
+    let block = cut_from(alloc, &indexes.block, path, old, len)?;
+    let set = Msg::Edit(key.copy(alloc)?, MetaUpdate::SetLen(len));
+    done(alloc, Reply::Done, set, block)
+}
+
+/// The messages that cut the blocks of a file of `old` bytes to the first `len`; none where it has no more.
+fn cut_from(
+    alloc: Global,
+    index: &BlockIndex,
+    path: &Path,
+    old: u64,
+    len: u64,
+) -> Result<Vec<Msg<BlockUpdate>>, NoMemory>
+    requires file { path.now ≢ [] }
+    requires short { len ≤ 2 ^ 40 }
+    ensures cut { IfOk result (λ msgs. len < old → CutsWhereMeant len path.now msgs.items) }
+    ensures kept { IfOk result (λ msgs. old ≤ len → msgs.items ≡ []) }
+    ensures few { IfOk result (λ msgs. length msgs.items ≤ 2) }
+{
+    if old <= len {
+        return Ok(Vec::new(alloc));
+    }
+    index.cut_msgs(alloc, path, len)
+}

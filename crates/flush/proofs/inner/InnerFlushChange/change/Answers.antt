@@ -1,0 +1,15 @@
+use Rattle.std.proofs.Common.{refl, ap, ◌≤◌, ◌<◌, length, arith}
+use Rattle.node.specs.StepRows.{can_flush_inner}
+use Rattle.node.proofs.Splice.{slots_from-past}
+use Rattle.flush.proofs.InnerFlush.{flushed}
+use Rattle.flush.proofs.inner.InnerFlushChange.change.Goals as goal
+
+pub returns-then-i-len : goal.returns-then-i-len
+returns-then-i-len g c =
+    let h : length c.args.slots.now.items ≤ c.args.i = omega arith in
+    (refl, λ hi. ap can_flush_inner (slots_from-past c.args.slots.now.items c.args.i h))
+
+pub returns : goal.returns
+returns g c =
+    let h : c.args.i < length c.args.slots.now.items = omega arith in
+    flushed g.U.Update.means c.args.shape c.args._root c.args.i c.args.slots.now.items c.index_mut-slot.result.now c.sink_oldest.new.slot c.sink_oldest.result h c.index_mut-slot.ensures.value c.sink_oldest.ensures.lo c.sink_oldest.ensures.left c.sink_oldest.ensures.sunk

@@ -1,9 +1,0 @@
-use Rattle.std.proofs.Common.{◌++◌, List, take, map}
-use Rattle.flush.specs.Heaviest.{Load, IsBest, own_loads}
-use Rattle.node.specs.Places.{way}
-use Rattle.node.specs.Pure.{slots}
-use Rattle.node.specs.See.{see_slot}
-use Rattle.flush.proofs.weigh.heaviest_slot.Given as goal
-
-abbrev pub invariant-loop-i : goal.invariant-loop-i
-invariant-loop-i g l = (ls : List Load) → IsBest l.fn.best ls → IsBest l.found (ls ++ own_loads (way l.at) 0 (slots (map see_slot (take l.i l.slots))))

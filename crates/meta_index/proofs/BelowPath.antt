@@ -1,0 +1,123 @@
+-- What lies below a path: its keys, and the entries of the directory there.
+use Rattle.std.proofs.Common.{◌≡◌, ℕ, [], ◌∷◌, ◌++◌, Bool, true, false, not, cond, refl, sym, ap, subst, ◌∙◌, Option, Some, None, append-nil}
+use Rattle.std.specs.Prelude.{fold}
+use Rattle.std.specs.Option.{is_none, is_some}
+use Rattle.std.specs.Ordering.{is_le}
+use Rattle.std.proofs.lemmas.Bool.{and_parts, and_from}
+use Rattle.pathkey.specs.Order.{by_bytes}
+use Rattle.pathkey.specs.Names.{Name, Path, EachName, IsPath}
+use Rattle.pathkey.specs.Keys.{Key, enc, is_in, is_below, next_key, subtree}
+use Rattle.pathkey.proofs.OrderFacts.{same_itself}
+use Rattle.pathkey.proofs.KeyFacts.{enc-append, path_in_subtree, path_in_subtree_from, same_beginning}
+use Rattle.message.specs.Ranges.{reaches, within}
+use Rattle.message.proofs.KeyOrder.{le_le, not_reaches_from_before, reaches-from_before}
+use Rattle.scan.specs.Pairs.{IsFirst}
+use Rattle.scan.proofs.NextKey.{before-next, reaches-next}
+use Rattle.reference.specs.Tree.{Tree, Dir, File, nothing, entry, entry_at, named, found, onward}
+use Rattle.reference.specs.Tree.{At, Found, Missing, Blocked}
+use Rattle.reference.specs.Calls.{is_full}
+use Rattle.reference.specs.Looks.{seen, look}
+use Rattle.reference.specs.Indexes.{meta_of, PathOf}
+use Rattle.reference.specs.declared.reply.Meta.{Meta}
+use Rattle.reference.proofs.Edits.{fold-Missing, fold-Blocked}
+use Rattle.reference.proofs.EntryPaths.{along}
+use Rattle.meta_index.specs.declared.index.MetaIndex.{MetaIndex}
+use Rattle.meta_index.specs.Below.{below}
+use Rattle.meta_index.specs.Means.{metadata, IsMeantBy}
+
+-- ---- keys
+
+subtree_low : (p : Path) → (subtree p).lo ≡ enc p
+subtree_low [] = refl
+subtree_low (n ∷ p) = refl
+
+least : (k : Key) (b : ℕ) → is_le (by_bytes (0 ∷ []) (b ∷ k)) ≡ true
+least k b = reaches-next [] (b ∷ k)
+
+least_name : (n : Name) (k : Key) → is_le (by_bytes (0 ∷ []) (n ++ 0 ∷ k)) ≡ true
+least_name [] k = least k 0
+least_name (b ∷ n) k = least (n ++ 0 ∷ k) b
+
+-- the keys of what lies below a path are in the range below it
+pub in_below : (p : Path) (n : Name) (r : Path) → within (below p).lo (below p).hi (enc (p ++ n ∷ r)) ≡ true
+in_below p n r =
+    let low : reaches (next_key (enc p)) (enc (p ++ n ∷ r)) ≡ true = subst (λ (k : Key). reaches (next_key (enc p)) k ≡ true) (sym (enc-append p (n ∷ r))) (same_beginning (enc p) (0 ∷ []) (enc (n ∷ r)) (least_name n (enc r))) in
+    let whole : is_in (subtree p) (enc (p ++ n ∷ r)) ≡ true = path_in_subtree_from p (p ++ n ∷ r) (n ∷ r) refl in
+    and_from _ _ low (and_parts _ _ whole).1
+
+-- and no other path's key is
+pub from_below : (p q : Path) → EachName p → EachName q → within (below p).lo (below p).hi (enc q) ≡ true → (n : Name) × (r : Path) × (q ≡ p ++ n ∷ r)
+from_below p q u v h =
+    let parts : (reaches (next_key (enc p)) (enc q) ≡ true) × (is_below (enc q) (below p).hi ≡ true) = and_parts _ _ h in
+    let low : reaches (enc p) (enc q) ≡ true = le_le (enc p) (next_key (enc p)) (enc q) (reaches-from_before (enc p) (next_key (enc p)) (before-next (enc p))) parts.0 in
+    let whole : is_in (subtree p) (enc q) ≡ true = and_from _ _ (subst (λ (k : Key). reaches k (enc q) ≡ true) (sym (subtree_low p)) low) parts.1 in
+    let under : (r : Path) × (q ≡ p ++ r) = path_in_subtree p q u v whole in
+    split under.0 under.1 parts.0
+  where
+    split : (r : Path) → q ≡ p ++ r → reaches (next_key (enc p)) (enc q) ≡ true → (n : Name) × (r : Path) × (q ≡ p ++ n ∷ r)
+    split [] e f = absurd (
+        let is : enc q ≡ enc p = ap enc (e ∙ append-nil p) in
+        let never : reaches (next_key (enc p)) (enc p) ≡ false = not_reaches_from_before (enc p) (next_key (enc p)) (before-next (enc p)) in
+        let g : reaches (next_key (enc p)) (enc p) ≡ true = sym (ap (reaches (next_key (enc p))) is) ∙ f in
+        cc)
+    split (n ∷ r) e f = (n, r, e)
+
+-- ---- entries
+
+-- an entry that a directory has
+pub record EntryOf (here : At) : Type 0 where
+  pub name : Name
+  pub tree : Tree
+  pub stands : onward here name ≡ Found tree
+
+-- what is full has an entry
+pub full_entry : (here : At) → is_full here ≡ true → EntryOf here
+full_entry (Found (Dir nothing)) h = absurd (cc)
+full_entry (Found (Dir (entry n x es))) h = record { name = n; tree = x; stands = ap (λ (b : Bool). found (cond b (Some x) (named n es))) (same_itself n) }
+full_entry (Found (File b)) h = absurd (cc)
+full_entry Missing h = absurd (cc)
+full_entry Blocked h = absurd (cc)
+
+-- what is not full has nothing below it
+pub nothing_below : (here : At) (n : Name) (r : Path) → is_full here ≡ false → seen (fold onward here (n ∷ r)) ≡ None
+nothing_below (Found (Dir nothing)) n r h = ap seen (fold-Missing r)
+nothing_below (Found (Dir (entry m x es))) n r h = absurd (cc)
+nothing_below (Found (File b)) n r h = ap seen (fold-Blocked r)
+nothing_below Missing n r h = ap seen (fold-Missing r)
+nothing_below Blocked n r h = ap seen (fold-Blocked r)
+
+pub seen_some : (x : Tree) → meta_of (seen (Found x)) ≡ None → ⊥
+seen_some (Dir es) e = cc
+seen_some (File b) e = cc
+
+-- what is not some is none
+pub none_from_some : {A : Type 0} (o : Option A) (b : Bool) → is_some o ≡ not b → b ≡ is_none o
+none_from_some None true e = refl
+none_from_some None false e = absurd (cc)
+none_from_some (Some x) true e = absurd (cc)
+none_from_some (Some x) false e = refl
+
+-- whether anything lies below a path tells whether a full directory stands there
+pub emptiness : (t : Tree) (m : MetaIndex) (p : Path) (first : Option (Key × Meta)) → IsPath p → IsMeantBy t m → IsFirst (metadata m) (below p).lo (below p).hi first → is_none first ≡ not (is_full (entry_at t p))
+emptiness t m p first is_path means h = elim (is_full (entry_at t p)) as (λ b. is_full (entry_at t p) ≡ b → is_none first ≡ not b) [
+  | true ↦ λ full. some first h full
+  | false ↦ λ empty. none first h empty
+] refl
+  where
+    some : (f : Option (Key × Meta)) → IsFirst (metadata m) (below p).lo (below p).hi f → is_full (entry_at t p) ≡ true → is_none f ≡ false
+    some None g full = absurd (
+        let e : EntryOf (entry_at t p) = full_entry (entry_at t p) full in
+        let there : entry_at t (p ++ e.name ∷ []) ≡ Found e.tree = along t p (e.name ∷ []) ∙ e.stands in
+        let meta : metadata m (enc (p ++ e.name ∷ [])) ≡ meta_of (look t (p ++ e.name ∷ [])) = means.meta.paths (p ++ e.name ∷ []) (means.tree.paths (p ++ e.name ∷ []) e.tree there) in
+        seen_some e.tree (sym (ap (λ (a : At). meta_of (seen a)) there) ∙ sym meta ∙ g (enc (p ++ e.name ∷ [])) (in_below p e.name [])))
+    some (Some x) g full = refl
+
+    none : (f : Option (Key × Meta)) → IsFirst (metadata m) (below p).lo (below p).hi f → is_full (entry_at t p) ≡ false → is_none f ≡ true
+    none None g empty = refl
+    none (Some x) g empty = absurd (
+        let of : PathOf x.0 = means.meta.only_paths x.0 x.1 g.1 in
+        let inside : within (below p).lo (below p).hi (enc of.path) ≡ true = subst (λ (k : Key). within (below p).lo (below p).hi k ≡ true) of.key g.0 in
+        let rest : (n : Name) × (r : Path) × (of.path ≡ p ++ n ∷ r) = from_below p of.path is_path.names of.is_path.names inside in
+        let unseen : look t of.path ≡ None = ap (look t) rest.2 ∙ ap seen (along t p (rest.0 ∷ rest.1)) ∙ nothing_below (entry_at t p) rest.0 rest.1 empty in
+        let clash : None ≡ Some x.1 = sym (ap meta_of unseen) ∙ sym (means.meta.paths of.path of.is_path) ∙ sym (ap (metadata m) of.key) ∙ g.1 in
+        cc)

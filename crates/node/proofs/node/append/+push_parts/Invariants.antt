@@ -1,5 +1,0 @@
-use Rattle.std.proofs.Common.{length}
-use Rattle.node.proofs.node.append.+push_parts.Given as goal
-
-abbrev pub decreases-push_parts : goal.decreases-push_parts
-decreases-push_parts g l = length l.slots.now

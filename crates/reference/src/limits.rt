@@ -1,0 +1,19 @@
+//! The limits of files and of reads.
+ghost use Rattle.std.specs.Prelude.{◌≡◌, ◌+◌, nat_le};
+ghost use Rattle.reference.specs.Calls.{greatest_file};
+
+/// The most bytes of a file.
+pub const GREATEST_FILE: u64 = 1_099_511_627_776;
+
+/// The most bytes that one read may ask for.
+pub const GREATEST_READ: u64 = 1_048_576;
+
+/// Whether so many bytes fit a file from the offset on.
+pub fn fits_file(offset: u64, count: usize) -> bool
+    ensures { result ≡ nat_le (offset + count) greatest_file }
+{
+    match offset.checked_add(count as u64) {
+        None => false,
+        Some(end) => end <= GREATEST_FILE,
+    }
+}

@@ -1,0 +1,157 @@
+//! A subtree under a range-delete of its whole range, which goes at once.
+ghost use Rattle.std.specs.Prelude.{◌≡◌, ◌∷◌, [], IfOk};
+ghost use Rattle.std.specs.Option.{option_copied};
+ghost use Rattle.node.specs.Places.{way};
+ghost use Rattle.node.specs.Pure.{inner, leaf, none, more};
+ghost use Rattle.node.specs.StepRows.{can_drop_covered, ends_within};
+ghost use Rattle.node.specs.See.{seen_slots};
+ghost use Rattle.node.specs.Steps.{Answers};
+ghost use Rattle.node.specs.declared.step.StepKind.TheVariants.{DropCovered};
+ghost use Rattle.split_merge.specs.Swept.{bare, Swept};
+
+use message::{Msg, Pending, Update};
+use node::node::search::next_pivot;
+use node::{Body, Change, Node, Place, Shape, Slot, StepReply, Tree};
+use pathkey::{Key, NoMemory};
+use std::alloc::Global;
+use std::sync::Arc;
+
+#[cfg(test)]
+mod tests;
+
+/// Whether the end stands at or before the end `most`; `None` is no end.
+fn ends_by(end: Option<&Key>, most: Option<&Key>) -> bool
+    ensures { result ≡ ends_within (option_copied end.entry) (option_copied most.entry) }
+{
+    match (end, most) {
+        (_, None) => true,
+        (None, Some(_)) => false,
+        (Some(end), Some(most)) => end.cmp(most).is_le(),
+    }
+}
+
+/// Whether the message is a range-delete of every key from `lo` up to and without `hi`; `None` is no end.
+fn covers<U: Update>(msg: &Msg<U>, lo: &Key, hi: Option<&Key>) -> bool
+    ensures { result ≡ can_drop_covered (option_copied hi.entry) (more lo.now (msg.now ∷ []) (leaf []) none) }
+{
+    let Msg::DelRange(range) = msg else {
+        return false;
+    };
+    if range.lo.cmp(lo).is_gt() {
+        return false;
+    }
+    ends_by(hi, range.hi.as_ref())
+}
+
+/// Whether the oldest message of the first slot covers the slot's whole range, where the slots end at `hi`.
+fn is_first_covered<U: Update>(slots: &[Slot<U>], hi: Option<&Key>) -> bool
+    ensures { result ≡ can_drop_covered (option_copied hi.entry) (seen_slots slots.now) }
+{
+    let Some((slot, later)) = slots.split_first() else {
+        return false;
+    };
+    let Some(oldest) = slot.pending.as_slice().first() else {
+        return false;
+    };
+    covers(oldest, &slot.lo, next_pivot(later, hi))
+}
+
+/// A node with one slot, which begins at `lo`, over the child.
+fn node_above<U: Update>(
+    alloc: Global,
+    lo: &Key,
+    child: Arc<Node<U>>,
+) -> Result<Arc<Node<U>>, NoMemory>
+    ensures { IfOk result (λ n. n.value ≡ inner (more lo.now [] child.value none)) }
+{
+    let slot = Slot {
+        lo: lo.copy(alloc)?,
+        pending: Pending::new(alloc),
+        child,
+    };
+    let mut one = Vec::with_capacity(alloc, 1)?;
+    one.push(slot)?;
+    let body = Body::Inner(one);
+    Ok(Arc::new(alloc, Node { body })?)
+}
+
+/// An empty subtree from `lo` on, as deep as this one: a node with one slot for each level, down to an empty leaf.
+///
+/// It walks down the first children alone.
+fn bare_like<U: Update>(alloc: Global, lo: &Key, node: &Node<U>) -> Result<Arc<Node<U>>, NoMemory>
+    ensures { IfOk result (λ n. n.value ≡ bare lo.now node.now) }
+{
+    let Body::Inner(slots) = &node.body else {
+        return Ok(Arc::new(alloc, Node::empty_leaf(alloc))?);
+    };
+    let child = match slots.first() {
+        None => Arc::new(alloc, Node::empty_leaf(alloc))?,
+        Some(first) => bare_like(alloc, lo, &first.child)?,
+    };
+    node_above(alloc, lo, child)
+}
+
+/// Takes the oldest message away from a slot that begins at `lo`, and the subtree below it, in whose place an empty
+/// one comes.
+fn sweep<U: Update>(
+    alloc: Global,
+    lo: &Key,
+    pending: &mut Pending<U>,
+    child: &mut Arc<Node<U>>,
+) -> StepReply
+    ensures { Swept result lo.now pending.old.0 pending.new.0 child.old.value child.new.value }
+{
+    if pending.len() == 0 {
+        return StepReply::NotThere;
+    }
+    let Ok(empty) = bare_like(alloc, lo, child) else {
+        return StepReply::NoMemory;
+    };
+    pending.drop_front(1);
+    *child = empty;
+    StepReply::Did(1)
+}
+
+/// The drop of what stands below one slot.
+struct CoveredDrop;
+
+impl<U: Update> Change<U> for CoveredDrop {
+    ghost kind = { DropCovered };
+
+    fn can(&self, slots: &[Slot<U>], i: usize, hi: Option<&Key>) -> bool {
+        if i >= slots.len() {
+            return false;
+        }
+        is_first_covered(&slots[i..], hi)
+    }
+
+    fn has_room(&self, _shape: Shape, _root: bool, _slots: &[Slot<U>], _i: usize) -> bool {
+        true
+    }
+
+    fn change(
+        &self,
+        alloc: Global,
+        _shape: Shape,
+        _root: bool,
+        slots: &mut Vec<Slot<U>>,
+        i: usize,
+    ) -> StepReply {
+        if i >= slots.len() {
+            return StepReply::NotThere;
+        }
+        let slot = &mut slots[i];
+        sweep(alloc, &slot.lo, &mut slot.pending, &mut slot.child)
+    }
+}
+
+/// Drops what stands below a slot whose oldest message is a range-delete of the slot's whole range, and that message.
+///
+/// An empty subtree of the same depth comes in its place: the old one is not walked but down its first children, and
+/// goes with its last owner. The answer is `NotThere`, without memory, where the node, the slot or the message is
+/// missing or the message leaves a key of the slot's range alone, and never `NoRoom`.
+pub fn drop_covered<U: Update>(alloc: Global, tree: &mut Tree<U>, at: Place, slot: u8) -> StepReply
+    ensures { Answers U.means DropCovered (way at) slot result tree.old tree.new }
+{
+    tree.step(alloc, &CoveredDrop, at, slot)
+}

@@ -1,0 +1,108 @@
+//! The root one level up.
+ghost use Rattle.std.specs.Prelude.{◌≡◌, ◌≤◌, ◌<◌, true, false, map, IfOk, IfErr};
+ghost use Rattle.node.specs.RootSteps.{levels, AnswersUp};
+ghost use Rattle.node.specs.See.{see_slot, seen_slots};
+ghost use Rattle.split_merge.specs.Raised.{hollow, all_msgs, IsAbove, Raised, Refused};
+
+use message::{Msg, Pending, Update};
+use node::{Body, Node, Slot, StepReply, Tree};
+use pathkey::{Key, NoMemory};
+use std::alloc::Global;
+use std::sync::Arc;
+
+/// Whether at least `n` inner nodes stand above the first leaf.
+fn has_levels<U: Update>(node: &Node<U>, n: u8) -> bool
+    ensures deep { result ≡ true → n ≤ levels node.now }
+    ensures shallow { result ≡ false → levels node.now < n }
+{
+    if n == 0 {
+        return true;
+    }
+    let Body::Inner(slots) = &node.body else {
+        return false;
+    };
+    match slots.first() {
+        None => n == 1,
+        Some(first) => has_levels(&first.child, n - 1),
+    }
+}
+
+/// Copies of all messages of the slots, slot by slot.
+fn gathered<U: Update>(alloc: Global, slots: &[Slot<U>]) -> Result<Vec<Msg<U>>, NoMemory>
+    ensures { IfOk result (λ v. v.items ≡ all_msgs (seen_slots slots.now)) }
+{
+    let mut all = Vec::new(alloc);
+    for slot in slots {
+        let mut own = slot.pending.copy_front(alloc, slot.pending.len())?;
+        all.append(&mut own)?;
+    }
+    Ok(all)
+}
+
+/// The slots without their messages, over the same children.
+fn hollowed<U: Update>(alloc: Global, slots: &[Slot<U>]) -> Result<Vec<Slot<U>>, NoMemory>
+    ensures { IfOk result (λ v. map see_slot v.items ≡ map hollow slots.now) }
+{
+    let mut copy = Vec::with_capacity(alloc, slots.len())?;
+    for slot in slots {
+        let lo = slot.lo.copy(alloc)?;
+        let child = Arc::try_clone(&slot.child)?;
+        copy.push(Slot {
+            lo,
+            pending: Pending::new(alloc),
+            child,
+        })?;
+    }
+    Ok(copy)
+}
+
+/// A node with one slot over these, which holds their messages.
+fn above<U: Update>(alloc: Global, slots: &[Slot<U>]) -> Result<Arc<Node<U>>, NoMemory>
+    ensures { IfOk result (λ n. IsAbove U.means (seen_slots slots.now) n.value) }
+{
+    let body = Body::Inner(hollowed(alloc, slots)?);
+    let slot = Slot {
+        lo: Key::new(alloc),
+        pending: Pending::of(gathered(alloc, slots)?),
+        child: Arc::new(alloc, Node { body })?,
+    };
+    let mut one = Vec::with_capacity(alloc, 1)?;
+    one.push(slot)?;
+    let body = Body::Inner(one);
+    Ok(Arc::new(alloc, Node { body })?)
+}
+
+/// A root above this one, or why there is none.
+fn raised<U: Update>(alloc: Global, root: &Node<U>) -> Result<Arc<Node<U>>, StepReply>
+    ensures ok { IfOk result (λ n. Raised U.means root.now n.value) }
+    ensures err { IfErr result (λ e. Refused U.means e root.now) }
+{
+    let Body::Inner(slots) = &root.body else {
+        return Err(StepReply::NotThere);
+    };
+    if slots.len() == 1 {
+        return Err(StepReply::NotThere);
+    }
+    if has_levels(root, 16) {
+        return Err(StepReply::NoRoom);
+    }
+    let Ok(new) = above(alloc, slots.as_slice()) else {
+        return Err(StepReply::NoMemory);
+    };
+    Ok(new)
+}
+
+/// Puts a new root with one slot above the old one, and all messages of the old root into it.
+///
+/// It answers `NotThere`, without memory, where the root has one slot, and `NoRoom` where the tree has 16 levels of
+/// inner nodes.
+pub fn root_up<U: Update>(alloc: Global, tree: &mut Tree<U>) -> StepReply
+    ensures { AnswersUp U.means result tree.old tree.new }
+{
+    let root = match raised(alloc, tree.root()) {
+        Ok(root) => root,
+        Err(reply) => return reply,
+    };
+    tree.replace_root(root);
+    StepReply::Did(0)
+}

@@ -1,0 +1,109 @@
+//! What makes room where a step has none.
+//!
+//! No claim rests on the choices that are made here: every step keeps what the tree means, and is proved to.
+use message::Update;
+use node::{Body, Node, Place, Slot, StepKind, Tree, TreeStep};
+
+/// The slots of the node that the numbers lead to; `None` where no inner node is there.
+fn slots_at<'a, U: Update>(root: &'a Node<U>, numbers: &[u8]) -> Option<&'a [Slot<U>]> {
+    let mut node = root;
+    for number in numbers {
+        node = &slots_of(node)?.get(*number as usize)?.child;
+    }
+    slots_of(node)
+}
+
+/// The slots of a node; `None` where it is a leaf.
+pub fn slots_of<U: Update>(node: &Node<U>) -> Option<&[Slot<U>]> {
+    match node.body() {
+        Body::Inner(slots) => Some(slots.as_slice()),
+        Body::Leaf(_) => None,
+    }
+}
+
+/// The place that these numbers lead to; `None` where they are more than 15.
+fn place_of(numbers: &[u8]) -> Option<Place> {
+    let mut at = Place::root();
+    for number in numbers {
+        at = at.under(*number)?;
+    }
+    Some(at)
+}
+
+/// The number of the slot with the most messages, the first of equals; `None` where no message waits.
+fn fullest<U: Update>(slots: &[Slot<U>]) -> Option<usize> {
+    let mut number = None;
+    let mut most = 0;
+    for (i, slot) in slots.iter().enumerate() {
+        if slot.pending.len() > most {
+            most = slot.pending.len();
+            number = Some(i);
+        }
+    }
+    number
+}
+
+/// The flush of a slot of the node at a place.
+fn flush_of<U: Update>(slots: &[Slot<U>], at: Place, number: usize) -> Option<TreeStep> {
+    let kind = if slots.get(number)?.child.is_leaf() {
+        StepKind::FlushLeaf
+    } else {
+        StepKind::FlushInner
+    };
+    let slot = u8::try_from(number).ok()?;
+    Some(TreeStep { kind, at, slot })
+}
+
+/// The flush of the fullest slot of the node at a place.
+fn flush_fullest<U: Update>(tree: &Tree<U>, at: Place) -> Option<TreeStep> {
+    let slots = slots_at(tree.root(), at.numbers())?;
+    flush_of(slots, at, fullest(slots)?)
+}
+
+/// A step of the root.
+fn of_root(kind: StepKind) -> TreeStep {
+    TreeStep {
+        kind,
+        at: Place::root(),
+        slot: 0,
+    }
+}
+
+/// The step that parts the node at a place: at the root a new root goes above it first.
+fn part(at: Place) -> Option<TreeStep> {
+    let Some((last, above)) = at.numbers().split_last() else {
+        return Some(of_root(StepKind::RootUp));
+    };
+    Some(TreeStep {
+        kind: StepKind::SplitInner,
+        at: place_of(above)?,
+        slot: *last,
+    })
+}
+
+/// What gives the step's node room for one slot more.
+fn widen<U: Update>(tree: &Tree<U>, step: TreeStep) -> Option<TreeStep> {
+    let slots = slots_at(tree.root(), step.at.numbers())?;
+    if slots.len() >= tree.shape().fanout as usize {
+        return part(step.at);
+    }
+    let other = flush_of(slots, step.at, fullest(slots)?)?;
+    if other.slot != step.slot || other.kind != step.kind {
+        return Some(other);
+    }
+    part(step.at)
+}
+
+/// A step to do where this one has no room; `None` where none is known. That step may have no room either, and then a
+/// step to do in its place is found by the next call.
+///
+/// A flush into an inner node waits for that node's fullest slot. A flush into a leaf and a split wait for their node to
+/// have one slot more: where it has all that it may have, it is cut in two itself, the root below a new one; where its
+/// pending pieces are too many, its fullest slot is flushed.
+pub fn make_room<U: Update>(tree: &Tree<U>, step: TreeStep) -> Option<TreeStep> {
+    match step.kind {
+        StepKind::FlushInner => flush_fullest(tree, step.at.under(step.slot)?),
+        StepKind::FlushLeaf | StepKind::SplitInner => widen(tree, step),
+        _ => None,
+    }
+}
