@@ -1,11 +1,10 @@
-//! Updates of single blocks, and a file's bytes through an index, with the values written out.
-ghost use Rattle.std.specs.Prelude.{◌≡◌, ◌≢◌, ◌+◌, ◌≤◌, ◌<◌, ◌^◌, [], length, IfOk};
+//! Updates of single blocks, and a file's bytes through an index, in tables with the values written out.
 
 use super::*;
 use bytes::Bytes;
 use message::Update;
 use node::Shape;
-use pathkey::{Errno, NoMemory, Path};
+use pathkey::{Errno, Path};
 use std::alloc::Global;
 use std::process::Abort;
 use std::test::Fail;
@@ -16,172 +15,171 @@ const SHAPE: Shape = Shape {
     leaf: 4,
 };
 
-/// The path of a text. It ensures nothing, so that no proof of a test reads what a text parses as.
-fn path(alloc: Global, text: &[u8]) -> Result<Path, Errno> {
-    Path::parse(alloc, text)
+/// An update of one block, as a table can hold it.
+#[derive(Clone, Copy, Debug)]
+enum Laid {
+    /// Bytes from an offset on.
+    Patch(u16, &'static [u8]),
+    /// A cut to so many bytes.
+    CutTo(u16),
 }
 
-/// The path of a file.
-fn file(alloc: Global) -> Result<Path, Errno>
-    ensures { IfOk result (λ p. p ≢ []) }
-{
-    let path = path(alloc, b"/f")?;
-    if path.is_root() {
-        return Err(Errno::ENOENT);
+impl Laid {
+    /// The update.
+    fn update(self, rt: &impl Abort, alloc: Global) -> Result<BlockUpdate, Fail> {
+        match self {
+            Laid::CutTo(len) => Ok(BlockUpdate::CutTo(len)),
+            Laid::Patch(off, new) => {
+                let bytes = Bytes::copy_from_slice(alloc, new)?;
+                if usize::from(off) > 4096 || bytes.len() > 4096 - usize::from(off) {
+                    panic!(rt; "a patch ends behind its block: {self:?}");
+                }
+                Ok(BlockUpdate::Patch(Patch::new(off, bytes)))
+            }
+        }
     }
-    Ok(path)
 }
 
-/// Shared copies of bytes.
-fn shared(alloc: Global, from: &[u8]) -> Result<Bytes, NoMemory>
-    ensures { IfOk result (λ b. b ≡ from.now) }
-{
-    let mut bytes = Vec::new(alloc);
-    bytes.extend_from_slice(from)?;
-    Ok(Bytes::from_vec(bytes)?)
-}
-
-/// A patch of these bytes.
-fn patch(alloc: Global, off: u16, from: &[u8]) -> Result<BlockUpdate, NoMemory>
-    requires { off + length from.now ≤ 4096 }
-{
-    Ok(BlockUpdate::Patch(Patch::new(off, shared(alloc, from)?)))
-}
-
-/// What an update makes of a block that is absent.
-fn fresh<R: Abort + Copy + Drop>(
-    rt: R,
-    alloc: Global,
-    update: &BlockUpdate,
-) -> Result<Block, Fail> {
-    let nothing: Option<Block> = None;
-    let Some(block) = update.apply(alloc, nothing.as_ref())? else {
-        panic!(rt; "a patch makes no block");
-    };
-    Ok(block)
-}
-
-/// Writes the bytes, and counts the messages that it took.
-fn write(
-    alloc: Global,
-    index: &mut BlockIndex,
-    path: &Path,
-    off: u64,
-    from: &[u8],
-) -> Result<usize, NoMemory>
-    requires file { path.now ≢ [] }
-    requires some { 0 < length from.now }
-    requires short { off + length from.now ≤ 2 ^ 40 }
-{
-    let msgs = index.write_msgs(alloc, path, off, &shared(alloc, from)?)?;
-    let count = msgs.len();
-    index.tree.append(alloc, msgs)?;
-    Ok(count)
-}
-
-/// Cuts the file, and counts the messages that it took.
-fn cut(alloc: Global, index: &mut BlockIndex, path: &Path, len: u64) -> Result<usize, NoMemory>
-    requires file { path.now ≢ [] }
-    requires short { len ≤ 2 ^ 40 }
-{
-    let msgs = index.cut_msgs(alloc, path, len)?;
-    let count = msgs.len();
-    index.tree.append(alloc, msgs)?;
-    Ok(count)
+/// What an update makes of a block with these bytes.
+fn made_of(alloc: Global, update: &BlockUpdate, bytes: &[u8]) -> Result<Vec<u8>, Fail> {
+    if bytes.len() > 4096 {
+        return Ok(Vec::new(alloc));
+    }
+    let mut block = Block::copied(alloc, bytes)?;
+    update.change(alloc, &mut block)?;
+    Ok(Vec::from_slice(alloc, block.as_slice())?)
 }
 
 #[test]
-fn patches_join_where_they_meet(rt: HostRuntime) -> Result<(), Fail> {
+fn updates_join_where_they_are_one(rt: HostRuntime) -> Result<(), Fail> {
     let alloc = rt.alloc();
-    let first = patch(alloc, 4, &[0xaa, 0xbb])?;
-    let apart = patch(alloc, 2, &[0xcc])?;
-    assert!(rt; first.join(alloc, &apart)?.is_none());
-    let between = patch(alloc, 3, &[0xdd])?;
-    let Some(lower) = apart.join(alloc, &between)? else {
-        panic!(rt; "a patch at the end of another stays by itself");
-    };
-    let Some(all) = first.join(alloc, &lower)? else {
-        panic!(rt; "a patch before another stays by itself");
-    };
-    assert_eq!(rt;
-        fresh(rt, alloc, &all)?.as_slice(),
-        [0, 0, 0xcc, 0xdd, 0xaa, 0xbb].as_slice()
-    );
-    Ok(())
-}
-
-#[test]
-fn cuts_join_to_the_smaller_and_to_no_patch(rt: HostRuntime) -> Result<(), Fail> {
-    let alloc = rt.alloc();
-    let mut block = fresh(rt, alloc, &patch(alloc, 0, &[1, 2, 3, 4, 5])?)?;
-    let Some(least) = BlockUpdate::CutTo(2).join(alloc, &BlockUpdate::CutTo(4))? else {
-        panic!(rt; "two cuts stay two");
-    };
-    assert!(rt; least.change(alloc, &mut block)?);
-    assert_eq!(rt; block.as_slice(), [1, 2].as_slice());
-    let patch = patch(alloc, 0, &[9])?;
-    assert!(rt; patch.join(alloc, &BlockUpdate::CutTo(4))?.is_none());
-    assert!(rt; BlockUpdate::CutTo(4).join(alloc, &patch)?.is_none());
+    let rows = [
+        (Laid::Patch(4, b"ab"), Laid::Patch(2, b"c"), None),
+        (Laid::Patch(2, b"c"), Laid::Patch(4, b"ab"), None),
+        (Laid::Patch(2, b"c"), Laid::Patch(3, b"d"), Some(b"12cd5".as_slice())),
+        (Laid::Patch(4, b"ab"), Laid::Patch(2, b"cd"), Some(b"12cdab")),
+        (Laid::Patch(1, b"aaa"), Laid::Patch(2, b"b"), Some(b"1aba5")),
+        (Laid::Patch(2, b"b"), Laid::Patch(1, b"aaa"), Some(b"1aaa5")),
+        (Laid::CutTo(2), Laid::CutTo(4), Some(b"12")),
+        (Laid::CutTo(4), Laid::CutTo(2), Some(b"12")),
+        (Laid::Patch(0, b"a"), Laid::CutTo(4), None),
+        (Laid::CutTo(4), Laid::Patch(0, b"a"), None),
+    ];
+    for (first, later, wanted) in rows {
+        let update = first.update(&rt, alloc)?;
+        let joined = update.join(alloc, &later.update(&rt, alloc)?)?;
+        assert_eq!(rt; joined.is_some(), wanted.is_some(), "{first:?} {later:?}");
+        if let (Some(one), Some(bytes)) = (&joined, wanted) {
+            let made = made_of(alloc, one, b"12345")?;
+            assert_eq!(rt; made.as_slice(), bytes, "{first:?} {later:?}");
+        }
+    }
     Ok(())
 }
 
 #[test]
 fn a_block_is_filled_to_its_end_and_cut_to_nothing(rt: HostRuntime) -> Result<(), Fail> {
     let alloc = rt.alloc();
-    let mut block = fresh(rt, alloc, &patch(alloc, 4094, &[1, 2])?)?;
-    assert_eq!(rt; block.as_slice().len(), 4096);
-    assert!(rt; block.as_slice().ends_with(&[0, 0, 1, 2]));
-    let before = block.copy()?;
-    assert!(rt; patch(alloc, 4095, &[7])?.change(alloc, &mut block)?);
-    assert!(rt; patch(alloc, 0, &[6])?.change(alloc, &mut block)?);
-    assert!(rt; block.as_slice().ends_with(&[0, 1, 7]));
-    assert!(rt; before.as_slice().ends_with(&[0, 1, 2]));
-    assert!(rt; BlockUpdate::CutTo(1).change(alloc, &mut block)?);
-    assert_eq!(rt; block.as_slice(), [6].as_slice());
-    assert!(rt; BlockUpdate::CutTo(0).change(alloc, &mut block)?);
-    assert!(rt; block.as_slice().is_empty());
+    let rows = [
+        (Laid::Patch(4095, b"x"), 4096, b"d\0\0\0".as_slice(), b"\0\0x".as_slice()),
+        (Laid::Patch(4094, b"yz"), 4096, b"d\0", b"\0yz"),
+        (Laid::Patch(0, b"ab"), 4096, b"ab\0", b"\0yz"),
+        (Laid::CutTo(4096), 4096, b"ab\0", b"\0yz"),
+        (Laid::CutTo(2), 2, b"ab", b"ab"),
+        (Laid::CutTo(0), 0, b"", b""),
+        (Laid::Patch(1, b"c"), 2, b"\0c", b"\0c"),
+    ];
+    let mut block = Block::copied(alloc, b"d")?;
+    for (laid, len, begin, end) in rows {
+        let before = block.copy()?;
+        let old = before.as_slice().len();
+        let update = laid.update(&rt, alloc)?;
+        assert!(rt; update.change(alloc, &mut block)?, "{laid:?}");
+        assert_eq!(rt; block.as_slice().len(), len, "{laid:?}");
+        assert!(rt; block.as_slice().starts_with(begin), "{laid:?}");
+        assert!(rt; block.as_slice().ends_with(end), "{laid:?}");
+        assert_eq!(rt; before.as_slice().len(), old, "{laid:?}");
+    }
     Ok(())
 }
 
 #[test]
-fn a_write_over_the_end_of_a_block_is_read_back(rt: HostRuntime) -> Result<(), Fail> {
+fn a_block_that_is_absent_is_made_by_a_patch_alone(rt: HostRuntime) -> Result<(), Fail> {
     let alloc = rt.alloc();
-    let f = file(alloc)?;
-    let mut index = BlockIndex::new(alloc, SHAPE)?;
-    assert_eq!(rt; write(alloc, &mut index, &f, 4095, &[0xaa, 0xbb])?, 2);
-    assert_eq!(rt;
-        index.read(alloc, &f, 4094, 4, 4097)?.as_slice(),
-        [0, 0xaa, 0xbb].as_slice()
-    );
-    assert_eq!(rt;
-        index.read(alloc, &f, 4096, 9, 4097)?.as_slice(),
-        [0xbb].as_slice()
-    );
-    assert!(rt; index.read(alloc, &f, 4097, 9, 4097)?.is_empty());
-    assert_eq!(rt; cut(alloc, &mut index, &f, 4096)?, 1);
-    assert_eq!(rt;
-        index.read(alloc, &f, 4095, 2, 8192)?.as_slice(),
-        [0xaa, 0].as_slice()
-    );
+    let nothing: Option<Block> = None;
+    for (laid, wanted) in [
+        (Laid::Patch(2, b"a"), Some(b"\0\0a".as_slice())),
+        (Laid::CutTo(7), None),
+    ] {
+        let made = laid.update(&rt, alloc)?.apply(alloc, nothing.as_ref())?;
+        let bytes = made.as_ref().map(|block| block.as_slice());
+        assert_eq!(rt; bytes, wanted, "{laid:?}");
+    }
     Ok(())
 }
 
+/// What is asked of an index about one file, with what comes of it.
+#[derive(Clone, Copy, Debug)]
+enum Ask {
+    /// Writes bytes at an offset, by so many messages.
+    Write(u64, &'static [u8], usize),
+    /// Cuts the file to a length, by so many messages.
+    Cut(u64, usize),
+    /// Reads at an offset so many bytes of a file of a length, and gets these.
+    Read(u64, u64, u64, &'static [u8]),
+}
+
+/// The path of the file. It ensures nothing, so that no proof of a test reads what a text parses as.
+fn path(alloc: Global) -> Result<Path, Errno> {
+    Path::parse(alloc, b"/f")
+}
+
+/// Whether what is asked comes out as it should. What is sent is appended.
+fn is_answered(alloc: Global, index: &mut BlockIndex, ask: Ask) -> Result<bool, Fail> {
+    let file = path(alloc)?;
+    if file.is_root() {
+        return Ok(false);
+    }
+    let limit = 1_099_511_627_776;
+    let (msgs, wanted) = match ask {
+        Ask::Read(off, n, len, bytes) if len <= limit => {
+            return Ok(index.read(alloc, &file, off, n, len)?.as_slice() == bytes);
+        }
+        Ask::Cut(len, wanted) if len <= limit => (index.cut_msgs(alloc, &file, len)?, wanted),
+        Ask::Write(off, new, wanted) if off < limit && !new.is_empty() && new.len() <= 16 => {
+            let bytes = Bytes::copy_from_slice(alloc, new)?;
+            if bytes.len() as u64 > limit - off || bytes.is_empty() {
+                return Ok(false);
+            }
+            (index.write_msgs(alloc, &file, off, &bytes)?, wanted)
+        }
+        _ => return Ok(false),
+    };
+    let count = msgs.len();
+    index.tree.append(alloc, msgs)?;
+    Ok(count == wanted)
+}
+
 #[test]
-fn what_was_cut_reads_as_zeros(rt: HostRuntime) -> Result<(), Fail> {
+fn bytes_are_read_as_they_were_written_and_cut(rt: HostRuntime) -> Result<(), Fail> {
     let alloc = rt.alloc();
-    let f = file(alloc)?;
-    let mut index = BlockIndex::new(alloc, SHAPE)?;
-    assert_eq!(rt; write(alloc, &mut index, &f, 0, &[0xff; 10])?, 1);
-    assert_eq!(rt; cut(alloc, &mut index, &f, 5)?, 2);
-    assert_eq!(rt;
-        index.read(alloc, &f, 0, 8, 9000)?.as_slice(),
-        [0xff, 0xff, 0xff, 0xff, 0xff, 0, 0, 0].as_slice()
-    );
     let last = 1_099_511_627_775;
-    assert_eq!(rt; write(alloc, &mut index, &f, last, &[1])?, 1);
-    assert_eq!(rt;
-        index.read(alloc, &f, last, 2, last + 1)?.as_slice(),
-        [1].as_slice()
-    );
+    let mut index = BlockIndex::new(alloc, SHAPE)?;
+    for ask in [
+        Ask::Write(4095, b"\xaa\xbb", 2),
+        Ask::Read(4094, 4, 4097, b"\0\xaa\xbb"),
+        Ask::Read(4096, 9, 4097, b"\xbb"),
+        Ask::Read(4097, 9, 4097, b""),
+        Ask::Cut(4096, 1),
+        Ask::Read(4095, 2, 8192, b"\xaa\0"),
+        Ask::Cut(0, 1),
+        Ask::Write(0, b"0123456789", 1),
+        Ask::Cut(5, 2),
+        Ask::Read(0, 8, 9000, b"01234\0\0\0"),
+        Ask::Write(last, b"z", 1),
+        Ask::Read(last, 2, last + 1, b"z"),
+    ] {
+        assert!(rt; is_answered(alloc, &mut index, ask)?, "{ask:?}");
+    }
     Ok(())
 }

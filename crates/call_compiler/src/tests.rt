@@ -1,4 +1,4 @@
-//! What calls are answered, beside the replies that the table of calls gives.
+//! What calls are answered and how many messages they send, in tables.
 
 use super::*;
 use bytes::Bytes;
@@ -6,6 +6,7 @@ use meta_index::Kind;
 use node::Shape;
 use pathkey::{Errno, Path};
 use std::alloc::Global;
+use std::process::Abort;
 use std::test::Fail;
 
 const SHAPE: Shape = Shape {
@@ -14,317 +15,206 @@ const SHAPE: Shape = Shape {
     leaf: 4,
 };
 
-/// Messages for the metadata, and for blocks.
-type Counts = (usize, usize);
+/// A call, with the text of its path.
+#[derive(Clone, Copy, Debug)]
+enum Ask {
+    Mkdir(&'static str),
+    Create(&'static str),
+    Write(&'static str, u64, &'static [u8]),
+    Truncate(&'static str, u64),
+    Unlink(&'static str),
+    Rmdir(&'static str),
+    Read(&'static str, u64, u64),
+    Stat(&'static str),
+    Readdir(&'static str),
+}
+
+/// A reply that a table can hold.
+#[derive(Clone, Copy, Debug)]
+enum Told {
+    Done,
+    Count(u64),
+    Data(&'static [u8]),
+    Dir,
+    File(u64),
+    Fault(Errno),
+}
+
+/// A call, its reply, and how many messages go to the metadata and to the blocks.
+type Row = (Ask, Told, (usize, usize));
 
 /// The path of a text. It ensures nothing, so that no proof of a test reads what a text parses as.
-fn path(alloc: Global, text: &[u8]) -> Result<Path, Errno> {
-    Path::parse(alloc, text)
+fn path(alloc: Global, text: &str) -> Result<Path, Errno> {
+    Path::parse(alloc, text.as_bytes())
 }
 
-/// Does a call, and answers its reply and how many messages each index got.
-fn run(alloc: Global, indexes: &mut Indexes, call: &Call) -> Result<(Reply, Counts), Fail> {
-    if !is_compiled(call) {
-        return Ok((Reply::Done, (0, 0)));
+impl Ask {
+    /// The call.
+    fn call(self, alloc: Global) -> Result<Call, Fail> {
+        Ok(match self {
+            Ask::Mkdir(text) => Call::Mkdir(path(alloc, text)?),
+            Ask::Create(text) => Call::Create(path(alloc, text)?),
+            Ask::Write(text, offset, new) => {
+                let bytes = Bytes::copy_from_slice(alloc, new)?;
+                Call::Write(path(alloc, text)?, offset, bytes)
+            }
+            Ask::Truncate(text, len) => Call::Truncate(path(alloc, text)?, len),
+            Ask::Unlink(text) => Call::Unlink(path(alloc, text)?),
+            Ask::Rmdir(text) => Call::Rmdir(path(alloc, text)?),
+            Ask::Read(text, offset, count) => Call::Read(path(alloc, text)?, offset, count),
+            Ask::Stat(text) => Call::Stat(path(alloc, text)?),
+            Ask::Readdir(text) => Call::Readdir(path(alloc, text)?),
+        })
     }
-    let (reply, batch) = compile(alloc, indexes, call)?;
-    let counts = (batch.meta.len(), batch.block.len());
+}
+
+impl Told {
+    /// Whether this is the reply.
+    fn is(self, reply: &Reply) -> bool {
+        match (self, reply) {
+            (Told::Done, Reply::Done) | (Told::Dir, Reply::Stat(Kind::Dir, 0)) => true,
+            (Told::Count(wanted), Reply::Count(count)) => wanted == *count,
+            (Told::Data(wanted), Reply::Data(bytes)) => bytes.as_slice() == wanted,
+            (Told::File(wanted), Reply::Stat(Kind::File, len)) => wanted == *len,
+            (Told::Fault(wanted), Reply::Fault(fault)) => wanted == *fault,
+            _ => false,
+        }
+    }
+}
+
+/// Whether a call is answered as its row says. What it sends is appended.
+fn is_answered(alloc: Global, indexes: &mut Indexes, row: Row) -> Result<bool, Fail> {
+    let (ask, told, counts) = row;
+    let call = ask.call(alloc)?;
+    if !is_compiled(&call) {
+        return Ok(false);
+    }
+    let (reply, batch) = compile(alloc, indexes, &call)?;
+    let sent = (batch.meta.len(), batch.block.len());
     indexes.append(alloc, batch)?;
-    Ok((reply, counts))
+    Ok(told.is(&reply) && sent == counts)
 }
 
-/// Makes a directory.
-fn mkdir(alloc: Global, indexes: &mut Indexes, text: &[u8]) -> Result<(Reply, Counts), Fail> {
-    run(alloc, indexes, &Call::Mkdir(path(alloc, text)?))
-}
-
-/// Makes a file.
-fn create(alloc: Global, indexes: &mut Indexes, text: &[u8]) -> Result<(Reply, Counts), Fail> {
-    run(alloc, indexes, &Call::Create(path(alloc, text)?))
-}
-
-/// Takes a directory out.
-fn rmdir(alloc: Global, indexes: &mut Indexes, text: &[u8]) -> Result<(Reply, Counts), Fail> {
-    run(alloc, indexes, &Call::Rmdir(path(alloc, text)?))
-}
-
-/// Asks what stands at a path.
-fn stat(alloc: Global, indexes: &mut Indexes, text: &[u8]) -> Result<(Reply, Counts), Fail> {
-    run(alloc, indexes, &Call::Stat(path(alloc, text)?))
-}
-
-/// Lists a directory.
-fn readdir(alloc: Global, indexes: &mut Indexes, text: &[u8]) -> Result<(Reply, Counts), Fail> {
-    run(alloc, indexes, &Call::Readdir(path(alloc, text)?))
-}
-
-/// Lays bytes over a file.
-fn write(
-    alloc: Global,
-    indexes: &mut Indexes,
-    text: &[u8],
-    offset: u64,
-    new: &[u8],
-) -> Result<(Reply, Counts), Fail> {
-    let bytes = Bytes::copy_from_slice(alloc, new)?;
-    run(
-        alloc,
-        indexes,
-        &Call::Write(path(alloc, text)?, offset, bytes),
-    )
-}
-
-/// Cuts or lengthens a file.
-fn truncate(
-    alloc: Global,
-    indexes: &mut Indexes,
-    text: &[u8],
-    len: u64,
-) -> Result<(Reply, Counts), Fail> {
-    run(alloc, indexes, &Call::Truncate(path(alloc, text)?, len))
-}
-
-/// Takes a file out.
-fn unlink(alloc: Global, indexes: &mut Indexes, text: &[u8]) -> Result<(Reply, Counts), Fail> {
-    run(alloc, indexes, &Call::Unlink(path(alloc, text)?))
-}
-
-/// Reads from a file.
-fn read(
-    alloc: Global,
-    indexes: &mut Indexes,
-    text: &[u8],
-    offset: u64,
-    count: u64,
-) -> Result<(Reply, Counts), Fail> {
-    run(
-        alloc,
-        indexes,
-        &Call::Read(path(alloc, text)?, offset, count),
-    )
-}
-
-/// Whether these bytes were read.
-fn gives(answer: &(Reply, Counts), wanted: &[u8]) -> bool {
-    match answer {
-        (Reply::Data(bytes), (0, 0)) => bytes.as_slice() == wanted,
-        _ => false,
+/// Asks the calls in turn, from nothing but the root directory.
+fn answers(rt: &impl Abort, alloc: Global, rows: &[Row]) -> Result<(), Fail> {
+    let mut indexes = Indexes::new(alloc, SHAPE)?;
+    for row in rows {
+        assert!(rt; is_answered(alloc, &mut indexes, *row)?, "{row:?}");
     }
-}
-
-/// Whether so many bytes were written, by one message for the length and so many for blocks.
-fn wrote(answer: &(Reply, Counts), bytes: u64, blocks: usize) -> bool {
-    match answer {
-        (Reply::Count(count), (1, patches)) => *count == bytes && *patches == blocks,
-        _ => false,
-    }
-}
-
-/// Whether a file of so many bytes stands at the path.
-fn has_len(alloc: Global, indexes: &mut Indexes, text: &[u8], wanted: u64) -> Result<bool, Fail> {
-    match stat(alloc, indexes, text)? {
-        (Reply::Stat(Kind::File, len), _) => Ok(len == wanted),
-        _ => Ok(false),
-    }
-}
-
-/// The refusal; none where the call was not refused.
-fn fault(answer: &(Reply, Counts)) -> Option<Errno> {
-    match answer {
-        (Reply::Fault(fault), (0, 0)) => Some(*fault),
-        _ => None,
-    }
-}
-
-/// Whether the call was done by one message.
-fn is_done(answer: &(Reply, Counts)) -> bool {
-    matches!(answer, (Reply::Done, (1, 0)))
+    Ok(())
 }
 
 #[test]
 fn a_new_entry_wants_a_directory_above_and_a_free_name(rt: HostRuntime) -> Result<(), Fail> {
-    let alloc = rt.alloc();
-    let mut indexes = Indexes::new(alloc, SHAPE)?;
-    assert!(rt; is_done(&create(alloc, &mut indexes, b"/f")?));
-    assert!(rt; is_done(&mkdir(alloc, &mut indexes, b"/a")?));
-    for (text, wanted) in [
-        (b"/".as_slice(), Errno::EEXIST),
-        (b"/a", Errno::EEXIST),
-        (b"/f", Errno::EEXIST),
-        (b"/c/d", Errno::ENOENT),
-        (b"/f/d", Errno::ENOTDIR),
-        (b"/f/d/e", Errno::ENOTDIR),
-    ] {
-        assert_eq!(rt; fault(&mkdir(alloc, &mut indexes, text)?), Some(wanted));
-        assert_eq!(rt; fault(&create(alloc, &mut indexes, text)?), Some(wanted));
-    }
-    Ok(())
+    let rows = [
+        (Ask::Create("/f"), Told::Done, (1, 0)),
+        (Ask::Mkdir("/a"), Told::Done, (1, 0)),
+        (Ask::Mkdir("/"), Told::Fault(Errno::EEXIST), (0, 0)),
+        (Ask::Create("/"), Told::Fault(Errno::EEXIST), (0, 0)),
+        (Ask::Mkdir("/a"), Told::Fault(Errno::EEXIST), (0, 0)),
+        (Ask::Create("/a"), Told::Fault(Errno::EEXIST), (0, 0)),
+        (Ask::Mkdir("/f"), Told::Fault(Errno::EEXIST), (0, 0)),
+        (Ask::Create("/f"), Told::Fault(Errno::EEXIST), (0, 0)),
+        (Ask::Mkdir("/c/d"), Told::Fault(Errno::ENOENT), (0, 0)),
+        (Ask::Create("/c/d"), Told::Fault(Errno::ENOENT), (0, 0)),
+        (Ask::Mkdir("/f/d"), Told::Fault(Errno::ENOTDIR), (0, 0)),
+        (Ask::Create("/f/d"), Told::Fault(Errno::ENOTDIR), (0, 0)),
+        (Ask::Mkdir("/f/d/e"), Told::Fault(Errno::ENOTDIR), (0, 0)),
+        (Ask::Create("/f/d/e"), Told::Fault(Errno::ENOTDIR), (0, 0)),
+    ];
+    answers(&rt, rt.alloc(), &rows)
 }
 
 #[test]
 fn an_empty_directory_goes(rt: HostRuntime) -> Result<(), Fail> {
-    let alloc = rt.alloc();
-    let mut indexes = Indexes::new(alloc, SHAPE)?;
-    assert!(rt; is_done(&mkdir(alloc, &mut indexes, b"/a")?));
-    assert!(rt; is_done(&create(alloc, &mut indexes, b"/f")?));
-    for (text, wanted) in [
-        (b"/".as_slice(), Errno::EBUSY),
-        (b"/f", Errno::ENOTDIR),
-        (b"/f/x", Errno::ENOTDIR),
-        (b"/c", Errno::ENOENT),
-    ] {
-        assert_eq!(rt; fault(&rmdir(alloc, &mut indexes, text)?), Some(wanted));
-    }
-    assert!(rt; is_done(&rmdir(alloc, &mut indexes, b"/a")?));
-    assert_eq!(rt;
-        fault(&stat(alloc, &mut indexes, b"/a")?),
-        Some(Errno::ENOENT)
-    );
-    Ok(())
-}
-
-#[test]
-fn what_stands_is_told(rt: HostRuntime) -> Result<(), Fail> {
-    let alloc = rt.alloc();
-    let mut indexes = Indexes::new(alloc, SHAPE)?;
-    assert!(rt; is_done(&mkdir(alloc, &mut indexes, b"/a")?));
-    assert!(rt; is_done(&create(alloc, &mut indexes, b"/f")?));
-    for (text, wanted) in [
-        (b"/".as_slice(), Kind::Dir),
-        (b"/a", Kind::Dir),
-        (b"/f", Kind::File),
-    ] {
-        let (Reply::Stat(kind, 0), (0, 0)) = stat(alloc, &mut indexes, text)? else {
-            panic!(rt; "another answer");
-        };
-        assert_eq!(rt; kind, wanted);
-    }
-    assert_eq!(rt;
-        fault(&readdir(alloc, &mut indexes, b"/c")?),
-        Some(Errno::ENOENT)
-    );
-    assert_eq!(rt;
-        fault(&stat(alloc, &mut indexes, b"/c/d")?),
-        Some(Errno::ENOENT)
-    );
-    Ok(())
+    let rows = [
+        (Ask::Mkdir("/a"), Told::Done, (1, 0)),
+        (Ask::Create("/f"), Told::Done, (1, 0)),
+        (Ask::Stat("/"), Told::Dir, (0, 0)),
+        (Ask::Stat("/a"), Told::Dir, (0, 0)),
+        (Ask::Stat("/f"), Told::File(0), (0, 0)),
+        (Ask::Rmdir("/"), Told::Fault(Errno::EBUSY), (0, 0)),
+        (Ask::Rmdir("/f"), Told::Fault(Errno::ENOTDIR), (0, 0)),
+        (Ask::Rmdir("/f/x"), Told::Fault(Errno::ENOTDIR), (0, 0)),
+        (Ask::Rmdir("/c"), Told::Fault(Errno::ENOENT), (0, 0)),
+        (Ask::Rmdir("/a"), Told::Done, (1, 0)),
+        (Ask::Stat("/a"), Told::Fault(Errno::ENOENT), (0, 0)),
+        (Ask::Stat("/a/b"), Told::Fault(Errno::ENOENT), (0, 0)),
+        (Ask::Readdir("/a"), Told::Fault(Errno::ENOENT), (0, 0)),
+    ];
+    answers(&rt, rt.alloc(), &rows)
 }
 
 #[test]
 fn a_write_is_a_patch_for_each_block_that_it_touches(rt: HostRuntime) -> Result<(), Fail> {
-    let alloc = rt.alloc();
-    let mut indexes = Indexes::new(alloc, SHAPE)?;
-    assert!(rt; is_done(&create(alloc, &mut indexes, b"/f")?));
-    assert!(rt;
-        wrote(
-            &write(alloc, &mut indexes, b"/f", 4_095, &[0xaa, 0xbb])?,
-            2,
-            2
-        )
-    );
-    assert!(rt;
-        gives(
-            &read(alloc, &mut indexes, b"/f", 4_094, 4)?,
-            &[0, 0xaa, 0xbb]
-        )
-    );
-    assert!(rt; has_len(alloc, &mut indexes, b"/f", 4_097)?);
-    assert!(rt; wrote(&write(alloc, &mut indexes, b"/f", 4_096, &[0xcc])?, 1, 1));
-    assert!(rt; wrote(&write(alloc, &mut indexes, b"/f", 8_191, &[0xdd])?, 1, 1));
-    assert!(rt; has_len(alloc, &mut indexes, b"/f", 8_192)?);
-    assert!(rt;
-        gives(
-            &read(alloc, &mut indexes, b"/f", 4_095, 3)?,
-            &[0xaa, 0xcc, 0]
-        )
-    );
-    assert!(rt; gives(&read(alloc, &mut indexes, b"/f", 8_190, 9)?, &[0, 0xdd]));
-    assert!(rt; gives(&read(alloc, &mut indexes, b"/f", 8_192, 9)?, &[]));
-    Ok(())
+    let rows = [
+        (Ask::Create("/f"), Told::Done, (1, 0)),
+        (Ask::Write("/f", 4_095, b"\xaa\xbb"), Told::Count(2), (1, 2)),
+        (Ask::Read("/f", 4_094, 4), Told::Data(b"\0\xaa\xbb"), (0, 0)),
+        (Ask::Stat("/f"), Told::File(4_097), (0, 0)),
+        (Ask::Write("/f", 4_096, b"\xcc"), Told::Count(1), (1, 1)),
+        (Ask::Write("/f", 8_191, b"\xdd"), Told::Count(1), (1, 1)),
+        (Ask::Stat("/f"), Told::File(8_192), (0, 0)),
+        (Ask::Read("/f", 4_095, 3), Told::Data(b"\xaa\xcc\0"), (0, 0)),
+        (Ask::Read("/f", 8_190, 9), Told::Data(b"\0\xdd"), (0, 0)),
+        (Ask::Read("/f", 8_192, 9), Told::Data(b""), (0, 0)),
+    ];
+    answers(&rt, rt.alloc(), &rows)
 }
 
 #[test]
 fn a_file_ends_at_the_limit(rt: HostRuntime) -> Result<(), Fail> {
-    let alloc = rt.alloc();
-    let mut indexes = Indexes::new(alloc, SHAPE)?;
+    let limit = 1_099_511_627_776;
     let last = 1_099_511_627_775;
-    assert!(rt; is_done(&create(alloc, &mut indexes, b"/f")?));
-    assert!(rt; wrote(&write(alloc, &mut indexes, b"/f", last, &[1])?, 1, 1));
-    for offset in [last + 1, u64::MAX] {
-        assert_eq!(rt;
-            fault(&write(alloc, &mut indexes, b"/f", offset, &[1])?),
-            Some(Errno::EFBIG)
-        );
-        let (Reply::Count(0), (0, 0)) = write(alloc, &mut indexes, b"/f", offset, &[])? else {
-            panic!(rt; "another answer");
-        };
-    }
-    assert_eq!(rt;
-        fault(&write(alloc, &mut indexes, b"/f", last, &[1, 2])?),
-        Some(Errno::EFBIG)
-    );
-    assert!(rt; has_len(alloc, &mut indexes, b"/f", last + 1)?);
-    assert!(rt; gives(&read(alloc, &mut indexes, b"/f", last, 2)?, &[1]));
-    assert_eq!(rt;
-        fault(&truncate(alloc, &mut indexes, b"/f", last + 2)?),
-        Some(Errno::EFBIG)
-    );
-    assert!(rt; is_done(&truncate(alloc, &mut indexes, b"/f", last + 1)?));
-    Ok(())
+    let beyond = 1_099_511_627_777;
+    let rows = [
+        (Ask::Create("/f"), Told::Done, (1, 0)),
+        (Ask::Write("/f", last, b"\x01"), Told::Count(1), (1, 1)),
+        (Ask::Write("/f", limit, b"\x01"), Told::Fault(Errno::EFBIG), (0, 0)),
+        (Ask::Write("/f", limit, b""), Told::Count(0), (0, 0)),
+        (Ask::Write("/f", u64::MAX, b"\x01"), Told::Fault(Errno::EFBIG), (0, 0)),
+        (Ask::Write("/f", u64::MAX, b""), Told::Count(0), (0, 0)),
+        (Ask::Write("/f", last, b"\x01\x02"), Told::Fault(Errno::EFBIG), (0, 0)),
+        (Ask::Stat("/f"), Told::File(limit), (0, 0)),
+        (Ask::Read("/f", last, 2), Told::Data(b"\x01"), (0, 0)),
+        (Ask::Truncate("/f", beyond), Told::Fault(Errno::EFBIG), (0, 0)),
+        (Ask::Truncate("/f", limit), Told::Done, (1, 0)),
+    ];
+    answers(&rt, rt.alloc(), &rows)
 }
 
 #[test]
 fn a_truncate_cuts_the_blocks_behind_its_end(rt: HostRuntime) -> Result<(), Fail> {
-    let alloc = rt.alloc();
-    let mut indexes = Indexes::new(alloc, SHAPE)?;
-    assert!(rt; is_done(&create(alloc, &mut indexes, b"/f")?));
-    assert!(rt; wrote(&write(alloc, &mut indexes, b"/f", 0, &[0xff; 10])?, 10, 1));
-    for (len, blocks) in [(5, 2), (9_000, 0), (8_192, 1), (4_096, 1)] {
-        let (Reply::Done, (1, cuts)) = truncate(alloc, &mut indexes, b"/f", len)? else {
-            panic!(rt; "another answer");
-        };
-        assert_eq!(rt; cuts, blocks);
-        assert!(rt; has_len(alloc, &mut indexes, b"/f", len)?);
-    }
-    assert!(rt;
-        gives(
-            &read(alloc, &mut indexes, b"/f", 0, 8)?,
-            &[255, 255, 255, 255, 255, 0, 0, 0]
-        )
-    );
-    Ok(())
+    let rows = [
+        (Ask::Create("/f"), Told::Done, (1, 0)),
+        (Ask::Write("/f", 0, &[0xff; 10]), Told::Count(10), (1, 1)),
+        (Ask::Truncate("/f", 5), Told::Done, (1, 2)),
+        (Ask::Stat("/f"), Told::File(5), (0, 0)),
+        (Ask::Truncate("/f", 9_000), Told::Done, (1, 0)),
+        (Ask::Truncate("/f", 8_192), Told::Done, (1, 1)),
+        (Ask::Truncate("/f", 4_096), Told::Done, (1, 1)),
+        (Ask::Stat("/f"), Told::File(4_096), (0, 0)),
+        (Ask::Read("/f", 0, 8), Told::Data(b"\xff\xff\xff\xff\xff\0\0\0"), (0, 0)),
+    ];
+    answers(&rt, rt.alloc(), &rows)
 }
 
 #[test]
 fn a_file_goes_with_its_bytes(rt: HostRuntime) -> Result<(), Fail> {
-    let alloc = rt.alloc();
-    let mut indexes = Indexes::new(alloc, SHAPE)?;
-    assert!(rt; is_done(&mkdir(alloc, &mut indexes, b"/a")?));
-    for text in [b"/".as_slice(), b"/a"] {
-        assert_eq!(rt;
-            fault(&unlink(alloc, &mut indexes, text)?),
-            Some(Errno::EPERM)
-        );
-        assert_eq!(rt;
-            fault(&read(alloc, &mut indexes, text, 0, 1)?),
-            Some(Errno::EISDIR)
-        );
-    }
-    assert!(rt; is_done(&create(alloc, &mut indexes, b"/f")?));
-    assert!(rt; wrote(&write(alloc, &mut indexes, b"/f", 0, &[0xaa])?, 1, 1));
-    assert_eq!(rt;
-        fault(&read(alloc, &mut indexes, b"/f", 0, 1_048_577)?),
-        Some(Errno::EINVAL)
-    );
-    let (Reply::Done, (1, 1)) = unlink(alloc, &mut indexes, b"/f")? else {
-        panic!(rt; "another answer");
-    };
-    assert_eq!(rt;
-        fault(&unlink(alloc, &mut indexes, b"/f/x")?),
-        Some(Errno::ENOENT)
-    );
-    assert!(rt; is_done(&create(alloc, &mut indexes, b"/f")?));
-    assert!(rt; wrote(&write(alloc, &mut indexes, b"/f", 1, &[0xbb])?, 1, 1));
-    assert!(rt; gives(&read(alloc, &mut indexes, b"/f", 0, 9)?, &[0, 0xbb]));
-    Ok(())
+    let rows = [
+        (Ask::Mkdir("/a"), Told::Done, (1, 0)),
+        (Ask::Unlink("/"), Told::Fault(Errno::EPERM), (0, 0)),
+        (Ask::Unlink("/a"), Told::Fault(Errno::EPERM), (0, 0)),
+        (Ask::Read("/", 0, 1), Told::Fault(Errno::EISDIR), (0, 0)),
+        (Ask::Read("/a", 0, 1), Told::Fault(Errno::EISDIR), (0, 0)),
+        (Ask::Create("/f"), Told::Done, (1, 0)),
+        (Ask::Write("/f", 0, b"\xaa"), Told::Count(1), (1, 1)),
+        (Ask::Read("/f", 0, 1_048_577), Told::Fault(Errno::EINVAL), (0, 0)),
+        (Ask::Unlink("/f"), Told::Done, (1, 1)),
+        (Ask::Unlink("/f/x"), Told::Fault(Errno::ENOENT), (0, 0)),
+        (Ask::Create("/f"), Told::Done, (1, 0)),
+        (Ask::Write("/f", 1, b"\xbb"), Told::Count(1), (1, 1)),
+        (Ask::Read("/f", 0, 9), Told::Data(b"\0\xbb"), (0, 0)),
+    ];
+    answers(&rt, rt.alloc(), &rows)
 }
