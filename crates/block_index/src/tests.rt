@@ -56,8 +56,16 @@ fn updates_join_where_they_are_one(rt: HostRuntime) -> Result<(), Fail> {
     let rows = [
         (Laid::Patch(4, b"ab"), Laid::Patch(2, b"c"), None),
         (Laid::Patch(2, b"c"), Laid::Patch(4, b"ab"), None),
-        (Laid::Patch(2, b"c"), Laid::Patch(3, b"d"), Some(b"12cd5".as_slice())),
-        (Laid::Patch(4, b"ab"), Laid::Patch(2, b"cd"), Some(b"12cdab")),
+        (
+            Laid::Patch(2, b"c"),
+            Laid::Patch(3, b"d"),
+            Some(b"12cd5".as_slice()),
+        ),
+        (
+            Laid::Patch(4, b"ab"),
+            Laid::Patch(2, b"cd"),
+            Some(b"12cdab"),
+        ),
         (Laid::Patch(1, b"aaa"), Laid::Patch(2, b"b"), Some(b"1aba5")),
         (Laid::Patch(2, b"b"), Laid::Patch(1, b"aaa"), Some(b"1aaa5")),
         (Laid::CutTo(2), Laid::CutTo(4), Some(b"12")),
@@ -81,7 +89,12 @@ fn updates_join_where_they_are_one(rt: HostRuntime) -> Result<(), Fail> {
 fn a_block_is_filled_to_its_end_and_cut_to_nothing(rt: HostRuntime) -> Result<(), Fail> {
     let alloc = rt.alloc();
     let rows = [
-        (Laid::Patch(4095, b"x"), 4096, b"d\0\0\0".as_slice(), b"\0\0x".as_slice()),
+        (
+            Laid::Patch(4095, b"x"),
+            4096,
+            b"d\0\0\0".as_slice(),
+            b"\0\0x".as_slice(),
+        ),
         (Laid::Patch(4094, b"yz"), 4096, b"d\0", b"\0yz"),
         (Laid::Patch(0, b"ab"), 4096, b"ab\0", b"\0yz"),
         (Laid::CutTo(4096), 4096, b"ab\0", b"\0yz"),
