@@ -170,14 +170,30 @@ fn a_file_ends_at_the_limit(rt: HostRuntime) -> Result<(), Fail> {
     let rows = [
         (Ask::Create("/f"), Told::Done, (1, 0)),
         (Ask::Write("/f", last, b"\x01"), Told::Count(1), (1, 1)),
-        (Ask::Write("/f", limit, b"\x01"), Told::Fault(Errno::EFBIG), (0, 0)),
+        (
+            Ask::Write("/f", limit, b"\x01"),
+            Told::Fault(Errno::EFBIG),
+            (0, 0),
+        ),
         (Ask::Write("/f", limit, b""), Told::Count(0), (0, 0)),
-        (Ask::Write("/f", u64::MAX, b"\x01"), Told::Fault(Errno::EFBIG), (0, 0)),
+        (
+            Ask::Write("/f", u64::MAX, b"\x01"),
+            Told::Fault(Errno::EFBIG),
+            (0, 0),
+        ),
         (Ask::Write("/f", u64::MAX, b""), Told::Count(0), (0, 0)),
-        (Ask::Write("/f", last, b"\x01\x02"), Told::Fault(Errno::EFBIG), (0, 0)),
+        (
+            Ask::Write("/f", last, b"\x01\x02"),
+            Told::Fault(Errno::EFBIG),
+            (0, 0),
+        ),
         (Ask::Stat("/f"), Told::File(limit), (0, 0)),
         (Ask::Read("/f", last, 2), Told::Data(b"\x01"), (0, 0)),
-        (Ask::Truncate("/f", beyond), Told::Fault(Errno::EFBIG), (0, 0)),
+        (
+            Ask::Truncate("/f", beyond),
+            Told::Fault(Errno::EFBIG),
+            (0, 0),
+        ),
         (Ask::Truncate("/f", limit), Told::Done, (1, 0)),
     ];
     answers(&rt, rt.alloc(), &rows)
@@ -194,7 +210,11 @@ fn a_truncate_cuts_the_blocks_behind_its_end(rt: HostRuntime) -> Result<(), Fail
         (Ask::Truncate("/f", 8_192), Told::Done, (1, 1)),
         (Ask::Truncate("/f", 4_096), Told::Done, (1, 1)),
         (Ask::Stat("/f"), Told::File(4_096), (0, 0)),
-        (Ask::Read("/f", 0, 8), Told::Data(b"\xff\xff\xff\xff\xff\0\0\0"), (0, 0)),
+        (
+            Ask::Read("/f", 0, 8),
+            Told::Data(b"\xff\xff\xff\xff\xff\0\0\0"),
+            (0, 0),
+        ),
     ];
     answers(&rt, rt.alloc(), &rows)
 }
@@ -209,7 +229,11 @@ fn a_file_goes_with_its_bytes(rt: HostRuntime) -> Result<(), Fail> {
         (Ask::Read("/a", 0, 1), Told::Fault(Errno::EISDIR), (0, 0)),
         (Ask::Create("/f"), Told::Done, (1, 0)),
         (Ask::Write("/f", 0, b"\xaa"), Told::Count(1), (1, 1)),
-        (Ask::Read("/f", 0, 1_048_577), Told::Fault(Errno::EINVAL), (0, 0)),
+        (
+            Ask::Read("/f", 0, 1_048_577),
+            Told::Fault(Errno::EINVAL),
+            (0, 0),
+        ),
         (Ask::Unlink("/f"), Told::Done, (1, 1)),
         (Ask::Unlink("/f/x"), Told::Fault(Errno::ENOENT), (0, 0)),
         (Ask::Create("/f"), Told::Done, (1, 0)),
