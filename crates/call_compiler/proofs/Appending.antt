@@ -1,5 +1,5 @@
 -- What a batch is for: appended to the indexes, it makes them mean the tree after the call. And what indexes begin with.
-use Rattle.std.proofs.Common.{◌≡◌, ◌∙◌, sym, ap, Option, None}
+use Rattle.std.proofs.Common.{◌≡◌, ◌∙◌, sym, None}
 use Rattle.block_index.specs.Means.{blocks}
 use Rattle.block_index.specs.declared.index.BlockIndex.{BlockIndex}
 use Rattle.meta_index.specs.declared.index.MetaIndex.{MetaIndex}

@@ -1,5 +1,5 @@
 -- From the reply of the table of calls, and what the messages mean, to what a call is compiled to.
-use Rattle.std.proofs.Common.{◌≡◌, ℕ, List, [], true, refl, sym, ap, ◌∙◌, subst, arith, inl}
+use Rattle.std.proofs.Common.{◌≡◌, ℕ, List, true, refl, sym, ap, ◌∙◌, subst, arith, inl}
 use Rattle.std.specs.Prelude.{Result, Ok, Err, IfOk}
 use Rattle.block_index.specs.Means.{blocks}
 use Rattle.block_index.specs.declared.update.BlockUpdate.{BlockUpdate}
@@ -37,7 +37,7 @@ nothing_sent i (Truncate p n) h = (omega arith, λ t means short. omega arith)
 nothing_sent i (Unlink p) h = omega arith
 nothing_sent i (Rmdir p) h = omega arith
 nothing_sent i (Rename o n) h = absurd (cc)
-nothing_sent i (Rmtree p) h = absurd (cc)
+nothing_sent i (Rmtree p) h = omega arith
 nothing_sent i (Read p off n) h = refl
 nothing_sent i (AskStat p) h = refl
 nothing_sent i (Readdir p) h = refl

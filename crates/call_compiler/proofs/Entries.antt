@@ -1,23 +1,23 @@
--- The calls that make an entry or take one out: `mkdir`, `create`, `rmdir` and `unlink`.
-use Rattle.std.proofs.Common.{◌≡◌, [], ◌∷◌, true, refl, sym, ap, ◌∙◌, arith, Option, Some, None}
+-- The calls that make an entry or take one out: `mkdir`, `create`, `rmdir` and `rmtree`.
+use Rattle.std.proofs.Common.{◌≡◌, [], ◌∷◌, refl, sym, ◌∙◌, arith, Option, Some, None}
 use Rattle.block_index.specs.Means.{blocks}
 use Rattle.message.specs.declared.msg.Msg.TheVariants.{Put, Del, DelRange}
 use Rattle.meta_index.specs.Means.{metadata, IsMeantBy}
 use Rattle.pathkey.specs.Enc.{enc}
-use Rattle.pathkey.specs.Keys.{blocks_from}
+use Rattle.pathkey.specs.Keys.{subtree}
 use Rattle.pathkey.specs.Names.{Path, IsPath}
 use Rattle.pathkey.specs.declared.errno.Errno.{Errno}
 use Rattle.reference.specs.Tree.{Tree}
-use Rattle.reference.specs.Calls.{first_fault, faults_of_new, faults_of_rmdir, does}
-use Rattle.reference.specs.declared.call.Call.TheVariants.{Mkdir, Create, Rmdir}
+use Rattle.reference.specs.Calls.{first_fault, faults_of_new, faults_of_rmdir, faults_of_rmtree, does}
+use Rattle.reference.specs.declared.call.Call.TheVariants.{Mkdir, Create, Rmdir, Rmtree}
 use Rattle.reference.specs.declared.reply.Meta.TheVariants.{Dir as DirMeta, File as FileMeta}
 use Rattle.reference.specs.declared.reply.Reply.{Reply}
 use Rattle.reference.specs.declared.reply.Reply.TheVariants.{Done, Fault}
-use Rattle.reference.proofs.IndexLaws.{mkdir_law, create_law, rmdir_law}
+use Rattle.reference.proofs.IndexLaws.{mkdir_law, create_law, rmdir_law, rmtree_law}
 use Rattle.call_compiler.specs.declared.indexes.Indexes.{Indexes}
 use Rattle.call_compiler.specs.Compiled.{Messages, no_messages, IsCompiled}
 use Rattle.call_compiler.proofs.Compiling.{meta_meant, compiled_refused, compiled_done}
-use Rattle.call_compiler.proofs.Faults.{mkdir_refused, mkdir_done, create_refused, create_done, rmdir_refused, rmdir_done}
+use Rattle.call_compiler.proofs.Faults.{mkdir_refused, mkdir_done, create_refused, create_done, rmdir_refused, rmdir_done, rmtree_refused, rmtree_done}
 
 module _ (i : Indexes) (p : Path) (reply : Reply) (msgs : Messages) where
   -- the first fault is the same in every tree that the indexes mean
@@ -48,4 +48,14 @@ module _ (i : Indexes) (p : Path) (reply : Reply) (msgs : Messages) where
     rmdir_is_done is is_path = compiled_done i (Rmdir p) reply msgs refl Done (record { meta = Del (enc p) ∷ []; block = [] }) (λ e. (λ f. cc))
         (λ t means. rmdir_done t p (sym (first t (meta_meant i t means)) ∙ is))
         (λ t means e. rmdir_law t (does t (Rmdir p)).0 p (metadata i.meta) (blocks i.block) means is_path e)
+        (omega arith)
+
+  module _ (fault : Option Errno) (first : (t : Tree) → IsMeantBy t i.meta → fault ≡ first_fault (faults_of_rmtree t p)) where
+    pub rmtree_is_refused : (e : Errno) → fault ≡ Some e → reply ≡ Fault e → msgs ≡ no_messages → IsCompiled i (Rmtree p) reply msgs
+    rmtree_is_refused e is = compiled_refused i (Rmtree p) reply msgs refl e (λ t means. rmtree_refused t p e (sym (first t (meta_meant i t means)) ∙ is))
+
+    pub rmtree_is_done : fault ≡ None → IsPath p → reply ≡ Done → msgs ≡ record { meta = DelRange (subtree p) ∷ []; block = DelRange (subtree p) ∷ [] } → IsCompiled i (Rmtree p) reply msgs
+    rmtree_is_done is is_path = compiled_done i (Rmtree p) reply msgs refl Done (record { meta = DelRange (subtree p) ∷ []; block = DelRange (subtree p) ∷ [] }) (λ e. (λ f. cc))
+        (λ t means. rmtree_done t p (sym (first t (meta_meant i t means)) ∙ is))
+        (λ t means e. rmtree_law t (does t (Rmtree p)).0 p (metadata i.meta) (blocks i.block) means is_path e)
         (omega arith)

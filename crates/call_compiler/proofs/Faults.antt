@@ -1,12 +1,12 @@
 -- The reply of a call whose first fault is known.
-use Rattle.std.proofs.Common.{◌≡◌, ℕ, ◌+◌, ◌≤◌, List, [], ◌∷◌, ◌++◌, length, Bool, true, false, cond, refl, sym, ap, ◌∙◌, arith, Option, Some, None}
-use Rattle.std.specs.Prelude.{nat_le, nat_lt, not, ◌&&◌, take, drop}
+use Rattle.std.proofs.Common.{◌≡◌, ℕ, ◌+◌, List, [], ◌∷◌, ◌++◌, length, Bool, true, false, cond, ap, ◌∙◌, Option, Some, None}
+use Rattle.std.specs.Prelude.{nat_lt, not, ◌&&◌, take, drop}
 use Rattle.pathkey.specs.Names.{Path}
 use Rattle.pathkey.specs.declared.errno.Errno.{Errno}
 use Rattle.pathkey.specs.declared.errno.Errno.TheVariants.{EISDIR, EPERM, EINVAL, EFBIG}
 use Rattle.reference.specs.Tree.{Tree, Dir, File, nothing, At, Found, entry_at, with_entry, without, over, sized}
-use Rattle.reference.specs.Calls.{Outcome, when, first_fault, unless, is_empty, bytes_of, greatest_file, greatest_read, faults_of_new, faults_of_file, faults_of_write, faults_of_truncate, faults_of_unlink, faults_of_rmdir, faults_of_read, does}
-use Rattle.reference.specs.declared.call.Call.TheVariants.{Mkdir, Create, Write, Truncate, Unlink, Rmdir, Read}
+use Rattle.reference.specs.Calls.{Outcome, when, first_fault, unless, is_empty, bytes_of, greatest_file, greatest_read, faults_of_new, faults_of_file, faults_of_write, faults_of_truncate, faults_of_unlink, faults_of_rmdir, faults_of_rmtree, faults_of_read, does}
+use Rattle.reference.specs.declared.call.Call.TheVariants.{Mkdir, Create, Write, Truncate, Unlink, Rmdir, Rmtree, Read}
 use Rattle.reference.specs.declared.reply.Reply.TheVariants.{Done, Count, Data, Fault}
 use Rattle.reference.proofs.Faults.{unless_fault, unless_none}
 
@@ -33,7 +33,7 @@ last_comes b e h = ap (λ (x : Bool). first_fault (when x e ∷ [])) h
 last_stays_away : (b : Bool) (e : Errno) → b ≡ false → first_fault (when b e ∷ []) ≡ None
 last_stays_away b e h = ap (λ (x : Bool). first_fault (when x e ∷ [])) h
 
--- ---- `mkdir`, `create`, `rmdir`
+-- ---- `mkdir`, `create`, `rmdir`, `rmtree`
 
 pub mkdir_refused : (t : Tree) (p : Path) (e : Errno) → first_fault (faults_of_new t p) ≡ Some e → (does t (Mkdir p)).1 ≡ Fault e
 unfolding does
@@ -58,6 +58,14 @@ rmdir_refused t p e h = refused t (faults_of_rmdir t p) (without t p, Done) e h
 pub rmdir_done : (t : Tree) (p : Path) → first_fault (faults_of_rmdir t p) ≡ None → (does t (Rmdir p)).1 ≡ Done
 unfolding does
 rmdir_done t p h = ap (λ (x : Outcome). x.1) (unless_none t (faults_of_rmdir t p) (without t p, Done) h)
+
+pub rmtree_refused : (t : Tree) (p : Path) (e : Errno) → first_fault (faults_of_rmtree t p) ≡ Some e → (does t (Rmtree p)).1 ≡ Fault e
+unfolding does
+rmtree_refused t p e h = refused t (faults_of_rmtree t p) (without t p, Done) e h
+
+pub rmtree_done : (t : Tree) (p : Path) → first_fault (faults_of_rmtree t p) ≡ None → (does t (Rmtree p)).1 ≡ Done
+unfolding does
+rmtree_done t p h = ap (λ (x : Outcome). x.1) (unless_none t (faults_of_rmtree t p) (without t p, Done) h)
 
 -- ---- `unlink`
 

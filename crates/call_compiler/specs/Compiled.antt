@@ -12,14 +12,14 @@ use Rattle.meta_index.specs.declared.update.MetaUpdate.TheVariants.{Grow}
 use Rattle.meta_index.specs.Means.{metadata}
 use Rattle.meta_index.specs.Updates.{means as meta_means}
 use Rattle.pathkey.specs.Keys.{enc}
-use Rattle.pathkey.specs.Names.{Path, IsPath}
+use Rattle.pathkey.specs.Names.{Path}
 use Rattle.pathkey.specs.declared.errno.Errno.{Errno}
 use Rattle.pathkey.specs.declared.errno.Errno.TheVariants.{ENOENT, ENOTDIR}
 use Rattle.reference.specs.Tree.{Tree, At, Found, Missing, Blocked, entry_at}
-use Rattle.reference.specs.Calls.{Outcome, bytes_of, stat_of, does}
+use Rattle.reference.specs.Calls.{bytes_of, stat_of, does}
 use Rattle.reference.specs.Indexes.{Metadata, Blocks, IndexesMean}
 use Rattle.reference.specs.declared.call.Call.{Call}
-use Rattle.reference.specs.declared.call.Call.TheVariants.{Mkdir, Create, Write, Truncate, Unlink, Rmdir, Read, Stat as AskStat, Readdir}
+use Rattle.reference.specs.declared.call.Call.TheVariants.{Mkdir, Create, Write, Truncate, Unlink, Rmdir, Rename, Rmtree, Read, Stat as AskStat, Readdir}
 use Rattle.reference.specs.declared.reply.Meta.{Meta}
 use Rattle.reference.specs.declared.reply.Reply.{Reply}
 use Rattle.reference.specs.declared.reply.Reply.TheVariants.{Fault}
@@ -60,24 +60,16 @@ MeanTree i t = IndexesMean t (metadata i.meta) (blocks i.block)
 
 -- the calls that are compiled
 abbrev pub is_compiled : Call → Bool
-is_compiled (Mkdir p) = true
-is_compiled (Create p) = true
-is_compiled (Write p off w) = true
-is_compiled (Truncate p n) = true
-is_compiled (Unlink p) = true
-is_compiled (Rmdir p) = true
-is_compiled (Read p off n) = true
-is_compiled (AskStat p) = true
-is_compiled (Readdir p) = true
-is_compiled _ = false
+is_compiled (Rename o n) = false
+is_compiled _ = true
 
 -- the messages of a write of w at off: the length is raised, and each block that the bytes touch gets its slice of them
 abbrev pub write_messages : Path → ℕ → List ℕ → Messages
 write_messages p off w = record { meta = Edit (enc p) (Grow (off + length w)) ∷ []; block = patches p off w }
 
 -- what a call may send over both indexes: one message where an entry comes or an empty directory goes, two where a
--- file goes, three where it is cut, one where it is lengthened, for a write its patches and one, and nothing for a
--- call that only reads
+-- file goes, three where it is cut, one where it is lengthened, two where an entry goes with all below it, for a write
+-- its patches and one, and nothing for a call that only reads
 abbrev pub Sends : Indexes → Call → Messages → Type 0
 Sends i (Mkdir p) msgs = count msgs ≤ 1
 Sends i (Create p) msgs = count msgs ≤ 1
@@ -85,10 +77,11 @@ Sends i (Write p off w) msgs = (msgs ≡ no_messages) ⊎ (msgs ≡ write_messag
 Sends i (Truncate p n) msgs = (count msgs ≤ 3) × ((t : Tree) → MeanTree i t → length (bytes_of (entry_at t p)) ≤ n → count msgs ≤ 1)
 Sends i (Unlink p) msgs = count msgs ≤ 2
 Sends i (Rmdir p) msgs = count msgs ≤ 1
+Sends i (Rmtree p) msgs = count msgs ≤ 2
 Sends i (Read p off n) msgs = msgs ≡ no_messages
 Sends i (AskStat p) msgs = msgs ≡ no_messages
 Sends i (Readdir p) msgs = msgs ≡ no_messages
-Sends i _ msgs = ⊥
+Sends i (Rename o n) msgs = ⊥
 
 -- what a call is compiled to
 pub record IsCompiled (i : Indexes) (call : Call) (answer : Reply) (msgs : Messages) : Type 0 where

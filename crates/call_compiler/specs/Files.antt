@@ -1,5 +1,5 @@
 -- The file that a call names.
-use Rattle.std.specs.Prelude.{◌≡◌, ◌≤◌, ◌^◌, ℕ, List, length, Option, Some, Result, MatchResult}
+use Rattle.std.specs.Prelude.{◌≡◌, ◌≤◌, ◌^◌, ℕ, List, length, Some, Result, MatchResult}
 use Rattle.pathkey.specs.declared.errno.Errno.{Errno}
 use Rattle.reference.specs.Tree.{At, Found, File}
 use Rattle.reference.specs.Calls.{faults_of_file, first_fault}

@@ -24,11 +24,11 @@ pub use batch::Batch;
 pub use indexes::Indexes;
 pub use reference::{Call, Reply};
 
-/// Whether this call is compiled: all are but `rename` and `rmtree`.
+/// Whether this call is compiled: all are but `rename`.
 pub fn is_compiled(call: &Call) -> bool
     ensures { result ≡ is_one_of_these call.now }
 {
-    !matches!(call, Call::Rename(_, _) | Call::Rmtree(_))
+    !matches!(call, Call::Rename(_, _))
 }
 
 /// The reply to a file call that is compiled (`is_compiled`), and the messages that do it. It changes nothing, and fails
@@ -44,10 +44,11 @@ pub fn compile(alloc: Global, indexes: &Indexes, call: &Call) -> Result<(Reply, 
         Call::Truncate(path, len) => writing::truncate(alloc, indexes, path, *len),
         Call::Unlink(path) => removing::unlink(alloc, indexes, path),
         Call::Rmdir(path) => removing::rmdir(alloc, indexes, path),
+        Call::Rmtree(path) => removing::rmtree(alloc, indexes, path),
         Call::Read(path, offset, count) => reading::read(alloc, indexes, path, *offset, *count),
         Call::Stat(path) => reading::stat(alloc, indexes, path),
         Call::Readdir(path) => reading::readdir(alloc, indexes, path),
-        _ => unreachable!(),
+        Call::Rename(_, _) => unreachable!(),
     }
 }
 

@@ -1,15 +1,15 @@
-//! Calls that take an entry out: `unlink` and `rmdir`.
+//! Calls that take an entry out: `unlink`, `rmdir` and `rmtree`.
 ghost use Rattle.std.specs.Prelude.{◌≡◌, [], ◌∷◌, IfOk};
 ghost use Rattle.call_compiler.specs.Compiled.{IsCompiled, messages};
 ghost use Rattle.meta_index.specs.Means.{IsMeantBy};
-ghost use Rattle.reference.specs.Calls.{faults_of_rmdir, first_fault};
+ghost use Rattle.reference.specs.Calls.{faults_of_rmdir, faults_of_rmtree, first_fault};
 ghost use Rattle.reference.specs.Tree.{Tree};
 
 use crate::batch::{Batch, done, refused};
 use crate::files::find_file;
 use crate::indexes::Indexes;
 use message::Msg;
-use pathkey::{Errno, NoMemory, Path, blocks_from};
+use pathkey::{Errno, NoMemory, Path, blocks_from, subtree};
 use reference::{Call, Reply};
 use std::alloc::Global;
 
@@ -61,4 +61,35 @@ fn fault_of_rmdir(alloc: Global, indexes: &Indexes, path: &Path) -> Result<Optio
         return Ok(None);
     }
     Ok(Some(Errno::ENOTEMPTY))
+}
+
+/// Takes out what stands at the path, with all that lies below it.
+///
+/// It sends one range-delete to each index, whatever lies below.
+pub(crate) fn rmtree(
+    alloc: Global,
+    indexes: &Indexes,
+    path: &Path,
+) -> Result<(Reply, Batch), NoMemory>
+    ensures { IfOk result (λ c. IsCompiled indexes.now (Call.Rmtree path.now) c.0 (messages c.1)) }
+{
+    let _key = path.key();
+    if let Some(fault) = fault_of_rmtree(alloc, indexes, path)? {
+        return Ok(refused(alloc, fault));
+    }
+    let range = subtree(alloc, path)?;
+    let mut block = Vec::with_capacity(alloc, 1)?;
+    block.push(Msg::DelRange(range.copy(alloc)?))?;
+    done(alloc, Reply::Done, Msg::DelRange(range), block)
+}
+
+/// Why nothing can be taken out at the path with all below it; none where something can.
+fn fault_of_rmtree(alloc: Global, indexes: &Indexes, path: &Path) -> Result<Option<Errno>, NoMemory>
+    ensures { IfOk result (λ fault. (t : Tree) → IsMeantBy t indexes.now.meta → fault ≡ first_fault (faults_of_rmtree t path.now)) }
+{
+    Ok(if path.is_root() {
+        Some(Errno::EBUSY)
+    } else {
+        indexes.meta.find(alloc, path)?.fault_of_path()
+    })
 }

@@ -24,6 +24,7 @@ enum Ask {
     Truncate(&'static str, u64),
     Unlink(&'static str),
     Rmdir(&'static str),
+    Rmtree(&'static str),
     Read(&'static str, u64, u64),
     Stat(&'static str),
     Readdir(&'static str),
@@ -61,6 +62,7 @@ impl Ask {
             Ask::Truncate(text, len) => Call::Truncate(path(alloc, text)?, len),
             Ask::Unlink(text) => Call::Unlink(path(alloc, text)?),
             Ask::Rmdir(text) => Call::Rmdir(path(alloc, text)?),
+            Ask::Rmtree(text) => Call::Rmtree(path(alloc, text)?),
             Ask::Read(text, offset, count) => Call::Read(path(alloc, text)?, offset, count),
             Ask::Stat(text) => Call::Stat(path(alloc, text)?),
             Ask::Readdir(text) => Call::Readdir(path(alloc, text)?),
@@ -239,6 +241,45 @@ fn a_file_goes_with_its_bytes(rt: HostRuntime) -> Result<(), Fail> {
         (Ask::Create("/f"), Told::Done, (1, 0)),
         (Ask::Write("/f", 1, b"\xbb"), Told::Count(1), (1, 1)),
         (Ask::Read("/f", 0, 9), Told::Data(b"\0\xbb"), (0, 0)),
+    ];
+    answers(&rt, rt.alloc(), &rows)
+}
+
+#[test]
+fn a_subtree_goes_by_two_messages(rt: HostRuntime) -> Result<(), Fail> {
+    let rows = [
+        (Ask::Rmtree("/"), Told::Fault(Errno::EBUSY), (0, 0)),
+        (Ask::Rmtree("/a"), Told::Fault(Errno::ENOENT), (0, 0)),
+        (Ask::Rmtree("/a/b"), Told::Fault(Errno::ENOENT), (0, 0)),
+        (Ask::Mkdir("/a"), Told::Done, (1, 0)),
+        (Ask::Create("/a/x"), Told::Done, (1, 0)),
+        (Ask::Write("/a/x", 0, b"\xaa"), Told::Count(1), (1, 1)),
+        (Ask::Mkdir("/a/d"), Told::Done, (1, 0)),
+        (Ask::Create("/a/d/y"), Told::Done, (1, 0)),
+        (
+            Ask::Write("/a/d/y", 4_095, b"\xbb\xcc"),
+            Told::Count(2),
+            (1, 2),
+        ),
+        (Ask::Create("/a-b"), Told::Done, (1, 0)),
+        (Ask::Write("/a-b", 0, b"\xdd"), Told::Count(1), (1, 1)),
+        (Ask::Create("/ab"), Told::Done, (1, 0)),
+        (Ask::Write("/ab", 0, b"\xee"), Told::Count(1), (1, 1)),
+        (Ask::Rmtree("/a/x/z"), Told::Fault(Errno::ENOTDIR), (0, 0)),
+        (Ask::Rmtree("/a/x/z/z"), Told::Fault(Errno::ENOTDIR), (0, 0)),
+        (Ask::Rmtree("/a"), Told::Done, (1, 1)),
+        (Ask::Rmtree("/a"), Told::Fault(Errno::ENOENT), (0, 0)),
+        (Ask::Stat("/a"), Told::Fault(Errno::ENOENT), (0, 0)),
+        (Ask::Stat("/a/x"), Told::Fault(Errno::ENOENT), (0, 0)),
+        (Ask::Read("/a-b", 0, 9), Told::Data(b"\xdd"), (0, 0)),
+        (Ask::Read("/ab", 0, 9), Told::Data(b"\xee"), (0, 0)),
+        (Ask::Mkdir("/a"), Told::Done, (1, 0)),
+        (Ask::Create("/a/x"), Told::Done, (1, 0)),
+        (Ask::Stat("/a/x"), Told::File(0), (0, 0)),
+        (Ask::Write("/a/x", 1, b"\xff"), Told::Count(1), (1, 1)),
+        (Ask::Read("/a/x", 0, 9), Told::Data(b"\0\xff"), (0, 0)),
+        (Ask::Rmtree("/a/x"), Told::Done, (1, 1)),
+        (Ask::Rmdir("/a"), Told::Done, (1, 0)),
     ];
     answers(&rt, rt.alloc(), &rows)
 }

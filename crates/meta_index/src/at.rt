@@ -1,7 +1,7 @@
 //! What stands at a path, as far as metadata tell.
 ghost use Rattle.std.specs.Prelude.{◌≡◌};
 ghost use Rattle.meta_index.specs.Means.{beyond, told};
-ghost use Rattle.reference.specs.Calls.{no_directory_fault};
+ghost use Rattle.reference.specs.Calls.{no_directory_fault, path_fault};
 ghost use Rattle.reference.specs.Tree as trees;
 
 use pathkey::Errno;
@@ -29,14 +29,24 @@ impl At {
         }
     }
 
+    /// Why nothing stands at the path; none where something does.
+    pub fn fault_of_path(self) -> Option<Errno>
+        ensures { (here : trees.At) → self ≡ told here → result ≡ path_fault here }
+    {
+        match self {
+            At::Found(_) => None,
+            At::Missing => Some(Errno::ENOENT),
+            At::Blocked => Some(Errno::ENOTDIR),
+        }
+    }
+
     /// Why the path names no directory; none where it does.
     pub fn fault_of_directory(self) -> Option<Errno>
         ensures { (here : trees.At) → self ≡ told here → result ≡ no_directory_fault here }
     {
         match self {
-            At::Found(Meta::Dir) => None,
-            At::Found(Meta::File { .. }) | At::Blocked => Some(Errno::ENOTDIR),
-            At::Missing => Some(Errno::ENOENT),
+            At::Found(Meta::File { .. }) => Some(Errno::ENOTDIR),
+            at => at.fault_of_path(),
         }
     }
 }

@@ -6,7 +6,7 @@ use Rattle.pathkey.specs.Texts.{parsed}
 use Rattle.pathkey.specs.declared.errno.Errno.{Errno}
 use Rattle.pathkey.specs.declared.errno.Errno.TheVariants.{ENOMEM}
 use Rattle.reference.specs.declared.call.Call.{Call}
-use Rattle.reference.specs.declared.call.Call.TheVariants.{Mkdir, Create, Write, Truncate, Unlink, Rmdir, Read, Stat as AskStat, Readdir}
+use Rattle.reference.specs.declared.call.Call.TheVariants.{Mkdir, Create, Write, Truncate, Unlink, Rmdir, Rmtree, Read, Stat as AskStat, Readdir}
 use Rattle.call_compiler.specs.Compiled.{is_compiled}
 use Rattle.shell.specs.Lines.{words_of}
 use Rattle.shell.specs.Values.{bytes_of, number_of}
@@ -34,6 +34,7 @@ path_command name p =
     else if bytes_eq name (codes "create") then on_path Create (path_of p)
     else if bytes_eq name (codes "unlink") then on_path Unlink (path_of p)
     else if bytes_eq name (codes "rmdir") then on_path Rmdir (path_of p)
+    else if bytes_eq name (codes "rmtree") then on_path Rmtree (path_of p)
     else if bytes_eq name (codes "stat") then on_path AskStat (path_of p)
     else if bytes_eq name (codes "readdir") then on_path Readdir (path_of p)
     else Malformed

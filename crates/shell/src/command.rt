@@ -88,6 +88,9 @@ fn read_path_command(alloc: Global, name: &[u8], word: &[u8]) -> Request
     if name == b"rmdir".as_slice() {
         return ask(read_path(alloc, word).map(Call::Rmdir));
     }
+    if name == b"rmtree".as_slice() {
+        return ask(read_path(alloc, word).map(Call::Rmtree));
+    }
     if name == b"stat".as_slice() {
         return ask(read_path(alloc, word).map(Call::Stat));
     }

@@ -157,6 +157,14 @@ fn answers_each_line(rt: HostRuntime) -> Result<(), Fail> {
             "mkdir /a\ncreate /a\ncreate /b\nrmdir /b\nrmdir /\nrmdir /a\nreaddir /\nstat /b\n",
             "ok\nfault EEXIST\nok\nfault ENOTDIR\nfault EBUSY\nok\nnames 1\nf b\nfile 0\n",
         ),
+        (
+            "mkdir /a\ncreate /a/x\ncreate /a-b\nrmtree /a\nreaddir /\n",
+            "ok\nok\nok\nok\nnames 1\nf a-b\n",
+        ),
+        (
+            "rmtree /\nrmtree /a\ncreate /f\nrmtree /f/x\nrmtree /f\nrmtree f\nrmtree\nreaddir /\n",
+            "fault EBUSY\nfault ENOENT\nok\nfault ENOTDIR\nok\nfault EINVAL\nerror syntax\nnames 0\n",
+        ),
         ("readdir /\n", "names 0\n"),
         (
             "stat /a//b\nstat /a/\nstat a\nstat /..\nstat /%00\n",
