@@ -6,9 +6,13 @@
 #[cfg(test)]
 mod calls;
 #[cfg(test)]
+mod outcomes;
+#[cfg(test)]
 mod pair;
 #[cfg(test)]
 mod settling;
+#[cfg(test)]
+mod some_lines;
 #[cfg(test)]
 mod some_steps;
 #[cfg(test)]
