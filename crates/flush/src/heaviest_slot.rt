@@ -12,9 +12,6 @@ use message::Update;
 use node::node::count::height;
 use node::{Body, Node, Place, Slot, StepKind, Tree, TreeStep};
 
-#[cfg(test)]
-mod tests;
-
 /// A flush, and how many messages wait in its slot.
 #[derive(Clone, Copy)]
 struct Candidate {

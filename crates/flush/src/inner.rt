@@ -16,9 +16,6 @@ use pathkey::Key;
 use std::alloc::Global;
 use std::sync::Arc;
 
-#[cfg(test)]
-pub(crate) mod tests;
-
 /// How many of the messages, from the oldest on, make with what waits in the slots at most `room` pieces.
 fn fitting<U: Update>(slots: &[Slot<U>], msgs: &[Msg<U>], room: usize) -> usize
     requires { room < 65536 }

@@ -26,9 +26,6 @@ use pathkey::{Key, NoMemory};
 use std::alloc::Global;
 use std::sync::Arc;
 
-#[cfg(test)]
-mod tests;
-
 /// Whether the message may give a value to a key that has none.
 fn may_add<U: Update>(entries: &[(Key, U::Value)], msg: &Msg<U>) -> bool
     requires { Rises [] None entries.now }

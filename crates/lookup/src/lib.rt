@@ -61,6 +61,3 @@ fn find_entry<U: Update>(
         Err(_) => Ok(None),
     }
 }
-
-#[cfg(test)]
-mod tests;

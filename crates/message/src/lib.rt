@@ -13,6 +13,3 @@ pub mod update;
 pub use msg::{Msg, cut, touches};
 pub use pending::Pending;
 pub use update::{Changes, Update};
-
-#[cfg(test)]
-mod tests;

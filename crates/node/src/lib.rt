@@ -23,6 +23,3 @@ pub use report::ShapeReport;
 pub use shape::Shape;
 pub use step::{StepKind, StepReply};
 pub use tree::{Tree, append_both};
-
-#[cfg(test)]
-mod tests;

@@ -23,6 +23,3 @@ pub use names::Names;
 pub use path::Path;
 pub use range::{KeyRange, blocks_from, subtree};
 pub use snap_name::SnapName;
-
-#[cfg(test)]
-mod tests;

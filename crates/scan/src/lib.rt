@@ -51,6 +51,3 @@ pub fn scan<U: Update>(
     }
     Ok(pairs)
 }
-
-#[cfg(test)]
-mod tests;

@@ -16,9 +16,6 @@ use pathkey::{Key, NoMemory};
 use std::alloc::Global;
 use std::sync::Arc;
 
-#[cfg(test)]
-mod tests;
-
 /// Whether the end stands at or before the end `most`; `None` is no end.
 fn ends_by(end: Option<&Key>, most: Option<&Key>) -> bool
     ensures { result ≡ ends_within (option_copied end.entry) (option_copied most.entry) }

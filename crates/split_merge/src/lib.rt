@@ -17,6 +17,3 @@ pub use merge::{merge_inner, merge_leaves};
 pub use node::StepReply;
 pub use raise_root::root_up;
 pub use split::split_inner;
-
-#[cfg(test)]
-pub(crate) mod small_nodes;

@@ -14,9 +14,6 @@ use pathkey::NoMemory;
 use std::alloc::Global;
 use std::sync::Arc;
 
-#[cfg(test)]
-mod tests;
-
 /// A node over copies of the slots, which share the children, with copies of the messages behind what waits in them.
 fn appended<U: Update>(
     alloc: Global,

@@ -20,9 +20,6 @@ use pathkey::{Key, NoMemory};
 use std::alloc::Global;
 use std::sync::Arc;
 
-#[cfg(test)]
-mod tests;
-
 /// Whether the slot with number `i` has a next one.
 fn has_next<U: Update>(slots: &[Slot<U>], i: usize) -> bool
     ensures yes { result ≡ true → i + 1 < length slots.now }

@@ -17,9 +17,6 @@ use pathkey::{Key, NoMemory};
 use std::alloc::Global;
 use std::sync::Arc;
 
-#[cfg(test)]
-mod tests;
-
 /// A node over copies of the slots, which share the children.
 fn node_over<U: Update>(alloc: Global, slots: &[Slot<U>]) -> Result<Arc<Node<U>>, NoMemory>
     ensures { IfOk result (λ n. n.value ≡ inner (seen_slots slots.now)) }

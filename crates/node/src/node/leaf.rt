@@ -201,6 +201,3 @@ pub fn divide<V: Drop>(
     let back = entries.split_off(middle)?;
     Ok((pivot, back))
 }
-
-#[cfg(test)]
-mod tests;

@@ -39,19 +39,4 @@ impl<U: Update> Node<U> {
             body: Body::Inner(slots),
         })
     }
-
-    /// A root of two slots over empty leaves, the second from key 5 on.
-    #[cfg(test)]
-    pub(crate) fn two_slots(alloc: Global) -> Result<Node<U>, NoMemory>
-        ensures { IfOk result (λ n. IsRoot n) }
-    {
-        let first = Node::empty_slot(alloc, Key::new(alloc))?;
-        let second = Node::empty_slot(alloc, Key::from_bytes(alloc, &[5])?)?;
-        let mut slots = Vec::new(alloc);
-        slots.push(first)?;
-        slots.push(second)?;
-        Ok(Node {
-            body: Body::Inner(slots),
-        })
-    }
 }

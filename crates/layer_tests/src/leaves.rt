@@ -2,7 +2,7 @@
 ghost use Rattle.std.specs.Prelude.{None, [], IfOk};
 ghost use Rattle.node.specs.Lawful.{Rises};
 
-use super::{applied, divide, position};
+use node::node::leaf::{applied, divide, position};
 use pathkey::{Key, NoMemory};
 use samples::{Digit, Plain, batch, key, numbers};
 use std::alloc::Global;

@@ -1,101 +1,9 @@
 //! Messages on numbers, at keys of one byte, beside the same messages told in plain numbers.
-ghost use Rattle.std.specs.Prelude.{◌+◌, ◌*◌, ◌%◌, Some};
-ghost use Rattle.std.specs.Option.{unwrap_or};
-
-use crate::msg::{Msg, cut, touches};
-use crate::pending::Pending;
-use crate::update::{Changes, Update};
-use pathkey::{Key, KeyRange, NoMemory};
+use message::{Pending, cut, touches};
+use pathkey::NoMemory;
+use samples::{Digit, Plain, key, range};
 use std::alloc::Global;
 use std::test::Fail;
-
-/// Writes a digit behind the last two digits of a number, so that the order of two updates shows.
-#[derive(Drop)]
-struct Digit(u64);
-
-impl Changes for Digit {
-    type Value = u64;
-}
-
-impl Update for Digit {
-    ghost means = { λ digit old. Some (unwrap_or old 0 % 100 * 10 + digit.0 % 10) };
-
-    fn apply(&self, _alloc: Global, old: Option<&u64>) -> Result<Option<u64>, NoMemory> {
-        let number = old.copied().unwrap_or(0);
-        Ok(Some(number % 100 * 10 + self.0 % 10))
-    }
-
-    fn join(&self, _alloc: Global, _later: &Digit) -> Result<Option<Digit>, NoMemory> {
-        Ok(None)
-    }
-
-    fn copy(&self, _alloc: Global) -> Result<Digit, NoMemory> {
-        Ok(Digit(self.0))
-    }
-
-    fn copy_value(_alloc: Global, value: &u64) -> Result<u64, NoMemory> {
-        Ok(*value)
-    }
-}
-
-/// A message in plain numbers, where a number stands for the key of that one byte.
-#[derive(Clone, Copy, Debug, PartialEq, Eq)]
-enum Plain {
-    Put(u8, u64),
-    Del(u8),
-    DelRange(u8, Option<u8>),
-    Edit(u8, u64),
-}
-
-impl Plain {
-    fn message(self, alloc: Global) -> Result<Msg<Digit>, NoMemory> {
-        match self {
-            Plain::Put(at, value) => Ok(Msg::Put(key(alloc, at)?, value)),
-            Plain::Del(at) => Ok(Msg::Del(key(alloc, at)?)),
-            Plain::DelRange(lo, hi) => Ok(Msg::DelRange(range(alloc, lo, hi)?)),
-            Plain::Edit(at, digit) => Ok(Msg::Edit(key(alloc, at)?, Digit(digit))),
-        }
-    }
-
-    fn read(msg: &Msg<Digit>) -> Plain {
-        match msg {
-            Msg::Put(at, value) => Plain::Put(byte(at), *value),
-            Msg::Del(at) => Plain::Del(byte(at)),
-            Msg::DelRange(range) => Plain::DelRange(byte(&range.lo), range.hi.as_ref().map(byte)),
-            Msg::Edit(at, digit) => Plain::Edit(byte(at), digit.0),
-        }
-    }
-
-    fn value_after(self, at: u8, old: Option<u64>) -> Option<u64> {
-        match self {
-            Plain::Put(k, value) if k == at => Some(value),
-            Plain::Del(k) if k == at => None,
-            Plain::DelRange(lo, None) if lo <= at => None,
-            Plain::DelRange(lo, Some(hi)) if lo <= at && at < hi => None,
-            Plain::Edit(k, digit) if k == at => Some(old.unwrap_or(0) % 100 * 10 + digit % 10),
-            _ => old,
-        }
-    }
-}
-
-fn key(alloc: Global, byte: u8) -> Result<Key, NoMemory> {
-    Key::from_bytes(alloc, &[byte])
-}
-
-fn byte(key: &Key) -> u8 {
-    key.as_bytes().first().copied().unwrap_or(0)
-}
-
-fn range(alloc: Global, lo: u8, hi: Option<u8>) -> Result<KeyRange, NoMemory> {
-    let hi = match hi {
-        None => None,
-        Some(hi) => Some(key(alloc, hi)?),
-    };
-    Ok(KeyRange {
-        lo: key(alloc, lo)?,
-        hi,
-    })
-}
 
 fn list_of(alloc: Global, msgs: &[Plain]) -> Result<Pending<Digit>, NoMemory> {
     let mut list = Pending::new(alloc);
@@ -110,7 +18,7 @@ fn read_all(alloc: Global, list: &Pending<Digit>) -> Result<Vec<Plain>, NoMemory
     let msgs = list.copy_front(alloc, list.len())?;
     let mut plain = Vec::new(alloc);
     for msg in &msgs {
-        plain.push(Plain::read(msg))?;
+        plain.push(Plain::of(msg))?;
     }
     Ok(plain)
 }
@@ -210,7 +118,7 @@ fn cuts_to_a_range(rt: HostRuntime) -> Result<(), Fail> {
     for (plain, lo, hi, want) in cases {
         let piece = cut(alloc, &plain.message(alloc)?, &range(alloc, lo, hi)?)?;
         assert_eq!(rt;
-            piece.as_ref().map(Plain::read),
+            piece.as_ref().map(Plain::of),
             want,
             "{plain:?} from {lo} to {hi:?}"
         );
@@ -283,7 +191,7 @@ fn takes_messages_at_the_back_and_gives_them_up_at_the_front(rt: HostRuntime) ->
 
     let front = list.copy_front(alloc, 2)?;
     assert_eq!(rt; front.len(), 2);
-    assert_eq!(rt; Plain::read(&front[1]), Plain::Del(2));
+    assert_eq!(rt; Plain::of(&front[1]), Plain::Del(2));
 
     list.drop_front(2);
     let left = [

@@ -1,8 +1,7 @@
 //! First pairs through many messages, beside the same messages laid on a plain row of numbers.
-use crate::leaf::first_entry;
-use crate::{first_in, scan};
 use node::{Shape, Tree};
 use samples::{Digit, Plain, Random, Row, batch, key, number, numbers, range};
+use scan::{first_in, scan};
 use std::alloc::Global;
 use std::process::Abort;
 use std::test::Fail;
@@ -85,23 +84,5 @@ fn goes_past_what_a_range_delete_covers(rt: HostRuntime) -> Result<(), Fail> {
         found.as_slice(),
         [(3, 3), (4, 3), (20, 4), (40, 3)].as_slice()
     );
-    Ok(())
-}
-
-#[test]
-fn finds_the_first_entry_of_a_leaf(rt: HostRuntime) -> Result<(), Fail> {
-    let alloc = rt.alloc();
-    let mut entries = Vec::new(alloc);
-    entries.push((key(alloc, 2)?, 12))?;
-    for (lo, hi, wanted) in [
-        (0, None, Some(12)),
-        (2, Some(3), Some(12)),
-        (0, Some(2), None),
-        (3, None, None),
-    ] {
-        let range = range(alloc, lo, hi)?;
-        let found = first_entry::<Digit>(alloc, entries.as_slice(), &range.lo, range.hi.as_ref())?;
-        assert_eq!(rt; found.map(|pair| pair.1), wanted, "from {lo}");
-    }
     Ok(())
 }

@@ -1,5 +1,5 @@
 //! Values through messages that wait in the root, by rows of messages.
-use crate::get;
+use lookup::get;
 use node::{Shape, Tree};
 use samples::{Digit, Plain, batch, key};
 use std::alloc::Global;

@@ -1,10 +1,10 @@
 //! Appends of messages on numbers, at keys of one byte, seen in the slots where they wait.
-use crate::node::{Body, Node, Slot};
-use crate::shape::Shape;
-use crate::tree::{Tree, append_both};
+use flush::flush_leaf;
+use node::{Body, Node, Place, Shape, Slot, StepReply, Tree, append_both};
 use pathkey::NoMemory;
 use samples::{Digit, Plain, batch};
 use std::alloc::Global;
+use std::process::Abort;
 use std::test::Fail;
 
 const SMALL: Shape = Shape {
@@ -155,6 +155,18 @@ fn gives_each_tree_its_half_of_a_batch(rt: HostRuntime) -> Result<(), Fail> {
     Ok(())
 }
 
+/// A tree with two slots, of which the second begins at the key 5.
+fn two_slots(rt: &impl Abort, alloc: Global) -> Result<Tree<Digit>, Fail> {
+    let mut tree = small_tree(alloc)?;
+    for at in [1, 2, 5, 6, 7] {
+        tree.append(alloc, batch(alloc, &[Plain::Put(at, 0)])?)?;
+        let reply = flush_leaf(alloc, &mut tree, Place::root(), 0);
+        assert_eq!(rt; reply, StepReply::Did(1), "at {at}");
+    }
+    assert_eq!(rt; slot_count(tree.root()), 2);
+    Ok(tree)
+}
+
 #[test]
 fn cuts_messages_at_the_pivots(rt: HostRuntime) -> Result<(), Fail> {
     let alloc = rt.alloc();
@@ -167,21 +179,23 @@ fn cuts_messages_at_the_pivots(rt: HostRuntime) -> Result<(), Fail> {
         Plain::DelRange(3, Some(5)),
         Plain::Del(255),
     ];
-    let mut root = Node::two_slots(alloc)?;
-    root.append(alloc, batch(alloc, &msgs)?)?;
     let first = [
         Plain::Put(4, 1),
         Plain::DelRange(2, Some(5)),
         Plain::Edit(4, 3),
         Plain::DelRange(3, Some(5)),
     ];
-    assert_eq!(rt; waiting(alloc, &root, 0)?.as_slice(), first.as_slice());
     let second = [
         Plain::DelRange(5, Some(8)),
         Plain::Put(5, 2),
         Plain::DelRange(5, None),
         Plain::Del(255),
     ];
-    assert_eq!(rt; waiting(alloc, &root, 1)?.as_slice(), second.as_slice());
+    let mut tree = two_slots(&rt, alloc)?;
+    tree.append(alloc, batch(alloc, &msgs)?)?;
+    for (slot, want) in [(0, first), (1, second)] {
+        let found = waiting(alloc, tree.root(), slot)?;
+        assert_eq!(rt; found.as_slice(), want.as_slice(), "in slot {slot}");
+    }
     Ok(())
 }

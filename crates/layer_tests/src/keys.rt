@@ -1,5 +1,10 @@
-use super::*;
+//! Paths, keys and names of snapshots: texts, bytes and order, in tables with the values written out.
+use pathkey::{
+    Errno, Key, KeyRange, NoMemory, Path, SnapName, block_key, blocks_from, dec, enc, rekey,
+    subtree,
+};
 use std::alloc::{AllocError, Global};
+use std::cmp::Ordering;
 use std::process::Abort;
 use std::test::Fail;
 
@@ -123,20 +128,30 @@ fn keys_of_blocks(rt: HostRuntime) -> Result<(), Fail> {
     Ok(())
 }
 
+/// The keys of a path's subtree, or those of its blocks from one on.
+fn keys(alloc: Global, text: &[u8], from: Option<u32>) -> Result<Option<KeyRange>, Errno> {
+    let path = path(alloc, text)?;
+    match from {
+        None => Ok(Some(subtree(alloc, &path)?)),
+        Some(from) => Ok(blocks(alloc, &path, from)?),
+    }
+}
+
 #[test]
 fn ends_of_ranges(rt: HostRuntime) -> Result<(), Fail> {
-    let path = path(rt.alloc(), b"/a")?;
-    let below = subtree(rt.alloc(), &path)?;
-    has_ends(&rt, &below, b"\x61\x00", Some(b"\x61\x01"));
-    let whole = subtree(rt.alloc(), &Path::root(rt.alloc()))?;
-    has_ends(&rt, &whole, b"", None);
-    let blocks = blocks(rt.alloc(), &path, 1)?.ok_or("a range")?;
-    has_ends(
-        &rt,
-        &blocks,
-        b"\x61\x00\x00\x00\x00\x00\x01",
-        Some(b"\x61\x00\x01"),
-    );
+    for (text, from, lo, hi) in [
+        (b"/".as_slice(), None, b"".as_slice(), None),
+        (b"/a", None, b"\x61\x00", Some(b"\x61\x01".as_slice())),
+        (
+            b"/a",
+            Some(1),
+            b"\x61\x00\x00\x00\x00\x00\x01",
+            Some(b"\x61\x00\x01"),
+        ),
+    ] {
+        let range = keys(rt.alloc(), text, from)?.ok_or("a range")?;
+        has_ends(&rt, &range, lo, hi);
+    }
     Ok(())
 }
 
@@ -209,14 +224,24 @@ fn paths_below_others(rt: HostRuntime) -> Result<(), Fail> {
     Ok(())
 }
 
+/// How the keys of two paths stand to one another.
+fn order(alloc: Global, text: &[u8], other: &[u8]) -> Result<Ordering, Errno> {
+    let path = path(alloc, text)?;
+    let other = Path::parse(alloc, other)?;
+    Ok(path.key().cmp(other.key()))
+}
+
 #[test]
 fn keys_in_order(rt: HostRuntime) -> Result<(), Fail> {
-    let upper = path(rt.alloc(), b"/a")?;
-    let lower = path(rt.alloc(), b"/a/x")?;
-    let beside = path(rt.alloc(), b"/a-b")?;
-    assert!(rt; *upper.key() < *lower.key());
-    assert!(rt; *lower.key() < *beside.key());
-    assert!(rt; *upper.key() == *upper.copy(rt.alloc())?.key());
+    for (text, other, want) in [
+        (b"/".as_slice(), b"/a".as_slice(), Ordering::Less),
+        (b"/a", b"/a/x", Ordering::Less),
+        (b"/a/x", b"/a-b", Ordering::Less),
+        (b"/ab", b"/a-b", Ordering::Greater),
+        (b"/a", b"/a", Ordering::Equal),
+    ] {
+        assert_eq!(rt; order(rt.alloc(), text, other)?, want, "{text:?} {other:?}");
+    }
     Ok(())
 }
 
@@ -249,15 +274,24 @@ fn parents_and_last_names(rt: HostRuntime) -> Result<(), Fail> {
     Ok(())
 }
 
+/// Compares the names of a path, from the root on, with the wanted ones.
+fn has_names(rt: &impl Abort, alloc: Global, text: &[u8], want: &[&[u8]]) -> Result<(), Fail> {
+    let path = path(alloc, text)?;
+    let mut left = path.names();
+    for name in want {
+        let (first, others) = left.split_first().ok_or("a name")?;
+        same(rt, first, name);
+        left = others;
+    }
+    assert!(rt; left.split_first().is_none());
+    Ok(())
+}
+
 #[test]
 fn names_from_the_root(rt: HostRuntime) -> Result<(), Fail> {
-    let path = path(rt.alloc(), b"/a/xy")?;
-    let (name, rest) = path.names().split_first().ok_or("a name")?;
-    same(&rt, name, b"a");
-    let (name, rest) = rest.split_first().ok_or("a name")?;
-    same(&rt, name, b"xy");
-    assert!(rt; rest.split_first().is_none());
-    Ok(())
+    let alloc = rt.alloc();
+    has_names(&rt, alloc, b"/a/xy", &[b"a", b"xy"])?;
+    has_names(&rt, alloc, b"/", &[])
 }
 
 fn moved(alloc: Global, key: &Key, old: &[u8], new: &[u8]) -> Result<Option<Key>, Errno> {
@@ -270,9 +304,22 @@ fn moved(alloc: Global, key: &Key, old: &[u8], new: &[u8]) -> Result<Option<Key>
 #[test]
 fn keys_moved(rt: HostRuntime) -> Result<(), Fail> {
     let lower = key(rt.alloc(), b"a\x00x\x00")?;
-    let up = moved(rt.alloc(), &lower, b"/a", b"/a-b")?.ok_or("a key below")?;
-    same(&rt, up.as_bytes(), b"a-b\x00x\x00");
-    assert!(rt; moved(rt.alloc(), &lower, b"/b", b"/a")?.is_none());
+    for (old, new, want) in [
+        (
+            b"/a".as_slice(),
+            b"/a-b".as_slice(),
+            Some(b"a-b\x00x\x00".as_slice()),
+        ),
+        (b"/a/x", b"/y", Some(b"y\x00")),
+        (b"/b", b"/a", None),
+    ] {
+        let key = moved(rt.alloc(), &lower, old, new)?;
+        assert_eq!(rt;
+            key.as_ref().map(|key| key.as_bytes()),
+            want,
+            "{old:?} to {new:?}"
+        );
+    }
     Ok(())
 }
 
@@ -295,10 +342,20 @@ fn names_of_snapshots(rt: HostRuntime) -> Result<(), Fail> {
         let text = long_text(rt.alloc(), b"", b"s", count, b"")?;
         assert_eq!(rt; snap_refusal(rt.alloc(), &text), want, "of {count} bytes");
     }
-    let name = snap(rt.alloc(), b"Az.09_-Za")?;
-    same(&rt, name.as_bytes(), b"Az.09_-Za");
-    assert!(rt; name == name.copy(rt.alloc())?);
-    assert!(rt; name < snap(rt.alloc(), b"a")?);
+    Ok(())
+}
+
+#[test]
+fn snapshot_names_in_order(rt: HostRuntime) -> Result<(), Fail> {
+    for (text, other, want) in [
+        (b"Az.09_-Za".as_slice(), b"a".as_slice(), Ordering::Less),
+        (b"b", b"a", Ordering::Greater),
+        (b"a", b"a", Ordering::Equal),
+    ] {
+        let name = snap(rt.alloc(), text)?;
+        same(&rt, name.as_bytes(), text);
+        assert_eq!(rt; name.cmp(&snap(rt.alloc(), other)?), want, "{text:?}");
+    }
     Ok(())
 }
 

@@ -1,0 +1,19 @@
+//! Tests of each layer below the file calls by itself: paths and keys, messages, nodes, steps, look-ups and searches.
+//!
+//! They stand in a crate of their own, since what a crate with tests proves is proved once more with them.
+#![tactic(auto)]
+
+#[cfg(test)]
+mod keys;
+#[cfg(test)]
+mod leaves;
+#[cfg(test)]
+mod look_ups;
+#[cfg(test)]
+mod messages;
+#[cfg(test)]
+mod nodes;
+#[cfg(test)]
+mod searches;
+#[cfg(test)]
+mod turns;
