@@ -51,6 +51,3 @@ pub fn compile(alloc: Global, indexes: &Indexes, call: &Call) -> Result<(Reply, 
         Call::Rename(_, _) => unreachable!(),
     }
 }
-
-#[cfg(test)]
-mod tests;

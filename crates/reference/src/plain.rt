@@ -24,6 +24,3 @@ pub use calls::does;
 pub use image::image_of;
 pub use tree::{Entries, Tree};
 pub use world::World;
-
-#[cfg(test)]
-mod tests;

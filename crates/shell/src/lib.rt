@@ -13,7 +13,7 @@ mod output;
 mod reply;
 mod request;
 mod script;
-mod values;
+pub mod values;
 mod words;
 
 pub use command::read_request;
@@ -22,6 +22,3 @@ pub use output::WriteFailed;
 pub use reply::write_reply;
 pub use request::Request;
 pub use script::{ScriptFault, run_script};
-
-#[cfg(test)]
-mod tests;

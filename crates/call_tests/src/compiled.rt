@@ -1,10 +1,8 @@
-//! What calls are answered and how many messages they send, in tables.
-
-use super::*;
-use bytes::Bytes;
-use meta_index::Kind;
+//! What calls on indexes are answered and how many messages they send.
+use crate::ask::{Ask, Told};
+use call_compiler::{Call, Indexes, Reply, compile, is_compiled};
 use node::Shape;
-use pathkey::{Errno, Path};
+use pathkey::Errno;
 use std::alloc::Global;
 use std::process::Abort;
 use std::test::Fail;
@@ -15,90 +13,32 @@ const SHAPE: Shape = Shape {
     leaf: 4,
 };
 
-/// A call, with the text of its path.
-#[derive(Clone, Copy, Debug)]
-enum Ask {
-    Mkdir(&'static str),
-    Create(&'static str),
-    Write(&'static str, u64, &'static [u8]),
-    Truncate(&'static str, u64),
-    Unlink(&'static str),
-    Rmdir(&'static str),
-    Rmtree(&'static str),
-    Read(&'static str, u64, u64),
-    Stat(&'static str),
-    Readdir(&'static str),
-}
+/// How many messages go to the metadata, and to the blocks.
+type Counts = (usize, usize);
 
-/// A reply that a table can hold.
-#[derive(Clone, Copy, Debug)]
-enum Told {
-    Done,
-    Count(u64),
-    Data(&'static [u8]),
-    Dir,
-    File(u64),
-    Fault(Errno),
-}
+/// A call, its reply, and its messages.
+type Row<'a> = (Ask<'a>, Told<'a>, Counts);
 
-/// A call, its reply, and how many messages go to the metadata and to the blocks.
-type Row = (Ask, Told, (usize, usize));
-
-/// The path of a text. It ensures nothing, so that no proof of a test reads what a text parses as.
-fn path(alloc: Global, text: &str) -> Result<Path, Errno> {
-    Path::parse(alloc, text.as_bytes())
-}
-
-impl Ask {
-    /// The call.
-    fn call(self, alloc: Global) -> Result<Call, Fail> {
-        Ok(match self {
-            Ask::Mkdir(text) => Call::Mkdir(path(alloc, text)?),
-            Ask::Create(text) => Call::Create(path(alloc, text)?),
-            Ask::Write(text, offset, new) => {
-                let bytes = Bytes::copy_from_slice(alloc, new)?;
-                Call::Write(path(alloc, text)?, offset, bytes)
-            }
-            Ask::Truncate(text, len) => Call::Truncate(path(alloc, text)?, len),
-            Ask::Unlink(text) => Call::Unlink(path(alloc, text)?),
-            Ask::Rmdir(text) => Call::Rmdir(path(alloc, text)?),
-            Ask::Rmtree(text) => Call::Rmtree(path(alloc, text)?),
-            Ask::Read(text, offset, count) => Call::Read(path(alloc, text)?, offset, count),
-            Ask::Stat(text) => Call::Stat(path(alloc, text)?),
-            Ask::Readdir(text) => Call::Readdir(path(alloc, text)?),
-        })
+/// Does a call, and answers its reply and how many messages each index got.
+fn run(alloc: Global, indexes: &mut Indexes, call: &Call) -> Result<(Reply, Counts), Fail> {
+    if !is_compiled(call) {
+        return Ok((Reply::Done, (0, 0)));
     }
-}
-
-impl Told {
-    /// Whether this is the reply.
-    fn is(self, reply: &Reply) -> bool {
-        match (self, reply) {
-            (Told::Done, Reply::Done) | (Told::Dir, Reply::Stat(Kind::Dir, 0)) => true,
-            (Told::Count(wanted), Reply::Count(count)) => wanted == *count,
-            (Told::Data(wanted), Reply::Data(bytes)) => bytes.as_slice() == wanted,
-            (Told::File(wanted), Reply::Stat(Kind::File, len)) => wanted == *len,
-            (Told::Fault(wanted), Reply::Fault(fault)) => wanted == *fault,
-            _ => false,
-        }
-    }
+    let (reply, batch) = compile(alloc, indexes, call)?;
+    let counts = (batch.meta.len(), batch.block.len());
+    indexes.append(alloc, batch)?;
+    Ok((reply, counts))
 }
 
 /// Whether a call is answered as its row says. What it sends is appended.
-fn is_answered(alloc: Global, indexes: &mut Indexes, row: Row) -> Result<bool, Fail> {
+fn is_answered(alloc: Global, indexes: &mut Indexes, row: Row<'_>) -> Result<bool, Fail> {
     let (ask, told, counts) = row;
-    let call = ask.call(alloc)?;
-    if !is_compiled(&call) {
-        return Ok(false);
-    }
-    let (reply, batch) = compile(alloc, indexes, &call)?;
-    let sent = (batch.meta.len(), batch.block.len());
-    indexes.append(alloc, batch)?;
+    let (reply, sent) = run(alloc, indexes, &ask.call(alloc)?)?;
     Ok(told.is(&reply) && sent == counts)
 }
 
 /// Asks the calls in turn, from nothing but the root directory.
-fn answers(rt: &impl Abort, alloc: Global, rows: &[Row]) -> Result<(), Fail> {
+fn answers(rt: &impl Abort, alloc: Global, rows: &[Row<'_>]) -> Result<(), Fail> {
     let mut indexes = Indexes::new(alloc, SHAPE)?;
     for row in rows {
         assert!(rt; is_answered(alloc, &mut indexes, *row)?, "{row:?}");
