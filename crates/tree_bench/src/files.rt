@@ -1,6 +1,9 @@
 //! File calls on compiled indexes, and the same paths in a map of std.
-use crate::work::{LOOKED_UP, append_batch, scattered};
-use call_compiler::{Indexes, compile, is_compiled};
+ghost use Rattle.std.specs.Prelude.{IsTrue};
+ghost use Rattle.call_compiler.specs.Compiled.{is_compiled};
+
+use crate::work::{LOOKED_UP, relieve_above, scattered};
+use call_compiler::{Indexes, compile};
 use pathkey::{Key, NoMemory, Path};
 use reference::{Call, Meta, Reply};
 use std::alloc::Global;
@@ -31,7 +34,7 @@ impl Population {
     }
 
     /// The path of a file. Neighbours in number lie in different directories.
-    fn file(self, alloc: Global, number: u64) -> Result<Path, NoMemory> {
+    pub fn file(self, alloc: Global, number: u64) -> Result<Path, NoMemory> {
         let letter = self.letter;
         let directory = number.checked_rem(self.directories).unwrap_or(0);
         let name = number.checked_div(self.directories).unwrap_or(0);
@@ -39,7 +42,7 @@ impl Population {
     }
 
     /// The path of a file that looks chosen at random.
-    fn some_file(self, alloc: Global, number: u64) -> Result<Path, NoMemory> {
+    pub fn some_file(self, alloc: Global, number: u64) -> Result<Path, NoMemory> {
         let count = self.count();
         self.file(alloc, scattered(number).checked_rem(count).unwrap_or(0))
     }
@@ -50,13 +53,22 @@ fn path(alloc: Global, text: &String) -> Result<Path, NoMemory> {
     Path::parse(alloc, text.as_bytes()).or(Err(NoMemory))
 }
 
-/// Does a call; whether it was not refused.
-fn run(alloc: Global, indexes: &mut Indexes, call: &Call) -> Result<bool, NoMemory> {
-    if !is_compiled(call) {
-        return Ok(false);
-    }
+/// Does a call, and then a step that relieves each tree whose root has too many messages; gives the reply.
+pub fn run(alloc: Global, indexes: &mut Indexes, call: &Call) -> Result<Reply, NoMemory>
+    requires { IsTrue (is_compiled call.now) }
+{
     let (reply, batch) = compile(alloc, indexes, call)?;
-    append_batch(alloc, &mut indexes.meta.tree, batch.meta, LOOKED_UP)?;
+    indexes.append(alloc, batch)?;
+    relieve_above(alloc, &mut indexes.meta.tree, LOOKED_UP)?;
+    relieve_above(alloc, &mut indexes.block.tree, LOOKED_UP)?;
+    Ok(reply)
+}
+
+/// Does a call; whether it was done.
+fn is_done(alloc: Global, indexes: &mut Indexes, call: &Call) -> Result<bool, NoMemory>
+    requires { IsTrue (is_compiled call.now) }
+{
+    let reply = run(alloc, indexes, call)?;
     Ok(matches!(reply, Reply::Done))
 }
 
@@ -69,7 +81,7 @@ pub fn make_directories(
     let mut made = 0u64;
     for i in 0..population.directories {
         let call = Call::Mkdir(population.directory(alloc, i)?);
-        made = made.wrapping_add(u64::from(run(alloc, indexes, &call)?));
+        made = made.wrapping_add(u64::from(is_done(alloc, indexes, &call)?));
     }
     Ok(made)
 }
@@ -83,7 +95,7 @@ pub fn create(
     let mut made = 0u64;
     for i in 0..population.count() {
         let call = Call::Create(population.file(alloc, i)?);
-        made = made.wrapping_add(u64::from(run(alloc, indexes, &call)?));
+        made = made.wrapping_add(u64::from(is_done(alloc, indexes, &call)?));
     }
     Ok(made)
 }

@@ -2,65 +2,73 @@
 //!
 //! Without an argument it does a little of the work and says how much it found. `tree_bench measure` does all of it
 //! and prints nanoseconds an operation; `tree_bench tree` and `tree_bench map` do the appends alone, for a
-//! measurement of memory from outside. `tree_bench files` does file calls beside a map of the same paths.
+//! measurement of memory from outside. `tree_bench files` does file calls beside a map of the same paths, and
+//! `tree_bench bytes` writes and reads the bytes of files beside maps of the same blocks; `tree_bench bytes-tree` and
+//! `tree_bench bytes-map` do the writes of the long file alone.
 #![tactic(auto)]
 
+pub mod contents;
 pub mod files;
+pub mod maps;
+pub mod measure;
 pub mod number;
 pub mod work;
 
-use crate::files::{Population, create, create_in_map, list, make_directories, stat, stat_in_map};
-use crate::work::{SHAPE, append, insert, look_up, look_up_map, new_tree, settle};
+use crate::contents::{
+    LONG_FILE, SHORT_FILES, check_long, count_equal, new_indexes, write_long, write_small,
+};
+use crate::files::{create, list, make_directories, stat};
+use crate::maps::Maps;
+use crate::measure::{
+    LONG, MESSAGES, SMALL, appends, file_calls, long_file, look_ups, small_writes,
+};
+use crate::work::{SHAPE, append, insert, look_up, new_tree, settle};
 use call_compiler::Indexes;
-use meta_index::Meta;
-use pathkey::Key;
 use std::collections::BTreeMap;
-use std::io;
-use std::time::{Duration, Instant};
 
-/// How many keys a settled tree has for look-ups.
-const KEYS: u64 = 100_000;
-
-/// How many messages are appended.
-const MESSAGES: u64 = 1_000_000;
-
-/// Large directories.
-const LARGE: Population = Population {
-    letter: 'l',
-    directories: 1000,
-    files: 100,
-};
-
-/// Small directories.
-const SMALL: Population = Population {
-    letter: 's',
-    directories: 100,
-    files: 10,
-};
-
-/// How many directories are listed.
-const LISTINGS: u64 = 10_000;
+/// How many bytes the long file has where only a little of the work is done: 1 MiB.
+const LITTLE: u64 = 1_048_576;
 
 fn main(rt: HostRuntime) -> anyhow::Result<()> {
     let alloc = rt.alloc();
     let words: Vec<String> = std::env::args(&rt)?.collect(alloc)?;
     match words.get(1) {
-        None => little(&rt)?,
-        Some(word) if word.as_str() == "measure" => measure(&rt)?,
-        Some(word) if word.as_str() == "tree" => append(
-            alloc,
-            &mut new_tree(alloc)?,
-            MESSAGES,
-            MESSAGES,
-        )?,
-        Some(word) if word.as_str() == "files" => file_calls(&rt)?,
-        Some(word) if word.as_str() == "map" => insert(
-            alloc,
-            &mut BTreeMap::new(alloc),
-            MESSAGES,
-            MESSAGES,
-        )?,
-        Some(word) => eprintln!(rt; "tree_bench: no such work: {word}")?,
+        None => little(&rt),
+        Some(word) => do_work(&rt, word.as_str()),
+    }
+}
+
+/// The work that a word names.
+fn do_work(rt: &HostRuntime, word: &str) -> anyhow::Result<()> {
+    let alloc = rt.alloc();
+    match word {
+        "measure" => {
+            look_ups(rt, alloc)?;
+            appends(rt, alloc)?;
+        }
+        "files" => file_calls(rt, alloc)?,
+        "bytes" => {
+            small_writes(rt, alloc)?;
+            long_file(rt, alloc)?;
+        }
+        _ => alone(rt, word)?,
+    }
+    Ok(())
+}
+
+/// One side of the work that a word names, without a time.
+fn alone(rt: &HostRuntime, word: &str) -> anyhow::Result<()> {
+    let alloc = rt.alloc();
+    match word {
+        "tree" => append(alloc, &mut new_tree(alloc)?, MESSAGES, MESSAGES)?,
+        "map" => insert(alloc, &mut BTreeMap::new(alloc), MESSAGES, MESSAGES)?,
+        "bytes-tree" => {
+            write_long(alloc, &mut new_indexes(alloc, LONG_FILE)?, LONG)?;
+        }
+        "bytes-map" => {
+            write_long(alloc, &mut Maps::with_files(alloc, LONG_FILE)?, LONG)?;
+        }
+        _ => eprintln!(rt; "tree_bench: no such work: {word}")?,
     }
     Ok(())
 }
@@ -80,111 +88,20 @@ fn little(rt: &HostRuntime) -> anyhow::Result<()> {
     let stood = stat(alloc, &indexes, SMALL, 2000)?;
     let names = list(alloc, &indexes, SMALL, 100)?;
     println!(rt; "{made} made, {stood} stood there, {names} names")?;
-    Ok(())
+    little_bytes(rt)
 }
 
-/// Nanoseconds for each of so many operations.
-fn each(time: Duration, count: u64) -> u128 {
-    time.as_nanos().checked_div(count as u128).unwrap_or(0)
-}
-
-/// All of the work, with its times.
-fn measure(rt: &HostRuntime) -> anyhow::Result<()> {
-    look_ups(rt)?;
-    appends(rt)
-}
-
-/// Look-ups in a settled tree, and in a map of the same keys.
-fn look_ups(rt: &HostRuntime) -> anyhow::Result<()> {
+/// A little of the work on the bytes of files.
+fn little_bytes(rt: &HostRuntime) -> anyhow::Result<()> {
     let alloc = rt.alloc();
-    let mut tree = new_tree(alloc)?;
-    append(alloc, &mut tree, KEYS, KEYS)?;
-    let steps = settle(alloc, &mut tree);
-    let mut map = BTreeMap::new(alloc);
-    insert(alloc, &mut map, KEYS, KEYS)?;
-    let start = Instant::now(rt)?;
-    let found = look_up(alloc, &tree, KEYS, MESSAGES)?;
-    let tree_time = each(start.elapsed(rt)?, MESSAGES);
-    let start = Instant::now(rt)?;
-    let there = look_up_map(alloc, &map, KEYS, MESSAGES)?;
-    let map_time = each(start.elapsed(rt)?, MESSAGES);
-    println!(rt; "settled in {steps} steps; found {found} and {there}")?;
-    println!(rt; "look-up: tree {tree_time} ns, map {map_time} ns")?;
-    Ok(())
-}
-
-/// Appends with flushes, and inserts into a map of the same keys.
-fn appends(rt: &HostRuntime) -> anyhow::Result<()> {
-    let alloc = rt.alloc();
-    let mut tree = new_tree(alloc)?;
-    let start = Instant::now(rt)?;
-    append(alloc, &mut tree, MESSAGES, MESSAGES)?;
-    let tree_time = each(start.elapsed(rt)?, MESSAGES);
-    let mut map = BTreeMap::new(alloc);
-    let start = Instant::now(rt)?;
-    insert(alloc, &mut map, MESSAGES, MESSAGES)?;
-    let map_time = each(start.elapsed(rt)?, MESSAGES);
-    let report = tree.shape_report();
-    let (levels, entries, pending) = (report.levels, report.entries, report.pending);
-    println!(rt; "{levels} levels, {entries} entries, {pending} pending")?;
-    println!(rt; "append: tree {tree_time} ns, map {map_time} ns")?;
-    Ok(())
-}
-
-/// File calls on indexes, and the same paths in a map.
-fn file_calls(rt: &HostRuntime) -> anyhow::Result<()> {
-    let alloc = rt.alloc();
-    let mut indexes = Indexes::new(alloc, SHAPE)?;
-    let mut map = BTreeMap::new(alloc);
-    for population in [SMALL, LARGE] {
-        make_directories(alloc, &mut indexes, population)?;
-    }
-    create(alloc, &mut indexes, SMALL)?;
-    creates(rt, &mut indexes, &mut map)?;
-    let steps = settle(alloc, &mut indexes.meta.tree);
-    println!(rt; "settled in {steps} steps")?;
-    stats(rt, &indexes, &map)?;
-    listings(rt, &indexes, SMALL)?;
-    listings(rt, &indexes, LARGE)
-}
-
-/// The files of the large directories.
-fn creates(
-    rt: &HostRuntime,
-    indexes: &mut Indexes,
-    map: &mut BTreeMap<Key, Meta>,
-) -> anyhow::Result<()> {
-    let alloc = rt.alloc();
-    let start = Instant::now(rt)?;
-    let made = create(alloc, indexes, LARGE)?;
-    let time = each(start.elapsed(rt)?, LARGE.count());
-    let start = Instant::now(rt)?;
-    create_in_map(alloc, map, LARGE)?;
-    let map_time = each(start.elapsed(rt)?, LARGE.count());
-    println!(rt; "create: {time} ns, map {map_time} ns; made {made}")?;
-    Ok(())
-}
-
-/// Files of the large directories in an order that looks random.
-fn stats(rt: &HostRuntime, indexes: &Indexes, map: &BTreeMap<Key, Meta>) -> anyhow::Result<()> {
-    let alloc = rt.alloc();
-    let start = Instant::now(rt)?;
-    let stood = stat(alloc, indexes, LARGE, MESSAGES)?;
-    let time = each(start.elapsed(rt)?, MESSAGES);
-    let start = Instant::now(rt)?;
-    let there = stat_in_map(alloc, map, LARGE, MESSAGES)?;
-    let map_time = each(start.elapsed(rt)?, MESSAGES);
-    println!(rt; "stat: {time} ns, map {map_time} ns; found {stood} and {there}")?;
-    Ok(())
-}
-
-/// The directories of a population in turn.
-fn listings(rt: &HostRuntime, indexes: &Indexes, population: Population) -> anyhow::Result<()> {
-    let alloc = rt.alloc();
-    let start = Instant::now(rt)?;
-    let names = list(alloc, indexes, population, LISTINGS)?;
-    let time = each(start.elapsed(rt)?, LISTINGS);
-    let files = population.files;
-    println!(rt; "readdir of {files} names: {time} ns; {names} names in all")?;
+    let mut indexes = new_indexes(alloc, SHORT_FILES)?;
+    let mut maps = Maps::with_files(alloc, SHORT_FILES)?;
+    let written = write_small(alloc, &mut indexes, 2000)?;
+    write_small(alloc, &mut maps, 2000)?;
+    let equal = count_equal(alloc, &indexes, &maps)?;
+    let mut long = new_indexes(alloc, LONG_FILE)?;
+    write_long(alloc, &mut long, LITTLE)?;
+    let read = check_long(alloc, &long, LITTLE)?;
+    println!(rt; "{written} bytes in {equal} files as in the maps, {read} bytes read as written")?;
     Ok(())
 }

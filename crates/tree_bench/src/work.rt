@@ -49,14 +49,12 @@ fn is_relieved<U: Update>(alloc: Global, tree: &mut Tree<U>) -> bool {
     }
 }
 
-/// Appends messages, and flushes once where more than `limit` pieces wait in the root.
-pub fn append_batch<U: Update>(
+/// Does one step that relieves the tree where more than `limit` pieces wait in its root.
+pub fn relieve_above<U: Update>(
     alloc: Global,
     tree: &mut Tree<U>,
-    batch: Vec<Msg<U>>,
     limit: usize,
 ) -> Result<(), NoMemory> {
-    tree.append(alloc, batch)?;
     if waiting(tree) > limit as u128 && !is_relieved(alloc, tree) {
         return Err(NoMemory);
     }
@@ -69,7 +67,8 @@ pub fn append(alloc: Global, tree: &mut Tree<Set>, keys: u64, count: u64) -> Res
         let number = i.checked_rem(keys).unwrap_or(0);
         let mut one = Vec::with_capacity(alloc, 1)?;
         one.push(Msg::Put(key(alloc, number)?, i))?;
-        append_batch(alloc, tree, one, APPENDED)?;
+        tree.append(alloc, one)?;
+        relieve_above(alloc, tree, APPENDED)?;
     }
     Ok(())
 }
