@@ -21,7 +21,7 @@ pub const SHAPE: Shape = Shape {
 const APPENDED: usize = 4096;
 
 /// How many may wait there where each call looks its path up first: a look-up reads what waits on its way.
-pub const LOOKED_UP: usize = 256;
+pub const LOOKED_UP: usize = 32;
 
 /// A number for each number, far from those of its neighbours.
 pub fn scattered(number: u64) -> u64 {
