@@ -12,8 +12,10 @@ pub enum Outcome {
     Made,
     /// A file was made.
     Created,
-    /// A directory was taken out.
+    /// An empty directory was taken out.
     Removed,
+    /// A directory was taken out with all below it, or a file by the same call.
+    TreeRemoved,
     /// A file was taken out.
     Unlinked,
     /// A file was cut.
@@ -83,6 +85,7 @@ impl Outcome {
             Call::Mkdir(_) => Some(Outcome::Made),
             Call::Create(_) => Some(Outcome::Created),
             Call::Rmdir(_) => Some(Outcome::Removed),
+            Call::Rmtree(_) => Some(Outcome::TreeRemoved),
             Call::Unlink(_) => Some(Outcome::Unlinked),
             Call::Truncate(_, new) if *new < length => Some(Outcome::Shortened),
             Call::Truncate(_, new) if *new > length => Some(Outcome::Lengthened),
@@ -137,12 +140,12 @@ impl Outcome {
 
 /// How often each outcome came, in the order of the outcomes.
 #[derive(Debug, Drop)]
-pub struct Counts([u32; 26]);
+pub struct Counts([u32; 27]);
 
 impl Counts {
     /// Nothing came yet.
     pub fn new() -> Counts {
-        Counts([0; 26])
+        Counts([0; 27])
     }
 
     /// Counts an outcome.

@@ -50,21 +50,22 @@ fn some_file(alloc: Global, random: &mut Random) -> Result<String, Fail> {
     Ok(text)
 }
 
-/// A place in a file: most often one of the first, at times one at a block's end or behind the longest file.
-fn some_place(random: &mut Random) -> u64 {
+/// A place in a file, or a length: of sixteen one behind the longest file, so many at a block's end, and the others among the
+/// first.
+fn some_place(random: &mut Random, ends: u32) -> u64 {
     match random.below(16) {
-        0 | 1 => BLOCK_ENDS[random.below(6) as usize],
-        2 => BEYOND[random.below(2) as usize],
+        0 => BEYOND[random.below(2) as usize],
+        among if among <= ends => BLOCK_ENDS[random.below(6) as usize],
         _ => random.below(21) as u64,
     }
 }
 
-/// How many bytes to read: most often a few, at times as many as a block or a file has, or too many.
+/// How many bytes to read: a few, as many as a block has, as many as one read may ask for, or one more.
 fn some_count(random: &mut Random) -> u64 {
     match random.below(16) {
-        0 => 4_096,
-        1 => GREATEST_READ,
-        2 => GREATEST_READ + 1,
+        0..=1 => 4_096,
+        2..=5 => GREATEST_READ,
+        6 => GREATEST_READ + 1,
         _ => random.below(9) as u64,
     }
 }
@@ -89,25 +90,26 @@ fn some_bytes(alloc: Global, random: &mut Random) -> Result<String, Fail> {
 /// A line that makes directories, takes them out or asks for what stands.
 fn directory_line(alloc: Global, random: &mut Random) -> Result<String, Fail> {
     let path = some_path(alloc, random)?;
-    let word = match random.below(8) {
-        0..=2 => "mkdir",
-        3..=4 => "rmdir",
-        5 => "stat",
-        _ => "readdir",
+    let word = match random.below(32) {
+        0..=13 => "mkdir",
+        14..=19 => "rmdir",
+        20..=23 => "stat",
+        24..=30 => "readdir",
+        _ => "rmtree",
     };
     Ok(format!(in alloc; "{word} {path}")?)
 }
 
 /// A line that writes to a file.
 fn write_line(alloc: Global, random: &mut Random, path: &str) -> Result<String, Fail> {
-    let place = some_place(random);
+    let place = some_place(random, 3);
     let bytes = some_bytes(alloc, random)?;
     Ok(format!(in alloc; "write {path} {place} {bytes}")?)
 }
 
 /// A line that asks for a file's bytes.
 fn read_line(alloc: Global, random: &mut Random, path: &str) -> Result<String, Fail> {
-    let place = some_place(random);
+    let place = some_place(random, 3);
     let count = some_count(random);
     Ok(format!(in alloc; "read {path} {place} {count}")?)
 }
@@ -124,7 +126,7 @@ fn file_line(alloc: Global, random: &mut Random) -> Result<String, Fail> {
         3..=4 => Ok(format!(in alloc; "unlink {path}")?),
         5 => Ok(format!(in alloc; "stat {path}")?),
         6..=8 => {
-            let length = some_place(random);
+            let length = some_place(random, 8);
             Ok(format!(in alloc; "truncate {path} {length}")?)
         }
         9..=14 => write_line(alloc, random, path.as_str()),
