@@ -2,10 +2,11 @@
 ghost use Rattle.std.specs.Prelude.{◌≡◌, ◌≢◌, ◌+◌, ◌-◌, ◌*◌, ◌≤◌, ◌<◌, ◌^◌, [], IfOk, OnOk, IsTrue, Option, Some, None, List, ℕ, length, take, drop, slice_index};
 ghost use Rattle.block_index.specs.Changed.{Changes, CutsWhereMeant, cuts, patch_of, patches};
 ghost use Rattle.node.specs.Shapes.{is_shape};
-ghost use Rattle.pathkey.specs.Keys.{Key as KeyBytes};
+ghost use Rattle.pathkey.specs.Keys.{Key as KeyBytes, next_key, subtree};
 ghost use Rattle.reference.specs.Indexes.{BlocksMean, held, patched};
 ghost use Rattle.reference.specs.Looks.{look, Bytes as Contents};
 ghost use Rattle.reference.specs.Tree.{Tree as DirectoryTree};
+ghost use Rattle.scan.specs.Pairs.{IsScan};
 
 use crate::block::{BLOCK, Block};
 use crate::patch::Patch;
@@ -14,7 +15,8 @@ use bytes::Bytes;
 use lookup::get;
 use message::Msg;
 use node::{Shape, Tree};
-use pathkey::{NoMemory, Path, block_key, blocks_from};
+use pathkey::{Key, NoMemory, Path, block_key, blocks_from, subtree};
+use scan::scan;
 use std::alloc::Global;
 
 /// The blocks of each file, under their keys.
@@ -121,6 +123,37 @@ impl BlockIndex {
         msgs.push(Msg::Edit(key, BlockUpdate::CutTo(rest as u16)))?;
         msgs.push(Msg::DelRange(blocks_from(alloc, path, index + 1)?))?;
         Ok(msgs)
+    }
+
+    /// The first `limit` pairs of the path's subtree, the blocks of all files at or below it, in key order, or all where
+    /// there are fewer. Each block is one more owner of its bytes. It fails only for want of memory.
+    pub fn below(
+        &self,
+        alloc: Global,
+        path: &Path,
+        limit: usize,
+    ) -> Result<Vec<(Key, Block)>, NoMemory>
+        ensures { IfOk result (λ v. IsScan (blocks self.now) (subtree path.now).lo (subtree path.now).hi limit v.items) }
+    {
+        scan(alloc, &self.tree, &subtree(alloc, path)?, limit)
+    }
+
+    /// The first `limit` pairs behind a key, up to the end of the path's subtree, in key order, or all where there are
+    /// fewer. It fails only for want of memory.
+    ///
+    /// Behind the last key of `below`, or of such a piece, stands the subtree's next piece.
+    pub fn below_behind(
+        &self,
+        alloc: Global,
+        path: &Path,
+        key: &Key,
+        limit: usize,
+    ) -> Result<Vec<(Key, Block)>, NoMemory>
+        ensures { IfOk result (λ v. IsScan (blocks self.now) (next_key key.now) (subtree path.now).hi limit v.items) }
+    {
+        let mut rest = subtree(alloc, path)?;
+        rest.lo = key.next(alloc)?;
+        scan(alloc, &self.tree, &rest, limit)
     }
 }
 

@@ -2,7 +2,7 @@
 ghost use Rattle.std.specs.Prelude.{◌≡◌, IfOk, IsTrue, None, not};
 ghost use Rattle.meta_index.specs.Means.{IsMeantBy, metadata, told};
 ghost use Rattle.node.specs.Shapes.{is_shape};
-ghost use Rattle.pathkey.specs.Keys.{subtree};
+ghost use Rattle.pathkey.specs.Keys.{next_key, subtree};
 ghost use Rattle.reference.specs.Calls.{is_found, is_full, names_of, parent_fault};
 ghost use Rattle.reference.specs.Looks.{look};
 ghost use Rattle.reference.specs.Pairs.{pairs_of};
@@ -124,5 +124,23 @@ impl MetaIndex {
         ensures { IfOk result (λ v. IsScan (metadata self.now) (subtree path.now).lo (subtree path.now).hi limit v.items) }
     {
         scan(alloc, &self.tree, &subtree(alloc, path)?, limit)
+    }
+
+    /// The first `limit` pairs behind a key, up to the end of the path's subtree, in key order, or all where there are
+    /// fewer. It fails only for want of memory.
+    ///
+    /// Behind the last key of `below`, or of such a piece, stands the subtree's next piece.
+    pub fn below_behind(
+        &self,
+        alloc: Global,
+        path: &Path,
+        key: &Key,
+        limit: usize,
+    ) -> Result<Vec<(Key, Meta)>, NoMemory>
+        ensures { IfOk result (λ v. IsScan (metadata self.now) (next_key key.now) (subtree path.now).hi limit v.items) }
+    {
+        let mut rest = subtree(alloc, path)?;
+        rest.lo = key.next(alloc)?;
+        scan(alloc, &self.tree, &rest, limit)
     }
 }

@@ -7,3 +7,4 @@ pub mod SlotRange
 pub mod Searching
 pub mod LeafFirst
 pub mod Parts
+pub mod Pieces

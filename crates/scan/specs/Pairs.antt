@@ -1,5 +1,5 @@
 -- What the searches of a range of keys find. f is any function from keys to values, as what a tree means at each key.
-use Rattle.std.specs.Prelude.{◌≡◌, ℕ, ◌≤◌, ◌⊎◌, true, List, Option, Some, None, length, All, AllPairs, Contains}
+use Rattle.std.specs.Prelude.{◌≡◌, ℕ, ◌≤◌, ◌⊎◌, true, List, [], ◌∷◌, ◌++◌, Option, Some, None, length, All, AllPairs, Contains}
 use Rattle.message.specs.Ranges.{within, before}
 
 module _ {V : Type 0} where
@@ -23,3 +23,11 @@ module _ {V : Type 0} where
     pub sound : All (λ p. (within lo hi p.0 ≡ true) × (f p.0 ≡ Some p.1)) ps
     pub rising : IsRising ps
     pub complete : (k : List ℕ) (v : V) → within lo hi k ≡ true → f k ≡ Some v → Contains ps (k, v) ⊎ ((length ps ≡ limit) × All (λ p. before p.0 k ≡ true) ps)
+
+  -- the last of the pairs has the key k
+  abbrev pub EndsAt : List (List ℕ × V) → List ℕ → Type 0
+  EndsAt ps k = (front : List (List ℕ × V)) × (v : V) × (ps ≡ front ++ (k, v) ∷ [])
+
+  -- no pair that f has from lo up to and without hi is missing
+  abbrev pub HasAll : (List ℕ → Option V) → List ℕ → Option (List ℕ) → List (List ℕ × V) → Type 0
+  HasAll f lo hi ps = (k : List ℕ) (v : V) → within lo hi k ≡ true → f k ≡ Some v → Contains ps (k, v)

@@ -15,6 +15,7 @@ use node::Tree;
 use pathkey::{Key, KeyRange, NoMemory};
 use std::alloc::Global;
 
+pub mod laws;
 mod leaf;
 mod search;
 mod slot;
