@@ -1,15 +1,13 @@
-//! Samples that the tests of several crates share: updates, messages in plain numbers, a plain row under the same
+//! Samples that the tests of several crates share: an update, messages in plain numbers, a plain row under the same
 //! messages, and numbers that look random.
 #![tactic(auto)]
 
 pub mod digit;
-pub mod no_update;
 pub mod plain;
 pub mod random;
 pub mod row;
 
 pub use digit::Digit;
-pub use no_update::NoUpdate;
 pub use plain::{Plain, batch, key, number, numbers, range};
 pub use random::Random;
 pub use row::Row;
