@@ -15,6 +15,3 @@ pub use block::{BLOCK, Block};
 pub use index::BlockIndex;
 pub use patch::Patch;
 pub use update::BlockUpdate;
-
-#[cfg(test)]
-mod tests;

@@ -6,7 +6,11 @@
 #[cfg(test)]
 mod ask;
 #[cfg(test)]
+mod blocks;
+#[cfg(test)]
 mod compiled;
+#[cfg(test)]
+mod metadata;
 #[cfg(test)]
 mod plain;
 #[cfg(test)]

@@ -15,6 +15,3 @@ pub use at::At;
 pub use index::MetaIndex;
 pub use reference::{Kind, Meta};
 pub use update::MetaUpdate;
-
-#[cfg(test)]
-mod tests;

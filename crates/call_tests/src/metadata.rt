@@ -1,9 +1,10 @@
 //! What an index answers, by rows of paths, beside the directory tree that the rows name.
 
-use super::*;
+use crate::ask::path;
 use message::Msg;
+use meta_index::{At, Kind, Meta, MetaIndex, MetaUpdate};
 use node::{Shape, Tree};
-use pathkey::{Errno, Path};
+use pathkey::{Errno, Key};
 use std::alloc::Global;
 use std::process::Abort;
 use std::test::Fail;
@@ -19,13 +20,8 @@ fn file(len: u64) -> Meta {
     Meta::File { len }
 }
 
-/// The path of a text. It ensures nothing, so that no proof of a test reads what a text parses as.
-fn path(alloc: Global, text: &[u8]) -> Result<Path, Errno> {
-    Path::parse(alloc, text)
-}
-
 /// Puts an entry at a path.
-fn put(alloc: Global, index: &mut MetaIndex, text: &[u8], meta: Meta) -> Result<(), Fail> {
+fn put(alloc: Global, index: &mut MetaIndex, text: &str, meta: Meta) -> Result<(), Fail> {
     let mut msgs = Vec::new(alloc);
     msgs.push(Msg::Put(path(alloc, text)?.key().copy(alloc)?, meta))?;
     index.tree.append(alloc, msgs)?;
@@ -33,7 +29,7 @@ fn put(alloc: Global, index: &mut MetaIndex, text: &[u8], meta: Meta) -> Result<
 }
 
 /// Changes the entry at a path.
-fn edit(alloc: Global, index: &mut MetaIndex, text: &[u8], update: MetaUpdate) -> Result<(), Fail> {
+fn edit(alloc: Global, index: &mut MetaIndex, text: &str, update: MetaUpdate) -> Result<(), Fail> {
     let mut msgs = Vec::new(alloc);
     msgs.push(Msg::Edit(path(alloc, text)?.key().copy(alloc)?, update))?;
     index.tree.append(alloc, msgs)?;
@@ -46,14 +42,14 @@ fn sample(alloc: Global) -> Result<MetaIndex, Fail> {
         tree: Tree::new(alloc, SHAPE)?,
     };
     for (text, meta) in [
-        (b"/".as_slice(), Meta::Dir),
-        (b"/f", file(5)),
-        (b"/b", Meta::Dir),
-        (b"/a", Meta::Dir),
-        (b"/a/x", file(0)),
-        (b"/a/d", Meta::Dir),
-        (b"/a/d/y", file(9)),
-        (b"/a-b", file(1)),
+        ("/", Meta::Dir),
+        ("/f", file(5)),
+        ("/b", Meta::Dir),
+        ("/a", Meta::Dir),
+        ("/a/x", file(0)),
+        ("/a/d", Meta::Dir),
+        ("/a/d/y", file(9)),
+        ("/a-b", file(1)),
     ] {
         put(alloc, &mut index, text, meta)?;
     }
@@ -65,15 +61,15 @@ fn an_entry_is_found_missing_or_blocked(rt: HostRuntime) -> Result<(), Fail> {
     let alloc = rt.alloc();
     let index = sample(alloc)?;
     for (text, wanted) in [
-        (b"/".as_slice(), At::Found(Meta::Dir)),
-        (b"/f", At::Found(file(5))),
-        (b"/a/d", At::Found(Meta::Dir)),
-        (b"/a/d/y", At::Found(file(9))),
-        (b"/c", At::Missing),
-        (b"/c/d/e", At::Missing),
-        (b"/a/d/z", At::Missing),
-        (b"/f/g", At::Blocked),
-        (b"/a/x/y/z", At::Blocked),
+        ("/", At::Found(Meta::Dir)),
+        ("/f", At::Found(file(5))),
+        ("/a/d", At::Found(Meta::Dir)),
+        ("/a/d/y", At::Found(file(9))),
+        ("/c", At::Missing),
+        ("/c/d/e", At::Missing),
+        ("/a/d/z", At::Missing),
+        ("/f/g", At::Blocked),
+        ("/a/x/y/z", At::Blocked),
     ] {
         assert_eq!(rt; index.find(alloc, &path(alloc, text)?)?, wanted);
     }
@@ -85,14 +81,14 @@ fn a_new_entry_wants_a_directory_above(rt: HostRuntime) -> Result<(), Fail> {
     let alloc = rt.alloc();
     let index = sample(alloc)?;
     for (text, wanted) in [
-        (b"/".as_slice(), None),
-        (b"/c", None),
-        (b"/a/d/z", None),
-        (b"/a/x", None),
-        (b"/c/d", Some(Errno::ENOENT)),
-        (b"/a/c/d/e", Some(Errno::ENOENT)),
-        (b"/f/g", Some(Errno::ENOTDIR)),
-        (b"/a/x/y/z", Some(Errno::ENOTDIR)),
+        ("/", None),
+        ("/c", None),
+        ("/a/d/z", None),
+        ("/a/x", None),
+        ("/c/d", Some(Errno::ENOENT)),
+        ("/a/c/d/e", Some(Errno::ENOENT)),
+        ("/f/g", Some(Errno::ENOTDIR)),
+        ("/a/x/y/z", Some(Errno::ENOTDIR)),
     ] {
         assert_eq!(rt; index.fault_of_parent(alloc, &path(alloc, text)?)?, wanted);
     }
@@ -103,23 +99,23 @@ fn a_new_entry_wants_a_directory_above(rt: HostRuntime) -> Result<(), Fail> {
 fn lengths_are_set_and_raised(rt: HostRuntime) -> Result<(), Fail> {
     let alloc = rt.alloc();
     let mut index = sample(alloc)?;
-    let at = path(alloc, b"/f")?;
+    let at = path(alloc, "/f")?;
     for (update, wanted) in [
         (MetaUpdate::Grow(3), 5),
         (MetaUpdate::Grow(7), 7),
         (MetaUpdate::SetLen(2), 2),
         (MetaUpdate::Grow(4), 4),
     ] {
-        edit(alloc, &mut index, b"/f", update)?;
+        edit(alloc, &mut index, "/f", update)?;
         assert_eq!(rt; index.find(alloc, &at)?, At::Found(file(wanted)));
     }
-    edit(alloc, &mut index, b"/b", MetaUpdate::SetLen(2))?;
+    edit(alloc, &mut index, "/b", MetaUpdate::SetLen(2))?;
     assert_eq!(rt;
-        index.find(alloc, &path(alloc, b"/b")?)?,
+        index.find(alloc, &path(alloc, "/b")?)?,
         At::Found(Meta::Dir)
     );
-    edit(alloc, &mut index, b"/c", MetaUpdate::Grow(2))?;
-    assert_eq!(rt; index.find(alloc, &path(alloc, b"/c")?)?, At::Missing);
+    edit(alloc, &mut index, "/c", MetaUpdate::Grow(2))?;
+    assert_eq!(rt; index.find(alloc, &path(alloc, "/c")?)?, At::Missing);
     Ok(())
 }
 
@@ -139,12 +135,12 @@ fn a_directory_is_empty_where_nothing_lies_below(rt: HostRuntime) -> Result<(), 
     let alloc = rt.alloc();
     let index = sample(alloc)?;
     for (text, wanted) in [
-        (b"/".as_slice(), false),
-        (b"/a", false),
-        (b"/a/d", false),
-        (b"/b", true),
-        (b"/f", true),
-        (b"/c", true),
+        ("/", false),
+        ("/a", false),
+        ("/a/d", false),
+        ("/b", true),
+        ("/f", true),
+        ("/c", true),
     ] {
         assert_eq!(rt; index.is_empty_dir(alloc, &path(alloc, text)?)?, wanted);
     }
@@ -156,7 +152,7 @@ fn lists(
     rt: &impl Abort,
     alloc: Global,
     index: &MetaIndex,
-    text: &[u8],
+    text: &str,
     wanted: &[(Kind, &[u8])],
 ) -> Result<(), Fail> {
     let entries = index.children(alloc, &path(alloc, text)?)?;
@@ -176,7 +172,7 @@ fn a_directory_lists_its_own_entries_in_order(rt: HostRuntime) -> Result<(), Fai
     let index = sample(alloc)?;
     for (text, wanted) in [
         (
-            b"/".as_slice(),
+            "/",
             [
                 (Kind::Dir, b"a".as_slice()),
                 (Kind::File, b"a-b"),
@@ -185,13 +181,27 @@ fn a_directory_lists_its_own_entries_in_order(rt: HostRuntime) -> Result<(), Fai
             ]
             .as_slice(),
         ),
-        (b"/a", &[(Kind::Dir, b"d"), (Kind::File, b"x")]),
-        (b"/a/d", &[(Kind::File, b"y")]),
-        (b"/b", &[]),
-        (b"/f", &[]),
-        (b"/c", &[]),
+        ("/a", &[(Kind::Dir, b"d"), (Kind::File, b"x")]),
+        ("/a/d", &[(Kind::File, b"y")]),
+        ("/b", &[]),
+        ("/f", &[]),
+        ("/c", &[]),
     ] {
         lists(&rt, alloc, &index, text, wanted)?;
+    }
+    Ok(())
+}
+
+/// Compares the keys of pairs with those of the wanted paths.
+fn has_keys(
+    rt: &impl Abort,
+    alloc: Global,
+    pairs: &[(Key, Meta)],
+    wanted: &[&str],
+) -> Result<(), Fail> {
+    assert_eq!(rt; pairs.len(), wanted.len());
+    for (pair, text) in pairs.iter().zip(wanted) {
+        assert!(rt; pair.0 == *path(alloc, text)?.key(), "{text:?}");
     }
     Ok(())
 }
@@ -200,15 +210,31 @@ fn a_directory_lists_its_own_entries_in_order(rt: HostRuntime) -> Result<(), Fai
 fn the_pairs_of_a_subtree_stand_in_the_order_of_their_keys(rt: HostRuntime) -> Result<(), Fail> {
     let alloc = rt.alloc();
     let index = sample(alloc)?;
-    let at = path(alloc, b"/a")?;
-    let wanted: [&[u8]; 4] = [b"/a", b"/a/d", b"/a/d/y", b"/a/x"];
+    let at = path(alloc, "/a")?;
+    let wanted = ["/a", "/a/d", "/a/d/y", "/a/x"];
     for (limit, count) in [(0, 0), (1, 1), (3, 3), (9, 4), (usize::MAX, 4)] {
         let pairs = index.below(alloc, &at, limit)?;
-        assert_eq!(rt; pairs.len(), count);
-        for (pair, text) in pairs.as_slice().iter().zip(wanted) {
-            let own = path(alloc, text)?;
-            assert!(rt; &pair.0 == own.key(), "at most {limit}");
-        }
+        has_keys(&rt, alloc, pairs.as_slice(), &wanted[..count])?;
+    }
+    Ok(())
+}
+
+#[test]
+fn a_subtree_goes_on_behind_each_of_its_keys(rt: HostRuntime) -> Result<(), Fail> {
+    let alloc = rt.alloc();
+    let index = sample(alloc)?;
+    let at = path(alloc, "/a")?;
+    for (behind, limit, wanted) in [
+        ("/a", 2, ["/a/d", "/a/d/y"].as_slice()),
+        ("/a/d", 9, &["/a/d/y", "/a/x"]),
+        ("/a/d/x", 1, &["/a/d/y"]),
+        ("/a/d/y", usize::MAX, &["/a/x"]),
+        ("/a/x", 9, &[]),
+        ("/a", 0, &[]),
+    ] {
+        let from = path(alloc, behind)?;
+        let pairs = index.below_behind(alloc, &at, from.key(), limit)?;
+        has_keys(&rt, alloc, pairs.as_slice(), wanted)?;
     }
     Ok(())
 }

@@ -1,10 +1,11 @@
 //! Updates of single blocks, and a file's bytes through an index, in tables with the values written out.
 
-use super::*;
+use crate::ask::path;
+use block_index::{Block, BlockIndex, BlockUpdate, Patch};
 use bytes::Bytes;
 use message::Update;
 use node::Shape;
-use pathkey::{Errno, Path};
+use pathkey::{Key, Path, block_key};
 use std::alloc::Global;
 use std::process::Abort;
 use std::test::Fail;
@@ -142,14 +143,9 @@ enum Ask {
     Read(u64, u64, u64, &'static [u8]),
 }
 
-/// The path of the file. It ensures nothing, so that no proof of a test reads what a text parses as.
-fn path(alloc: Global) -> Result<Path, Errno> {
-    Path::parse(alloc, b"/f")
-}
-
 /// Whether what is asked comes out as it should. What is sent is appended.
 fn is_answered(alloc: Global, index: &mut BlockIndex, ask: Ask) -> Result<bool, Fail> {
-    let file = path(alloc)?;
+    let file = path(alloc, "/f")?;
     if file.is_root() {
         return Ok(false);
     }
@@ -193,6 +189,57 @@ fn bytes_are_read_as_they_were_written_and_cut(rt: HostRuntime) -> Result<(), Fa
         Ask::Read(last, 2, last + 1, b"z"),
     ] {
         assert!(rt; is_answered(alloc, &mut index, ask)?, "{ask:?}");
+    }
+    Ok(())
+}
+
+/// Writes a byte at an offset of a file.
+fn put(alloc: Global, index: &mut BlockIndex, text: &str, block: u32) -> Result<(), Fail> {
+    let file = path(alloc, text)?;
+    if file.is_root() {
+        return Err(Fail::new("the root is no file"));
+    }
+    let one = Bytes::copy_from_slice(alloc, b"x")?;
+    if one.len() != 1 {
+        return Err(Fail::new("one byte"));
+    }
+    let msgs = index.write_msgs(alloc, &file, 4096 * block as u64, &one)?;
+    index.tree.append(alloc, msgs)?;
+    Ok(())
+}
+
+/// Whether this is the key of the block of a file.
+fn is_block(alloc: Global, key: &Key, text: &str, block: u32) -> Result<bool, Fail> {
+    let file = path(alloc, text)?;
+    if file.is_root() || block >= 268_435_456 {
+        return Ok(false);
+    }
+    Ok(*key == block_key(alloc, &file, block)?)
+}
+
+#[test]
+fn the_blocks_of_a_subtree_go_on_behind_each_of_their_keys(rt: HostRuntime) -> Result<(), Fail> {
+    let alloc = rt.alloc();
+    let mut index = BlockIndex::new(alloc, SHAPE)?;
+    for (text, block) in [
+        ("/ab", 0),
+        ("/a/g", 0),
+        ("/a/f", 1),
+        ("/a-b", 0),
+        ("/a/f", 0),
+    ] {
+        put(alloc, &mut index, text, block)?;
+    }
+    let above = path(alloc, "/a")?;
+    for limit in [1, 2, 3, usize::MAX] {
+        let mut pairs = index.below(alloc, &above, limit)?;
+        for (text, block) in [("/a/f", 0), ("/a/f", 1), ("/a/g", 0)] {
+            let (key, value) = pairs.first().ok_or("a block")?;
+            assert!(rt; is_block(alloc, key, text, block)?, "{text:?} {block}");
+            assert_eq!(rt; value.as_slice(), b"x".as_slice());
+            pairs = index.below_behind(alloc, &above, &key.copy(alloc)?, limit)?;
+        }
+        assert!(rt; pairs.is_empty());
     }
     Ok(())
 }
