@@ -65,9 +65,9 @@ fn follow(rt: &impl Abort, alloc: Global, rows: &[Row]) -> Result<(), Fail> {
     follow_in(rt, alloc, &mut tree, rows)
 }
 
-/// Takes two slots over leaves, of 1, 2 and of 5, 6, 7, through the rows: the fifth key has cut the full leaf.
-fn follow_two_leaves(rt: &impl Abort, alloc: Global, rows: &[Row]) -> Result<(), Fail> {
-    let before = [
+/// A tree with two slots over leaves, of 1, 2 and of 5, 6, 7: the fifth key has cut the full leaf.
+fn two_leaves(rt: &impl Abort, alloc: Global) -> Result<Tree<Digit>, Fail> {
+    let rows = [
         (
             Turn::Append(&[
                 Plain::Put(7, 0),
@@ -92,7 +92,13 @@ fn follow_two_leaves(rt: &impl Abort, alloc: Global, rows: &[Row]) -> Result<(),
         ),
     ];
     let mut tree = Tree::new(alloc, SMALL)?;
-    follow_in(rt, alloc, &mut tree, &before)?;
+    follow_in(rt, alloc, &mut tree, &rows)?;
+    Ok(tree)
+}
+
+/// Takes these two leaves through the rows.
+fn follow_two_leaves(rt: &impl Abort, alloc: Global, rows: &[Row]) -> Result<(), Fail> {
+    let mut tree = two_leaves(rt, alloc)?;
     follow_in(rt, alloc, &mut tree, rows)
 }
 
@@ -241,6 +247,55 @@ fn only_the_range_delete_stands_on_both_sides_of_a_split(rt: HostRuntime) -> Res
         ),
     ];
     follow_two_leaves(&rt, rt.alloc(), &rows)
+}
+
+#[test]
+fn five_messages_are_too_many_for_one_node(rt: HostRuntime) -> Result<(), Fail> {
+    let rows = [
+        (
+            Turn::Step(StepKind::RootUp, 0, StepReply::Did(0)),
+            [2, 3, 0, 5],
+        ),
+        (
+            Turn::Step(StepKind::SplitInner, 0, StepReply::Did(0)),
+            [2, 4, 0, 5],
+        ),
+        (Turn::Append(ACROSS), [2, 4, 4, 5]),
+        (
+            Turn::Step(StepKind::FlushInner, 0, StepReply::Did(2)),
+            [2, 4, 4, 5],
+        ),
+        (
+            Turn::Step(StepKind::FlushInner, 1, StepReply::Did(2)),
+            [2, 4, 4, 5],
+        ),
+        (Turn::Append(&[Plain::Put(9, 3)]), [2, 4, 5, 5]),
+        (
+            Turn::Step(StepKind::FlushInner, 1, StepReply::Did(1)),
+            [2, 4, 5, 5],
+        ),
+        (
+            Turn::Step(StepKind::MergeInner, 0, StepReply::NoRoom),
+            [2, 4, 5, 5],
+        ),
+    ];
+    follow_two_leaves(&rt, rt.alloc(), &rows)
+}
+
+#[test]
+fn a_tree_has_at_most_sixteen_levels(rt: HostRuntime) -> Result<(), Fail> {
+    let alloc = rt.alloc();
+    let mut tree = two_leaves(&rt, alloc)?;
+    for levels in 2..17 {
+        for kind in [StepKind::RootUp, StepKind::SplitInner] {
+            let turn = Turn::Step(kind, 0, StepReply::Did(0));
+            assert!(rt; is_answered(alloc, &mut tree, turn)?, "{turn:?} {levels}");
+        }
+        assert_eq!(rt; tree.shape_report().levels, levels);
+    }
+    let turn = Turn::Step(StepKind::RootUp, 0, StepReply::NoRoom);
+    assert!(rt; is_answered(alloc, &mut tree, turn)?);
+    Ok(())
 }
 
 #[test]
