@@ -48,6 +48,21 @@ impl Course {
     }
 }
 
+/// The call that a line asks for, if it asks for one. It ensures nothing, so that no proof of a test reads what a line means.
+fn call_of(alloc: Global, line: &[u8]) -> Option<Call> {
+    match read_request(alloc, line) {
+        Request::Wanted(call) => Some(call),
+        _ => None,
+    }
+}
+
+/// The text of a reply.
+fn text_of(alloc: Global, reply: &Reply) -> Result<Vec<u8>, Fail> {
+    let mut text = Vec::new(alloc);
+    write_reply(&mut text, reply)?;
+    Ok(text)
+}
+
 /// Indexes on which a script runs, and the plain program under the same calls.
 #[derive(Drop)]
 struct Both {
@@ -81,26 +96,42 @@ impl Both {
         }
     }
 
-    /// Does a line in both, and counts what came of it; whether the script's text is that of the plain program's reply.
+    /// What the indexes answer to a line.
+    fn script_text(&mut self, alloc: Global, line: &[u8]) -> Result<Vec<u8>, Fail> {
+        let mut text = line;
+        let mut got = Vec::new(alloc);
+        run_script(alloc, &mut self.indexes, &mut text, &mut got)?;
+        Ok(got)
+    }
+
+    /// What the plain program replies to a call. What came of it is counted.
+    fn plain_reply(
+        &mut self,
+        alloc: Global,
+        call: &Call,
+        counts: &mut Counts,
+    ) -> Result<Reply, Fail> {
+        let length = self.length(call);
+        let reply = self.plain.call(alloc, call)?;
+        if let Some(outcome) = Outcome::of(call, length, &reply) {
+            counts.count(outcome);
+        }
+        Ok(reply)
+    }
+
+    /// Does a line in both; whether the script's text is that of the plain program's reply.
     fn answers_alike(
         &mut self,
         alloc: Global,
         line: &[u8],
         counts: &mut Counts,
     ) -> Result<bool, Fail> {
-        let Request::Wanted(call) = read_request(alloc, line) else {
+        let Some(call) = call_of(alloc, line) else {
             return Ok(false);
         };
-        let mut text = line;
-        let mut got = Vec::new(alloc);
-        run_script(alloc, &mut self.indexes, &mut text, &mut got)?;
-        let length = self.length(&call);
-        let reply = self.plain.call(alloc, &call)?;
-        if let Some(outcome) = Outcome::of(&call, length, &reply) {
-            counts.count(outcome);
-        }
-        let mut want = Vec::new(alloc);
-        write_reply(&mut want, &reply)?;
+        let got = self.script_text(alloc, line)?;
+        let reply = self.plain_reply(alloc, &call, counts)?;
+        let want = text_of(alloc, &reply)?;
         Ok(got.as_slice() == want.as_slice())
     }
 
