@@ -163,19 +163,10 @@ fn a_full_node_has_no_room_for_a_cut(rt: HostRuntime) -> Result<(), Fail> {
     let mut replies = Vec::new(alloc);
     for at in 1..12 {
         tree.append(alloc, batch(alloc, &[Plain::Put(at, 0)])?)?;
-        let slots = tree.shape_report().slots;
-        let last = if slots > 3 { 3 } else { slots as u8 - 1 };
+        let slot = tree.shape_report().slots.saturating_sub(1).min(3) as u8;
         let at = Place::root();
         let kind = StepKind::FlushLeaf;
-        replies.push(do_step(
-            alloc,
-            &mut tree,
-            TreeStep {
-                kind,
-                at,
-                slot: last,
-            },
-        ))?;
+        replies.push(do_step(alloc, &mut tree, TreeStep { kind, at, slot }))?;
     }
     let (last, before) = replies.as_slice().split_last().ok_or("eleven steps")?;
     assert!(rt; before.iter().all(|reply| *reply == StepReply::Did(1)));

@@ -4,7 +4,7 @@ use Rattle.node.specs.declared.node.Slot.{Slot}
 use Rattle.node.specs.See.{seen_slots}
 use Rattle.node.specs.Lawful.{next_lo}
 use Rattle.node.specs.Pure.{PNode, inner, PSlots, more}
-use Rattle.node.specs.Site.{slots_at, end_at, end_of, of_child, slots_from}
+use Rattle.node.specs.Site.{slots_at, end_at, end_of, slots_from}
 use Rattle.node.proofs.At.{IsChild, IsChild-get, of_child-is, of_child-past}
 
 module _ {U V : Type 0} where

@@ -1,5 +1,5 @@
 -- The cases of each call: what holds of every refusal, and of what the call does where its table lets it, holds of its outcome.
-use Rattle.std.proofs.Common.{◌≡◌, ◌≢◌, ℕ, ◌+◌, List, [], ◌∷◌, length, take, drop, true, false, cond, not, ◌&&◌, refl, Option, Some, None}
+use Rattle.std.proofs.Common.{◌≡◌, ◌≢◌, ℕ, ◌+◌, List, [], length, take, drop, true, false, cond, not, ◌&&◌, refl, Some, None}
 use Rattle.std.specs.Prelude.{nat_lt}
 use Rattle.pathkey.specs.declared.errno.Errno.{Errno}
 use Rattle.pathkey.specs.declared.errno.Errno.TheVariants.{EISDIR, EEXIST, ENOTDIR, ENOTEMPTY, EPERM, EINVAL, ENAMETOOLONG, EFBIG, EBUSY}

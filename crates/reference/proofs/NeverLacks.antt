@@ -1,5 +1,5 @@
 -- The table of calls never answers want of memory.
-use Rattle.std.proofs.Common.{◌≡◌, ◌≢◌, List, [], ◌∷◌, Bool, true, false, cond, refl, sym, ap, ◌∙◌, Option, Some, None, length, ◌+◌, ℕ}
+use Rattle.std.proofs.Common.{◌≡◌, ◌≢◌, List, [], ◌∷◌, Bool, true, false, cond, refl, ap, Option, Some, None, length, ◌+◌}
 use Rattle.std.specs.Prelude.{not, ◌&&◌, nat_lt, take, drop}
 use Rattle.pathkey.specs.declared.errno.Errno.{Errno}
 use Rattle.pathkey.specs.declared.errno.Errno.TheVariants.{EISDIR, EEXIST, ENOTDIR, ENOTEMPTY, EPERM, EINVAL, ENAMETOOLONG, EFBIG, EBUSY, ENOMEM}
@@ -9,7 +9,7 @@ use Rattle.reference.specs.Worlds.{Replied, is_lack}
 use Rattle.reference.specs.declared.call.Call.{Call}
 use Rattle.reference.specs.declared.call.Call.TheVariants.{Mkdir, Create, Write, Truncate, Unlink, Rmdir, Rename, Rmtree, Read, Stat as AskStat, Readdir}
 use Rattle.reference.specs.declared.reply.Reply.{Reply}
-use Rattle.reference.specs.declared.reply.Reply.TheVariants.{Done, Count, Data, Stat, Names, Fault}
+use Rattle.reference.specs.declared.reply.Reply.TheVariants.{Done, Count, Data, Names, Fault}
 
 -- the fault, if there is one, is not want of memory
 abbrev IsOther : Option Errno → Type 0

@@ -13,8 +13,7 @@ use Rattle.message.specs.Effects.{effects, Takes}
 use Rattle.message.proofs.KeyOrder.{reaches-from_before, not_before_from_reaches, before_from_not_reaches, le_le, both as both_of}
 use Rattle.node.specs.declared.node.Slot.{Slot}
 use Rattle.node.specs.declared.shape.Shape.{Shape}
-use Rattle.node.specs.declared.step.StepReply.{StepReply}
-use Rattle.node.specs.declared.step.StepReply.TheVariants.{Did, NotThere, NoRoom, NoMemory}
+use Rattle.node.specs.declared.step.StepReply.TheVariants.{Did, NotThere}
 use Rattle.node.specs.declared.step.StepKind.{StepKind}
 use Rattle.node.specs.declared.step.StepKind.TheVariants.{MergeLeaves, MergeInner}
 use Rattle.node.specs.See.{see_slot, seen_slots}

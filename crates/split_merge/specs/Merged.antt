@@ -1,14 +1,11 @@
 -- Two slots made one.
-use Rattle.std.specs.Prelude.{◌≡◌, ℕ, ◌≤◌, ◌+◌, Bool, true, false, [], ◌++◌, length, Option}
+use Rattle.std.specs.Prelude.{◌≡◌, ℕ, Bool, true, false, ◌++◌, Option}
 use Rattle.message.specs.Effects.{Takes}
 use Rattle.node.specs.declared.node.Slot.{Slot}
 use Rattle.node.specs.declared.shape.Shape.{Shape}
 use Rattle.node.specs.declared.step.StepReply.{StepReply}
-use Rattle.node.specs.declared.step.StepReply.TheVariants.{Did, NotThere, NoRoom, NoMemory}
 use Rattle.node.specs.declared.step.StepKind.TheVariants.{MergeLeaves, MergeInner}
-use Rattle.node.specs.Pure.{PNode, PSlots, leaf, inner, none, more}
-use Rattle.node.specs.Lawful.{slot_count, pending}
-use Rattle.node.specs.StepRows.{AreTooMany}
+use Rattle.node.specs.Pure.{PNode, PSlots, leaf, inner}
 use Rattle.node.specs.Site.{joined}
 use Rattle.node.specs.Steps.{Replies}
 

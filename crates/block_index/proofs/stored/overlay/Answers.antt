@@ -1,4 +1,4 @@
-use Rattle.std.proofs.Common.{◌≡◌, ◌+◌, ◌-◌, ◌≤◌, ◌<◌, ◌++◌, ◌∙◌, arith, length, take, replicate, ap, ℕ, List, max, sym, subst}
+use Rattle.std.proofs.Common.{◌≡◌, ◌+◌, ◌-◌, ◌≤◌, ◌++◌, ◌∙◌, arith, length, take, replicate, ap, ℕ, List, max, sym, subst}
 use Rattle.std.specs.Global.{Vec}
 use Rattle.reference.specs.Tree.{over}
 use Rattle.reference.proofs.Contents.{length-over}

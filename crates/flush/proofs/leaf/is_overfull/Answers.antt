@@ -1,4 +1,4 @@
-use Rattle.std.proofs.Common.{sym, ◌∙◌, ◌≡◌, ◌≤◌, ◌<◌, length, arith, inl, inr}
+use Rattle.std.proofs.Common.{sym, ◌∙◌, ◌<◌, length, arith, inl, inr}
 use Rattle.flush.proofs.LeafFlush.{no_put, room_within, overfull_found, place_found}
 use Rattle.flush.proofs.leaf.is_overfull.Goals as goal
 

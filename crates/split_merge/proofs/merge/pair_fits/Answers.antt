@@ -1,4 +1,4 @@
-use Rattle.std.proofs.Common.{arith, ap, ◌≤◌, ◌<◌, length, suc, subst, sym, add-one, true, []}
+use Rattle.std.proofs.Common.{arith, ◌≤◌, ◌<◌, length, suc, subst, sym, add-one, true, []}
 use Rattle.node.specs.Pure.{more, none}
 use Rattle.node.specs.StepRows.{AreTooMany}
 use Rattle.split_merge.proofs.Mergeable.{last_few}

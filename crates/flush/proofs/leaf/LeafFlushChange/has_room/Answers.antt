@@ -1,4 +1,4 @@
-use Rattle.std.proofs.Common.{arith, ap, sym, ◌∙◌, ◌≡◌, ◌≤◌, ◌<◌, length, subst, []}
+use Rattle.std.proofs.Common.{arith, ap, sym, ◌∙◌, ◌≡◌, ◌<◌, length, subst}
 use Rattle.node.specs.Pure.{leaf, inner}
 use Rattle.node.specs.Searchable.{IsSearchable}
 use Rattle.node.specs.See.{see, seen_slots}

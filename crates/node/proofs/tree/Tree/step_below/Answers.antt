@@ -1,4 +1,4 @@
-use Rattle.std.proofs.Common.{◌≡◌, ap, sym, ◌∙◌, subst, None}
+use Rattle.std.proofs.Common.{sym, ◌∙◌, subst, None}
 use Rattle.node.specs.Site.{end_at, slots_at}
 use Rattle.node.specs.Searchable.{IsSearchable}
 use Rattle.node.specs.Steps.{Answers, At, IsAdmitted, Replies, is_top}
