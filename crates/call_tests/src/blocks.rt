@@ -193,11 +193,11 @@ fn bytes_are_read_as_they_were_written_and_cut(rt: HostRuntime) -> Result<(), Fa
     Ok(())
 }
 
-/// Writes a byte at an offset of a file.
+/// Writes a byte at the start of a block of a file.
 fn put(alloc: Global, index: &mut BlockIndex, text: &str, block: u32) -> Result<(), Fail> {
     let file = path(alloc, text)?;
-    if file.is_root() {
-        return Err(Fail::new("the root is no file"));
+    if file.is_root() || block >= 268_435_456 {
+        return Err(Fail::new("no block of a file"));
     }
     let one = Bytes::copy_from_slice(alloc, b"x")?;
     if one.len() != 1 {

@@ -277,12 +277,12 @@ fn five_messages_are_too_many_for_one_node(rt: HostRuntime) -> Result<(), Fail> 
 fn a_tree_has_at_most_sixteen_levels(rt: HostRuntime) -> Result<(), Fail> {
     let alloc = rt.alloc();
     let mut tree = two_leaves(&rt, alloc)?;
-    for levels in 2..17 {
+    for levels in 2u32..17 {
         for kind in [StepKind::RootUp, StepKind::SplitInner] {
             let turn = Turn::Step(kind, 0, StepReply::Did(0));
             assert!(rt; is_answered(alloc, &mut tree, turn)?, "{turn:?} {levels}");
         }
-        assert_eq!(rt; tree.shape_report().levels, levels);
+        assert_eq!(rt; tree.shape_report().levels, levels as u128);
     }
     let turn = Turn::Step(StepKind::RootUp, 0, StepReply::NoRoom);
     assert!(rt; is_answered(alloc, &mut tree, turn)?);
