@@ -15,7 +15,7 @@ use Rattle.call_compiler.specs.Compiled.{Messages, metadata_after, blocks_after,
 use Rattle.call_compiler.specs.Laws.{HaveTaken}
 
 -- blocks that agree at each key mean the same
-blocks_alike : (t : Tree) (d e : Blocks) → ((k : Key) → e k ≡ d k) → BlocksMean t d → BlocksMean t e
+pub blocks_alike : (t : Tree) (d e : Blocks) → ((k : Key) → e k ≡ d k) → BlocksMean t d → BlocksMean t e
 blocks_alike t d e alike old = record {
   blocks = λ p b u f. hold_alike (λ i. d (block_key p i)) (λ i. e (block_key p i)) b (λ i li. sym (alike (block_key p i))) (old.blocks p b u f);
   only_blocks = λ k v f. old.only_blocks k v (sym (alike k) ∙ f);

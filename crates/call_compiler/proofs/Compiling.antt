@@ -1,5 +1,5 @@
 -- From the reply of the table of calls, and what the messages mean, to what a call is compiled to.
-use Rattle.std.proofs.Common.{◌≡◌, ℕ, List, true, refl, sym, ap, ◌∙◌, subst, arith, inl}
+use Rattle.std.proofs.Common.{◌≡◌, ℕ, List, refl, sym, ap, ◌∙◌, subst, arith, inl}
 use Rattle.std.specs.Prelude.{Result, Ok, Err, IfOk}
 use Rattle.block_index.specs.Means.{blocks}
 use Rattle.block_index.specs.declared.update.BlockUpdate.{BlockUpdate}
@@ -17,7 +17,7 @@ use Rattle.reference.specs.declared.reply.Reply.{Reply}
 use Rattle.reference.specs.declared.reply.Reply.TheVariants.{Fault}
 use Rattle.reference.proofs.CallTrees.{fault_law}
 use Rattle.call_compiler.specs.declared.indexes.Indexes.{Indexes}
-use Rattle.call_compiler.specs.Compiled.{Messages, no_messages, metadata_after, blocks_after, MeanTree, is_compiled, Sends, IsCompiled}
+use Rattle.call_compiler.specs.Compiled.{Messages, no_messages, metadata_after, blocks_after, MeanTree, Sends, IsCompiled}
 
 -- two clauses on the value of a result as one
 pub if_ok_both : {X Y : Type 0} (r : Result X Y) (P Q R : X → Type 0) → ((x : X) → P x → Q x → R x) → IfOk r P → IfOk r Q → IfOk r R
@@ -29,31 +29,31 @@ pub meta_meant : (i : Indexes) (t : Tree) → MeanTree i t → IsMeantBy t i.met
 meta_meant i t means = record { tree = means.tree; meta = means.meta }
 
 -- every call may send nothing
-nothing_sent : (i : Indexes) (call : Call) → is_compiled call ≡ true → Sends i call no_messages
-nothing_sent i (Mkdir p) h = omega arith
-nothing_sent i (Create p) h = omega arith
-nothing_sent i (Write p off w) h = inl refl
-nothing_sent i (Truncate p n) h = (omega arith, λ t means short. omega arith)
-nothing_sent i (Unlink p) h = omega arith
-nothing_sent i (Rmdir p) h = omega arith
-nothing_sent i (Rename o n) h = absurd (cc)
-nothing_sent i (Rmtree p) h = omega arith
-nothing_sent i (Read p off n) h = refl
-nothing_sent i (AskStat p) h = refl
-nothing_sent i (Readdir p) h = refl
+nothing_sent : (i : Indexes) (call : Call) → Sends i call no_messages
+nothing_sent i (Mkdir p) = omega arith
+nothing_sent i (Create p) = omega arith
+nothing_sent i (Write p off w) = inl refl
+nothing_sent i (Truncate p n) = (omega arith, λ t means short. omega arith)
+nothing_sent i (Unlink p) = omega arith
+nothing_sent i (Rmdir p) = omega arith
+nothing_sent i (Rename o n) = inl refl
+nothing_sent i (Rmtree p) = omega arith
+nothing_sent i (Read p off n) = refl
+nothing_sent i (AskStat p) = refl
+nothing_sent i (Readdir p) = refl
 
 -- the indexes mean the tree t after messages
 abbrev pub After : Indexes → Messages → Tree → Type 0
 After i msgs t = IndexesMean t (metadata_after msgs (metadata i.meta)) (blocks_after msgs (blocks i.block))
 
-module _ (i : Indexes) (call : Call) (reply : Reply) (msgs : Messages) (is : is_compiled call ≡ true) where
+module _ (i : Indexes) (call : Call) (reply : Reply) (msgs : Messages) where
   -- a call that changes nothing and sends nothing
   pub compiled_kept : ((t : Tree) → MeanTree i t → reply ≡ (does t call).1) → ((t : Tree) → MeanTree i t → (does t call).0 ≡ t) → msgs ≡ no_messages → IsCompiled i call reply msgs
   compiled_kept replies keeps none = record {
     reply = replies;
     tree = λ t means. subst (λ (x : Messages). After i x (does t call).0) (sym none) (subst (λ (u : Tree). After i no_messages u) (sym (keeps t means)) means);
     fault = λ e h. none;
-    sends = subst (λ (x : Messages). Sends i call x) (sym none) (nothing_sent i call is);
+    sends = subst (λ (x : Messages). Sends i call x) (sym none) (nothing_sent i call);
   }
 
   -- a call that is refused

@@ -1,12 +1,12 @@
 -- The reply of a call whose first fault is known.
-use Rattle.std.proofs.Common.{◌≡◌, ℕ, ◌+◌, List, [], ◌∷◌, ◌++◌, length, Bool, true, false, cond, ap, ◌∙◌, Option, Some, None}
+use Rattle.std.proofs.Common.{◌≡◌, ℕ, ◌+◌, List, [], ◌∷◌, ◌++◌, length, Bool, true, false, cond, refl, ap, ◌∙◌, Option, Some, None}
 use Rattle.std.specs.Prelude.{nat_lt, not, ◌&&◌, take, drop}
 use Rattle.pathkey.specs.Names.{Path}
 use Rattle.pathkey.specs.declared.errno.Errno.{Errno}
-use Rattle.pathkey.specs.declared.errno.Errno.TheVariants.{EISDIR, EPERM, EINVAL, EFBIG}
+use Rattle.pathkey.specs.declared.errno.Errno.TheVariants.{EISDIR, EPERM, EINVAL, ENAMETOOLONG, EFBIG}
 use Rattle.reference.specs.Tree.{Tree, Dir, File, nothing, At, Found, entry_at, with_entry, without, over, sized}
-use Rattle.reference.specs.Calls.{Outcome, when, first_fault, unless, is_empty, bytes_of, greatest_file, greatest_read, faults_of_new, faults_of_file, faults_of_write, faults_of_truncate, faults_of_unlink, faults_of_rmdir, faults_of_rmtree, faults_of_read, does}
-use Rattle.reference.specs.declared.call.Call.TheVariants.{Mkdir, Create, Write, Truncate, Unlink, Rmdir, Rmtree, Read}
+use Rattle.reference.specs.Calls.{Outcome, when, first_fault, unless, is_empty, bytes_of, greatest_file, greatest_read, faults_of_new, faults_of_file, faults_of_write, faults_of_truncate, faults_of_unlink, faults_of_rmdir, faults_of_rmtree, faults_of_read, same_path, text_len, deepest_at, placed, faults_of_rename_from, faults_of_place, faults_of_rename, does}
+use Rattle.reference.specs.declared.call.Call.TheVariants.{Mkdir, Create, Write, Truncate, Unlink, Rmdir, Rename, Rmtree, Read}
 use Rattle.reference.specs.declared.reply.Reply.TheVariants.{Done, Count, Data, Fault}
 use Rattle.reference.proofs.Faults.{unless_fault, unless_none}
 
@@ -25,6 +25,12 @@ first_of (Some d ∷ faults) more e h = h
 -- where a file stands the others count
 of_file : (here : At) (b : List ℕ) (e : Errno) (more : List (Option Errno)) → here ≡ Found (File b) → first_fault (faults_of_file here e ++ more) ≡ first_fault more
 of_file here b e more is = ap (λ (a : At). first_fault (faults_of_file a e ++ more)) is
+
+-- and where none of the list comes, those behind it
+first_behind : (faults more : List (Option Errno)) → first_fault faults ≡ None → first_fault (faults ++ more) ≡ first_fault more
+first_behind [] more h = refl
+first_behind (None ∷ faults) more h = first_behind faults more h
+first_behind (Some d ∷ faults) more h = absurd (cc)
 
 -- one fault more, that comes or does not
 last_comes : (b : Bool) (e : Errno) → b ≡ true → first_fault (when b e ∷ []) ≡ Some e
@@ -142,3 +148,44 @@ module _ (t : Tree) (p : Path) (off n : ℕ) (b : List ℕ) (is : entry_at t p �
   read_done h =
       ap (λ (x : Outcome). x.1) (unless_none t (faults_of_read t p n) (t, Data (take n (drop off (bytes_of (entry_at t p))))) (of_file (entry_at t p) b EISDIR (when (nat_lt greatest_read n) EINVAL ∷ []) is ∙ last_stays_away (nat_lt greatest_read n) EINVAL h))
       ∙ ap (λ (a : At). Data (take n (drop off (bytes_of a)))) is
+
+-- ---- `rename`
+
+module _ (t : Tree) (o n : Path) where
+  -- a text gets too long
+  abbrev pub too_long : Bool
+  too_long = nat_lt 1023 (text_len n + deepest_at (entry_at t o))
+
+  -- what comes of a rename between two paths
+  abbrev to_new : Outcome
+  to_new = unless t (faults_of_rename t o n) (placed (without t o) n (entry_at t o), Done)
+
+  pub rename_of_nothing : (e : Errno) → first_fault (faults_of_rename_from t o) ≡ Some e → (does t (Rename o n)).1 ≡ Fault e
+  unfolding does
+  rename_of_nothing e h = refused t (faults_of_rename_from t o) (cond (same_path o n) (t, Done) to_new) e h
+
+  module _ (there : first_fault (faults_of_rename_from t o) ≡ None) where
+    rename_allowed : does t (Rename o n) ≡ cond (same_path o n) (t, Done) to_new
+    unfolding does
+    rename_allowed = unless_none t (faults_of_rename_from t o) (cond (same_path o n) (t, Done) to_new) there
+
+    pub rename_to_itself : same_path o n ≡ true → does t (Rename o n) ≡ (t, Done)
+    rename_to_itself is = rename_allowed ∙ ap (λ (b : Bool). cond {A = Outcome} b (t, Done) to_new) is
+
+    module _ (apart : same_path o n ≡ false) where
+      rename_between : does t (Rename o n) ≡ to_new
+      rename_between = rename_allowed ∙ ap (λ (b : Bool). cond {A = Outcome} b (t, Done) to_new) apart
+
+      pub rename_no_place : (e : Errno) → first_fault (faults_of_place t o n) ≡ Some e → (does t (Rename o n)).1 ≡ Fault e
+      rename_no_place e h =
+          ap (λ (x : Outcome). x.1) rename_between
+          ∙ refused t (faults_of_rename t o n) (placed (without t o) n (entry_at t o), Done) e (first_of (faults_of_place t o n) (when too_long ENAMETOOLONG ∷ []) e h)
+
+      pub rename_too_long : first_fault (faults_of_place t o n) ≡ None → too_long ≡ true → (does t (Rename o n)).1 ≡ Fault ENAMETOOLONG
+      rename_too_long fits h =
+          ap (λ (x : Outcome). x.1) rename_between
+          ∙ refused t (faults_of_rename t o n) (placed (without t o) n (entry_at t o), Done) ENAMETOOLONG (first_behind (faults_of_place t o n) (when too_long ENAMETOOLONG ∷ []) fits ∙ last_comes too_long ENAMETOOLONG h)
+
+      pub rename_done : first_fault (faults_of_place t o n) ≡ None → too_long ≡ false → (does t (Rename o n)).1 ≡ Done
+      rename_done fits h =
+          ap (λ (x : Outcome). x.1) (rename_between ∙ unless_none t (faults_of_rename t o n) (placed (without t o) n (entry_at t o), Done) (first_behind (faults_of_place t o n) (when too_long ENAMETOOLONG ∷ []) fits ∙ last_stays_away too_long ENAMETOOLONG h))

@@ -4,3 +4,6 @@ pub mod Entries
 pub mod OnFiles
 pub mod Replies
 pub mod Appending
+pub mod Overlay
+pub mod Renames
+pub mod Walking

@@ -79,24 +79,24 @@ empty_is (b ∷ w) empty h = sym (h ∙ ne_eqb (suc (length w)) 0 (λ e. cc))
 
 module _ (i : Indexes) (p : Path) (off : ℕ) (w : List ℕ) (reply : Reply) (msgs : Messages) (file : Result ℕ Errno) (finds : Finds i p EISDIR file) where
   pub write_is_refused : (fault : Errno) → file ≡ Err fault → reply ≡ Fault fault → msgs ≡ no_messages → IsCompiled i (Write p off w) reply msgs
-  write_is_refused fault is = compiled_refused i (Write p off w) reply msgs refl fault (λ t means. write_refused t p off w fault (why i p EISDIR fault file finds is t means))
+  write_is_refused fault is = compiled_refused i (Write p off w) reply msgs fault (λ t means. write_refused t p off w fault (why i p EISDIR fault file finds is t means))
 
   module _ (len : ℕ) (is : file ≡ Ok len) where
     pub write_is_too_large : is_empty w ≡ false → nat_le (off + length w) greatest_file ≡ false → reply ≡ Fault EFBIG → msgs ≡ no_messages → IsCompiled i (Write p off w) reply msgs
     unfolding FileOf
-    write_is_too_large some large = compiled_refused i (Write p off w) reply msgs refl EFBIG
+    write_is_too_large some large = compiled_refused i (Write p off w) reply msgs EFBIG
         (λ t means. let f : FileOf t p len = which i p EISDIR len file finds is t means in
         write_too_large t p off w f.0 f.1 some (lt-ltb greatest_file (off + length w) (leb-false (off + length w) greatest_file large)))
 
     pub write_is_empty : is_empty w ≡ true → reply ≡ Count 0 → msgs ≡ no_messages → IsCompiled i (Write p off w) reply msgs
     unfolding FileOf
-    write_is_empty empty r = compiled_kept i (Write p off w) reply msgs refl
+    write_is_empty empty r = compiled_kept i (Write p off w) reply msgs
         (λ t means. let f : FileOf t p len = which i p EISDIR len file finds is t means in r ∙ sym (ap (λ (o : Outcome). o.1) (write_nothing t p off w f.0 f.1 empty)))
         (λ t means. let f : FileOf t p len = which i p EISDIR len file finds is t means in ap (λ (o : Outcome). o.0) (write_nothing t p off w f.0 f.1 empty))
 
     pub write_is_done : IsPath p → AreBytes w → is_empty w ≡ false → nat_le (off + length w) greatest_file ≡ true → Changes (patched off w) p (patches p off w) → reply ≡ Count (length w) → msgs ≡ write_messages p off w → IsCompiled i (Write p off w) reply msgs
     unfolding FileOf
-    write_is_done is_path are_bytes some short changes = compiled_done i (Write p off w) reply msgs refl (Count (length w)) (write_messages p off w) (λ e. (λ f. cc))
+    write_is_done is_path are_bytes some short changes = compiled_done i (Write p off w) reply msgs (Count (length w)) (write_messages p off w) (λ e. (λ f. cc))
         (λ t means. let f : FileOf t p len = which i p EISDIR len file finds is t means in
         write_done t p off w f.0 f.1 some (le-ltb greatest_file (off + length w) (leb-true (off + length w) greatest_file short)))
         (λ t means e. write_law t (does t (Write p off w)).0 p off w (metadata i.meta) (blocks i.block) (blocks_after (write_messages p off w) (blocks i.block)) means (is_path, are_bytes) some (changes (blocks i.block)) e)
@@ -106,12 +106,12 @@ module _ (i : Indexes) (p : Path) (off : ℕ) (w : List ℕ) (reply : Reply) (ms
 
 module _ (i : Indexes) (p : Path) (n : ℕ) (reply : Reply) (msgs : Messages) (file : Result ℕ Errno) (finds : Finds i p EISDIR file) where
   pub truncate_is_refused : (fault : Errno) → file ≡ Err fault → reply ≡ Fault fault → msgs ≡ no_messages → IsCompiled i (Truncate p n) reply msgs
-  truncate_is_refused fault is = compiled_refused i (Truncate p n) reply msgs refl fault (λ t means. truncate_refused t p n fault (why i p EISDIR fault file finds is t means))
+  truncate_is_refused fault is = compiled_refused i (Truncate p n) reply msgs fault (λ t means. truncate_refused t p n fault (why i p EISDIR fault file finds is t means))
 
   module _ (old : ℕ) (is : file ≡ Ok old) where
     pub truncate_is_too_large : greatest_file < n → reply ≡ Fault EFBIG → msgs ≡ no_messages → IsCompiled i (Truncate p n) reply msgs
     unfolding FileOf
-    truncate_is_too_large large = compiled_refused i (Truncate p n) reply msgs refl EFBIG
+    truncate_is_too_large large = compiled_refused i (Truncate p n) reply msgs EFBIG
         (λ t means. let f : FileOf t p old = which i p EISDIR old file finds is t means in truncate_too_large t p n f.0 f.1 (lt-ltb greatest_file n large))
 
     module _ (block : List (Msg BlockUpdate (List ℕ))) (cut : n < old → CutsWhereMeant n p block) (kept : old ≤ n → block ≡ []) where
@@ -127,7 +127,7 @@ module _ (i : Indexes) (p : Path) (n : ℕ) (reply : Reply) (msgs : Messages) (f
 
       pub truncate_is_done : IsPath p → n ≤ greatest_file → length block ≤ 2 → reply ≡ Done → msgs ≡ record { meta = Edit (enc p) (SetLen n) ∷ []; block = block } → IsCompiled i (Truncate p n) reply msgs
       unfolding FileOf
-      truncate_is_done is_path short few = compiled_done i (Truncate p n) reply msgs refl Done (record { meta = Edit (enc p) (SetLen n) ∷ []; block = block }) (λ e. (λ f. cc))
+      truncate_is_done is_path short few = compiled_done i (Truncate p n) reply msgs Done (record { meta = Edit (enc p) (SetLen n) ∷ []; block = block }) (λ e. (λ f. cc))
           (λ t means. let f : FileOf t p old = which i p EISDIR old file finds is t means in truncate_done t p n f.0 f.1 (le-ltb greatest_file n short))
           (λ t means e. truncate_makes is_path t means e) (
             omega arith,
@@ -142,11 +142,11 @@ module _ (i : Indexes) (p : Path) (n : ℕ) (reply : Reply) (msgs : Messages) (f
 
 module _ (i : Indexes) (p : Path) (reply : Reply) (msgs : Messages) (file : Result ℕ Errno) (finds : Finds i p EPERM file) where
   pub unlink_is_refused : (fault : Errno) → file ≡ Err fault → reply ≡ Fault fault → msgs ≡ no_messages → IsCompiled i (Unlink p) reply msgs
-  unlink_is_refused fault is = compiled_refused i (Unlink p) reply msgs refl fault (λ t means. unlink_refused t p fault (why i p EPERM fault file finds is t means))
+  unlink_is_refused fault is = compiled_refused i (Unlink p) reply msgs fault (λ t means. unlink_refused t p fault (why i p EPERM fault file finds is t means))
 
   pub unlink_is_done : (len : ℕ) → file ≡ Ok len → IsPath p → reply ≡ Done → msgs ≡ record { meta = Del (enc p) ∷ []; block = DelRange (blocks_from p 0) ∷ [] } → IsCompiled i (Unlink p) reply msgs
   unfolding FileOf
-  unlink_is_done len is is_path = compiled_done i (Unlink p) reply msgs refl Done (record { meta = Del (enc p) ∷ []; block = DelRange (blocks_from p 0) ∷ [] }) (λ e. (λ f. cc))
+  unlink_is_done len is is_path = compiled_done i (Unlink p) reply msgs Done (record { meta = Del (enc p) ∷ []; block = DelRange (blocks_from p 0) ∷ [] }) (λ e. (λ f. cc))
       (λ t means. let f : FileOf t p len = which i p EPERM len file finds is t means in unlink_done t p f.0 f.1)
       (λ t means e. unlink_law t (does t (Unlink p)).0 p (metadata i.meta) (blocks i.block) means is_path e)
       (omega arith)
@@ -159,17 +159,17 @@ read_changes_nothing t p off n = (reading_law t p off n).0
 
 module _ (i : Indexes) (p : Path) (off n : ℕ) (reply : Reply) (msgs : Messages) (file : Result ℕ Errno) (finds : Finds i p EISDIR file) where
   pub read_is_refused : (fault : Errno) → file ≡ Err fault → reply ≡ Fault fault → msgs ≡ no_messages → IsCompiled i (Read p off n) reply msgs
-  read_is_refused fault is = compiled_refused i (Read p off n) reply msgs refl fault (λ t means. read_refused t p off n fault (why i p EISDIR fault file finds is t means))
+  read_is_refused fault is = compiled_refused i (Read p off n) reply msgs fault (λ t means. read_refused t p off n fault (why i p EISDIR fault file finds is t means))
 
   module _ (len : ℕ) (is : file ≡ Ok len) where
     pub read_is_too_much : greatest_read < n → reply ≡ Fault EINVAL → msgs ≡ no_messages → IsCompiled i (Read p off n) reply msgs
     unfolding FileOf
-    read_is_too_much large = compiled_refused i (Read p off n) reply msgs refl EINVAL
+    read_is_too_much large = compiled_refused i (Read p off n) reply msgs EINVAL
         (λ t means. let f : FileOf t p len = which i p EISDIR len file finds is t means in read_too_much t p off n f.0 f.1 (lt-ltb greatest_read n large))
 
     pub read_is_done : (v : List ℕ) → n ≤ greatest_read → ((t : Tree) (b : List ℕ) → BlocksMean t (blocks i.block) → look t p ≡ Some (Bytes b) → length b ≡ len → v ≡ take n (drop off b)) → reply ≡ Data v → msgs ≡ no_messages → IsCompiled i (Read p off n) reply msgs
     unfolding FileOf
-    read_is_done v few reads r = compiled_kept i (Read p off n) reply msgs refl
+    read_is_done v few reads r = compiled_kept i (Read p off n) reply msgs
         (λ t means. let f : FileOf t p len = which i p EISDIR len file finds is t means in
         r ∙ ap Data (reads t f.0 means.blocks (found_look t p f.0 f.1) f.2) ∙ sym (read_done t p off n f.0 f.1 (le-ltb greatest_read n few)))
         (λ t means. read_changes_nothing t p off n)

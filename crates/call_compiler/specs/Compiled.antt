@@ -1,5 +1,5 @@
 -- What a file call is compiled to, by the directory tree that the indexes mean.
-use Rattle.std.specs.Prelude.{◌≡◌, ◌≤◌, ◌+◌, ◌⊎◌, ℕ, length, List, [], ◌∷◌, Bool, true, false}
+use Rattle.std.specs.Prelude.{◌≡◌, ◌≤◌, ◌+◌, ◌⊎◌, ℕ, length, List, [], ◌∷◌}
 use Rattle.block_index.specs.Changed.{patches}
 use Rattle.block_index.specs.Means.{blocks}
 use Rattle.block_index.specs.Updates.{means as block_means}
@@ -11,7 +11,7 @@ use Rattle.meta_index.specs.declared.update.MetaUpdate.{MetaUpdate}
 use Rattle.meta_index.specs.declared.update.MetaUpdate.TheVariants.{Grow}
 use Rattle.meta_index.specs.Means.{metadata}
 use Rattle.meta_index.specs.Updates.{means as meta_means}
-use Rattle.pathkey.specs.Keys.{enc}
+use Rattle.pathkey.specs.Keys.{Key, enc}
 use Rattle.pathkey.specs.Names.{Path}
 use Rattle.pathkey.specs.declared.errno.Errno.{Errno}
 use Rattle.pathkey.specs.declared.errno.Errno.TheVariants.{ENOENT, ENOTDIR}
@@ -23,6 +23,7 @@ use Rattle.reference.specs.declared.call.Call.TheVariants.{Mkdir, Create, Write,
 use Rattle.reference.specs.declared.reply.Meta.{Meta}
 use Rattle.reference.specs.declared.reply.Reply.{Reply}
 use Rattle.reference.specs.declared.reply.Reply.TheVariants.{Fault}
+use Rattle.call_compiler.specs.Moves.{AreBelow}
 use Rattle.call_compiler.specs.declared.batch.Batch.{Batch}
 use Rattle.call_compiler.specs.declared.indexes.Indexes.{Indexes}
 
@@ -58,18 +59,14 @@ blocks_after msgs d k = effects block_means msgs.block k (d k)
 abbrev pub MeanTree : Indexes → Tree → Type 0
 MeanTree i t = IndexesMean t (metadata i.meta) (blocks i.block)
 
--- the calls that are compiled
-abbrev pub is_compiled : Call → Bool
-is_compiled (Rename o n) = false
-is_compiled _ = true
-
 -- the messages of a write of w at off: the length is raised, and each block that the bytes touch gets its slice of them
 abbrev pub write_messages : Path → ℕ → List ℕ → Messages
 write_messages p off w = record { meta = Edit (enc p) (Grow (off + length w)) ∷ []; block = patches p off w }
 
 -- what a call may send over both indexes: one message where an entry comes or an empty directory goes, two where a
 -- file goes, three where it is cut, one where it is lengthened, two where an entry goes with all below it, for a write
--- its patches and one, and nothing for a call that only reads
+-- its patches and one, for each entry and block that is moved one and three besides, and nothing for a call that only
+-- reads
 abbrev pub Sends : Indexes → Call → Messages → Type 0
 Sends i (Mkdir p) msgs = count msgs ≤ 1
 Sends i (Create p) msgs = count msgs ≤ 1
@@ -81,7 +78,9 @@ Sends i (Rmtree p) msgs = count msgs ≤ 2
 Sends i (Read p off n) msgs = msgs ≡ no_messages
 Sends i (AskStat p) msgs = msgs ≡ no_messages
 Sends i (Readdir p) msgs = msgs ≡ no_messages
-Sends i (Rename o n) msgs = ⊥
+Sends i (Rename o n) msgs =
+    (msgs ≡ no_messages)
+    ⊎ ((es : List (Key × Meta)) × (bs : List (Key × List ℕ)) × AreBelow (metadata i.meta) o es × AreBelow (blocks i.block) o bs × (count msgs ≤ length es + length bs + 3))
 
 -- what a call is compiled to
 pub record IsCompiled (i : Indexes) (call : Call) (answer : Reply) (msgs : Messages) : Type 0 where

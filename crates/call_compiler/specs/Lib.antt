@@ -1,3 +1,4 @@
 pub mod Compiled
 pub mod Files
 pub mod Laws
+pub mod Moves

@@ -5,8 +5,8 @@
 //! table of calls gives for this tree, and after the messages the indexes mean the tree that the table makes of it.
 #![tactic(auto)]
 
-ghost use Rattle.std.specs.Prelude.{◌≡◌, IfOk, IsTrue};
-ghost use Rattle.call_compiler.specs.Compiled.{IsCompiled, is_compiled as is_one_of_these, messages};
+ghost use Rattle.std.specs.Prelude.{IfOk};
+ghost use Rattle.call_compiler.specs.Compiled.{IsCompiled, messages};
 
 use pathkey::NoMemory;
 use std::alloc::Global;
@@ -16,25 +16,18 @@ mod files;
 pub mod indexes;
 pub mod laws;
 mod making;
+mod moving;
 mod reading;
 mod removing;
+mod subtrees;
 mod writing;
 
 pub use batch::Batch;
 pub use indexes::Indexes;
 pub use reference::{Call, Reply};
 
-/// Whether this call is compiled: all are but `rename`.
-pub fn is_compiled(call: &Call) -> bool
-    ensures { result ≡ is_one_of_these call.now }
-{
-    !matches!(call, Call::Rename(_, _))
-}
-
-/// The reply to a file call that is compiled (`is_compiled`), and the messages that do it. It changes nothing, and fails
-/// only for want of memory.
+/// The reply to a file call, and the messages that do it. It changes nothing, and fails only for want of memory.
 pub fn compile(alloc: Global, indexes: &Indexes, call: &Call) -> Result<(Reply, Batch), NoMemory>
-    requires { IsTrue (is_one_of_these call.now) }
     ensures { IfOk result (λ c. IsCompiled indexes.now call.now c.0 (messages c.1)) }
 {
     match call {
@@ -44,10 +37,10 @@ pub fn compile(alloc: Global, indexes: &Indexes, call: &Call) -> Result<(Reply, 
         Call::Truncate(path, len) => writing::truncate(alloc, indexes, path, *len),
         Call::Unlink(path) => removing::unlink(alloc, indexes, path),
         Call::Rmdir(path) => removing::rmdir(alloc, indexes, path),
+        Call::Rename(old, new) => moving::rename(alloc, indexes, old, new),
         Call::Rmtree(path) => removing::rmtree(alloc, indexes, path),
         Call::Read(path, offset, count) => reading::read(alloc, indexes, path, *offset, *count),
         Call::Stat(path) => reading::stat(alloc, indexes, path),
         Call::Readdir(path) => reading::readdir(alloc, indexes, path),
-        Call::Rename(_, _) => unreachable!(),
     }
 }

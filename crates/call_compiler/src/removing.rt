@@ -83,8 +83,12 @@ pub(crate) fn rmtree(
     done(alloc, Reply::Done, Msg::DelRange(range), block)
 }
 
-/// Why nothing can be taken out at the path with all below it; none where something can.
-fn fault_of_rmtree(alloc: Global, indexes: &Indexes, path: &Path) -> Result<Option<Errno>, NoMemory>
+/// Why no entry with all below it can be taken out at the path, or moved from it; none where one can.
+pub(crate) fn fault_of_rmtree(
+    alloc: Global,
+    indexes: &Indexes,
+    path: &Path,
+) -> Result<Option<Errno>, NoMemory>
     ensures { IfOk result (λ fault. (t : Tree) → IsMeantBy t indexes.now.meta → fault ≡ first_fault (faults_of_rmtree t path.now)) }
 {
     Ok(if path.is_root() {

@@ -3,6 +3,7 @@ pub mod CallAnswers
 pub mod CallCases
 pub mod CallTrees
 pub mod Contents
+pub mod Deepest
 pub mod Depth
 pub mod Edits
 pub mod Entries

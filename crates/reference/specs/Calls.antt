@@ -179,13 +179,15 @@ abbrev pub faults_of_replacing : At → At → List (Option Errno)
 faults_of_replacing from to =
     when (is_directory to && is_file from) EISDIR ∷ when (is_file to && is_directory from) ENOTDIR ∷ when (is_full to) ENOTEMPTY ∷ []
 
--- why `rename` does not move what stands at o to another path n
-abbrev pub faults_of_rename : Tree → Path → Path → List (Option Errno)
-faults_of_rename t o n =
+-- why what stands at o cannot be put at another path n, whatever the length of its texts
+abbrev pub faults_of_place : Tree → Path → Path → List (Option Errno)
+faults_of_place t o n =
     let from = entry_at t o in
-    when (is_directory from && is_under o n) EINVAL
-    ∷ parent_fault t n
-    ∷ faults_of_replacing from (entry_at t n) ++ when (nat_lt 1023 (text_len n + deepest_at from)) ENAMETOOLONG ∷ []
+    when (is_directory from && is_under o n) EINVAL ∷ parent_fault t n ∷ faults_of_replacing from (entry_at t n)
+
+-- why `rename` does not move what stands at o to another path n: the last is that a text would get too long
+abbrev pub faults_of_rename : Tree → Path → Path → List (Option Errno)
+faults_of_rename t o n = faults_of_place t o n ++ when (nat_lt 1023 (text_len n + deepest_at (entry_at t o))) ENAMETOOLONG ∷ []
 
 -- `rename`: the entry taken out at o and put at n, where it replaces a file or an empty directory
 abbrev pub renamed : Tree → Path → Path → Outcome

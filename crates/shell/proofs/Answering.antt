@@ -5,7 +5,7 @@ use Rattle.reference.specs.declared.call.Call.{Call}
 use Rattle.reference.specs.declared.reply.Reply.{Reply}
 use Rattle.shell.specs.declared.request.Request.{Request}
 use Rattle.shell.specs.declared.request.Request.TheVariants.{Wanted}
-use Rattle.shell.specs.Requests.{request_of, IsServedAs}
+use Rattle.shell.specs.Requests.{request_of, IsReadAs}
 use Rattle.shell.specs.Replies.{reply_text}
 use Rattle.shell.specs.Script.{Answers, Does, Script}
 use Rattle.shell.specs.Runs.{Leads, Worlds}
@@ -28,13 +28,13 @@ answers_call means means' Wrote q call reply is does wrote first m =
     (reply_text reply, after, subst (λ (r : Request). Answers first r (reply_text reply) after) (sym is) (reply, done.0, refl, refl), done.1, wrote)
 
 -- what a line asks for was read and answered
-pub line_done : (means means' : Worlds) (Wrote : List ℕ → Type 0) (line : List ℕ) (q : Request) → IsServedAs (request_of line) q
+pub line_done : (means means' : Worlds) (Wrote : List ℕ → Type 0) (line : List ℕ) (q : Request) → IsReadAs (request_of line) q
     → Leads means means' (λ first. Answers first q) Wrote → Leads means means' (λ first. Does first line) Wrote
 line_done means means' Wrote line q read f first m =
     let (out, after, answers, m', wrote) = f first m in
     (out, after, does read first out after answers, m', wrote)
   where
-    does : IsServedAs (request_of line) q → (first : World) (out : List ℕ) (after : World) → Answers first q out after → Does first line out after
+    does : IsReadAs (request_of line) q → (first : World) (out : List ℕ) (after : World) → Answers first q out after → Does first line out after
     does (inl is) first out after answers = inl (subst (λ (r : Request). Answers first r out after) is answers)
     does (inr lacks) first out after answers = inr (lacks.1, subst (λ (r : Request). Answers first r out after) lacks.0 answers)
 

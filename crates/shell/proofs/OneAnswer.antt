@@ -18,7 +18,7 @@ use Rattle.shell.specs.declared.request.Request.{Request}
 use Rattle.shell.specs.declared.request.Request.TheVariants.{Silent, Overlong, Malformed, Refused, Wanted}
 use Rattle.shell.specs.Lines.{lines_of}
 use Rattle.shell.specs.Replies.{entry_line, hex_text, name_word, number_line, reply_text, stat_word}
-use Rattle.shell.specs.Requests.{request_of, served}
+use Rattle.shell.specs.Requests.{request_of}
 use Rattle.shell.specs.Script.{Answers, Does, Script, LacksNothing}
 
 -- ---- texts that end with a line feed
@@ -64,7 +64,7 @@ ended_answer w (Refused e) text w' a = subst IsEnded (sym a.0) (ended_reply (Fau
 ended_answer w (Wanted c) text w' (r, fits, is, then) = subst IsEnded (sym is) (ended_reply r)
 
 ended_does : (w : World) (line text : List ℕ) (w' : World) → Does w line text w' → IsEnded text
-ended_does w line text w' (inl a) = ended_answer w (served (request_of line)) text w' a
+ended_does w line text w' (inl a) = ended_answer w (request_of line) text w' a
 ended_does w line text w' (inr (asked, a)) = ended_answer w (Refused ENOMEM) text w' a
 
 -- ---- the lines of an output after its first answer
@@ -127,7 +127,7 @@ once w (Wanted c) text text' rest rest' v v' (r, fits, is, then) (r', fits', is'
 
 line_once : (w : World) (line text text' rest rest' : List ℕ) (v v' : World) → Does w line text v → Does w line text' v' → LacksNothing (text ++ rest) → LacksNothing (text' ++ rest')
     → Same text text' v v'
-line_once w line text text' rest rest' v v' (inl a) (inl b) l l' = once w (served (request_of line)) text text' rest rest' v v' a b l l'
+line_once w line text text' rest rest' v v' (inl a) (inl b) l l' = once w (request_of line) text text' rest rest' v v' a b l l'
 line_once w line text text' rest rest' v v' (inl a) (inr (asked, b)) l l' = absurd (lack_seen text' rest' b.0 l')
 line_once w line text text' rest rest' v v' (inr (asked, a)) b l l' = absurd (lack_seen text rest a.0 l)
 

@@ -7,7 +7,7 @@ use Rattle.reference.specs.Worlds.{World}
 use Rattle.shell.specs.declared.request.Request.{Request}
 use Rattle.shell.specs.declared.request.Request.TheVariants.{Overlong, Refused}
 use Rattle.shell.specs.Lines.{lines_of, kept_before, whole}
-use Rattle.shell.specs.Requests.{request_of, served, IsAsked}
+use Rattle.shell.specs.Requests.{request_of, IsAsked}
 use Rattle.shell.specs.Script.{Answers, Does, Script, Stopped}
 use Rattle.shell.specs.Progress.{AreFree, FailedIn, Holds, IsFree, Went, last_line, text_of_lines}
 
@@ -111,7 +111,7 @@ does_held held items a b reply holds does = go (cases_lt 65536 (length held))
     go : (65536 < length held) ⊎ (length held ≤ 65536) → Does a held reply b
     go (inl long) =
         let same : request_of items ≡ request_of held = too_long items (holds.long long) ∙ sym (too_long held long) in
-        let P : Request → Type 0 = λ r. Answers a (served r) reply b ⊎ (IsAsked r × Answers a (Refused ENOMEM) reply b) in
+        let P : Request → Type 0 = λ r. Answers a r reply b ⊎ (IsAsked r × Answers a (Refused ENOMEM) reply b) in
         subst P same does
     go (inr short) = subst (λ (l : List ℕ). Does a l reply b) (holds.short short) does
 

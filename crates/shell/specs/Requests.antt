@@ -1,13 +1,12 @@
 -- What a line of a script asks for.
-use Rattle.std.specs.Prelude.{◌≡◌, ◌⊎◌, ⊤, ℕ, nat_lt, List, [], ◌∷◌, length, codes, bytes_eq, IsTrue, Option, Some, None, Result, Ok, Err, ◌==◌, if◌then◌else◌}
+use Rattle.std.specs.Prelude.{◌≡◌, ◌⊎◌, ⊤, ℕ, nat_lt, List, [], ◌∷◌, length, codes, bytes_eq, Option, Some, None, Result, Ok, Err, ◌==◌, if◌then◌else◌}
 use Rattle.percent_encoding.specs.Percent.{percent_decode}
 use Rattle.pathkey.specs.Names.{Path}
 use Rattle.pathkey.specs.Texts.{parsed}
 use Rattle.pathkey.specs.declared.errno.Errno.{Errno}
 use Rattle.pathkey.specs.declared.errno.Errno.TheVariants.{ENOMEM}
 use Rattle.reference.specs.declared.call.Call.{Call}
-use Rattle.reference.specs.declared.call.Call.TheVariants.{Mkdir, Create, Write, Truncate, Unlink, Rmdir, Rmtree, Read, Stat as AskStat, Readdir}
-use Rattle.call_compiler.specs.Compiled.{is_compiled}
+use Rattle.reference.specs.declared.call.Call.TheVariants.{Mkdir, Create, Write, Truncate, Unlink, Rmdir, Rename, Rmtree, Read, Stat as AskStat, Readdir}
 use Rattle.shell.specs.Lines.{words_of}
 use Rattle.shell.specs.Values.{bytes_of, number_of}
 use Rattle.shell.specs.declared.request.Request.{Request}
@@ -39,10 +38,26 @@ path_command name p =
     else if bytes_eq name (codes "readdir") then on_path Readdir (path_of p)
     else Malformed
 
--- the command of a path and a length
-abbrev pub length_command : List ℕ → List ℕ → List ℕ → Request
-length_command name p len =
-    if bytes_eq name (codes "truncate") then with_value (λ n. on_path (λ path. Truncate path n) (path_of p)) (number_of len)
+-- to cut or lengthen a file
+abbrev pub truncate_command : List ℕ → List ℕ → Request
+truncate_command p len = with_value (λ n. on_path (λ path. Truncate path n) (path_of p)) (number_of len)
+
+-- a move between two paths, or why one of them is refused, the first before the second
+abbrev pub rename_of : Result Path Errno → Result Path Errno → Result Call Errno
+rename_of (Ok o) (Ok n) = Ok (Rename o n)
+rename_of (Ok o) (Err e) = Err e
+rename_of (Err e) n = Err e
+
+-- the call, or why it is refused
+abbrev pub asked : Result Call Errno → Request
+asked (Ok c) = Wanted c
+asked (Err e) = Refused e
+
+-- the commands of a path and a third word
+abbrev pub third_command : List ℕ → List ℕ → List ℕ → Request
+third_command name p third =
+    if bytes_eq name (codes "truncate") then truncate_command p third
+    else if bytes_eq name (codes "rename") then asked (rename_of (path_of p) (path_of third))
     else Malformed
 
 -- to write bytes from an offset on
@@ -63,7 +78,7 @@ offset_command name p off what =
 -- the commands by their number of words
 abbrev pub command_of : List (List ℕ) → Request
 command_of (name ∷ p ∷ []) = path_command name p
-command_of (name ∷ p ∷ len ∷ []) = length_command name p len
+command_of (name ∷ p ∷ third ∷ []) = third_command name p third
 command_of (name ∷ p ∷ off ∷ what ∷ []) = offset_command name p off what
 command_of _ = Malformed
 
@@ -85,17 +100,3 @@ IsAsked _ = ⊥
 -- the request was read as it stands; or memory was wanting, which refuses a call
 abbrev pub IsReadAs : Request → Request → Type 0
 IsReadAs wanted read = (read ≡ wanted) ⊎ ((read ≡ Refused ENOMEM) × IsAsked wanted)
-
--- what is done of a request: a call that is not compiled yet is no command
-abbrev pub served : Request → Request
-served (Wanted c) = if is_compiled c then Wanted c else Malformed
-served r = r
-
--- what is done of the request was read; or memory was wanting
-abbrev pub IsServedAs : Request → Request → Type 0
-IsServedAs wanted read = (read ≡ served wanted) ⊎ ((read ≡ Refused ENOMEM) × IsAsked wanted)
-
--- where the request is a call, it is one of those that are compiled
-abbrev pub AsksServed : Request → Type 0
-AsksServed (Wanted c) = IsTrue (is_compiled c)
-AsksServed _ = ⊤

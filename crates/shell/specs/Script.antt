@@ -7,7 +7,7 @@ use Rattle.reference.specs.declared.reply.Reply.TheVariants.{Fault}
 use Rattle.shell.specs.declared.request.Request.{Request}
 use Rattle.shell.specs.declared.request.Request.TheVariants.{Silent, Overlong, Malformed, Refused, Wanted}
 use Rattle.shell.specs.Lines.{lines_of}
-use Rattle.shell.specs.Requests.{request_of, served, IsAsked}
+use Rattle.shell.specs.Requests.{request_of, IsAsked}
 use Rattle.shell.specs.Replies.{reply_text}
 
 -- what a request is answered in a world, and the world after it
@@ -20,7 +20,7 @@ Answers w (Wanted c) text w' = (r : Reply) × Fits w (Ask c) (Replied r) × (tex
 
 -- a line is answered as what it asks for; or, where it asks for a call, by want of memory, and the world is kept
 abbrev pub Does : World → List ℕ → List ℕ → World → Type 0
-Does w line text w' = Answers w (served (request_of line)) text w' ⊎ (IsAsked (request_of line) × Answers w (Refused ENOMEM) text w')
+Does w line text w' = Answers w (request_of line) text w' ⊎ (IsAsked (request_of line) × Answers w (Refused ENOMEM) text w')
 
 -- the lines, one after the other, with their answers joined
 abbrev pub Script : World → List (List ℕ) → List ℕ → World → Type 0

@@ -2,12 +2,11 @@
 ghost use Rattle.std.specs.Prelude.{◌≡◌, ◌⊎◌, Err, MatchResult};
 ghost use Rattle.pathkey.specs.declared.errno.Errno.TheVariants.{ENOMEM};
 ghost use Rattle.shell.specs.Lines.{words_of};
-ghost use Rattle.shell.specs.Requests.{AsksServed, IsReadAs, IsServedAs, command_of, length_command, offset_command, path_command, path_of, read_command, request_of, served, write_command};
+ghost use Rattle.shell.specs.Requests.{IsReadAs, command_of, offset_command, path_command, path_of, read_command, rename_of, request_of, third_command, truncate_command, write_command};
 
 use crate::request::Request;
 use crate::values::{read_bytes, read_number, writes_bytes};
 use crate::words::cut_word;
-use call_compiler::is_compiled;
 use pathkey::{Errno, NoMemory, Path};
 use percent_encoding::percent_decode;
 use reference::Call;
@@ -16,32 +15,8 @@ use std::alloc::Global;
 /// The most bytes of a line that is looked at.
 pub const LONGEST_LINE: usize = 65_536;
 
-/// What a line asks for. A call that is not compiled yet is no command.
+/// What a line asks for.
 pub fn read_request(alloc: Global, line: &[u8]) -> Request
-    ensures read { IsServedAs (request_of line.now) result }
-    ensures served { AsksServed result }
-{
-    serve(read_line(alloc, line))
-}
-
-// A request whose call is compiled, as it stands.
-fn serve(request: Request) -> Request
-    ensures value { result ≡ served request }
-    ensures served { AsksServed result }
-{
-    match request {
-        Request::Wanted(call) => {
-            if is_compiled(&call) {
-                return Request::Wanted(call);
-            }
-            Request::Malformed
-        }
-        request => request,
-    }
-}
-
-/// What a line asks for, whether or not its call is compiled.
-pub fn read_line(alloc: Global, line: &[u8]) -> Request
     ensures { IsReadAs (request_of line.now) result }
 {
     if line.len() > LONGEST_LINE {
@@ -64,7 +39,7 @@ fn read_command(alloc: Global, line: &[u8]) -> Request
         return read_path_command(alloc, name, rest);
     };
     let Some((second, rest)) = cut_word(rest) else {
-        return read_length_command(alloc, name, path, rest);
+        return read_third_command(alloc, name, path, rest);
     };
     match cut_word(rest) {
         None => read_offset_command(alloc, name, path, second, rest),
@@ -100,13 +75,32 @@ fn read_path_command(alloc: Global, name: &[u8], word: &[u8]) -> Request
     Request::Malformed
 }
 
-// What a command of three words asks for: to cut or lengthen a file.
-fn read_length_command(alloc: Global, name: &[u8], path: &[u8], length: &[u8]) -> Request
-    ensures { IsReadAs (length_command name.now path.now length.now) result }
+// What a command of three words asks for: to cut or lengthen a file, or to move an entry.
+fn read_third_command(alloc: Global, name: &[u8], path: &[u8], third: &[u8]) -> Request
+    ensures { IsReadAs (third_command name.now path.now third.now) result }
 {
-    if name != b"truncate".as_slice() {
-        return Request::Malformed;
+    if name == b"truncate".as_slice() {
+        return read_truncate(alloc, path, third);
     }
+    if name == b"rename".as_slice() {
+        return ask(read_rename(alloc, path, third));
+    }
+    Request::Malformed
+}
+
+// The move that two words name, each in percent form.
+fn read_rename(alloc: Global, old: &[u8], new: &[u8]) -> Result<Call, Errno>
+    ensures { (result ≡ rename_of (path_of old.now) (path_of new.now)) ⊎ (result ≡ Err ENOMEM) }
+{
+    let old = read_path(alloc, old)?;
+    let new = read_path(alloc, new)?;
+    Ok(Call::Rename(old, new))
+}
+
+// What the words of a `truncate` ask for.
+fn read_truncate(alloc: Global, path: &[u8], length: &[u8]) -> Request
+    ensures { IsReadAs (truncate_command path.now length.now) result }
+{
     let Some(length) = read_number(length) else {
         return Request::Malformed;
     };

@@ -1,6 +1,4 @@
 //! The file system that a script runs on.
-ghost use Rattle.std.specs.Prelude.{IsTrue};
-ghost use Rattle.call_compiler.specs.Compiled.{is_compiled};
 ghost use Rattle.reference.specs.Worlds.{World, Ask, Replied, Fits, next};
 
 use reference::{Call, Reply};
@@ -11,9 +9,8 @@ pub trait Execute {
     // this state means this world
     ghost means: { Self → World → Type 0 };
 
-    /// Does a call that is compiled: the reply fits each world that the state means, and the state then means the next one.
+    /// Does a call: the reply fits each world that the state means, and the state then means the next one.
     fn execute(&mut self, alloc: Global, call: &Call) -> Reply
-        requires { IsTrue (is_compiled call.now) }
         ensures { (w : World) → means self.old w → Fits w (Ask call.now) (Replied result)
             × means self.new (next w (Ask call.now) (Replied result)) };
 }

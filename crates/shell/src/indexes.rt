@@ -1,6 +1,6 @@
 //! Calls done on the indexes of a file system, which scripts run on until there are snapshots.
-ghost use Rattle.std.specs.Prelude.{◌≡◌, IfOk, IsTrue, OnErr};
-ghost use Rattle.call_compiler.specs.Compiled.{MeanTree, is_compiled};
+ghost use Rattle.std.specs.Prelude.{◌≡◌, IfOk, OnErr};
+ghost use Rattle.call_compiler.specs.Compiled.{MeanTree};
 ghost use Rattle.reference.specs.Calls.{does};
 ghost use Rattle.reference.specs.Tree.{Tree};
 
@@ -12,7 +12,6 @@ use std::alloc::Global;
 
 /// Does a call: compiles it, and appends its messages. It fails only for want of memory, and then changes nothing.
 fn do_call(alloc: Global, indexes: &mut Indexes, call: &Call) -> Result<Reply, NoMemory>
-    requires { IsTrue (is_compiled call.now) }
     ensures done { IfOk result (λ r. (t : Tree) → MeanTree indexes.old t → (r ≡ (does t call.now).1) × MeanTree indexes.new (does t call.now).0) }
     ensures err { OnErr result (indexes.new ≡ indexes.old) }
 {

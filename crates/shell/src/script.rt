@@ -2,7 +2,6 @@
 ghost use Rattle.std.specs.Prelude.{◌≡◌, ◌≢◌, ◌≤◌, ◌<◌, ◌++◌, ℕ, List, [], ◌∷◌, take, length, vec_capacity, vec_len, OnOk, OnErr};
 ghost use Rattle.std.specs.Io.KnownBytes.{Appends};
 ghost use Rattle.shell.specs.Parts.{AppendsPart};
-ghost use Rattle.shell.specs.Requests.{AsksServed};
 ghost use Rattle.shell.specs.Script.{Answers, Does, Script};
 ghost use Rattle.shell.specs.Runs.{DoesAll, DoesGiven, DoesUntil, Leads};
 ghost use Rattle.shell.specs.Progress.{FailedIn, Holds, Went, last_line};
@@ -193,7 +192,6 @@ fn answer<S: Execute, W: Write>(
     request: Request,
     writer: &mut W,
 ) -> Result<(), WriteFailed>
-    requires { AsksServed request }
     ensures ok { OnOk result (Leads (S.means state.old) (S.means state.new) (λ first. Answers first request)
         (Appends (W.contents writer.old) (W.contents writer.new))) }
     ensures err { OnErr result (Leads (S.means state.old) (S.means state.new) (λ first. Answers first request)

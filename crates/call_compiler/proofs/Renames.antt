@@ -1,0 +1,298 @@
+-- `rename`: its refusals, and what its messages make of the indexes.
+use Rattle.std.proofs.Common.{◌≡◌, ℕ, ◌+◌, ◌<◌, ◌≤◌, List, [], ◌∷◌, ◌++◌, length, length-append, drop, map, true, false, Bool, cond, refl, sym, ap, ◌∙◌, subst, arith, Option, Some, None, ◌⊎◌, inl, inr, zero, suc, get_or, ◌||◌}
+use Rattle.std.specs.Prelude.{fold, Contains}
+use Rattle.std.specs.List.{list_any}
+use Rattle.std.proofs.lemmas.Bool.{false_from_ne_true, le-ltb, lt-ltb, ltb-true, ltb-false}
+use Rattle.std.proofs.lemmas.List.{append-nil, append_assoc, length-map, drop_at}
+use Rattle.std.proofs.lemmas.List.Elements.{All-map, All-weaker}
+use Rattle.std.proofs.lemmas.List.Folds.{list_any_none}
+use Rattle.block_index.specs.Means.{blocks}
+use Rattle.block_index.specs.Updates.{means as block_means}
+use Rattle.block_index.specs.declared.update.BlockUpdate.{BlockUpdate}
+use Rattle.message.specs.declared.msg.Msg.{Msg}
+use Rattle.message.specs.declared.msg.Msg.TheVariants.{DelRange}
+use Rattle.message.specs.Effects.{effects}
+use Rattle.message.proofs.Lists.{effects-append}
+use Rattle.meta_index.specs.declared.update.MetaUpdate.{MetaUpdate}
+use Rattle.meta_index.specs.Means.{metadata, IsMeantBy}
+use Rattle.meta_index.specs.Updates.{means as meta_means}
+use Rattle.meta_index.proofs.Fresh.{means_alike}
+use Rattle.pathkey.specs.Keys.{Key, enc, subtree, blocks_from, block_key, is_in}
+use Rattle.pathkey.specs.Names.{Path, IsPath}
+use Rattle.pathkey.specs.declared.errno.Errno.{Errno}
+use Rattle.pathkey.specs.declared.errno.Errno.TheVariants.{ENAMETOOLONG, EBUSY}
+use Rattle.pathkey.proofs.KeyFacts.{enc-append, under_from_key, in_subtree, in_subtree_from, path_in_subtree, block_in_subtree, in_blocks, block_in_blocks_from}
+use Rattle.pathkey.proofs.TextFacts.{text_len_enc}
+use Rattle.reference.specs.Tree.{Tree, Dir, File, At, Found, onward, entry_at}
+use Rattle.reference.specs.Calls.{Outcome, when, is_root, first_fault, same_path, text_len, path_fault, is_file, deepest, deepest_at, faults_of_rename_from, faults_of_place, does}
+use Rattle.reference.specs.Looks.{Look, Directory, Bytes, seen, look}
+use Rattle.reference.specs.Indexes.{Blocks, IndexesMean, PathOf, BlockOf, meta_of, most_blocks, moved}
+use Rattle.reference.specs.declared.call.Call.TheVariants.{Rename}
+use Rattle.reference.specs.declared.reply.Meta.{Meta}
+use Rattle.reference.specs.declared.reply.Reply.{Reply}
+use Rattle.reference.specs.declared.reply.Reply.TheVariants.{Done, Fault}
+use Rattle.reference.proofs.CallCases.{MayMove, renamed_cases}
+use Rattle.reference.proofs.Deepest.{Deepest, deepest_there}
+use Rattle.reference.proofs.EntryPaths.{append-nil as path_nil, along}
+use Rattle.reference.proofs.IndexLaws.{rename_law}
+use Rattle.reference.proofs.RenameLooks.{IsMoved, none_below, rename_moves}
+use Rattle.reference.proofs.Standing.{found_from, seen_found, file_seen, rising-found, below_deepest}
+use Rattle.reference.proofs.TreeEdits.{MayBeSeen, looks_may}
+use Rattle.call_compiler.specs.declared.indexes.Indexes.{Indexes}
+use Rattle.call_compiler.specs.Compiled.{Messages, no_messages, metadata_after, blocks_after, MeanTree, IsCompiled}
+use Rattle.call_compiler.specs.Moves.{AreBelow, put_under, is_key_too_long, replaced}
+use Rattle.call_compiler.proofs.Appending.{blocks_alike}
+use Rattle.call_compiler.proofs.Compiling.{After, meta_meant, compiled_kept, compiled_refused, compiled_done}
+use Rattle.call_compiler.proofs.Faults.{too_long, rename_of_nothing, rename_to_itself, rename_no_place, rename_too_long, rename_done}
+use Rattle.call_compiler.proofs.Overlay.{source, source_at, puts_move}
+
+-- ---- what is known of keys
+
+-- of two beginnings of one list one is a beginning of the other
+beginnings : (xs ys z w : List ℕ) → xs ++ z ≡ ys ++ w → ((u : List ℕ) × (xs ≡ ys ++ u)) ⊎ ((u : List ℕ) × (ys ≡ xs ++ u))
+beginnings [] ys z w e = inr (ys, refl)
+beginnings (x ∷ xs) [] z w e = inl (x ∷ xs, refl)
+beginnings (x ∷ xs) (y ∷ ys) z w e =
+    let head : x ≡ y = cc in
+    let tail : xs ++ z ≡ ys ++ w = cc in
+    elim (beginnings xs ys z w tail) [
+      | inl f ↦ inl (f.0, (let g : xs ≡ ys ++ f.0 = f.1 in cc))
+      | inr f ↦ inr (f.0, (let g : ys ≡ xs ++ f.0 = f.1 in cc))
+    ]
+
+-- the subtrees of two paths have a key in common only where one path is at or below the other
+subtrees_apart : (o n : Path) → IsPath o → IsPath n → ((r : Path) → o ≡ n ++ r → ⊥) → ((r : Path) → n ≡ o ++ r → ⊥) → (k : Key) → is_in (subtree n) k ≡ true → is_in (subtree o) k ≡ false
+subtrees_apart o n old new above below k inside = false_from_ne_true (is_in (subtree o) k) (λ also.
+    let z : (z : Key) × (k ≡ enc n ++ z) = in_subtree n k inside in
+    let w : (w : Key) × (k ≡ enc o ++ w) = in_subtree o k also in
+    elim (beginnings (enc n) (enc o) z.0 w.0 (sym z.1 ∙ w.1)) [
+      | inl f ↦ let r = under_from_key o n f.0 old.names new.names (sym f.1) in below r.0 r.1
+      | inr f ↦ let r = under_from_key n o f.0 new.names old.names (sym f.1) in above r.0 r.1
+    ])
+
+-- metadata tells that something is seen, and what is seen has metadata
+looked : (l : Option Look) (v : Meta) → meta_of l ≡ Some v → (k : Look) × (l ≡ Some k)
+looked None v h = absurd (cc)
+looked (Some k) v h = (k, refl)
+
+metadata_seen : (l : Look) → (v : Meta) × (meta_of (Some l) ≡ Some v)
+metadata_seen Directory = (_, refl)
+metadata_seen (Bytes b) = (_, refl)
+
+-- a fault that comes second
+second_none : (a b : Option Errno) → first_fault (a ∷ b ∷ []) ≡ None → b ≡ None
+second_none None None h = refl
+second_none None (Some e) h = absurd (cc)
+second_none (Some d) b h = absurd (cc)
+
+-- an element of a list passes the test
+any_at : {X Y : Type 0} (test : Y → Bool) (f : X → Y) (xs : List X) (i : ℕ) (d : X) → i < length xs → test (f (get_or xs i d)) ≡ true → list_any test (map f xs) ≡ true
+any_at test f [] i d l h = absurd (omega arith)
+any_at test f (x ∷ xs) zero d l h = subst (λ (b : Bool). (b || list_any test (map f xs)) ≡ true) (sym h) refl
+any_at test f (x ∷ xs) (suc i) d l h = elim (test (f x)) as (λ b. (b || list_any test (map f xs)) ≡ true) [
+  | true ↦ refl
+  | false ↦ any_at test f xs i d (omega arith) h
+]
+
+-- ---- a text that gets too long
+
+module _ (t : Tree) (i : Indexes) (o n : Path) (means : IsMeantBy t i.meta) (old : IsPath o) (x : Tree) (at : entry_at t o ≡ Found x) (es : List (Key × Meta)) (below : AreBelow (metadata i.meta) o es) where
+  -- the message that puts an entry has a key that is too long
+  abbrev Long : Key × Meta → Bool
+  Long p = is_key_too_long (put_under {U = MetaUpdate} o n p)
+
+  -- what is seen below o is seen in what stands there
+  below_old : (r : Path) → look t (o ++ r) ≡ look x r
+  below_old r = ap seen (along t o r ∙ ap (λ (a : At). fold onward a r) at)
+
+  -- the new key of a path below o
+  new_length : (r : Path) → length (enc n ++ drop (length (enc o)) (enc (o ++ r))) ≡ text_len n + text_len r
+  new_length r =
+      ap (λ (k : Key). length (enc n ++ drop (length (enc o)) k)) (enc-append o r)
+      ∙ ap (λ (k : Key). length (enc n ++ k)) (drop_at (enc o) (enc r) (length (enc o)) refl)
+      ∙ omega (arith, length-append (enc n) (enc r), text_len_enc n, text_len_enc r)
+
+  -- no key is longer than that of the deepest entry
+  entry_fits : text_len n + deepest x ≤ 1023 → (p : Key × Meta) → is_in (subtree o) p.0 ≡ true → metadata i.meta p.0 ≡ Some p.1 → Long p ≡ false
+  entry_fits fits p inside is =
+      let c : PathOf p.0 = means.meta.only_paths p.0 p.1 is in
+      let z : (z : Key) × (p.0 ≡ enc o ++ z) = in_subtree o p.0 inside in
+      let r : (r : Path) × (c.path ≡ o ++ r) × (z.0 ≡ enc r) = under_from_key o c.path z.0 old.names c.is_path.names (sym z.1 ∙ c.key) in
+      let l : (l : Look) × (look t c.path ≡ Some l) = looked (look t c.path) p.1 (sym (means.meta.paths c.path c.is_path) ∙ ap (metadata i.meta) (sym c.key) ∙ is) in
+      let deep : text_len r.0 ≤ deepest x = below_deepest r.0 x l.0 (sym (below_old r.0) ∙ ap (look t) (sym r.1) ∙ l.1) in
+      let long : length (enc n ++ drop (length (enc o)) p.0) ≡ text_len n + text_len r.0 = ap (λ (k : Key). length (enc n ++ drop (length (enc o)) k)) (c.key ∙ ap enc r.1) ∙ new_length r.0 in
+      le-ltb 1023 (length (enc n ++ drop (length (enc o)) p.0)) (omega arith)
+
+  -- the deepest entry's key is among them
+  deepest_put : 1023 < text_len n + deepest x → list_any is_key_too_long (map (put_under {U = MetaUpdate} o n) es) ≡ true
+  deepest_put long =
+      let d : Deepest x = deepest_there x (rising-found o t x at means.tree.rising) in
+      let there : look t (o ++ d.path) ≡ Some d.there = below_old d.path ∙ d.seen in
+      let may : MayBeSeen (o ++ d.path) d.there = looks_may t (o ++ d.path) d.there means.tree there in
+      let v : (v : Meta) × (meta_of (Some d.there) ≡ Some v) = metadata_seen d.there in
+      let is : metadata i.meta (enc (o ++ d.path)) ≡ Some v.0 = means.meta.paths (o ++ d.path) may.path ∙ ap meta_of there ∙ v.1 in
+      let c : Contains es (enc (o ++ d.path), v.0) = below.all (enc (o ++ d.path)) v.0 (ap (is_in (subtree o)) (enc-append o d.path) ∙ in_subtree_from o (enc d.path)) is in
+      let l : text_len d.path ≡ deepest x = d.long in
+      let whole : length (enc n ++ drop (length (enc o)) (enc (o ++ d.path))) ≡ text_len n + text_len d.path = new_length d.path in
+      any_at is_key_too_long (put_under {U = MetaUpdate} o n) es c.0 (enc (o ++ d.path), v.0) c.1
+      (ap Long c.2 ∙ lt-ltb 1023 (length (enc n ++ drop (length (enc o)) (enc (o ++ d.path)))) (omega arith))
+
+  -- a message has too long a key exactly where a text gets too long
+  pub long_key : list_any is_key_too_long (map (put_under {U = MetaUpdate} o n) es) ≡ too_long t o n
+  long_key =
+      let deep : deepest_at (entry_at t o) ≡ deepest x = ap deepest_at at in
+      elim (too_long t o n) as (λ b. too_long t o n ≡ b → list_any is_key_too_long (map (put_under {U = MetaUpdate} o n) es) ≡ b) [
+        | true ↦ λ e. deepest_put (let l : 1023 < text_len n + deepest_at (entry_at t o) = ltb-true 1023 (text_len n + deepest_at (entry_at t o)) e in omega arith)
+        | false ↦ λ e. list_any_none is_key_too_long (map (put_under {U = MetaUpdate} o n) es)
+            (All-map (λ m. is_key_too_long m ≡ false) (put_under {U = MetaUpdate} o n) es
+            (All-weaker (λ p. (is_in (subtree o) p.0 ≡ true) × (metadata i.meta p.0 ≡ Some p.1)) (λ p. Long p ≡ false)
+            (λ p h. entry_fits (let l : text_len n + deepest_at (entry_at t o) ≤ 1023 = ltb-false 1023 (text_len n + deepest_at (entry_at t o)) e in omega arith) p h.0 h.1) es below.scan.sound))
+      ] refl
+
+-- ---- what the messages make of the values
+
+module _ (t : Tree) (i : Indexes) (o n : Path) (means : MeanTree i t) (old : IsPath o) (new : IsPath n) (may : MayMove t o n) where
+  -- below n nothing is seen but what stands there
+  alone : (r : Path) (l : Look) → look t (n ++ r) ≡ Some l → r ≡ []
+  alone [] l h = refl
+  alone (k ∷ r) l h =
+      let f : (x : Tree) × (entry_at t (n ++ k ∷ r) ≡ Found x) = seen_found (entry_at t (n ++ k ∷ r)) l h in
+      absurd (none_below (entry_at t n) k r may.not_full (ap path_fault (sym (along t n (k ∷ r)) ∙ f.1)))
+
+  -- so no other key has metadata there
+  no_metadata : (k : Key) → is_in (subtree n) k ≡ true → source o n (metadata i.meta) k ≡ None → metadata i.meta k ≡ None
+  no_metadata k inside none = elim (metadata i.meta k) as (λ v. metadata i.meta k ≡ v → v ≡ None) [
+    | None ↦ λ e. refl
+    | Some v ↦ λ e. absurd (
+        let c : PathOf k = means.meta.only_paths k v e in
+        let r : (r : Path) × (c.path ≡ n ++ r) = path_in_subtree n c.path new.names c.is_path.names (ap (is_in (subtree n)) (sym c.key) ∙ inside) in
+        let l : (l : Look) × (look t c.path ≡ Some l) = looked (look t c.path) v (sym (means.meta.paths c.path c.is_path) ∙ ap (metadata i.meta) (sym c.key) ∙ e) in
+        let only : r.0 ≡ [] = alone r.0 l.0 (ap (look t) (sym r.1) ∙ l.1) in
+        let key : k ≡ enc n ++ [] = c.key ∙ ap enc (r.1 ∙ ap (λ (p : Path). n ++ p) only) ∙ enc-append n [] in
+        let f : (x : Tree) × (entry_at t o ≡ Found x) = found_from (entry_at t o) may.there in
+        let here : (v : Meta) × (metadata i.meta (enc o) ≡ Some v) = found_metadata f.0 f.1 in
+        let gone : metadata i.meta (enc o ++ []) ≡ None = sym (source_at o n (metadata i.meta) []) ∙ ap (source o n (metadata i.meta)) (sym key) ∙ none in
+        let both : None ≡ Some here.0 = sym gone ∙ ap (metadata i.meta) (append-nil (enc o)) ∙ here.1 in
+        cc)
+  ] refl
+    where
+      found_metadata : (x : Tree) → entry_at t o ≡ Found x → (v : Meta) × (metadata i.meta (enc o) ≡ Some v)
+      found_metadata (Dir es) h = (_, means.meta.paths o old ∙ ap (λ (a : At). meta_of (seen a)) h)
+      found_metadata (File b) h = (_, means.meta.paths o old ∙ ap (λ (a : At). meta_of (seen a)) h)
+
+  -- the blocks below n are those of the file that stands there
+  block_alone : (k : Key) (v : List ℕ) → is_in (subtree n) k ≡ true → blocks i.block k ≡ Some v → (is_file (entry_at t n) ≡ true) × (j : ℕ) × (j < most_blocks) × (k ≡ block_key n j)
+  block_alone k v inside e =
+      let c : BlockOf t k = means.blocks.only_blocks k v e in
+      let r : (r : Path) × (c.path ≡ n ++ r) = block_in_subtree n c.path c.index new.names c.is_path.names (ap (is_in (subtree n)) (sym c.key) ∙ inside) in
+      let only : r.0 ≡ [] = alone r.0 (Bytes c.bytes) (ap (look t) (sym r.1) ∙ c.file) in
+      let path : c.path ≡ n = r.1 ∙ ap (λ (p : Path). n ++ p) only ∙ path_nil n in
+      (ap is_file (file_seen (entry_at t n) c.bytes (ap (look t) (sym path) ∙ c.file)), c.index, c.few, c.key ∙ ap (λ (p : Path). block_key p c.index) path)
+
+  -- the blocks when those of a file that is replaced are gone
+  abbrev kept : Blocks
+  kept k = effects block_means (replaced (entry_at t n) n) k (blocks i.block k)
+
+  -- below n none is left
+  no_blocks : (k : Key) → is_in (subtree n) k ≡ true → kept k ≡ None
+  no_blocks k inside = elim (blocks i.block k) as (λ v. blocks i.block k ≡ v → effects block_means (replaced (entry_at t n) n) k v ≡ None) [
+    | None ↦ λ e. elim (is_file (entry_at t n)) as (λ b. effects block_means (cond {A = List (Msg BlockUpdate (List ℕ))} b (DelRange (blocks_from n 0) ∷ []) []) k None ≡ None) [
+      | true ↦ elim (is_in (blocks_from n 0) k) as (λ b. cond {A = Option (List ℕ)} b None None ≡ None) [ | true ↦ refl | false ↦ refl ]
+      | false ↦ refl
+    ]
+    | Some v ↦ λ e.
+        let c = block_alone k v inside e in
+        let few : c.1 < 268435456 = c.2 in
+        let there : is_in (blocks_from n 0) k ≡ true = ap (is_in (blocks_from n 0)) c.3 ∙ block_in_blocks_from n n 0 c.1 (omega arith) (omega arith) (refl, omega arith) in
+        ap (λ (b : Bool). effects block_means (cond {A = List (Msg BlockUpdate (List ℕ))} b (DelRange (blocks_from n 0) ∷ []) []) k (Some v)) c.0
+        ∙ ap (λ (b : Bool). cond {A = Option (List ℕ)} b None (Some v)) there
+  ] refl
+
+  -- and elsewhere all are as they were
+  other_blocks : (k : Key) → is_in (subtree n) k ≡ false → kept k ≡ blocks i.block k
+  other_blocks k outside = elim (is_file (entry_at t n)) as (λ b. effects block_means (cond {A = List (Msg BlockUpdate (List ℕ))} b (DelRange (blocks_from n 0) ∷ []) []) k (blocks i.block k) ≡ blocks i.block k) [
+    | true ↦ ap (λ (b : Bool). cond {A = Option (List ℕ)} b None (blocks i.block k)) (false_from_ne_true (is_in (blocks_from n 0) k) (λ h.
+        let z = in_blocks n 0 k h in
+        let both : true ≡ false = sym (in_subtree_from n (0 ∷ z.0)) ∙ ap (is_in (subtree n)) (sym z.1) ∙ outside in
+        cc))
+    | false ↦ refl
+  ]
+
+  module _ (t' : Tree) (is : IsMoved t t' o n) (moves : IndexesMean t' (moved o n (metadata i.meta)) (moved o n (blocks i.block)))
+      (es : List (Key × Meta)) (bs : List (Key × List ℕ)) (entries : AreBelow (metadata i.meta) o es) (contents : AreBelow (blocks i.block) o bs) (msgs : Messages)
+      (meta : msgs.meta ≡ map (put_under o n) es ++ DelRange (subtree o) ∷ []) (block : msgs.block ≡ replaced (entry_at t n) n ++ map (put_under o n) bs ++ DelRange (subtree o) ∷ []) where
+    apart : (k : Key) → is_in (subtree n) k ≡ true → is_in (subtree o) k ≡ false
+    apart = subtrees_apart o n old new is.not_above is.not_below
+
+    -- the messages make the indexes mean the tree after the move
+    pub messages_move : After i msgs t'
+    messages_move = record {
+      tree = moves.tree;
+      meta = means_alike t' (moved o n (metadata i.meta)) (metadata_after msgs (metadata i.meta))
+          (λ k. ap (λ (ms : List (Msg MetaUpdate Meta)). effects meta_means ms k (metadata i.meta k)) meta
+          ∙ puts_move meta_means o n (metadata i.meta) es entries (metadata i.meta) apart no_metadata (λ k e. refl) k)
+          moves.meta;
+      blocks = blocks_alike t' (moved o n (blocks i.block)) (blocks_after msgs (blocks i.block))
+          (λ k. ap (λ (ms : List (Msg BlockUpdate (List ℕ))). effects block_means ms k (blocks i.block k)) (block ∙ append_assoc (replaced (entry_at t n) n) (map (put_under o n) bs) (DelRange (subtree o) ∷ []))
+          ∙ effects-append block_means (replaced (entry_at t n) n) (map (put_under o n) bs ++ DelRange (subtree o) ∷ []) k (blocks i.block k)
+          ∙ puts_move block_means o n (blocks i.block) bs contents kept apart (λ k e h. no_blocks k e) other_blocks k)
+          moves.blocks;
+    }
+
+-- where the table does a rename between two paths, it lets it
+may_move : (t : Tree) (o n : Path) → same_path o n ≡ false → (does t (Rename o n)).1 ≡ Done → MayMove t o n
+unfolding does
+may_move t o n apart = renamed_cases (λ (z : Outcome). z.1 ≡ Done → MayMove t o n) t o n (λ e h. absurd (cc)) (λ same h. absurd (let both : true ≡ false = sym same ∙ apart in cc)) (λ may h. may)
+
+-- ---- what `rename` is compiled to
+
+module _ (i : Indexes) (o n : Path) (reply : Reply) (msgs : Messages) (from : Option Errno) (first : (t : Tree) → IsMeantBy t i.meta → from ≡ first_fault (faults_of_rename_from t o)) where
+  pub rename_is_of_nothing : (e : Errno) → from ≡ Some e → reply ≡ Fault e → msgs ≡ no_messages → IsCompiled i (Rename o n) reply msgs
+  rename_is_of_nothing e is = compiled_refused i (Rename o n) reply msgs e (λ t means. rename_of_nothing t o n e (sym (first t (meta_meant i t means)) ∙ is))
+
+  module _ (here : from ≡ None) where
+    -- what is to be moved is there
+    there : (t : Tree) → IsMeantBy t i.meta → first_fault (faults_of_rename_from t o) ≡ None
+    there t means = sym (first t means) ∙ here
+
+    found : (t : Tree) → IsMeantBy t i.meta → path_fault (entry_at t o) ≡ None
+    found t means = second_none (when (is_root o) EBUSY) (path_fault (entry_at t o)) (there t means)
+
+    pub rename_is_to_itself : same_path o n ≡ true → reply ≡ Done → msgs ≡ no_messages → IsCompiled i (Rename o n) reply msgs
+    rename_is_to_itself same r = compiled_kept i (Rename o n) reply msgs
+        (λ t means. r ∙ sym (ap (λ (z : Outcome). z.1) (rename_to_itself t o n (there t (meta_meant i t means)) same)))
+        (λ t means. ap (λ (z : Outcome). z.0) (rename_to_itself t o n (there t (meta_meant i t means)) same))
+
+    module _ (apart : same_path o n ≡ false) (place : Option Errno) (fits : (t : Tree) → IsMeantBy t i.meta → path_fault (entry_at t o) ≡ None → place ≡ first_fault (faults_of_place t o n)) where
+      pub rename_is_without_place : (e : Errno) → place ≡ Some e → reply ≡ Fault e → msgs ≡ no_messages → IsCompiled i (Rename o n) reply msgs
+      rename_is_without_place e is = compiled_refused i (Rename o n) reply msgs e
+          (λ t means. let m : IsMeantBy t i.meta = meta_meant i t means in rename_no_place t o n (there t m) apart e (sym (fits t m (found t m)) ∙ is))
+
+      module _ (free : place ≡ None) (is_old : IsPath o) (es : List (Key × Meta)) (entries : AreBelow (metadata i.meta) o es) where
+        -- the keys tell whether a text gets too long
+        longs : (t : Tree) → IsMeantBy t i.meta → list_any is_key_too_long (map (put_under {U = MetaUpdate} o n) es) ≡ too_long t o n
+        longs t m = let f : (x : Tree) × (entry_at t o ≡ Found x) = found_from (entry_at t o) (found t m) in long_key t i o n m is_old f.0 f.1 es entries
+
+        pub rename_is_too_long : list_any is_key_too_long (map (put_under {U = MetaUpdate} o n) es) ≡ true → reply ≡ Fault ENAMETOOLONG → msgs ≡ no_messages → IsCompiled i (Rename o n) reply msgs
+        rename_is_too_long long = compiled_refused i (Rename o n) reply msgs ENAMETOOLONG
+            (λ t means. let m : IsMeantBy t i.meta = meta_meant i t means in rename_too_long t o n (there t m) apart (sym (fits t m (found t m)) ∙ free) (sym (longs t m) ∙ long))
+
+        module _ (short : list_any is_key_too_long (map (put_under {U = MetaUpdate} o n) es) ≡ false) (is_new : IsPath n) where
+          answers : (t : Tree) → MeanTree i t → (does t (Rename o n)).1 ≡ Done
+          answers t means = let m : IsMeantBy t i.meta = meta_meant i t means in rename_done t o n (there t m) apart (sym (fits t m (found t m)) ∙ free) (sym (longs t m) ∙ short)
+
+          pub rename_is_done : (bs : List (Key × List ℕ)) → AreBelow (blocks i.block) o bs → (gone : List (Msg BlockUpdate (List ℕ))) → ((t : Tree) → IsMeantBy t i.meta → gone ≡ replaced (entry_at t n) n) → length gone ≤ 1
+              → reply ≡ Done → msgs ≡ record { meta = map (put_under o n) es ++ DelRange (subtree o) ∷ []; block = gone ++ map (put_under o n) bs ++ DelRange (subtree o) ∷ [] } → IsCompiled i (Rename o n) reply msgs
+          rename_is_done bs contents gone are few r m =
+              compiled_done i (Rename o n) reply msgs Done (record { meta = map (put_under o n) es ++ DelRange (subtree o) ∷ []; block = gone ++ map (put_under o n) bs ++ DelRange (subtree o) ∷ [] }) (λ e. (λ f. cc))
+              answers
+              (λ t means e.
+              let t' : Tree = (does t (Rename o n)).0 in
+              messages_move t i o n means is_old is_new (may_move t o n apart (answers t means)) t' (rename_moves t t' o n apart e)
+              (rename_law t t' o n (metadata i.meta) (blocks i.block) means (is_old, is_new) apart e) es bs entries contents _ refl
+              (ap (λ (ms : List (Msg BlockUpdate (List ℕ))). ms ++ map (put_under o n) bs ++ DelRange (subtree o) ∷ []) (are t (meta_meant i t means))))
+              (inr (es, bs, entries, contents, counted))
+              r m
+            where
+              counted : length (map (put_under {U = MetaUpdate} o n) es ++ DelRange (subtree o) ∷ []) + length (gone ++ map (put_under o n) bs ++ DelRange (subtree o) ∷ []) ≤ length es + length bs + 3
+              counted = omega (arith, length-append (map (put_under {U = MetaUpdate} {V = Meta} o n) es) (DelRange (subtree o) ∷ []), length-append (gone ++ map (put_under o n) bs) (DelRange (subtree o) ∷ []), length-append gone (map (put_under o n) bs), length-map es (put_under {U = MetaUpdate} {V = Meta} o n), length-map bs (put_under {U = BlockUpdate} {V = List ℕ} o n), few)

@@ -1,0 +1,140 @@
+//! `rename`.
+ghost use Rattle.std.specs.Prelude.{◌≡◌, ◌≤◌, [], ◌∷◌, ◌++◌, IfOk, None, length, not};
+ghost use Rattle.call_compiler.specs.Compiled.{IsCompiled, messages};
+ghost use Rattle.call_compiler.specs.Moves.{replaced};
+ghost use Rattle.message.specs.declared.msg.Msg.TheVariants.{DelRange};
+ghost use Rattle.meta_index.specs.Means.{IsMeantBy, told};
+ghost use Rattle.pathkey.specs.Keys.{subtree as subtree_of};
+ghost use Rattle.reference.specs.Calls.{faults_of_place, faults_of_replacing, first_fault, is_directory as stands_directory, is_full, path_fault, same_path};
+ghost use Rattle.reference.specs.Tree as trees;
+
+use crate::batch::{Batch, refused, without_messages};
+use crate::files::find_file;
+use crate::indexes::Indexes;
+use crate::removing::fault_of_rmtree;
+use crate::subtrees::{has_too_long_key, put_moved};
+use block_index::BlockUpdate;
+use message::Msg;
+use meta_index::{At, Meta, MetaUpdate};
+use pathkey::{Errno, NoMemory, Path, blocks_from, subtree};
+use reference::{Call, Reply};
+use std::alloc::Global;
+
+/// Moves what stands at `old`, with all that lies below it, to `new`, where it replaces a file or an empty directory
+/// (POSIX.1-2017, rename). What stands at `old` stays there where both paths are one.
+///
+/// Each entry and each block at or below `old` is put under its new key, and then one range-delete in each index takes out what
+/// stood at or below `old`; the blocks of a file that is replaced go before all else. No byte of a file is copied.
+pub(crate) fn rename(
+    alloc: Global,
+    indexes: &Indexes,
+    old: &Path,
+    new: &Path,
+) -> Result<(Reply, Batch), NoMemory>
+    ensures { IfOk result (λ c. IsCompiled indexes.now (Call.Rename old.now new.now) c.0 (messages c.1)) }
+{
+    let _old_key = old.key();
+    let _new_key = new.key();
+    if let Some(fault) = fault_of_rmtree(alloc, indexes, old)? {
+        return Ok(refused(alloc, fault));
+    }
+    if are_same(old, new) {
+        return Ok(without_messages(alloc, Reply::Done));
+    }
+    if let Some(fault) = fault_of_place(alloc, indexes, old, new)? {
+        return Ok(refused(alloc, fault));
+    }
+    let entries = put_moved(alloc, &indexes.meta.tree, old, new, Vec::new(alloc))?;
+    if has_too_long_key(entries.as_slice()) {
+        return Ok(refused(alloc, Errno::ENAMETOOLONG));
+    }
+    let replaced = replaced_blocks(alloc, indexes, new)?;
+    let blocks = put_moved(alloc, &indexes.block.tree, old, new, replaced)?;
+    let batch = without_old(alloc, old, entries, blocks)?;
+    Ok((Reply::Done, batch))
+}
+
+/// Whether the two paths are one.
+fn are_same(first: &Path, second: &Path) -> bool
+    ensures { result ≡ same_path first.now second.now }
+{
+    second.is_under(first) && first.is_under(second)
+}
+
+/// Why what stands at `old` cannot be put at `new`, another path, whatever the length of its texts; none where it can.
+fn fault_of_place(
+    alloc: Global,
+    indexes: &Indexes,
+    old: &Path,
+    new: &Path,
+) -> Result<Option<Errno>, NoMemory>
+    ensures { IfOk result (λ fault. (t : trees.Tree) → IsMeantBy t indexes.now.meta → path_fault (trees.entry_at t old.now) ≡ None → fault ≡ first_fault (faults_of_place t old.now new.now)) }
+{
+    let from = indexes.meta.find(alloc, old)?;
+    if is_directory(from) && new.is_under(old) {
+        return Ok(Some(Errno::EINVAL));
+    }
+    if let Some(fault) = indexes.meta.fault_of_parent(alloc, new)? {
+        return Ok(Some(fault));
+    }
+    let to = indexes.meta.find(alloc, new)?;
+    let empty = indexes.meta.is_empty_dir(alloc, new)?;
+    Ok(fault_of_replacing(from, to, empty))
+}
+
+/// Whether a directory stands at a path.
+fn is_directory(at: At) -> bool
+    ensures { (here : trees.At) → at ≡ told here → result ≡ stands_directory here }
+{
+    match at {
+        At::Found(Meta::Dir) => true,
+        At::Found(Meta::File { .. }) => false,
+        At::Missing => false,
+        At::Blocked => false,
+    }
+}
+
+/// Why what stands at one path cannot take the place of what stands at another, below which nothing stands or something.
+fn fault_of_replacing(from: At, to: At, empty: bool) -> Option<Errno>
+    ensures { (a b : trees.At) → from ≡ told a → to ≡ told b → empty ≡ not (is_full b) → path_fault a ≡ None → result ≡ first_fault (faults_of_replacing a b) }
+{
+    match (from, to) {
+        (At::Found(Meta::File { .. }), At::Found(Meta::Dir)) => Some(Errno::EISDIR),
+        (At::Found(Meta::Dir), At::Found(Meta::File { .. })) => Some(Errno::ENOTDIR),
+        (At::Found(Meta::Dir), At::Found(Meta::Dir)) if !empty => Some(Errno::ENOTEMPTY),
+        _ => None,
+    }
+}
+
+/// The message that takes out the blocks of the file at the path; none where no file stands there.
+fn replaced_blocks(
+    alloc: Global,
+    indexes: &Indexes,
+    path: &Path,
+) -> Result<Vec<Msg<BlockUpdate>>, NoMemory>
+    ensures blocks { IfOk result (λ msgs. (t : trees.Tree) → IsMeantBy t indexes.now.meta → msgs.items ≡ replaced (trees.entry_at t path.now) path.now) }
+    ensures few { IfOk result (λ msgs. length msgs.items ≤ 1) }
+{
+    let mut msgs = Vec::new(alloc);
+    if find_file(alloc, indexes, path, Errno::EISDIR)?.is_ok() {
+        msgs.push(Msg::DelRange(blocks_from(alloc, path, 0)?))?;
+    }
+    Ok(msgs)
+}
+
+/// The batch of a rename: behind the messages, a range-delete in each index over what lies at or below the path.
+fn without_old(
+    alloc: Global,
+    old: &Path,
+    entries: Vec<Msg<MetaUpdate>>,
+    blocks: Vec<Msg<BlockUpdate>>,
+) -> Result<Batch, NoMemory>
+    ensures { IfOk result (λ b. messages b ≡ record { meta = entries.items ++ DelRange (subtree_of old.now) ∷ []; block = blocks.items ++ DelRange (subtree_of old.now) ∷ [] }) }
+{
+    let range = subtree(alloc, old)?;
+    let mut block = blocks;
+    block.push(Msg::DelRange(range.copy(alloc)?))?;
+    let mut meta = entries;
+    meta.push(Msg::DelRange(range))?;
+    Ok(Batch { meta, block })
+}
