@@ -1,6 +1,6 @@
 //! What calls on indexes are answered and how many messages they send.
 use crate::ask::{Ask, Told};
-use call_compiler::{Call, Indexes, Reply, compile, is_compiled};
+use call_compiler::{Call, Indexes, Reply, compile};
 use node::Shape;
 use pathkey::Errno;
 use std::alloc::Global;
@@ -21,9 +21,6 @@ type Row<'a> = (Ask<'a>, Told<'a>, Counts);
 
 /// Does a call, and answers its reply and how many messages each index got.
 fn run(alloc: Global, indexes: &mut Indexes, call: &Call) -> Result<(Reply, Counts), Fail> {
-    if !is_compiled(call) {
-        return Ok((Reply::Done, (0, 0)));
-    }
     let (reply, batch) = compile(alloc, indexes, call)?;
     let counts = (batch.meta.len(), batch.block.len());
     indexes.append(alloc, batch)?;

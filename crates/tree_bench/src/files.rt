@@ -1,7 +1,4 @@
 //! File calls on compiled indexes, and the same paths in a map of std.
-ghost use Rattle.std.specs.Prelude.{IsTrue};
-ghost use Rattle.call_compiler.specs.Compiled.{is_compiled};
-
 use crate::work::{LOOKED_UP, relieve_above, scattered};
 use call_compiler::{Indexes, compile};
 use pathkey::{Key, NoMemory, Path};
@@ -54,9 +51,7 @@ fn path(alloc: Global, text: &String) -> Result<Path, NoMemory> {
 }
 
 /// Does a call, and then a step that relieves each tree whose root has too many messages; gives the reply.
-pub fn run(alloc: Global, indexes: &mut Indexes, call: &Call) -> Result<Reply, NoMemory>
-    requires { IsTrue (is_compiled call.now) }
-{
+pub fn run(alloc: Global, indexes: &mut Indexes, call: &Call) -> Result<Reply, NoMemory> {
     let (reply, batch) = compile(alloc, indexes, call)?;
     indexes.append(alloc, batch)?;
     relieve_above(alloc, &mut indexes.meta.tree, LOOKED_UP)?;
@@ -65,9 +60,7 @@ pub fn run(alloc: Global, indexes: &mut Indexes, call: &Call) -> Result<Reply, N
 }
 
 /// Does a call; whether it was done.
-fn is_done(alloc: Global, indexes: &mut Indexes, call: &Call) -> Result<bool, NoMemory>
-    requires { IsTrue (is_compiled call.now) }
-{
+fn is_done(alloc: Global, indexes: &mut Indexes, call: &Call) -> Result<bool, NoMemory> {
     let reply = run(alloc, indexes, call)?;
     Ok(matches!(reply, Reply::Done))
 }
