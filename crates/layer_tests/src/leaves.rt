@@ -4,9 +4,8 @@ ghost use Rattle.node.specs.Lawful.{Rises};
 
 use node::node::leaf::{applied, divide, position};
 use pathkey::{Key, NoMemory};
-use samples::{Digit, Plain, batch, key, numbers};
+use samples::{Digit, Plain, batch, key, number};
 use std::alloc::Global;
-use std::test::Fail;
 
 /// The entries after the messages.
 fn after(
@@ -17,8 +16,10 @@ fn after(
     requires { Rises [] None entries.now }
     ensures { IfOk result (λ v. Rises [] None v.items) }
 {
-    let msgs = batch(alloc, plain)?;
-    applied::<Digit>(alloc, entries, msgs.as_slice())
+    match batch(alloc, plain) {
+        Ok(msgs) => applied::<Digit>(alloc, entries, msgs.as_slice()),
+        Err(fault) => Err(fault),
+    }
 }
 
 /// The entries with keys 2, 4, 6 and 8, of which each has ten times its key.
@@ -34,87 +35,155 @@ fn even(alloc: Global) -> Result<Vec<(Key, u64)>, NoMemory>
     after(alloc, &[], &puts)
 }
 
+/// Whether the entries have these numbers.
+fn are_numbered(entries: &[(Key, u64)], wanted: &[(u8, u64)]) -> bool {
+    if entries.len() != wanted.len() {
+        return false;
+    }
+    for (entry, numbers) in entries.iter().zip(wanted) {
+        if number(&entry.0) != numbers.0 || entry.1 != numbers.1 {
+            return false;
+        }
+    }
+    true
+}
+
+/// Two messages, and what the four entries are after them.
+type Row = ([Plain; 2], &'static [(u8, u64)]);
+
+/// Whether the entries come to what the row says.
+fn comes_to(alloc: Global, entries: &[(Key, u64)], row: &Row) -> bool
+    requires { Rises [] None entries.now }
+{
+    match after(alloc, entries, &row.0) {
+        Ok(new) => are_numbered(&new, row.1),
+        Err(_) => false,
+    }
+}
+
+/// Whether the four entries come to what the row says.
+fn even_comes_to(alloc: Global, row: &Row) -> bool {
+    match even(alloc) {
+        Ok(entries) => comes_to(alloc, &entries, row),
+        Err(_) => false,
+    }
+}
+
+const ROWS: &[Row] = &[
+    (
+        [Plain::Put(4, 1), Plain::Put(5, 2)],
+        &[(2, 20), (4, 1), (5, 2), (6, 60), (8, 80)],
+    ),
+    (
+        [Plain::Put(1, 1), Plain::Put(9, 2)],
+        &[(1, 1), (2, 20), (4, 40), (6, 60), (8, 80), (9, 2)],
+    ),
+    ([Plain::Del(2), Plain::Del(3)], &[(4, 40), (6, 60), (8, 80)]),
+    (
+        [Plain::DelRange(4, Some(8)), Plain::DelRange(9, Some(1))],
+        &[(2, 20), (8, 80)],
+    ),
+    (
+        [Plain::DelRange(5, None), Plain::Edit(4, 3)],
+        &[(2, 20), (4, 403)],
+    ),
+    ([Plain::DelRange(0, None), Plain::Edit(6, 7)], &[(6, 7)]),
+    (
+        [Plain::Edit(2, 1), Plain::Edit(2, 2)],
+        &[(2, 12), (4, 40), (6, 60), (8, 80)],
+    ),
+    (
+        [Plain::Edit(8, 9), Plain::Edit(3, 9)],
+        &[(2, 20), (4, 40), (6, 60)],
+    ),
+    (
+        [Plain::Del(6), Plain::Put(6, 5)],
+        &[(2, 20), (4, 40), (6, 5), (8, 80)],
+    ),
+];
+
 #[test]
-fn applies_each_form_of_message(rt: HostRuntime) -> Result<(), Fail> {
-    let alloc = rt.alloc();
-    let leaf = even(alloc)?;
-    let cases: [([Plain; 2], &[(u8, u64)]); 9] = [
-        (
-            [Plain::Put(4, 1), Plain::Put(5, 2)],
-            &[(2, 20), (4, 1), (5, 2), (6, 60), (8, 80)],
-        ),
-        (
-            [Plain::Put(1, 1), Plain::Put(9, 2)],
-            &[(1, 1), (2, 20), (4, 40), (6, 60), (8, 80), (9, 2)],
-        ),
-        ([Plain::Del(2), Plain::Del(3)], &[(4, 40), (6, 60), (8, 80)]),
-        (
-            [Plain::DelRange(4, Some(8)), Plain::DelRange(9, Some(1))],
-            &[(2, 20), (8, 80)],
-        ),
-        (
-            [Plain::DelRange(5, None), Plain::Edit(4, 3)],
-            &[(2, 20), (4, 403)],
-        ),
-        ([Plain::DelRange(0, None), Plain::Edit(6, 7)], &[(6, 7)]),
-        (
-            [Plain::Edit(2, 1), Plain::Edit(2, 2)],
-            &[(2, 12), (4, 40), (6, 60), (8, 80)],
-        ),
-        (
-            [Plain::Edit(8, 9), Plain::Edit(3, 9)],
-            &[(2, 20), (4, 40), (6, 60)],
-        ),
-        (
-            [Plain::Del(6), Plain::Put(6, 5)],
-            &[(2, 20), (4, 40), (6, 5), (8, 80)],
-        ),
-    ];
-    for (msgs, want) in cases {
-        let new = after(alloc, leaf.as_slice(), &msgs)?;
-        assert_eq!(rt;
-            numbers(alloc, new.as_slice())?.as_slice(),
-            want,
-            "{msgs:?}"
+fn applies_each_form_of_message(rt: HostRuntime) {
+    for row in ROWS {
+        assert!(rt; even_comes_to(rt.alloc(), row), "{row:?}");
+    }
+}
+
+/// Where a key's entry stands among the entries, or would stand; none where memory is refused.
+fn place_of(alloc: Global, entries: &[(Key, u64)], at: u8) -> Option<Result<usize, usize>>
+    requires { Rises [] None entries.now }
+{
+    match key(alloc, at) {
+        Ok(at) => Some(position(entries, &at)),
+        Err(_) => None,
+    }
+}
+
+/// The same among the four entries.
+fn place_in_even(alloc: Global, at: u8) -> Option<Result<usize, usize>> {
+    match even(alloc) {
+        Ok(entries) => place_of(alloc, &entries, at),
+        Err(_) => None,
+    }
+}
+
+const PLACES: &[(u8, Result<usize, usize>)] = &[
+    (1, Err(0)),
+    (2, Ok(0)),
+    (3, Err(1)),
+    (6, Ok(2)),
+    (8, Ok(3)),
+    (9, Err(4)),
+];
+
+#[test]
+fn finds_entries_and_the_gaps_between(rt: HostRuntime) {
+    for row in PLACES {
+        assert!(rt;
+            place_in_even(rt.alloc(), row.0) == Some(row.1),
+            "at {}",
+            row.0
         );
     }
-    Ok(())
 }
 
-#[test]
-fn finds_entries_and_the_gaps_between(rt: HostRuntime) -> Result<(), Fail> {
-    let alloc = rt.alloc();
-    let leaf = even(alloc)?;
-    let cases = [
-        (1, Err(0)),
-        (2, Ok(0)),
-        (3, Err(1)),
-        (6, Ok(2)),
-        (8, Ok(3)),
-        (9, Err(4)),
-    ];
-    for (at, want) in cases {
-        let found = position(leaf.as_slice(), &key(alloc, at)?);
-        assert!(rt; found == want, "at {at}");
+/// Whether five entries are divided at the key 4.
+fn divides(alloc: Global, front: &mut Vec<(Key, u64)>) -> bool
+    requires { Rises [] None front.old.items }
+{
+    if front.len() < 2 {
+        return false;
     }
-    Ok(())
+    match divide(alloc, front) {
+        Ok((pivot, back)) => {
+            number(&pivot) == 4
+                && pivot.as_bytes().len() == 1
+                && are_numbered(front, &[(2, 20), (3, 30)])
+                && are_numbered(&back, &[(4, 40), (6, 60), (8, 80)])
+        }
+        Err(_) => false,
+    }
+}
+
+/// Whether the entries, and one more with the key 3, are divided at the key 4.
+fn divides_after(alloc: Global, entries: &[(Key, u64)]) -> bool
+    requires { Rises [] None entries.now }
+{
+    match after(alloc, entries, &[Plain::Put(3, 30)]) {
+        Ok(mut front) => divides(alloc, &mut front),
+        Err(_) => false,
+    }
+}
+
+/// The same of the four entries.
+fn divides_even(alloc: Global) -> bool {
+    match even(alloc) {
+        Ok(entries) => divides_after(alloc, &entries),
+        Err(_) => false,
+    }
 }
 
 #[test]
-fn divides_a_leaf_at_its_middle(rt: HostRuntime) -> Result<(), Fail> {
-    let alloc = rt.alloc();
-    let mut front = even(alloc)?;
-    front = after(alloc, front.as_slice(), &[Plain::Put(3, 30)])?;
-    assert!(rt; front.len() >= 2);
-    let (pivot, back) = divide(alloc, &mut front)?;
-    assert!(rt; pivot == key(alloc, 4)?);
-    assert_eq!(rt;
-        numbers(alloc, front.as_slice())?.as_slice(),
-        [(2, 20), (3, 30)].as_slice()
-    );
-    assert_eq!(rt;
-        numbers(alloc, back.as_slice())?.as_slice(),
-        [(4, 40), (6, 60), (8, 80)].as_slice()
-    );
-    Ok(())
+fn divides_a_leaf_at_its_middle(rt: HostRuntime) {
+    assert!(rt; divides_even(rt.alloc()));
 }

@@ -16,4 +16,6 @@ mod nodes;
 #[cfg(test)]
 mod searches;
 #[cfg(test)]
+mod trees;
+#[cfg(test)]
 mod turns;

@@ -1,52 +1,81 @@
 //! Values through messages that wait in the root, by rows of messages.
+use crate::trees::{append, small_tree};
 use lookup::get;
-use node::{Shape, Tree};
-use samples::{Digit, Plain, batch, key};
+use node::Tree;
+use pathkey::Key;
+use samples::{Digit, Plain, key};
 use std::alloc::Global;
-use std::test::Fail;
 
-const SMALL: Shape = Shape {
-    fanout: 4,
-    pending: 8,
-    leaf: 4,
-};
-
-/// The value at key 3 after the messages.
-fn value_after(alloc: Global, msgs: &[Plain]) -> Result<Option<u64>, Fail> {
-    let mut tree = Tree::<Digit>::new(alloc, SMALL)?;
-    tree.append(alloc, batch(alloc, msgs)?)?;
-    Ok(get(alloc, &tree, &key(alloc, 3)?)?)
-}
-
-#[test]
-fn finds_what_all_messages_make_of_a_key(rt: HostRuntime) -> Result<(), Fail> {
-    let alloc = rt.alloc();
-    let rows: [(&[Plain], Option<u64>); 9] = [
-        (&[Plain::Put(3, 1), Plain::Edit(3, 2)], Some(12)),
-        (&[Plain::Edit(3, 2), Plain::Put(3, 1)], Some(1)),
-        (&[Plain::Edit(3, 2), Plain::Edit(3, 4)], Some(24)),
-        (&[Plain::Put(3, 1), Plain::Edit(3, 9)], None),
-        (&[Plain::Put(3, 1), Plain::Del(3)], None),
-        (&[Plain::Put(3, 1), Plain::DelRange(0, Some(3))], Some(1)),
-        (&[Plain::Put(3, 1), Plain::DelRange(3, Some(4))], None),
-        (&[Plain::DelRange(2, None), Plain::Edit(3, 4)], Some(4)),
-        (&[Plain::Put(2, 7), Plain::Put(4, 8)], None),
-    ];
-    for (msgs, wanted) in rows {
-        assert_eq!(rt; value_after(alloc, msgs)?, wanted, "{msgs:?}");
+/// Whether a tree has this at a key.
+fn has(alloc: Global, tree: &Tree<Digit>, at: &Key, wanted: Option<u64>) -> bool {
+    match get(alloc, tree, at) {
+        Ok(found) => found == wanted,
+        Err(_) => false,
     }
-    Ok(())
+}
+
+/// Whether a tree has this at the key 3.
+fn has_at_three(alloc: Global, tree: &Tree<Digit>, wanted: Option<u64>) -> bool {
+    match key(alloc, 3) {
+        Ok(at) => has(alloc, tree, &at, wanted),
+        Err(_) => false,
+    }
+}
+
+/// Messages, and the value at the key 3 after them.
+type Row = (&'static [Plain], Option<u64>);
+
+/// Whether a new tree has the row's value after the row's messages.
+fn comes_to(alloc: Global, row: &Row) -> bool {
+    match small_tree(alloc) {
+        Ok(mut tree) => append(alloc, &mut tree, row.0) && has_at_three(alloc, &tree, row.1),
+        Err(_) => false,
+    }
+}
+
+const ROWS: &[Row] = &[
+    (&[Plain::Put(3, 1), Plain::Edit(3, 2)], Some(12)),
+    (&[Plain::Edit(3, 2), Plain::Put(3, 1)], Some(1)),
+    (&[Plain::Edit(3, 2), Plain::Edit(3, 4)], Some(24)),
+    (&[Plain::Put(3, 1), Plain::Edit(3, 9)], None),
+    (&[Plain::Put(3, 1), Plain::Del(3)], None),
+    (&[Plain::Put(3, 1), Plain::DelRange(0, Some(3))], Some(1)),
+    (&[Plain::Put(3, 1), Plain::DelRange(3, Some(4))], None),
+    (&[Plain::DelRange(2, None), Plain::Edit(3, 4)], Some(4)),
+    (&[Plain::Put(2, 7), Plain::Put(4, 8)], None),
+];
+
+#[test]
+fn finds_what_all_messages_make_of_a_key(rt: HostRuntime) {
+    for row in ROWS {
+        assert!(rt; comes_to(rt.alloc(), row), "{row:?}");
+    }
+}
+
+/// Whether a message to one tree leaves the other without a value.
+fn is_alone(alloc: Global, tree: &mut Tree<Digit>, shared: &Tree<Digit>) -> bool {
+    append(alloc, tree, &[Plain::Put(3, 5)])
+        && has_at_three(alloc, tree, Some(5))
+        && has_at_three(alloc, shared, None)
+}
+
+/// Whether a tree without a value and its share part.
+fn parts_from_its_share(alloc: Global, tree: &mut Tree<Digit>) -> bool {
+    match tree.share() {
+        Ok(shared) => is_alone(alloc, tree, &shared),
+        Err(_) => false,
+    }
+}
+
+/// The same of a new tree, in which nothing is found.
+fn parts(alloc: Global) -> bool {
+    match small_tree(alloc) {
+        Ok(mut tree) => has_at_three(alloc, &tree, None) && parts_from_its_share(alloc, &mut tree),
+        Err(_) => false,
+    }
 }
 
 #[test]
-fn finds_nothing_in_a_new_tree_and_each_value_in_its_own_tree(rt: HostRuntime) -> Result<(), Fail> {
-    let alloc = rt.alloc();
-    let at = key(alloc, 3)?;
-    let mut tree = Tree::<Digit>::new(alloc, SMALL)?;
-    assert_eq!(rt; get(alloc, &tree, &at)?, None);
-    let shared = tree.share()?;
-    tree.append(alloc, batch(alloc, &[Plain::Put(3, 5)])?)?;
-    assert_eq!(rt; get(alloc, &tree, &at)?, Some(5));
-    assert_eq!(rt; get(alloc, &shared, &at)?, None);
-    Ok(())
+fn finds_nothing_in_a_new_tree_and_each_value_in_its_own_tree(rt: HostRuntime) {
+    assert!(rt; parts(rt.alloc()));
 }

@@ -1,17 +1,10 @@
 //! Appends of messages on numbers, at keys of one byte, seen in the slots where they wait.
+use crate::trees::{SMALL, append, small_tree};
 use flush::flush_leaf;
+use message::Msg;
 use node::{Body, Node, Place, Shape, Slot, StepReply, Tree, append_both};
-use pathkey::NoMemory;
-use samples::{Digit, Plain, batch};
+use samples::{Digit, Plain, are, batch};
 use std::alloc::Global;
-use std::process::Abort;
-use std::test::Fail;
-
-const SMALL: Shape = Shape {
-    fanout: 4,
-    pending: 8,
-    leaf: 4,
-};
 
 fn slot_count(node: &Node<Digit>) -> usize {
     match node.body() {
@@ -20,24 +13,19 @@ fn slot_count(node: &Node<Digit>) -> usize {
     }
 }
 
-fn slot_at<'a>(node: &'a Node<Digit>, number: usize) -> Result<&'a Slot<Digit>, Fail> {
+fn slot_at<'a>(node: &'a Node<Digit>, number: usize) -> Option<&'a Slot<Digit>> {
     match node.body() {
-        Body::Leaf(_) => Err(Fail::new("a leaf has no slots")),
-        Body::Inner(slots) => match slots.get(number) {
-            None => Err(Fail::new("no slot of this number")),
-            Some(slot) => Ok(slot),
-        },
+        Body::Leaf(_) => None,
+        Body::Inner(slots) => slots.get(number),
     }
 }
 
-/// The messages that wait in a slot.
-fn waiting(alloc: Global, node: &Node<Digit>, slot: usize) -> Result<Vec<Plain>, Fail> {
-    let pending = &slot_at(node, slot)?.pending;
-    let mut plain = Vec::new(alloc);
-    for msg in &pending.copy_front(alloc, pending.len())? {
-        plain.push(Plain::of(msg))?;
+/// Whether these messages wait in a slot.
+fn wait(node: &Node<Digit>, slot: usize, msgs: &[Plain]) -> bool {
+    match slot_at(node, slot) {
+        None => false,
+        Some(slot) => are(slot.pending.as_slice(), msgs),
     }
-    Ok(plain)
 }
 
 fn is_empty_leaf(node: &Node<Digit>) -> bool {
@@ -47,155 +35,261 @@ fn is_empty_leaf(node: &Node<Digit>) -> bool {
     }
 }
 
-fn small_tree(alloc: Global) -> Result<Tree<Digit>, NoMemory> {
-    Tree::new(alloc, SMALL)
+/// Three limits, and whether a shape may have them.
+type Limits = (u16, u16, u16, bool);
+
+/// Whether the shape of the limits is allowed as the row says.
+fn is_allowed_so(row: &Limits) -> bool {
+    let shape = Shape {
+        fanout: row.0,
+        pending: row.1,
+        leaf: row.2,
+    };
+    shape.ok() == row.3
 }
 
+const LIMITS: &[Limits] = &[
+    (3, 1024, 4, false),
+    (4, 1024, 4, true),
+    (64, 1024, 4, true),
+    (65, 1024, 4, false),
+    (8, 7, 4, false),
+    (8, 8, 4, true),
+    (8, 1025, 4, false),
+    (8, 1024, 3, false),
+    (8, 1024, 1024, true),
+    (8, 1024, 1025, false),
+];
+
 #[test]
-fn allows_each_limit_and_nothing_past_it(rt: HostRuntime) -> Result<(), Fail> {
-    let cases = [
-        (3, 1024, 4, false),
-        (4, 1024, 4, true),
-        (64, 1024, 4, true),
-        (65, 1024, 4, false),
-        (8, 7, 4, false),
-        (8, 8, 4, true),
-        (8, 1025, 4, false),
-        (8, 1024, 3, false),
-        (8, 1024, 1024, true),
-        (8, 1024, 1025, false),
-    ];
-    for (fanout, pending, leaf, want) in cases {
-        let shape = Shape {
-            fanout,
-            pending,
-            leaf,
-        };
-        assert_eq!(rt; shape.ok(), want, "{shape:?}");
+fn allows_each_limit_and_nothing_past_it(rt: HostRuntime) {
+    for row in LIMITS {
+        assert!(rt; is_allowed_so(row), "{row:?}");
     }
-    Ok(())
+}
+
+/// Whether a slot of all keys stands over an empty leaf, and nothing waits in it.
+fn is_first(slot: &Slot<Digit>) -> bool {
+    slot.lo.as_bytes().is_empty() && slot.pending.len() == 0 && is_empty_leaf(&slot.child)
+}
+
+/// Whether a node has one slot, over an empty leaf.
+fn has_first_alone(node: &Node<Digit>) -> bool {
+    slot_count(node) == 1 && matches!(slot_at(node, 0), Some(slot) if is_first(slot))
+}
+
+/// Whether a new tree has its shape, and one slot over an empty leaf.
+fn begins_with_one_slot(alloc: Global) -> bool {
+    match small_tree(alloc) {
+        Ok(tree) => tree.shape() == SMALL && has_first_alone(tree.root()),
+        Err(_) => false,
+    }
 }
 
 #[test]
-fn begins_with_one_slot_over_an_empty_leaf(rt: HostRuntime) -> Result<(), Fail> {
-    let alloc = rt.alloc();
-    let tree = small_tree(alloc)?;
-    assert_eq!(rt; tree.shape(), SMALL);
-    let slot = slot_at(tree.root(), 0)?;
-    assert!(rt; slot.lo.as_bytes().is_empty());
-    assert_eq!(rt; slot.pending.len(), 0);
-    assert!(rt; is_empty_leaf(&slot.child));
-    assert_eq!(rt; slot_count(tree.root()), 1);
-    Ok(())
+fn begins_with_one_slot_over_an_empty_leaf(rt: HostRuntime) {
+    assert!(rt; begins_with_one_slot(rt.alloc()));
 }
 
-#[test]
-fn keeps_messages_in_the_root_in_their_order(rt: HostRuntime) -> Result<(), Fail> {
-    let alloc = rt.alloc();
-    let cases = [
-        [Plain::Put(3, 1), Plain::Edit(3, 2)],
-        [Plain::Edit(3, 2), Plain::Put(3, 1)],
-        [Plain::Del(7), Plain::DelRange(0, Some(9))],
-        [Plain::DelRange(2, None), Plain::Put(200, 1)],
-    ];
-    for msgs in cases {
-        let mut at_once = small_tree(alloc)?;
-        at_once.append(alloc, batch(alloc, &msgs)?)?;
-        let mut in_turn = small_tree(alloc)?;
-        for msg in msgs {
-            in_turn.append(alloc, batch(alloc, &[msg])?)?;
+/// Whether these messages wait in a node's first slot, over an empty leaf.
+fn wait_above_nothing(node: &Node<Digit>, msgs: &[Plain]) -> bool {
+    wait(node, 0, msgs) && matches!(slot_at(node, 0), Some(slot) if is_empty_leaf(&slot.child))
+}
+
+/// Whether a new tree keeps the messages of a batch in its root.
+fn keeps_batch(alloc: Global, msgs: &[Plain]) -> bool {
+    match small_tree(alloc) {
+        Ok(mut tree) => append(alloc, &mut tree, msgs) && wait_above_nothing(tree.root(), msgs),
+        Err(_) => false,
+    }
+}
+
+/// Appends messages one by one; `false` where memory is refused.
+fn append_in_turn(alloc: Global, tree: &mut Tree<Digit>, msgs: &[Plain]) -> bool {
+    for msg in msgs {
+        if !append(alloc, tree, &[*msg]) {
+            return false;
         }
-        for tree in [&at_once, &in_turn] {
-            assert_eq!(rt; waiting(alloc, tree.root(), 0)?.as_slice(), msgs.as_slice());
-            assert!(rt; is_empty_leaf(&slot_at(tree.root(), 0)?.child));
+    }
+    true
+}
+
+/// Whether a new tree keeps messages that come one by one in its root.
+fn keeps_in_turn(alloc: Global, msgs: &[Plain]) -> bool {
+    match small_tree(alloc) {
+        Ok(mut tree) => append_in_turn(alloc, &mut tree, msgs)
+            && wait_above_nothing(tree.root(), msgs),
+        Err(_) => false,
+    }
+}
+
+const PAIRS: &[[Plain; 2]] = &[
+    [Plain::Put(3, 1), Plain::Edit(3, 2)],
+    [Plain::Edit(3, 2), Plain::Put(3, 1)],
+    [Plain::Del(7), Plain::DelRange(0, Some(9))],
+    [Plain::DelRange(2, None), Plain::Put(200, 1)],
+];
+
+#[test]
+fn keeps_messages_in_the_root_in_their_order(rt: HostRuntime) {
+    for msgs in PAIRS {
+        assert!(rt; keeps_batch(rt.alloc(), msgs), "{msgs:?}");
+        assert!(rt; keeps_in_turn(rt.alloc(), msgs), "{msgs:?}");
+    }
+}
+
+/// Whether two trees with the same message each keep the next one that comes to them alone.
+fn part(alloc: Global, tree: &mut Tree<Digit>, shared: &mut Tree<Digit>) -> bool {
+    append(alloc, tree, &[Plain::Del(3)])
+        && append(alloc, shared, &[Plain::Edit(3, 2)])
+        && wait(tree.root(), 0, &[Plain::Put(3, 1), Plain::Del(3)])
+        && wait(shared.root(), 0, &[Plain::Put(3, 1), Plain::Edit(3, 2)])
+}
+
+/// Whether a tree with one message and a share of it part.
+fn parts_from_its_share(alloc: Global, tree: &mut Tree<Digit>) -> bool {
+    match tree.share() {
+        Ok(mut shared) => part(alloc, tree, &mut shared),
+        Err(_) => false,
+    }
+}
+
+/// The same of a new tree.
+fn parts(alloc: Global) -> bool {
+    match small_tree(alloc) {
+        Ok(mut tree) => append(alloc, &mut tree, &[Plain::Put(3, 1)])
+            && parts_from_its_share(alloc, &mut tree),
+        Err(_) => false,
+    }
+}
+
+#[test]
+fn leaves_the_other_owner_of_a_shared_root_alone(rt: HostRuntime) {
+    assert!(rt; parts(rt.alloc()));
+}
+
+/// Appends a batch to one tree and messages to another, whole or not at all.
+fn append_beside(
+    alloc: Global,
+    first: &mut Tree<Digit>,
+    batch_of_first: Vec<Msg<Digit>>,
+    second: &mut Tree<Digit>,
+    two: &[Plain],
+) -> bool {
+    match batch(alloc, two) {
+        Ok(batch_of_second) => {
+            append_both(alloc, first, batch_of_first, second, batch_of_second).is_ok()
         }
+        Err(_) => false,
     }
-    Ok(())
 }
+
+/// Whether two new trees have each its own half of what is appended to both.
+fn have_halves(
+    alloc: Global,
+    first: &mut Tree<Digit>,
+    one: &[Plain],
+    second: &mut Tree<Digit>,
+    two: &[Plain],
+) -> bool {
+    let appended = match batch(alloc, one) {
+        Ok(batch_of_first) => append_beside(alloc, first, batch_of_first, second, two),
+        Err(_) => false,
+    };
+    appended && wait(first.root(), 0, one) && wait(second.root(), 0, two)
+}
+
+/// The same of one new tree and a second made here.
+fn has_half(alloc: Global, first: &mut Tree<Digit>, one: &[Plain], two: &[Plain]) -> bool {
+    match small_tree(alloc) {
+        Ok(mut second) => have_halves(alloc, first, one, &mut second, two),
+        Err(_) => false,
+    }
+}
+
+/// The same of two trees made here.
+fn halve(alloc: Global, one: &[Plain], two: &[Plain]) -> bool {
+    match small_tree(alloc) {
+        Ok(mut first) => has_half(alloc, &mut first, one, two),
+        Err(_) => false,
+    }
+}
+
+/// The two halves of a batch for two trees.
+type Halves = (&'static [Plain], &'static [Plain]);
+
+const HALVES: &[Halves] = &[
+    (&[Plain::Put(3, 1), Plain::Edit(3, 2)], &[Plain::Del(4)]),
+    (&[Plain::Put(3, 1), Plain::Edit(3, 2)], &[]),
+    (&[], &[Plain::Del(4)]),
+    (&[], &[]),
+];
 
 #[test]
-fn leaves_the_other_owner_of_a_shared_root_alone(rt: HostRuntime) -> Result<(), Fail> {
-    let alloc = rt.alloc();
-    let before = [Plain::Put(3, 1)];
-    let mut tree = small_tree(alloc)?;
-    tree.append(alloc, batch(alloc, &before)?)?;
-    let mut shared = tree.share()?;
-    tree.append(alloc, batch(alloc, &[Plain::Del(3)])?)?;
-    shared.append(alloc, batch(alloc, &[Plain::Edit(3, 2)])?)?;
-
-    let after_tree = [Plain::Put(3, 1), Plain::Del(3)];
-    assert_eq!(rt;
-        waiting(alloc, tree.root(), 0)?.as_slice(),
-        after_tree.as_slice()
-    );
-    let after_shared = [Plain::Put(3, 1), Plain::Edit(3, 2)];
-    assert_eq!(rt;
-        waiting(alloc, shared.root(), 0)?.as_slice(),
-        after_shared.as_slice()
-    );
-    Ok(())
-}
-
-#[test]
-fn gives_each_tree_its_half_of_a_batch(rt: HostRuntime) -> Result<(), Fail> {
-    let alloc = rt.alloc();
-    let to_first = [Plain::Put(3, 1), Plain::Edit(3, 2)];
-    let to_second = [Plain::Del(4), Plain::Put(3, 5)];
-    for (first_count, second_count) in [(2, 1), (2, 0), (0, 1), (0, 0)] {
-        let one = &to_first[..first_count];
-        let two = &to_second[..second_count];
-        let mut first = small_tree(alloc)?;
-        let mut second = small_tree(alloc)?;
-        let first_msgs = batch(alloc, one)?;
-        let second_msgs = batch(alloc, two)?;
-        append_both(alloc, &mut first, first_msgs, &mut second, second_msgs)?;
-        assert_eq!(rt; waiting(alloc, first.root(), 0)?.as_slice(), one);
-        assert_eq!(rt; waiting(alloc, second.root(), 0)?.as_slice(), two);
+fn gives_each_tree_its_half_of_a_batch(rt: HostRuntime) {
+    for row in HALVES {
+        assert!(rt; halve(rt.alloc(), row.0, row.1), "{row:?}");
     }
-    Ok(())
 }
 
-/// A tree with two slots, of which the second begins at the key 5.
-fn two_slots(rt: &impl Abort, alloc: Global) -> Result<Tree<Digit>, Fail> {
-    let mut tree = small_tree(alloc)?;
+/// What a flush of the root's first slot answers.
+fn flushed(alloc: Global, tree: &mut Tree<Digit>) -> StepReply {
+    flush_leaf(alloc, tree, Place::root(), 0)
+}
+
+/// Whether each of five keys sinks at once, and the root then has two slots, of which the second begins at the key 5.
+fn has_two_slots(alloc: Global, tree: &mut Tree<Digit>) -> bool {
     for at in [1, 2, 5, 6, 7] {
-        tree.append(alloc, batch(alloc, &[Plain::Put(at, 0)])?)?;
-        let reply = flush_leaf(alloc, &mut tree, Place::root(), 0);
-        assert_eq!(rt; reply, StepReply::Did(1), "at {at}");
+        let has_sunk = append(alloc, tree, &[Plain::Put(at, 0)])
+            && flushed(alloc, tree) == StepReply::Did(1);
+        if !has_sunk {
+            return false;
+        }
     }
-    assert_eq!(rt; slot_count(tree.root()), 2);
-    Ok(tree)
+    slot_count(tree.root()) == 2
+}
+
+const ACROSS: &[Plain] = &[
+    Plain::Put(4, 1),
+    Plain::DelRange(2, Some(8)),
+    Plain::Put(5, 2),
+    Plain::DelRange(5, None),
+    Plain::Edit(4, 3),
+    Plain::DelRange(3, Some(5)),
+    Plain::Del(255),
+];
+
+const BEFORE_FIVE: &[Plain] = &[
+    Plain::Put(4, 1),
+    Plain::DelRange(2, Some(5)),
+    Plain::Edit(4, 3),
+    Plain::DelRange(3, Some(5)),
+];
+
+const FROM_FIVE: &[Plain] = &[
+    Plain::DelRange(5, Some(8)),
+    Plain::Put(5, 2),
+    Plain::DelRange(5, None),
+    Plain::Del(255),
+];
+
+/// Whether messages are cut at the pivot 5.
+fn cuts(alloc: Global, tree: &mut Tree<Digit>) -> bool {
+    has_two_slots(alloc, tree)
+        && append(alloc, tree, ACROSS)
+        && wait(tree.root(), 0, BEFORE_FIVE)
+        && wait(tree.root(), 1, FROM_FIVE)
+}
+
+/// The same of a new tree.
+fn cuts_anew(alloc: Global) -> bool {
+    match small_tree(alloc) {
+        Ok(mut tree) => cuts(alloc, &mut tree),
+        Err(_) => false,
+    }
 }
 
 #[test]
-fn cuts_messages_at_the_pivots(rt: HostRuntime) -> Result<(), Fail> {
-    let alloc = rt.alloc();
-    let msgs = [
-        Plain::Put(4, 1),
-        Plain::DelRange(2, Some(8)),
-        Plain::Put(5, 2),
-        Plain::DelRange(5, None),
-        Plain::Edit(4, 3),
-        Plain::DelRange(3, Some(5)),
-        Plain::Del(255),
-    ];
-    let first = [
-        Plain::Put(4, 1),
-        Plain::DelRange(2, Some(5)),
-        Plain::Edit(4, 3),
-        Plain::DelRange(3, Some(5)),
-    ];
-    let second = [
-        Plain::DelRange(5, Some(8)),
-        Plain::Put(5, 2),
-        Plain::DelRange(5, None),
-        Plain::Del(255),
-    ];
-    let mut tree = two_slots(&rt, alloc)?;
-    tree.append(alloc, batch(alloc, &msgs)?)?;
-    for (slot, want) in [(0, first), (1, second)] {
-        let found = waiting(alloc, tree.root(), slot)?;
-        assert_eq!(rt; found.as_slice(), want.as_slice(), "in slot {slot}");
-    }
-    Ok(())
+fn cuts_messages_at_the_pivots(rt: HostRuntime) {
+    assert!(rt; cuts_anew(rt.alloc()));
 }

@@ -1,88 +1,197 @@
 //! First pairs through many messages, beside the same messages laid on a plain row of numbers.
-use node::{Shape, Tree};
-use samples::{Digit, Plain, Random, Row, batch, key, number, numbers, range};
+use crate::trees::{append, small_tree};
+use node::Tree;
+use pathkey::{Key, KeyRange};
+use samples::{Digit, Plain, Random, Row, number, range};
 use scan::{first_in, scan};
 use std::alloc::Global;
-use std::process::Abort;
-use std::test::Fail;
 
-const SMALL: Shape = Shape {
-    fanout: 4,
-    pending: 8,
-    leaf: 4,
-};
+/// Whether the pairs have these numbers.
+fn are_numbered(pairs: &[(Key, u64)], wanted: &[(u8, u64)]) -> bool {
+    if pairs.len() != wanted.len() {
+        return false;
+    }
+    for (pair, numbers) in pairs.iter().zip(wanted) {
+        if number(&pair.0) != numbers.0 || pair.1 != numbers.1 {
+            return false;
+        }
+    }
+    true
+}
 
-/// Compares what a part of the tree has with what that part of the row has.
-fn compare(
-    rt: &impl Abort,
+/// Whether a range of a tree has these pairs, of which at most so many are asked for.
+fn holds(
+    alloc: Global,
+    tree: &Tree<Digit>,
+    range: &KeyRange,
+    limit: usize,
+    wanted: &[(u8, u64)],
+) -> bool {
+    match scan(alloc, tree, range, limit) {
+        Ok(pairs) => are_numbered(&pairs, wanted),
+        Err(_) => false,
+    }
+}
+
+/// Whether a range of a tree has this first pair.
+fn begins_with(
+    alloc: Global,
+    tree: &Tree<Digit>,
+    range: &KeyRange,
+    wanted: Option<&(u8, u64)>,
+) -> bool {
+    match (first_in(alloc, tree, range), wanted) {
+        (Ok(Some(pair)), Some(numbers)) => number(&pair.0) == numbers.0 && pair.1 == numbers.1,
+        (Ok(None), None) => true,
+        _ => false,
+    }
+}
+
+/// A part of the keys: the first, and the one that ends it.
+type Part = (u8, Option<u8>);
+
+/// Whether a part of the tree has what that part of the row has, and first what the row has first.
+fn agrees(
     alloc: Global,
     tree: &Tree<Digit>,
     row: &Row,
-    lo: u8,
-    hi: Option<u8>,
-) -> Result<(), Fail> {
-    let range = range(alloc, lo, hi)?;
-    for limit in [0, 1, 2, 7, 50, 256, usize::MAX] {
-        let pairs = scan(alloc, tree, &range, limit)?;
-        let found = numbers(alloc, pairs.as_slice())?;
-        let wanted = row.pairs(alloc, lo, hi, limit)?;
-        assert_eq!(rt; found, wanted, "from {lo}, at most {limit}");
+    part: Part,
+    range: &KeyRange,
+    limit: usize,
+) -> bool {
+    match row.pairs(alloc, part.0, part.1, limit) {
+        Ok(wanted) => holds(alloc, tree, range, limit, &wanted)
+            && (limit == 0 || begins_with(alloc, tree, range, wanted.first())),
+        Err(_) => false,
     }
-    let first = first_in(alloc, tree, &range)?.map(|pair| (number(&pair.0), pair.1));
-    let wanted = row.pairs(alloc, lo, hi, 1)?;
-    assert_eq!(rt; first, wanted.first().copied(), "from {lo}");
-    Ok(())
 }
 
-#[test]
-fn finds_the_pairs_that_all_messages_make(rt: HostRuntime) -> Result<(), Fail> {
-    let alloc = rt.alloc();
-    let mut tree = Tree::new(alloc, SMALL)?;
-    let mut row = Row::new();
+/// Whether the tree agrees with the row in a part of the keys, whatever number of pairs is asked for.
+fn agrees_in(alloc: Global, tree: &Tree<Digit>, row: &Row, part: Part, range: &KeyRange) -> bool {
+    for limit in [0, 1, 2, 7, 50, 256, usize::MAX] {
+        if !agrees(alloc, tree, row, part, range, limit) {
+            return false;
+        }
+    }
+    true
+}
+
+/// The same.
+fn agrees_on(alloc: Global, tree: &Tree<Digit>, row: &Row, part: Part) -> bool {
+    match range(alloc, part.0, part.1) {
+        Ok(range) => agrees_in(alloc, tree, row, part, &range),
+        Err(_) => false,
+    }
+}
+
+/// Puts 300 messages into both; `false` where memory is refused.
+fn fill(alloc: Global, tree: &mut Tree<Digit>, row: &mut Row) -> bool {
     let mut random = Random(7);
     for _ in 0..300 {
         let message = Plain::random(&mut random);
         row.lay(message);
-        tree.append(alloc, batch(alloc, &[message])?)?;
+        if !append(alloc, tree, &[message]) {
+            return false;
+        }
     }
-    for (lo, hi) in [
-        (0, None),
-        (0, Some(128)),
-        (11, Some(12)),
-        (20, Some(20)),
-        (130, Some(10)),
-        (13, Some(241)),
-        (255, None),
-    ] {
-        compare(&rt, alloc, &tree, &row, lo, hi)?;
+    true
+}
+
+const PARTS: &[Part] = &[
+    (0, None),
+    (0, Some(128)),
+    (11, Some(12)),
+    (20, Some(20)),
+    (130, Some(10)),
+    (13, Some(241)),
+    (255, None),
+];
+
+/// In how many parts of the keys, before the first in which they differ, the tree agrees with the row after the messages.
+fn parts_alike(alloc: Global, tree: &mut Tree<Digit>, row: &mut Row) -> usize {
+    let mut count = 0usize;
+    if fill(alloc, tree, row) {
+        for part in PARTS {
+            if !agrees_on(alloc, tree, row, *part) {
+                return count;
+            }
+            count = count.saturating_add(1);
+        }
     }
-    Ok(())
+    count
+}
+
+/// The same of a new tree and a new row.
+fn parts_of_new(alloc: Global) -> usize {
+    match small_tree(alloc) {
+        Ok(mut tree) => parts_alike(alloc, &mut tree, &mut Row::new()),
+        Err(_) => 0,
+    }
 }
 
 #[test]
-fn finds_nothing_in_a_new_tree(rt: HostRuntime) -> Result<(), Fail> {
-    let alloc = rt.alloc();
-    let tree = Tree::<Digit>::new(alloc, SMALL)?;
-    let all = range(alloc, 0, None)?;
-    assert!(rt; first_in(alloc, &tree, &all)?.is_none());
-    assert!(rt; scan(alloc, &tree, &all, 9)?.is_empty());
-    Ok(())
+fn finds_the_pairs_that_all_messages_make(rt: HostRuntime) {
+    assert_eq!(rt; parts_of_new(rt.alloc()), PARTS.len());
+}
+
+/// Whether nothing is found in a range of a tree.
+fn is_empty(alloc: Global, tree: &Tree<Digit>, range: &KeyRange) -> bool {
+    begins_with(alloc, tree, range, None) && holds(alloc, tree, range, 9, &[])
+}
+
+/// Whether nothing is found in a tree.
+fn is_all_empty(alloc: Global, tree: &Tree<Digit>) -> bool {
+    match range(alloc, 0, None) {
+        Ok(all) => is_empty(alloc, tree, &all),
+        Err(_) => false,
+    }
+}
+
+/// Whether nothing is found in a new tree.
+fn is_empty_at_first(alloc: Global) -> bool {
+    match small_tree(alloc) {
+        Ok(tree) => is_all_empty(alloc, &tree),
+        Err(_) => false,
+    }
 }
 
 #[test]
-fn goes_past_what_a_range_delete_covers(rt: HostRuntime) -> Result<(), Fail> {
-    let alloc = rt.alloc();
-    let mut tree = Tree::new(alloc, SMALL)?;
+fn finds_nothing_in_a_new_tree(rt: HostRuntime) {
+    assert!(rt; is_empty_at_first(rt.alloc()));
+}
+
+/// Puts 50 values, deletes those from 5 to 39 and edits 20; `false` where memory is refused.
+fn cover(alloc: Global, tree: &mut Tree<Digit>) -> bool {
     for at in 0..50 {
-        tree.append(alloc, batch(alloc, &[Plain::Put(at, 3)])?)?;
+        if !append(alloc, tree, &[Plain::Put(at, 3)]) {
+            return false;
+        }
     }
-    let last = [Plain::DelRange(5, Some(40)), Plain::Edit(20, 4)];
-    tree.append(alloc, batch(alloc, &last)?)?;
-    let pairs = scan(alloc, &tree, &range(alloc, 3, None)?, 4)?;
-    let found = numbers(alloc, pairs.as_slice())?;
-    assert_eq!(rt;
-        found.as_slice(),
-        [(3, 3), (4, 3), (20, 4), (40, 3)].as_slice()
-    );
-    Ok(())
+    append(
+        alloc,
+        tree,
+        &[Plain::DelRange(5, Some(40)), Plain::Edit(20, 4)],
+    )
+}
+
+/// Whether the first four pairs from the key 3 on are these.
+fn has_four(alloc: Global, tree: &Tree<Digit>, wanted: &[(u8, u64)]) -> bool {
+    match range(alloc, 3, None) {
+        Ok(range) => holds(alloc, tree, &range, 4, wanted),
+        Err(_) => false,
+    }
+}
+
+/// Whether a search goes past what a range-delete covers.
+fn goes_past(alloc: Global) -> bool {
+    match small_tree(alloc) {
+        Ok(mut tree) => cover(alloc, &mut tree)
+            && has_four(alloc, &tree, &[(3, 3), (4, 3), (20, 4), (40, 3)]),
+        Err(_) => false,
+    }
+}
+
+#[test]
+fn goes_past_what_a_range_delete_covers(rt: HostRuntime) {
+    assert!(rt; goes_past(rt.alloc()));
 }

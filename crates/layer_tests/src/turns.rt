@@ -1,10 +1,10 @@
 //! Steps on small trees, in tables of what goes in, what is done and what the tree then holds.
+use crate::trees::append;
 use flush::heaviest;
 use node::{Place, Shape, StepKind, StepReply, Tree, TreeStep};
-use samples::{Digit, Plain, batch};
+use pathkey::NoMemory;
+use samples::{Digit, Plain};
 use std::alloc::Global;
-use std::process::Abort;
-use std::test::Fail;
 use steps::do_step;
 
 const SMALL: Shape = Shape {
@@ -31,339 +31,426 @@ fn counts(tree: &Tree<Digit>) -> [u128; 4] {
     [report.levels, report.slots, report.pending, report.entries]
 }
 
+/// What a step at a slot of the root is answered.
+fn take(alloc: Global, tree: &mut Tree<Digit>, kind: StepKind, slot: u8) -> StepReply {
+    let at = Place::root();
+    do_step(alloc, tree, TreeStep { kind, at, slot })
+}
+
 /// Whether the turn is answered as it should be.
-fn is_answered(alloc: Global, tree: &mut Tree<Digit>, turn: Turn) -> Result<bool, Fail> {
+fn is_answered(alloc: Global, tree: &mut Tree<Digit>, turn: Turn) -> bool {
     match turn {
-        Turn::Append(msgs) => {
-            tree.append(alloc, batch(alloc, msgs)?)?;
-            Ok(true)
-        }
-        Turn::Step(kind, slot, wanted) => {
-            let at = Place::root();
-            Ok(do_step(alloc, tree, TreeStep { kind, at, slot }) == wanted)
-        }
+        Turn::Append(msgs) => append(alloc, tree, msgs),
+        Turn::Step(kind, slot, wanted) => take(alloc, tree, kind, slot) == wanted,
     }
 }
 
-/// Takes a tree through the rows.
-fn follow_in(
-    rt: &impl Abort,
-    alloc: Global,
-    tree: &mut Tree<Digit>,
-    rows: &[Row],
-) -> Result<(), Fail> {
+/// Takes a tree through the rows; how many come out as they say, before the first that does not.
+fn follow_in(alloc: Global, tree: &mut Tree<Digit>, rows: &[Row]) -> usize {
+    let mut count = 0usize;
     for (turn, wanted) in rows {
-        assert!(rt; is_answered(alloc, tree, *turn)?, "{turn:?}");
-        assert_eq!(rt; counts(tree), *wanted, "{turn:?}");
+        if !is_answered(alloc, tree, *turn) || counts(tree) != *wanted {
+            return count;
+        }
+        count = count.saturating_add(1);
     }
-    Ok(())
+    count
+}
+
+/// A new tree of this shape.
+fn new_tree(alloc: Global) -> Result<Tree<Digit>, NoMemory> {
+    Tree::new(alloc, SMALL)
 }
 
 /// Takes a new tree through the rows.
-fn follow(rt: &impl Abort, alloc: Global, rows: &[Row]) -> Result<(), Fail> {
-    let mut tree = Tree::new(alloc, SMALL)?;
-    follow_in(rt, alloc, &mut tree, rows)
+fn follow(alloc: Global, rows: &[Row]) -> usize {
+    match new_tree(alloc) {
+        Ok(mut tree) => follow_in(alloc, &mut tree, rows),
+        Err(_) => 0,
+    }
 }
 
-/// A tree with two slots over leaves, of 1, 2 and of 5, 6, 7: the fifth key has cut the full leaf.
-fn two_leaves(rt: &impl Abort, alloc: Global) -> Result<Tree<Digit>, Fail> {
-    let rows = [
-        (
-            Turn::Append(&[
-                Plain::Put(7, 0),
-                Plain::Put(1, 0),
-                Plain::Put(6, 0),
-                Plain::Put(2, 0),
-                Plain::Put(5, 0),
-            ]),
-            [1, 1, 5, 0],
-        ),
-        (
-            Turn::Step(StepKind::FlushLeaf, 0, StepReply::Did(4)),
-            [1, 1, 1, 4],
-        ),
-        (
-            Turn::Step(StepKind::FlushLeaf, 0, StepReply::Did(1)),
-            [1, 2, 0, 5],
-        ),
-        (
-            Turn::Step(StepKind::FlushLeaf, 0, StepReply::NotThere),
-            [1, 2, 0, 5],
-        ),
-    ];
-    let mut tree = Tree::new(alloc, SMALL)?;
-    follow_in(rt, alloc, &mut tree, &rows)?;
-    Ok(tree)
+/// Rows to a tree with two slots over leaves, of 1, 2 and of 5, 6, 7: the fifth key has cut the full leaf.
+const TWO_LEAVES: &[Row] = &[
+    (
+        Turn::Append(&[
+            Plain::Put(7, 0),
+            Plain::Put(1, 0),
+            Plain::Put(6, 0),
+            Plain::Put(2, 0),
+            Plain::Put(5, 0),
+        ]),
+        [1, 1, 5, 0],
+    ),
+    (
+        Turn::Step(StepKind::FlushLeaf, 0, StepReply::Did(4)),
+        [1, 1, 1, 4],
+    ),
+    (
+        Turn::Step(StepKind::FlushLeaf, 0, StepReply::Did(1)),
+        [1, 2, 0, 5],
+    ),
+    (
+        Turn::Step(StepKind::FlushLeaf, 0, StepReply::NotThere),
+        [1, 2, 0, 5],
+    ),
+];
+
+/// Whether a new tree gets these two leaves.
+fn gets_two_leaves(alloc: Global, tree: &mut Tree<Digit>) -> bool {
+    follow_in(alloc, tree, TWO_LEAVES) == TWO_LEAVES.len()
 }
 
-/// Takes these two leaves through the rows.
-fn follow_two_leaves(rt: &impl Abort, alloc: Global, rows: &[Row]) -> Result<(), Fail> {
-    let mut tree = two_leaves(rt, alloc)?;
-    follow_in(rt, alloc, &mut tree, rows)
+/// Takes a tree with these two leaves through the rows.
+fn follow_from_two_leaves(alloc: Global, tree: &mut Tree<Digit>, rows: &[Row]) -> usize {
+    if !gets_two_leaves(alloc, tree) {
+        return 0;
+    }
+    follow_in(alloc, tree, rows)
+}
+
+/// Takes a new tree to these two leaves and then through the rows.
+fn follow_two_leaves(alloc: Global, rows: &[Row]) -> usize {
+    match new_tree(alloc) {
+        Ok(mut tree) => follow_from_two_leaves(alloc, &mut tree, rows),
+        Err(_) => 0,
+    }
 }
 
 /// Messages for the first key, for all from it on, and for the last.
 const ACROSS: &[Plain] = &[Plain::Put(1, 1), Plain::DelRange(1, None), Plain::Put(9, 2)];
 
-#[test]
-fn a_full_leaf_takes_what_adds_nothing(rt: HostRuntime) -> Result<(), Fail> {
-    let rows = [
-        (
-            Turn::Append(&[
-                Plain::Put(1, 0),
-                Plain::Put(2, 0),
-                Plain::Put(3, 0),
-                Plain::Put(4, 0),
-                Plain::Put(1, 1),
-                Plain::Put(2, 1),
-                Plain::Del(9),
-            ]),
-            [1, 1, 7, 0],
-        ),
-        (
-            Turn::Step(StepKind::FlushLeaf, 0, StepReply::Did(7)),
-            [1, 1, 0, 4],
-        ),
-    ];
-    follow(&rt, rt.alloc(), &rows)
-}
+const FULL_LEAF: &[Row] = &[
+    (
+        Turn::Append(&[
+            Plain::Put(1, 0),
+            Plain::Put(2, 0),
+            Plain::Put(3, 0),
+            Plain::Put(4, 0),
+            Plain::Put(1, 1),
+            Plain::Put(2, 1),
+            Plain::Del(9),
+        ]),
+        [1, 1, 7, 0],
+    ),
+    (
+        Turn::Step(StepKind::FlushLeaf, 0, StepReply::Did(7)),
+        [1, 1, 0, 4],
+    ),
+];
 
 #[test]
-fn a_full_leaf_is_cut_for_the_oldest_message(rt: HostRuntime) -> Result<(), Fail> {
-    let rows = [
-        (
-            Turn::Append(&[
-                Plain::Put(1, 0),
-                Plain::Put(2, 0),
-                Plain::Put(3, 0),
-                Plain::Put(4, 0),
-            ]),
-            [1, 1, 4, 0],
-        ),
-        (
-            Turn::Step(StepKind::FlushLeaf, 0, StepReply::Did(4)),
-            [1, 1, 0, 4],
-        ),
-        (
-            Turn::Append(&[Plain::Put(5, 0), Plain::Put(1, 0)]),
-            [1, 1, 2, 4],
-        ),
-        (
-            Turn::Step(StepKind::FlushLeaf, 0, StepReply::Did(1)),
-            [1, 2, 1, 5],
-        ),
-    ];
-    follow(&rt, rt.alloc(), &rows)
+fn a_full_leaf_takes_what_adds_nothing(rt: HostRuntime) {
+    assert_eq!(rt; follow(rt.alloc(), FULL_LEAF), FULL_LEAF.len());
 }
 
+const CUT_LEAF: &[Row] = &[
+    (
+        Turn::Append(&[
+            Plain::Put(1, 0),
+            Plain::Put(2, 0),
+            Plain::Put(3, 0),
+            Plain::Put(4, 0),
+        ]),
+        [1, 1, 4, 0],
+    ),
+    (
+        Turn::Step(StepKind::FlushLeaf, 0, StepReply::Did(4)),
+        [1, 1, 0, 4],
+    ),
+    (
+        Turn::Append(&[Plain::Put(5, 0), Plain::Put(1, 0)]),
+        [1, 1, 2, 4],
+    ),
+    (
+        Turn::Step(StepKind::FlushLeaf, 0, StepReply::Did(1)),
+        [1, 2, 1, 5],
+    ),
+];
+
 #[test]
-fn a_full_node_has_no_room_for_a_cut(rt: HostRuntime) -> Result<(), Fail> {
-    let alloc = rt.alloc();
-    let mut tree = Tree::new(alloc, SMALL)?;
-    let mut replies = Vec::new(alloc);
-    for at in 1..12 {
-        tree.append(alloc, batch(alloc, &[Plain::Put(at, 0)])?)?;
-        let slot = tree.shape_report().slots.saturating_sub(1).min(3) as u8;
-        let at = Place::root();
-        let kind = StepKind::FlushLeaf;
-        replies.push(do_step(alloc, &mut tree, TreeStep { kind, at, slot }))?;
+fn a_full_leaf_is_cut_for_the_oldest_message(rt: HostRuntime) {
+    assert_eq!(rt; follow(rt.alloc(), CUT_LEAF), CUT_LEAF.len());
+}
+
+/// Puts a value and flushes the last slot; what the flush is answered, and none where memory is refused.
+fn put_and_flush(alloc: Global, tree: &mut Tree<Digit>, at: u8) -> Option<StepReply> {
+    if !append(alloc, tree, &[Plain::Put(at, 0)]) {
+        return None;
     }
-    let (last, before) = replies.as_slice().split_last().ok_or("eleven steps")?;
-    assert!(rt; before.iter().all(|reply| *reply == StepReply::Did(1)));
-    assert_eq!(rt; *last, StepReply::NoRoom);
-    assert_eq!(rt; counts(&tree), [1, 4, 1, 10]);
-    Ok(())
+    let slot = tree.shape_report().slots.saturating_sub(1).min(3) as u8;
+    Some(take(alloc, tree, StepKind::FlushLeaf, slot))
 }
 
-#[test]
-fn messages_go_to_both_sides_of_a_pivot(rt: HostRuntime) -> Result<(), Fail> {
-    let rows = [
-        (
-            Turn::Step(StepKind::RootUp, 0, StepReply::Did(0)),
-            [2, 3, 0, 5],
-        ),
-        (Turn::Append(ACROSS), [2, 3, 3, 5]),
-        (
-            Turn::Step(StepKind::FlushInner, 0, StepReply::Did(3)),
-            [2, 3, 4, 5],
-        ),
-        (Turn::Append(&[Plain::Put(9, 3)]), [2, 3, 5, 5]),
-        (
-            Turn::Step(StepKind::FlushInner, 0, StepReply::NoRoom),
-            [2, 3, 5, 5],
-        ),
-        (
-            Turn::Step(StepKind::FlushLeaf, 0, StepReply::NotThere),
-            [2, 3, 5, 5],
-        ),
-        (
-            Turn::Step(StepKind::RootDown, 0, StepReply::Did(0)),
-            [1, 2, 5, 5],
-        ),
-    ];
-    follow_two_leaves(&rt, rt.alloc(), &rows)
-}
-
-#[test]
-fn only_the_range_delete_stands_on_both_sides_of_a_split(rt: HostRuntime) -> Result<(), Fail> {
-    let rows = [
-        (
-            Turn::Step(StepKind::RootUp, 0, StepReply::Did(0)),
-            [2, 3, 0, 5],
-        ),
-        (Turn::Append(ACROSS), [2, 3, 3, 5]),
-        (
-            Turn::Step(StepKind::SplitInner, 0, StepReply::Did(0)),
-            [2, 4, 4, 5],
-        ),
-        (
-            Turn::Step(StepKind::SplitInner, 0, StepReply::NotThere),
-            [2, 4, 4, 5],
-        ),
-        (
-            Turn::Step(StepKind::RootDown, 0, StepReply::NotThere),
-            [2, 4, 4, 5],
-        ),
-        (
-            Turn::Step(StepKind::MergeLeaves, 0, StepReply::NotThere),
-            [2, 4, 4, 5],
-        ),
-        (
-            Turn::Step(StepKind::MergeInner, 0, StepReply::Did(0)),
-            [2, 3, 4, 5],
-        ),
-        (
-            Turn::Step(StepKind::MergeInner, 0, StepReply::NotThere),
-            [2, 3, 4, 5],
-        ),
-    ];
-    follow_two_leaves(&rt, rt.alloc(), &rows)
-}
-
-#[test]
-fn five_messages_are_too_many_for_one_node(rt: HostRuntime) -> Result<(), Fail> {
-    let rows = [
-        (
-            Turn::Step(StepKind::RootUp, 0, StepReply::Did(0)),
-            [2, 3, 0, 5],
-        ),
-        (
-            Turn::Step(StepKind::SplitInner, 0, StepReply::Did(0)),
-            [2, 4, 0, 5],
-        ),
-        (Turn::Append(ACROSS), [2, 4, 4, 5]),
-        (
-            Turn::Step(StepKind::FlushInner, 0, StepReply::Did(2)),
-            [2, 4, 4, 5],
-        ),
-        (
-            Turn::Step(StepKind::FlushInner, 1, StepReply::Did(2)),
-            [2, 4, 4, 5],
-        ),
-        (Turn::Append(&[Plain::Put(9, 3)]), [2, 4, 5, 5]),
-        (
-            Turn::Step(StepKind::FlushInner, 1, StepReply::Did(1)),
-            [2, 4, 5, 5],
-        ),
-        (
-            Turn::Step(StepKind::MergeInner, 0, StepReply::NoRoom),
-            [2, 4, 5, 5],
-        ),
-    ];
-    follow_two_leaves(&rt, rt.alloc(), &rows)
-}
-
-#[test]
-fn a_tree_has_at_most_sixteen_levels(rt: HostRuntime) -> Result<(), Fail> {
-    let alloc = rt.alloc();
-    let mut tree = two_leaves(&rt, alloc)?;
-    for levels in 2u32..17 {
-        for kind in [StepKind::RootUp, StepKind::SplitInner] {
-            let turn = Turn::Step(kind, 0, StepReply::Did(0));
-            assert!(rt; is_answered(alloc, &mut tree, turn)?, "{turn:?} {levels}");
+/// Whether each of ten keys sinks, and the eleventh finds no room.
+fn fills_up(alloc: Global, tree: &mut Tree<Digit>) -> bool {
+    for at in 1..11 {
+        if put_and_flush(alloc, tree, at) != Some(StepReply::Did(1)) {
+            return false;
         }
-        assert_eq!(rt; tree.shape_report().levels, levels as u128);
     }
-    let turn = Turn::Step(StepKind::RootUp, 0, StepReply::NoRoom);
-    assert!(rt; is_answered(alloc, &mut tree, turn)?);
-    Ok(())
+    put_and_flush(alloc, tree, 11) == Some(StepReply::NoRoom) && counts(tree) == [1, 4, 1, 10]
+}
+
+/// The same of a new tree.
+fn new_tree_fills_up(alloc: Global) -> bool {
+    match new_tree(alloc) {
+        Ok(mut tree) => fills_up(alloc, &mut tree),
+        Err(_) => false,
+    }
 }
 
 #[test]
-fn five_entries_are_too_many_for_one_leaf_of_four(rt: HostRuntime) -> Result<(), Fail> {
-    let rows = [
-        (
-            Turn::Step(StepKind::MergeLeaves, 0, StepReply::NoRoom),
-            [1, 2, 0, 5],
-        ),
-        (
-            Turn::Append(&[Plain::Del(7), Plain::Put(2, 1)]),
-            [1, 2, 2, 5],
-        ),
-        (
-            Turn::Step(StepKind::FlushLeaf, 1, StepReply::Did(1)),
-            [1, 2, 1, 4],
-        ),
-        (
-            Turn::Step(StepKind::MergeLeaves, 1, StepReply::NotThere),
-            [1, 2, 1, 4],
-        ),
-        (
-            Turn::Step(StepKind::MergeLeaves, 0, StepReply::Did(0)),
-            [1, 1, 1, 4],
-        ),
-    ];
-    follow_two_leaves(&rt, rt.alloc(), &rows)
+fn a_full_node_has_no_room_for_a_cut(rt: HostRuntime) {
+    assert!(rt; new_tree_fills_up(rt.alloc()));
+}
+
+const BOTH_SIDES: &[Row] = &[
+    (
+        Turn::Step(StepKind::RootUp, 0, StepReply::Did(0)),
+        [2, 3, 0, 5],
+    ),
+    (Turn::Append(ACROSS), [2, 3, 3, 5]),
+    (
+        Turn::Step(StepKind::FlushInner, 0, StepReply::Did(3)),
+        [2, 3, 4, 5],
+    ),
+    (Turn::Append(&[Plain::Put(9, 3)]), [2, 3, 5, 5]),
+    (
+        Turn::Step(StepKind::FlushInner, 0, StepReply::NoRoom),
+        [2, 3, 5, 5],
+    ),
+    (
+        Turn::Step(StepKind::FlushLeaf, 0, StepReply::NotThere),
+        [2, 3, 5, 5],
+    ),
+    (
+        Turn::Step(StepKind::RootDown, 0, StepReply::Did(0)),
+        [1, 2, 5, 5],
+    ),
+];
+
+#[test]
+fn messages_go_to_both_sides_of_a_pivot(rt: HostRuntime) {
+    assert_eq!(rt; follow_two_leaves(rt.alloc(), BOTH_SIDES), BOTH_SIDES.len());
+}
+
+const SPLIT: &[Row] = &[
+    (
+        Turn::Step(StepKind::RootUp, 0, StepReply::Did(0)),
+        [2, 3, 0, 5],
+    ),
+    (Turn::Append(ACROSS), [2, 3, 3, 5]),
+    (
+        Turn::Step(StepKind::SplitInner, 0, StepReply::Did(0)),
+        [2, 4, 4, 5],
+    ),
+    (
+        Turn::Step(StepKind::SplitInner, 0, StepReply::NotThere),
+        [2, 4, 4, 5],
+    ),
+    (
+        Turn::Step(StepKind::RootDown, 0, StepReply::NotThere),
+        [2, 4, 4, 5],
+    ),
+    (
+        Turn::Step(StepKind::MergeLeaves, 0, StepReply::NotThere),
+        [2, 4, 4, 5],
+    ),
+    (
+        Turn::Step(StepKind::MergeInner, 0, StepReply::Did(0)),
+        [2, 3, 4, 5],
+    ),
+    (
+        Turn::Step(StepKind::MergeInner, 0, StepReply::NotThere),
+        [2, 3, 4, 5],
+    ),
+];
+
+#[test]
+fn only_the_range_delete_stands_on_both_sides_of_a_split(rt: HostRuntime) {
+    assert_eq!(rt; follow_two_leaves(rt.alloc(), SPLIT), SPLIT.len());
+}
+
+const FIVE_MESSAGES: &[Row] = &[
+    (
+        Turn::Step(StepKind::RootUp, 0, StepReply::Did(0)),
+        [2, 3, 0, 5],
+    ),
+    (
+        Turn::Step(StepKind::SplitInner, 0, StepReply::Did(0)),
+        [2, 4, 0, 5],
+    ),
+    (Turn::Append(ACROSS), [2, 4, 4, 5]),
+    (
+        Turn::Step(StepKind::FlushInner, 0, StepReply::Did(2)),
+        [2, 4, 4, 5],
+    ),
+    (
+        Turn::Step(StepKind::FlushInner, 1, StepReply::Did(2)),
+        [2, 4, 4, 5],
+    ),
+    (Turn::Append(&[Plain::Put(9, 3)]), [2, 4, 5, 5]),
+    (
+        Turn::Step(StepKind::FlushInner, 1, StepReply::Did(1)),
+        [2, 4, 5, 5],
+    ),
+    (
+        Turn::Step(StepKind::MergeInner, 0, StepReply::NoRoom),
+        [2, 4, 5, 5],
+    ),
+];
+
+#[test]
+fn five_messages_are_too_many_for_one_node(rt: HostRuntime) {
+    assert_eq!(rt;
+        follow_two_leaves(rt.alloc(), FIVE_MESSAGES),
+        FIVE_MESSAGES.len()
+    );
+}
+
+/// Whether a new root and a split below it make so many levels.
+fn grows_to(alloc: Global, tree: &mut Tree<Digit>, levels: u128) -> bool {
+    take(alloc, tree, StepKind::RootUp, 0) == StepReply::Did(0)
+        && take(alloc, tree, StepKind::SplitInner, 0) == StepReply::Did(0)
+        && tree.shape_report().levels == levels
+}
+
+/// Whether a tree grows from one level to sixteen, and no further.
+fn grows_to_sixteen(alloc: Global, tree: &mut Tree<Digit>) -> bool {
+    for levels in 2u32..17 {
+        if !grows_to(alloc, tree, levels as u128) {
+            return false;
+        }
+    }
+    take(alloc, tree, StepKind::RootUp, 0) == StepReply::NoRoom
+}
+
+/// The same of a new tree that gets two leaves.
+fn two_leaves_grow(alloc: Global) -> bool {
+    match new_tree(alloc) {
+        Ok(mut tree) => gets_two_leaves(alloc, &mut tree) && grows_to_sixteen(alloc, &mut tree),
+        Err(_) => false,
+    }
 }
 
 #[test]
-fn a_covered_leaf_goes(rt: HostRuntime) -> Result<(), Fail> {
-    let rows = [
-        (Turn::Append(&[Plain::DelRange(6, None)]), [1, 2, 1, 5]),
-        (
-            Turn::Step(StepKind::DropCovered, 1, StepReply::NotThere),
-            [1, 2, 1, 5],
-        ),
-        (
-            Turn::Step(StepKind::FlushLeaf, 1, StepReply::Did(1)),
-            [1, 2, 0, 3],
-        ),
-        (
-            Turn::Append(&[Plain::DelRange(5, None), Plain::Put(9, 1)]),
-            [1, 2, 2, 3],
-        ),
-        (
-            Turn::Step(StepKind::DropCovered, 0, StepReply::NotThere),
-            [1, 2, 2, 3],
-        ),
-        (
-            Turn::Step(StepKind::DropCovered, 1, StepReply::Did(1)),
-            [1, 2, 1, 2],
-        ),
-    ];
-    follow_two_leaves(&rt, rt.alloc(), &rows)
+fn a_tree_has_at_most_sixteen_levels(rt: HostRuntime) {
+    assert!(rt; two_leaves_grow(rt.alloc()));
 }
 
+const FIVE_ENTRIES: &[Row] = &[
+    (
+        Turn::Step(StepKind::MergeLeaves, 0, StepReply::NoRoom),
+        [1, 2, 0, 5],
+    ),
+    (
+        Turn::Append(&[Plain::Del(7), Plain::Put(2, 1)]),
+        [1, 2, 2, 5],
+    ),
+    (
+        Turn::Step(StepKind::FlushLeaf, 1, StepReply::Did(1)),
+        [1, 2, 1, 4],
+    ),
+    (
+        Turn::Step(StepKind::MergeLeaves, 1, StepReply::NotThere),
+        [1, 2, 1, 4],
+    ),
+    (
+        Turn::Step(StepKind::MergeLeaves, 0, StepReply::Did(0)),
+        [1, 1, 1, 4],
+    ),
+];
+
 #[test]
-fn the_first_of_equally_heavy_slots_is_named(rt: HostRuntime) -> Result<(), Fail> {
-    let alloc = rt.alloc();
-    let mut tree = Tree::new(alloc, SMALL)?;
-    assert!(rt; heaviest(&tree).is_none());
+fn five_entries_are_too_many_for_one_leaf_of_four(rt: HostRuntime) {
+    assert_eq!(rt;
+        follow_two_leaves(rt.alloc(), FIVE_ENTRIES),
+        FIVE_ENTRIES.len()
+    );
+}
+
+const COVERED: &[Row] = &[
+    (Turn::Append(&[Plain::DelRange(6, None)]), [1, 2, 1, 5]),
+    (
+        Turn::Step(StepKind::DropCovered, 1, StepReply::NotThere),
+        [1, 2, 1, 5],
+    ),
+    (
+        Turn::Step(StepKind::FlushLeaf, 1, StepReply::Did(1)),
+        [1, 2, 0, 3],
+    ),
+    (
+        Turn::Append(&[Plain::DelRange(5, None), Plain::Put(9, 1)]),
+        [1, 2, 2, 3],
+    ),
+    (
+        Turn::Step(StepKind::DropCovered, 0, StepReply::NotThere),
+        [1, 2, 2, 3],
+    ),
+    (
+        Turn::Step(StepKind::DropCovered, 1, StepReply::Did(1)),
+        [1, 2, 1, 2],
+    ),
+];
+
+#[test]
+fn a_covered_leaf_goes(rt: HostRuntime) {
+    assert_eq!(rt; follow_two_leaves(rt.alloc(), COVERED), COVERED.len());
+}
+
+/// The slot of the root that is to be flushed into its leaf next, if one is.
+fn heaviest_slot(tree: &Tree<Digit>) -> Option<u8> {
+    let step = heaviest(tree)?;
+    if step.kind == StepKind::FlushLeaf {
+        Some(step.slot)
+    } else {
+        None
+    }
+}
+
+/// Whether messages that come make this slot the heaviest.
+fn make_heaviest(alloc: Global, tree: &mut Tree<Digit>, msgs: &[Plain], slot: u8) -> bool {
+    append(alloc, tree, msgs) && heaviest_slot(tree) == Some(slot)
+}
+
+/// Does the step of the heaviest slot, if there is one.
+fn relieve_heaviest(alloc: Global, tree: &mut Tree<Digit>) {
+    if let Some(step) = heaviest(tree) {
+        do_step(alloc, tree, step);
+    }
+}
+
+/// Whether each of five keys makes the first slot the heaviest, and is flushed.
+fn sinks_from_first(alloc: Global, tree: &mut Tree<Digit>) -> bool {
     for at in [1, 2, 5, 6, 7] {
-        tree.append(alloc, batch(alloc, &[Plain::Put(at, 0)])?)?;
-        let step = heaviest(&tree).ok_or("a flush")?;
-        assert_eq!(rt; (step.kind, step.slot), (StepKind::FlushLeaf, 0));
-        do_step(alloc, &mut tree, step);
+        if !make_heaviest(alloc, tree, &[Plain::Put(at, 0)], 0) {
+            return false;
+        }
+        relieve_heaviest(alloc, tree);
     }
-    for (msgs, slot) in [
-        ([Plain::Put(7, 1), Plain::Put(1, 1)], 0),
-        ([Plain::Put(6, 1), Plain::Put(5, 1)], 1),
-    ] {
-        tree.append(alloc, batch(alloc, &msgs)?)?;
-        let step = heaviest(&tree).ok_or("a flush")?;
-        assert_eq!(rt; (step.kind, step.slot), (StepKind::FlushLeaf, slot));
+    true
+}
+
+/// Whether no slot of a new tree is heaviest, and of two that are equally heavy later the first.
+fn names_first(alloc: Global, tree: &mut Tree<Digit>) -> bool {
+    heaviest(tree).is_none()
+        && sinks_from_first(alloc, tree)
+        && make_heaviest(alloc, tree, &[Plain::Put(7, 1), Plain::Put(1, 1)], 0)
+        && make_heaviest(alloc, tree, &[Plain::Put(6, 1), Plain::Put(5, 1)], 1)
+}
+
+/// The same of a new tree.
+fn new_tree_names_first(alloc: Global) -> bool {
+    match new_tree(alloc) {
+        Ok(mut tree) => names_first(alloc, &mut tree),
+        Err(_) => false,
     }
-    Ok(())
+}
+
+#[test]
+fn the_first_of_equally_heavy_slots_is_named(rt: HostRuntime) {
+    assert!(rt; new_tree_names_first(rt.alloc()));
 }
 
 #[test]

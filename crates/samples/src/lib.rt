@@ -8,6 +8,6 @@ pub mod random;
 pub mod row;
 
 pub use digit::Digit;
-pub use plain::{Plain, batch, key, number, numbers, range};
+pub use plain::{Plain, are, batch, key, number, numbers, range};
 pub use random::Random;
 pub use row::Row;

@@ -113,3 +113,16 @@ pub fn numbers(alloc: Global, pairs: &[(Key, u64)]) -> Result<Vec<(u8, u64)>, No
     }
     Ok(found)
 }
+
+/// Whether the messages have these plain forms, in their order.
+pub fn are(msgs: &[Msg<Digit>], plain: &[Plain]) -> bool {
+    if msgs.len() != plain.len() {
+        return false;
+    }
+    for (msg, wanted) in msgs.iter().zip(plain) {
+        if Plain::of(msg) != *wanted {
+            return false;
+        }
+    }
+    true
+}
