@@ -5,7 +5,7 @@ use reference::{Call, Kind, Reply};
 use std::alloc::Global;
 
 /// A call, with the texts of its paths.
-#[derive(Clone, Copy, Debug)]
+#[derive(Clone, Copy)]
 pub enum Ask<'a> {
     Mkdir(&'a str),
     Create(&'a str),
@@ -21,7 +21,7 @@ pub enum Ask<'a> {
 }
 
 /// A reply.
-#[derive(Clone, Copy, Debug)]
+#[derive(Clone, Copy)]
 pub enum Told<'a> {
     Done,
     Count(u64),
@@ -38,36 +38,61 @@ pub fn path(alloc: Global, text: &str) -> Result<Path, Errno> {
 }
 
 /// A write.
-fn write(alloc: Global, text: &str, offset: u64, new: &[u8]) -> Result<Call, Errno> {
-    let path = path(alloc, text)?;
+fn write(alloc: Global, path: Path, offset: u64, new: &[u8]) -> Result<Call, Errno> {
     match Bytes::copy_from_slice(alloc, new) {
         Ok(bytes) => Ok(Call::Write(path, offset, bytes)),
         Err(_) => Err(Errno::ENOMEM),
     }
 }
 
-/// A move from one path to another.
-fn rename(alloc: Global, old: &str, new: &str) -> Result<Call, Errno> {
-    let old = path(alloc, old)?;
-    let new = path(alloc, new)?;
-    Ok(Call::Rename(old, new))
+/// A move to the path of a text.
+fn rename(alloc: Global, old: Path, new: &str) -> Result<Call, Errno> {
+    match path(alloc, new) {
+        Ok(new) => Ok(Call::Rename(old, new)),
+        Err(fault) => Err(fault),
+    }
 }
 
 impl<'a> Ask<'a> {
+    /// The text of the call's path; of a move that of the old one.
+    fn text(self) -> &'a str {
+        match self {
+            Ask::Mkdir(text)
+            | Ask::Create(text)
+            | Ask::Write(text, _, _)
+            | Ask::Truncate(text, _)
+            | Ask::Unlink(text)
+            | Ask::Rmdir(text)
+            | Ask::Rename(text, _)
+            | Ask::Rmtree(text)
+            | Ask::Read(text, _, _)
+            | Ask::Stat(text)
+            | Ask::Readdir(text) => text,
+        }
+    }
+
+    /// The call at a path.
+    fn at(self, alloc: Global, path: Path) -> Result<Call, Errno> {
+        match self {
+            Ask::Mkdir(_) => Ok(Call::Mkdir(path)),
+            Ask::Create(_) => Ok(Call::Create(path)),
+            Ask::Write(_, offset, new) => write(alloc, path, offset, new),
+            Ask::Truncate(_, len) => Ok(Call::Truncate(path, len)),
+            Ask::Unlink(_) => Ok(Call::Unlink(path)),
+            Ask::Rmdir(_) => Ok(Call::Rmdir(path)),
+            Ask::Rename(_, new) => rename(alloc, path, new),
+            Ask::Rmtree(_) => Ok(Call::Rmtree(path)),
+            Ask::Read(_, offset, count) => Ok(Call::Read(path, offset, count)),
+            Ask::Stat(_) => Ok(Call::Stat(path)),
+            Ask::Readdir(_) => Ok(Call::Readdir(path)),
+        }
+    }
+
     /// The call; or the fault of a text that is no path.
     pub fn call(self, alloc: Global) -> Result<Call, Errno> {
-        match self {
-            Ask::Mkdir(text) => Ok(Call::Mkdir(path(alloc, text)?)),
-            Ask::Create(text) => Ok(Call::Create(path(alloc, text)?)),
-            Ask::Write(text, offset, new) => write(alloc, text, offset, new),
-            Ask::Truncate(text, len) => Ok(Call::Truncate(path(alloc, text)?, len)),
-            Ask::Unlink(text) => Ok(Call::Unlink(path(alloc, text)?)),
-            Ask::Rmdir(text) => Ok(Call::Rmdir(path(alloc, text)?)),
-            Ask::Rename(old, new) => rename(alloc, old, new),
-            Ask::Rmtree(text) => Ok(Call::Rmtree(path(alloc, text)?)),
-            Ask::Read(text, offset, count) => Ok(Call::Read(path(alloc, text)?, offset, count)),
-            Ask::Stat(text) => Ok(Call::Stat(path(alloc, text)?)),
-            Ask::Readdir(text) => Ok(Call::Readdir(path(alloc, text)?)),
+        match path(alloc, self.text()) {
+            Ok(path) => self.at(alloc, path),
+            Err(fault) => Err(fault),
         }
     }
 }

@@ -3,12 +3,10 @@
 use crate::ask::path;
 use block_index::{Block, BlockIndex, BlockUpdate, Patch};
 use bytes::Bytes;
-use message::Update;
+use message::{Msg, Update};
 use node::Shape;
-use pathkey::{Key, Path, block_key};
+use pathkey::{Key, NoMemory, Path, block_key};
 use std::alloc::Global;
-use std::process::Abort;
-use std::test::Fail;
 
 const SHAPE: Shape = Shape {
     fanout: 4,
@@ -25,115 +23,223 @@ enum Laid {
     CutTo(u16),
 }
 
+/// A patch; none where it ends behind its block.
+fn patch(off: u16, bytes: Bytes) -> Option<BlockUpdate> {
+    if usize::from(off) > 4096 || bytes.len() > 4096 - usize::from(off) {
+        return None;
+    }
+    Some(BlockUpdate::Patch(Patch::new(off, bytes)))
+}
+
 impl Laid {
-    /// The update.
-    fn update(self, rt: &impl Abort, alloc: Global) -> Result<BlockUpdate, Fail> {
+    /// The update; none where a patch ends behind its block, or memory is refused.
+    fn update(self, alloc: Global) -> Option<BlockUpdate> {
         match self {
-            Laid::CutTo(len) => Ok(BlockUpdate::CutTo(len)),
-            Laid::Patch(off, new) => {
-                let bytes = Bytes::copy_from_slice(alloc, new)?;
-                if usize::from(off) > 4096 || bytes.len() > 4096 - usize::from(off) {
-                    panic!(rt; "a patch ends behind its block: {self:?}");
-                }
-                Ok(BlockUpdate::Patch(Patch::new(off, bytes)))
-            }
+            Laid::CutTo(len) => Some(BlockUpdate::CutTo(len)),
+            Laid::Patch(off, new) => patch(off, Bytes::copy_from_slice(alloc, new).ok()?),
         }
     }
 }
 
-/// What an update makes of a block with these bytes.
-fn made_of(alloc: Global, update: &BlockUpdate, bytes: &[u8]) -> Result<Vec<u8>, Fail> {
+/// A block of these bytes; none where they are too many, or memory is refused.
+fn block(alloc: Global, bytes: &[u8]) -> Option<Block> {
     if bytes.len() > 4096 {
-        return Ok(Vec::new(alloc));
+        return None;
     }
-    let mut block = Block::copied(alloc, bytes)?;
-    update.change(alloc, &mut block)?;
-    Ok(Vec::from_slice(alloc, block.as_slice())?)
+    Block::copied(alloc, bytes).ok()
 }
 
+/// Changes a block; `false` where memory is refused. It ensures nothing, so that no proof of a test reads what an update means; nor do the next.
+fn change(alloc: Global, update: &BlockUpdate, block: &mut Block) -> bool {
+    matches!(update.change(alloc, block), Ok(true))
+}
+
+/// Whether an update makes these bytes of a block.
+fn changes_to(alloc: Global, update: &BlockUpdate, block: &mut Block, wanted: &[u8]) -> bool {
+    change(alloc, update, block) && block.as_slice() == wanted
+}
+
+/// Whether an update makes of the five bytes of a block these.
+fn makes(alloc: Global, update: &BlockUpdate, wanted: &[u8]) -> bool {
+    match block(alloc, b"12345") {
+        Some(mut block) => changes_to(alloc, update, &mut block, wanted),
+        None => false,
+    }
+}
+
+/// The update that two are.
+fn joined(alloc: Global, first: &BlockUpdate, later: &BlockUpdate) -> Option<Option<BlockUpdate>> {
+    first.join(alloc, later).ok()
+}
+
+/// Whether two updates are one that makes these bytes; or none.
+fn join_to(alloc: Global, first: &BlockUpdate, later: &BlockUpdate, wanted: Option<&[u8]>) -> bool {
+    match (joined(alloc, first, later), wanted) {
+        (Some(Some(one)), Some(bytes)) => makes(alloc, &one, bytes),
+        (Some(None), None) => true,
+        _ => false,
+    }
+}
+
+/// Two updates, and the bytes that the one which they are makes of five; none where they are not one.
+type Joined = (Laid, Laid, Option<&'static [u8]>);
+
+/// Whether an update and the later one of the row join as the row says.
+fn joins(alloc: Global, first: &BlockUpdate, row: &Joined) -> bool {
+    match row.1.update(alloc) {
+        Some(later) => join_to(alloc, first, &later, row.2),
+        None => false,
+    }
+}
+
+/// Whether the two updates of the row join as the row says.
+fn join_so(alloc: Global, row: &Joined) -> bool {
+    match row.0.update(alloc) {
+        Some(first) => joins(alloc, &first, row),
+        None => false,
+    }
+}
+
+const JOINED: &[Joined] = &[
+    (Laid::Patch(4, b"ab"), Laid::Patch(2, b"c"), None),
+    (Laid::Patch(2, b"c"), Laid::Patch(4, b"ab"), None),
+    (Laid::Patch(2, b"c"), Laid::Patch(3, b"d"), Some(b"12cd5")),
+    (
+        Laid::Patch(4, b"ab"),
+        Laid::Patch(2, b"cd"),
+        Some(b"12cdab"),
+    ),
+    (Laid::Patch(1, b"aaa"), Laid::Patch(2, b"b"), Some(b"1aba5")),
+    (Laid::Patch(2, b"b"), Laid::Patch(1, b"aaa"), Some(b"1aaa5")),
+    (Laid::CutTo(2), Laid::CutTo(4), Some(b"12")),
+    (Laid::CutTo(4), Laid::CutTo(2), Some(b"12")),
+    (Laid::Patch(0, b"a"), Laid::CutTo(4), None),
+    (Laid::CutTo(4), Laid::Patch(0, b"a"), None),
+];
+
 #[test]
-fn updates_join_where_they_are_one(rt: HostRuntime) -> Result<(), Fail> {
-    let alloc = rt.alloc();
-    let rows = [
-        (Laid::Patch(4, b"ab"), Laid::Patch(2, b"c"), None),
-        (Laid::Patch(2, b"c"), Laid::Patch(4, b"ab"), None),
-        (
-            Laid::Patch(2, b"c"),
-            Laid::Patch(3, b"d"),
-            Some(b"12cd5".as_slice()),
-        ),
-        (
-            Laid::Patch(4, b"ab"),
-            Laid::Patch(2, b"cd"),
-            Some(b"12cdab"),
-        ),
-        (Laid::Patch(1, b"aaa"), Laid::Patch(2, b"b"), Some(b"1aba5")),
-        (Laid::Patch(2, b"b"), Laid::Patch(1, b"aaa"), Some(b"1aaa5")),
-        (Laid::CutTo(2), Laid::CutTo(4), Some(b"12")),
-        (Laid::CutTo(4), Laid::CutTo(2), Some(b"12")),
-        (Laid::Patch(0, b"a"), Laid::CutTo(4), None),
-        (Laid::CutTo(4), Laid::Patch(0, b"a"), None),
-    ];
-    for (first, later, wanted) in rows {
-        let update = first.update(&rt, alloc)?;
-        let joined = update.join(alloc, &later.update(&rt, alloc)?)?;
-        assert_eq!(rt; joined.is_some(), wanted.is_some(), "{first:?} {later:?}");
-        if let (Some(one), Some(bytes)) = (&joined, wanted) {
-            let made = made_of(alloc, one, b"12345")?;
-            assert_eq!(rt; made.as_slice(), bytes, "{first:?} {later:?}");
+fn updates_join_where_they_are_one(rt: HostRuntime) {
+    for row in JOINED {
+        assert!(rt; join_so(rt.alloc(), row), "{row:?}");
+    }
+}
+
+/// An update of a block, the length that the block then has, and bytes with which it begins and ends.
+type Filled = (Laid, usize, &'static [u8], &'static [u8]);
+
+/// Whether the block is as the row says.
+fn is_filled(block: &Block, row: &Filled) -> bool {
+    let bytes = block.as_slice();
+    bytes.len() == row.1 && bytes.starts_with(row.2) && bytes.ends_with(row.3)
+}
+
+/// Whether an update makes the block what the row says, and a share of it has so many bytes as before.
+fn fills_beside(
+    alloc: Global,
+    update: &BlockUpdate,
+    block: &mut Block,
+    share: &Block,
+    row: &Filled,
+) -> bool {
+    let old = share.as_slice().len();
+    change(alloc, update, block) && is_filled(block, row) && share.as_slice().len() == old
+}
+
+/// The same beside a share made here.
+fn fills(alloc: Global, update: &BlockUpdate, block: &mut Block, row: &Filled) -> bool {
+    match block.copy() {
+        Ok(share) => fills_beside(alloc, update, block, &share, row),
+        Err(_) => false,
+    }
+}
+
+/// Whether the row's update makes the block what the row says.
+fn fills_so(alloc: Global, block: &mut Block, row: &Filled) -> bool {
+    match row.0.update(alloc) {
+        Some(update) => fills(alloc, &update, block, row),
+        None => false,
+    }
+}
+
+const FILLED: &[Filled] = &[
+    (Laid::Patch(4095, b"x"), 4096, b"d\0\0\0", b"\0\0x"),
+    (Laid::Patch(4094, b"yz"), 4096, b"d\0", b"\0yz"),
+    (Laid::Patch(0, b"ab"), 4096, b"ab\0", b"\0yz"),
+    (Laid::CutTo(4096), 4096, b"ab\0", b"\0yz"),
+    (Laid::CutTo(2), 2, b"ab", b"ab"),
+    (Laid::CutTo(0), 0, b"", b""),
+    (Laid::Patch(1, b"c"), 2, b"\0c", b"\0c"),
+];
+
+/// How many updates make the block what their rows say, before the first that does not.
+fn filled(alloc: Global, block: &mut Block) -> usize {
+    let mut count = 0usize;
+    for row in FILLED {
+        if !fills_so(alloc, block, row) {
+            return count;
         }
+        count = count.saturating_add(1);
     }
-    Ok(())
+    count
+}
+
+/// The same of a block of one byte.
+fn one_byte_filled(alloc: Global) -> usize {
+    match block(alloc, b"d") {
+        Some(mut block) => filled(alloc, &mut block),
+        None => 0,
+    }
 }
 
 #[test]
-fn a_block_is_filled_to_its_end_and_cut_to_nothing(rt: HostRuntime) -> Result<(), Fail> {
-    let alloc = rt.alloc();
-    let rows = [
-        (
-            Laid::Patch(4095, b"x"),
-            4096,
-            b"d\0\0\0".as_slice(),
-            b"\0\0x".as_slice(),
-        ),
-        (Laid::Patch(4094, b"yz"), 4096, b"d\0", b"\0yz"),
-        (Laid::Patch(0, b"ab"), 4096, b"ab\0", b"\0yz"),
-        (Laid::CutTo(4096), 4096, b"ab\0", b"\0yz"),
-        (Laid::CutTo(2), 2, b"ab", b"ab"),
-        (Laid::CutTo(0), 0, b"", b""),
-        (Laid::Patch(1, b"c"), 2, b"\0c", b"\0c"),
-    ];
-    let mut block = Block::copied(alloc, b"d")?;
-    for (laid, len, begin, end) in rows {
-        let before = block.copy()?;
-        let old = before.as_slice().len();
-        let update = laid.update(&rt, alloc)?;
-        assert!(rt; update.change(alloc, &mut block)?, "{laid:?}");
-        assert_eq!(rt; block.as_slice().len(), len, "{laid:?}");
-        assert!(rt; block.as_slice().starts_with(begin), "{laid:?}");
-        assert!(rt; block.as_slice().ends_with(end), "{laid:?}");
-        assert_eq!(rt; before.as_slice().len(), old, "{laid:?}");
-    }
-    Ok(())
+fn a_block_is_filled_to_its_end_and_cut_to_nothing(rt: HostRuntime) {
+    assert_eq!(rt; one_byte_filled(rt.alloc()), FILLED.len());
 }
 
-#[test]
-fn a_block_that_is_absent_is_made_by_a_patch_alone(rt: HostRuntime) -> Result<(), Fail> {
-    let alloc = rt.alloc();
-    let nothing: Option<Block> = None;
-    for (laid, wanted) in [
-        (Laid::Patch(2, b"a"), Some(b"\0\0a".as_slice())),
-        (Laid::CutTo(7), None),
-    ] {
-        let made = laid.update(&rt, alloc)?.apply(alloc, nothing.as_ref())?;
-        let bytes = made.as_ref().map(|block| block.as_slice());
-        assert_eq!(rt; bytes, wanted, "{laid:?}");
+/// What an update makes where no block is.
+fn made_of_nothing(alloc: Global, update: &BlockUpdate) -> Option<Option<Block>> {
+    update.apply(alloc, None).ok()
+}
+
+/// Whether the block has these bytes; or there is none.
+fn is_block_of(block: &Option<Block>, wanted: Option<&[u8]>) -> bool {
+    match (block, wanted) {
+        (Some(block), Some(bytes)) => block.as_slice() == bytes,
+        (None, None) => true,
+        _ => false,
     }
-    Ok(())
+}
+
+/// Whether an update makes these bytes where no block is; or none.
+fn makes_of_nothing(alloc: Global, update: &BlockUpdate, wanted: Option<&[u8]>) -> bool {
+    match made_of_nothing(alloc, update) {
+        Some(made) => is_block_of(&made, wanted),
+        None => false,
+    }
+}
+
+/// Whether the update of a row makes the row's bytes where no block is; or none.
+fn begins_so(alloc: Global, row: &(Laid, Option<&[u8]>)) -> bool {
+    match row.0.update(alloc) {
+        Some(update) => makes_of_nothing(alloc, &update, row.1),
+        None => false,
+    }
+}
+
+const BEGUN: &[(Laid, Option<&[u8]>)] = &[
+    (Laid::Patch(2, b"a"), Some(b"\0\0a")),
+    (Laid::CutTo(7), None),
+];
+
+#[test]
+fn a_block_that_is_absent_is_made_by_a_patch_alone(rt: HostRuntime) {
+    for row in BEGUN {
+        assert!(rt; begins_so(rt.alloc(), row), "{row:?}");
+    }
 }
 
 /// What is asked of an index about one file, with what comes of it.
-#[derive(Clone, Copy, Debug)]
+#[derive(Clone, Copy)]
 enum Ask {
     /// Writes bytes at an offset, by so many messages.
     Write(u64, &'static [u8], usize),
@@ -143,103 +249,280 @@ enum Ask {
     Read(u64, u64, u64, &'static [u8]),
 }
 
-/// Whether what is asked comes out as it should. What is sent is appended.
-fn is_answered(alloc: Global, index: &mut BlockIndex, ask: Ask) -> Result<bool, Fail> {
-    let file = path(alloc, "/f")?;
-    if file.is_root() {
-        return Ok(false);
+/// The most bytes of a file, and its last place.
+const LIMIT: u64 = 1_099_511_627_776;
+
+const LAST: u64 = 1_099_511_627_775;
+
+/// Messages for an index.
+type Messages = Vec<Msg<BlockUpdate>>;
+
+/// The bytes of a file; none where it is the root, or memory is refused.
+fn bytes_of(
+    alloc: Global,
+    index: &BlockIndex,
+    file: &Path,
+    off: u64,
+    n: u64,
+    len: u64,
+) -> Option<Vec<u8>> {
+    if file.is_root() || len > LIMIT {
+        return None;
     }
-    let limit = 1_099_511_627_776;
-    let (msgs, wanted) = match ask {
-        Ask::Read(off, n, len, bytes) if len <= limit => {
-            return Ok(index.read(alloc, &file, off, n, len)?.as_slice() == bytes);
+    index.read(alloc, file, off, n, len).ok()
+}
+
+/// The messages of a cut.
+fn cut(alloc: Global, index: &BlockIndex, file: &Path, len: u64) -> Option<Messages> {
+    if file.is_root() || len > LIMIT {
+        return None;
+    }
+    index.cut_msgs(alloc, file, len).ok()
+}
+
+/// The messages of a write.
+fn write(
+    alloc: Global,
+    index: &BlockIndex,
+    file: &Path,
+    off: u64,
+    bytes: &Bytes,
+) -> Option<Messages> {
+    if file.is_root() || off > LIMIT || bytes.is_empty() || bytes.len() as u64 > LIMIT - off {
+        return None;
+    }
+    index.write_msgs(alloc, file, off, bytes).ok()
+}
+
+/// The messages of a write of these bytes.
+fn write_new(
+    alloc: Global,
+    index: &BlockIndex,
+    file: &Path,
+    off: u64,
+    new: &[u8],
+) -> Option<Messages> {
+    match Bytes::copy_from_slice(alloc, new) {
+        Ok(bytes) => write(alloc, index, file, off, &bytes),
+        Err(_) => None,
+    }
+}
+
+/// Appends messages; whether they are as many as wanted.
+fn append(alloc: Global, index: &mut BlockIndex, msgs: Option<Messages>, wanted: usize) -> bool {
+    match msgs {
+        Some(msgs) => msgs.len() == wanted && index.tree.append(alloc, msgs).is_ok(),
+        None => false,
+    }
+}
+
+/// Whether these bytes are read.
+fn reads(read: Option<Vec<u8>>, wanted: &[u8]) -> bool {
+    match read {
+        Some(bytes) => bytes.as_slice() == wanted,
+        None => false,
+    }
+}
+
+/// Whether what is asked about a file comes out as it should. What is sent is appended.
+fn is_answered(alloc: Global, index: &mut BlockIndex, file: &Path, ask: Ask) -> bool {
+    match ask {
+        Ask::Read(off, n, len, wanted) => {
+            reads(bytes_of(alloc, index, file, off, n, len), wanted)
         }
-        Ask::Cut(len, wanted) if len <= limit => (index.cut_msgs(alloc, &file, len)?, wanted),
-        Ask::Write(off, new, wanted) if off < limit && !new.is_empty() && new.len() <= 16 => {
-            let bytes = Bytes::copy_from_slice(alloc, new)?;
-            if bytes.len() as u64 > limit - off || bytes.is_empty() {
-                return Ok(false);
-            }
-            (index.write_msgs(alloc, &file, off, &bytes)?, wanted)
+        Ask::Cut(len, wanted) => {
+            let msgs = cut(alloc, index, file, len);
+            append(alloc, index, msgs, wanted)
         }
-        _ => return Ok(false),
-    };
-    let count = msgs.len();
-    index.tree.append(alloc, msgs)?;
-    Ok(count == wanted)
+        Ask::Write(off, new, wanted) => {
+            let msgs = write_new(alloc, index, file, off, new);
+            append(alloc, index, msgs, wanted)
+        }
+    }
+}
+
+const ASKED: &[Ask] = &[
+    Ask::Write(4095, b"\xaa\xbb", 2),
+    Ask::Read(4094, 4, 4097, b"\0\xaa\xbb"),
+    Ask::Read(4096, 9, 4097, b"\xbb"),
+    Ask::Read(4097, 9, 4097, b""),
+    Ask::Cut(4096, 1),
+    Ask::Read(4095, 2, 8192, b"\xaa\0"),
+    Ask::Cut(0, 1),
+    Ask::Write(0, b"0123456789", 1),
+    Ask::Cut(5, 2),
+    Ask::Read(0, 8, 9000, b"01234\0\0\0"),
+    Ask::Write(LAST, b"z", 1),
+    Ask::Read(LAST, 2, LIMIT, b"z"),
+];
+
+/// How much of what is asked about a file comes out as it should, before the first that does not.
+fn answered(alloc: Global, index: &mut BlockIndex, file: &Path) -> usize {
+    let mut count = 0usize;
+    for ask in ASKED {
+        if !is_answered(alloc, index, file, *ask) {
+            return count;
+        }
+        count = count.saturating_add(1);
+    }
+    count
+}
+
+/// An index without blocks.
+fn nothing(alloc: Global) -> Result<BlockIndex, NoMemory> {
+    BlockIndex::new(alloc, SHAPE)
+}
+
+/// The same of the file `/f` in a new index.
+fn answered_of_file(alloc: Global, file: &Path) -> usize {
+    match nothing(alloc) {
+        Ok(mut index) => answered(alloc, &mut index, file),
+        Err(_) => 0,
+    }
+}
+
+/// The same.
+fn answered_of_f(alloc: Global) -> usize {
+    match path(alloc, "/f") {
+        Ok(file) => answered_of_file(alloc, &file),
+        Err(_) => 0,
+    }
 }
 
 #[test]
-fn bytes_are_read_as_they_were_written_and_cut(rt: HostRuntime) -> Result<(), Fail> {
-    let alloc = rt.alloc();
-    let last = 1_099_511_627_775;
-    let mut index = BlockIndex::new(alloc, SHAPE)?;
-    for ask in [
-        Ask::Write(4095, b"\xaa\xbb", 2),
-        Ask::Read(4094, 4, 4097, b"\0\xaa\xbb"),
-        Ask::Read(4096, 9, 4097, b"\xbb"),
-        Ask::Read(4097, 9, 4097, b""),
-        Ask::Cut(4096, 1),
-        Ask::Read(4095, 2, 8192, b"\xaa\0"),
-        Ask::Cut(0, 1),
-        Ask::Write(0, b"0123456789", 1),
-        Ask::Cut(5, 2),
-        Ask::Read(0, 8, 9000, b"01234\0\0\0"),
-        Ask::Write(last, b"z", 1),
-        Ask::Read(last, 2, last + 1, b"z"),
-    ] {
-        assert!(rt; is_answered(alloc, &mut index, ask)?, "{ask:?}");
-    }
-    Ok(())
+fn bytes_are_read_as_they_were_written_and_cut(rt: HostRuntime) {
+    assert_eq!(rt; answered_of_f(rt.alloc()), ASKED.len());
 }
 
-/// Writes a byte at the start of a block of a file.
-fn put(alloc: Global, index: &mut BlockIndex, text: &str, block: u32) -> Result<(), Fail> {
-    let file = path(alloc, text)?;
+/// The text of a file's path, and the number of a block of it.
+type Place = (&'static str, u32);
+
+/// Writes a byte at the start of a block; `false` where memory is refused.
+fn put(alloc: Global, index: &mut BlockIndex, place: &Place) -> bool {
+    match path(alloc, place.0) {
+        Ok(file) => {
+            let msgs = write_new(alloc, index, &file, 4096 * place.1 as u64, b"x");
+            append(alloc, index, msgs, 1)
+        }
+        Err(_) => false,
+    }
+}
+
+/// The key of a block of a file; none where that is the root, or memory is refused.
+fn key_of_block(alloc: Global, file: &Path, block: u32) -> Option<Key> {
     if file.is_root() || block >= 268_435_456 {
-        return Err(Fail::new("no block of a file"));
+        return None;
     }
-    let one = Bytes::copy_from_slice(alloc, b"x")?;
-    if one.len() != 1 {
-        return Err(Fail::new("one byte"));
-    }
-    let msgs = index.write_msgs(alloc, &file, 4096 * block as u64, &one)?;
-    index.tree.append(alloc, msgs)?;
-    Ok(())
+    block_key(alloc, file, block).ok()
 }
 
 /// Whether this is the key of the block of a file.
-fn is_block(alloc: Global, key: &Key, text: &str, block: u32) -> Result<bool, Fail> {
-    let file = path(alloc, text)?;
-    if file.is_root() || block >= 268_435_456 {
-        return Ok(false);
+fn is_key_in(alloc: Global, key: &Key, file: &Path, block: u32) -> bool {
+    match key_of_block(alloc, file, block) {
+        Some(wanted) => *key == wanted,
+        None => false,
     }
-    Ok(*key == block_key(alloc, &file, block)?)
+}
+
+/// Whether this is the key of the block at the place.
+fn is_key_at(alloc: Global, key: &Key, place: &Place) -> bool {
+    match path(alloc, place.0) {
+        Ok(file) => is_key_in(alloc, key, &file, place.1),
+        Err(_) => false,
+    }
+}
+
+/// Whether this is the block of one byte at the place.
+fn is_at(alloc: Global, pair: &(Key, Block), place: &Place) -> bool {
+    is_key_at(alloc, &pair.0, place) && pair.1.as_slice() == b"x".as_slice()
+}
+
+const BLOCKS: &[Place] = &[
+    ("/ab", 0),
+    ("/a/g", 0),
+    ("/a/f", 1),
+    ("/a-b", 0),
+    ("/a/f", 0),
+];
+
+const BELOW_A: &[Place] = &[("/a/f", 0), ("/a/f", 1), ("/a/g", 0)];
+
+/// Pairs of an index.
+type Pairs = Vec<(Key, Block)>;
+
+/// The first pairs of a subtree; behind a key, where one is given.
+fn pairs_of(
+    alloc: Global,
+    index: &BlockIndex,
+    above: &Path,
+    behind: Option<&Key>,
+    limit: usize,
+) -> Option<Pairs> {
+    match behind {
+        None => index.below(alloc, above, limit).ok(),
+        Some(key) => index.below_behind(alloc, above, key, limit).ok(),
+    }
+}
+
+/// The key of the first pair, where that is the block at the place.
+fn first_key(alloc: Global, pairs: Option<Pairs>, place: &Place) -> Option<Key> {
+    let pairs = pairs?;
+    match pairs.first() {
+        Some(pair) if is_at(alloc, pair, place) => pair.0.copy(alloc).ok(),
+        _ => None,
+    }
+}
+
+/// Whether there are no pairs.
+fn are_none(pairs: Option<Pairs>) -> bool {
+    match pairs {
+        Some(pairs) => pairs.is_empty(),
+        None => false,
+    }
+}
+
+/// Whether the blocks of a subtree are these, each the first behind the one before.
+fn goes_on(alloc: Global, index: &BlockIndex, above: &Path, limit: usize) -> bool {
+    let mut behind: Option<Key> = None;
+    for place in BELOW_A {
+        let pairs = pairs_of(alloc, index, above, behind.as_ref(), limit);
+        behind = first_key(alloc, pairs, place);
+        if behind.is_none() {
+            return false;
+        }
+    }
+    are_none(pairs_of(alloc, index, above, behind.as_ref(), limit))
+}
+
+/// Puts the blocks into an index; `false` where memory is refused.
+fn fill(alloc: Global, index: &mut BlockIndex) -> bool {
+    for place in BLOCKS {
+        if !put(alloc, index, place) {
+            return false;
+        }
+    }
+    true
+}
+
+/// Whether the subtree of a path goes on so in a new index of the blocks.
+fn goes_on_below(alloc: Global, above: &Path, limit: usize) -> bool {
+    match nothing(alloc) {
+        Ok(mut index) => fill(alloc, &mut index) && goes_on(alloc, &index, above, limit),
+        Err(_) => false,
+    }
+}
+
+/// The same below `/a`.
+fn goes_on_below_a(alloc: Global, limit: usize) -> bool {
+    match path(alloc, "/a") {
+        Ok(above) => goes_on_below(alloc, &above, limit),
+        Err(_) => false,
+    }
 }
 
 #[test]
-fn the_blocks_of_a_subtree_go_on_behind_each_of_their_keys(rt: HostRuntime) -> Result<(), Fail> {
-    let alloc = rt.alloc();
-    let mut index = BlockIndex::new(alloc, SHAPE)?;
-    for (text, block) in [
-        ("/ab", 0),
-        ("/a/g", 0),
-        ("/a/f", 1),
-        ("/a-b", 0),
-        ("/a/f", 0),
-    ] {
-        put(alloc, &mut index, text, block)?;
-    }
-    let above = path(alloc, "/a")?;
+fn the_blocks_of_a_subtree_go_on_behind_each_of_their_keys(rt: HostRuntime) {
     for limit in [1, 2, 3, usize::MAX] {
-        let mut pairs = index.below(alloc, &above, limit)?;
-        for (text, block) in [("/a/f", 0), ("/a/f", 1), ("/a/g", 0)] {
-            let (key, value) = pairs.first().ok_or("a block")?;
-            assert!(rt; is_block(alloc, key, text, block)?, "{text:?} {block}");
-            assert_eq!(rt; value.as_slice(), b"x".as_slice());
-            pairs = index.below_behind(alloc, &above, &key.copy(alloc)?, limit)?;
-        }
-        assert!(rt; pairs.is_empty());
+        assert!(rt; goes_on_below_a(rt.alloc(), limit), "at most {limit}");
     }
-    Ok(())
 }

@@ -1,15 +1,13 @@
 //! Scripts of calls through the plain program, with the replies that the file system's definition gives, worked by hand.
 use crate::ask::{Ask, Told, path};
-use pathkey::{Errno, SnapName};
+use pathkey::{Errno, NoMemory, Path, SnapName};
 use reference::plain::reading::list_directory;
-use reference::plain::{World, image_of};
-use reference::{Kind, Reply};
+use reference::plain::{Tree, World, image_of};
+use reference::{Call, Kind, Reply};
 use std::alloc::{AllocError, Global};
-use std::process::Abort;
-use std::test::Fail;
 
 /// A call on snapshots, with the text of the name.
-#[derive(Clone, Copy, Debug)]
+#[derive(Clone, Copy)]
 enum Snap<'a> {
     Keep(&'a str),
     Drop(&'a str),
@@ -21,56 +19,127 @@ fn snap_name(alloc: Global, text: &str) -> Result<SnapName, Errno> {
     SnapName::parse(alloc, text.as_bytes())
 }
 
-/// Does a call on snapshots.
-fn snapped(alloc: Global, world: &mut World, snap: Snap<'_>) -> Result<(), Errno> {
+impl<'a> Snap<'a> {
+    /// The text of the name.
+    fn text(self) -> &'a str {
+        match self {
+            Snap::Keep(text) | Snap::Drop(text) | Snap::Restore(text) => text,
+        }
+    }
+}
+
+/// Does a call on the snapshot of a name.
+fn snapped(alloc: Global, world: &mut World, snap: Snap<'_>, name: &SnapName) -> Option<Errno> {
     match snap {
-        Snap::Keep(name) => world.snapshot(alloc, &snap_name(alloc, name)?),
-        Snap::Drop(name) => world.drop_snapshot(&snap_name(alloc, name)?),
-        Snap::Restore(name) => world.restore(alloc, &snap_name(alloc, name)?),
+        Snap::Keep(_) => world.snapshot(alloc, name).err(),
+        Snap::Drop(_) => world.drop_snapshot(name).err(),
+        Snap::Restore(_) => world.restore(alloc, name).err(),
     }
 }
 
 /// Why a call on snapshots is refused; none where it is done.
 fn fault_of(alloc: Global, world: &mut World, snap: Snap<'_>) -> Option<Errno> {
-    snapped(alloc, world, snap).err()
-}
-
-/// Lists a directory of a snapshot.
-fn list_frozen(alloc: Global, world: &World, name: &str, text: &str) -> Result<Reply, Errno> {
-    match world.frozen(&snap_name(alloc, name)?) {
-        None => Err(Errno::ENOENT),
-        Some(tree) => Ok(list_directory(alloc, tree, &path(alloc, text)?)?),
+    match snap_name(alloc, snap.text()) {
+        Ok(name) => snapped(alloc, world, snap, &name),
+        Err(fault) => Some(fault),
     }
 }
 
-/// The reply to a call, or the fault.
-fn answer(alloc: Global, world: &mut World, ask: Ask<'_>) -> Reply {
-    match ask.call(alloc) {
-        Err(fault) => Reply::Fault(fault),
-        Ok(call) => match world.call(alloc, &call) {
-            Err(_) => Reply::Fault(Errno::ENOMEM),
-            Ok(reply) => reply,
+/// Whether this is the reply, or the fault of a text that is no path.
+fn is_told(told: Told<'_>, reply: Result<Reply, Errno>) -> bool {
+    match reply {
+        Ok(reply) => told.is(&reply),
+        Err(fault) => matches!(told, Told::Fault(wanted) if wanted == fault),
+    }
+}
+
+/// The reply to the listing of a directory.
+fn list(alloc: Global, tree: &Tree, path: &Path) -> Result<Reply, Errno> {
+    match list_directory(alloc, tree, path) {
+        Ok(reply) => Ok(reply),
+        Err(_) => Err(Errno::ENOMEM),
+    }
+}
+
+/// Whether a directory of the tree has these entries.
+fn lists(alloc: Global, tree: &Tree, text: &str, told: Told<'_>) -> bool {
+    match path(alloc, text) {
+        Ok(path) => is_told(told, list(alloc, tree, &path)),
+        Err(_) => false,
+    }
+}
+
+/// Whether a directory of a snapshot has these entries.
+fn lists_frozen(alloc: Global, world: &World, name: &str, text: &str, told: Told<'_>) -> bool {
+    match snap_name(alloc, name) {
+        Ok(name) => match world.frozen(&name) {
+            Some(tree) => lists(alloc, tree, text, told),
+            None => false,
         },
+        Err(_) => false,
     }
 }
 
-/// Asks call after call, and looks whether each reply is the one that is told.
-fn follow_in(
-    rt: &impl Abort,
-    alloc: Global,
-    world: &mut World,
-    rows: &[(Ask<'_>, Told<'_>)],
-) -> Result<(), Fail> {
-    for (ask, told) in rows {
-        assert!(rt; told.is(&answer(alloc, world, *ask)), "{ask:?} {told:?}");
+/// The reply to a call. It ensures nothing, so that no proof of a test reads what a call means.
+fn reply_to(alloc: Global, world: &mut World, call: &Call) -> Result<Reply, Errno> {
+    match world.call(alloc, call) {
+        Ok(reply) => Ok(reply),
+        Err(_) => Err(Errno::ENOMEM),
     }
-    Ok(())
 }
 
-/// The same in a new world.
-fn follow(rt: &impl Abort, alloc: Global, rows: &[(Ask<'_>, Told<'_>)]) -> Result<(), Fail> {
-    let mut world = World::new(alloc)?;
-    follow_in(rt, alloc, &mut world, rows)
+/// What is asked, and what is told.
+type Row<'a> = (Ask<'a>, Told<'a>);
+
+/// Whether the row's reply comes to its call.
+fn is_answered(alloc: Global, world: &mut World, row: &Row<'_>) -> bool {
+    match row.0.call(alloc) {
+        Ok(call) => is_told(row.1, reply_to(alloc, world, &call)),
+        Err(fault) => is_told(row.1, Err(fault)),
+    }
+}
+
+/// Asks call after call; how many are answered as their rows say, before the first that is not.
+fn follow_in(alloc: Global, world: &mut World, rows: &[Row<'_>]) -> usize {
+    let mut count = 0usize;
+    for row in rows {
+        if !is_answered(alloc, world, row) {
+            return count;
+        }
+        count = count.saturating_add(1);
+    }
+    count
+}
+
+/// A new world. It ensures nothing, as `path`.
+fn new_world(alloc: Global) -> Result<World, NoMemory> {
+    World::new(alloc)
+}
+
+/// Asks call after call in a new world.
+fn follow(alloc: Global, rows: &[Row<'_>]) -> usize {
+    match new_world(alloc) {
+        Ok(mut world) => follow_in(alloc, &mut world, rows),
+        Err(_) => 0,
+    }
+}
+
+/// Whether all calls are answered as their rows say.
+fn follows(alloc: Global, world: &mut World, rows: &[Row<'_>]) -> bool {
+    follow_in(alloc, world, rows) == rows.len()
+}
+
+/// The image of the live tree. It ensures nothing, as `path`.
+fn image(alloc: Global, world: &World) -> Result<Vec<u8>, NoMemory> {
+    image_of(alloc, world.live())
+}
+
+/// Whether the live tree has this image.
+fn has_image(alloc: Global, world: &World, wanted: &[u8]) -> bool {
+    match image(alloc, world) {
+        Ok(image) => image.as_slice() == wanted,
+        Err(_) => false,
+    }
 }
 
 /// The text with a slash and a name of one letter, so many times, after it.
@@ -84,304 +153,335 @@ fn longer(alloc: Global, text: &str, letter: &str, count: u32) -> Result<String,
 }
 
 /// A parent that is absent is another fault than a parent that is a file.
+const PARENTS: &[Row<'static>] = &[
+    (Ask::Mkdir("/x/y"), Told::Fault(Errno::ENOENT)),
+    (Ask::Create("/x"), Told::Done),
+    (Ask::Mkdir("/x/y"), Told::Fault(Errno::ENOTDIR)),
+];
+
 #[test]
-fn parents_decide(rt: HostRuntime) -> Result<(), Fail> {
-    follow(
-        &rt,
-        rt.alloc(),
-        &[
-            (Ask::Mkdir("/x/y"), Told::Fault(Errno::ENOENT)),
-            (Ask::Create("/x"), Told::Done),
-            (Ask::Mkdir("/x/y"), Told::Fault(Errno::ENOTDIR)),
-        ],
-    )
+fn parents_decide(rt: HostRuntime) {
+    assert_eq!(rt; follow(rt.alloc(), PARENTS), PARENTS.len());
 }
 
 /// A name that begins as the removed one is not below it.
+const BELOW: &[Row<'static>] = &[
+    (Ask::Mkdir("/a"), Told::Done),
+    (Ask::Create("/a/x"), Told::Done),
+    (Ask::Create("/a-b"), Told::Done),
+    (Ask::Rmtree("/a"), Told::Done),
+    (Ask::Readdir("/"), Told::Names(&[(Kind::File, "a-b")])),
+];
+
 #[test]
-fn removes_only_what_is_below(rt: HostRuntime) -> Result<(), Fail> {
-    follow(
-        &rt,
-        rt.alloc(),
-        &[
-            (Ask::Mkdir("/a"), Told::Done),
-            (Ask::Create("/a/x"), Told::Done),
-            (Ask::Create("/a-b"), Told::Done),
-            (Ask::Rmtree("/a"), Told::Done),
-            (Ask::Readdir("/"), Told::Names(&[(Kind::File, "a-b")])),
-        ],
-    )
+fn removes_only_what_is_below(rt: HostRuntime) {
+    assert_eq!(rt; follow(rt.alloc(), BELOW), BELOW.len());
 }
 
 /// A write across the end of a block, and a read past the end of the file.
+const ACROSS: &[Row<'static>] = &[
+    (Ask::Create("/f"), Told::Done),
+    (Ask::Write("/f", 4095, &[0xaa, 0xbb]), Told::Count(2)),
+    (Ask::Read("/f", 4094, 4), Told::Data(&[0x00, 0xaa, 0xbb])),
+    (Ask::Stat("/f"), Told::File(4097)),
+];
+
 #[test]
-fn writes_across_blocks(rt: HostRuntime) -> Result<(), Fail> {
-    follow(
-        &rt,
-        rt.alloc(),
-        &[
-            (Ask::Create("/f"), Told::Done),
-            (Ask::Write("/f", 4095, &[0xaa, 0xbb]), Told::Count(2)),
-            (Ask::Read("/f", 4094, 4), Told::Data(&[0x00, 0xaa, 0xbb])),
-            (Ask::Stat("/f"), Told::File(4097)),
-        ],
-    )
+fn writes_across_blocks(rt: HostRuntime) {
+    assert_eq!(rt; follow(rt.alloc(), ACROSS), ACROSS.len());
+}
+
+const CUT: &[Row<'static>] = &[
+    (Ask::Create("/f"), Told::Done),
+    (Ask::Write("/f", 0, &[0xff; 10]), Told::Count(10)),
+    (Ask::Truncate("/f", 5), Told::Done),
+    (Ask::Truncate("/f", 9000), Told::Done),
+    (
+        Ask::Read("/f", 0, 8),
+        Told::Data(&[0xff, 0xff, 0xff, 0xff, 0xff, 0, 0, 0]),
+    ),
+];
+
+/// Whether a new world follows the rows, and then has this image.
+fn comes_to(alloc: Global, rows: &[Row<'_>], wanted: &[u8]) -> bool {
+    match new_world(alloc) {
+        Ok(mut world) => follows(alloc, &mut world, rows) && has_image(alloc, &world, wanted),
+        Err(_) => false,
+    }
 }
 
 /// What was cut off reads as zeros once the file is longer again, and zeros stand in no line of the image.
 #[test]
-fn cuts_and_lengthens(rt: HostRuntime) -> Result<(), Fail> {
-    let mut world = World::new(rt.alloc())?;
-    follow_in(
-        &rt,
-        rt.alloc(),
-        &mut world,
-        &[
-            (Ask::Create("/f"), Told::Done),
-            (Ask::Write("/f", 0, &[0xff; 10]), Told::Count(10)),
-            (Ask::Truncate("/f", 5), Told::Done),
-            (Ask::Truncate("/f", 9000), Told::Done),
-            (
-                Ask::Read("/f", 0, 8),
-                Told::Data(&[0xff, 0xff, 0xff, 0xff, 0xff, 0, 0, 0]),
-            ),
-        ],
-    )?;
-    let image = image_of(rt.alloc(), world.live())?;
-    assert_eq!(rt;
-        image.as_slice(),
-        b"d /\nf /f 9000\nb 0 ffffffffff\n".as_slice()
-    );
-    Ok(())
+fn cuts_and_lengthens(rt: HostRuntime) {
+    assert!(rt; comes_to(rt.alloc(), CUT, b"d /\nf /f 9000\nb 0 ffffffffff\n"));
 }
 
 /// A directory is not moved below itself, and onto itself it stays.
+const ITSELF: &[Row<'static>] = &[
+    (Ask::Mkdir("/a"), Told::Done),
+    (Ask::Mkdir("/a/b"), Told::Done),
+    (Ask::Rename("/a", "/a/b/c"), Told::Fault(Errno::EINVAL)),
+    (Ask::Rename("/a", "/a"), Told::Done),
+    (Ask::Readdir("/a"), Told::Names(&[(Kind::Dir, "b")])),
+];
+
 #[test]
-fn not_below_itself(rt: HostRuntime) -> Result<(), Fail> {
-    follow(
-        &rt,
-        rt.alloc(),
-        &[
-            (Ask::Mkdir("/a"), Told::Done),
-            (Ask::Mkdir("/a/b"), Told::Done),
-            (Ask::Rename("/a", "/a/b/c"), Told::Fault(Errno::EINVAL)),
-            (Ask::Rename("/a", "/a"), Told::Done),
-            (Ask::Readdir("/a"), Told::Names(&[(Kind::Dir, "b")])),
-        ],
-    )
+fn not_below_itself(rt: HostRuntime) {
+    assert_eq!(rt; follow(rt.alloc(), ITSELF), ITSELF.len());
 }
 
 /// A directory replaces an empty directory alone.
+const EMPTY: &[Row<'static>] = &[
+    (Ask::Mkdir("/p"), Told::Done),
+    (Ask::Mkdir("/q"), Told::Done),
+    (Ask::Mkdir("/r"), Told::Done),
+    (Ask::Create("/r/k"), Told::Done),
+    (Ask::Create("/s"), Told::Done),
+    (Ask::Rename("/p", "/r"), Told::Fault(Errno::ENOTEMPTY)),
+    (Ask::Rename("/p", "/s"), Told::Fault(Errno::ENOTDIR)),
+    (Ask::Rename("/p", "/q"), Told::Done),
+    (
+        Ask::Readdir("/"),
+        Told::Names(&[(Kind::Dir, "q"), (Kind::Dir, "r"), (Kind::File, "s")]),
+    ),
+];
+
 #[test]
-fn replaces_an_empty_directory(rt: HostRuntime) -> Result<(), Fail> {
-    follow(
-        &rt,
-        rt.alloc(),
-        &[
-            (Ask::Mkdir("/p"), Told::Done),
-            (Ask::Mkdir("/q"), Told::Done),
-            (Ask::Mkdir("/r"), Told::Done),
-            (Ask::Create("/r/k"), Told::Done),
-            (Ask::Create("/s"), Told::Done),
-            (Ask::Rename("/p", "/r"), Told::Fault(Errno::ENOTEMPTY)),
-            (Ask::Rename("/p", "/s"), Told::Fault(Errno::ENOTDIR)),
-            (Ask::Rename("/p", "/q"), Told::Done),
-            (
-                Ask::Readdir("/"),
-                Told::Names(&[(Kind::Dir, "q"), (Kind::Dir, "r"), (Kind::File, "s")]),
-            ),
-        ],
-    )
+fn replaces_an_empty_directory(rt: HostRuntime) {
+    assert_eq!(rt; follow(rt.alloc(), EMPTY), EMPTY.len());
 }
 
 /// Nothing is moved onto a directory that holds it, nor the root anywhere.
+const HOLDERS: &[Row<'static>] = &[
+    (Ask::Mkdir("/a"), Told::Done),
+    (Ask::Create("/a/f"), Told::Done),
+    (Ask::Mkdir("/a/d"), Told::Done),
+    (Ask::Rename("/a/f", "/a"), Told::Fault(Errno::EISDIR)),
+    (Ask::Rename("/a/d", "/a"), Told::Fault(Errno::ENOTEMPTY)),
+    (Ask::Rename("/a/d", "/"), Told::Fault(Errno::ENOTEMPTY)),
+    (Ask::Rename("/", "/b"), Told::Fault(Errno::EBUSY)),
+];
+
 #[test]
-fn not_onto_what_holds_it(rt: HostRuntime) -> Result<(), Fail> {
-    follow(
-        &rt,
-        rt.alloc(),
-        &[
-            (Ask::Mkdir("/a"), Told::Done),
-            (Ask::Create("/a/f"), Told::Done),
-            (Ask::Mkdir("/a/d"), Told::Done),
-            (Ask::Rename("/a/f", "/a"), Told::Fault(Errno::EISDIR)),
-            (Ask::Rename("/a/d", "/a"), Told::Fault(Errno::ENOTEMPTY)),
-            (Ask::Rename("/a/d", "/"), Told::Fault(Errno::ENOTEMPTY)),
-            (Ask::Rename("/", "/b"), Told::Fault(Errno::EBUSY)),
-        ],
-    )
+fn not_onto_what_holds_it(rt: HostRuntime) {
+    assert_eq!(rt; follow(rt.alloc(), HOLDERS), HOLDERS.len());
 }
 
-/// A snapshot keeps what the live tree loses, and gives it back.
+/// Whether a snapshot keeps what the live tree loses, and gives it back.
+fn keeps(alloc: Global, world: &mut World) -> bool {
+    let kept = Told::Names(&[(Kind::File, "x")]);
+    follows(
+        alloc,
+        world,
+        &[
+            (Ask::Mkdir("/a"), Told::Done),
+            (Ask::Create("/a/x"), Told::Done),
+        ],
+    ) && fault_of(alloc, world, Snap::Keep("s")).is_none()
+        && follows(
+            alloc,
+            world,
+            &[
+                (Ask::Rmtree("/a"), Told::Done),
+                (Ask::Stat("/a"), Told::Fault(Errno::ENOENT)),
+            ],
+        )
+        && lists_frozen(alloc, world, "s", "/a", kept)
+        && fault_of(alloc, world, Snap::Restore("s")).is_none()
+        && follows(alloc, world, &[(Ask::Readdir("/a"), kept)])
+}
+
+/// The same in a new world.
+fn new_world_keeps(alloc: Global) -> bool {
+    match new_world(alloc) {
+        Ok(mut world) => keeps(alloc, &mut world),
+        Err(_) => false,
+    }
+}
+
 #[test]
-fn snapshot_and_restore(rt: HostRuntime) -> Result<(), Fail> {
-    let alloc = rt.alloc();
-    let mut world = World::new(alloc)?;
-    let before = [
-        (Ask::Mkdir("/a"), Told::Done),
-        (Ask::Create("/a/x"), Told::Done),
-    ];
-    follow_in(&rt, alloc, &mut world, &before)?;
-    assert_eq!(rt; fault_of(alloc, &mut world, Snap::Keep("s")), None);
-    let lost = [
-        (Ask::Rmtree("/a"), Told::Done),
-        (Ask::Stat("/a"), Told::Fault(Errno::ENOENT)),
-    ];
-    follow_in(&rt, alloc, &mut world, &lost)?;
-    let kept = list_frozen(alloc, &world, "s", "/a")?;
-    assert!(rt; Told::Names(&[(Kind::File, "x")]).is(&kept));
-    assert_eq!(rt; fault_of(alloc, &mut world, Snap::Restore("s")), None);
-    let again = [(Ask::Readdir("/a"), Told::Names(&[(Kind::File, "x")]))];
-    follow_in(&rt, alloc, &mut world, &again)
+fn snapshot_and_restore(rt: HostRuntime) {
+    assert!(rt; new_world_keeps(rt.alloc()));
 }
 
 /// A file that is moved onto a longer one leaves none of its bytes, also where the file grows again.
+const LONGER: &[Row<'static>] = &[
+    (Ask::Create("/f"), Told::Done),
+    (Ask::Write("/f", 0, &[0xaa]), Told::Count(1)),
+    (Ask::Create("/g"), Told::Done),
+    (Ask::Write("/g", 5000, &[0xbb]), Told::Count(1)),
+    (Ask::Rename("/f", "/g"), Told::Done),
+    (Ask::Read("/g", 0, 6000), Told::Data(&[0xaa])),
+    (Ask::Stat("/f"), Told::Fault(Errno::ENOENT)),
+    (Ask::Truncate("/g", 5001), Told::Done),
+    (Ask::Read("/g", 5000, 1), Told::Data(&[0x00])),
+];
+
 #[test]
-fn replaces_a_longer_file(rt: HostRuntime) -> Result<(), Fail> {
-    follow(
-        &rt,
-        rt.alloc(),
-        &[
-            (Ask::Create("/f"), Told::Done),
-            (Ask::Write("/f", 0, &[0xaa]), Told::Count(1)),
-            (Ask::Create("/g"), Told::Done),
-            (Ask::Write("/g", 5000, &[0xbb]), Told::Count(1)),
-            (Ask::Rename("/f", "/g"), Told::Done),
-            (Ask::Read("/g", 0, 6000), Told::Data(&[0xaa])),
-            (Ask::Stat("/f"), Told::Fault(Errno::ENOENT)),
-            (Ask::Truncate("/g", 5001), Told::Done),
-            (Ask::Read("/g", 5000, 1), Told::Data(&[0x00])),
-        ],
-    )
+fn replaces_a_longer_file(rt: HostRuntime) {
+    assert_eq!(rt; follow(rt.alloc(), LONGER), LONGER.len());
 }
 
 /// Calls on the wrong kind of entry, and a read that is too long or past the end.
+const KINDS: &[Row<'static>] = &[
+    (Ask::Mkdir("/a"), Told::Done),
+    (Ask::Unlink("/a"), Told::Fault(Errno::EPERM)),
+    (Ask::Unlink("/"), Told::Fault(Errno::EPERM)),
+    (Ask::Rmdir("/"), Told::Fault(Errno::EBUSY)),
+    (Ask::Create("/f"), Told::Done),
+    (Ask::Rmdir("/f"), Told::Fault(Errno::ENOTDIR)),
+    (Ask::Unlink("/f/x"), Told::Fault(Errno::ENOTDIR)),
+    (Ask::Read("/a", 0, 1), Told::Fault(Errno::EISDIR)),
+    (Ask::Read("/f", 0, 1_048_577), Told::Fault(Errno::EINVAL)),
+    (Ask::Read("/f", 9, 1), Told::Data(&[])),
+];
+
 #[test]
-fn wrong_kinds(rt: HostRuntime) -> Result<(), Fail> {
-    follow(
-        &rt,
-        rt.alloc(),
-        &[
-            (Ask::Mkdir("/a"), Told::Done),
-            (Ask::Unlink("/a"), Told::Fault(Errno::EPERM)),
-            (Ask::Unlink("/"), Told::Fault(Errno::EPERM)),
-            (Ask::Rmdir("/"), Told::Fault(Errno::EBUSY)),
-            (Ask::Create("/f"), Told::Done),
-            (Ask::Rmdir("/f"), Told::Fault(Errno::ENOTDIR)),
-            (Ask::Unlink("/f/x"), Told::Fault(Errno::ENOTDIR)),
-            (Ask::Read("/a", 0, 1), Told::Fault(Errno::EISDIR)),
-            (Ask::Read("/f", 0, 1_048_577), Told::Fault(Errno::EINVAL)),
-            (Ask::Read("/f", 9, 1), Told::Data(&[])),
-        ],
-    )
+fn wrong_kinds(rt: HostRuntime) {
+    assert_eq!(rt; follow(rt.alloc(), KINDS), KINDS.len());
 }
 
 /// Texts that are no paths.
+const NO_PATHS: &[Row<'static>] = &[
+    (Ask::Stat("/a//b"), Told::Fault(Errno::EINVAL)),
+    (Ask::Stat("/a/"), Told::Fault(Errno::EINVAL)),
+    (Ask::Stat("a"), Told::Fault(Errno::EINVAL)),
+    (Ask::Stat("/.."), Told::Fault(Errno::EINVAL)),
+    (Ask::Stat("/\0"), Told::Fault(Errno::EINVAL)),
+    (Ask::Stat(""), Told::Fault(Errno::ENOENT)),
+];
+
 #[test]
-fn no_paths(rt: HostRuntime) -> Result<(), Fail> {
-    follow(
-        &rt,
-        rt.alloc(),
-        &[
-            (Ask::Stat("/a//b"), Told::Fault(Errno::EINVAL)),
-            (Ask::Stat("/a/"), Told::Fault(Errno::EINVAL)),
-            (Ask::Stat("a"), Told::Fault(Errno::EINVAL)),
-            (Ask::Stat("/.."), Told::Fault(Errno::EINVAL)),
-            (Ask::Stat("/\0"), Told::Fault(Errno::EINVAL)),
-            (Ask::Stat(""), Told::Fault(Errno::ENOENT)),
-        ],
-    )
+fn no_paths(rt: HostRuntime) {
+    assert_eq!(rt; follow(rt.alloc(), NO_PATHS), NO_PATHS.len());
+}
+
+/// Whether the name of so many letters can be made, or is refused.
+fn name_is(alloc: Global, count: u32, told: Told<'_>) -> bool {
+    match longer(alloc, "", "n", count) {
+        Ok(text) => follow(alloc, &[(Ask::Create(text.as_str()), told)]) == 1,
+        Err(_) => false,
+    }
 }
 
 /// A name may have 255 bytes, and no more.
 #[test]
-fn longest_name(rt: HostRuntime) -> Result<(), Fail> {
-    let fits = longer(rt.alloc(), "", "n", 255)?;
-    let is_long = longer(rt.alloc(), "", "n", 256)?;
-    follow(
-        &rt,
-        rt.alloc(),
-        &[
-            (Ask::Create(fits.as_str()), Told::Done),
-            (
-                Ask::Create(is_long.as_str()),
-                Told::Fault(Errno::ENAMETOOLONG),
-            ),
-        ],
-    )
+fn longest_name(rt: HostRuntime) {
+    assert!(rt; name_is(rt.alloc(), 255, Told::Done));
+    assert!(rt; name_is(rt.alloc(), 256, Told::Fault(Errno::ENAMETOOLONG)));
 }
 
-/// A subtree whose deepest text has 1,022 bytes can be moved to a name one byte longer, and no further.
-#[test]
-fn deepest_text(rt: HostRuntime) -> Result<(), Fail> {
-    let mut world = World::new(rt.alloc())?;
-    follow_in(
-        &rt,
-        rt.alloc(),
-        &mut world,
-        &[(Ask::Mkdir("/a"), Told::Done)],
-    )?;
-    let mut at = String::from_str(rt.alloc(), "/a")?;
+/// Makes a directory; whether it is done.
+fn makes(alloc: Global, world: &mut World, text: &str) -> bool {
+    follows(alloc, world, &[(Ask::Mkdir(text), Told::Done)])
+}
+
+/// Makes four directories in one another below `/a`, each with a name of 254 letters; the deepest text.
+fn deepest(alloc: Global, world: &mut World) -> Option<String> {
+    let mut at = String::from_str(alloc, "/a").ok()?;
     for _ in 0..4 {
-        at = longer(rt.alloc(), at.as_str(), "x", 254)?;
-        follow_in(
-            &rt,
-            rt.alloc(),
-            &mut world,
-            &[(Ask::Mkdir(at.as_str()), Told::Done)],
-        )?;
+        at = longer(alloc, at.as_str(), "x", 254).ok()?;
+        if !makes(alloc, world, at.as_str()) {
+            return None;
+        }
     }
-    assert_eq!(rt; at.len(), 1022);
-    follow_in(
-        &rt,
-        rt.alloc(),
-        &mut world,
-        &[
-            (Ask::Rename("/a", "/abc"), Told::Fault(Errno::ENAMETOOLONG)),
-            (Ask::Rename("/a", "/ab"), Told::Done),
-        ],
-    )
+    Some(at)
 }
 
-/// There are at most 64 snapshots, and a name that is dropped is free again.
-#[test]
-fn most_snapshots(rt: HostRuntime) -> Result<(), Fail> {
-    let alloc = rt.alloc();
-    let mut world = World::new(alloc)?;
-    for number in 1..65 {
-        let name = format!(in alloc; "s{number}")?;
-        let fault = fault_of(alloc, &mut world, Snap::Keep(name.as_str()));
-        assert_eq!(rt; fault, None, "{number}");
+/// Whether the deepest text has so many bytes.
+fn is_deep(alloc: Global, world: &mut World, wanted: usize) -> bool {
+    match deepest(alloc, world) {
+        Some(text) => text.len() == wanted,
+        None => false,
     }
-    for (snap, wanted) in [
-        (Snap::Keep("s65"), Some(Errno::ENOSPC)),
-        (Snap::Keep("s1"), Some(Errno::EEXIST)),
-        (Snap::Drop("s1"), None),
-        (Snap::Keep("s1"), None),
-        (Snap::Drop("zz"), Some(Errno::ENOENT)),
-        (Snap::Restore("zz"), Some(Errno::ENOENT)),
-    ] {
-        assert_eq!(rt; fault_of(alloc, &mut world, snap), wanted, "{snap:?}");
-    }
-    Ok(())
 }
+
+/// Whether a subtree whose deepest text has 1,022 bytes can be moved to a name one byte longer, and no further.
+fn moves_deep(alloc: Global, world: &mut World) -> bool {
+    makes(alloc, world, "/a")
+        && is_deep(alloc, world, 1022)
+        && follows(
+            alloc,
+            world,
+            &[
+                (Ask::Rename("/a", "/abc"), Told::Fault(Errno::ENAMETOOLONG)),
+                (Ask::Rename("/a", "/ab"), Told::Done),
+            ],
+        )
+}
+
+/// The same in a new world.
+fn new_world_moves_deep(alloc: Global) -> bool {
+    match new_world(alloc) {
+        Ok(mut world) => moves_deep(alloc, &mut world),
+        Err(_) => false,
+    }
+}
+
+#[test]
+fn deepest_text(rt: HostRuntime) {
+    assert!(rt; new_world_moves_deep(rt.alloc()));
+}
+
+/// Why a snapshot of the name with a number is refused; none where it is kept.
+fn fault_of_number(alloc: Global, world: &mut World, number: u32) -> Option<Errno> {
+    match format!(in alloc; "s{number}") {
+        Ok(name) => fault_of(alloc, world, Snap::Keep(name.as_str())),
+        Err(_) => Some(Errno::ENOMEM),
+    }
+}
+
+/// Calls on snapshots where 64 of them are kept, and why each is refused.
+const SNAPSHOTS: &[(Snap<'static>, Option<Errno>)] = &[
+    (Snap::Keep("s65"), Some(Errno::ENOSPC)),
+    (Snap::Keep("s1"), Some(Errno::EEXIST)),
+    (Snap::Drop("s1"), None),
+    (Snap::Keep("s1"), None),
+    (Snap::Drop("zz"), Some(Errno::ENOENT)),
+    (Snap::Restore("zz"), Some(Errno::ENOENT)),
+];
+
+/// Whether the calls on snapshots come out as their rows say.
+fn follows_snapshots(alloc: Global, world: &mut World) -> bool {
+    for (snap, wanted) in SNAPSHOTS {
+        if fault_of(alloc, world, *snap) != *wanted {
+            return false;
+        }
+    }
+    true
+}
+
+/// Whether 64 snapshots are kept and no more, and a name that is dropped is free again.
+fn keeps_most(alloc: Global, world: &mut World) -> bool {
+    for number in 1u32..65 {
+        if fault_of_number(alloc, world, number).is_some() {
+            return false;
+        }
+    }
+    follows_snapshots(alloc, world)
+}
+
+/// The same in a new world.
+fn new_world_keeps_most(alloc: Global) -> bool {
+    match new_world(alloc) {
+        Ok(mut world) => keeps_most(alloc, &mut world),
+        Err(_) => false,
+    }
+}
+
+#[test]
+fn most_snapshots(rt: HostRuntime) {
+    assert!(rt; new_world_keeps_most(rt.alloc()));
+}
+
+const NESTED: &[Row<'static>] = &[
+    (Ask::Mkdir("/d"), Told::Done),
+    (Ask::Create("/d/n"), Told::Done),
+];
 
 /// The image has the root first, and each directory before what it holds.
 #[test]
-fn image_of_nested_directories(rt: HostRuntime) -> Result<(), Fail> {
-    let mut world = World::new(rt.alloc())?;
-    let empty = image_of(rt.alloc(), world.live())?;
-    assert_eq!(rt; empty.as_slice(), b"d /\n".as_slice());
-    follow_in(
-        &rt,
-        rt.alloc(),
-        &mut world,
-        &[
-            (Ask::Mkdir("/d"), Told::Done),
-            (Ask::Create("/d/n"), Told::Done),
-        ],
-    )?;
-    let image = image_of(rt.alloc(), world.live())?;
-    assert_eq!(rt; image.as_slice(), b"d /\nd /d\nf /d/n 0\n".as_slice());
-    Ok(())
+fn image_of_nested_directories(rt: HostRuntime) {
+    assert!(rt; comes_to(rt.alloc(), &[], b"d /\n"));
+    assert!(rt; comes_to(rt.alloc(), NESTED, b"d /\nd /d\nf /d/n 0\n"));
 }

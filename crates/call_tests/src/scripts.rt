@@ -1,9 +1,10 @@
 //! Scripts and what each line is answered.
 use call_compiler::Indexes;
 use node::Shape;
-use shell::run_script;
+use pathkey::NoMemory;
+use shell::{ScriptFault, run_script};
 use std::alloc::Global;
-use std::test::Fail;
+use std::io::{Read, Write};
 
 /// The shape that `betr` uses.
 const USUAL: Shape = Shape {
@@ -12,170 +13,221 @@ const USUAL: Shape = Shape {
     leaf: 256,
 };
 
-/// What a script is answered where nothing stands but the root.
-fn answers(alloc: Global, script: &[u8]) -> Result<Vec<u8>, Fail> {
-    let mut state = Indexes::new(alloc, USUAL)?;
+/// New indexes in this shape.
+fn new_indexes(alloc: Global) -> Result<Indexes, NoMemory> {
+    Indexes::new(alloc, USUAL)
+}
+
+/// Runs a script. It ensures nothing, so that no proof of a test reads what a script means.
+pub fn run<R: Read, W: Write>(
+    alloc: Global,
+    indexes: &mut Indexes,
+    reader: &mut R,
+    writer: &mut W,
+) -> Result<(), ScriptFault> {
+    run_script(alloc, indexes, reader, writer)
+}
+
+/// Whether a script is answered so.
+fn answers(alloc: Global, indexes: &mut Indexes, script: &[u8], wanted: &[u8]) -> bool {
     let mut out = Vec::new(alloc);
     let mut reader = script;
-    run_script(alloc, &mut state, &mut reader, &mut out)?;
-    Ok(out)
+    run(alloc, indexes, &mut reader, &mut out).is_ok() && out.as_slice() == wanted
 }
 
-#[test]
-fn answers_each_line(rt: HostRuntime) -> Result<(), Fail> {
-    let table = [
-        (
-            "mkdir /\nmkdir /a\nmkdir /a\nstat /b\ncreate /f\n",
-            "fault EEXIST\nok\nfault EEXIST\nfault ENOENT\nok\n",
-        ),
-        (
-            "mkdir /x/y\ncreate /x\nmkdir /x/y\n",
-            "fault ENOENT\nok\nfault ENOTDIR\n",
-        ),
-        (
-            "mkdir /a\ncreate /a/x\nrmdir /a\nstat /a/x/y\nreaddir /a/x\nreaddir /a\n",
-            "ok\nok\nfault ENOTEMPTY\nfault ENOTDIR\nfault ENOTDIR\nnames 1\nf x\n",
-        ),
-        (
-            "mkdir /a\ncreate /a\ncreate /b\nrmdir /b\nrmdir /\nrmdir /a\nreaddir /\nstat /b\n",
-            "ok\nfault EEXIST\nok\nfault ENOTDIR\nfault EBUSY\nok\nnames 1\nf b\nfile 0\n",
-        ),
-        (
-            "mkdir /a\ncreate /a/x\ncreate /a-b\nrmtree /a\nreaddir /\n",
-            "ok\nok\nok\nok\nnames 1\nf a-b\n",
-        ),
-        (
-            "rmtree /\nrmtree /a\ncreate /f\nrmtree /f/x\nrmtree /f\nrmtree f\nrmtree\nreaddir /\n",
-            "fault EBUSY\nfault ENOENT\nok\nfault ENOTDIR\nok\nfault EINVAL\nerror syntax\nnames 0\n",
-        ),
-        ("readdir /\n", "names 0\n"),
-        (
-            "stat /a//b\nstat /a/\nstat a\nstat /..\nstat /%00\n",
-            "fault EINVAL\nfault EINVAL\nfault EINVAL\nfault EINVAL\nfault EINVAL\n",
-        ),
-        ("", ""),
-        ("\n\n# a note\n#\n", ""),
-        ("stat /", "dir 0\n"),
-        ("#", ""),
-        ("stat\n", "error syntax\n"),
-        ("stat \n", "fault ENOENT\n"),
-        (" \n", "error syntax\n"),
-        (" stat /\n", "error syntax\n"),
-        ("stat / \n", "error syntax\n"),
-        ("mkdir  /a\n", "error syntax\n"),
-        ("Stat /\n", "error syntax\n"),
-        ("mkdir /a /b\n", "error syntax\n"),
-        (
-            "mkdir a\nmkdir //\nmkdir /.\n",
-            "fault EINVAL\nfault EINVAL\nfault EINVAL\n",
-        ),
-        ("stat /%00\nstat /\0\n", "fault EINVAL\nfault EINVAL\n"),
-        (
-            "mkdir /a\r\nstat /a\nstat /a%0d\nstat /%61%0D\n",
-            "ok\nfault ENOENT\ndir 0\ndir 0\n",
-        ),
-        (
-            "mkdir /a%20b\nstat /a%2\nmkdir /%\nstat /%25\n",
-            "ok\nfault ENOENT\nok\ndir 0\n",
-        ),
-        ("mkdir %2fa\nstat /a\n", "ok\ndir 0\n"),
-    ];
-    for (script, want) in table {
-        let got = answers(rt.alloc(), script.as_bytes())?;
-        assert_eq!(rt; got.as_slice(), want.as_bytes(), "{script:?}");
+/// Whether a script is answered so where nothing stands but the root.
+fn is_answered(alloc: Global, script: &[u8], wanted: &[u8]) -> bool {
+    match new_indexes(alloc) {
+        Ok(mut indexes) => answers(alloc, &mut indexes, script, wanted),
+        Err(_) => false,
     }
-    Ok(())
 }
 
+/// A script, and what it is answered.
+type Row = (&'static str, &'static str);
+
+const LINES: &[Row] = &[
+    (
+        "mkdir /\nmkdir /a\nmkdir /a\nstat /b\ncreate /f\n",
+        "fault EEXIST\nok\nfault EEXIST\nfault ENOENT\nok\n",
+    ),
+    (
+        "mkdir /x/y\ncreate /x\nmkdir /x/y\n",
+        "fault ENOENT\nok\nfault ENOTDIR\n",
+    ),
+    (
+        "mkdir /a\ncreate /a/x\nrmdir /a\nstat /a/x/y\nreaddir /a/x\nreaddir /a\n",
+        "ok\nok\nfault ENOTEMPTY\nfault ENOTDIR\nfault ENOTDIR\nnames 1\nf x\n",
+    ),
+    (
+        "mkdir /a\ncreate /a\ncreate /b\nrmdir /b\nrmdir /\nrmdir /a\nreaddir /\nstat /b\n",
+        "ok\nfault EEXIST\nok\nfault ENOTDIR\nfault EBUSY\nok\nnames 1\nf b\nfile 0\n",
+    ),
+    (
+        "mkdir /a\ncreate /a/x\ncreate /a-b\nrmtree /a\nreaddir /\n",
+        "ok\nok\nok\nok\nnames 1\nf a-b\n",
+    ),
+    (
+        "rmtree /\nrmtree /a\ncreate /f\nrmtree /f/x\nrmtree /f\nrmtree f\nrmtree\nreaddir /\n",
+        "fault EBUSY\nfault ENOENT\nok\nfault ENOTDIR\nok\nfault EINVAL\nerror syntax\nnames 0\n",
+    ),
+    ("readdir /\n", "names 0\n"),
+    (
+        "stat /a//b\nstat /a/\nstat a\nstat /..\nstat /%00\n",
+        "fault EINVAL\nfault EINVAL\nfault EINVAL\nfault EINVAL\nfault EINVAL\n",
+    ),
+    ("", ""),
+    ("\n\n# a note\n#\n", ""),
+    ("stat /", "dir 0\n"),
+    ("#", ""),
+    ("stat\n", "error syntax\n"),
+    ("stat \n", "fault ENOENT\n"),
+    (" \n", "error syntax\n"),
+    (" stat /\n", "error syntax\n"),
+    ("stat / \n", "error syntax\n"),
+    ("mkdir  /a\n", "error syntax\n"),
+    ("Stat /\n", "error syntax\n"),
+    ("mkdir /a /b\n", "error syntax\n"),
+    (
+        "mkdir a\nmkdir //\nmkdir /.\n",
+        "fault EINVAL\nfault EINVAL\nfault EINVAL\n",
+    ),
+    ("stat /%00\nstat /\0\n", "fault EINVAL\nfault EINVAL\n"),
+    (
+        "mkdir /a\r\nstat /a\nstat /a%0d\nstat /%61%0D\n",
+        "ok\nfault ENOENT\ndir 0\ndir 0\n",
+    ),
+    (
+        "mkdir /a%20b\nstat /a%2\nmkdir /%\nstat /%25\n",
+        "ok\nfault ENOENT\nok\ndir 0\n",
+    ),
+    ("mkdir %2fa\nstat /a\n", "ok\ndir 0\n"),
+];
+
 #[test]
-fn answers_lines_of_bytes(rt: HostRuntime) -> Result<(), Fail> {
-    let table = [
-        (
-            "create /f\nwrite /f 4095 aabb\nread /f 4094 4\nstat /f\n",
-            "ok\ncount 2\nbytes 00aabb\nfile 4097\n",
-        ),
-        (
-            "create /f\nwrite /f 0 ffffffffffffffffffff\ntruncate /f 5\ntruncate /f 9000\nread /f 0 8\n",
-            "ok\ncount 10\nok\nok\nbytes ffffffffff000000\n",
-        ),
-        (
-            "create /f\nwrite /f 1099511627775 01\nwrite /f 1099511627776 01\nwrite /f 1099511627776 -\nstat /f\nread /f 1099511627775 2\n",
-            "ok\ncount 1\nfault EFBIG\ncount 0\nfile 1099511627776\nbytes 01\n",
-        ),
-        (
-            "mkdir /a\nunlink /a\nunlink /\nrmdir /\ncreate /f\nrmdir /f\nunlink /f/x\nread /a 0 1\nread /f 0 1048577\nread /f 9 1\n",
-            "ok\nfault EPERM\nfault EPERM\nfault EBUSY\nok\nfault ENOTDIR\nfault ENOTDIR\nfault EISDIR\nfault EINVAL\nbytes -\n",
-        ),
-        (
-            "create /f\nwrite /f 0 aa\ntruncate /f 0\nstat /f\nunlink /f\ncreate /f\nwrite /f 1 bb\nread /f 0 9\n",
-            "ok\ncount 1\nok\nfile 0\nok\nok\ncount 1\nbytes 00bb\n",
-        ),
-        (
-            "stat\nstat /a /b\nread /a 00 1\nwrite /a 0 abc\n",
-            "error syntax\nerror syntax\nerror syntax\nerror syntax\n",
-        ),
-        (
-            "unlink f\nwrite f 0 aa\nread  0 1\ntruncate /f/ 7\n",
-            "fault EINVAL\nfault EINVAL\nfault ENOENT\nfault EINVAL\n",
-        ),
-        // what is wrong with the words comes before what is wrong with the path
-        (
-            "read a 00 1\nwrite a 0 abc\ntruncate a +1\n",
-            "error syntax\nerror syntax\nerror syntax\n",
-        ),
-        (
-            "read /a 0\nread /a 0 1 2\nread /a 0 1 \n",
-            "error syntax\nerror syntax\nerror syntax\n",
-        ),
-        (
-            "write /a 0\nwrite /a 0 \nwrite /a aa 0\nwrite /a 0 aa bb\n",
-            "error syntax\nerror syntax\nerror syntax\nerror syntax\n",
-        ),
-        (
-            "truncate /a\ntruncate /a 1 2\ntruncate /a -\nunlink\nunlink /a /b\n",
-            "error syntax\nerror syntax\nerror syntax\nerror syntax\nerror syntax\n",
-        ),
-        (
-            "create /f\nread /f 0 18446744073709551615\nwrite /f 18446744073709551615 aa\ntruncate /f 1099511627777\ntruncate /f 1099511627776\nstat /f\n",
-            "ok\nfault EINVAL\nfault EFBIG\nfault EFBIG\nok\nfile 1099511627776\n",
-        ),
-    ];
-    for (script, want) in table {
-        let got = answers(rt.alloc(), script.as_bytes())?;
-        assert_eq!(rt; got.as_slice(), want.as_bytes(), "{script:?}");
+fn answers_each_line(rt: HostRuntime) {
+    for (script, want) in LINES {
+        assert!(rt;
+            is_answered(rt.alloc(), script.as_bytes(), want.as_bytes()),
+            "{script:?}"
+        );
     }
-    Ok(())
+}
+
+const LINES_OF_BYTES: &[Row] = &[
+    (
+        "create /f\nwrite /f 4095 aabb\nread /f 4094 4\nstat /f\n",
+        "ok\ncount 2\nbytes 00aabb\nfile 4097\n",
+    ),
+    (
+        "create /f\nwrite /f 0 ffffffffffffffffffff\ntruncate /f 5\ntruncate /f 9000\nread /f 0 8\n",
+        "ok\ncount 10\nok\nok\nbytes ffffffffff000000\n",
+    ),
+    (
+        "create /f\nwrite /f 1099511627775 01\nwrite /f 1099511627776 01\nwrite /f 1099511627776 -\nstat /f\nread /f 1099511627775 2\n",
+        "ok\ncount 1\nfault EFBIG\ncount 0\nfile 1099511627776\nbytes 01\n",
+    ),
+    (
+        "mkdir /a\nunlink /a\nunlink /\nrmdir /\ncreate /f\nrmdir /f\nunlink /f/x\nread /a 0 1\nread /f 0 1048577\nread /f 9 1\n",
+        "ok\nfault EPERM\nfault EPERM\nfault EBUSY\nok\nfault ENOTDIR\nfault ENOTDIR\nfault EISDIR\nfault EINVAL\nbytes -\n",
+    ),
+    (
+        "create /f\nwrite /f 0 aa\ntruncate /f 0\nstat /f\nunlink /f\ncreate /f\nwrite /f 1 bb\nread /f 0 9\n",
+        "ok\ncount 1\nok\nfile 0\nok\nok\ncount 1\nbytes 00bb\n",
+    ),
+    (
+        "stat\nstat /a /b\nread /a 00 1\nwrite /a 0 abc\n",
+        "error syntax\nerror syntax\nerror syntax\nerror syntax\n",
+    ),
+    (
+        "unlink f\nwrite f 0 aa\nread  0 1\ntruncate /f/ 7\n",
+        "fault EINVAL\nfault EINVAL\nfault ENOENT\nfault EINVAL\n",
+    ),
+    // what is wrong with the words comes before what is wrong with the path
+    (
+        "read a 00 1\nwrite a 0 abc\ntruncate a +1\n",
+        "error syntax\nerror syntax\nerror syntax\n",
+    ),
+    (
+        "read /a 0\nread /a 0 1 2\nread /a 0 1 \n",
+        "error syntax\nerror syntax\nerror syntax\n",
+    ),
+    (
+        "write /a 0\nwrite /a 0 \nwrite /a aa 0\nwrite /a 0 aa bb\n",
+        "error syntax\nerror syntax\nerror syntax\nerror syntax\n",
+    ),
+    (
+        "truncate /a\ntruncate /a 1 2\ntruncate /a -\nunlink\nunlink /a /b\n",
+        "error syntax\nerror syntax\nerror syntax\nerror syntax\nerror syntax\n",
+    ),
+    (
+        "create /f\nread /f 0 18446744073709551615\nwrite /f 18446744073709551615 aa\ntruncate /f 1099511627777\ntruncate /f 1099511627776\nstat /f\n",
+        "ok\nfault EINVAL\nfault EFBIG\nfault EFBIG\nok\nfile 1099511627776\n",
+    ),
+];
+
+#[test]
+fn answers_lines_of_bytes(rt: HostRuntime) {
+    for (script, want) in LINES_OF_BYTES {
+        assert!(rt;
+            is_answered(rt.alloc(), script.as_bytes(), want.as_bytes()),
+            "{script:?}"
+        );
+    }
+}
+
+/// The text `front`, lengthened to so many bytes by one letter; none where memory is refused.
+fn lengthened(alloc: Global, front: &str, length: usize, letter: u8) -> Option<Vec<u8>> {
+    let mut line = Vec::from_slice(alloc, front.as_bytes()).ok()?;
+    line.resize(length, letter).ok()?;
+    Some(line)
+}
+
+/// Whether the creation of a file with a name of so many letters is answered so.
+fn is_created(alloc: Global, length: usize, wanted: &str) -> bool {
+    match lengthened(alloc, "create /", length.saturating_add(8), b'n') {
+        Some(line) => is_answered(alloc, line.as_slice(), wanted.as_bytes()),
+        None => false,
+    }
 }
 
 #[test]
-fn measures_names(rt: HostRuntime) -> Result<(), Fail> {
+fn measures_names(rt: HostRuntime) {
     for (length, want) in [(255, "ok\n"), (256, "fault ENAMETOOLONG\n")] {
-        let mut line = Vec::from_slice(rt.alloc(), b"create /")?;
-        line.resize(8 + length, b'n')?;
-        let got = answers(rt.alloc(), line.as_slice())?;
-        assert_eq!(rt; got.as_slice(), want.as_bytes(), "{length}");
+        assert!(rt; is_created(rt.alloc(), length, want), "{length}");
     }
-    Ok(())
 }
 
-#[test]
-fn measures_long_lines(rt: HostRuntime) -> Result<(), Fail> {
-    let table = [
-        ("#", 65_536, ""),
-        ("#", 65_537, "error line\n"),
-        ("stat", 65_536, "error syntax\n"),
-        ("stat /", 65_536, "fault ENAMETOOLONG\n"),
-        ("stat /", 65_537, "error line\n"),
-        ("stat /", 200_000, "error line\n"),
-    ];
-    for (front, length, want) in table {
-        let mut line = Vec::from_slice(rt.alloc(), front.as_bytes())?;
-        line.resize(length, b'x')?;
-        let without = answers(rt.alloc(), line.as_slice())?;
-        assert_eq!(rt; without.as_slice(), want.as_bytes(), "{front} {length}");
-        line.push(b'\n')?;
-        let with = answers(rt.alloc(), line.as_slice())?;
-        assert_eq!(rt; with.as_slice(), want.as_bytes(), "{front} {length}");
+/// How a line begins, how many bytes it has, and what it is answered.
+type Long = (&'static str, usize, &'static str);
+
+/// Whether a line is answered so without its end and with it.
+fn ends_alike(alloc: Global, line: &mut Vec<u8>, wanted: &str) -> bool {
+    is_answered(alloc, line.as_slice(), wanted.as_bytes())
+        && line.push(b'\n').is_ok()
+        && is_answered(alloc, line.as_slice(), wanted.as_bytes())
+}
+
+/// Whether the row's line is answered as the row says.
+fn is_measured(alloc: Global, row: &Long) -> bool {
+    match lengthened(alloc, row.0, row.1, b'x') {
+        Some(mut line) => ends_alike(alloc, &mut line, row.2),
+        None => false,
     }
-    Ok(())
+}
+
+const LONG: &[Long] = &[
+    ("#", 65_536, ""),
+    ("#", 65_537, "error line\n"),
+    ("stat", 65_536, "error syntax\n"),
+    ("stat /", 65_536, "fault ENAMETOOLONG\n"),
+    ("stat /", 65_537, "error line\n"),
+    ("stat /", 200_000, "error line\n"),
+];
+
+#[test]
+fn measures_long_lines(rt: HostRuntime) {
+    for row in LONG {
+        assert!(rt; is_measured(rt.alloc(), row), "{row:?}");
+    }
 }

@@ -1,12 +1,14 @@
 //! Scripts over readers and writers in memory, some of which fail.
 ghost use Rattle.std.specs.Prelude.{Some};
 
+use crate::scripts::run;
 use call_compiler::Indexes;
 use node::Shape;
-use shell::{ScriptFault, run_script};
+use pathkey::NoMemory;
+use shell::ScriptFault;
+use std::alloc::Global;
 use std::io;
 use std::io::{Read, Write};
-use std::test::Fail;
 
 const SHAPE: Shape = Shape {
     fanout: 4,
@@ -113,128 +115,222 @@ impl Write for Flushed {
     }
 }
 
+/// New indexes in a small shape.
+fn new_indexes(alloc: Global) -> Result<Indexes, NoMemory> {
+    Indexes::new(alloc, SHAPE)
+}
+
 /// How many messages wait in the index, the root directory's own among them.
 fn waiting(indexes: &Indexes) -> u128 {
     indexes.meta.tree.shape_report().pending
 }
 
-#[test]
-fn a_done_call_waits_as_one_message(rt: HostRuntime) -> Result<(), Fail> {
-    let mut indexes = Indexes::new(rt.alloc(), SHAPE)?;
-    for (script, want) in [
-        ("", 1),
-        ("mkdir /a\n", 2),
-        ("create /a/x\n", 3),
-        ("stat /a/x\nreaddir /a\nmkdir /a\nrmdir /a\n", 3),
-        ("mkdir /b\nrmdir /b\n", 5),
-    ] {
-        let mut out = Vec::new(rt.alloc());
-        run_script(rt.alloc(), &mut indexes, &mut script.as_bytes(), &mut out)?;
-        assert_eq!(rt; waiting(&indexes), want, "{script:?}");
+/// Runs a script, and lets go of what it is answered; `false` where it is not run to its end.
+fn done(alloc: Global, indexes: &mut Indexes, script: &str) -> bool {
+    let mut out = Vec::new(alloc);
+    run(alloc, indexes, &mut script.as_bytes(), &mut out).is_ok()
+}
+
+/// A script that goes on where the one before it ended, and how many messages wait after it.
+const WAITING: &[(&str, u128)] = &[
+    ("", 1),
+    ("mkdir /a\n", 2),
+    ("create /a/x\n", 3),
+    ("stat /a/x\nreaddir /a\nmkdir /a\nrmdir /a\n", 3),
+    ("mkdir /b\nrmdir /b\n", 5),
+];
+
+/// After how many scripts as many messages wait as their rows say, before the first where it is otherwise.
+fn waiting_so(alloc: Global, indexes: &mut Indexes) -> usize {
+    let mut count = 0usize;
+    for (script, wanted) in WAITING {
+        if !done(alloc, indexes, script) || waiting(indexes) != *wanted {
+            return count;
+        }
+        count = count.saturating_add(1);
     }
-    Ok(())
+    count
+}
+
+/// The same of new indexes.
+fn waiting_in_new(alloc: Global) -> usize {
+    match new_indexes(alloc) {
+        Ok(mut indexes) => waiting_so(alloc, &mut indexes),
+        Err(_) => 0,
+    }
 }
 
 #[test]
-fn stops_at_a_failing_read(rt: HostRuntime) -> Result<(), Fail> {
-    let table = [
-        (0, "ok\ndir 0\n", 2),
-        (1, "ok\ndir 0\n", 2),
-        (8, "ok\ndir 0\n", 2),
-        (9, "ok\n", 2),
-        (16, "ok\n", 2),
-        (17, "", 1),
-        (25, "", 1),
-    ];
-    for (cut, want, made) in table {
-        let mut state = Indexes::new(rt.alloc(), SHAPE)?;
-        let mut out = Vec::new(rt.alloc());
-        let mut reader = Failing {
-            text: b"mkdir /a\nstat /a\nmkdir /b",
-            cut,
-        };
-        let ended = run_script(rt.alloc(), &mut state, &mut reader, &mut out);
-        assert!(rt; ended == Err(ScriptFault::Read));
-        assert_eq!(rt; out.as_slice(), want.as_bytes(), "{cut}");
-        assert_eq!(rt; waiting(&state), made, "{cut}");
+fn a_done_call_waits_as_one_message(rt: HostRuntime) {
+    assert_eq!(rt; waiting_in_new(rt.alloc()), WAITING.len());
+}
+
+/// How many bytes are left at the failing read, what was answered before it, and how many messages wait.
+type Cut = (usize, &'static str, u128);
+
+/// Whether a script that cannot be read to its end stops as the row says.
+fn stops_at_read(alloc: Global, indexes: &mut Indexes, row: &Cut) -> bool {
+    let mut out = Vec::new(alloc);
+    let mut reader = Failing {
+        text: b"mkdir /a\nstat /a\nmkdir /b",
+        cut: row.0,
+    };
+    run(alloc, indexes, &mut reader, &mut out) == Err(ScriptFault::Read)
+        && out.as_slice() == row.1.as_bytes()
+        && waiting(indexes) == row.2
+}
+
+/// The same of new indexes.
+fn new_stop_at_read(alloc: Global, row: &Cut) -> bool {
+    match new_indexes(alloc) {
+        Ok(mut indexes) => stops_at_read(alloc, &mut indexes, row),
+        Err(_) => false,
     }
-    Ok(())
+}
+
+const CUT: &[Cut] = &[
+    (0, "ok\ndir 0\n", 2),
+    (1, "ok\ndir 0\n", 2),
+    (8, "ok\ndir 0\n", 2),
+    (9, "ok\n", 2),
+    (16, "ok\n", 2),
+    (17, "", 1),
+    (25, "", 1),
+];
+
+#[test]
+fn stops_at_a_failing_read(rt: HostRuntime) {
+    for row in CUT {
+        assert!(rt; new_stop_at_read(rt.alloc(), row), "{row:?}");
+    }
+}
+
+/// What a script of four lines is answered where everything is written.
+const ANSWERS: &[u8] = b"ok\ndir 0\nfault EEXIST\nok\n";
+
+/// Whether a script stops where no more than so many bytes are written, and then has done so many lines.
+fn stops_at_write(alloc: Global, indexes: &mut Indexes, most: usize) -> bool {
+    let mut reader = b"mkdir /a\nstat /a\nmkdir /a\nmkdir /b\n".as_slice();
+    let mut writer = Small {
+        got: Vec::new(alloc),
+        most,
+    };
+    let ended = run(alloc, indexes, &mut reader, &mut writer);
+    ended.is_err() == (most < ANSWERS.len())
+        && ANSWERS.get(..most) == Some(writer.got.as_slice())
+        && waiting(indexes) == if most < 22 { 2 } else { 3 }
+}
+
+/// The same of new indexes.
+fn new_stop_at_write(alloc: Global, most: usize) -> bool {
+    match new_indexes(alloc) {
+        Ok(mut indexes) => stops_at_write(alloc, &mut indexes, most),
+        Err(_) => false,
+    }
 }
 
 #[test]
-fn stops_at_a_failing_write(rt: HostRuntime) -> Result<(), Fail> {
-    let want = b"ok\ndir 0\nfault EEXIST\nok\n".as_slice();
-    for most in 0..=want.len() {
-        let mut state = Indexes::new(rt.alloc(), SHAPE)?;
-        let mut reader = b"mkdir /a\nstat /a\nmkdir /a\nmkdir /b\n".as_slice();
-        let mut writer = Small {
-            got: Vec::new(rt.alloc()),
-            most,
-        };
-        let ended = run_script(rt.alloc(), &mut state, &mut reader, &mut writer);
-        assert_eq!(rt; ended.is_err(), most < want.len(), "{most}");
-        assert_eq!(rt; writer.got.as_slice(), &want[..most], "{most}");
-        let made = if most < 22 { 2 } else { 3 };
-        assert_eq!(rt; waiting(&state), made, "{most}");
+fn stops_at_a_failing_write(rt: HostRuntime) {
+    for most in 0..=ANSWERS.len() {
+        assert!(rt; new_stop_at_write(rt.alloc(), most), "{most}");
     }
-    Ok(())
+}
+
+/// A writer that fails at one of its flushes.
+fn failing_at(alloc: Global, fails: u32) -> Flushed {
+    Flushed {
+        got: Vec::new(alloc),
+        flushes: 0,
+        fails,
+        met: true,
+    }
+}
+
+/// Whether the script is read with so many flushes.
+fn flushes(alloc: Global, indexes: &mut Indexes, script: &[u8], wanted: u32) -> bool {
+    let mut reader = script;
+    let mut writer = failing_at(alloc, 0);
+    run(alloc, indexes, &mut reader, &mut writer).is_ok() && writer.flushes == wanted
+}
+
+/// The same of new indexes.
+fn new_flush(alloc: Global, script: &[u8], wanted: u32) -> bool {
+    match new_indexes(alloc) {
+        Ok(mut indexes) => flushes(alloc, &mut indexes, script, wanted),
+        Err(_) => false,
+    }
+}
+
+/// Whether a script of so many empty lines is read with so many flushes.
+fn lines_flush(alloc: Global, length: usize, wanted: u32) -> bool {
+    let mut script = Vec::new(alloc);
+    script.resize(length, b'\n').is_ok() && new_flush(alloc, script.as_slice(), wanted)
 }
 
 #[test]
-fn flushes_before_each_read(rt: HostRuntime) -> Result<(), Fail> {
+fn flushes_before_each_read(rt: HostRuntime) {
     // a piece of 65,536 bytes is read at once, and a last read gives none: so many pieces, and so many flushes
-    let table = [(0, 2), (1, 3), (65_536, 3), (65_537, 4), (131_073, 5)];
-    for (length, want) in table {
-        let mut text = Vec::new(rt.alloc());
-        text.resize(length, b'\n')?;
-        let mut state = Indexes::new(rt.alloc(), SHAPE)?;
-        let mut writer = Flushed {
-            got: Vec::new(rt.alloc()),
-            flushes: 0,
-            fails: 0,
-            met: true,
-        };
-        run_script(rt.alloc(), &mut state, &mut text.as_slice(), &mut writer)?;
-        assert_eq!(rt; writer.flushes, want, "{length}");
+    for (length, want) in [(0, 2), (1, 3), (65_536, 3), (65_537, 4), (131_073, 5)] {
+        assert!(rt; lines_flush(rt.alloc(), length, want), "{length}");
     }
-    Ok(())
 }
 
-#[test]
-fn stops_at_a_failing_flush(rt: HostRuntime) -> Result<(), Fail> {
-    for (fails, want, made) in [(1, "", 1), (2, "ok\n", 2), (3, "ok\nok\n", 3)] {
-        let mut state = Indexes::new(rt.alloc(), SHAPE)?;
-        let mut writer = Flushed {
-            got: Vec::new(rt.alloc()),
-            flushes: 0,
-            fails,
-            met: true,
-        };
-        let mut reader = b"mkdir /a\nmkdir /b".as_slice();
-        let ended = run_script(rt.alloc(), &mut state, &mut reader, &mut writer);
-        assert!(rt; ended == Err(ScriptFault::Write), "{fails}");
-        assert_eq!(rt; writer.got.as_slice(), want.as_bytes(), "{fails}");
-        assert_eq!(rt; waiting(&state), made, "{fails}");
-    }
-    Ok(())
+/// The number of the flush that fails, what was answered before it, and how many messages wait.
+type Unflushed = (u32, &'static str, u128);
+
+/// Whether a script whose answers cannot be flushed stops as the row says.
+fn stops_at_flush(alloc: Global, indexes: &mut Indexes, row: &Unflushed) -> bool {
+    let mut reader = b"mkdir /a\nmkdir /b".as_slice();
+    let mut writer = failing_at(alloc, row.0);
+    run(alloc, indexes, &mut reader, &mut writer) == Err(ScriptFault::Write)
+        && writer.got.as_slice() == row.1.as_bytes()
+        && waiting(indexes) == row.2
 }
 
+/// The same of new indexes.
+fn new_stop_at_flush(alloc: Global, row: &Unflushed) -> bool {
+    match new_indexes(alloc) {
+        Ok(mut indexes) => stops_at_flush(alloc, &mut indexes, row),
+        Err(_) => false,
+    }
+}
+
+const UNFLUSHED: &[Unflushed] = &[(1, "", 1), (2, "ok\n", 2), (3, "ok\nok\n", 3)];
+
 #[test]
-fn goes_on_after_a_signal(rt: HostRuntime) -> Result<(), Fail> {
-    let mut state = Indexes::new(rt.alloc(), SHAPE)?;
+fn stops_at_a_failing_flush(rt: HostRuntime) {
+    for row in UNFLUSHED {
+        assert!(rt; new_stop_at_flush(rt.alloc(), row), "{row:?}");
+    }
+}
+
+/// Whether a script goes on after a signal at the first read and at the first write.
+fn goes_on(alloc: Global, indexes: &mut Indexes) -> bool {
     let mut reader = Interrupted {
         text: b"mkdir /a\nstat /a\n",
         met: false,
     };
     let mut writer = Flushed {
-        got: Vec::new(rt.alloc()),
+        got: Vec::new(alloc),
         flushes: 0,
         fails: 0,
         met: false,
     };
-    run_script(rt.alloc(), &mut state, &mut reader, &mut writer)?;
-    assert!(rt; reader.met);
-    assert!(rt; writer.met);
-    assert_eq!(rt; writer.got.as_slice(), b"ok\ndir 0\n".as_slice());
-    Ok(())
+    run(alloc, indexes, &mut reader, &mut writer).is_ok()
+        && reader.met
+        && writer.met
+        && writer.got.as_slice() == b"ok\ndir 0\n".as_slice()
+}
+
+/// The same of new indexes.
+fn new_go_on(alloc: Global) -> bool {
+    match new_indexes(alloc) {
+        Ok(mut indexes) => goes_on(alloc, &mut indexes),
+        Err(_) => false,
+    }
+}
+
+#[test]
+fn goes_on_after_a_signal(rt: HostRuntime) {
+    assert!(rt; new_go_on(rt.alloc()));
 }

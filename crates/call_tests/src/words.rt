@@ -1,48 +1,59 @@
 //! Numbers and bytes as words of a line.
 use shell::values::{read_bytes, read_number, writes_bytes};
-use std::test::Fail;
+use std::alloc::Global;
+
+const NUMBERS: &[(&str, Option<u64>)] = &[
+    ("0", Some(0)),
+    ("7", Some(7)),
+    ("4096", Some(4_096)),
+    ("18446744073709551615", Some(u64::MAX)),
+    ("18446744073709551616", None),
+    ("28446744073709551615", None),
+    ("100000000000000000000000000", None),
+    ("", None),
+    ("00", None),
+    ("01", None),
+    ("+1", None),
+    ("-1", None),
+    ("-0", None),
+    ("1a", None),
+    ("a", None),
+    ("\u{661}", None),
+];
 
 #[test]
-fn reads_numbers(rt: HostRuntime) -> Result<(), Fail> {
-    let table = [
-        ("0", Some(0)),
-        ("7", Some(7)),
-        ("4096", Some(4_096)),
-        ("18446744073709551615", Some(u64::MAX)),
-        ("18446744073709551616", None),
-        ("28446744073709551615", None),
-        ("100000000000000000000000000", None),
-        ("", None),
-        ("00", None),
-        ("01", None),
-        ("+1", None),
-        ("-1", None),
-        ("-0", None),
-        ("1a", None),
-        ("a", None),
-        ("\u{661}", None),
-    ];
-    for (word, want) in table {
-        assert_eq!(rt; read_number(word.as_bytes()), want, "{word:?}");
+fn reads_numbers(rt: HostRuntime) {
+    for row in NUMBERS {
+        assert!(rt; read_number(row.0.as_bytes()) == row.1, "{row:?}");
     }
-    Ok(())
 }
 
-#[test]
-fn reads_bytes(rt: HostRuntime) -> Result<(), Fail> {
-    let table = [
-        ("-", b"".as_slice()),
-        ("00", b"\x00"),
-        ("aB", b"\xab"),
-        ("09fFA0", b"\x09\xff\xa0"),
-    ];
-    for (word, want) in table {
-        assert!(rt; writes_bytes(word.as_bytes()), "{word:?}");
-        let bytes = read_bytes(rt.alloc(), word.as_bytes())?;
-        assert_eq!(rt; bytes.as_slice(), want, "{word:?}");
+/// Whether a word that writes bytes is read as these.
+fn is_read_as(alloc: Global, word: &[u8], wanted: &[u8]) -> bool {
+    if !writes_bytes(word) {
+        return false;
     }
-    for word in ["", "a", "abc", "0g", "0x", "--", "-0", "g0", " 0", "+1"] {
+    match read_bytes(alloc, word) {
+        Ok(bytes) => bytes.as_slice() == wanted,
+        Err(_) => false,
+    }
+}
+
+const BYTES: &[(&str, &[u8])] = &[
+    ("-", b""),
+    ("00", b"\x00"),
+    ("aB", b"\xab"),
+    ("09fFA0", b"\x09\xff\xa0"),
+];
+
+const NO_BYTES: &[&str] = &["", "a", "abc", "0g", "0x", "--", "-0", "g0", " 0", "+1"];
+
+#[test]
+fn reads_bytes(rt: HostRuntime) {
+    for row in BYTES {
+        assert!(rt; is_read_as(rt.alloc(), row.0.as_bytes(), row.1), "{row:?}");
+    }
+    for word in NO_BYTES {
         assert!(rt; !writes_bytes(word.as_bytes()), "{word:?}");
     }
-    Ok(())
 }
