@@ -29,7 +29,7 @@ pub meta_meant : (i : Indexes) (t : Tree) → MeanTree i t → IsMeantBy t i.met
 meta_meant i t means = record { tree = means.tree; meta = means.meta }
 
 -- every call may send nothing
-nothing_sent : (i : Indexes) (call : Call) → Sends i call no_messages
+pub nothing_sent : (i : Indexes) (call : Call) → Sends i call no_messages
 nothing_sent i (Mkdir p) = omega arith
 nothing_sent i (Create p) = omega arith
 nothing_sent i (Write p off w) = inl refl

@@ -1,5 +1,5 @@
 //! The indexes of a file system, which a call asks and to which its messages go.
-ghost use Rattle.std.specs.Prelude.{◌≡◌, IfOk, IsTrue, OnErr, OnOk};
+ghost use Rattle.std.specs.Prelude.{◌≡◌, [], IfOk, IsTrue, OnErr, OnOk};
 ghost use Rattle.call_compiler.specs.Compiled.{MeanTree, messages};
 ghost use Rattle.call_compiler.specs.Laws.{HaveTaken};
 ghost use Rattle.node.specs.Shapes.{is_shape};
@@ -34,10 +34,24 @@ impl Indexes {
         Ok(Indexes { meta, block })
     }
 
+    /// The same indexes, as one more owner of both trees. Later changes of either do not touch the other.
+    pub fn share(&self) -> Result<Indexes, NoMemory>
+        ensures { IfOk result (λ i. i ≡ self.now) }
+    {
+        let meta = self.meta.tree.share()?;
+        let block = self.block.tree.share()?;
+        Ok(Indexes {
+            meta: MetaIndex { tree: meta },
+            block: BlockIndex { tree: block },
+        })
+    }
+
     /// Puts the messages of a batch into both trees, whole or not at all. It fails only for want of memory; a tree that
     /// gets no message is not touched.
     pub fn append(&mut self, alloc: Global, batch: Batch) -> Result<(), NoMemory>
         ensures done { OnOk result (HaveTaken (messages batch) self.old self.new) }
+        ensures no_meta { batch.meta.items ≡ [] → self.new.meta ≡ self.old.meta }
+        ensures no_block { batch.block.items ≡ [] → self.new.block ≡ self.old.block }
         ensures err { OnErr result (self.new ≡ self.old) }
     {
         append_both(

@@ -17,7 +17,7 @@ pub mod indexes;
 pub mod laws;
 mod making;
 mod moving;
-mod reading;
+pub mod reading;
 mod removing;
 mod subtrees;
 mod writing;

@@ -13,7 +13,7 @@ use reference::{Call, FileBytes, GREATEST_READ, Listing, Reply};
 use std::alloc::Global;
 
 /// Reads from the offset on at most `count` bytes of a file, none past its end (POSIX.1-2017, pread).
-pub(crate) fn read(
+pub fn read(
     alloc: Global,
     indexes: &Indexes,
     path: &Path,
@@ -35,7 +35,7 @@ pub(crate) fn read(
 }
 
 /// What stands at the path (stat).
-pub(crate) fn stat(
+pub fn stat(
     alloc: Global,
     indexes: &Indexes,
     path: &Path,
@@ -59,7 +59,7 @@ fn reply_of(at: At) -> Reply
 }
 
 /// The entries of the directory at the path (readdir).
-pub(crate) fn readdir(
+pub fn readdir(
     alloc: Global,
     indexes: &Indexes,
     path: &Path,
