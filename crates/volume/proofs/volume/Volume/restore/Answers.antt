@@ -1,0 +1,24 @@
+use Rattle.std.proofs.Common.{◌≡◌, ap, sym, subst, ◌∙◌, Ok, Some}
+use Rattle.std.specs.FinMap as finite
+use Rattle.std.specs.Option.{option_copied}
+use Rattle.call_compiler.specs.declared.indexes.Indexes.{Indexes}
+use Rattle.reference.specs.Worlds.{RestoreSnapshot, Settled}
+use Rattle.volume.specs.Changes.{Settles, Restored}
+use Rattle.volume.specs.Volumes.{PVolume}
+use Rattle.volume.proofs.Leading.{volume, snapshot_restored, put_back, lasts}
+use Rattle.volume.proofs.volume.Volume.restore.Goals as goal
+
+pub invariant_of-self : goal.invariant_of-self
+invariant_of-self c =
+    let old : PVolume = volume c.self.inside.indexes c.self.inside.snapshots in
+    let there : finite.get c.self.inside.snapshots c.args.name.now ≡ Some c.in-Some.kept.now = sym c.get.ensures ∙ ap option_copied c.in-Some.is in
+    let e : finite.get c.self.inside.snapshots c.args.name.now ≡ Some c.in_ok-copy.copy = there ∙ ap (λ (i : Indexes). Some i) (sym c.in_ok-copy.ensures) in
+    lasts old (volume c.in_ok-copy.copy c.self.inside.snapshots) (RestoreSnapshot c.args.name.now) (Settled (Ok tt)) c.self.invariant (put_back old c.args.name.now c.in_ok-copy.copy e) c.self.invariant.few
+
+pub returns : goal.returns
+returns c =
+    let old : PVolume = volume c.self.inside.indexes c.self.inside.snapshots in
+    let there : finite.get c.self.inside.snapshots c.args.name.now ≡ Some c.in-Some.kept.now = sym c.get.ensures ∙ ap option_copied c.in-Some.is in
+    let e : finite.get c.self.inside.snapshots c.args.name.now ≡ Some c.in_ok-copy.copy = there ∙ ap (λ (i : Indexes). Some i) (sym c.in_ok-copy.ensures) in
+    subst (λ (v : PVolume). Settles (RestoreSnapshot c.args.name.now) (Restored c.args.name.now) (Ok tt) v (volume c.in_ok-copy.copy c.self.inside.snapshots)) c.self.view_is
+    (snapshot_restored old c.args.name.now c.in_ok-copy.copy e)

@@ -1,0 +1,90 @@
+-- What each call makes of a volume.
+use Rattle.std.specs.Prelude.{◌≡◌, ℕ, List, [], ◌∷◌, Option, Some, IfOk, IfErr}
+use Rattle.std.specs.FinMap as finite
+use Rattle.block_index.specs.Updates.{means as block_means}
+use Rattle.call_compiler.specs.Compiled.{Messages, MeanTree, Sends}
+use Rattle.call_compiler.specs.declared.indexes.Indexes.{Indexes}
+use Rattle.message.specs.declared.msg.Msg.{Msg}
+use Rattle.meta_index.specs.Updates.{means as meta_means}
+use Rattle.node.specs.Appended.{Appended}
+use Rattle.node.specs.Places.{way}
+use Rattle.node.specs.Pure.{PTree}
+use Rattle.node.specs.RootSteps.{StepAnswers}
+use Rattle.node.specs.Steps.{UnlessDid}
+use Rattle.node.specs.declared.place.TreeStep.{TreeStep}
+use Rattle.node.specs.declared.step.StepReply.{StepReply}
+use Rattle.pathkey.specs.declared.errno.Errno.{Errno}
+use Rattle.reference.specs.Calls.{does}
+use Rattle.reference.specs.Tree.{Tree}
+use Rattle.reference.specs.Worlds.{World, Snapped, Event, Ask, Answer, Replied, Settled, Fits, next}
+use Rattle.reference.specs.declared.call.Call.{Call}
+use Rattle.reference.specs.declared.reply.Reply.{Reply}
+use Rattle.reference.specs.declared.reply.Reply.TheVariants.{Fault}
+use Rattle.volume.specs.declared.event.Index.{Index}
+use Rattle.volume.specs.declared.event.Index.TheVariants.{Meta, Block}
+use Rattle.volume.specs.declared.event.Step.{Step}
+use Rattle.volume.specs.Volumes.{PVolume, Means}
+
+-- the answer fits each world that the volume meant, and the volume now means the next one
+abbrev pub Leads : Event → Answer → PVolume → PVolume → Type 0
+Leads e a old new = (w : World) → Means old w → Fits w e a × Means new (next w e a)
+
+-- ---- file calls
+
+-- a tree to which the messages were appended; no messages change nothing
+abbrev pub Receives : {U V : Type 0} → (U → Option V → Option V) → List (Msg U V) → PTree U V → PTree U V → Type 0
+Receives means [] old new = new ≡ old
+Receives means (m ∷ ms) old new = Appended means (m ∷ ms) old new
+
+-- each index took its half of one batch, which has no more messages than the call may send
+pub record Batched (c : Call) (old new : Indexes) : Type 0 where
+  pub msgs : Messages
+  pub sends : Sends old c msgs
+  pub meta : Receives meta_means msgs.meta old.meta.tree new.meta.tree
+  pub block : Receives block_means msgs.block old.block.tree new.block.tree
+
+-- the reply is that of the table of calls for each tree that the indexes meant, and they now mean the tree that the table makes
+abbrev pub Does : Call → Reply → Indexes → Indexes → Type 0
+Does c r old new = (t : Tree) → MeanTree old t → (r ≡ (does t c).1) × MeanTree new (does t c).0
+
+-- a file call: it is answered as the world says, changes nothing where it is refused, each live index takes its half of one
+-- batch, and no snapshot changes
+pub record Called (c : Call) (r : Reply) (old new : PVolume) : Type 0 where
+  pub leads : Leads (Ask c) (Replied r) old new
+  pub refused : (e : Errno) → r ≡ Fault e → new ≡ old
+  pub batch : Batched c old.live new.live
+  pub snapshots : new.snapshots ≡ old.snapshots
+
+-- ---- snapshot calls
+
+-- a snapshot call: it is answered as the world says, has done this where it is not refused, and nothing where it is
+pub record Settles (e : Event) (Done : PVolume → PVolume → Type 0) (r : Snapped) (old new : PVolume) : Type 0 where
+  pub leads : Leads e (Settled r) old new
+  pub done : IfOk r (λ _. Done old new)
+  pub refused : IfErr r (λ _. new ≡ old)
+
+-- the live indexes are kept under the name too
+abbrev pub KeptAs : List ℕ → PVolume → PVolume → Type 0
+KeptAs s old new = new ≡ record old { snapshots = finite.insert old.snapshots s old.live }
+
+-- the name is gone
+abbrev pub Dropped : List ℕ → PVolume → PVolume → Type 0
+Dropped s old new = new ≡ record old { snapshots = finite.remove old.snapshots s }
+
+-- the live indexes are those under the name, which stay there
+abbrev pub Restored : List ℕ → PVolume → PVolume → Type 0
+Restored s old new = (finite.get old.snapshots s ≡ Some new.live) × (new.snapshots ≡ old.snapshots)
+
+-- ---- tree steps
+
+-- the step was answered on the index that it names, and the other stays
+abbrev pub StepsIn : Index → TreeStep → StepReply → Indexes → Indexes → Type 0
+StepsIn Meta step r old new = StepAnswers meta_means step.kind (way step.at) step.slot r old.meta.tree new.meta.tree × (new.block ≡ old.block)
+StepsIn Block step r old new = StepAnswers block_means step.kind (way step.at) step.slot r old.block.tree new.block.tree × (new.meta ≡ old.meta)
+
+-- a tree step: the volume means each world that it meant, is as it was where the step is not done, and no snapshot changes
+pub record Stepped (s : Step) (r : StepReply) (old new : PVolume) : Type 0 where
+  pub keeps : (w : World) → Means old w → Means new w
+  pub refused : UnlessDid r (new ≡ old)
+  pub index : StepsIn s.index s.step r old.live new.live
+  pub snapshots : new.snapshots ≡ old.snapshots

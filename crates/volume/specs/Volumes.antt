@@ -1,0 +1,65 @@
+-- What callers see of a volume, and which world it means.
+use Rattle.std.specs.Prelude.{◌≡◌, ℕ, ◌≤◌, List, Option, Some, None, ⊤}
+use Rattle.std.specs.BTreeMap.{BTreeMap}
+use Rattle.std.specs.FinMap as finite
+use Rattle.call_compiler.specs.Compiled.{MeanTree}
+use Rattle.call_compiler.specs.declared.indexes.Indexes.{Indexes}
+use Rattle.node.specs.declared.shape.Shape.{Shape}
+use Rattle.pathkey.specs.Order.{by_bytes}
+use Rattle.reference.specs.Tree.{Tree, Dir, nothing}
+use Rattle.reference.specs.Worlds.{World}
+
+-- indexes under names
+abbrev pub Kept : Type 0
+Kept = finite.FinMap by_bytes Indexes
+
+-- a volume: its live indexes, and those of each named snapshot
+pub record PVolume : Type 0 where
+  pub live : Indexes
+  pub snapshots : Kept
+
+-- the entries of a map, as a finite map
+abbrev pub kept : BTreeMap (List ℕ) Indexes → Kept
+kept m = finite.from_entries m.entries
+
+-- the indexes mean some directory tree
+pub record MeanSome (i : Indexes) : Type 0 where
+  pub tree : Tree
+  pub means : MeanTree i tree
+
+-- neither is there, or both are and R holds of them
+abbrev pub Both : {A B : Type 0} → (A → B → Type 0) → Option A → Option B → Type 0
+Both R None None = ⊤
+Both R None (Some b) = ⊥
+Both R (Some a) None = ⊥
+Both R (Some a) (Some b) = R a b
+
+-- two maps have the same names, and R holds of what they have under each
+abbrev pub Alike : {A B : Type 0} → (A → B → Type 0) → finite.FinMap by_bytes A → finite.FinMap by_bytes B → Type 0
+Alike R m n = (s : List ℕ) → Both R (finite.get m s) (finite.get n s)
+
+-- the volume means the world: its live indexes mean the live tree, it has the world's snapshots and no others, and each
+-- of its snapshots means the world's of that name
+pub record Means (v : PVolume) (w : World) : Type 0 where
+  pub live : MeanTree v.live w.live
+  pub snapshots : Alike MeanTree v.snapshots w.snapshots
+
+-- the most named snapshots
+abbrev pub most_snapshots : ℕ
+most_snapshots = 64
+
+-- what the type of volumes keeps: a volume means a world, and has at most 64 snapshots
+pub record IsVolume (v : PVolume) : Type 0 where
+  pub world : World
+  pub means : Means v world
+  pub few : finite.len v.snapshots ≤ most_snapshots
+
+-- the world of the empty root directory, without snapshots
+abbrev pub empty_world : World
+empty_world = record { live = Dir nothing; snapshots = finite.empty }
+
+-- a new volume of the shape: it means the empty root directory, without snapshots
+pub record IsNew (shape : Shape) (v : PVolume) : Type 0 where
+  pub meta_shape : v.live.meta.tree.shape ≡ shape
+  pub block_shape : v.live.block.tree.shape ≡ shape
+  pub means : Means v empty_world

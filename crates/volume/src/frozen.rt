@@ -1,0 +1,84 @@
+//! The tree of a volume as it stood at one moment.
+ghost use Rattle.std.specs.Prelude.{◌≡◌, IfOk, []};
+ghost use Rattle.volume.specs.Told.{Tells};
+ghost use Rattle.volume.specs.Volumes.{MeanSome};
+
+use call_compiler::reading::{read, readdir, stat};
+use call_compiler::{Call, Indexes, Reply};
+use pathkey::{Errno, NoMemory, Path};
+use reference::Kind;
+use std::alloc::Global;
+use std::marker::Model;
+
+/// A tree that stands still: later changes of the volume do not touch it. Contracts see its indexes.
+#[derive(Drop)]
+pub struct Frozen {
+    indexes: Indexes,
+}
+
+impl Model for Frozen {
+    ghost use Rattle.call_compiler.specs.contracts.indexes.Indexes as held;
+    ghost use Rattle.call_compiler.specs.declared.indexes.Indexes.{Indexes};
+
+    ghost Value = { Indexes };
+
+    ghost coded = { held.the_row.coded };
+
+    ghost use Rattle.volume.specs.Volumes.{MeanSome};
+
+    ghost view = { λ f. f.indexes };
+
+    ghost invariant = { λ f. MeanSome f.indexes };
+}
+
+impl Frozen {
+    /// The tree that these indexes mean now.
+    pub(crate) fn of(indexes: &Indexes) -> Result<Frozen, NoMemory>
+        requires { MeanSome indexes.now }
+        ensures { IfOk result (λ f. f ≡ indexes.now) }
+    {
+        let indexes = indexes.share()?;
+        Ok(Frozen { indexes })
+    }
+
+    /// What its type keeps: it means a directory tree. It does nothing.
+    pub fn means_a_tree(&self)
+        ensures { MeanSome self.now }
+    {
+        let _ = &self.indexes;
+    }
+
+    /// At most `count` bytes of the file at the path from the offset on, none past its end (POSIX.1-2017, pread).
+    pub fn read(&self, alloc: Global, path: &Path, offset: u64, count: u64) -> Reply
+        ensures { Tells (Call.Read path.now offset count) result self.now }
+    {
+        match read(alloc, &self.indexes, path, offset, count) {
+            Ok((reply, _)) => reply,
+            Err(NoMemory) => Reply::Fault(Errno::ENOMEM),
+        }
+    }
+
+    /// What stands at the path (stat). It takes no memory at the root.
+    pub fn stat(&self, alloc: Global, path: &Path) -> Reply
+        ensures reply { Tells (Call.Stat path.now) result self.now }
+        ensures root { path.now ≡ [] → result ≡ Reply.Stat Kind.Dir 0 }
+    {
+        if path.is_root() {
+            return Reply::Stat(Kind::Dir, 0);
+        }
+        match stat(alloc, &self.indexes, path) {
+            Ok((reply, _)) => reply,
+            Err(NoMemory) => Reply::Fault(Errno::ENOMEM),
+        }
+    }
+
+    /// The entries of the directory at the path (readdir).
+    pub fn readdir(&self, alloc: Global, path: &Path) -> Reply
+        ensures { Tells (Call.Readdir path.now) result self.now }
+    {
+        match readdir(alloc, &self.indexes, path) {
+            Ok((reply, _)) => reply,
+            Err(NoMemory) => Reply::Fault(Errno::ENOMEM),
+        }
+    }
+}

@@ -1,0 +1,83 @@
+//! The named snapshots of a volume: names with the indexes that stood when they were taken.
+ghost use Rattle.std.specs.Prelude.{◌≡◌, ◌≤◌, ◌<◌, true, false, OnOk, OnErr, IfOk, IfErr, Some, None, is_some, IfSome};
+ghost use Rattle.std.specs.FinMap as finite;
+ghost use Rattle.std.specs.Option.{option_copied};
+ghost use Rattle.volume.specs.Volumes.{most_snapshots};
+
+use call_compiler::Indexes;
+use pathkey::{NoMemory, SnapName};
+use std::alloc::Global;
+use std::collections::BTreeMap;
+use std::marker::Model;
+
+/// The most named snapshots.
+const MOST: usize = 64;
+
+/// Indexes under names, which contracts see as a finite map.
+#[derive(Drop)]
+pub struct Snapshots {
+    named: BTreeMap<SnapName, Indexes>,
+}
+
+impl Model for Snapshots {
+    ghost use Rattle.volume.specs.Volumes.{Kept, kept};
+    ghost use Rattle.std.specs.Coded.{coded_list, coded_ℕ};
+    ghost use Rattle.std.specs.FinMap as finite;
+    ghost use Rattle.call_compiler.specs.contracts.indexes.Indexes as indexes;
+
+    ghost Value = { Kept };
+
+    ghost coded = { finite.code (coded_list coded_ℕ) indexes.the_row.coded };
+
+    ghost view = { λ s. kept s.named };
+}
+
+impl Snapshots {
+    /// No snapshots. It takes no memory.
+    pub fn new(alloc: Global) -> Snapshots
+        ensures { result ≡ finite.empty }
+    {
+        Snapshots {
+            named: BTreeMap::new(alloc),
+        }
+    }
+
+    /// The indexes under a name. It takes no memory.
+    pub fn get(&self, name: &SnapName) -> Option<&Indexes>
+        ensures { option_copied result ≡ finite.get self.now name.now }
+    {
+        self.named.get(name)
+    }
+
+    /// Whether there is a snapshot of that name. It takes no memory.
+    pub fn has(&self, name: &SnapName) -> bool
+        ensures { result ≡ finite.contains_key self.now name.now }
+    {
+        self.get(name).is_some()
+    }
+
+    /// Whether there are as many snapshots as there may be. It takes no memory.
+    pub fn is_full(&self) -> bool
+        ensures full { result ≡ true → most_snapshots ≤ finite.len self.now }
+        ensures room { result ≡ false → finite.len self.now < most_snapshots }
+    {
+        self.named.len() >= MOST
+    }
+
+    /// Puts indexes under a name.
+    pub fn keep(&mut self, alloc: Global, name: &SnapName, indexes: Indexes) -> Result<(), NoMemory>
+        ensures kept { OnOk result (self.new ≡ finite.insert self.old name.now indexes) }
+        ensures err { OnErr result (self.new ≡ self.old) }
+    {
+        let name = name.copy(alloc)?;
+        self.named.insert(name, indexes)?;
+        Ok(())
+    }
+
+    /// Takes a name out. It takes no memory.
+    pub fn remove(&mut self, name: &SnapName)
+        ensures { self.new ≡ finite.remove self.old name.now }
+    {
+        let _removed = self.named.remove(name);
+    }
+}

@@ -1,0 +1,181 @@
+//! A volume, and what is asked of it.
+ghost use Rattle.std.specs.Prelude.{◌≡◌, ◌⊎◌, ◌↔◌, false, MatchResult, IfOk, IfSome, Some};
+ghost use Rattle.call_compiler.specs.Compiled.{MeanTree};
+ghost use Rattle.node.specs.Shapes.{is_shape};
+ghost use Rattle.std.specs.FinMap as finite;
+ghost use Rattle.reference.specs.Worlds.{World, TakeSnapshot, DropSnapshot, RestoreSnapshot};
+ghost use Rattle.volume.specs.Changes.{Called, Settles, KeptAs, Dropped, Restored, Stepped};
+ghost use Rattle.volume.specs.Volumes.{IsNew, IsVolume, Means};
+ghost use Rattle.volume.specs.Told.{Finds, HeaviestIn, report_in};
+
+use crate::change::{do_call, step_in};
+use crate::event::{Index, Step};
+use crate::frozen::Frozen;
+use crate::snapshots::Snapshots;
+use call_compiler::{Call, Indexes, Reply};
+use flush::heaviest;
+use node::{Shape, ShapeReport, StepReply, TreeStep};
+use pathkey::{Errno, NoMemory, SnapName};
+use std::alloc::Global;
+use std::marker::Model;
+use steps::make_room;
+
+/// The live indexes of a file system, and those of its named snapshots.
+#[derive(Drop)]
+pub struct Volume {
+    indexes: Indexes,
+    snapshots: Snapshots,
+}
+
+impl Model for Volume {
+    ghost use Rattle.volume.specs.Codes.{coded_volume};
+    ghost use Rattle.volume.specs.Volumes.{PVolume, IsVolume};
+
+    ghost Value = { PVolume };
+
+    ghost coded = { coded_volume };
+
+    ghost view = { λ v. record { live = v.indexes; snapshots = v.snapshots } };
+
+    ghost invariant = { λ v. IsVolume (record { live = v.indexes; snapshots = v.snapshots }) };
+}
+
+impl Volume {
+    /// The empty root directory, without snapshots, in new trees of this shape. EINVAL where the shape is not ok
+    /// (`Shape::ok`), ENOMEM where memory is refused.
+    pub fn new(alloc: Global, shape: Shape) -> Result<Volume, Errno>
+        ensures new { MatchResult result (IsNew shape) (λ e. (e ≡ Errno.EINVAL) ⊎ (e ≡ Errno.ENOMEM)) }
+        ensures shape { (result ≡ Err Errno.EINVAL) ↔ (is_shape shape ≡ false) }
+    {
+        if !shape.ok() {
+            return Err(Errno::EINVAL);
+        }
+        let indexes = Indexes::new(alloc, shape)?;
+        Ok(Volume {
+            indexes,
+            snapshots: Snapshots::new(alloc),
+        })
+    }
+
+    /// Does a file call. A refusal changes nothing; ENOMEM comes only where memory is refused.
+    ///
+    /// Whatever lies in the trees, a call only puts messages into their roots: steps bring them down (Jannen et al., FAST
+    /// 2015).
+    pub fn call(&mut self, alloc: Global, call: &Call) -> Reply
+        ensures { Called call.now result self.old self.new }
+    {
+        match do_call(alloc, &mut self.indexes, call) {
+            Ok(reply) => reply,
+            Err(NoMemory) => Reply::Fault(Errno::ENOMEM),
+        }
+    }
+
+    /// Keeps the live tree under the name, by one more owner of its nodes: no node is copied (Rodeh, ACM Transactions on
+    /// Storage 2008). EEXIST where the name is taken, ENOSPC where there are 64 snapshots, ENOMEM where memory is refused.
+    pub fn snapshot(&mut self, alloc: Global, name: &SnapName) -> Result<(), Errno>
+        ensures { Settles (TakeSnapshot name.now) (KeptAs name.now) result self.old self.new }
+    {
+        if self.snapshots.has(name) {
+            return Err(Errno::EEXIST);
+        }
+        if self.snapshots.is_full() {
+            return Err(Errno::ENOSPC);
+        }
+        let copy = self.indexes.share()?;
+        self.snapshots.keep(alloc, name, copy)?;
+        Ok(())
+    }
+
+    /// Removes the snapshot of that name; ENOENT where there is none. It takes no memory.
+    pub fn drop_snapshot(&mut self, name: &SnapName) -> Result<(), Errno>
+        ensures { Settles (DropSnapshot name.now) (Dropped name.now) result self.old self.new }
+    {
+        if !self.snapshots.has(name) {
+            return Err(Errno::ENOENT);
+        }
+        self.snapshots.remove(name);
+        Ok(())
+    }
+
+    /// The live tree becomes that of the snapshot, which stays. ENOENT where there is none of that name, ENOMEM where a
+    /// further owner of its nodes is refused.
+    pub fn restore(&mut self, name: &SnapName) -> Result<(), Errno>
+        ensures { Settles (RestoreSnapshot name.now) (Restored name.now) result self.old self.new }
+    {
+        let Some(kept) = self.snapshots.get(name) else {
+            return Err(Errno::ENOENT);
+        };
+        let copy = kept.share()?;
+        self.indexes = copy;
+        Ok(())
+    }
+
+    /// Tries a tree step in the live index that it names. Whatever it replies, the volume means what it meant; all replies
+    /// but `Did` leave it as it was.
+    pub fn step(&mut self, alloc: Global, step: Step) -> StepReply
+        ensures { Stepped step result self.old self.new }
+    {
+        step_in(alloc, &mut self.indexes, step)
+    }
+
+    /// What its type keeps: a volume means a world, and has at most 64 snapshots. It does nothing.
+    pub fn means_a_world(&self)
+        ensures { IsVolume self.now }
+    {
+        let _ = &self.indexes;
+    }
+
+    /// The live tree as it stands. It fails only where a further owner of its nodes is refused.
+    pub fn freeze(&self) -> Result<Frozen, NoMemory>
+        ensures same { IfOk result (λ f. f ≡ self.now.live) }
+        ensures means { IfOk result (λ f. (w : World) → Means self.now w → MeanTree f w.live) }
+    {
+        Frozen::of(&self.indexes)
+    }
+
+    /// The tree of the snapshot of that name; ENOENT where there is none, ENOMEM where a further owner of its nodes is
+    /// refused.
+    pub fn frozen(&self, name: &SnapName) -> Result<Frozen, Errno>
+        ensures same { IfOk result (λ f. finite.get self.now.snapshots name.now ≡ Some f) }
+        ensures means { (w : World) → Means self.now w → Finds name.now result w }
+    {
+        let Some(kept) = self.snapshots.get(name) else {
+            return Err(Errno::ENOENT);
+        };
+        Ok(Frozen::of(kept)?)
+    }
+
+    /// The flush of the slot of a live index than which none has more pending messages; none where nothing is pending.
+    /// It takes no memory.
+    pub fn heaviest(&self, index: Index) -> Option<TreeStep>
+        ensures { HeaviestIn index result self.now.live }
+    {
+        match index {
+            Index::Meta => heaviest(&self.indexes.meta.tree),
+            Index::Block => heaviest(&self.indexes.block.tree),
+        }
+    }
+
+    /// How large the tree of a live index is. It takes no memory.
+    pub fn shape_report(&self, index: Index) -> ShapeReport
+        ensures { result ≡ report_in index self.now.live }
+    {
+        match index {
+            Index::Meta => self.indexes.meta.tree.shape_report(),
+            Index::Block => self.indexes.block.tree.shape_report(),
+        }
+    }
+
+    /// A step of the same index to try where this one has no room; none where none is known. It takes no memory, and no
+    /// claim rests on its choice.
+    pub fn make_room(&self, step: Step) -> Option<Step>
+        ensures { IfSome result (λ other. other.index ≡ step.index) }
+    {
+        let index = step.index;
+        let step = match index {
+            Index::Meta => make_room(&self.indexes.meta.tree, step.step)?,
+            Index::Block => make_room(&self.indexes.block.tree, step.step)?,
+        };
+        Some(Step { index, step })
+    }
+}
