@@ -1,11 +1,11 @@
 //! Updates of single blocks, and a file's bytes through an index, in tables with the values written out.
 
-use crate::ask::path;
 use block_index::{Block, BlockIndex, BlockUpdate, Patch};
 use bytes::Bytes;
 use message::{Msg, Update};
 use node::Shape;
 use pathkey::{Key, NoMemory, Path, block_key};
+use samples::ask::path;
 use std::alloc::Global;
 
 const SHAPE: Shape = Shape {

@@ -1,8 +1,8 @@
 //! What calls on indexes are answered and how many messages they send.
-use crate::ask::{Ask, Told};
 use call_compiler::{Batch, Call, Indexes, Reply, compile};
 use node::Shape;
 use pathkey::{Errno, NoMemory};
+use samples::ask::{Ask, Told};
 use std::alloc::Global;
 
 /// The most bytes of a file, and the numbers beside it.

@@ -4,8 +4,6 @@
 #![tactic(auto)]
 
 #[cfg(test)]
-mod ask;
-#[cfg(test)]
 mod blocks;
 #[cfg(test)]
 mod compiled;

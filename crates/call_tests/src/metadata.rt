@@ -1,10 +1,10 @@
 //! What an index answers, by rows of paths, beside the directory tree that the rows name.
 
-use crate::ask::path;
 use message::Msg;
 use meta_index::{At, Kind, Meta, MetaIndex, MetaUpdate};
 use node::{Shape, Tree};
 use pathkey::{Errno, Key, NoMemory, Path};
+use samples::ask::path;
 use std::alloc::Global;
 
 const SHAPE: Shape = Shape {

@@ -1,9 +1,9 @@
 //! Scripts of calls through the plain program, with the replies that the file system's definition gives, worked by hand.
-use crate::ask::{Ask, Told, path};
 use pathkey::{Errno, NoMemory, Path, SnapName};
 use reference::plain::reading::list_directory;
 use reference::plain::{Tree, World, image_of};
 use reference::{Call, Kind, Reply};
+use samples::ask::{Ask, Told, path};
 use std::alloc::{AllocError, Global};
 
 /// A call on snapshots, with the text of the name.

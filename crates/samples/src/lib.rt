@@ -1,12 +1,14 @@
 //! Samples that the tests of several crates share: an update, messages in plain numbers, a plain row under the same
-//! messages, and numbers that look random.
+//! messages, file calls and replies as a table can hold them, and numbers that look random.
 #![tactic(auto)]
 
+pub mod ask;
 pub mod digit;
 pub mod plain;
 pub mod random;
 pub mod row;
 
+pub use ask::{Ask, Told};
 pub use digit::Digit;
 pub use plain::{Plain, are, batch, key, number, numbers, range};
 pub use random::Random;
