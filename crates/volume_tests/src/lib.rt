@@ -1,0 +1,14 @@
+//! Tests of volumes: what each call answers with ample memory, which no contract can say, and rows of calls with snapshots
+//! and steps between them.
+#![tactic(auto)]
+
+#[cfg(test)]
+mod asked;
+#[cfg(test)]
+mod rows;
+#[cfg(test)]
+mod runs;
+#[cfg(test)]
+mod steps_between;
+#[cfg(test)]
+mod told;

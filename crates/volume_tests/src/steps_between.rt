@@ -1,0 +1,132 @@
+//! Many files with steps of both trees between the calls: the answers are the same whatever steps are done.
+use crate::asked::{Line, SMALL, answers, is_answered, new_volume};
+use node::StepReply;
+use reference::Kind;
+use samples::{Ask, Told};
+use std::alloc::Global;
+use volume::{Index, Step, Volume};
+
+/// The next step of an index: the heaviest flush, or what makes room where the step before had none.
+fn next(volume: &Volume, index: Index, refused: Option<Step>) -> Option<Step> {
+    match refused {
+        Some(step) => volume.make_room(step),
+        None => match volume.heaviest(index) {
+            Some(step) => Some(Step { index, step }),
+            None => None,
+        },
+    }
+}
+
+/// Tries a step; gives it back where it is refused.
+fn refused(alloc: Global, volume: &mut Volume, step: Step) -> Option<Step> {
+    match volume.step(alloc, step) {
+        StepReply::Did(_) => None,
+        _ => Some(step),
+    }
+}
+
+/// Tries at most so many steps of an index; how many were done.
+fn tidy(alloc: Global, volume: &mut Volume, index: Index, turns: u32) -> u32 {
+    let mut last = None;
+    let mut done = 0u32;
+    for _ in 0..turns {
+        let Some(step) = next(volume, index, last) else {
+            return done;
+        };
+        last = refused(alloc, volume, step);
+        if last.is_none() {
+            done = done.saturating_add(1);
+        }
+    }
+    done
+}
+
+/// Tries at most so many steps of each index; how many were done.
+fn tidy_both(alloc: Global, volume: &mut Volume, turns: u32) -> u32 {
+    let meta = tidy(alloc, volume, Index::Meta, turns);
+    meta.saturating_add(tidy(alloc, volume, Index::Block, turns))
+}
+
+/// Whether the file with this number is created.
+fn is_created(alloc: Global, volume: &mut Volume, number: u32) -> bool {
+    match format!(in alloc; "/d/f{number:03}") {
+        Ok(text) => answers(alloc, volume, Ask::Create(text.as_str()), Told::Done),
+        Err(_) => false,
+    }
+}
+
+/// Creates 300 files below `/d`, with so many steps after each; how many were created.
+fn create_all(alloc: Global, volume: &mut Volume, turns: u32) -> u32 {
+    let mut created = 0u32;
+    for number in 0..300u32 {
+        if is_created(alloc, volume, number) {
+            created = created.saturating_add(1);
+        }
+        tidy_both(alloc, volume, turns);
+    }
+    created
+}
+
+const REMOVED: &[Line<'static>] = &[
+    Line::Live(Ask::Rmtree("/d"), Told::Done),
+    Line::Live(Ask::Mkdir("/d"), Told::Done),
+    Line::Live(Ask::Create("/d/n"), Told::Done),
+];
+
+/// The directory goes and comes again with one file, with so many steps after each call; how many calls were done.
+fn remove(alloc: Global, volume: &mut Volume, turns: u32) -> usize {
+    let mut done = 0usize;
+    for line in REMOVED {
+        if is_answered(alloc, volume, line) {
+            done = done.saturating_add(1);
+        }
+        tidy_both(alloc, volume, turns);
+    }
+    done
+}
+
+/// Whether all of that is answered so, and the directory then has the one file.
+fn is_told(alloc: Global, volume: &mut Volume, turns: u32) -> bool {
+    answers(alloc, volume, Ask::Mkdir("/d"), Told::Done)
+        && create_all(alloc, volume, turns) == 300
+        && remove(alloc, volume, turns) == 3
+        && lists(alloc, volume)
+}
+
+/// Whether the directory has the one file.
+fn lists(alloc: Global, volume: &mut Volume) -> bool {
+    answers(
+        alloc,
+        volume,
+        Ask::Readdir("/d"),
+        Told::Names(&[(Kind::File, "n")]),
+    )
+}
+
+/// The same of a new volume, before and after so many steps at the end; how many of these were done.
+fn told(alloc: Global, turns: u32, last: u32) -> Option<u32> {
+    match new_volume(alloc, SMALL) {
+        Ok(mut volume) => {
+            let before = is_told(alloc, &mut volume, turns);
+            let done = tidy_both(alloc, &mut volume, last);
+            if before && lists(alloc, &mut volume) {
+                Some(done)
+            } else {
+                None
+            }
+        }
+        Err(_) => None,
+    }
+}
+
+#[test]
+fn directory_comes_again_whatever_steps_are_done(rt: HostRuntime) {
+    for turns in [0, 1, 1_000] {
+        assert_eq!(rt; told(rt.alloc(), turns, 0), Some(0));
+    }
+}
+
+#[test]
+fn directory_stands_after_many_steps(rt: HostRuntime) {
+    assert!(rt; matches!(told(rt.alloc(), 0, 1_000), Some(100..)));
+}

@@ -1,0 +1,136 @@
+//! What a volume tells of its trees, and what a tree that stands still tells.
+use crate::asked::{SMALL, answers, frozen, new_volume, tells};
+use node::{Place, StepKind, StepReply, TreeStep};
+use pathkey::{Errno, NoMemory};
+use reference::Kind;
+use samples::{Ask, Told};
+use std::alloc::Global;
+use volume::{Frozen, Index, Step, Volume};
+
+/// The flush of the leaf below the root's first slot.
+pub fn first_leaf(index: Index) -> Step {
+    let at = Place::root();
+    let kind = StepKind::FlushLeaf;
+    Step {
+        index,
+        step: TreeStep { kind, at, slot: 0 },
+    }
+}
+
+/// Does the flush of the leaf below the root's first slot.
+fn flush(alloc: Global, volume: &mut Volume, index: Index) -> StepReply {
+    volume.step(alloc, first_leaf(index))
+}
+
+/// Whether a message can be flushed after a call, and the call stands.
+fn is_flushed(alloc: Global, volume: &mut Volume) -> bool {
+    answers(alloc, volume, Ask::Mkdir("/a"), Told::Done)
+        && matches!(flush(alloc, volume, Index::Meta), StepReply::Did(1..))
+        && flush(alloc, volume, Index::Block) == StepReply::NotThere
+        && answers(alloc, volume, Ask::Stat("/a"), Told::Dir)
+}
+
+/// The same of a new volume.
+fn new_is_flushed(alloc: Global) -> bool {
+    match new_volume(alloc, SMALL) {
+        Ok(mut volume) => is_flushed(alloc, &mut volume),
+        Err(_) => false,
+    }
+}
+
+#[test]
+fn message_is_flushed(rt: HostRuntime) {
+    assert!(rt; new_is_flushed(rt.alloc()));
+}
+
+/// How many messages wait in an index, if there is a flush for them.
+fn waiting(volume: &Volume, index: Index) -> u128 {
+    match volume.heaviest(index) {
+        Some(_) => volume.shape_report(index).pending,
+        None => 0,
+    }
+}
+
+/// Whether each index is told of by itself: the root, a file and its length wait in one, its bytes in the other.
+fn is_told_of(alloc: Global, volume: &mut Volume) -> bool {
+    answers(alloc, volume, Ask::Create("/f"), Told::Done)
+        && waiting(volume, Index::Meta) == 2
+        && waiting(volume, Index::Block) == 0
+        && answers(alloc, volume, Ask::Write("/f", 0, b"\xaa"), Told::Count(1))
+        && waiting(volume, Index::Block) == 1
+}
+
+/// The same of a new volume.
+fn new_is_told_of(alloc: Global) -> bool {
+    match new_volume(alloc, SMALL) {
+        Ok(mut volume) => is_told_of(alloc, &mut volume),
+        Err(_) => false,
+    }
+}
+
+#[test]
+fn each_index_is_told_of(rt: HostRuntime) {
+    assert!(rt; new_is_told_of(rt.alloc()));
+}
+
+/// The live tree.
+fn freeze(volume: &Volume) -> Result<Frozen, NoMemory> {
+    volume.freeze()
+}
+
+/// Whether a tree has the file, with its byte.
+fn has_file(alloc: Global, tree: &Frozen) -> bool {
+    tells(
+        alloc,
+        tree,
+        Ask::Readdir("/"),
+        Told::Names(&[(Kind::File, "f")]),
+    ) && tells(alloc, tree, Ask::Read("/f", 0, 9), Told::Data(b"\xaa"))
+        && tells(alloc, tree, Ask::Stat("/f"), Told::File(1))
+}
+
+/// Whether the file goes from the live tree, and stays in one that stood before.
+fn stays_beside(alloc: Global, volume: &mut Volume, before: &Frozen) -> bool {
+    answers(alloc, volume, Ask::Unlink("/f"), Told::Done)
+        && answers(alloc, volume, Ask::Readdir("/"), Told::Names(&[]))
+        && has_file(alloc, before)
+}
+
+/// The same of a file that is made before.
+fn stays(alloc: Global, volume: &mut Volume) -> bool {
+    if !answers(alloc, volume, Ask::Create("/f"), Told::Done)
+        || !answers(alloc, volume, Ask::Write("/f", 0, b"\xaa"), Told::Count(1))
+    {
+        return false;
+    }
+    match freeze(volume) {
+        Ok(before) => stays_beside(alloc, volume, &before),
+        Err(_) => false,
+    }
+}
+
+/// The same in a new volume.
+fn new_stays(alloc: Global) -> bool {
+    match new_volume(alloc, SMALL) {
+        Ok(mut volume) => stays(alloc, &mut volume),
+        Err(_) => false,
+    }
+}
+
+#[test]
+fn frozen_tree_stays(rt: HostRuntime) {
+    assert!(rt; new_stays(rt.alloc()));
+}
+
+/// Why a new volume has no tree of a snapshot.
+fn fault_of_unknown(alloc: Global) -> Option<Errno> {
+    match new_volume(alloc, SMALL) {
+        Ok(volume) => frozen(alloc, &volume, "s").err(),
+        Err(_) => None,
+    }
+}
+
+#[test]
+fn unknown_snapshot_is_refused(rt: HostRuntime) {
+    assert_eq!(rt; fault_of_unknown(rt.alloc()), Some(Errno::ENOENT));
+}
