@@ -197,7 +197,7 @@ module _ (t : Tree) (i : Indexes) (o n : Path) (means : MeanTree i t) (old : IsP
   no_blocks : (k : Key) → is_in (subtree n) k ≡ true → kept k ≡ None
   no_blocks k inside = elim (blocks i.block k) as (λ v. blocks i.block k ≡ v → effects block_means (replaced (entry_at t n) n) k v ≡ None) [
     | None ↦ λ e. elim (is_file (entry_at t n)) as (λ b. effects block_means (cond {A = List (Msg BlockUpdate (List ℕ))} b (DelRange (blocks_from n 0) ∷ []) []) k None ≡ None) [
-      | true ↦ elim (is_in (blocks_from n 0) k) as (λ b. cond {A = Option (List ℕ)} b None None ≡ None) [ | true ↦ refl | false ↦ refl ]
+      | true ↦ elim (is_in (blocks_from n 0) k) as (λ b. cond {A = Option (List ℕ)} b None None ≡ None) [ true ↦ refl | false ↦ refl ]
       | false ↦ refl
     ]
     | Some v ↦ λ e.

@@ -35,11 +35,7 @@ pub fn read(
 }
 
 /// What stands at the path (stat).
-pub fn stat(
-    alloc: Global,
-    indexes: &Indexes,
-    path: &Path,
-) -> Result<(Reply, Batch), NoMemory>
+pub fn stat(alloc: Global, indexes: &Indexes, path: &Path) -> Result<(Reply, Batch), NoMemory>
     ensures { IfOk result (λ c. IsCompiled indexes.now (Call.Stat path.now) c.0 (messages c.1)) }
 {
     let at = indexes.meta.find(alloc, path)?;
@@ -59,11 +55,7 @@ fn reply_of(at: At) -> Reply
 }
 
 /// The entries of the directory at the path (readdir).
-pub fn readdir(
-    alloc: Global,
-    indexes: &Indexes,
-    path: &Path,
-) -> Result<(Reply, Batch), NoMemory>
+pub fn readdir(alloc: Global, indexes: &Indexes, path: &Path) -> Result<(Reply, Batch), NoMemory>
     ensures { IfOk result (λ c. IsCompiled indexes.now (Call.Readdir path.now) c.0 (messages c.1)) }
 {
     let at = indexes.meta.find(alloc, path)?;
