@@ -261,3 +261,101 @@ const SUBTREES: &[Row] = &[
 fn a_subtree_goes_by_two_messages(rt: HostRuntime) {
     assert_eq!(rt; answered(rt.alloc(), SUBTREES), SUBTREES.len());
 }
+
+const REFUSED_MOVES: &[Row] = &[
+    (Ask::Rename("/", "/b"), Told::Fault(Errno::EBUSY), (0, 0)),
+    (Ask::Rename("/", "/"), Told::Fault(Errno::EBUSY), (0, 0)),
+    (Ask::Rename("/a", "/b"), Told::Fault(Errno::ENOENT), (0, 0)),
+    (Ask::Rename("/a", "/a"), Told::Fault(Errno::ENOENT), (0, 0)),
+    (Ask::Mkdir("/a"), Told::Done, (1, 0)),
+    (Ask::Mkdir("/a/d"), Told::Done, (1, 0)),
+    (Ask::Create("/f"), Told::Done, (1, 0)),
+    (Ask::Rename("/f/x", "/b"), Told::Fault(Errno::ENOTDIR), (0, 0)),
+    (Ask::Rename("/a", "/a/b"), Told::Fault(Errno::EINVAL), (0, 0)),
+    (
+        Ask::Rename("/a", "/a/x/y"),
+        Told::Fault(Errno::EINVAL),
+        (0, 0),
+    ),
+    (
+        Ask::Rename("/f", "/f/x"),
+        Told::Fault(Errno::ENOTDIR),
+        (0, 0),
+    ),
+    (Ask::Rename("/f", "/b/x"), Told::Fault(Errno::ENOENT), (0, 0)),
+    (
+        Ask::Rename("/a", "/f/x"),
+        Told::Fault(Errno::ENOTDIR),
+        (0, 0),
+    ),
+    (Ask::Rename("/f", "/a"), Told::Fault(Errno::EISDIR), (0, 0)),
+    (Ask::Rename("/a", "/f"), Told::Fault(Errno::ENOTDIR), (0, 0)),
+    (
+        Ask::Rename("/a/d", "/a"),
+        Told::Fault(Errno::ENOTEMPTY),
+        (0, 0),
+    ),
+    (Ask::Rename("/a", "/a"), Told::Done, (0, 0)),
+    (Ask::Rename("/f", "/f"), Told::Done, (0, 0)),
+];
+
+#[test]
+fn a_move_that_is_refused_sends_nothing(rt: HostRuntime) {
+    assert_eq!(rt; answered(rt.alloc(), REFUSED_MOVES), REFUSED_MOVES.len());
+}
+
+const MOVES: &[Row] = &[
+    (Ask::Mkdir("/a"), Told::Done, (1, 0)),
+    (Ask::Create("/a/x"), Told::Done, (1, 0)),
+    (Ask::Write("/a/x", 0, b"\xaa"), Told::Count(1), (1, 1)),
+    (Ask::Mkdir("/a/d"), Told::Done, (1, 0)),
+    (Ask::Create("/a/d/y"), Told::Done, (1, 0)),
+    (
+        Ask::Write("/a/d/y", 4_095, b"\xbb\xcc"),
+        Told::Count(2),
+        (1, 2),
+    ),
+    (Ask::Create("/a-b"), Told::Done, (1, 0)),
+    (
+        Ask::Write("/a-b", 4_096, b"\xdd"),
+        Told::Count(1),
+        (1, 1),
+    ),
+    // four entries, three blocks, and a range-delete for each index
+    (Ask::Rename("/a", "/b"), Told::Done, (5, 4)),
+    (Ask::Stat("/a"), Told::Fault(Errno::ENOENT), (0, 0)),
+    (Ask::Stat("/a/x"), Told::Fault(Errno::ENOENT), (0, 0)),
+    (Ask::Read("/b/x", 0, 9), Told::Data(b"\xaa"), (0, 0)),
+    (
+        Ask::Read("/b/d/y", 4_094, 9),
+        Told::Data(b"\0\xbb\xcc"),
+        (0, 0),
+    ),
+    (
+        Ask::Read("/a-b", 4_095, 9),
+        Told::Data(b"\0\xdd"),
+        (0, 0),
+    ),
+    // one entry and one block, and the blocks of the file that is replaced
+    (Ask::Rename("/b/x", "/a-b"), Told::Done, (2, 3)),
+    (Ask::Read("/a-b", 0, 9), Told::Data(b"\xaa"), (0, 0)),
+    (Ask::Truncate("/a-b", 4_098), Told::Done, (1, 0)),
+    (
+        Ask::Read("/a-b", 4_095, 9),
+        Told::Data(b"\0\0\0"),
+        (0, 0),
+    ),
+    (Ask::Mkdir("/e"), Told::Done, (1, 0)),
+    (Ask::Rename("/b/d", "/e"), Told::Done, (3, 3)),
+    (
+        Ask::Read("/e/y", 4_094, 9),
+        Told::Data(b"\0\xbb\xcc"),
+        (0, 0),
+    ),
+    (Ask::Rmdir("/b"), Told::Done, (1, 0)),
+];
+
+#[test]
+fn a_move_is_one_message_for_each_pair_and_the_ranges(rt: HostRuntime) {
+    assert_eq!(rt; answered(rt.alloc(), MOVES), MOVES.len());
+}

@@ -176,6 +176,77 @@ fn answers_lines_of_bytes(rt: HostRuntime) {
     }
 }
 
+const MOVES: &[Row] = &[
+    (
+        "mkdir /a\nmkdir /a/b\nrename /a /a/b/c\nrename /a /a\nreaddir /a\n",
+        "ok\nok\nfault EINVAL\nok\nnames 1\nd b\n",
+    ),
+    (
+        "mkdir /p\nmkdir /q\nmkdir /r\ncreate /r/k\ncreate /s\nrename /p /r\nrename /p /s\nrename /p /q\nreaddir /\n",
+        "ok\nok\nok\nok\nok\nfault ENOTEMPTY\nfault ENOTDIR\nok\nnames 3\nd q\nd r\nf s\n",
+    ),
+    (
+        "mkdir /a\ncreate /a/f\nmkdir /a/d\nrename /a/f /a\nrename /a/d /a\nrename /a/d /\nrename / /b\n",
+        "ok\nok\nok\nfault EISDIR\nfault ENOTEMPTY\nfault ENOTEMPTY\nfault EBUSY\n",
+    ),
+    (
+        "create /f\nwrite /f 0 aa\ncreate /g\nwrite /g 5000 bb\nrename /f /g\nread /g 0 6000\nstat /f\ntruncate /g 5001\nread /g 5000 1\n",
+        "ok\ncount 1\nok\ncount 1\nok\nbytes aa\nfault ENOENT\nok\nbytes 00\n",
+    ),
+    (
+        "mkdir /a\nmkdir /a/b\ncreate /a/b/f\nwrite /a/b/f 0 0a\nrename /a/b /b\nread /b/f 0 2\nreaddir /a\n",
+        "ok\nok\nok\ncount 1\nok\nbytes 0a\nnames 0\n",
+    ),
+    (
+        "mkdir /a\ncreate /a/x\ncreate /a-b\ncreate /ab\nrename /a /c\nreaddir /\nreaddir /c\n",
+        "ok\nok\nok\nok\nok\nnames 3\nf a-b\nf ab\nd c\nnames 1\nf x\n",
+    ),
+    // the words come before the paths, and the old path before the new one
+    (
+        "rename\nrename /a\nrename /a /b /c\nrename a /b\nrename /a b\nrename a/ /%00\nrename /b /c\n",
+        "error syntax\nerror syntax\nerror syntax\nfault EINVAL\nfault EINVAL\nfault EINVAL\nfault ENOENT\n",
+    ),
+];
+
+#[test]
+fn answers_moves(rt: HostRuntime) {
+    for (script, want) in MOVES {
+        assert!(rt;
+            is_answered(rt.alloc(), script.as_bytes(), want.as_bytes()),
+            "{script:?}"
+        );
+    }
+}
+
+/// Lines that make `/a` and below it a chain of four directories with names of 254 bytes, and then move it twice.
+fn chain(alloc: Global) -> Option<Vec<u8>> {
+    let mut script = Vec::from_slice(alloc, b"mkdir /a\n").ok()?;
+    let mut path = Vec::from_slice(alloc, b"/a").ok()?;
+    for _ in 0..4 {
+        path.push(b'/').ok()?;
+        let length = path.len().saturating_add(254);
+        path.resize(length, b'x').ok()?;
+        script.extend_from_slice(b"mkdir ").ok()?;
+        script.extend_from_slice(path.as_slice()).ok()?;
+        script.push(b'\n').ok()?;
+    }
+    script
+        .extend_from_slice(b"rename /a /abc\nrename /a /ab\n")
+        .ok()?;
+    Some(script)
+}
+
+#[test]
+fn a_move_to_too_long_a_text_is_refused(rt: HostRuntime) {
+    let wanted = b"ok\nok\nok\nok\nok\nfault ENAMETOOLONG\nok\n";
+    match chain(rt.alloc()) {
+        Some(script) => {
+            assert!(rt; is_answered(rt.alloc(), script.as_slice(), wanted));
+        }
+        None => assert!(rt; false, "no memory"),
+    }
+}
+
 /// The text `front`, lengthened to so many bytes by one letter; none where memory is refused.
 fn lengthened(alloc: Global, front: &str, length: usize, letter: u8) -> Option<Vec<u8>> {
     let mut line = Vec::from_slice(alloc, front.as_bytes()).ok()?;
