@@ -4,7 +4,7 @@ ghost use Rattle.node.specs.Lawful.{Rises};
 
 use node::node::leaf::{applied, divide, position};
 use pathkey::{Key, NoMemory};
-use samples::{Digit, Plain, batch, key, number};
+use samples::{Digit, Plain, are_numbered, batch, key, number};
 use std::alloc::Global;
 
 /// The entries after the messages.
@@ -33,19 +33,6 @@ fn even(alloc: Global) -> Result<Vec<(Key, u64)>, NoMemory>
         Plain::Put(4, 40),
     ];
     after(alloc, &[], &puts)
-}
-
-/// Whether the entries have these numbers.
-fn are_numbered(entries: &[(Key, u64)], wanted: &[(u8, u64)]) -> bool {
-    if entries.len() != wanted.len() {
-        return false;
-    }
-    for (entry, numbers) in entries.iter().zip(wanted) {
-        if number(&entry.0) != numbers.0 || entry.1 != numbers.1 {
-            return false;
-        }
-    }
-    true
 }
 
 /// Two messages, and what the four entries are after them.

@@ -1,23 +1,10 @@
 //! First pairs through many messages, beside the same messages laid on a plain row of numbers.
 use crate::trees::{append, small_tree};
 use node::Tree;
-use pathkey::{Key, KeyRange};
-use samples::{Digit, Plain, Random, Row, number, range};
+use pathkey::KeyRange;
+use samples::{Digit, Plain, Random, Row, are_numbered, number, range};
 use scan::{first_in, scan};
 use std::alloc::Global;
-
-/// Whether the pairs have these numbers.
-fn are_numbered(pairs: &[(Key, u64)], wanted: &[(u8, u64)]) -> bool {
-    if pairs.len() != wanted.len() {
-        return false;
-    }
-    for (pair, numbers) in pairs.iter().zip(wanted) {
-        if number(&pair.0) != numbers.0 || pair.1 != numbers.1 {
-            return false;
-        }
-    }
-    true
-}
 
 /// Whether a range of a tree has these pairs, of which at most so many are asked for.
 fn holds(

@@ -105,15 +105,6 @@ pub fn batch(alloc: Global, plain: &[Plain]) -> Result<Vec<Msg<Digit>>, NoMemory
     Ok(msgs)
 }
 
-/// Pairs with numbers for their keys.
-pub fn numbers(alloc: Global, pairs: &[(Key, u64)]) -> Result<Vec<(u8, u64)>, NoMemory> {
-    let mut found = Vec::new(alloc);
-    for pair in pairs {
-        found.push((number(&pair.0), pair.1))?;
-    }
-    Ok(found)
-}
-
 /// Whether the messages have these plain forms, in their order.
 pub fn are(msgs: &[Msg<Digit>], plain: &[Plain]) -> bool {
     if msgs.len() != plain.len() {
@@ -121,6 +112,19 @@ pub fn are(msgs: &[Msg<Digit>], plain: &[Plain]) -> bool {
     }
     for (msg, wanted) in msgs.iter().zip(plain) {
         if Plain::of(msg) != *wanted {
+            return false;
+        }
+    }
+    true
+}
+
+/// Whether the pairs are these, with numbers for their keys.
+pub fn are_numbered(pairs: &[(Key, u64)], wanted: &[(u8, u64)]) -> bool {
+    if pairs.len() != wanted.len() {
+        return false;
+    }
+    for (pair, numbers) in pairs.iter().zip(wanted) {
+        if number(&pair.0) != numbers.0 || pair.1 != numbers.1 {
             return false;
         }
     }

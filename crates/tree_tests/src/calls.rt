@@ -9,8 +9,9 @@ use reference::plain::World;
 use reference::plain::reading::stat;
 use reference::{Call, Reply};
 use samples::Random;
-use shell::{Request, read_request, run_script, write_reply};
+use shell::{Request, ScriptFault, read_request, run_script, write_reply};
 use std::alloc::Global;
+use std::io::{Read, Write};
 use std::process::Abort;
 use std::test::Fail;
 
@@ -48,19 +49,30 @@ impl Course {
     }
 }
 
-/// The call that a line asks for, if it asks for one. It ensures nothing, so that no proof of a test reads what a line means.
-fn call_of(alloc: Global, line: &[u8]) -> Option<Call> {
-    match read_request(alloc, line) {
-        Request::Wanted(call) => Some(call),
-        _ => None,
-    }
+/// What a line asks for. It ensures nothing, so that no proof of a test reads what a line means; nor do the next ones.
+fn request_of(alloc: Global, line: &[u8]) -> Request {
+    read_request(alloc, line)
 }
 
-/// The text of a reply.
-fn text_of(alloc: Global, reply: &Reply) -> Result<Vec<u8>, Fail> {
-    let mut text = Vec::new(alloc);
-    write_reply(&mut text, reply)?;
-    Ok(text)
+/// Writes a reply; `false` where memory is refused.
+fn wrote(text: &mut Vec<u8>, reply: &Reply) -> bool {
+    write_reply(text, reply).is_ok()
+}
+
+/// Runs a script.
+fn run<R: Read, W: Write>(
+    alloc: Global,
+    indexes: &mut Indexes,
+    reader: &mut R,
+    writer: &mut W,
+) -> Result<(), ScriptFault> {
+    run_script(alloc, indexes, reader, writer)
+}
+
+/// Whether this is the text of a reply.
+fn is_told(alloc: Global, reply: &Reply, text: &[u8]) -> bool {
+    let mut wanted = Vec::new(alloc);
+    wrote(&mut wanted, reply) && wanted.as_slice() == text
 }
 
 /// Indexes on which a script runs, and the plain program under the same calls.
@@ -100,7 +112,7 @@ impl Both {
     fn script_text(&mut self, alloc: Global, line: &[u8]) -> Result<Vec<u8>, Fail> {
         let mut text = line;
         let mut got = Vec::new(alloc);
-        run_script(alloc, &mut self.indexes, &mut text, &mut got)?;
+        run(alloc, &mut self.indexes, &mut text, &mut got)?;
         Ok(got)
     }
 
@@ -119,20 +131,41 @@ impl Both {
         Ok(reply)
     }
 
-    /// Does a line in both; whether the script's text is that of the plain program's reply.
+    /// Whether the plain program replies to a call as the text says.
+    fn replies(
+        &mut self,
+        alloc: Global,
+        call: &Call,
+        text: &[u8],
+        counts: &mut Counts,
+    ) -> Result<bool, Fail> {
+        let reply = self.plain_reply(alloc, call, counts)?;
+        Ok(is_told(alloc, &reply, text))
+    }
+
+    /// Does a line in the indexes and its call in the plain program; whether the script's text is that of the plain program's reply.
+    fn answer_alike(
+        &mut self,
+        alloc: Global,
+        line: &[u8],
+        call: &Call,
+        counts: &mut Counts,
+    ) -> Result<bool, Fail> {
+        let got = self.script_text(alloc, line)?;
+        self.replies(alloc, call, got.as_slice(), counts)
+    }
+
+    /// Whether a line asks for a call, and both answer it alike.
     fn answers_alike(
         &mut self,
         alloc: Global,
         line: &[u8],
         counts: &mut Counts,
     ) -> Result<bool, Fail> {
-        let Some(call) = call_of(alloc, line) else {
-            return Ok(false);
-        };
-        let got = self.script_text(alloc, line)?;
-        let reply = self.plain_reply(alloc, &call, counts)?;
-        let want = text_of(alloc, &reply)?;
-        Ok(got.as_slice() == want.as_slice())
+        match &request_of(alloc, line) {
+            Request::Wanted(call) => self.answer_alike(alloc, line, call, counts),
+            _ => Ok(false),
+        }
     }
 
     /// Tries steps on both trees.

@@ -13,14 +13,8 @@ const BEYOND: [u64; 2] = [1_099_511_627_777, u64::MAX];
 
 /// One of six names, of which some begin as others do.
 fn some_name(random: &mut Random) -> &'static str {
-    match random.below(6) {
-        0 => "a",
-        1 => "a!",
-        2 => "ab",
-        3 => "b",
-        4 => "ba",
-        _ => "c",
-    }
+    const NAMES: [&str; 6] = ["a", "a!", "ab", "b", "ba", "c"];
+    NAMES[random.below(6) as usize]
 }
 
 /// The text of so many names, each behind a slash.
