@@ -24,7 +24,7 @@ impl Population {
     }
 
     /// The path of a directory.
-    fn directory(self, alloc: Global, number: u64) -> Result<Path, NoMemory> {
+    pub fn directory(self, alloc: Global, number: u64) -> Result<Path, NoMemory> {
         let letter = self.letter;
         let number = number.checked_rem(self.directories).unwrap_or(0);
         path(alloc, &format!(in alloc; "/{letter}{number}")?)

@@ -4,7 +4,8 @@
 //! and prints nanoseconds an operation; `tree_bench tree` and `tree_bench map` do the appends alone, for a
 //! measurement of memory from outside. `tree_bench files` does file calls beside a map of the same paths, and
 //! `tree_bench bytes` writes and reads the bytes of files beside maps of the same blocks; `tree_bench bytes-tree` and
-//! `tree_bench bytes-map` do the writes of the long file alone.
+//! `tree_bench bytes-map` do the writes of the long file alone. `tree_bench subtrees` moves directories and files, and takes
+//! directories out, beside the same maps.
 #![tactic(auto)]
 
 pub mod contents;
@@ -12,6 +13,7 @@ pub mod files;
 pub mod maps;
 pub mod measure;
 pub mod number;
+pub mod subtrees;
 pub mod work;
 
 use crate::contents::{
@@ -20,7 +22,8 @@ use crate::contents::{
 use crate::files::{create, list, make_directories, stat};
 use crate::maps::Maps;
 use crate::measure::{
-    LONG, MESSAGES, SMALL, appends, file_calls, long_file, look_ups, small_writes,
+    LONG, MESSAGES, SMALL, appends, directory_move, file_calls, long_file, long_move, look_ups,
+    removals, small_writes,
 };
 use crate::work::{SHAPE, append, insert, look_up, new_tree, settle};
 use call_compiler::Indexes;
@@ -47,6 +50,12 @@ fn do_work(rt: &HostRuntime, word: &str) -> anyhow::Result<()> {
             appends(rt, alloc)?;
         }
         "files" => file_calls(rt, alloc)?,
+        "subtrees" => {
+            removals(rt, alloc, 1_000)?;
+            removals(rt, alloc, 100_000)?;
+            directory_move(rt, alloc)?;
+            long_move(rt, alloc)?;
+        }
         "bytes" => {
             small_writes(rt, alloc)?;
             long_file(rt, alloc)?;

@@ -5,10 +5,14 @@ use crate::contents::{
 };
 use crate::files::{Population, create, create_in_map, list, make_directories, stat, stat_in_map};
 use crate::maps::Maps;
+use crate::subtrees::{
+    MOVED, MOVED_TO, Subtrees, Way, count_full, directory_of, full_indexes, full_maps,
+    long_indexes, long_maps, settle_both, settled_indexes,
+};
 use crate::work::{SHAPE, append, insert, look_up, look_up_map, new_tree, settle};
 use call_compiler::Indexes;
 use meta_index::Meta;
-use pathkey::Key;
+use pathkey::{Key, Path};
 use std::alloc::Global;
 use std::collections::BTreeMap;
 use std::rt::Clock;
@@ -199,4 +203,116 @@ fn show_speed(rt: &impl Print, work: &str, time: Duration) -> anyhow::Result<()>
         .unwrap_or(0);
     println!(rt; "{work}: {piece} ns a piece, {speed} MiB/s")?;
     Ok(())
+}
+
+/// How long the steps take that settle both trees.
+fn time_settling(
+    rt: &impl Clock,
+    alloc: Global,
+    indexes: &mut Indexes,
+) -> anyhow::Result<Duration> {
+    let start = Instant::now(rt)?;
+    settle_both(alloc, indexes);
+    Ok(start.elapsed(rt)?)
+}
+
+/// How long a move takes.
+fn time_move<S: Subtrees>(
+    rt: &impl Clock,
+    alloc: Global,
+    store: &mut S,
+    way: &Way,
+) -> anyhow::Result<Duration> {
+    let start = Instant::now(rt)?;
+    store.rename(alloc, way)?;
+    Ok(start.elapsed(rt)?)
+}
+
+/// How long it takes to take out all at and below a path.
+fn time_removal<S: Subtrees>(
+    rt: &impl Clock,
+    alloc: Global,
+    store: &mut S,
+    path: &Path,
+) -> anyhow::Result<Duration> {
+    let start = Instant::now(rt)?;
+    store.rmtree(alloc, path)?;
+    Ok(start.elapsed(rt)?)
+}
+
+/// Prints the time of one call on indexes, that of the steps that settle them after it, and that of the same on maps.
+fn show_call(rt: &impl Print, work: &str, times: [Duration; 3]) -> anyhow::Result<()> {
+    let [call, steps, maps] = times.map(|time| time.as_micros());
+    println!(rt; "{work}: {call} us, then {steps} us of steps; maps {maps} us")?;
+    Ok(())
+}
+
+/// A move on indexes and on maps.
+fn show_move(
+    rt: &(impl Clock + Print),
+    alloc: Global,
+    indexes: &mut Indexes,
+    maps: &mut Maps,
+    way: &Way,
+) -> anyhow::Result<()> {
+    let call = time_move(rt, alloc, indexes, way)?;
+    let steps = time_settling(rt, alloc, indexes)?;
+    let on_maps = time_move(rt, alloc, maps, way)?;
+    show_call(rt, "rename", [call, steps, on_maps])
+}
+
+/// A removal on indexes and on maps.
+fn show_removal(
+    rt: &(impl Clock + Print),
+    alloc: Global,
+    indexes: &mut Indexes,
+    maps: &mut Maps,
+    path: &Path,
+) -> anyhow::Result<()> {
+    let call = time_removal(rt, alloc, indexes, path)?;
+    let steps = time_settling(rt, alloc, indexes)?;
+    let on_maps = time_removal(rt, alloc, maps, path)?;
+    show_call(rt, "rmtree", [call, steps, on_maps])
+}
+
+/// A directory of so many files, taken out.
+pub fn removals(rt: &(impl Clock + Print), alloc: Global, files: u64) -> anyhow::Result<()> {
+    let population = directory_of(files);
+    println!(rt; "a directory of {files} files")?;
+    let mut indexes = settled_indexes(alloc, population)?;
+    let mut maps = Maps::with_files(alloc, population)?;
+    let path = population.directory(alloc, 0)?;
+    show_removal(rt, alloc, &mut indexes, &mut maps, &path)
+}
+
+/// A directory of many files with a block each, moved.
+pub fn directory_move(rt: &(impl Clock + Print), alloc: Global) -> anyhow::Result<()> {
+    println!(rt; "a directory of 10000 files with a block each")?;
+    let mut indexes = full_indexes(alloc, MOVED)?;
+    let mut maps = full_maps(alloc, MOVED)?;
+    let way = Way::of_directory(alloc)?;
+    show_move(rt, alloc, &mut indexes, &mut maps, &way)?;
+    show_moved(rt, alloc, &indexes, &maps)
+}
+
+/// How many files have their block after the move.
+fn show_moved(
+    rt: &impl Print,
+    alloc: Global,
+    indexes: &Indexes,
+    maps: &Maps,
+) -> anyhow::Result<()> {
+    let here = count_full(alloc, indexes, MOVED_TO)?;
+    let there = count_full(alloc, maps, MOVED_TO)?;
+    println!(rt; "{here} and {there} files have their bytes")?;
+    Ok(())
+}
+
+/// The long file, moved.
+pub fn long_move(rt: &(impl Clock + Print), alloc: Global) -> anyhow::Result<()> {
+    println!(rt; "a file of 256 MiB")?;
+    let mut indexes = long_indexes(alloc, LONG)?;
+    let mut maps = long_maps(alloc, LONG)?;
+    let way = Way::of_long_file(alloc)?;
+    show_move(rt, alloc, &mut indexes, &mut maps, &way)
 }
