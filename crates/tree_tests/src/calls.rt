@@ -1,6 +1,6 @@
 //! A long script line by line, with steps of the trees between, beside the plain program.
-use crate::outcomes::{Counts, Outcome};
-use crate::some_lines::some_line;
+use crate::outcomes::{Before, Counts, Outcome};
+use crate::some_lines::{kind_at, some_line};
 use crate::some_steps::{Done, ROOMY, try_step};
 use call_compiler::Indexes;
 use message::Update;
@@ -108,6 +108,19 @@ impl Both {
         }
     }
 
+    /// What stands where a call will change something.
+    fn before(&self, call: &Call) -> Before {
+        let (old, new) = match call {
+            Call::Rename(old, new) => (
+                kind_at(self.plain.live(), old),
+                kind_at(self.plain.live(), new),
+            ),
+            _ => (None, None),
+        };
+        let length = self.length(call);
+        Before { length, old, new }
+    }
+
     /// What the indexes answer to a line.
     fn script_text(&mut self, alloc: Global, line: &[u8]) -> Result<Vec<u8>, Fail> {
         let mut text = line;
@@ -123,9 +136,10 @@ impl Both {
         call: &Call,
         counts: &mut Counts,
     ) -> Result<Reply, Fail> {
-        let length = self.length(call);
+        counts.ask(call);
+        let before = self.before(call);
         let reply = self.plain.call(alloc, call)?;
-        if let Some(outcome) = Outcome::of(call, length, &reply) {
+        if let Some(outcome) = Outcome::of(call, before, &reply) {
             counts.count(outcome);
         }
         Ok(reply)
@@ -185,7 +199,7 @@ impl Both {
         counts: &mut Counts,
     ) -> Result<Option<String>, Fail> {
         for _ in 0..lines {
-            let line = some_line(alloc, random)?;
+            let line = some_line(alloc, random, self.plain.live())?;
             if !self.answers_alike(alloc, line.as_bytes(), counts)? {
                 return Ok(Some(line));
             }
@@ -202,14 +216,15 @@ fn a_script_answers_as_the_plain_program(rt: HostRuntime) -> Result<(), Fail> {
     let alloc = rt.alloc();
     let mut random = Random(5);
     let mut both = Both::new(alloc)?;
-    for _ in 0..4 {
-        let mut counts = Counts::new();
-        assert_eq!(rt;
-            both.run(&rt, alloc, &mut random, 5_000, &mut counts)?,
-            None
-        );
-        assert!(rt; counts.rarest() >= 5, "{counts:?}");
-    }
+    let mut counts = Counts::new();
+    assert_eq!(rt;
+        both.run(&rt, alloc, &mut random, 20_000, &mut counts)?,
+        None
+    );
+    assert!(rt;
+        counts.rarest() >= 10 && counts.has_moved_a_third(),
+        "{counts:?}"
+    );
     let Both { meta, block, .. } = &both;
     assert!(rt; meta.steps.all() >= 1_000 && meta.levels >= 3, "{meta:?}");
     assert!(rt;

@@ -18,6 +18,16 @@ pub enum Outcome {
     TreeRemoved,
     /// A file was taken out.
     Unlinked,
+    /// A file was moved to a free name.
+    MovedFile,
+    /// A directory was moved to a free name.
+    MovedDirectory,
+    /// A file was replaced by another.
+    ReplacedFile,
+    /// An empty directory was replaced by another.
+    ReplacedDirectory,
+    /// What was moved to itself stayed.
+    Unmoved,
     /// A file was cut.
     Shortened,
     /// A file was lengthened by a truncate.
@@ -56,7 +66,9 @@ pub enum Outcome {
     Full,
     /// `EPERM`.
     Forbidden,
-    /// `EINVAL`.
+    /// `EINVAL` of a move below itself.
+    BelowItself,
+    /// `EINVAL` of another call.
     Invalid,
     /// `EFBIG`.
     TooLarge,
@@ -64,32 +76,57 @@ pub enum Outcome {
     Busy,
 }
 
+/// What stood before a call at its path, or at the new path of a move.
+#[derive(Clone, Copy)]
+pub struct Before {
+    /// The length of the file that is cut or lengthened.
+    pub length: u64,
+    /// What stood at the old path of a move.
+    pub old: Option<Kind>,
+    /// What stood at the new path of a move.
+    pub new: Option<Kind>,
+}
+
 impl Outcome {
-    /// What came of a call at a path where a file of so many bytes stood, if one stood there.
-    pub fn of(call: &Call, length: u64, reply: &Reply) -> Option<Outcome> {
+    /// What came of a call.
+    pub fn of(call: &Call, before: Before, reply: &Reply) -> Option<Outcome> {
         match reply {
-            Reply::Done => Outcome::of_change(call, length),
+            Reply::Done => Outcome::of_change(call, before),
             Reply::Count(count) => Outcome::of_write(call, *count),
             Reply::Data(bytes) => Outcome::of_read(call, bytes.as_slice()),
             Reply::Stat(Kind::Dir, _) => Some(Outcome::FoundDirectory),
             Reply::Stat(Kind::File, _) => Some(Outcome::FoundFile),
             Reply::Names(names) if names.as_slice().is_empty() => Some(Outcome::ListedNone),
             Reply::Names(_) => Some(Outcome::ListedSome),
-            Reply::Fault(fault) => Outcome::of_fault(*fault),
+            Reply::Fault(fault) => Outcome::of_fault(call, *fault),
         }
     }
 
     /// What came of a call that was done and had nothing to tell.
-    fn of_change(call: &Call, length: u64) -> Option<Outcome> {
+    fn of_change(call: &Call, before: Before) -> Option<Outcome> {
+        let length = before.length;
         match call {
             Call::Mkdir(_) => Some(Outcome::Made),
             Call::Create(_) => Some(Outcome::Created),
             Call::Rmdir(_) => Some(Outcome::Removed),
             Call::Rmtree(_) => Some(Outcome::TreeRemoved),
             Call::Unlink(_) => Some(Outcome::Unlinked),
+            Call::Rename(old, new) if old.key() == new.key() => Some(Outcome::Unmoved),
+            Call::Rename(_, _) => Outcome::of_move(before),
             Call::Truncate(_, new) if *new < length => Some(Outcome::Shortened),
             Call::Truncate(_, new) if *new > length => Some(Outcome::Lengthened),
             _ => None,
+        }
+    }
+
+    /// What came of a move that was done.
+    fn of_move(before: Before) -> Option<Outcome> {
+        match (before.old, before.new) {
+            (_, Some(Kind::File)) => Some(Outcome::ReplacedFile),
+            (_, Some(Kind::Dir)) => Some(Outcome::ReplacedDirectory),
+            (Some(Kind::File), None) => Some(Outcome::MovedFile),
+            (Some(Kind::Dir), None) => Some(Outcome::MovedDirectory),
+            (None, None) => None,
         }
     }
 
@@ -122,8 +159,9 @@ impl Outcome {
     }
 
     /// The refusal; none where the script asks for no call that is so refused.
-    fn of_fault(fault: Errno) -> Option<Outcome> {
+    fn of_fault(call: &Call, fault: Errno) -> Option<Outcome> {
         match fault {
+            Errno::EINVAL if matches!(call, Call::Rename(_, _)) => Some(Outcome::BelowItself),
             Errno::ENOENT => Some(Outcome::Missing),
             Errno::ENOTDIR => Some(Outcome::Blocked),
             Errno::EISDIR => Some(Outcome::Directory),
@@ -140,24 +178,60 @@ impl Outcome {
 
 /// How often each outcome came, in the order of the outcomes.
 #[derive(Debug, Drop)]
-pub struct Counts([u32; 27]);
+pub struct Counts {
+    /// How often each came.
+    times: [u32; 33],
+    /// How many moves were asked for.
+    asked: u32,
+}
 
 impl Counts {
     /// Nothing came yet.
     pub fn new() -> Counts {
-        Counts([0; 27])
+        Counts {
+            times: [0; 33],
+            asked: 0,
+        }
     }
 
     /// Counts an outcome.
     pub fn count(&mut self, outcome: Outcome) {
-        let counter = &mut self.0[outcome as usize];
+        let counter = &mut self.times[outcome as usize];
         *counter = counter.saturating_add(1);
+    }
+
+    /// Counts a move that is asked for.
+    pub fn ask(&mut self, call: &Call) {
+        if matches!(call, Call::Rename(_, _)) {
+            self.asked = self.asked.saturating_add(1);
+        }
+    }
+
+    /// Whether of three moves one or more were done to another path.
+    pub fn has_moved_a_third(&self) -> bool {
+        self.moves().saturating_mul(3) >= self.asked
+    }
+
+    /// How often an outcome came.
+    fn times(&self, outcome: Outcome) -> u32 {
+        self.times[outcome as usize]
+    }
+
+    /// How many moves were done to another path.
+    fn moves(&self) -> u32 {
+        let free = self
+            .times(Outcome::MovedFile)
+            .saturating_add(self.times(Outcome::MovedDirectory));
+        let replaced = self
+            .times(Outcome::ReplacedFile)
+            .saturating_add(self.times(Outcome::ReplacedDirectory));
+        free.saturating_add(replaced)
     }
 
     /// How often the rarest outcome came.
     pub fn rarest(&self) -> u32 {
         let mut least = u32::MAX;
-        for count in self.0 {
+        for count in self.times {
             least = least.min(count);
         }
         least

@@ -1,6 +1,9 @@
 //! Lines of a script that ask for the file calls, at paths and places that look random.
 use hex::encode;
-use reference::GREATEST_READ;
+use pathkey::Path;
+use reference::plain::Tree;
+use reference::plain::reading::stat;
+use reference::{GREATEST_READ, Kind, Reply};
 use samples::Random;
 use std::alloc::Global;
 use std::test::Fail;
@@ -10,6 +13,9 @@ const BLOCK_ENDS: [u64; 6] = [4_094, 4_095, 4_096, 4_097, 8_191, 8_192];
 
 /// Places behind the longest file.
 const BEYOND: [u64; 2] = [1_099_511_627_777, u64::MAX];
+
+/// How often a path is guessed again that is not as wanted.
+const GUESSES: u32 = 16;
 
 /// One of six names, of which some begin as others do.
 fn some_name(random: &mut Random) -> &'static str {
@@ -59,7 +65,7 @@ fn some_count(random: &mut Random) -> u64 {
     match random.below(16) {
         0..=1 => 4_096,
         2..=5 => GREATEST_READ,
-        6 => GREATEST_READ + 1,
+        6..=8 => GREATEST_READ + 1,
         _ => random.below(9) as u64,
     }
 }
@@ -68,7 +74,7 @@ fn some_count(random: &mut Random) -> u64 {
 /// in gaps alone.
 fn some_bytes(alloc: Global, random: &mut Random) -> Result<String, Fail> {
     let count = match random.below(16) {
-        0 => 8_185 + random.below(16),
+        0..=1 => 8_185 + random.below(16),
         _ => random.below(6),
     };
     if count == 0 {
@@ -79,6 +85,94 @@ fn some_bytes(alloc: Global, random: &mut Random) -> Result<String, Fail> {
         bytes.push(1 + random.below(255) as u8)?;
     }
     Ok(encode(alloc, bytes)?)
+}
+
+/// What stands at a path; none where nothing does.
+pub fn kind_at(tree: &Tree, path: &Path) -> Option<Kind> {
+    match stat(tree, path) {
+        Reply::Stat(kind, _) => Some(kind),
+        _ => None,
+    }
+}
+
+/// Whether something stands at the path of the text.
+fn stands(alloc: Global, tree: &Tree, text: &str) -> bool {
+    match Path::parse(alloc, text.as_bytes()) {
+        Ok(path) => kind_at(tree, &path).is_some(),
+        Err(_) => false,
+    }
+}
+
+/// Whether an entry may be put at the path of the text: a directory stands above it.
+fn has_directory_above(alloc: Global, tree: &Tree, text: &str) -> bool {
+    let Some((above, _)) = text.rsplit_once('/') else {
+        return false;
+    };
+    match Path::parse(alloc, above.as_bytes()) {
+        Ok(path) => kind_at(tree, &path) == Some(Kind::Dir),
+        Err(_) => above.is_empty(),
+    }
+}
+
+/// A path of a directory or a file.
+fn some_entry(alloc: Global, random: &mut Random) -> Result<String, Fail> {
+    if random.below(2) == 0 {
+        some_path(alloc, random)
+    } else {
+        some_file(alloc, random)
+    }
+}
+
+/// A path at which something stands, if a few guesses find one.
+fn some_old(alloc: Global, random: &mut Random, tree: &Tree) -> Result<String, Fail> {
+    for _ in 0..GUESSES {
+        let text = some_entry(alloc, random)?;
+        if stands(alloc, tree, text.as_str()) {
+            return Ok(text);
+        }
+    }
+    some_entry(alloc, random)
+}
+
+/// A path like the old one, that of a file or of a directory, which lies below a directory, if a few guesses find one.
+fn some_new(alloc: Global, random: &mut Random, tree: &Tree, old: &str) -> Result<String, Fail> {
+    let of_file = old.ends_with("/f") || old.ends_with("/f!");
+    for _ in 0..GUESSES {
+        let depth = 1 + random.below(2);
+        let text = if of_file {
+            some_file(alloc, random)?
+        } else {
+            some_names(alloc, random, depth)?
+        };
+        if has_directory_above(alloc, tree, text.as_str()) {
+            return Ok(text);
+        }
+    }
+    some_entry(alloc, random)
+}
+
+/// A path below another.
+fn some_below(alloc: Global, random: &mut Random, text: &str) -> Result<String, Fail> {
+    let name = some_name(random);
+    let front = if text == "/" { "" } else { text };
+    Ok(format!(in alloc; "{front}/{name}")?)
+}
+
+/// A line that moves an entry, mostly to where it can stand, sometimes to itself or below itself. Of six one takes the entry out
+/// in its place, with all below it, since what was moved deep is met by no other line.
+fn rename_line(alloc: Global, random: &mut Random, tree: &Tree) -> Result<String, Fail> {
+    let old = some_old(alloc, random, tree)?;
+    if random.below(6) == 0 {
+        return Ok(format!(in alloc; "rmtree {old}")?);
+    }
+    let new = match random.below(16) {
+        0 => String::from_str(alloc, old.as_str())?,
+        1..=2 => some_below(alloc, random, old.as_str())?,
+        3 => some_entry(alloc, random)?,
+        4..=6 => some_old(alloc, random, tree)?,
+        _ => some_new(alloc, random, tree, old.as_str())?,
+    };
+    Ok(format!(in alloc; "rename {old} {new}")?)
 }
 
 /// A line that makes directories, takes them out or asks for what stands.
@@ -96,7 +190,7 @@ fn directory_line(alloc: Global, random: &mut Random) -> Result<String, Fail> {
 
 /// A line that writes to a file.
 fn write_line(alloc: Global, random: &mut Random, path: &str) -> Result<String, Fail> {
-    let place = some_place(random, 3);
+    let place = some_place(random, 6);
     let bytes = some_bytes(alloc, random)?;
     Ok(format!(in alloc; "write {path} {place} {bytes}")?)
 }
@@ -110,7 +204,7 @@ fn read_line(alloc: Global, random: &mut Random, path: &str) -> Result<String, F
 
 /// A line that makes a file, takes it out, or asks for its bytes or changes them.
 fn file_line(alloc: Global, random: &mut Random) -> Result<String, Fail> {
-    let path = if random.below(8) == 0 {
+    let path = if random.below(4) == 0 {
         some_path(alloc, random)?
     } else {
         some_file(alloc, random)?
@@ -128,11 +222,11 @@ fn file_line(alloc: Global, random: &mut Random) -> Result<String, Fail> {
     }
 }
 
-/// A line that asks for a file call.
-pub fn some_line(alloc: Global, random: &mut Random) -> Result<String, Fail> {
-    if random.below(2) == 0 {
-        directory_line(alloc, random)
-    } else {
-        file_line(alloc, random)
+/// A line that asks for a file call. Of sixteen one is a move in the tree, which mostly can be done.
+pub fn some_line(alloc: Global, random: &mut Random, tree: &Tree) -> Result<String, Fail> {
+    match random.below(16) {
+        0 => rename_line(alloc, random, tree),
+        1..=8 => directory_line(alloc, random),
+        _ => file_line(alloc, random),
     }
 }
