@@ -270,8 +270,16 @@ const REFUSED_MOVES: &[Row] = &[
     (Ask::Mkdir("/a"), Told::Done, (1, 0)),
     (Ask::Mkdir("/a/d"), Told::Done, (1, 0)),
     (Ask::Create("/f"), Told::Done, (1, 0)),
-    (Ask::Rename("/f/x", "/b"), Told::Fault(Errno::ENOTDIR), (0, 0)),
-    (Ask::Rename("/a", "/a/b"), Told::Fault(Errno::EINVAL), (0, 0)),
+    (
+        Ask::Rename("/f/x", "/b"),
+        Told::Fault(Errno::ENOTDIR),
+        (0, 0),
+    ),
+    (
+        Ask::Rename("/a", "/a/b"),
+        Told::Fault(Errno::EINVAL),
+        (0, 0),
+    ),
     (
         Ask::Rename("/a", "/a/x/y"),
         Told::Fault(Errno::EINVAL),
@@ -282,7 +290,11 @@ const REFUSED_MOVES: &[Row] = &[
         Told::Fault(Errno::ENOTDIR),
         (0, 0),
     ),
-    (Ask::Rename("/f", "/b/x"), Told::Fault(Errno::ENOENT), (0, 0)),
+    (
+        Ask::Rename("/f", "/b/x"),
+        Told::Fault(Errno::ENOENT),
+        (0, 0),
+    ),
     (
         Ask::Rename("/a", "/f/x"),
         Told::Fault(Errno::ENOTDIR),
@@ -316,11 +328,7 @@ const MOVES: &[Row] = &[
         (1, 2),
     ),
     (Ask::Create("/a-b"), Told::Done, (1, 0)),
-    (
-        Ask::Write("/a-b", 4_096, b"\xdd"),
-        Told::Count(1),
-        (1, 1),
-    ),
+    (Ask::Write("/a-b", 4_096, b"\xdd"), Told::Count(1), (1, 1)),
     // four entries, three blocks, and a range-delete for each index
     (Ask::Rename("/a", "/b"), Told::Done, (5, 4)),
     (Ask::Stat("/a"), Told::Fault(Errno::ENOENT), (0, 0)),
@@ -331,20 +339,12 @@ const MOVES: &[Row] = &[
         Told::Data(b"\0\xbb\xcc"),
         (0, 0),
     ),
-    (
-        Ask::Read("/a-b", 4_095, 9),
-        Told::Data(b"\0\xdd"),
-        (0, 0),
-    ),
+    (Ask::Read("/a-b", 4_095, 9), Told::Data(b"\0\xdd"), (0, 0)),
     // one entry and one block, and the blocks of the file that is replaced
     (Ask::Rename("/b/x", "/a-b"), Told::Done, (2, 3)),
     (Ask::Read("/a-b", 0, 9), Told::Data(b"\xaa"), (0, 0)),
     (Ask::Truncate("/a-b", 4_098), Told::Done, (1, 0)),
-    (
-        Ask::Read("/a-b", 4_095, 9),
-        Told::Data(b"\0\0\0"),
-        (0, 0),
-    ),
+    (Ask::Read("/a-b", 4_095, 9), Told::Data(b"\0\0\0"), (0, 0)),
     (Ask::Mkdir("/e"), Told::Done, (1, 0)),
     (Ask::Rename("/b/d", "/e"), Told::Done, (3, 3)),
     (
