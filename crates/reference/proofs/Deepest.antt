@@ -1,10 +1,10 @@
 -- The longest text from a tree down is that of a path at which something is seen.
-use Rattle.std.proofs.Common.{◌≡◌, ◌+◌, ◌<◌, [], ◌∷◌, length, max, true, false, Bool, cond, sym, ap, refl, ◌∙◌, subst, arith, Some, None}
+use Rattle.std.proofs.Common.{◌≡◌, ◌+◌, ◌<◌, [], ◌∷◌, length, true, false, Bool, cond, sym, ap, refl, ◌∙◌, subst, arith, Some, None}
 use Rattle.std.specs.Prelude.{fold, nat_le}
 use Rattle.std.proofs.lemmas.Bool.{leb-true, leb-false}
 use Rattle.pathkey.specs.Names.{text_len}
 use Rattle.pathkey.proofs.OrderFacts.{same_itself, same_true}
-use Rattle.reference.specs.Tree.{same, Name, Path, Tree, Dir, File, Entries, nothing, entry, named, Missing, found, onward}
+use Rattle.reference.specs.Tree.{same, Name, Path, Tree, Dir, File, Entries, nothing, entry, named, found, onward}
 use Rattle.reference.specs.Calls.{deepest, deepest_of}
 use Rattle.reference.specs.Looks.{Look, Directory, Bytes, seen, look}
 use Rattle.reference.specs.Shape.{Rising, RisingEntries}
