@@ -6,6 +6,8 @@
 #[cfg(test)]
 mod blocks;
 #[cfg(test)]
+mod command_lines;
+#[cfg(test)]
 mod compiled;
 #[cfg(test)]
 mod metadata;

@@ -8,3 +8,5 @@ pub mod Answering
 pub mod Reading
 pub mod Executing
 pub mod OneAnswer
+pub mod OptionFacts
+pub mod LineExamples

@@ -7,3 +7,4 @@ pub mod Script
 pub mod Runs
 pub mod Progress
 pub mod Meant
+pub mod CommandLine

@@ -1,0 +1,155 @@
+//! Command lines, what they ask for, and which are refused.
+use clap::Error;
+use clap::error::ErrorKind;
+use shell::{Options, read_words};
+use std::alloc::Global;
+
+/// A command line and what it asks for.
+#[derive(Debug)]
+struct Row {
+    words: &'static [&'static str],
+    /// Steps, fanout, pending and leaf.
+    numbers: [u16; 4],
+    image: bool,
+    script: Option<&'static str>,
+}
+
+const TAKEN: &[Row] = &[
+    Row {
+        words: &["betr"],
+        numbers: [0, 16, 256, 256],
+        image: false,
+        script: None,
+    },
+    Row {
+        words: &["betr", "--steps", "1000"],
+        numbers: [1_000, 16, 256, 256],
+        image: false,
+        script: None,
+    },
+    Row {
+        words: &["betr", "--fanout", "4"],
+        numbers: [0, 4, 256, 256],
+        image: false,
+        script: None,
+    },
+    Row {
+        words: &["betr", "--fanout=64"],
+        numbers: [0, 64, 256, 256],
+        image: false,
+        script: None,
+    },
+    Row {
+        words: &["betr", "--pending", "1024"],
+        numbers: [0, 16, 1_024, 256],
+        image: false,
+        script: None,
+    },
+    Row {
+        words: &["betr", "--leaf", "1024"],
+        numbers: [0, 16, 256, 1_024],
+        image: false,
+        script: None,
+    },
+    Row {
+        words: &["betr", "--image"],
+        numbers: [0, 16, 256, 256],
+        image: true,
+        script: None,
+    },
+    Row {
+        words: &["betr", "notes/script"],
+        numbers: [0, 16, 256, 256],
+        image: false,
+        script: Some("notes/script"),
+    },
+    Row {
+        words: &[
+            "betr",
+            "--fanout",
+            "4",
+            "--pending",
+            "4",
+            "--leaf",
+            "4",
+            "--steps",
+            "1",
+            "--image",
+            "script",
+        ],
+        numbers: [1, 4, 4, 4],
+        image: true,
+        script: Some("script"),
+    },
+];
+
+const REFUSED: &[&[&str]] = &[
+    &["betr", "--steps", "1001"],
+    &["betr", "--fanout", "3"],
+    &["betr", "--fanout", "65"],
+    &["betr", "--pending", "3"],
+    &["betr", "--pending", "1025"],
+    &["betr", "--leaf", "3"],
+    &["betr", "--leaf", "1025"],
+    &["betr", "--leaf", "many"],
+    &["betr", "--leaf", "4x"],
+    &["betr", "--leaf", ""],
+    &["betr", "--leaf"],
+    &["betr", "--leaf", "5", "--leaf", "6"],
+    &["betr", "--flushers", "1"],
+    &["betr", "--unknown"],
+    &["betr", "script", "another"],
+];
+
+/// Reads a command line. It ensures nothing, so that no proof of a test reads what a command line means.
+fn read<'a>(alloc: Global, words: &'a [&'a str]) -> Result<Options<'a>, Error> {
+    read_words(alloc, words)
+}
+
+/// Whether the command line asks for what the row says.
+fn is_taken(alloc: Global, row: &Row) -> bool {
+    match read(alloc, row.words) {
+        Ok(asked) => {
+            [asked.steps, asked.fanout, asked.pending, asked.leaf] == row.numbers
+                && asked.image == row.image
+                && asked.script == row.script
+        }
+        Err(_) => false,
+    }
+}
+
+/// Whether the command line is refused, with a text for standard error.
+fn is_refused(alloc: Global, words: &[&str]) -> bool {
+    match read(alloc, words) {
+        Ok(_) => false,
+        Err(error) => error.use_stderr() && !matches!(error.kind(), ErrorKind::OutOfMemory),
+    }
+}
+
+/// Whether the command line asks for help, which is a text for standard output.
+fn is_help(alloc: Global, words: &[&str]) -> bool {
+    match read(alloc, words) {
+        Ok(_) => false,
+        Err(error) => !error.use_stderr(),
+    }
+}
+
+#[test]
+fn reads_each_option(rt: HostRuntime) {
+    for row in TAKEN {
+        assert!(rt; is_taken(rt.alloc(), row), "{row:?}");
+    }
+}
+
+#[test]
+fn refuses_what_is_not_in_the_table(rt: HostRuntime) {
+    for words in REFUSED {
+        assert!(rt; is_refused(rt.alloc(), words), "{words:?}");
+    }
+}
+
+#[test]
+fn knows_help(rt: HostRuntime) {
+    assert!(rt; is_help(rt.alloc(), &["betr", "--help"]));
+    assert!(rt; is_help(rt.alloc(), &["betr", "-h", "--fanout", "8"]));
+}

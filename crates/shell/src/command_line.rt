@@ -1,0 +1,149 @@
+//! The command line of the program that runs scripts, read by `clap`.
+
+ghost use Rattle.std.specs.Prelude.{◌≡◌, codes, false, true, IfOk, IfErr, option_map};
+ghost use Rattle.std.specs.Int.{IsInRange};
+ghost use Rattle.clap.specs.Walk.{texts};
+ghost use Rattle.clap.specs.Words.{FailsBy, app_of, fault_of, found_of, kind_of, new_app, rows_of, rule_of, takes};
+ghost use Rattle.shell.specs.CommandLine.{IsParseOf, betr, is_on, number, option_rule, rows, switch_rule, text};
+
+use crate::help::{ABOUT, SCRIPTS};
+use clap::builder::ValueParser;
+use clap::error::ErrorKind;
+use clap::{Arg, ArgAction, ArgMatches, Command, Error, value_parser};
+use std::alloc::{AllocError, Global};
+
+/// What the words of a command line ask for.
+#[derive(Debug, Drop)]
+pub struct Options<'a> {
+    /// How many tree steps follow each line, 0 to 1,000.
+    pub steps: u16,
+    /// How many slots an inner node has at most, 4 to 64.
+    pub fanout: u16,
+    /// How many pending pieces a node below the root has at most, 4 to 1,024.
+    pub pending: u16,
+    /// How many entries a leaf has at most, 4 to 1,024.
+    pub leaf: u16,
+    /// Whether the image of the tree is printed after the replies.
+    pub image: bool,
+    /// The file with the script; standard input where there is none.
+    pub script: Option<&'a str>,
+}
+
+/// Reads a command line, of which the first word is the program's name. Of help asked for, and of words that are refused, the error
+/// has the text; its kind tells want of memory.
+pub fn read_words<'a>(alloc: Global, words: &'a [&'a str]) -> Result<Options<'a>, Error>
+    ensures steps { IfOk result (λ o. (o.steps ≡ number (codes "steps") 0 (texts words.entry.now)) × IsInRange 0 1000 o.steps) }
+    ensures fanout { IfOk result (λ o. (o.fanout ≡ number (codes "fanout") 16 (texts words.entry.now)) × IsInRange 4 64 o.fanout) }
+    ensures pending { IfOk result (λ o. (o.pending ≡ number (codes "pending") 256 (texts words.entry.now)) × IsInRange 4 1024 o.pending) }
+    ensures leaf { IfOk result (λ o. (o.leaf ≡ number (codes "leaf") 256 (texts words.entry.now)) × IsInRange 4 1024 o.leaf) }
+    ensures image { IfOk result (λ o. o.image ≡ is_on (codes "image") (texts words.entry.now)) }
+    ensures script { IfOk result (λ o. option_map (λ s. s.now) o.script ≡ text (codes "SCRIPT") (texts words.entry.now)) }
+    ensures memory { IfErr result (λ e. takes betr (texts words.entry.now) ≡ true → kind_of e ≡ ErrorKind.OutOfMemory) }
+    ensures kinds { FailsBy (fault_of betr (texts words.entry.now)) result }
+{
+    let matches = parsed(alloc, words)?;
+    Ok(Options {
+        steps: matches.get_one::<u16>("steps").unwrap_or(0),
+        fanout: matches.get_one::<u16>("fanout").unwrap_or(16),
+        pending: matches.get_one::<u16>("pending").unwrap_or(256),
+        leaf: matches.get_one::<u16>("leaf").unwrap_or(256),
+        image: matches.get_flag("image"),
+        script: matches.get_str("SCRIPT"),
+    })
+}
+
+/// What `clap` finds among the words.
+fn parsed<'a>(alloc: Global, words: &'a [&'a str]) -> Result<ArgMatches<'a>, Error>
+    ensures parse { IfOk result (λ m. IsParseOf betr m) }
+    ensures rows { IfOk result (λ m. rows_of (found_of m) ≡ rows (texts words.entry.now)) }
+    ensures memory { IfErr result (λ e. takes betr (texts words.entry.now) ≡ true → kind_of e ≡ ErrorKind.OutOfMemory) }
+    ensures kinds { FailsBy (fault_of betr (texts words.entry.now)) result }
+{
+    command(alloc)?.try_get_matches_from(words)
+}
+
+/// The options and the argument that are known.
+fn command<'a>(alloc: Global) -> Result<Command<'a>, AllocError>
+    ensures { IfOk result (λ c. app_of c ≡ betr) }
+{
+    let steps = option(
+        alloc,
+        "steps",
+        "N",
+        value_parser!(u16).range(0..=1000),
+        "Steps of tidying after each line, 0 to 1000 [default: 0]",
+    );
+    let fanout = option(
+        alloc,
+        "fanout",
+        "F",
+        value_parser!(u16).range(4..=64),
+        "Slots of an inner node, 4 to 64 [default: 16]",
+    );
+    let pending = option(
+        alloc,
+        "pending",
+        "P",
+        value_parser!(u16).range(4..=1024),
+        "Pending pieces of a node, 4 to 1024 and at least F [default: 256]",
+    );
+    let leaf = option(
+        alloc,
+        "leaf",
+        "E",
+        value_parser!(u16).range(4..=1024),
+        "Entries of a leaf, 4 to 1024 [default: 256]",
+    );
+    let image = switch(
+        alloc,
+        "image",
+        "Print the whole tree as text after the replies",
+    );
+    let script = Arg::new(alloc, "SCRIPT").help("File with the script [default: standard input]");
+    Ok(
+        program(alloc)
+            .arg(steps)?
+            .arg(fanout)?
+            .arg(pending)?
+            .arg(leaf)?
+            .arg(image)?
+            .arg(script)?,
+    )
+}
+
+/// The program by its name, with its help around the options.
+fn program<'a>(alloc: Global) -> Command<'a>
+    ensures { app_of result ≡ new_app (codes "betr") }
+{
+    Command::new(alloc, "betr").about(ABOUT).after_help(SCRIPTS)
+}
+
+/// An option with a value.
+fn option<'a>(
+    alloc: Global,
+    id: &'a str,
+    value: &'a str,
+    parser: ValueParser<'a>,
+    help: &'a str,
+) -> Arg<'a>
+    ensures rule { rule_of result ≡ option_rule id.entry.now parser.entry }
+    ensures local { result.global ≡ false }
+{
+    Arg::new(alloc, id)
+        .long(id)
+        .value_name(value)
+        .value_parser(parser)
+        .help(help)
+}
+
+/// An option without a value. Its parser is named, so that its rule says that its text is `true` or `false`.
+fn switch<'a>(alloc: Global, id: &'a str, help: &'a str) -> Arg<'a>
+    ensures rule { rule_of result ≡ switch_rule id.entry.now }
+    ensures local { result.global ≡ false }
+{
+    Arg::new(alloc, id)
+        .long(id)
+        .action(ArgAction::SetTrue)
+        .value_parser(value_parser!(bool))
+        .help(help)
+}

@@ -1,0 +1,54 @@
+//! What help says beside the options.
+
+/// The first lines of help.
+pub const ABOUT: &str = "\
+Runs a script of file calls over a new, empty file system held in memory,
+and prints the reply to each line.";
+
+/// The last lines of help: what a script is.
+pub const SCRIPTS: &str = "\
+Scripts:
+  A script is a text. Each line asks for one thing, which is done and answered
+  before the next line is read. An empty line and a line that begins with #
+  are passed over.
+
+  A path P is / or names behind slashes, as /a/x; a space in it is written %20.
+  OFF, LEN and N are numbers of bytes. HEX is bytes in hexadecimal, or - for
+  none. S is the name of a snapshot: letters, digits, '.', '_' and '-'.
+
+  Line              Reply           What is done
+  mkdir P           ok              make a directory
+  create P          ok              make an empty file
+  write P OFF HEX   count N         write bytes into a file, from OFF on
+  read P OFF N      bytes HEX       read at most N bytes of a file, from OFF on
+  truncate P LEN    ok              cut a file, or lengthen it by zeros, to LEN
+  stat P            dir 0           tell that a directory stands there,
+                    file N          or a file of N bytes
+  readdir P         names K         list a directory of K entries:
+                    d NAME          one line for each directory in it,
+                    f NAME          and for each file
+  rename P P        ok              move a file, or a directory with all below
+  unlink P          ok              remove a file
+  rmdir P           ok              remove an empty directory
+  rmtree P          ok              remove a file, or a directory with all below
+  snapshot S        ok              keep the tree as it is now, under a name
+  restore S         ok              make the tree the kept one again
+  drop S            ok              forget a kept tree
+  read@S P OFF N    as read         ask the kept tree: so do stat@S and readdir@S
+
+  What cannot be done changes nothing and is answered by a line such as
+  'fault ENOENT'. A line that is none of these is answered by 'error syntax',
+  and one of more than 65536 bytes by 'error line'. --steps, --fanout, --pending
+  and --leaf set how the trees behind the file system work; no reply rests on
+  them.
+
+Example:
+  printf 'mkdir /a\\ncreate /a/x\\nwrite /a/x 0 6869\\nreaddir /a\\n' | betr
+
+  prints
+
+  ok
+  ok
+  count 2
+  names 1
+  f x";
