@@ -10,3 +10,5 @@ pub mod Executing
 pub mod OneAnswer
 pub mod OptionFacts
 pub mod LineExamples
+pub mod ImageEntries
+pub mod ImageBlocks

@@ -8,3 +8,4 @@ pub mod Runs
 pub mod Progress
 pub mod Meant
 pub mod CommandLine
+pub mod Image

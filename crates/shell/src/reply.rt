@@ -43,7 +43,11 @@ pub fn put_fault<W: Write>(writer: &mut W, fault: Errno) -> Result<(), WriteFail
 }
 
 // Writes a line of a word and a number, or a beginning of it.
-fn put_number_line<W: Write>(writer: &mut W, word: &[u8], n: u64) -> Result<(), WriteFailed>
+pub(crate) fn put_number_line<W: Write>(
+    writer: &mut W,
+    word: &[u8],
+    n: u64,
+) -> Result<(), WriteFailed>
     ensures ok { OnOk result (Appends (W.contents writer.old) (W.contents writer.new) (number_line word.now n)) }
     ensures err { OnErr result (AppendsPart (W.contents writer.old) (W.contents writer.new) (number_line word.now n)) }
 {
@@ -66,7 +70,7 @@ fn put_data<W: Write>(writer: &mut W, bytes: &[u8]) -> Result<(), WriteFailed>
 }
 
 // Writes bytes in hexadecimal, or a beginning of it.
-fn put_hex<W: Write>(writer: &mut W, bytes: &[u8]) -> Result<(), WriteFailed>
+pub(crate) fn put_hex<W: Write>(writer: &mut W, bytes: &[u8]) -> Result<(), WriteFailed>
     ensures ok { OnOk result (Appends (W.contents writer.old) (W.contents writer.new) (hex_text bytes.now)) }
     ensures err { OnErr result (AppendsPart (W.contents writer.old) (W.contents writer.new) (hex_text bytes.now)) }
 {
@@ -122,7 +126,7 @@ fn name_word(kind: Kind) -> &'static [u8]
 }
 
 // Writes a name in percent form, or a beginning of it.
-fn put_percent<W: Write>(writer: &mut W, name: &[u8]) -> Result<(), WriteFailed>
+pub(crate) fn put_percent<W: Write>(writer: &mut W, name: &[u8]) -> Result<(), WriteFailed>
     ensures ok { OnOk result (Appends (W.contents writer.old) (W.contents writer.new) (flat_map percent name.now)) }
     ensures err { OnErr result (AppendsPart (W.contents writer.old) (W.contents writer.new) (flat_map percent name.now)) }
 {

@@ -48,6 +48,13 @@ impl Frozen {
         let _ = &self.indexes;
     }
 
+    /// Its indexes, to go through all of the tree.
+    pub fn indexes(&self) -> &Indexes
+        ensures { result.now ≡ self.now }
+    {
+        &self.indexes
+    }
+
     /// At most `count` bytes of the file at the path from the offset on, none past its end (POSIX.1-2017, pread).
     pub fn read(&self, alloc: Global, path: &Path, offset: u64, count: u64) -> Reply
         ensures { Tells (Call.Read path.now offset count) result self.now }

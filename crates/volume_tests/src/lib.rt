@@ -5,6 +5,8 @@
 #[cfg(test)]
 mod asked;
 #[cfg(test)]
+mod image;
+#[cfg(test)]
 mod rows;
 #[cfg(test)]
 mod runs;

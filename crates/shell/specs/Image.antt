@@ -1,0 +1,14 @@
+-- The lines of one entry of an image.
+use Rattle.std.specs.Prelude.{ℕ, ◌+◌, ◌/◌, ◌++◌, length, codes}
+use Rattle.reference.specs.Image.{Text, block_lines, path_text}
+use Rattle.reference.specs.Tree.{Path, Tree, Dir, File}
+use Rattle.shell.specs.Replies.{number_line}
+
+-- the line of a file at the path p
+abbrev pub file_line : Path → ℕ → Text
+file_line p len = codes "f " ++ path_text p ++ number_line (codes " ") len
+
+-- the lines of what stands at the path p, without those of a directory's entries
+abbrev pub entry_lines : Path → Tree → Text
+entry_lines p (Dir es) = codes "d " ++ path_text p ++ codes "\n"
+entry_lines p (File b) = file_line p (length b) ++ block_lines b (length b / 4096 + 1)

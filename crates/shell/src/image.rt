@@ -1,0 +1,203 @@
+//! Prints the image of a tree that stands still: one line for each entry in key order, and for a file one for each block
+//! that holds a byte other than zero.
+ghost use Rattle.std.specs.Prelude.{◌≡◌, ◌≢◌, ◌<◌, ◌≤◌, ◌^◌, ◌++◌, ◌∷◌, ◌+◌, ◌/◌, [], ℕ, List, Some, codes, decimal, flat_map, length, take, OnOk, OnErr};
+ghost use Rattle.std.specs.Io.KnownBytes.{Appends};
+ghost use Rattle.block_index.specs.Means.{blocks};
+ghost use Rattle.call_compiler.specs.Compiled.{MeanTree};
+ghost use Rattle.pathkey.specs.Keys.{block_key, enc};
+ghost use Rattle.reference.specs.Image.{block_line, block_lines, image, path_text, percent, trimmed};
+ghost use Rattle.reference.specs.Indexes.{BlocksMean, meta_of};
+ghost use Rattle.reference.specs.Looks.{seen};
+ghost use Rattle.reference.specs.Shape.{IsTree};
+ghost use Rattle.reference.specs.Tree.{File, Found, Tree, entry_at};
+ghost use Rattle.shell.specs.Image.{entry_lines};
+ghost use Rattle.shell.specs.Parts.{AppendsPart};
+ghost use Rattle.shell.specs.Replies.{number_line};
+
+use crate::output::{WriteFailed, put};
+use crate::reply::{put_hex, put_number_line, put_percent};
+use block_index::BlockIndex;
+use call_compiler::Indexes;
+use itoa::Buffer;
+use pathkey::{Key, KeyRange, NoMemory, Path, blocks_from, dec};
+use reference::Meta;
+use scan::first_in;
+use std::alloc::Global;
+use std::io::Write;
+use thiserror::Error;
+use volume::Frozen;
+
+/// Why an image was not printed to its end.
+#[derive(Debug, Drop, PartialEq, Eq, Error)]
+pub enum ImageFault {
+    /// Memory was refused.
+    #[error("betr: no memory")]
+    Memory,
+    /// The writer failed.
+    #[error("betr: write failed")]
+    Write,
+}
+
+impl From<NoMemory> for ImageFault {
+    fn from(_refused: NoMemory) -> ImageFault {
+        ImageFault::Memory
+    }
+}
+
+impl From<WriteFailed> for ImageFault {
+    fn from(_failed: WriteFailed) -> ImageFault {
+        ImageFault::Write
+    }
+}
+
+/// Prints the image of a tree that stands still; where it fails, what was printed is a beginning of it.
+///
+/// It goes from entry to entry, and in each file from block to block, and holds one of them at a time.
+pub fn print_image<W: Write>(
+    alloc: Global,
+    frozen: &Frozen,
+    writer: &mut W,
+) -> Result<(), ImageFault>
+    ensures ok { (t : Tree) → MeanTree frozen.now t → OnOk result (Appends (W.contents writer.old) (W.contents writer.new) (image t)) }
+    ensures err { (t : Tree) → MeanTree frozen.now t → OnErr result (AppendsPart (W.contents writer.old) (W.contents writer.new) (image t)) }
+{
+    let indexes = frozen.indexes();
+    let lo = Key::new(alloc).next(alloc)?;
+    let mut rest = KeyRange { lo, hi: None };
+    put(writer, b"d /\n")?;
+    // No tree has more entries.
+    for _ in 0..u64::MAX {
+        let Some((key, meta)) = first_in(alloc, &indexes.meta.tree, &rest)? else {
+            return Ok(());
+        };
+        let behind = key.next(alloc)?;
+        print_entry(alloc, indexes, &key, meta, writer)?;
+        rest.lo = behind;
+    }
+    Err(ImageFault::Memory)
+}
+
+/// Writes the lines of the entry whose path has the key, or a beginning of them.
+fn print_entry<W: Write>(
+    alloc: Global,
+    indexes: &Indexes,
+    key: &Key,
+    meta: Meta,
+    writer: &mut W,
+) -> Result<(), ImageFault>
+    requires { key.now ≢ [] }
+    ensures ok { (t : Tree) (q : List (List ℕ)) (x : Tree) → MeanTree indexes.now t → entry_at t q ≡ Found x → key.now ≡ enc q → meta_of (seen (Found x)) ≡ Some meta → OnOk result (Appends (W.contents writer.old) (W.contents writer.new) (entry_lines q x)) }
+    ensures err { (t : Tree) (q : List (List ℕ)) (x : Tree) → MeanTree indexes.now t → entry_at t q ≡ Found x → key.now ≡ enc q → meta_of (seen (Found x)) ≡ Some meta → OnErr result (AppendsPart (W.contents writer.old) (W.contents writer.new) (entry_lines q x)) }
+{
+    let Some(path) = dec(alloc, key)? else {
+        return Err(ImageFault::Memory);
+    };
+    match meta {
+        Meta::Dir => Ok(put_directory(writer, &path)?),
+        Meta::File { len } => {
+            put_file(writer, &path, len)?;
+            print_blocks(alloc, &indexes.block, &path, writer)
+        }
+    }
+}
+
+/// Writes the lines of a file's blocks, or a beginning of them.
+fn print_blocks<W: Write>(
+    alloc: Global,
+    index: &BlockIndex,
+    path: &Path,
+    writer: &mut W,
+) -> Result<(), ImageFault>
+    requires { path.now ≢ [] }
+    ensures ok { (t : Tree) (b : List ℕ) → IsTree t → BlocksMean t (blocks index.now) → entry_at t path.now ≡ Found (File b) → OnOk result (Appends (W.contents writer.old) (W.contents writer.new) (block_lines b (length b / 4096 + 1))) }
+    ensures err { (t : Tree) (b : List ℕ) → IsTree t → BlocksMean t (blocks index.now) → entry_at t path.now ≡ Found (File b) → OnErr result (AppendsPart (W.contents writer.old) (W.contents writer.new) (block_lines b (length b / 4096 + 1))) }
+{
+    let mut next = 0u32;
+    // No file has more blocks.
+    for _ in 0..u64::MAX {
+        let rest = blocks_from(alloc, path, next)?;
+        let Some((key, block)) = first_in(alloc, &index.tree, &rest)? else {
+            return Ok(());
+        };
+        let number = number_of(&key);
+        put_block(writer, number, block.as_slice())?;
+        next = number.saturating_add(1);
+    }
+    Err(ImageFault::Memory)
+}
+
+/// The number of the block that has the key.
+fn number_of(key: &Key) -> u32
+    ensures { (p : List (List ℕ)) (i : ℕ) → i < 2 ^ 32 → key.now ≡ block_key p i → result ≡ i }
+{
+    match key.as_bytes() {
+        [.., a, b, c, d] => u32::from_be_bytes([*a, *b, *c, *d]),
+        _ => 0,
+    }
+}
+
+/// Writes the line of a directory, or a beginning of it.
+fn put_directory<W: Write>(writer: &mut W, path: &Path) -> Result<(), WriteFailed>
+    ensures ok { OnOk result (Appends (W.contents writer.old) (W.contents writer.new) (codes "d " ++ path_text path.now ++ codes "\n")) }
+    ensures err { OnErr result (AppendsPart (W.contents writer.old) (W.contents writer.new) (codes "d " ++ path_text path.now ++ codes "\n")) }
+{
+    put(writer, b"d ")?;
+    put_path(writer, path)?;
+    put(writer, b"\n")?;
+    Ok(())
+}
+
+/// Writes the line of a file without its blocks, or a beginning of it.
+fn put_file<W: Write>(writer: &mut W, path: &Path, len: u64) -> Result<(), WriteFailed>
+    ensures ok { OnOk result (Appends (W.contents writer.old) (W.contents writer.new) (codes "f " ++ path_text path.now ++ number_line (codes " ") len)) }
+    ensures err { OnErr result (AppendsPart (W.contents writer.old) (W.contents writer.new) (codes "f " ++ path_text path.now ++ number_line (codes " ") len)) }
+{
+    put(writer, b"f ")?;
+    put_path(writer, path)?;
+    put_number_line(writer, b" ", len)?;
+    Ok(())
+}
+
+/// Writes a path's text in percent form, or a beginning of it.
+fn put_path<W: Write>(writer: &mut W, path: &Path) -> Result<(), WriteFailed>
+    ensures ok { OnOk result (Appends (W.contents writer.old) (W.contents writer.new) (path_text path.now)) }
+    ensures err { OnErr result (AppendsPart (W.contents writer.old) (W.contents writer.new) (path_text path.now)) }
+{
+    let mut left = path.names();
+    'names: while let Some((name, rest)) = left.split_first() {
+        put(writer, b"/")?;
+        put_percent(writer, name)?;
+        left = rest;
+    }
+    Ok(())
+}
+
+/// Writes the line of a block, or a beginning of it; none where all its bytes are zero.
+fn put_block<W: Write>(writer: &mut W, number: u32, block: &[u8]) -> Result<(), WriteFailed>
+    ensures ok { OnOk result (Appends (W.contents writer.old) (W.contents writer.new) (block_line number (trimmed block.now))) }
+    ensures err { OnErr result (AppendsPart (W.contents writer.old) (W.contents writer.new) (block_line number (trimmed block.now))) }
+{
+    let kept = &block[..kept_len(block)];
+    if kept.is_empty() {
+        return Ok(());
+    }
+    let mut digits = Buffer::new();
+    put(writer, b"b ")?;
+    put(writer, digits.format(number).as_bytes())?;
+    put(writer, b" ")?;
+    put_hex(writer, kept)?;
+    put(writer, b"\n")?;
+    Ok(())
+}
+
+/// How many bytes there are up to the last that is not zero.
+fn kept_len(bytes: &[u8]) -> usize
+    ensures kept { take result bytes.now ≡ trimmed bytes.now }
+    ensures fits { result ≤ length bytes.now }
+{
+    let mut kept = bytes.len();
+    while kept > 0 && bytes[kept - 1] == 0 {
+        kept -= 1;
+    }
+    kept
+}
