@@ -1,4 +1,5 @@
-//! Scripts: lines of text from a reader, each done as a call and answered on a writer; and the command line that asks for one.
+//! Scripts: lines of text from a reader, each done as a call and answered on a writer; the image of a tree; and the command
+//! line that asks for one.
 //!
 //! A script runs on anything that executes file calls (`Execute`). Its contract says which answers are
 //! written and what the world is after them, also where the reader or the writer fails in between.
