@@ -12,12 +12,15 @@ pub mod Faults
 pub mod FileBlocks
 pub mod FreshIndexes
 pub mod GreatestRow
+pub mod ImageBytes
 pub mod ImageRows
+pub mod ImageTexts
 pub mod Images
 pub mod IndexLaws
 pub mod Listings
 pub mod MovedKeys
 pub mod NeverLacks
+pub mod OneImage
 pub mod PlainSnapshots
 pub mod PointIndexes
 pub mod Points
@@ -26,6 +29,7 @@ pub mod RenameLooks
 pub mod RenameTrees
 pub mod Rewrites
 pub mod Rising
+pub mod ShownTrees
 pub mod Sight
 pub mod SnapshotRows
 pub mod Snapshots

@@ -8,6 +8,7 @@ use Rattle.pathkey.specs.declared.errno.Errno.TheVariants.{ENOMEM}
 use Rattle.reference.specs.Tree.{Name, Path, Tree, Dir, Entries, nothing, edited, Found, Missing, Blocked, found, named, entry_at}
 use Rattle.reference.specs.Calls.{Outcome, same_path, is_empty, parent_fault, listing, does}
 use Rattle.reference.specs.Shape.{Rising, IsTree, IsCall}
+use Rattle.reference.specs.Image.{image}
 use Rattle.reference.specs.Looks.{Directory, Bytes, seen, look, kind_at, rest_of, look_after}
 use Rattle.reference.specs.Indexes.{Metadata, Blocks, IndexesMean, put_at, deleted_at, cleared, edit_at, moved, grow, set_len, patched, cut_block, BlocksChange}
 use Rattle.reference.specs.declared.call.Call.{Call}
@@ -70,6 +71,12 @@ ChildLaw = (t : Tree) (p : Path) (es : Entries) (n : Name) → entry_at t p ≡ 
 -- a directory lists exactly the names at which something is seen, each with its kind
 abbrev pub ListingLaw : Type 0
 ListingLaw = (t : Tree) (p : Path) (es : Entries) (k : Kind) (n : Name) → Rising t → entry_at t p ≡ Found (Dir es) → Contains (listing es) (k, n) ↔ (kind_at t (p ++ n ∷ []) ≡ Some k)
+
+-- ---- images
+
+-- two directory trees of one image are one tree
+abbrev pub OneImageLaw : Type 0
+OneImageLaw = (t u : Tree) → IsTree t → IsTree u → image t ≡ image u → t ≡ u
 
 -- ---- indexes
 

@@ -1,6 +1,7 @@
-//! Laws that speak of trees alone: what an edit changes, what a call keeps, and what is seen at the paths of a tree.
+//! Laws that speak of trees alone: what an edit changes, what a call keeps, what is seen at the paths of a tree, and
+//! that a tree is known from its image.
 
-ghost use Rattle.reference.specs.Laws.{BlockedLaw, CallLaw, ChildLaw, EditLaw, FaultLaw, ListingLaw, MissingLaw, NeverLacksLaw, OneTreeLaw, OutRisesLaw, PutRisesLaw, ReadingLaw};
+ghost use Rattle.reference.specs.Laws.{BlockedLaw, CallLaw, ChildLaw, EditLaw, FaultLaw, ListingLaw, MissingLaw, NeverLacksLaw, OneImageLaw, OneTreeLaw, OutRisesLaw, PutRisesLaw, ReadingLaw};
 
 /// What is seen at each path after one entry was put or taken out, and that names still rise in each directory.
 pub fn edits()
@@ -25,4 +26,9 @@ pub fn sight()
     ensures missing { MissingLaw }
     ensures child { ChildLaw }
     ensures listing { ListingLaw }
+{}
+
+/// Two directory trees of one image are one tree: the image shows every entry, every length and every byte.
+pub fn one_image()
+    ensures { OneImageLaw }
 {}
