@@ -1,5 +1,5 @@
 -- The lines of a text, and the words of a line.
-use Rattle.std.specs.Prelude.{ℕ, List, [], ◌∷◌, ◌++◌, ◌==◌, if◌then◌else◌}
+use Rattle.std.specs.Prelude.{ℕ, List, [], ◌∷◌, ◌++◌, ◌==◌, if◌then◌else◌, Option, Some, None, option_map}
 use Rattle.pathkey.specs.Texts.{pieces}
 
 -- the lines of a text, each without its line feed (10); the last one counts without it where it is not empty
@@ -9,6 +9,11 @@ lines_of text = pieces 10 text
 -- the words of a line, which is cut at each single space (32); a word may be empty
 abbrev pub words_of : List ℕ → List (List ℕ)
 words_of line = pieces 32 (line ++ 32 ∷ [])
+
+-- a word before and behind its first `@` (64), where it has one
+abbrev pub at_sign : List ℕ → Option (List ℕ × List ℕ)
+at_sign [] = None
+at_sign (b ∷ word) = if b == 64 then Some ([], word) else option_map (λ cut. (b ∷ cut.0, cut.1)) (at_sign word)
 
 -- a byte in front, where something follows it
 abbrev pub kept_before : ℕ → List ℕ → List ℕ

@@ -2,15 +2,18 @@
 use Rattle.std.specs.Prelude.{◌≡◌, ◌⊎◌, ⊤, ℕ, nat_lt, List, [], ◌∷◌, length, codes, bytes_eq, Option, Some, None, Result, Ok, Err, ◌==◌, if◌then◌else◌}
 use Rattle.percent_encoding.specs.Percent.{percent_decode}
 use Rattle.pathkey.specs.Names.{Path}
+use Rattle.pathkey.specs.SnapNames.{snap_parsed}
 use Rattle.pathkey.specs.Texts.{parsed}
 use Rattle.pathkey.specs.declared.errno.Errno.{Errno}
 use Rattle.pathkey.specs.declared.errno.Errno.TheVariants.{ENOMEM}
 use Rattle.reference.specs.declared.call.Call.{Call}
 use Rattle.reference.specs.declared.call.Call.TheVariants.{Mkdir, Create, Write, Truncate, Unlink, Rmdir, Rename, Rmtree, Read, Stat as AskStat, Readdir}
-use Rattle.shell.specs.Lines.{words_of}
+use Rattle.shell.specs.Lines.{at_sign, words_of}
 use Rattle.shell.specs.Values.{bytes_of, number_of}
+use Rattle.shell.specs.declared.request.Look.{Look}
+use Rattle.shell.specs.declared.request.Look.TheVariants as look
 use Rattle.shell.specs.declared.request.Request.{Request}
-use Rattle.shell.specs.declared.request.Request.TheVariants.{Silent, Overlong, Malformed, Refused, Wanted}
+use Rattle.shell.specs.declared.request.Request.TheVariants.{Silent, Overlong, Malformed, Refused, Wanted, Snapshot, DropSnapshot, Restore, Past}
 
 -- what reading a word as a path answers: its text is in percent form
 abbrev pub path_of : List ℕ → Result Path Errno
@@ -26,7 +29,36 @@ abbrev pub with_value : {A : Type 0} → (A → Request) → Option A → Reques
 with_value ask (Some a) = ask a
 with_value ask None = Malformed
 
--- the commands of two words, the second of which is a path
+-- what is asked for with what a word names, or why the word is refused
+abbrev pub with_named : {A : Type 0} → (A → Request) → Result A Errno → Request
+with_named ask (Ok a) = ask a
+with_named ask (Err e) = Refused e
+
+-- the look at a path, or why the path is refused
+abbrev pub looking : (Path → Look) → Result Path Errno → Result Look Errno
+looking at (Ok p) = Ok (at p)
+looking at (Err e) = Err e
+
+-- a look into a snapshot: its name is refused before what is looked at
+abbrev pub past : List ℕ → Result Look Errno → Request
+past s l = with_named (λ name. with_named (Past name) l) (snap_parsed s)
+
+-- the looks of two words: the call and the snapshot's name, and the path
+abbrev pub past_path_command : List ℕ × List ℕ → List ℕ → Request
+past_path_command name p =
+    if bytes_eq name.0 (codes "stat") then past name.1 (looking look.Stat (path_of p))
+    else if bytes_eq name.0 (codes "readdir") then past name.1 (looking look.Readdir (path_of p))
+    else Malformed
+
+-- the commands of a snapshot's name; the name stands behind an `@` where another tree than the live one is asked
+abbrev pub named_command : List ℕ → List ℕ → Request
+named_command name s =
+    if bytes_eq name (codes "snapshot") then with_named Snapshot (snap_parsed s)
+    else if bytes_eq name (codes "drop") then with_named DropSnapshot (snap_parsed s)
+    else if bytes_eq name (codes "restore") then with_named Restore (snap_parsed s)
+    else with_value (λ cut. past_path_command cut s) (at_sign name)
+
+-- the commands of two words
 abbrev pub path_command : List ℕ → List ℕ → Request
 path_command name p =
     if bytes_eq name (codes "mkdir") then on_path Mkdir (path_of p)
@@ -36,7 +68,7 @@ path_command name p =
     else if bytes_eq name (codes "rmtree") then on_path Rmtree (path_of p)
     else if bytes_eq name (codes "stat") then on_path AskStat (path_of p)
     else if bytes_eq name (codes "readdir") then on_path Readdir (path_of p)
-    else Malformed
+    else named_command name p
 
 -- to cut or lengthen a file
 abbrev pub truncate_command : List ℕ → List ℕ → Request
@@ -68,12 +100,18 @@ write_command p off hex = with_value (λ at. with_value (λ bytes. on_path (λ p
 abbrev pub read_command : List ℕ → List ℕ → List ℕ → Request
 read_command p off count = with_value (λ at. with_value (λ n. on_path (λ path. Read path at n) (path_of p)) (number_of count)) (number_of off)
 
+-- to read from an offset on in a snapshot
+abbrev pub past_read_command : List ℕ × List ℕ → List ℕ → List ℕ → List ℕ → Request
+past_read_command name p off count =
+    if bytes_eq name.0 (codes "read") then with_value (λ at. with_value (λ n. past name.1 (looking (λ path. look.Read path at n) (path_of p))) (number_of count)) (number_of off)
+    else Malformed
+
 -- the commands of a path, an offset, and bytes or a number of them
 abbrev pub offset_command : List ℕ → List ℕ → List ℕ → List ℕ → Request
 offset_command name p off what =
     if bytes_eq name (codes "write") then write_command p off what
     else if bytes_eq name (codes "read") then read_command p off what
-    else Malformed
+    else with_value (λ cut. past_read_command cut p off what) (at_sign name)
 
 -- the commands by their number of words
 abbrev pub command_of : List (List ℕ) → Request
@@ -93,9 +131,10 @@ request_of line = if nat_lt 65536 (length line) then Overlong else short_request
 
 -- the request is a call, or the refusal of one
 abbrev pub IsAsked : Request → Type 0
-IsAsked (Refused e) = ⊤
-IsAsked (Wanted c) = ⊤
-IsAsked _ = ⊥
+IsAsked Silent = ⊥
+IsAsked Overlong = ⊥
+IsAsked Malformed = ⊥
+IsAsked _ = ⊤
 
 -- the request was read as it stands; or memory was wanting, which refuses a call
 abbrev pub IsReadAs : Request → Request → Type 0

@@ -1,14 +1,45 @@
 -- What a script means: what its lines are answered, and what they make of a world.
-use Rattle.std.specs.Prelude.{◌≡◌, ◌≢◌, ◌⊎◌, ◌≤◌, All, ℕ, List, [], ◌∷◌, ◌++◌, length, codes}
-use Rattle.pathkey.specs.declared.errno.Errno.TheVariants.{ENOMEM}
-use Rattle.reference.specs.Worlds.{World, Ask, Replied, Fits, next}
+use Rattle.std.specs.Prelude.{◌≡◌, ◌≢◌, ◌⊎◌, ◌≤◌, All, ℕ, List, [], ◌∷◌, ◌++◌, length, codes, Option, Some, None, Ok, Err}
+use Rattle.std.specs.FinMap as map
+use Rattle.pathkey.specs.declared.errno.Errno.TheVariants.{ENOENT, ENOMEM}
+use Rattle.reference.specs.Calls.{does}
+use Rattle.reference.specs.Tree.{Tree}
+use Rattle.reference.specs.Worlds.{World, Event, Ask, TakeSnapshot, DropSnapshot as DropNamed, RestoreSnapshot, Replied, Settled, Snapped, Fits, next}
+use Rattle.reference.specs.declared.call.Call.{Call}
+use Rattle.reference.specs.declared.call.Call.TheVariants.{Read, Stat as AskStat, Readdir}
 use Rattle.reference.specs.declared.reply.Reply.{Reply}
-use Rattle.reference.specs.declared.reply.Reply.TheVariants.{Fault}
+use Rattle.reference.specs.declared.reply.Reply.TheVariants.{Done, Fault}
+use Rattle.shell.specs.declared.request.Look.{Look}
+use Rattle.shell.specs.declared.request.Look.TheVariants as look
 use Rattle.shell.specs.declared.request.Request.{Request}
-use Rattle.shell.specs.declared.request.Request.TheVariants.{Silent, Overlong, Malformed, Refused, Wanted}
+use Rattle.shell.specs.declared.request.Request.TheVariants.{Silent, Overlong, Malformed, Refused, Wanted, Snapshot, DropSnapshot, Restore, Past}
 use Rattle.shell.specs.Lines.{lines_of}
 use Rattle.shell.specs.Requests.{request_of, IsAsked}
 use Rattle.shell.specs.Replies.{reply_text}
+
+-- the reply to a snapshot call
+abbrev pub settled_reply : Snapped → Reply
+settled_reply (Ok done) = Done
+settled_reply (Err e) = Fault e
+
+-- a snapshot call is answered in a world, and the world after it
+abbrev pub Settles : World → Event → List ℕ → World → Type 0
+Settles w e text w' = (r : Snapped) × Fits w e (Settled r) × (text ≡ reply_text (settled_reply r)) × (w' ≡ next w e (Settled r))
+
+-- the file call that a look is
+abbrev pub call_of : Look → Call
+call_of (look.Read p off n) = Read p off n
+call_of (look.Stat p) = AskStat p
+call_of (look.Readdir p) = Readdir p
+
+-- what a look into a snapshot is answered: there may be none of that name
+abbrev pub told_of : Option Tree → Look → Reply
+told_of None l = Fault ENOENT
+told_of (Some t) l = (does t (call_of l)).1
+
+-- the reply is that of the snapshot's tree, or want of memory
+abbrev pub Tells : World → List ℕ → Look → Reply → Type 0
+Tells w s l r = (r ≡ told_of (map.get w.snapshots s) l) ⊎ (r ≡ Fault ENOMEM)
 
 -- what a request is answered in a world, and the world after it
 abbrev pub Answers : World → Request → List ℕ → World → Type 0
@@ -17,6 +48,10 @@ Answers w Overlong text w' = (text ≡ codes "error line\n") × (w' ≡ w)
 Answers w Malformed text w' = (text ≡ codes "error syntax\n") × (w' ≡ w)
 Answers w (Refused e) text w' = (text ≡ reply_text (Fault e)) × (w' ≡ w)
 Answers w (Wanted c) text w' = (r : Reply) × Fits w (Ask c) (Replied r) × (text ≡ reply_text r) × (w' ≡ next w (Ask c) (Replied r))
+Answers w (Snapshot s) text w' = Settles w (TakeSnapshot s) text w'
+Answers w (DropSnapshot s) text w' = Settles w (DropNamed s) text w'
+Answers w (Restore s) text w' = Settles w (RestoreSnapshot s) text w'
+Answers w (Past s l) text w' = (r : Reply) × Tells w s l r × (text ≡ reply_text r) × (w' ≡ w)
 
 -- a line is answered as what it asks for; or, where it asks for a call, by want of memory, and the world is kept
 abbrev pub Does : World → List ℕ → List ℕ → World → Type 0

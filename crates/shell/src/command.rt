@@ -2,12 +2,13 @@
 ghost use Rattle.std.specs.Prelude.{◌≡◌, ◌⊎◌, Err, MatchResult};
 ghost use Rattle.pathkey.specs.declared.errno.Errno.TheVariants.{ENOMEM};
 ghost use Rattle.shell.specs.Lines.{words_of};
-ghost use Rattle.shell.specs.Requests.{IsReadAs, command_of, offset_command, path_command, path_of, read_command, rename_of, request_of, third_command, truncate_command, write_command};
+ghost use Rattle.pathkey.specs.SnapNames.{snap_parsed};
+ghost use Rattle.shell.specs.Requests.{IsReadAs, command_of, named_command, offset_command, past, past_path_command, past_read_command, path_command, path_of, read_command, rename_of, request_of, third_command, truncate_command, write_command};
 
-use crate::request::Request;
+use crate::request::{Look, Request};
 use crate::values::{read_bytes, read_number, writes_bytes};
-use crate::words::cut_word;
-use pathkey::{Errno, NoMemory, Path};
+use crate::words::{cut_at_sign, cut_word};
+use pathkey::{Errno, NoMemory, Path, SnapName};
 use percent_encoding::percent_decode;
 use reference::Call;
 use std::alloc::Global;
@@ -72,7 +73,49 @@ fn read_path_command(alloc: Global, name: &[u8], word: &[u8]) -> Request
     if name == b"readdir".as_slice() {
         return ask(read_path(alloc, word).map(Call::Readdir));
     }
+    read_named_command(alloc, name, word)
+}
+
+// What a command of two words asks for with a snapshot's name: it is the second word, or stands behind an `@` in the first.
+fn read_named_command(alloc: Global, name: &[u8], word: &[u8]) -> Request
+    ensures { IsReadAs (named_command name.now word.now) result }
+{
+    if name == b"snapshot".as_slice() {
+        return with_named(SnapName::parse(alloc, word).map(Request::Snapshot));
+    }
+    if name == b"drop".as_slice() {
+        return with_named(SnapName::parse(alloc, word).map(Request::DropSnapshot));
+    }
+    if name == b"restore".as_slice() {
+        return with_named(SnapName::parse(alloc, word).map(Request::Restore));
+    }
+    match cut_at_sign(name) {
+        Some((call, snapshot)) => read_past_path_command(alloc, call, snapshot, word),
+        None => Request::Malformed,
+    }
+}
+
+// What a look of two words into a snapshot asks for.
+fn read_past_path_command(alloc: Global, call: &[u8], snapshot: &[u8], path: &[u8]) -> Request
+    ensures { IsReadAs (past_path_command (call.now, snapshot.now) path.now) result }
+{
+    if call == b"stat".as_slice() {
+        return read_past(alloc, snapshot, read_path(alloc, path).map(Look::Stat));
+    }
+    if call == b"readdir".as_slice() {
+        return read_past(alloc, snapshot, read_path(alloc, path).map(Look::Readdir));
+    }
     Request::Malformed
+}
+
+// A look into the snapshot of that name; the name is refused before what is looked at.
+fn read_past(alloc: Global, snapshot: &[u8], look: Result<Look, Errno>) -> Request
+    ensures { (result ≡ past snapshot.now look) ⊎ (result ≡ Request.Refused ENOMEM) }
+{
+    match (SnapName::parse(alloc, snapshot), look) {
+        (Err(fault), _) | (Ok(_), Err(fault)) => Request::Refused(fault),
+        (Ok(name), Ok(look)) => Request::Past(name, look),
+    }
 }
 
 // What a command of three words asks for: to cut or lengthen a file, or to move an entry.
@@ -127,7 +170,36 @@ fn read_offset_command(
     if name == b"read".as_slice() {
         return read_read(alloc, path, offset, what);
     }
-    Request::Malformed
+    match cut_at_sign(name) {
+        Some((call, snapshot)) => {
+            read_past_read_command(alloc, call, snapshot, path, offset, what)
+        }
+        None => Request::Malformed,
+    }
+}
+
+// What a look of four words into a snapshot asks for.
+fn read_past_read_command(
+    alloc: Global,
+    call: &[u8],
+    snapshot: &[u8],
+    path: &[u8],
+    offset: &[u8],
+    count: &[u8],
+) -> Request
+    ensures { IsReadAs (past_read_command (call.now, snapshot.now) path.now offset.now count.now) result }
+{
+    if call != b"read".as_slice() {
+        return Request::Malformed;
+    }
+    let (Some(offset), Some(count)) = (read_number(offset), read_number(count)) else {
+        return Request::Malformed;
+    };
+    let look = match read_path(alloc, path) {
+        Ok(path) => Ok(Look::Read(path, offset, count)),
+        Err(fault) => Err(fault),
+    };
+    read_past(alloc, snapshot, look)
 }
 
 // What the words of a `write` ask for.
@@ -170,6 +242,16 @@ fn ask(call: Result<Call, Errno>) -> Request
 {
     match call {
         Ok(call) => Request::Wanted(call),
+        Err(fault) => Request::Refused(fault),
+    }
+}
+
+// The request that was read, or its refusal.
+fn with_named(request: Result<Request, Errno>) -> Request
+    ensures { MatchResult request (λ r. result ≡ r) (λ e. result ≡ Request.Refused e) }
+{
+    match request {
+        Ok(request) => request,
         Err(fault) => Request::Refused(fault),
     }
 }

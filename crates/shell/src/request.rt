@@ -1,6 +1,6 @@
 //! What a line of a script asks for.
 
-use pathkey::Errno;
+use pathkey::{Errno, Path, SnapName};
 use reference::Call;
 
 /// What a line asks for.
@@ -14,6 +14,25 @@ pub enum Request {
     Malformed,
     /// A call that is refused before it is done.
     Refused(Errno),
-    /// A call.
+    /// A file call.
     Wanted(Call),
+    /// The live tree is to be kept under the name.
+    Snapshot(SnapName),
+    /// The snapshot of that name is to go.
+    DropSnapshot(SnapName),
+    /// The live tree is to become that of the snapshot.
+    Restore(SnapName),
+    /// A look into the tree of the snapshot of that name.
+    Past(SnapName, Look),
+}
+
+/// A file call that reads.
+#[derive(Drop)]
+pub enum Look {
+    /// So many bytes of a file at most, from an offset on.
+    Read(Path, u64, u64),
+    /// What stands at a path.
+    Stat(Path),
+    /// The entries of a directory.
+    Readdir(Path),
 }

@@ -2,19 +2,25 @@
 ghost use Rattle.std.specs.Prelude.{◌≡◌, ◌≢◌, ◌≤◌, ◌<◌, ◌++◌, ℕ, List, [], ◌∷◌, take, length, vec_capacity, vec_len, OnOk, OnErr};
 ghost use Rattle.std.specs.Io.KnownBytes.{Appends};
 ghost use Rattle.shell.specs.Parts.{AppendsPart};
-ghost use Rattle.shell.specs.Script.{Answers, Does, Script};
+ghost use Rattle.shell.specs.Replies.{reply_text};
+ghost use Rattle.shell.specs.Script.{Answers, Does, Script, Tells, settled_reply};
+ghost use Rattle.reference.specs.Worlds.{World};
+ghost use Rattle.volume.specs.Volumes.{Means};
 ghost use Rattle.shell.specs.Runs.{DoesAll, DoesGiven, DoesUntil, Leads};
 ghost use Rattle.shell.specs.Progress.{FailedIn, Holds, Went, last_line};
 
 use crate::command::{LONGEST_LINE, read_request};
-use crate::execute::Execute;
 use crate::input::read_some;
 use crate::output::{WriteFailed, flush, put};
+use crate::pace::{Pace, keep_pace};
 use crate::reply::{put_fault, write_reply};
-use crate::request::Request;
+use crate::request::{Look, Request};
+use pathkey::{Errno, SnapName};
+use reference::Reply;
 use std::alloc::Global;
 use std::io::{Read, Write};
 use thiserror::Error;
+use volume::Volume;
 
 /// Why a script was not read to its end, or its replies not written.
 #[derive(Debug, Drop, PartialEq, Eq, Error)]
@@ -36,23 +42,25 @@ const PIECE: usize = 65_536;
 /// The byte that ends a line.
 const LINE_FEED: u8 = b'\n';
 
-/// Runs all the lines of the reader, and writes a reply to each as it is done.
+/// Runs all the lines of the reader on the volume, and writes a reply to each as it is done. After each line the pace picks tree
+/// steps; whatever they are, the replies and what the volume means are the same.
 ///
 /// At most one line is held, and of a line that is too long no more than shows that it is. The writer is flushed before each
 /// read and at the end.
-pub fn run_script<S: Execute, R: Read, W: Write>(
+pub fn run_script<R: Read, W: Write, P: Pace>(
     alloc: Global,
-    state: &mut S,
+    volume: &mut Volume,
     reader: &mut R,
     writer: &mut W,
+    pace: &mut P,
 ) -> Result<(), ScriptFault>
-    ensures memory { result ≡ Err ScriptFault.Memory → (state.new ≡ state.old) × (reader.new ≡ reader.old)
+    ensures memory { result ≡ Err ScriptFault.Memory → (volume.new ≡ volume.old) × (reader.new ≡ reader.old)
         × (writer.new ≡ writer.old) }
-    ensures done { OnOk result (Leads (S.means state.old) (S.means state.new) (DoesAll (R.remaining reader.old) (R.remaining reader.new))
+    ensures done { OnOk result (Leads (Means volume.old) (Means volume.new) (DoesAll (R.remaining reader.old) (R.remaining reader.new))
         (Appends (W.contents writer.old) (W.contents writer.new))) }
-    ensures read { result ≡ Err ScriptFault.Read → Leads (S.means state.old) (S.means state.new)
+    ensures read { result ≡ Err ScriptFault.Read → Leads (Means volume.old) (Means volume.new)
         (DoesGiven (R.remaining reader.old) (R.remaining reader.new)) (Appends (W.contents writer.old) (W.contents writer.new)) }
-    ensures write { result ≡ Err ScriptFault.Write → Leads (S.means state.old) (S.means state.new)
+    ensures write { result ≡ Err ScriptFault.Write → Leads (Means volume.old) (Means volume.new)
         (DoesUntil (R.remaining reader.old)) (Appends (W.contents writer.old) (W.contents writer.new)) }
 {
     let Ok(mut piece) = Vec::from_elem(alloc, 0u8, PIECE) else {
@@ -63,20 +71,22 @@ pub fn run_script<S: Execute, R: Read, W: Write>(
     };
     run_over(
         alloc,
-        state,
+        volume,
         reader,
         writer,
+        pace,
         piece.as_mut_slice(),
         &mut line,
     )
 }
 
 // Reads and does piece after piece, in the given buffers.
-fn run_over<S: Execute, R: Read, W: Write>(
+fn run_over<R: Read, W: Write, P: Pace>(
     alloc: Global,
-    state: &mut S,
+    volume: &mut Volume,
     reader: &mut R,
     writer: &mut W,
+    pace: &mut P,
     piece: &mut [u8],
     line: &mut Vec<u8>,
 ) -> Result<(), ScriptFault>
@@ -84,11 +94,11 @@ fn run_over<S: Execute, R: Read, W: Write>(
     requires room { 65536 < vec_capacity line.old }
     requires empty { line.old.items ≡ [] }
     ensures kinds { result ≢ Err ScriptFault.Memory }
-    ensures done { OnOk result (Leads (S.means state.old) (S.means state.new) (DoesAll (R.remaining reader.old) (R.remaining reader.new))
+    ensures done { OnOk result (Leads (Means volume.old) (Means volume.new) (DoesAll (R.remaining reader.old) (R.remaining reader.new))
         (Appends (W.contents writer.old) (W.contents writer.new))) }
-    ensures read { result ≡ Err ScriptFault.Read → Leads (S.means state.old) (S.means state.new)
+    ensures read { result ≡ Err ScriptFault.Read → Leads (Means volume.old) (Means volume.new)
         (DoesGiven (R.remaining reader.old) (R.remaining reader.new)) (Appends (W.contents writer.old) (W.contents writer.new)) }
-    ensures write { result ≡ Err ScriptFault.Write → Leads (S.means state.old) (S.means state.new)
+    ensures write { result ≡ Err ScriptFault.Write → Leads (Means volume.old) (Means volume.new)
         (DoesUntil (R.remaining reader.old)) (Appends (W.contents writer.old) (W.contents writer.new)) }
 {
     for _ in 0..u64::MAX {
@@ -99,12 +109,12 @@ fn run_over<S: Execute, R: Read, W: Write>(
             return Err(ScriptFault::Read);
         };
         if n == 0 {
-            return match finish(alloc, state, line.as_slice(), writer) {
+            return match finish(alloc, volume, line.as_slice(), writer, pace) {
                 Ok(()) => Ok(()),
                 Err(WriteFailed) => Err(ScriptFault::Write),
             };
         }
-        if let Err(WriteFailed) = take_piece(alloc, state, line, &piece[..n], writer) {
+        if let Err(WriteFailed) = take_piece(alloc, volume, line, &piece[..n], writer, pace) {
             return Err(ScriptFault::Write);
         }
     }
@@ -112,24 +122,25 @@ fn run_over<S: Execute, R: Read, W: Write>(
 }
 
 // Does each line that ends in a piece of the text, and holds what follows the last of them.
-fn take_piece<S: Execute, W: Write>(
+fn take_piece<W: Write, P: Pace>(
     alloc: Global,
-    state: &mut S,
+    volume: &mut Volume,
     line: &mut Vec<u8>,
     piece: &[u8],
     writer: &mut W,
+    pace: &mut P,
 ) -> Result<(), WriteFailed>
     requires room { 65536 < vec_capacity line.old }
     ensures room { 65536 < vec_capacity line.new }
-    ensures ok { OnOk result ((held : List ℕ) → Holds held line.old.items → Leads (S.means state.old) (S.means state.new)
+    ensures ok { OnOk result ((held : List ℕ) → Holds held line.old.items → Leads (Means volume.old) (Means volume.new)
         (λ first out after. (left : List ℕ) × Holds left line.new.items × Went held piece.now first out left after)
         (Appends (W.contents writer.old) (W.contents writer.new))) }
-    ensures err { OnErr result ((held : List ℕ) → Holds held line.old.items → Leads (S.means state.old) (S.means state.new)
+    ensures err { OnErr result ((held : List ℕ) → Holds held line.old.items → Leads (Means volume.old) (Means volume.new)
         (FailedIn held piece.now) (Appends (W.contents writer.old) (W.contents writer.new))) }
 {
     for &byte in piece {
         if byte == LINE_FEED {
-            answer_line(alloc, state, line.as_slice(), writer)?;
+            do_line(alloc, volume, line.as_slice(), writer, pace)?;
             line.clear();
         } else {
             hold(line, byte);
@@ -151,50 +162,69 @@ fn hold(line: &mut Vec<u8>, byte: u8)
 }
 
 // Does the last line, where the text does not end with a line feed.
-fn finish<S: Execute, W: Write>(
+fn finish<W: Write, P: Pace>(
     alloc: Global,
-    state: &mut S,
+    volume: &mut Volume,
     line: &[u8],
     writer: &mut W,
+    pace: &mut P,
 ) -> Result<(), WriteFailed>
-    ensures ok { OnOk result (Leads (S.means state.old) (S.means state.new) (λ first. Script first (last_line line.now))
+    ensures ok { OnOk result (Leads (Means volume.old) (Means volume.new) (λ first. Script first (last_line line.now))
         (Appends (W.contents writer.old) (W.contents writer.new))) }
-    ensures err { OnErr result (Leads (S.means state.old) (S.means state.new) (λ first. Script first (last_line line.now))
+    ensures err { OnErr result (Leads (Means volume.old) (Means volume.new) (λ first. Script first (last_line line.now))
         (AppendsPart (W.contents writer.old) (W.contents writer.new))) }
 {
     if line.is_empty() {
         return flush(writer);
     }
-    answer_line(alloc, state, line, writer)?;
+    do_line(alloc, volume, line, writer, pace)?;
     flush(writer)
 }
 
-// Does one line, and writes its reply.
-fn answer_line<S: Execute, W: Write>(
+// Does one line and writes its reply, and then does the steps that the pace picks.
+fn do_line<W: Write, P: Pace>(
     alloc: Global,
-    state: &mut S,
+    volume: &mut Volume,
+    line: &[u8],
+    writer: &mut W,
+    pace: &mut P,
+) -> Result<(), WriteFailed>
+    ensures ok { OnOk result (Leads (Means volume.old) (Means volume.new) (λ first. Does first line.now)
+        (Appends (W.contents writer.old) (W.contents writer.new))) }
+    ensures err { OnErr result (Leads (Means volume.old) (Means volume.new) (λ first. Does first line.now)
+        (AppendsPart (W.contents writer.old) (W.contents writer.new))) }
+{
+    answer_line(alloc, volume, line, writer)?;
+    keep_pace(alloc, volume, pace);
+    Ok(())
+}
+
+// Does one line, and writes its reply.
+fn answer_line<W: Write>(
+    alloc: Global,
+    volume: &mut Volume,
     line: &[u8],
     writer: &mut W,
 ) -> Result<(), WriteFailed>
-    ensures ok { OnOk result (Leads (S.means state.old) (S.means state.new) (λ first. Does first line.now)
+    ensures ok { OnOk result (Leads (Means volume.old) (Means volume.new) (λ first. Does first line.now)
         (Appends (W.contents writer.old) (W.contents writer.new))) }
-    ensures err { OnErr result (Leads (S.means state.old) (S.means state.new) (λ first. Does first line.now)
+    ensures err { OnErr result (Leads (Means volume.old) (Means volume.new) (λ first. Does first line.now)
         (AppendsPart (W.contents writer.old) (W.contents writer.new))) }
 {
     let request = read_request(alloc, line);
-    answer(alloc, state, request, writer)
+    answer(alloc, volume, request, writer)
 }
 
 // Does what is asked for, and writes the reply.
-fn answer<S: Execute, W: Write>(
+fn answer<W: Write>(
     alloc: Global,
-    state: &mut S,
+    volume: &mut Volume,
     request: Request,
     writer: &mut W,
 ) -> Result<(), WriteFailed>
-    ensures ok { OnOk result (Leads (S.means state.old) (S.means state.new) (λ first. Answers first request)
+    ensures ok { OnOk result (Leads (Means volume.old) (Means volume.new) (λ first. Answers first request)
         (Appends (W.contents writer.old) (W.contents writer.new))) }
-    ensures err { OnErr result (Leads (S.means state.old) (S.means state.new) (λ first. Answers first request)
+    ensures err { OnErr result (Leads (Means volume.old) (Means volume.new) (λ first. Answers first request)
         (AppendsPart (W.contents writer.old) (W.contents writer.new))) }
 {
     match request {
@@ -202,6 +232,36 @@ fn answer<S: Execute, W: Write>(
         Request::Overlong => put(writer, b"error line\n"),
         Request::Malformed => put(writer, b"error syntax\n"),
         Request::Refused(fault) => put_fault(writer, fault),
-        Request::Wanted(call) => write_reply(writer, &state.execute(alloc, &call)),
+        Request::Wanted(call) => write_reply(writer, &volume.call(alloc, &call)),
+        Request::Snapshot(name) => put_settled(writer, volume.snapshot(alloc, &name)),
+        Request::DropSnapshot(name) => put_settled(writer, volume.drop_snapshot(&name)),
+        Request::Restore(name) => put_settled(writer, volume.restore(&name)),
+        Request::Past(name, look) => write_reply(writer, &look_back(alloc, volume, &name, &look)),
+    }
+}
+
+// Writes the reply to a snapshot call.
+fn put_settled<W: Write>(writer: &mut W, settled: Result<(), Errno>) -> Result<(), WriteFailed>
+    ensures ok { OnOk result (Appends (W.contents writer.old) (W.contents writer.new) (reply_text (settled_reply settled))) }
+    ensures err { OnErr result (AppendsPart (W.contents writer.old) (W.contents writer.new) (reply_text (settled_reply settled))) }
+{
+    match settled {
+        Ok(()) => put(writer, b"ok\n"),
+        Err(fault) => put_fault(writer, fault),
+    }
+}
+
+// The reply to a look into the snapshot of that name.
+fn look_back(alloc: Global, volume: &Volume, name: &SnapName, look: &Look) -> Reply
+    ensures { (w : World) → Means volume.now w → Tells w name.now look.now result }
+{
+    let frozen = match volume.frozen(name) {
+        Ok(frozen) => frozen,
+        Err(fault) => return Reply::Fault(fault),
+    };
+    match look {
+        Look::Read(path, offset, count) => frozen.read(alloc, path, *offset, *count),
+        Look::Stat(path) => frozen.stat(alloc, path),
+        Look::Readdir(path) => frozen.readdir(alloc, path),
     }
 }

@@ -1,6 +1,6 @@
 //! The words of a line, as slices of it.
-ghost use Rattle.std.specs.Prelude.{◌≡◌, ◌≢◌, ◌<◌, [], ◌∷◌, All, MatchOption, length, take, slice_index};
-ghost use Rattle.shell.specs.Lines.{words_of};
+ghost use Rattle.std.specs.Prelude.{◌≡◌, ◌≢◌, ◌<◌, [], ◌∷◌, All, MatchOption, length, take, option_map, slice_index};
+ghost use Rattle.shell.specs.Lines.{at_sign, words_of};
 
 /// The first word of a line, and what follows its space; none where the line is one word.
 pub fn cut_word(line: &[u8]) -> Option<(&[u8], &[u8])>
@@ -10,6 +10,15 @@ pub fn cut_word(line: &[u8]) -> Option<(&[u8], &[u8])>
     let end = place_of_space(line)?;
     let (word, rest) = line.split_at(end);
     Some((word, &rest[1..]))
+}
+
+/// A word before and behind its first `@`; none where it has none.
+pub fn cut_at_sign(word: &[u8]) -> Option<(&[u8], &[u8])>
+    ensures { option_map (λ cut. (cut.0.now, cut.1.now)) result ≡ at_sign word.now }
+{
+    let end = word.iter().position(|byte| *byte == b'@')?;
+    let (front, rest) = word.split_at(end);
+    Some((front, &rest[1..]))
 }
 
 // The place of the first space.

@@ -1,0 +1,70 @@
+//! The pace of the program: the heaviest slot is flushed, and what makes room for that is done.
+//!
+//! No claim rests on its choices.
+use crate::pace::Pace;
+use node::StepReply;
+use volume::{Index, Step, Volume};
+
+/// So many steps after each line, of the index in which more pieces wait.
+#[derive(Drop)]
+pub struct Tidy {
+    turns: u16,
+    /// The step that was picked last.
+    last: Option<Step>,
+    /// Whether that step had no room.
+    is_stuck: bool,
+    /// Whether nothing was found to do since the last line.
+    is_idle: bool,
+}
+
+impl Tidy {
+    /// A pace of so many steps after each line.
+    pub fn new(turns: u16) -> Tidy {
+        Tidy {
+            turns,
+            last: None,
+            is_stuck: false,
+            is_idle: false,
+        }
+    }
+
+    /// What makes room for the step that had none, if it was one; else the heaviest flush.
+    fn choose(&self, volume: &Volume) -> Option<Step> {
+        match self.last {
+            Some(step) if self.is_stuck => volume.make_room(step),
+            _ => heaviest(volume),
+        }
+    }
+}
+
+impl Pace for Tidy {
+    fn turns(&mut self) -> u16 {
+        self.is_stuck = false;
+        self.is_idle = false;
+        self.turns
+    }
+
+    fn pick(&mut self, volume: &Volume) -> Option<Step> {
+        if self.is_idle {
+            return None;
+        }
+        self.last = self.choose(volume);
+        self.is_idle = self.last.is_none();
+        self.last
+    }
+
+    fn saw(&mut self, reply: StepReply) {
+        self.is_stuck = reply == StepReply::NoRoom;
+        self.is_idle = reply == StepReply::NoMemory;
+    }
+}
+
+/// The heaviest flush of the index in which more pieces wait, that of the metadata where both have as many; none where
+/// nothing waits.
+fn heaviest(volume: &Volume) -> Option<Step> {
+    let meta = volume.shape_report(Index::Meta).pending;
+    let block = volume.shape_report(Index::Block).pending;
+    let index = if meta >= block { Index::Meta } else { Index::Block };
+    let step = volume.heaviest(index)?;
+    Some(Step { index, step })
+}
