@@ -1,13 +1,14 @@
 -- One line: what it asks for, and what it is answered.
 use Rattle.std.proofs.Common.{◌≡◌, inl, inr, ℕ, ◌<◌, List, [], ◌∷◌, length, refl, sym, subst, arith}
-use Rattle.reference.specs.Worlds.{World, Ask, Replied, Fits, next}
+use Rattle.reference.specs.Worlds.{World, Event, Ask, Replied, Settled, Snapped, Fits, next}
 use Rattle.reference.specs.declared.call.Call.{Call}
 use Rattle.reference.specs.declared.reply.Reply.{Reply}
 use Rattle.shell.specs.declared.request.Request.{Request}
-use Rattle.shell.specs.declared.request.Request.TheVariants.{Wanted}
+use Rattle.shell.specs.declared.request.Look.{Look}
+use Rattle.shell.specs.declared.request.Request.TheVariants.{Wanted, Past}
 use Rattle.shell.specs.Requests.{request_of, IsReadAs}
 use Rattle.shell.specs.Replies.{reply_text}
-use Rattle.shell.specs.Script.{Answers, Does, Script}
+use Rattle.shell.specs.Script.{Answers, Does, Script, Settles, Tells, settled_reply}
 use Rattle.shell.specs.Runs.{Leads, Worlds}
 use Rattle.shell.specs.Progress.{last_line}
 use Rattle.shell.proofs.Progress.{script_one}
@@ -26,6 +27,27 @@ answers_call means means' Wrote q call reply is does wrote first m =
     let done = does first m in
     let after = next first (Ask call) (Replied reply) in
     (reply_text reply, after, subst (λ (r : Request). Answers first r (reply_text reply) after) (sym is) (reply, done.0, refl, refl), done.1, wrote)
+
+-- what is answered to a request is answered to the same one
+pub answers_as : (q wanted : Request) (w : World) (text : List ℕ) (w' : World) → q ≡ wanted → Answers w wanted text w' → Answers w q text w'
+answers_as q wanted w text w' is answers = subst (λ (r : Request). Answers w r text w') (sym is) answers
+
+-- a snapshot call was done and answered
+pub answers_settled : (means means' : Worlds) (Wrote : List ℕ → Type 0) (q : Request) (e : Event) (r : Snapped)
+    → ((w : World) (text : List ℕ) (w' : World) → Settles w e text w' → Answers w q text w')
+    → ((w : World) → means w → Fits w e (Settled r) × means' (next w e (Settled r))) → Wrote (reply_text (settled_reply r))
+    → Leads means means' (λ first. Answers first q) Wrote
+answers_settled means means' Wrote q e r is does wrote first m =
+    let done = does first m in
+    let after = next first e (Settled r) in
+    (reply_text (settled_reply r), after, is first (reply_text (settled_reply r)) after (r, done.0, refl, refl), done.1, wrote)
+
+-- a look into a snapshot was answered
+pub answers_look : (means : Worlds) (Wrote : List ℕ → Type 0) (q : Request) (s : List ℕ) (l : Look) (r : Reply) → q ≡ Past s l
+    → ((w : World) → means w → Tells w s l r) → Wrote (reply_text r)
+    → Leads means means (λ first. Answers first q) Wrote
+answers_look means Wrote q s l r is tells wrote first m =
+    (reply_text r, first, subst (λ (x : Request). Answers first x (reply_text r) first) (sym is) (r, tells first m, refl, refl), m, wrote)
 
 -- what a line asks for was read and answered
 pub line_done : (means means' : Worlds) (Wrote : List ℕ → Type 0) (line : List ℕ) (q : Request) → IsReadAs (request_of line) q

@@ -6,7 +6,6 @@ pub mod Texts
 pub mod Progress
 pub mod Answering
 pub mod Reading
-pub mod Executing
 pub mod OneAnswer
 pub mod OptionFacts
 pub mod LineExamples

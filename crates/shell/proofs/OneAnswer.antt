@@ -2,24 +2,26 @@
 use Rattle.std.proofs.Common.{◌≡◌, ◌≢◌, ◌⊎◌, ℕ, List, [], ◌∷◌, ◌++◌, ◌==◌, true, false, cond, refl, sym, ap, subst, ◌∙◌, inl, inr, append_assoc, codes, length}
 use Rattle.std.specs.List.{All, flat_map}
 use Rattle.std.proofs.lemmas.List.Elements.{All-head, All-tail}
-use Rattle.std.specs.Prelude.{decimal}
+use Rattle.std.specs.Prelude.{decimal, Ok, Err}
+use Rattle.std.specs.FinMap as map
 use Rattle.pathkey.specs.Names.{Name}
 use Rattle.pathkey.specs.Numbers.{word_of}
 use Rattle.pathkey.specs.Texts.{onto_first}
 use Rattle.pathkey.specs.declared.errno.Errno.TheVariants.{ENOMEM}
 use Rattle.reference.specs.Calls.{does}
 use Rattle.reference.specs.Image.{percent}
-use Rattle.reference.specs.Worlds.{World, Answer, Ask, Replied, Settled, Fits, next}
+use Rattle.reference.specs.Worlds.{World, Event, Answer, Ask, TakeSnapshot, DropSnapshot as DropNamed, RestoreSnapshot, Replied, Settled, Snapped, Fits, MayLack, next, outcome}
 use Rattle.reference.specs.declared.call.Call.{Call}
 use Rattle.reference.specs.declared.reply.Kind.{Kind}
 use Rattle.reference.specs.declared.reply.Reply.{Reply}
 use Rattle.reference.specs.declared.reply.Reply.TheVariants.{Done, Count, Data, Stat, Names, Fault}
 use Rattle.shell.specs.declared.request.Request.{Request}
-use Rattle.shell.specs.declared.request.Request.TheVariants.{Silent, Overlong, Malformed, Refused, Wanted}
+use Rattle.shell.specs.declared.request.Look.{Look}
+use Rattle.shell.specs.declared.request.Request.TheVariants.{Silent, Overlong, Malformed, Refused, Wanted, Snapshot, DropSnapshot, Restore, Past}
 use Rattle.shell.specs.Lines.{lines_of}
 use Rattle.shell.specs.Replies.{entry_line, hex_text, name_word, number_line, reply_text, stat_word}
 use Rattle.shell.specs.Requests.{request_of}
-use Rattle.shell.specs.Script.{Answers, Does, Script, LacksNothing}
+use Rattle.shell.specs.Script.{Answers, Does, Script, LacksNothing, Settles, Tells, settled_reply, told_of}
 
 -- ---- texts that end with a line feed
 
@@ -62,6 +64,10 @@ ended_answer w Overlong text w' a = inr (codes "error line", a.0)
 ended_answer w Malformed text w' a = inr (codes "error syntax", a.0)
 ended_answer w (Refused e) text w' a = subst IsEnded (sym a.0) (ended_reply (Fault e))
 ended_answer w (Wanted c) text w' (r, fits, is, then) = subst IsEnded (sym is) (ended_reply r)
+ended_answer w (Snapshot s) text w' (r, fits, is, then) = subst IsEnded (sym is) (ended_reply (settled_reply r))
+ended_answer w (DropSnapshot s) text w' (r, fits, is, then) = subst IsEnded (sym is) (ended_reply (settled_reply r))
+ended_answer w (Restore s) text w' (r, fits, is, then) = subst IsEnded (sym is) (ended_reply (settled_reply r))
+ended_answer w (Past s l) text w' (r, tells, is, then) = subst IsEnded (sym is) (ended_reply r)
 
 ended_does : (w : World) (line text : List ℕ) (w' : World) → Does w line text w' → IsEnded text
 ended_does w line text w' (inl a) = ended_answer w (request_of line) text w' a
@@ -115,6 +121,37 @@ replied : (w : World) (c : Call) (r : Reply) (text rest : List ℕ) → Fits w (
 replied w c r text rest (inl is) told lacks = ap reply_in is
 replied w c r text rest (inr is) told lacks = absurd (lack_seen text rest (told ∙ ap (λ a. reply_text (reply_in a)) is) lacks)
 
+abbrev settled_in : Answer → Snapped
+settled_in (Replied r) = Ok tt
+settled_in (Settled s) = s
+
+-- an answer to a snapshot call
+abbrev IsSettled : Answer → Type 0
+IsSettled (Replied r) = ⊥
+IsSettled (Settled s) = Unit {0}
+
+-- the answer to a snapshot call that memory was there for
+settles : (w : World) (e : Event) (r : Snapped) (text rest : List ℕ) → Fits w e (Settled r) → text ≡ reply_text (settled_reply r) → LacksNothing (text ++ rest) → r ≡ settled_in (outcome w e).1
+settles w e r text rest (inl is) told lacks = ap settled_in is
+settles w e r text rest (inr lack) told lacks = absurd (lack_seen text rest (told ∙ ap (λ (x : Snapped). reply_text (settled_reply x)) (ap settled_in (lack_is w e r lack))) lacks)
+  where
+    lack_is : (w : World) (e : Event) (r : Snapped) → MayLack w e (Settled r) → Settled r ≡ Settled (Err ENOMEM)
+    lack_is w (Ask c) r is = absurd (subst IsSettled is tt)
+    lack_is w (TakeSnapshot s) r lack = lack.0
+    lack_is w (DropNamed s) r lack = absurd lack
+    lack_is w (RestoreSnapshot s) r lack = lack.0
+
+settled_once : (w : World) (e : Event) (text text' rest rest' : List ℕ) (v v' : World) → Settles w e text v → Settles w e text' v' → LacksNothing (text ++ rest) → LacksNothing (text' ++ rest')
+    → Same text text' v v'
+settled_once w e text text' rest rest' v v' (r, fits, is, then) (r', fits', is', then') l l' =
+    let same : r ≡ r' = settles w e r text rest fits is l ∙ sym (settles w e r' text' rest' fits' is' l') in
+    (is ∙ ap (λ (x : Snapped). reply_text (settled_reply x)) same ∙ sym is', then ∙ ap (λ (x : Snapped). next w e (Settled x)) same ∙ sym then')
+
+-- what a look tells that memory was there for
+told : (w : World) (s : List ℕ) (l : Look) (r : Reply) (text rest : List ℕ) → Tells w s l r → text ≡ reply_text r → LacksNothing (text ++ rest) → r ≡ told_of (map.get w.snapshots s) l
+told w s l r text rest (inl is) written lacks = is
+told w s l r text rest (inr is) written lacks = absurd (lack_seen text rest (written ∙ ap reply_text is) lacks)
+
 once : (w : World) (q : Request) (text text' rest rest' : List ℕ) (v v' : World) → Answers w q text v → Answers w q text' v' → LacksNothing (text ++ rest) → LacksNothing (text' ++ rest')
     → Same text text' v v'
 once w Silent text text' rest rest' v v' a b l l' = (a.0 ∙ sym b.0, a.1 ∙ sym b.1)
@@ -124,6 +161,12 @@ once w (Refused e) text text' rest rest' v v' a b l l' = (a.0 ∙ sym b.0, a.1 �
 once w (Wanted c) text text' rest rest' v v' (r, fits, is, then) (r', fits', is', then') l l' =
     let same : r ≡ r' = replied w c r text rest fits is l ∙ sym (replied w c r' text' rest' fits' is' l') in
     (is ∙ ap reply_text same ∙ sym is', then ∙ ap (λ (x : Reply). next w (Ask c) (Replied x)) same ∙ sym then')
+once w (Snapshot s) text text' rest rest' v v' a b l l' = settled_once w (TakeSnapshot s) text text' rest rest' v v' a b l l'
+once w (DropSnapshot s) text text' rest rest' v v' a b l l' = settled_once w (DropNamed s) text text' rest rest' v v' a b l l'
+once w (Restore s) text text' rest rest' v v' a b l l' = settled_once w (RestoreSnapshot s) text text' rest rest' v v' a b l l'
+once w (Past s k) text text' rest rest' v v' (r, tells, is, then) (r', tells', is', then') l l' =
+    let same : r ≡ r' = told w s k r text rest tells is l ∙ sym (told w s k r' text' rest' tells' is' l') in
+    (is ∙ ap reply_text same ∙ sym is', then ∙ sym then')
 
 line_once : (w : World) (line text text' rest rest' : List ℕ) (v v' : World) → Does w line text v → Does w line text' v' → LacksNothing (text ++ rest) → LacksNothing (text' ++ rest')
     → Same text text' v v'

@@ -6,6 +6,5 @@ pub mod Parts
 pub mod Script
 pub mod Runs
 pub mod Progress
-pub mod Meant
 pub mod CommandLine
 pub mod Image

@@ -3,7 +3,7 @@ ghost use Rattle.std.specs.Prelude.{◌≡◌, ◌⊎◌, Err, MatchResult};
 ghost use Rattle.pathkey.specs.declared.errno.Errno.TheVariants.{ENOMEM};
 ghost use Rattle.shell.specs.Lines.{words_of};
 ghost use Rattle.pathkey.specs.SnapNames.{snap_parsed};
-ghost use Rattle.shell.specs.Requests.{IsReadAs, command_of, named_command, offset_command, past, past_path_command, past_read_command, path_command, path_of, read_command, rename_of, request_of, third_command, truncate_command, write_command};
+ghost use Rattle.shell.specs.Requests.{IsReadAs, command_of, looking, named_command, offset_command, past, past_path_command, past_read_command, path_command, path_of, read_command, rename_of, request_of, third_command, truncate_command, write_command};
 
 use crate::request::{Look, Request};
 use crate::values::{read_bytes, read_number, writes_bytes};
@@ -100,12 +100,30 @@ fn read_past_path_command(alloc: Global, call: &[u8], snapshot: &[u8], path: &[u
     ensures { IsReadAs (past_path_command (call.now, snapshot.now) path.now) result }
 {
     if call == b"stat".as_slice() {
-        return read_past(alloc, snapshot, read_path(alloc, path).map(Look::Stat));
+        let look = read_stat(alloc, path);
+        return read_past(alloc, snapshot, look);
     }
     if call == b"readdir".as_slice() {
-        return read_past(alloc, snapshot, read_path(alloc, path).map(Look::Readdir));
+        let look = read_readdir(alloc, path);
+        return read_past(alloc, snapshot, look);
     }
     Request::Malformed
+}
+
+// A look at what stands at a path.
+fn read_stat(alloc: Global, path: &[u8]) -> Result<Look, Errno>
+    ensures { (result ≡ looking Look.Stat (path_of path.now)) ⊎ (result ≡ Err ENOMEM) }
+{
+    let path = read_path(alloc, path)?;
+    Ok(Look::Stat(path))
+}
+
+// A look at the entries of a directory.
+fn read_readdir(alloc: Global, path: &[u8]) -> Result<Look, Errno>
+    ensures { (result ≡ looking Look.Readdir (path_of path.now)) ⊎ (result ≡ Err ENOMEM) }
+{
+    let path = read_path(alloc, path)?;
+    Ok(Look::Readdir(path))
 }
 
 // A look into the snapshot of that name; the name is refused before what is looked at.
@@ -195,11 +213,16 @@ fn read_past_read_command(
     let (Some(offset), Some(count)) = (read_number(offset), read_number(count)) else {
         return Request::Malformed;
     };
-    let look = match read_path(alloc, path) {
-        Ok(path) => Ok(Look::Read(path, offset, count)),
-        Err(fault) => Err(fault),
-    };
+    let look = read_look(alloc, path, offset, count);
     read_past(alloc, snapshot, look)
+}
+
+// A look at so many bytes of a file.
+fn read_look(alloc: Global, path: &[u8], offset: u64, count: u64) -> Result<Look, Errno>
+    ensures { (result ≡ looking (λ p. Look.Read p offset count) (path_of path.now)) ⊎ (result ≡ Err ENOMEM) }
+{
+    let path = read_path(alloc, path)?;
+    Ok(Look::Read(path, offset, count))
 }
 
 // What the words of a `write` ask for.

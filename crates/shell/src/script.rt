@@ -232,11 +232,26 @@ fn answer<W: Write>(
         Request::Overlong => put(writer, b"error line\n"),
         Request::Malformed => put(writer, b"error syntax\n"),
         Request::Refused(fault) => put_fault(writer, fault),
-        Request::Wanted(call) => write_reply(writer, &volume.call(alloc, &call)),
-        Request::Snapshot(name) => put_settled(writer, volume.snapshot(alloc, &name)),
-        Request::DropSnapshot(name) => put_settled(writer, volume.drop_snapshot(&name)),
-        Request::Restore(name) => put_settled(writer, volume.restore(&name)),
-        Request::Past(name, look) => write_reply(writer, &look_back(alloc, volume, &name, &look)),
+        Request::Wanted(call) => {
+            let reply = volume.call(alloc, &call);
+            write_reply(writer, &reply)
+        }
+        Request::Snapshot(name) => {
+            let settled = volume.snapshot(alloc, &name);
+            put_settled(writer, settled)
+        }
+        Request::DropSnapshot(name) => {
+            let settled = volume.drop_snapshot(&name);
+            put_settled(writer, settled)
+        }
+        Request::Restore(name) => {
+            let settled = volume.restore(&name);
+            put_settled(writer, settled)
+        }
+        Request::Past(name, look) => {
+            let reply = look_back(alloc, volume, &name, &look);
+            write_reply(writer, &reply)
+        }
     }
 }
 

@@ -7,7 +7,7 @@ pub fn cut_word(line: &[u8]) -> Option<(&[u8], &[u8])>
     ensures { MatchOption result (words_of line.now ≡ line.now ∷ [])
         (λ cut. words_of line.now ≡ cut.0.now ∷ words_of cut.1.now) }
 {
-    let end = place_of_space(line)?;
+    let end = place_of(line, b' ')?;
     let (word, rest) = line.split_at(end);
     Some((word, &rest[1..]))
 }
@@ -16,15 +16,15 @@ pub fn cut_word(line: &[u8]) -> Option<(&[u8], &[u8])>
 pub fn cut_at_sign(word: &[u8]) -> Option<(&[u8], &[u8])>
     ensures { option_map (λ cut. (cut.0.now, cut.1.now)) result ≡ at_sign word.now }
 {
-    let end = word.iter().position(|byte| *byte == b'@')?;
+    let end = place_of(word, b'@')?;
     let (front, rest) = word.split_at(end);
     Some((front, &rest[1..]))
 }
 
-// The place of the first space.
-fn place_of_space(line: &[u8]) -> Option<usize>
-    ensures { MatchOption result (All (λ b. b ≢ 32) line.now)
-        (λ i. (i < length line.now) × (slice_index line.now i ≡ 32) × All (λ b. b ≢ 32) (take i line.now)) }
+// The place of the first byte that is this one.
+fn place_of(text: &[u8], wanted: u8) -> Option<usize>
+    ensures { MatchOption result (All (λ b. b ≢ wanted) text.now)
+        (λ i. (i < length text.now) × (slice_index text.now i ≡ wanted) × All (λ b. b ≢ wanted) (take i text.now)) }
 {
-    line.iter().position(|byte| *byte == b' ')
+    text.iter().position(|byte| *byte == wanted)
 }

@@ -3,6 +3,7 @@ use Rattle.std.proofs.lemmas.List.{take_more, take_all}
 use Rattle.std.specs.Prelude.{Option}
 use Rattle.std.specs.Io.KnownBytes.{Appends}
 use Rattle.std.proofs.KnownBytes.{Appends-nil, Appends-trans}
+use Rattle.volume.specs.Volumes.{Means}
 use Rattle.shell.specs.Runs.{Leads, Worlds}
 use Rattle.shell.specs.Parts.{AppendsPart}
 use Rattle.shell.specs.Script.{Does}
@@ -11,7 +12,7 @@ use Rattle.shell.proofs.Known.{on_err}
 use Rattle.shell.proofs.WordFacts.{parted_at}
 use Rattle.shell.proofs.Progress.{does_held, hold_more, holds_nothing, went_byte, went_line, went_nothing}
 use Rattle.shell.proofs.script.take_piece.Goals as goal
-use Rattle.shell.proofs.script.take_piece.Goals.{then-byte-eq-LINE_FEED+in_ok-answer_line, else-byte-eq-LINE_FEED}
+use Rattle.shell.proofs.script.take_piece.Goals.{then-byte-eq-LINE_FEED+in_ok-do_line, else-byte-eq-LINE_FEED}
 
 pub loop-byte-init : goal.loop-byte-init
 loop-byte-init g c = record {
@@ -50,9 +51,9 @@ fails means mid means' old now new piece items line i lt is so answered held hol
       Appends-trans _ _ _ _ _ appended wrote,
     )
 
-pub returns-in_err-answer_line-clause-err : goal.returns-in_err-answer_line-clause-err
-returns-in_err-answer_line-clause-err g c =
-    let answered = rw c.as_slice.ensures.value at c.in_err-answer_line.ensures.err in
+pub returns-in_err-do_line-clause-err : goal.returns-in_err-do_line-clause-err
+returns-in_err-do_line-clause-err g c =
+    let answered = rw c.as_slice.ensures.value at c.in_err-do_line.ensures.err in
     on_err _ _ (fails _ _ _ _ _ _ c.args.piece.now c.args.line.now.items _ c.loop-byte.byte-index c.loop-byte-test.true c.if-byte-eq-LINE_FEED.true c.loop-byte.invariant.went answered)
 
 next_take : (piece : List ℕ) (i byte : ℕ) → i < length piece → get_or piece i 0 ≡ byte → take (i + 1) piece ≡ take i piece ++ byte ∷ []
@@ -60,11 +61,11 @@ next_take piece i byte lt is = take_more piece i 0 lt ∙ ap (λ b. take i piece
 
 pub loop-byte-preserved : goal.loop-byte-preserved
 loop-byte-preserved g c = elim c.if-byte-eq-LINE_FEED.branch [
-  | then-byte-eq-LINE_FEED+in_ok-answer_line w ↦
-      let answered = rw w.as_slice.ensures.value at w.in_ok-answer_line.ensures.ok in
+  | then-byte-eq-LINE_FEED+in_ok-do_line w ↦
+      let answered = rw w.as_slice.ensures.value at w.in_ok-do_line.ensures.ok in
       let is : take (c.loop-byte.byte-index + 1) c.args.piece.now ≡ take c.loop-byte.byte-index c.args.piece.now ++ 10 ∷ [] =
       next_take c.args.piece.now c.loop-byte.byte-index 10 c.loop-byte-test.true w.if-byte-eq-LINE_FEED.true in
-      rw (w.state-is, w.line-is, w.writer-is, is) (record {
+      rw (w.volume-is, w.line-is, w.writer-is, is) (record {
         room = omega arith;
         went = λ held holds first means.
             let (out, before, (left, holding, went), m, appended) = c.loop-byte.invariant.went held holds first means in
@@ -85,7 +86,7 @@ loop-byte-preserved g c = elim c.if-byte-eq-LINE_FEED.branch [
       let byte : ℕ = get_or c.args.piece.now c.loop-byte.byte-index 0 in
       let is : take (c.loop-byte.byte-index + 1) c.args.piece.now ≡ take c.loop-byte.byte-index c.args.piece.now ++ byte ∷ [] =
       next_take c.args.piece.now c.loop-byte.byte-index byte c.loop-byte-test.true refl in
-      rw (w.state-is, w.line-is, w.writer-is, is) (record {
+      rw (w.volume-is, w.line-is, w.writer-is, is) (record {
         room = omega arith;
         went = λ held holds first means.
             let (out, after, (left, holding, went), m, appended) = c.loop-byte.invariant.went held holds first means in (
@@ -105,6 +106,6 @@ loop-byte-preserved g c = elim c.if-byte-eq-LINE_FEED.branch [
 pub returns-clause-ok : goal.returns-clause-ok
 returns-clause-ok g c =
     let all : take c.loop-byte.byte-index c.args.piece.now ≡ c.args.piece.now = take_all _ c.args.piece.now c.loop-byte-test.false in
-    subst (λ (p : List ℕ). So (g.S.Execute.means c.args.state.now) (g.S.Execute.means c.loop-byte.state) (g.W.Write.contents c.args.writer.now) (g.W.Write.contents c.loop-byte.writer) p
+    subst (λ (p : List ℕ). So (Means c.args.volume.now) (Means c.loop-byte.volume) (g.W.Write.contents c.args.writer.now) (g.W.Write.contents c.loop-byte.writer) p
     c.args.line.now.items c.loop-byte.line.items)
     all c.loop-byte.invariant.went
