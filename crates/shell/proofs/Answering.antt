@@ -60,6 +60,13 @@ line_done means means' Wrote line q read f first m =
     does (inl is) first out after answers = inl (subst (λ (r : Request). Answers first r out after) is answers)
     does (inr lacks) first out after answers = inr (lacks.1, subst (λ (r : Request). Answers first r out after) lacks.0 answers)
 
+-- what was meant after a line is meant after the steps that follow it
+pub then_kept : (means mid means' : Worlds) (step : World → List ℕ → World → Type 0) (Wrote : List ℕ → Type 0)
+    → Leads means mid step Wrote → ((w : World) → mid w → means' w) → Leads means means' step Wrote
+then_kept means mid means' step Wrote f kept first m =
+    let (out, after, did, m', wrote) = f first m in
+    (out, after, did, kept after m', wrote)
+
 -- a last line without its line feed was done
 pub last_done : (means means' : Worlds) (Wrote Known : List ℕ → Type 0) (line : List ℕ) → 0 < length line → ((out : List ℕ) → Wrote out → Known out)
     → Leads means means' (λ first. Does first line) Wrote → Leads means means' (λ first. Script first (last_line line)) Known
