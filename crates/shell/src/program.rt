@@ -1,0 +1,178 @@
+//! The program `betr`: runs a script over a new volume, as the words of a command line ask.
+use crate::command_line::{Options, read_words};
+use crate::image::{ImageFault, print_image};
+use crate::script::{ScriptFault, run_script};
+use crate::tidy::Tidy;
+use clap::error::ErrorKind;
+use node::Shape;
+use pathkey::Errno;
+use std::alloc::Global;
+use std::fs::Files;
+use std::io::{BufWriter, Read, Write};
+use std::{fs, io};
+use thiserror::Error;
+use volume::Volume;
+
+/// How many bytes of replies are gathered before they are written.
+const OUTPUT_BUFFER: usize = 65_536;
+
+/// The status where all was done and printed.
+const DONE: u8 = 0;
+
+/// The status where the program ended before that.
+const FAILED: u8 = 1;
+
+/// The status where the command line was refused.
+const REFUSED: u8 = 2;
+
+/// Why the program ends before all is done and printed.
+#[derive(Debug, Drop, Error)]
+enum Failure {
+    /// The command line was refused.
+    #[error(transparent)]
+    Words(clap::Error),
+    /// Memory was refused.
+    #[error("betr: no memory")]
+    Memory,
+    /// No tree may have the shape.
+    #[error("betr: bad shape")]
+    Shape,
+    /// The file with the script could not be opened.
+    #[error("betr: cannot open")]
+    Open,
+    /// The script was not run to its end.
+    #[error(transparent)]
+    Script(ScriptFault),
+    /// The image was not printed to its end.
+    #[error(transparent)]
+    Image(ImageFault),
+    /// What was to be printed last was not.
+    #[error("betr: write failed")]
+    Write,
+}
+
+/// Does what the words of a command line ask for, and answers with what status the program ends. The first word is the program's
+/// name. A script that no file is named for is read from `input`; replies, the image and help go to `output`, and why the program ends
+/// early to `errors`: where that cannot be printed, the status is the same.
+pub fn run_words<F: Files, R: Read, W: Write + Drop, E: Write>(
+    rt: &F,
+    alloc: Global,
+    words: &[&str],
+    input: &mut R,
+    output: W,
+    errors: &mut E,
+) -> u8 {
+    let ended = match read_words(alloc, words) {
+        Ok(options) => run(rt, alloc, &options, input, output),
+        Err(error) => end_unread(error, output),
+    };
+    match ended {
+        Ok(()) => DONE,
+        Err(Failure::Words(error)) => {
+            let _ = write!(errors, "{error}");
+            REFUSED
+        }
+        Err(failure) => {
+            let _ = writeln!(errors, "{failure}");
+            FAILED
+        }
+    }
+}
+
+/// Prints help, where that was asked for.
+fn end_unread<W: Write + Drop>(error: clap::Error, mut output: W) -> Result<(), Failure> {
+    if error.kind() == ErrorKind::OutOfMemory {
+        return Err(Failure::Memory);
+    }
+    if error.use_stderr() {
+        return Err(Failure::Words(error));
+    }
+    match write!(output, "{error}") {
+        Ok(()) => flush(&mut output),
+        Err(_) => Err(Failure::Write),
+    }
+}
+
+/// Runs the script that the options name over a new volume.
+fn run<F: Files, R: Read, W: Write + Drop>(
+    rt: &F,
+    alloc: Global,
+    options: &Options<'_>,
+    input: &mut R,
+    output: W,
+) -> Result<(), Failure> {
+    let mut volume = new_volume(alloc, options)?;
+    match options.script {
+        Some(path) => {
+            let mut file = open(rt, path)?;
+            print(alloc, &mut volume, options, &mut file, output)
+        }
+        None => print(alloc, &mut volume, options, input, output),
+    }
+}
+
+/// A new volume of the shape that the options ask for.
+fn new_volume(alloc: Global, options: &Options<'_>) -> Result<Volume, Failure> {
+    let shape = Shape {
+        fanout: options.fanout,
+        pending: options.pending,
+        leaf: options.leaf,
+    };
+    match Volume::new(alloc, shape) {
+        Ok(volume) => Ok(volume),
+        Err(Errno::EINVAL) => Err(Failure::Shape),
+        Err(_) => Err(Failure::Memory),
+    }
+}
+
+/// Opens the file with the script.
+fn open<F: Files>(rt: &F, path: &str) -> Result<F::File, Failure> {
+    match fs::open(rt, path) {
+        Ok(file) => Ok(file),
+        Err(error) if error.kind() == io::ErrorKind::OutOfMemory => Err(Failure::Memory),
+        Err(_) => Err(Failure::Open),
+    }
+}
+
+/// Prints the replies to a script, gathered into large writes, and then the image if the options ask for it.
+fn print<R: Read, W: Write + Drop>(
+    alloc: Global,
+    volume: &mut Volume,
+    options: &Options<'_>,
+    script: &mut R,
+    output: W,
+) -> Result<(), Failure> {
+    let Ok(mut buffer) = BufWriter::with_capacity(alloc, OUTPUT_BUFFER, output) else {
+        return Err(Failure::Memory);
+    };
+    print_replies(alloc, volume, options.steps, script, &mut buffer)?;
+    if options.image {
+        print_live(alloc, volume, &mut buffer)?;
+    }
+    flush(&mut buffer)
+}
+
+/// Prints the replies to a script; so many steps of tidying follow each line.
+fn print_replies<R: Read, W: Write>(
+    alloc: Global,
+    volume: &mut Volume,
+    steps: u16,
+    script: &mut R,
+    writer: &mut W,
+) -> Result<(), Failure> {
+    let mut pace = Tidy::new(steps);
+    run_script(alloc, volume, script, writer, &mut pace).map_err(Failure::Script)
+}
+
+/// Prints the image of the live tree.
+fn print_live<W: Write>(alloc: Global, volume: &Volume, writer: &mut W) -> Result<(), Failure> {
+    match volume.freeze() {
+        Ok(frozen) => print_image(alloc, &frozen, writer).map_err(Failure::Image),
+        Err(_) => Err(Failure::Memory),
+    }
+}
+
+/// Writes out what is gathered.
+fn flush<W: Write>(writer: &mut W) -> Result<(), Failure> {
+    writer.flush().map_err(|_| Failure::Write)
+}
