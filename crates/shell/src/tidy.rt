@@ -64,7 +64,11 @@ impl Pace for Tidy {
 fn heaviest(volume: &Volume) -> Option<Step> {
     let meta = volume.shape_report(Index::Meta).pending;
     let block = volume.shape_report(Index::Block).pending;
-    let index = if meta >= block { Index::Meta } else { Index::Block };
+    let index = if meta >= block {
+        Index::Meta
+    } else {
+        Index::Block
+    };
     let step = volume.heaviest(index)?;
     Some(Step { index, step })
 }

@@ -10,4 +10,4 @@ returns c =
     let is : past_read_command (c.args.call.now, c.args.snapshot.now) c.args.path.now c.args.offset.now c.args.count.now
     ≡ past c.args.snapshot.now (looking (λ p. look.Read p c.in-Some-Some.offset c.in-Some-Some.count) (path_of c.args.path.now)) = search rules in
     subst (λ (r : Request). IsReadAs r c.read_past.result) (sym is)
-        (look_read c.args.snapshot.now (looking (λ p. look.Read p c.in-Some-Some.offset c.in-Some-Some.count) (path_of c.args.path.now)) _ _ c.read_look-look.ensures c.read_past.ensures)
+    (look_read c.args.snapshot.now (looking (λ p. look.Read p c.in-Some-Some.offset c.in-Some-Some.count) (path_of c.args.path.now)) _ _ c.read_look-look.ensures c.read_past.ensures)

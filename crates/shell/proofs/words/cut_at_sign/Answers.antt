@@ -1,4 +1,4 @@
-use Rattle.std.proofs.Common.{sym, ap, ◌∙◌}
+use Rattle.std.proofs.Common.{sym}
 use Rattle.shell.proofs.WordFacts.{no_sign, cut_at_first_sign}
 use Rattle.shell.proofs.words.cut_at_sign.Goals as goal
 
