@@ -9,11 +9,12 @@ use Rattle.reference.proofs.ImageTexts.{cut, hex_visible, hex_injective, decimal
 
 -- ---- trailing zeros
 
-abbrev keep : ℕ → List ℕ → List ℕ
+-- a byte in front of what is kept behind it
+abbrev pub keep : ℕ → List ℕ → List ℕ
 keep zero [] = []
 keep b rest = b ∷ rest
 
-trimmed_is : (b : ℕ) (bs : List ℕ) → trimmed (b ∷ bs) ≡ keep b (trimmed bs)
+pub trimmed_is : (b : ℕ) (bs : List ℕ) → trimmed (b ∷ bs) ≡ keep b (trimmed bs)
 trimmed_is zero bs = elim (trimmed bs) as (λ r. trimmed bs ≡ r → trimmed (0 ∷ bs) ≡ keep 0 r) [
   | [] ↦ λ e. rw e refl
   | x ∷ xs ↦ λ e. rw e refl

@@ -22,11 +22,11 @@ name_without_slash : (n : Name) → HasNameBytes n → Slashless n
 name_without_slash [] h = tt
 name_without_slash (b ∷ n) h = (h.2, name_without_slash n h.3)
 
-first_at : (n : Name) (x : Tree) (rest : Entries) (r : Path) → entry_at (Dir (entry n x rest)) (n ∷ r) ≡ entry_at x r
+pub first_at : (n : Name) (x : Tree) (rest : Entries) (r : Path) → entry_at (Dir (entry n x rest)) (n ∷ r) ≡ entry_at x r
 first_at n x rest r = ap (λ (b : Bool). fold onward (found (cond b (Some x) (named n rest))) r) (same_itself n)
 
 -- what stands in later entries has another name than the first
-later_at : (n : Name) (x : Tree) (rest : Entries) (k : Name) (r : Path) (y : Tree) → AllAbove n rest → entry_at (Dir rest) (k ∷ r) ≡ Found y → entry_at (Dir (entry n x rest)) (k ∷ r) ≡ Found y
+pub later_at : (n : Name) (x : Tree) (rest : Entries) (k : Name) (r : Path) (y : Tree) → AllAbove n rest → entry_at (Dir rest) (k ∷ r) ≡ Found y → entry_at (Dir (entry n x rest)) (k ∷ r) ≡ Found y
 later_at n x rest k r y h e = elim (same k n) as (λ b. same k n ≡ b → fold onward (found (cond b (Some x) (named k rest))) r ≡ Found y) [
   | true ↦ λ f. absurd (
       let absent : named k rest ≡ None = ap (λ (j : Name). named j rest) (same_true k n f) ∙ none_above n rest h in

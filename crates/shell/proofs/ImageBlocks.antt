@@ -17,6 +17,7 @@ use Rattle.reference.specs.Looks.{Bytes, look, seen}
 use Rattle.reference.specs.Indexes.{BlockOf, Blocks, BlocksMean, Hold, held, most_blocks}
 use Rattle.reference.specs.Image.{block_line, block_lines, trimmed}
 use Rattle.reference.proofs.FileBlocks.{byte-held}
+use Rattle.reference.proofs.ImageBytes.{keep, trimmed_is}
 use Rattle.std.specs.Io.KnownBytes.{Appends}
 use Rattle.shell.specs.Parts.{AppendsPart}
 use Rattle.shell.specs.Replies.{hex_text}
@@ -24,17 +25,6 @@ use Rattle.std.specs.Prelude.{◌==◌, codes, decimal}
 use Rattle.shell.proofs.Known.{part_after, part_before}
 
 -- ---- trailing zeros
-
-abbrev keep : ℕ → List ℕ → List ℕ
-keep zero [] = []
-keep b rest = b ∷ rest
-
-trimmed_is : (b : ℕ) (bs : List ℕ) → trimmed (b ∷ bs) ≡ keep b (trimmed bs)
-trimmed_is zero bs = elim (trimmed bs) as (λ r. trimmed bs ≡ r → trimmed (0 ∷ bs) ≡ keep 0 r) [
-  | [] ↦ λ e. rw e refl
-  | x ∷ xs ↦ λ e. rw e refl
-] refl
-trimmed_is (suc b) bs = refl
 
 -- bytes that agree, with zeros behind their ends, are trimmed to the same
 pub same_trimmed : (xs ys : List ℕ) → ((j : ℕ) → get_or xs j 0 ≡ get_or ys j 0) → trimmed xs ≡ trimmed ys

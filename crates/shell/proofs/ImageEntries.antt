@@ -6,7 +6,7 @@ use Rattle.std.proofs.lemmas.Bool.{and_parts, false_from_ne_true}
 use Rattle.pathkey.specs.Order.{by_bytes, same}
 use Rattle.pathkey.specs.Names.{Name, Path, EachName}
 use Rattle.pathkey.specs.Keys.{Key, enc, next_key}
-use Rattle.pathkey.proofs.OrderFacts.{same_itself, same_true}
+use Rattle.pathkey.proofs.OrderFacts.{same_true}
 use Rattle.message.specs.Ranges.{before, reaches, within}
 use Rattle.message.proofs.KeyOrder.{before_from_not_reaches, from_start, le_le, not_before_from_reaches, reaches-from_before, reaches-refl}
 use Rattle.scan.specs.Pairs.{HasNone, IsFirst}
@@ -20,7 +20,7 @@ use Rattle.reference.specs.Indexes.{Metadata, MetaMeans, PathOf, meta_of}
 use Rattle.reference.specs.declared.reply.Meta.{Meta}
 use Rattle.reference.specs.declared.reply.Meta.TheVariants.{Dir as DirMeta, File as FileMeta}
 use Rattle.reference.proofs.Edits.{fold-Missing, fold-Blocked}
-use Rattle.reference.proofs.Sight.{none_above}
+use Rattle.reference.proofs.ShownTrees.{first_at as first_stands, later_at}
 use Rattle.reference.proofs.Standing.{seen_found}
 use Rattle.meta_index.proofs.BelowPath.{in_below, seen_some}
 use Rattle.meta_index.proofs.ChildOrder.{child_before}
@@ -31,19 +31,11 @@ use Rattle.shell.specs.Image.{entry_lines, file_line}
 
 -- ---- what stands in a directory
 
-first_stands : (n : Name) (x : Tree) (rest : Entries) (r : Path) (y : Tree) → entry_at x r ≡ Found y → entry_at (Dir (entry n x rest)) (n ∷ r) ≡ Found y
-first_stands n x rest r y e = ap (λ (b : Bool). fold onward (found (cond b (Some x) (named n rest))) r) (same_itself n) ∙ e
-
 missing_stands : (r : Path) (y : Tree) → fold onward Missing r ≡ Found y → ⊥
 missing_stands r y e = let clash : Missing ≡ Found y = sym (fold-Missing r) ∙ e in cc
 
 blocked_stands : (r : Path) (y : Tree) → fold onward Blocked r ≡ Found y → ⊥
 blocked_stands r y e = let clash : Blocked ≡ Found y = sym (fold-Blocked r) ∙ e in cc
-
-later_stands : (n : Name) (x : Tree) (rest : Entries) (k : Name) (r : Path) (y : Tree) → AllAbove n rest → entry_at (Dir rest) (k ∷ r) ≡ Found y → entry_at (Dir (entry n x rest)) (k ∷ r) ≡ Found y
-later_stands n x rest k r y h e = by_bool (same k n) (entry_at (Dir (entry n x rest)) (k ∷ r) ≡ Found y)
-    (λ s. absurd (missing_stands r y (sym (ap (λ (o : Option Tree). fold onward (found o) r) (ap (λ (j : Name). named j rest) (same_true k n s) ∙ none_above n rest h)) ∙ e)))
-    (λ s. ap (λ (b : Bool). fold onward (found (cond b (Some x) (named k rest))) r) s ∙ e)
 
 later_above : (n : Name) (rest : Entries) (k : Name) (r : Path) (y : Tree) → AllAbove n rest → entry_at (Dir rest) (k ∷ r) ≡ Found y → by_bytes n k ≡ Less
 later_above n nothing k r y h e = absurd (missing_stands r y e)
@@ -77,10 +69,10 @@ mutual
   same_texts f g p nothing v h = refl
   same_texts f g p (entry n x rest) v h =
       let first : text_by f (p ++ n ∷ []) x ≡ text_by g (p ++ n ∷ []) x =
-      same_text f g (p ++ n ∷ []) x v.1 (λ r y e. subst (λ (q : Path). f q ≡ g q) (sym (append_assoc p (n ∷ []) r)) (h n r y (first_stands n x rest r y e)))
+      same_text f g (p ++ n ∷ []) x v.1 (λ r y e. subst (λ (q : Path). f q ≡ g q) (sym (append_assoc p (n ∷ []) r)) (h n r y (first_stands n x rest r ∙ e)))
       in
       ap (λ (t : Text). t ++ texts_by f p rest) first
-      ∙ ap (λ (t : Text). text_by g (p ++ n ∷ []) x ++ t) (same_texts f g p rest v.2 (λ k r y e. h k r y (later_stands n x rest k r y v.0 e)))
+      ∙ ap (λ (t : Text). text_by g (p ++ n ∷ []) x ++ t) (same_texts f g p rest v.2 (λ k r y e. h k r y (later_at n x rest k r y v.0 e)))
 
 -- none is marked
 mutual
@@ -174,10 +166,10 @@ module _ (k : Key) where
         let path : p ++ n ∷ r ≡ (p ++ m ∷ []) ++ r = ap (λ (j : Name). p ++ j ∷ r) one ∙ sym (append_assoc p (m ∷ []) r) in
         let key : k ≡ enc (p ++ m ∷ r) = is ∙ ap (λ (j : Name). enc (p ++ j ∷ r)) one in
         let first : text_by from (p ++ m ∷ []) x ≡ entry_lines ((p ++ m ∷ []) ++ r) y ++ text_by behind (p ++ m ∷ []) x =
-        first_line (p ++ m ∷ []) x r y v.1 (λ q z f. (u m q z (first_stands m x rest q z f)).1) here (is ∙ ap enc path)
+        first_line (p ++ m ∷ []) x r y v.1 (λ q z f. (u m q z (first_stands m x rest q ∙ f)).1) here (is ∙ ap enc path)
         in
         let others : texts_by from p rest ≡ texts_by behind p rest = same_texts from behind p rest v.2 (λ l q z f.
-        alike (p ++ l ∷ q) (subst (λ (j : Key). before j (enc (p ++ l ∷ q)) ≡ true) (sym key) (child_before p m l r q (u l q z (later_stands m x rest l q z v.0 f)).0.bytes (later_above m rest l q z v.0 f))))
+        alike (p ++ l ∷ q) (subst (λ (j : Key). before j (enc (p ++ l ∷ q)) ≡ true) (sym key) (child_before p m l r q (u l q z (later_at m x rest l q z v.0 f)).0.bytes (later_above m rest l q z v.0 f))))
         in
         ap (λ (t : Text). t ++ texts_by from p rest) first
         ∙ ap (λ (t : Text). (entry_lines ((p ++ m ∷ []) ++ r) y ++ text_by behind (p ++ m ∷ []) x) ++ t) others
@@ -192,7 +184,7 @@ module _ (k : Key) where
         let no_from : text_by from (p ++ m ∷ []) x ≡ [] = same_text from (λ _. false) (p ++ m ∷ []) x v.1 (λ q z f. (none q).0) ∙ no_text (p ++ m ∷ []) x in
         let no_behind : text_by behind (p ++ m ∷ []) x ≡ [] = same_text behind (λ _. false) (p ++ m ∷ []) x v.1 (λ q z f. (none q).1) ∙ no_text (p ++ m ∷ []) x in
         ap (λ (t : Text). t ++ texts_by from p rest) no_from
-        ∙ first_lines p rest n r y v.2 (λ l q z f. u l q z (later_stands m x rest l q z v.0 f)) later is
+        ∙ first_lines p rest n r y v.2 (λ l q z f. u l q z (later_at m x rest l q z v.0 f)) later is
         ∙ ap (λ (t : Text). entry_lines (p ++ n ∷ r) y ++ (t ++ texts_by behind p rest)) (sym no_behind))
 
 -- ---- the image
