@@ -1,10 +1,10 @@
 //! Scripts and what each line is answered.
-use call_compiler::Indexes;
 use node::Shape;
-use pathkey::NoMemory;
-use shell::{ScriptFault, run_script};
+use pathkey::Errno;
+use shell::{Pace, ScriptFault, Tidy, run_script};
 use std::alloc::Global;
 use std::io::{Read, Write};
+use volume::Volume;
 
 /// The shape that `betr` uses.
 const USUAL: Shape = Shape {
@@ -13,34 +13,51 @@ const USUAL: Shape = Shape {
     leaf: 256,
 };
 
-/// New indexes in this shape.
-fn new_indexes(alloc: Global) -> Result<Indexes, NoMemory> {
-    Indexes::new(alloc, USUAL)
+/// A new volume. It ensures nothing, so that no proof of a test reads what a volume means; nor do the next two.
+pub fn new_volume(alloc: Global, shape: Shape) -> Result<Volume, Errno> {
+    Volume::new(alloc, shape)
 }
 
-/// Runs a script. It ensures nothing, so that no proof of a test reads what a script means.
+/// Runs a script with the steps of a pace between its lines.
+fn run_at<R: Read, W: Write, P: Pace>(
+    alloc: Global,
+    volume: &mut Volume,
+    reader: &mut R,
+    writer: &mut W,
+    pace: &mut P,
+) -> Result<(), ScriptFault> {
+    run_script(alloc, volume, reader, writer, pace)
+}
+
+/// Runs a script with no steps between its lines.
 pub fn run<R: Read, W: Write>(
     alloc: Global,
-    indexes: &mut Indexes,
+    volume: &mut Volume,
     reader: &mut R,
     writer: &mut W,
 ) -> Result<(), ScriptFault> {
-    run_script(alloc, indexes, reader, writer)
+    run_at(alloc, volume, reader, writer, &mut Tidy::new(0))
 }
 
-/// Whether a script is answered so.
-fn answers(alloc: Global, indexes: &mut Indexes, script: &[u8], wanted: &[u8]) -> bool {
+/// Whether a script is answered so, with so many steps after each line.
+fn answers(alloc: Global, volume: &mut Volume, script: &[u8], wanted: &[u8], turns: u16) -> bool {
     let mut out = Vec::new(alloc);
     let mut reader = script;
-    run(alloc, indexes, &mut reader, &mut out).is_ok() && out.as_slice() == wanted
+    let mut pace = Tidy::new(turns);
+    run_at(alloc, volume, &mut reader, &mut out, &mut pace).is_ok() && out.as_slice() == wanted
 }
 
-/// Whether a script is answered so where nothing stands but the root.
-fn is_answered(alloc: Global, script: &[u8], wanted: &[u8]) -> bool {
-    match new_indexes(alloc) {
-        Ok(mut indexes) => answers(alloc, &mut indexes, script, wanted),
+/// The same where nothing stands but the root.
+fn is_answered_at(alloc: Global, script: &[u8], wanted: &[u8], turns: u16) -> bool {
+    match new_volume(alloc, USUAL) {
+        Ok(mut volume) => answers(alloc, &mut volume, script, wanted, turns),
         Err(_) => false,
     }
+}
+
+/// Whether a script is answered so where nothing stands but the root, with no steps and with seven after each line.
+fn is_answered(alloc: Global, script: &[u8], wanted: &[u8]) -> bool {
+    is_answered_at(alloc, script, wanted, 0) && is_answered_at(alloc, script, wanted, 7)
 }
 
 /// A script, and what it is answered.

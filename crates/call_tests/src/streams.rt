@@ -1,14 +1,13 @@
 //! Scripts over readers and writers in memory, some of which fail.
 ghost use Rattle.std.specs.Prelude.{Some};
 
-use crate::scripts::run;
-use call_compiler::Indexes;
+use crate::scripts::{new_volume, run};
 use node::Shape;
-use pathkey::NoMemory;
 use shell::ScriptFault;
 use std::alloc::Global;
 use std::io;
 use std::io::{Read, Write};
+use volume::{Index, Volume};
 
 const SHAPE: Shape = Shape {
     fanout: 4,
@@ -115,20 +114,15 @@ impl Write for Flushed {
     }
 }
 
-/// New indexes in a small shape.
-fn new_indexes(alloc: Global) -> Result<Indexes, NoMemory> {
-    Indexes::new(alloc, SHAPE)
-}
-
-/// How many messages wait in the index, the root directory's own among them.
-fn waiting(indexes: &Indexes) -> u128 {
-    indexes.meta.tree.shape_report().pending
+/// How many messages wait in the index of metadata, the root directory's own among them.
+fn waiting(volume: &Volume) -> u128 {
+    volume.shape_report(Index::Meta).pending
 }
 
 /// Runs a script, and lets go of what it is answered; `false` where it is not run to its end.
-fn done(alloc: Global, indexes: &mut Indexes, script: &str) -> bool {
+fn done(alloc: Global, volume: &mut Volume, script: &str) -> bool {
     let mut out = Vec::new(alloc);
-    run(alloc, indexes, &mut script.as_bytes(), &mut out).is_ok()
+    run(alloc, volume, &mut script.as_bytes(), &mut out).is_ok()
 }
 
 /// A script that goes on where the one before it ended, and how many messages wait after it.
@@ -141,10 +135,10 @@ const WAITING: &[(&str, u128)] = &[
 ];
 
 /// After how many scripts as many messages wait as their rows say, before the first where it is otherwise.
-fn waiting_so(alloc: Global, indexes: &mut Indexes) -> usize {
+fn waiting_so(alloc: Global, volume: &mut Volume) -> usize {
     let mut count = 0usize;
     for (script, wanted) in WAITING {
-        if !done(alloc, indexes, script) || waiting(indexes) != *wanted {
+        if !done(alloc, volume, script) || waiting(volume) != *wanted {
             return count;
         }
         count = count.saturating_add(1);
@@ -152,10 +146,10 @@ fn waiting_so(alloc: Global, indexes: &mut Indexes) -> usize {
     count
 }
 
-/// The same of new indexes.
+/// The same of a new volume.
 fn waiting_in_new(alloc: Global) -> usize {
-    match new_indexes(alloc) {
-        Ok(mut indexes) => waiting_so(alloc, &mut indexes),
+    match new_volume(alloc, SHAPE) {
+        Ok(mut volume) => waiting_so(alloc, &mut volume),
         Err(_) => 0,
     }
 }
@@ -169,21 +163,21 @@ fn a_done_call_waits_as_one_message(rt: HostRuntime) {
 type Cut = (usize, &'static str, u128);
 
 /// Whether a script that cannot be read to its end stops as the row says.
-fn stops_at_read(alloc: Global, indexes: &mut Indexes, row: &Cut) -> bool {
+fn stops_at_read(alloc: Global, volume: &mut Volume, row: &Cut) -> bool {
     let mut out = Vec::new(alloc);
     let mut reader = Failing {
         text: b"mkdir /a\nstat /a\nmkdir /b",
         cut: row.0,
     };
-    run(alloc, indexes, &mut reader, &mut out) == Err(ScriptFault::Read)
+    run(alloc, volume, &mut reader, &mut out) == Err(ScriptFault::Read)
         && out.as_slice() == row.1.as_bytes()
-        && waiting(indexes) == row.2
+        && waiting(volume) == row.2
 }
 
-/// The same of new indexes.
+/// The same of a new volume.
 fn new_stop_at_read(alloc: Global, row: &Cut) -> bool {
-    match new_indexes(alloc) {
-        Ok(mut indexes) => stops_at_read(alloc, &mut indexes, row),
+    match new_volume(alloc, SHAPE) {
+        Ok(mut volume) => stops_at_read(alloc, &mut volume, row),
         Err(_) => false,
     }
 }
@@ -209,22 +203,22 @@ fn stops_at_a_failing_read(rt: HostRuntime) {
 const ANSWERS: &[u8] = b"ok\ndir 0\nfault EEXIST\nok\n";
 
 /// Whether a script stops where no more than so many bytes are written, and then has done so many lines.
-fn stops_at_write(alloc: Global, indexes: &mut Indexes, most: usize) -> bool {
+fn stops_at_write(alloc: Global, volume: &mut Volume, most: usize) -> bool {
     let mut reader = b"mkdir /a\nstat /a\nmkdir /a\nmkdir /b\n".as_slice();
     let mut writer = Small {
         got: Vec::new(alloc),
         most,
     };
-    let ended = run(alloc, indexes, &mut reader, &mut writer);
+    let ended = run(alloc, volume, &mut reader, &mut writer);
     ended.is_err() == (most < ANSWERS.len())
         && ANSWERS.get(..most) == Some(writer.got.as_slice())
-        && waiting(indexes) == if most < 22 { 2 } else { 3 }
+        && waiting(volume) == if most < 22 { 2 } else { 3 }
 }
 
-/// The same of new indexes.
+/// The same of a new volume.
 fn new_stop_at_write(alloc: Global, most: usize) -> bool {
-    match new_indexes(alloc) {
-        Ok(mut indexes) => stops_at_write(alloc, &mut indexes, most),
+    match new_volume(alloc, SHAPE) {
+        Ok(mut volume) => stops_at_write(alloc, &mut volume, most),
         Err(_) => false,
     }
 }
@@ -247,16 +241,16 @@ fn failing_at(alloc: Global, fails: u32) -> Flushed {
 }
 
 /// Whether the script is read with so many flushes.
-fn flushes(alloc: Global, indexes: &mut Indexes, script: &[u8], wanted: u32) -> bool {
+fn flushes(alloc: Global, volume: &mut Volume, script: &[u8], wanted: u32) -> bool {
     let mut reader = script;
     let mut writer = failing_at(alloc, 0);
-    run(alloc, indexes, &mut reader, &mut writer).is_ok() && writer.flushes == wanted
+    run(alloc, volume, &mut reader, &mut writer).is_ok() && writer.flushes == wanted
 }
 
-/// The same of new indexes.
+/// The same of a new volume.
 fn new_flush(alloc: Global, script: &[u8], wanted: u32) -> bool {
-    match new_indexes(alloc) {
-        Ok(mut indexes) => flushes(alloc, &mut indexes, script, wanted),
+    match new_volume(alloc, SHAPE) {
+        Ok(mut volume) => flushes(alloc, &mut volume, script, wanted),
         Err(_) => false,
     }
 }
@@ -279,18 +273,18 @@ fn flushes_before_each_read(rt: HostRuntime) {
 type Unflushed = (u32, &'static str, u128);
 
 /// Whether a script whose answers cannot be flushed stops as the row says.
-fn stops_at_flush(alloc: Global, indexes: &mut Indexes, row: &Unflushed) -> bool {
+fn stops_at_flush(alloc: Global, volume: &mut Volume, row: &Unflushed) -> bool {
     let mut reader = b"mkdir /a\nmkdir /b".as_slice();
     let mut writer = failing_at(alloc, row.0);
-    run(alloc, indexes, &mut reader, &mut writer) == Err(ScriptFault::Write)
+    run(alloc, volume, &mut reader, &mut writer) == Err(ScriptFault::Write)
         && writer.got.as_slice() == row.1.as_bytes()
-        && waiting(indexes) == row.2
+        && waiting(volume) == row.2
 }
 
-/// The same of new indexes.
+/// The same of a new volume.
 fn new_stop_at_flush(alloc: Global, row: &Unflushed) -> bool {
-    match new_indexes(alloc) {
-        Ok(mut indexes) => stops_at_flush(alloc, &mut indexes, row),
+    match new_volume(alloc, SHAPE) {
+        Ok(mut volume) => stops_at_flush(alloc, &mut volume, row),
         Err(_) => false,
     }
 }
@@ -305,7 +299,7 @@ fn stops_at_a_failing_flush(rt: HostRuntime) {
 }
 
 /// Whether a script goes on after a signal at the first read and at the first write.
-fn goes_on(alloc: Global, indexes: &mut Indexes) -> bool {
+fn goes_on(alloc: Global, volume: &mut Volume) -> bool {
     let mut reader = Interrupted {
         text: b"mkdir /a\nstat /a\n",
         met: false,
@@ -316,16 +310,16 @@ fn goes_on(alloc: Global, indexes: &mut Indexes) -> bool {
         fails: 0,
         met: false,
     };
-    run(alloc, indexes, &mut reader, &mut writer).is_ok()
+    run(alloc, volume, &mut reader, &mut writer).is_ok()
         && reader.met
         && writer.met
         && writer.got.as_slice() == b"ok\ndir 0\n".as_slice()
 }
 
-/// The same of new indexes.
+/// The same of a new volume.
 fn new_go_on(alloc: Global) -> bool {
-    match new_indexes(alloc) {
-        Ok(mut indexes) => goes_on(alloc, &mut indexes),
+    match new_volume(alloc, SHAPE) {
+        Ok(mut volume) => goes_on(alloc, &mut volume),
         Err(_) => false,
     }
 }
