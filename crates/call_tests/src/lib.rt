@@ -18,6 +18,8 @@ mod replies;
 #[cfg(test)]
 mod scripts;
 #[cfg(test)]
+mod snapshots;
+#[cfg(test)]
 mod streams;
 #[cfg(test)]
 mod words;

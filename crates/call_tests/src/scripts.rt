@@ -56,12 +56,12 @@ fn is_answered_at(alloc: Global, script: &[u8], wanted: &[u8], turns: u16) -> bo
 }
 
 /// Whether a script is answered so where nothing stands but the root, with no steps and with seven after each line.
-fn is_answered(alloc: Global, script: &[u8], wanted: &[u8]) -> bool {
+pub fn is_answered(alloc: Global, script: &[u8], wanted: &[u8]) -> bool {
     is_answered_at(alloc, script, wanted, 0) && is_answered_at(alloc, script, wanted, 7)
 }
 
 /// A script, and what it is answered.
-type Row = (&'static str, &'static str);
+pub type Row = (&'static str, &'static str);
 
 const LINES: &[Row] = &[
     (
@@ -265,7 +265,7 @@ fn a_move_to_too_long_a_text_is_refused(rt: HostRuntime) {
 }
 
 /// The text `front`, lengthened to so many bytes by one letter; none where memory is refused.
-fn lengthened(alloc: Global, front: &str, length: usize, letter: u8) -> Option<Vec<u8>> {
+pub fn lengthened(alloc: Global, front: &str, length: usize, letter: u8) -> Option<Vec<u8>> {
     let mut line = Vec::from_slice(alloc, front.as_bytes()).ok()?;
     line.resize(length, letter).ok()?;
     Some(line)
