@@ -49,7 +49,7 @@ fn print<W: Write>(alloc: Global, frozen: &Frozen, writer: &mut W) -> Result<(),
 }
 
 /// Whether the live tree has this image: all of it is printed, and to a writer that takes no more than half of it a beginning.
-fn has_image(alloc: Global, volume: &Volume, image: &[u8]) -> bool {
+pub fn has_image(alloc: Global, volume: &Volume, image: &[u8]) -> bool {
     match freeze(volume) {
         Ok(frozen) => prints(alloc, &frozen, image) && prints_half(alloc, &frozen, image),
         Err(_) => false,

@@ -7,6 +7,8 @@ mod asked;
 #[cfg(test)]
 mod image;
 #[cfg(test)]
+mod paces;
+#[cfg(test)]
 mod rows;
 #[cfg(test)]
 mod runs;

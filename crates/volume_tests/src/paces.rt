@@ -1,0 +1,197 @@
+//! Scripts with steps that a pace picks: what it is told of them, and that the answers and the tree are the same with them.
+use crate::asked::{SMALL, USUAL, new_volume};
+use crate::image::has_image;
+use crate::told::first_leaf;
+use node::StepReply;
+use shell::{Pace, ScriptFault, Tidy, run_script};
+use std::alloc::Global;
+use volume::{Index, Step, Volume};
+
+/// Runs a script. It ensures nothing, so that no proof of a test reads what a script means.
+fn run<P: Pace>(
+    alloc: Global,
+    volume: &mut Volume,
+    mut script: &[u8],
+    out: &mut Vec<u8>,
+    pace: &mut P,
+) -> Result<(), ScriptFault> {
+    run_script(alloc, volume, &mut script, out, pace)
+}
+
+/// Whether a script is answered so.
+fn answers<P: Pace>(
+    alloc: Global,
+    volume: &mut Volume,
+    script: &[u8],
+    wanted: &[u8],
+    pace: &mut P,
+) -> bool {
+    let mut out = Vec::new(alloc);
+    run(alloc, volume, script, &mut out, pace).is_ok() && out.as_slice() == wanted
+}
+
+/// Picks the flush of the leaf below the first slot of the metadata's root once, after the first line.
+#[derive(Drop)]
+struct Once {
+    turns: u16,
+    /// What the step has answered.
+    told: Option<StepReply>,
+}
+
+impl Pace for Once {
+    fn turns(&mut self) -> u16 {
+        let turns = self.turns;
+        self.turns = 0;
+        turns
+    }
+
+    fn pick(&mut self, _volume: &Volume) -> Option<Step> {
+        Some(first_leaf(Index::Meta))
+    }
+
+    fn saw(&mut self, reply: StepReply) {
+        self.told = Some(reply);
+    }
+}
+
+/// What the one step of a script of two lines has answered, if the lines are answered so.
+fn told_once(alloc: Global, volume: &mut Volume) -> Option<StepReply> {
+    let mut pace = Once {
+        turns: 1,
+        told: None,
+    };
+    if !answers(
+        alloc,
+        volume,
+        b"mkdir /a\nstat /a\n",
+        b"ok\ndir 0\n",
+        &mut pace,
+    ) {
+        return None;
+    }
+    pace.told
+}
+
+/// The same of a new volume.
+fn new_told_once(alloc: Global) -> Option<StepReply> {
+    match new_volume(alloc, USUAL) {
+        Ok(mut volume) => told_once(alloc, &mut volume),
+        Err(_) => None,
+    }
+}
+
+#[test]
+fn pace_is_told_what_its_step_did(rt: HostRuntime) {
+    assert!(rt; matches!(new_told_once(rt.alloc()), Some(StepReply::Did(1..))));
+}
+
+/// The program's pace after the last line alone.
+#[derive(Drop)]
+struct AtEnd {
+    /// How many lines come before the last one.
+    before: u32,
+    tidy: Tidy,
+    /// How many steps were done.
+    done: u32,
+}
+
+impl Pace for AtEnd {
+    fn turns(&mut self) -> u16 {
+        if self.before == 0 {
+            return self.tidy.turns();
+        }
+        self.before -= 1;
+        0
+    }
+
+    fn pick(&mut self, volume: &Volume) -> Option<Step> {
+        self.tidy.pick(volume)
+    }
+
+    fn saw(&mut self, reply: StepReply) {
+        if matches!(&reply, StepReply::Did(_)) {
+            self.done = self.done.saturating_add(1);
+        }
+        self.tidy.saw(reply);
+    }
+}
+
+/// Adds the line that creates the file with this number; none where memory is refused.
+fn add_file(alloc: Global, script: &mut Vec<u8>, number: u32) -> Option<()> {
+    let line = format!(in alloc; "create /d/f{number:03}\n").ok()?;
+    script.extend_from_slice(line.as_bytes()).ok()
+}
+
+/// Lines that make a directory of 300 files, remove it, make it again with one file, and list it.
+fn made_again(alloc: Global) -> Option<Vec<u8>> {
+    let mut script = Vec::from_slice(alloc, b"mkdir /d\n").ok()?;
+    for number in 0..300u32 {
+        add_file(alloc, &mut script, number)?;
+    }
+    script
+        .extend_from_slice(b"rmtree /d\nmkdir /d\ncreate /d/n\nreaddir /d\n")
+        .ok()?;
+    Some(script)
+}
+
+/// What they are answered.
+fn told_of_made_again(alloc: Global) -> Option<Vec<u8>> {
+    let mut wanted = Vec::new(alloc);
+    for _ in 0..304 {
+        wanted.extend_from_slice(b"ok\n").ok()?;
+    }
+    wanted.extend_from_slice(b"names 1\nf n\n").ok()?;
+    Some(wanted)
+}
+
+/// How many of so many steps at the end were done, if the script is answered so and leaves the one file.
+fn done_in(
+    alloc: Global,
+    volume: &mut Volume,
+    script: &[u8],
+    wanted: &[u8],
+    turns: u16,
+) -> Option<u32> {
+    let mut pace = AtEnd {
+        before: 304,
+        tidy: Tidy::new(turns),
+        done: 0,
+    };
+    if answers(alloc, volume, script, wanted, &mut pace)
+        && has_image(alloc, volume, b"d /\nd /d\nf /d/n 0\n")
+    {
+        Some(pace.done)
+    } else {
+        None
+    }
+}
+
+/// The same of a new volume.
+fn done_in_new(alloc: Global, script: &[u8], wanted: &[u8], turns: u16) -> Option<u32> {
+    match new_volume(alloc, SMALL) {
+        Ok(mut volume) => done_in(alloc, &mut volume, script, wanted, turns),
+        Err(_) => None,
+    }
+}
+
+/// The same of a script, and what it is answered.
+fn done_with(alloc: Global, script: &[u8], turns: u16) -> Option<u32> {
+    match told_of_made_again(alloc) {
+        Some(wanted) => done_in_new(alloc, script, wanted.as_slice(), turns),
+        None => None,
+    }
+}
+
+/// The same of the directory that is made again.
+fn done_at_end(alloc: Global, turns: u16) -> Option<u32> {
+    match made_again(alloc) {
+        Some(script) => done_with(alloc, script.as_slice(), turns),
+        None => None,
+    }
+}
+
+#[test]
+fn steps_after_the_last_line_leave_the_answers_and_the_image(rt: HostRuntime) {
+    assert_eq!(rt; done_at_end(rt.alloc(), 0), Some(0));
+    assert!(rt; matches!(done_at_end(rt.alloc(), 1_000), Some(100..)));
+}
