@@ -9,6 +9,8 @@ mod image;
 #[cfg(test)]
 mod paces;
 #[cfg(test)]
+mod programs;
+#[cfg(test)]
 mod rows;
 #[cfg(test)]
 mod runs;
