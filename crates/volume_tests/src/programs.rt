@@ -1,6 +1,5 @@
 //! Whole command lines: what the program prints for each, and with what status it ends.
 use shell::run_words;
-use std::alloc::Global;
 use std::fs::File;
 use std::io::{Read, Write};
 use std::test::Fail;
