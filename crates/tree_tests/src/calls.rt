@@ -1,19 +1,19 @@
 //! A long script line by line, with steps of the trees between, beside the plain program.
 use crate::outcomes::{Before, Counts, Outcome};
 use crate::some_lines::{kind_at, some_line};
-use crate::some_steps::{Done, ROOMY, try_step};
-use call_compiler::Indexes;
-use message::Update;
-use node::{ShapeReport, Tree};
+use crate::some_steps::{Done, ROOMY};
+use crate::volume_steps::try_step_in;
+use node::{Shape, ShapeReport};
+use pathkey::{Errno, NoMemory};
 use reference::plain::World;
 use reference::plain::reading::stat;
 use reference::{Call, Reply};
 use samples::Random;
-use shell::{Request, ScriptFault, read_request, run_script, write_reply};
+use shell::{Request, ScriptFault, Tidy, read_request, run_script, write_reply};
 use std::alloc::Global;
 use std::io::{Read, Write};
-use std::process::Abort;
 use std::test::Fail;
+use volume::{Index, Volume};
 
 /// What a tree went through.
 #[derive(Default, Debug, Drop)]
@@ -27,19 +27,20 @@ struct Course {
 }
 
 impl Course {
-    /// Tries many steps, and looks at the tree before and after them.
-    fn shake<U: Update>(
+    /// Tries many steps in an index, and looks at its tree before and after them.
+    fn shake(
         &mut self,
-        rt: &impl Abort,
         alloc: Global,
         random: &mut Random,
-        tree: &mut Tree<U>,
-    ) {
-        self.look(tree.shape_report());
+        volume: &mut Volume,
+        index: Index,
+    ) -> Result<(), NoMemory> {
+        self.look(volume.shape_report(index));
         for _ in 0..random.below(200) {
-            try_step(rt, alloc, random, tree, &mut self.steps);
+            try_step_in(alloc, random, volume, index, &mut self.steps)?;
         }
-        self.look(tree.shape_report());
+        self.look(volume.shape_report(index));
+        Ok(())
     }
 
     /// Keeps what is more than before.
@@ -59,14 +60,20 @@ fn wrote(text: &mut Vec<u8>, reply: &Reply) -> bool {
     write_reply(text, reply).is_ok()
 }
 
-/// Runs a script.
-fn run<R: Read, W: Write>(
+/// A new volume.
+pub fn new_volume(alloc: Global, shape: Shape) -> Result<Volume, Errno> {
+    Volume::new(alloc, shape)
+}
+
+/// Runs a script, with so many steps after each line.
+pub fn run<R: Read, W: Write>(
     alloc: Global,
-    indexes: &mut Indexes,
+    volume: &mut Volume,
     reader: &mut R,
     writer: &mut W,
+    turns: u16,
 ) -> Result<(), ScriptFault> {
-    run_script(alloc, indexes, reader, writer)
+    run_script(alloc, volume, reader, writer, &mut Tidy::new(turns))
 }
 
 /// Whether this is the text of a reply.
@@ -75,10 +82,10 @@ fn is_told(alloc: Global, reply: &Reply, text: &[u8]) -> bool {
     wrote(&mut wanted, reply) && wanted.as_slice() == text
 }
 
-/// Indexes on which a script runs, and the plain program under the same calls.
+/// A volume on which a script runs, and the plain program under the same calls.
 #[derive(Drop)]
 struct Both {
-    indexes: Indexes,
+    volume: Volume,
     plain: World,
     /// What the tree of the metadata went through.
     meta: Course,
@@ -90,7 +97,7 @@ impl Both {
     /// An empty root directory in both.
     fn new(alloc: Global) -> Result<Both, Fail> {
         Ok(Both {
-            indexes: Indexes::new(alloc, ROOMY)?,
+            volume: new_volume(alloc, ROOMY)?,
             plain: World::new(alloc)?,
             meta: Course::default(),
             block: Course::default(),
@@ -121,11 +128,11 @@ impl Both {
         Before { length, old, new }
     }
 
-    /// What the indexes answer to a line.
+    /// What the volume answers to a line.
     fn script_text(&mut self, alloc: Global, line: &[u8]) -> Result<Vec<u8>, Fail> {
         let mut text = line;
         let mut got = Vec::new(alloc);
-        run(alloc, &mut self.indexes, &mut text, &mut got)?;
+        run(alloc, &mut self.volume, &mut text, &mut got, 0)?;
         Ok(got)
     }
 
@@ -157,7 +164,7 @@ impl Both {
         Ok(is_told(alloc, &reply, text))
     }
 
-    /// Does a line in the indexes and its call in the plain program; whether the script's text is that of the plain program's reply.
+    /// Does a line on the volume and its call in the plain program; whether the script's text is that of the plain program's reply.
     fn answer_alike(
         &mut self,
         alloc: Global,
@@ -183,16 +190,16 @@ impl Both {
     }
 
     /// Tries steps on both trees.
-    fn shake(&mut self, rt: &impl Abort, alloc: Global, random: &mut Random) {
-        let Indexes { meta, block } = &mut self.indexes;
-        self.meta.shake(rt, alloc, random, &mut meta.tree);
-        self.block.shake(rt, alloc, random, &mut block.tree);
+    fn shake(&mut self, alloc: Global, random: &mut Random) -> Result<(), NoMemory> {
+        self.meta
+            .shake(alloc, random, &mut self.volume, Index::Meta)?;
+        self.block
+            .shake(alloc, random, &mut self.volume, Index::Block)
     }
 
     /// Does so many lines, with steps between, and counts what comes of them; the first line that was answered otherwise, if any.
     fn run(
         &mut self,
-        rt: &impl Abort,
         alloc: Global,
         random: &mut Random,
         lines: u32,
@@ -204,7 +211,7 @@ impl Both {
                 return Ok(Some(line));
             }
             if random.below(64) == 0 {
-                self.shake(rt, alloc, random);
+                self.shake(alloc, random)?;
             }
         }
         Ok(None)
@@ -218,7 +225,7 @@ fn a_script_answers_as_the_plain_program(rt: HostRuntime) -> Result<(), Fail> {
     let mut both = Both::new(alloc)?;
     let mut counts = Counts::new();
     assert_eq!(rt;
-        both.run(&rt, alloc, &mut random, 20_000, &mut counts)?,
+        both.run(alloc, &mut random, 20_000, &mut counts)?,
         None
     );
     assert!(rt;

@@ -17,3 +17,5 @@ mod some_lines;
 mod some_steps;
 #[cfg(test)]
 mod tests;
+#[cfg(test)]
+mod volume_steps;

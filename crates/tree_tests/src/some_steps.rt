@@ -113,7 +113,7 @@ fn inner_below<U: Update>(node: &Node<U>, number: u8) -> Option<&Node<U>> {
 }
 
 /// A step of some kind somewhere. Those that make a tree lower come more often than those that make it higher.
-fn some_step<U: Update>(random: &mut Random, root: &Node<U>) -> TreeStep {
+pub fn some_step<U: Update>(random: &mut Random, root: &Node<U>) -> TreeStep {
     let (at, slot) = somewhere(random, root);
     let kind = match random.below(20) {
         0 | 1 | 2 | 3 => StepKind::FlushInner,
