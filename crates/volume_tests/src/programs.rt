@@ -92,14 +92,59 @@ const ROWS: &[Row] = &[
         output: "ok\ncount 10\nok\nok\nbytes ffffffffff000000\nd /\nf /f 9000\nb 0 ffffffffff\n",
     },
     Row {
-        words: &["betr"],
+        words: &["betr", "--image"],
         script: "mkdir /a\ncreate /a/x\nsnapshot s\nrmtree /a\nreaddir@s /a\nstat /a\nrestore s\nreaddir /a\n",
-        output: "ok\nok\nok\nok\nnames 1\nf x\nfault ENOENT\nok\nnames 1\nf x\n",
+        output: "ok\nok\nok\nok\nnames 1\nf x\nfault ENOENT\nok\nnames 1\nf x\nd /\nd /a\nf /a/x 0\n",
     },
     Row {
-        words: &["betr"],
+        words: &["betr", "--image"],
         script: "stat\nstat /a /b\nread /a 00 1\nwrite /a 0 abc\nmkdir@s /a\nsnapshot a/b\n# note\ncreate /a%20b\nreaddir /\n",
-        output: "error syntax\nerror syntax\nerror syntax\nerror syntax\nerror syntax\nfault EINVAL\nok\nnames 1\nf a%20b\n",
+        output: "error syntax\nerror syntax\nerror syntax\nerror syntax\nerror syntax\nfault EINVAL\nok\nnames 1\nf a%20b\nd /\nf /a%20b 0\n",
+    },
+    Row {
+        words: &["betr", "--image"],
+        script: "mkdir /a\nstat /a\n",
+        output: "ok\ndir 0\nd /\nd /a\n",
+    },
+    Row {
+        words: &["betr", "--image"],
+        script: "mkdir /x/y\ncreate /x\nmkdir /x/y\n",
+        output: "fault ENOENT\nok\nfault ENOTDIR\nd /\nf /x 0\n",
+    },
+    Row {
+        words: &["betr", "--image"],
+        script: "mkdir /a\ncreate /a/x\ncreate /a-b\nrmtree /a\nreaddir /\n",
+        output: "ok\nok\nok\nok\nnames 1\nf a-b\nd /\nf /a-b 0\n",
+    },
+    Row {
+        words: &["betr", "--image"],
+        script: "mkdir /a\nmkdir /a/b\nrename /a /a/b/c\nrename /a /a\nreaddir /a\n",
+        output: "ok\nok\nfault EINVAL\nok\nnames 1\nd b\nd /\nd /a\nd /a/b\n",
+    },
+    Row {
+        words: &["betr", "--image"],
+        script: "mkdir /p\nmkdir /q\nmkdir /r\ncreate /r/k\ncreate /s\nrename /p /r\nrename /p /s\nrename /p /q\nreaddir /\n",
+        output: "ok\nok\nok\nok\nok\nfault ENOTEMPTY\nfault ENOTDIR\nok\nnames 3\nd q\nd r\nf s\nd /\nd /q\nd /r\nf /r/k 0\nf /s 0\n",
+    },
+    Row {
+        words: &["betr", "--image"],
+        script: "mkdir /a\ncreate /a/f\nmkdir /a/d\nrename /a/f /a\nrename /a/d /a\nrename /a/d /\nrename / /b\n",
+        output: "ok\nok\nok\nfault EISDIR\nfault ENOTEMPTY\nfault ENOTEMPTY\nfault EBUSY\nd /\nd /a\nd /a/d\nf /a/f 0\n",
+    },
+    Row {
+        words: &["betr", "--image"],
+        script: "create /f\nwrite /f 0 aa\ncreate /g\nwrite /g 5000 bb\nrename /f /g\nread /g 0 6000\nstat /f\ntruncate /g 5001\nread /g 5000 1\n",
+        output: "ok\ncount 1\nok\ncount 1\nok\nbytes aa\nfault ENOENT\nok\nbytes 00\nd /\nf /g 5001\nb 0 aa\n",
+    },
+    Row {
+        words: &["betr", "--image"],
+        script: "mkdir /a\nunlink /a\nunlink /\nrmdir /\ncreate /f\nrmdir /f\nunlink /f/x\nread /a 0 1\nread /f 0 1048577\nread /f 9 1\n",
+        output: "ok\nfault EPERM\nfault EPERM\nfault EBUSY\nok\nfault ENOTDIR\nfault ENOTDIR\nfault EISDIR\nfault EINVAL\nbytes -\nd /\nd /a\nf /f 0\n",
+    },
+    Row {
+        words: &["betr", "--image"],
+        script: "stat /a//b\nstat /a/\nstat a\nstat /..\nstat /%00\nstat \n",
+        output: "fault EINVAL\nfault EINVAL\nfault EINVAL\nfault EINVAL\nfault EINVAL\nfault ENOENT\nd /\n",
     },
 ];
 
@@ -253,6 +298,47 @@ fn write_snapshots_answers(text: &mut String) -> fmt::Result {
         text.push_str("ok\n")?;
     }
     text.push_str("fault ENOSPC\nfault EEXIST\nok\nok\nfault ENOENT\n")?;
+    Ok(())
+}
+
+/// Writes the image's line of a block whose last byte alone is not zero.
+fn write_last_byte(text: &mut String, block: u32, byte: &str) -> fmt::Result {
+    write!(text, "b {block} ")?;
+    for _ in 0..4_095 {
+        text.push_str("00")?;
+    }
+    writeln!(text, "{byte}")?;
+    Ok(())
+}
+
+/// Writes what is answered where bytes are written over a block's end, and the image then.
+fn write_two_blocks(text: &mut String) -> fmt::Result {
+    text.push_str("ok\ncount 2\nbytes 00aabb\nfile 4097\nd /\nf /f 4097\n")?;
+    write_last_byte(text, 0, "aa")?;
+    text.push_str("b 1 bb\n")?;
+    Ok(())
+}
+
+/// Writes what is answered at the end of the longest file, and the image then.
+fn write_longest(text: &mut String) -> fmt::Result {
+    text.push_str("ok\ncount 1\nfault EFBIG\ncount 0\nfile 1099511627776\nbytes 01\n")?;
+    text.push_str("d /\nf /f 1099511627776\n")?;
+    write_last_byte(text, 268_435_455, "01")?;
+    Ok(())
+}
+
+#[test]
+fn prints_long_blocks(rt: HostRuntime) -> Result<(), Fail> {
+    let words = &["betr", "--image"];
+    let mut two = String::new(rt.alloc());
+    let mut longest = String::new(rt.alloc());
+    write_two_blocks(&mut two)?;
+    write_longest(&mut longest)?;
+    let script = b"create /f\nwrite /f 4095 aabb\nread /f 4094 4\nstat /f\n";
+    assert!(rt; run_on(&rt, words, script).is_done(two.as_bytes()));
+    let script =
+        b"create /f\nwrite /f 1099511627775 01\nwrite /f 1099511627776 01\nwrite /f 1099511627776 -\nstat /f\nread /f 1099511627775 2\n";
+    assert!(rt; run_on(&rt, words, script).is_done(longest.as_bytes()));
     Ok(())
 }
 
