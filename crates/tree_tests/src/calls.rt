@@ -51,12 +51,12 @@ impl Course {
 }
 
 /// What a line asks for. It ensures nothing, so that no proof of a test reads what a line means; nor do the next ones.
-fn request_of(alloc: Global, line: &[u8]) -> Request {
+pub fn request_of(alloc: Global, line: &[u8]) -> Request {
     read_request(alloc, line)
 }
 
 /// Writes a reply; `false` where memory is refused.
-fn wrote(text: &mut Vec<u8>, reply: &Reply) -> bool {
+pub fn wrote(text: &mut Vec<u8>, reply: &Reply) -> bool {
     write_reply(text, reply).is_ok()
 }
 
@@ -224,10 +224,7 @@ fn a_script_answers_as_the_plain_program(rt: HostRuntime) -> Result<(), Fail> {
     let mut random = Random(5);
     let mut both = Both::new(alloc)?;
     let mut counts = Counts::new();
-    assert_eq!(rt;
-        both.run(alloc, &mut random, 20_000, &mut counts)?,
-        None
-    );
+    assert_eq!(rt; both.run(alloc, &mut random, 20_000, &mut counts)?, None);
     assert!(rt;
         counts.rarest() >= 10 && counts.has_moved_a_third(),
         "{counts:?}"

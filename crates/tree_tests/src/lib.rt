@@ -8,6 +8,8 @@ mod calls;
 #[cfg(test)]
 mod outcomes;
 #[cfg(test)]
+mod paces;
+#[cfg(test)]
 mod pair;
 #[cfg(test)]
 mod settling;

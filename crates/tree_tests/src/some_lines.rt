@@ -230,3 +230,36 @@ pub fn some_line(alloc: Global, random: &mut Random, tree: &Tree) -> Result<Stri
         _ => file_line(alloc, random),
     }
 }
+
+/// A line that keeps a snapshot of one of three names, drops it, goes back to it or looks into it.
+fn snapshot_line(alloc: Global, random: &mut Random) -> Result<String, Fail> {
+    const NAMES: [&str; 3] = ["s", "s.1", "T_-"];
+    let name = NAMES[random.below(3) as usize];
+    let file = some_file(alloc, random)?;
+    let path = some_path(alloc, random)?;
+    match random.below(16) {
+        0..=3 => Ok(format!(in alloc; "snapshot {name}")?),
+        4..=5 => Ok(format!(in alloc; "drop {name}")?),
+        6..=7 => Ok(format!(in alloc; "restore {name}")?),
+        8 => Ok(format!(in alloc; "stat@{name} {path}")?),
+        9..=10 => Ok(format!(in alloc; "stat@{name} {file}")?),
+        11..=12 => Ok(format!(in alloc; "readdir@{name} {path}")?),
+        _ => {
+            let place = some_place(random, 3);
+            let count = some_count(random);
+            Ok(format!(in alloc; "read@{name} {file} {place} {count}")?)
+        }
+    }
+}
+
+/// A line that asks for a file call; of eight one asks for something of snapshots.
+pub fn some_line_or_snapshot(
+    alloc: Global,
+    random: &mut Random,
+    tree: &Tree,
+) -> Result<String, Fail> {
+    match random.below(8) {
+        0 => snapshot_line(alloc, random),
+        _ => some_line(alloc, random, tree),
+    }
+}
