@@ -5,14 +5,18 @@ use crate::pace::Pace;
 use node::StepReply;
 use volume::{Index, Step, Volume};
 
+/// How many steps in a row without room are given up for another.
+const TRIES: u8 = 64;
+
 /// So many steps after each line, of the index in which more pieces wait.
 #[derive(Drop)]
 pub struct Tidy {
     turns: u16,
     /// The step that was picked last.
     last: Option<Step>,
-    /// Whether that step had no room.
-    is_stuck: bool,
+    /// How many steps in a row had no room, the last one among them. They go on over the lines: with one step a line, too, what
+    /// makes room comes to its turn.
+    stuck: u8,
     /// Whether nothing was found to do since the last line.
     is_idle: bool,
 }
@@ -23,7 +27,7 @@ impl Tidy {
         Tidy {
             turns,
             last: None,
-            is_stuck: false,
+            stuck: 0,
             is_idle: false,
         }
     }
@@ -31,7 +35,7 @@ impl Tidy {
     /// What makes room for the step that had none, if it was one; else the heaviest flush.
     fn choose(&self, volume: &Volume) -> Option<Step> {
         match self.last {
-            Some(step) if self.is_stuck => volume.make_room(step),
+            Some(step) if self.stuck > 0 => volume.make_room(step),
             _ => heaviest(volume),
         }
     }
@@ -39,7 +43,6 @@ impl Tidy {
 
 impl Pace for Tidy {
     fn turns(&mut self) -> u16 {
-        self.is_stuck = false;
         self.is_idle = false;
         self.turns
     }
@@ -54,7 +57,10 @@ impl Pace for Tidy {
     }
 
     fn saw(&mut self, reply: StepReply) {
-        self.is_stuck = reply == StepReply::NoRoom;
+        self.stuck = match reply {
+            StepReply::NoRoom if self.stuck < TRIES => self.stuck + 1,
+            _ => 0,
+        };
         self.is_idle = reply == StepReply::NoMemory;
     }
 }

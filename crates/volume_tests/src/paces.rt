@@ -195,3 +195,63 @@ fn steps_after_the_last_line_leave_the_answers_and_the_image(rt: HostRuntime) {
     assert_eq!(rt; done_at_end(rt.alloc(), 0), Some(0));
     assert!(rt; matches!(done_at_end(rt.alloc(), 1_000), Some(100..)));
 }
+
+/// The program's pace after each line, whose steps are counted.
+#[derive(Drop)]
+struct Counted {
+    tidy: Tidy,
+    /// How many steps were done.
+    done: u32,
+}
+
+impl Pace for Counted {
+    fn turns(&mut self) -> u16 {
+        self.tidy.turns()
+    }
+
+    fn pick(&mut self, volume: &Volume) -> Option<Step> {
+        self.tidy.pick(volume)
+    }
+
+    fn saw(&mut self, reply: StepReply) {
+        if matches!(&reply, StepReply::Did(_)) {
+            self.done = self.done.saturating_add(1);
+        }
+        self.tidy.saw(reply);
+    }
+}
+
+/// How many steps were done by one after each line, if the script is answered so.
+fn done_between(alloc: Global, volume: &mut Volume, script: &[u8], wanted: &[u8]) -> Option<u32> {
+    let mut pace = Counted {
+        tidy: Tidy::new(1),
+        done: 0,
+    };
+    if answers(alloc, volume, script, wanted, &mut pace) {
+        Some(pace.done)
+    } else {
+        None
+    }
+}
+
+/// The same of a new volume.
+fn done_between_in_new(alloc: Global, script: &[u8], wanted: &[u8]) -> Option<u32> {
+    match new_volume(alloc, SMALL) {
+        Ok(mut volume) => done_between(alloc, &mut volume, script, wanted),
+        Err(_) => None,
+    }
+}
+
+/// The same of the directory that is made again.
+fn done_by_one(alloc: Global) -> Option<u32> {
+    let script = made_again(alloc)?;
+    let wanted = told_of_made_again(alloc)?;
+    done_between_in_new(alloc, script.as_slice(), wanted.as_slice())
+}
+
+// In small nodes most flushes wait for room, which one step a line has to make before it can go on.
+#[test]
+fn one_step_a_line_makes_room(rt: HostRuntime) {
+    let done = done_by_one(rt.alloc());
+    assert!(rt; matches!(done, Some(100..)), "{done:?}");
+}
