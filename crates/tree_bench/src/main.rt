@@ -5,15 +5,21 @@
 //! measurement of memory from outside. `tree_bench files` does file calls beside a map of the same paths, and
 //! `tree_bench bytes` writes and reads the bytes of files beside maps of the same blocks; `tree_bench bytes-tree` and
 //! `tree_bench bytes-map` do the writes of the long file alone. `tree_bench subtrees` moves directories and files, and takes
-//! directories out, beside the same maps.
+//! directories out, beside the same maps. `tree_bench snapshots` takes, restores and drops snapshots of a volume beside
+//! copies of maps, and `tree_bench images` prints the image of a volume beside that of maps.
 #![tactic(auto)]
 
 pub mod contents;
+pub mod copies;
 pub mod files;
+pub mod images;
 pub mod maps;
 pub mod measure;
+pub mod measure_volumes;
 pub mod number;
+pub mod snapshots;
 pub mod subtrees;
+pub mod volumes;
 pub mod work;
 
 use crate::contents::{
@@ -24,6 +30,9 @@ use crate::maps::Maps;
 use crate::measure::{
     LONG, MESSAGES, SMALL, appends, directory_move, file_calls, long_file, long_move, look_ups,
     removals, small_writes,
+};
+use crate::measure_volumes::{
+    images, little_images, little_rounds, snapshot_rounds, snapshots_alone,
 };
 use crate::work::{SHAPE, append, insert, look_up, new_tree, settle};
 use call_compiler::Indexes;
@@ -59,6 +68,16 @@ fn do_work(rt: &HostRuntime, word: &str) -> anyhow::Result<()> {
         "bytes" => {
             small_writes(rt, alloc)?;
             long_file(rt, alloc)?;
+        }
+        "snapshots" => {
+            snapshot_rounds(rt, alloc)?;
+            snapshots_alone(rt, alloc, 1_000)?;
+            snapshots_alone(rt, alloc, 10_000)?;
+            snapshots_alone(rt, alloc, 100_000)?;
+        }
+        "images" => {
+            images(rt, alloc, [0xb5; 100].as_slice())?;
+            images(rt, alloc, [0xb5; 4096].as_slice())?;
         }
         _ => alone(rt, word)?,
     }
@@ -112,5 +131,6 @@ fn little_bytes(rt: &HostRuntime) -> anyhow::Result<()> {
     write_long(alloc, &mut long, LITTLE)?;
     let read = check_long(alloc, &long, LITTLE)?;
     println!(rt; "{written} bytes in {equal} files as in the maps, {read} bytes read as written")?;
-    Ok(())
+    little_images(rt, alloc)?;
+    little_rounds(rt, alloc)
 }

@@ -34,7 +34,7 @@ fn key(alloc: Global, number: u64) -> Result<Key, NoMemory> {
 }
 
 /// How many messages wait in the root.
-fn waiting<U: Update>(tree: &Tree<U>) -> u128 {
+pub fn waiting<U: Update>(tree: &Tree<U>) -> u128 {
     match slots_of(tree.root()) {
         Some(slots) => held(slots),
         None => 0,
