@@ -137,8 +137,12 @@ fn is_block_of(block: &[u8], path: &[u8]) -> bool {
 
 /// Writes the lines of a path's blocks, which come first.
 fn put_blocks<W: Write>(writer: &mut W, path: &[u8], blocks: &mut Blocks<'_>) -> io::Result<()> {
-    while let Some((name, block)) = blocks.next_if(|(name, _)| is_block_of(name.as_slice(), path)) {
-        put_block(writer, number_of(name.as_slice()), block.as_slice())?;
+    // No map has more blocks.
+    for _ in 0..u64::MAX {
+        match blocks.next_if(|(name, _)| is_block_of(name.as_slice(), path)) {
+            Some((name, block)) => put_block(writer, number_of(name.as_slice()), block.as_slice())?,
+            None => return Ok(()),
+        }
     }
     Ok(())
 }
