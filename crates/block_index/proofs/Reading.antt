@@ -1,7 +1,8 @@
 -- Reads, block by block.
-use Rattle.std.proofs.Common.{◌≡◌, ℕ, ◌+◌, ◌-◌, ◌*◌, ◌<◌, ◌≤◌, min, List, [], ◌++◌, length, take, drop, get_or, sym, ap, refl, ◌∙◌, ⊎_elim, Option, arith, length-take, length-drop}
+use Rattle.std.proofs.Common.{◌≡◌, ℕ, ◌+◌, ◌-◌, ◌*◌, ◌/◌, ◌<◌, ◌≤◌, cond, min, List, [], ◌++◌, length, take, drop, get_or, sym, ap, refl, ◌∙◌, ⊎_elim, Option, arith, length-take, length-drop}
 use Rattle.std.proofs.lemmas.List.{ext_get_or, get_or-append_right, get_or-take, get_or-drop, get_or_past}
-use Rattle.std.proofs.lemmas.Bool.{cases_lt}
+use Rattle.std.proofs.lemmas.Bool.{cases_lt, lt-ltb, le-ltb}
+use Rattle.block_index.specs.Read.{block_count}
 use Rattle.reference.specs.Indexes.{byte_of, held}
 use Rattle.reference.specs.Tree.{sized}
 use Rattle.reference.proofs.Contents.{length-sized}
@@ -62,3 +63,13 @@ appended_at old v from to stop begin whole ext new h es eb ew ee en x g f =
     get_or-take (stop - begin) (drop begin v) (x - length old) 0 y ∙ get_or-drop begin v (x - length old) 0 ∙ ap (λ (m : ℕ). get_or v m 0) j)
     (λ (y : stop - begin ≤ x - length old). get_or_past (take (stop - begin) (drop begin v)) (x - length old) 0 (omega arith) ∙ sym (get_or_past v (from + (x - length old)) 0 (omega arith)))
     (cases_lt (x - length old) (stop - begin))
+
+-- ---- how many blocks
+
+-- a loop that has counted each block from that of `off` up to that of `end`
+pub counted_to : (off end stop index steps : ℕ) → off < end → end ≡ stop → index ≡ (end - 1) / 4096 + 1 → steps + off / 4096 ≡ index → steps ≡ block_count off stop
+counted_to off end stop index steps g e i s = (let here : steps ≡ ((end - 1) / 4096 + 1) - off / 4096 = omega (arith, s, i) in here ∙ sym (ap (λ b. cond b (((end - 1) / 4096 + 1) - off / 4096) 0) (lt-ltb off end g))) ∙ ap (block_count off) e
+
+-- none where there are no bytes
+pub no_blocks : (off stop : ℕ) → stop ≤ off → block_count off stop ≡ 0
+no_blocks off stop h = ap (λ b. cond b (((stop - 1) / 4096 + 1) - off / 4096) 0) (le-ltb off stop h)

@@ -3,3 +3,4 @@ pub mod Stored
 pub mod Updates
 pub mod Changed
 pub mod Means
+pub mod Read

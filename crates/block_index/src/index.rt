@@ -1,6 +1,7 @@
 //! The block index, its messages and its reads.
-ghost use Rattle.std.specs.Prelude.{◌≡◌, ◌≢◌, ◌+◌, ◌-◌, ◌*◌, ◌≤◌, ◌<◌, ◌^◌, [], IfOk, OnOk, IsTrue, Option, Some, None, List, ℕ, length, take, drop, slice_index};
+ghost use Rattle.std.specs.Prelude.{◌≡◌, ◌≢◌, ◌+◌, ◌-◌, ◌*◌, ◌≤◌, ◌<◌, ◌^◌, [], IfOk, OnOk, IsTrue, Option, Some, None, List, ℕ, length, take, drop, min, slice_index};
 ghost use Rattle.block_index.specs.Changed.{Changes, CutsWhereMeant, cuts, patch_of, patches};
+ghost use Rattle.block_index.specs.Read.{block_count};
 ghost use Rattle.node.specs.Shapes.{is_shape};
 ghost use Rattle.pathkey.specs.Keys.{Key as KeyBytes, next_key, subtree};
 ghost use Rattle.reference.specs.Indexes.{BlocksMean, held, patched};
@@ -55,7 +56,29 @@ impl BlockIndex {
         requires short { len ≤ 2 ^ 40 }
         ensures { IfOk result (λ v. (t : DirectoryTree) (b : List ℕ) → BlocksMean t (blocks self.now) → look t path.now ≡ Some (Contents b) → length b ≡ len → v.items ≡ take n (drop off b)) }
     {
+        let mut steps = 0;
+        self.read_counted(alloc, path, off, n, len, &mut steps)
+    }
+
+    /// Likewise, and leaves in `steps` how many look-ups it made: one for each block that holds bytes of the answer, so at most 257
+    /// where `n` is at most 1,048,576.
+    pub fn read_counted(
+        &self,
+        alloc: Global,
+        path: &Path,
+        off: u64,
+        n: u64,
+        len: u64,
+        steps: &mut u64,
+    ) -> Result<Vec<u8>, NoMemory>
+        requires file { path.now ≢ [] }
+        requires short { len ≤ 2 ^ 40 }
+        ensures read { IfOk result (λ v. (t : DirectoryTree) (b : List ℕ) → BlocksMean t (blocks self.now) → look t path.now ≡ Some (Contents b) → length b ≡ len → v.items ≡ take n (drop off b)) }
+        ensures counted { OnOk result (steps.new ≡ block_count off (min (off + n) len)) }
+        ensures few { n ≤ 1048576 → OnOk result (steps.new ≤ 257) }
+    {
         let _key = path.key();
+        *steps = 0;
         let end = off.saturating_add(n).min(len);
         if end <= off {
             return Ok(Vec::new(alloc));
@@ -68,6 +91,7 @@ impl BlockIndex {
             let to = (end - start).min(BLOCK);
             let key = block_key(alloc, path, index)?;
             let block = get(alloc, &self.tree, &key)?;
+            *steps += 1;
             append(&mut bytes, bytes_of(&block), from as usize, to as usize)?;
         }
         Ok(bytes)

@@ -10,7 +10,7 @@ use Rattle.pathkey.specs.Names.{Path}
 use Rattle.pathkey.specs.declared.range.KeyRange.{KeyRange}
 use Rattle.pathkey.proofs.KeyFacts.{in_subtree}
 use Rattle.scan.specs.Pairs.{HasNone, IsFirst, IsScan}
-use Rattle.scan.proofs.NextKey.{in_range}
+use Rattle.message.proofs.NextKey.{in_range}
 use Rattle.scan.proofs.Parts.{IsPart, part_start, part_more, scan_all}
 use Rattle.scan.proofs.Pieces.{short_law}
 use Rattle.call_compiler.specs.Moves.{Moves, put_under}

@@ -10,6 +10,8 @@ mod command_lines;
 #[cfg(test)]
 mod compiled;
 #[cfg(test)]
+mod counts;
+#[cfg(test)]
 mod metadata;
 #[cfg(test)]
 mod plain;

@@ -119,6 +119,11 @@ const LINES: &[Row] = &[
         "ok\nfault ENOENT\nok\ndir 0\n",
     ),
     ("mkdir %2fa\nstat /a\n", "ok\ndir 0\n"),
+    // a lone percent sign stands for itself, and an escape for its byte wherever it stands
+    (
+        "create /%\ncreate /%2\ncreate /%0A\ncreate /%2F\ncreate /a%2Fb\nstat /%2e\nreaddir /\n",
+        "ok\nok\nok\nfault EINVAL\nfault ENOENT\nfault EINVAL\nnames 3\nf %0A\nf %25\nf %252\n",
+    ),
 ];
 
 #[test]
@@ -129,6 +134,17 @@ fn answers_each_line(rt: HostRuntime) {
             "{script:?}"
         );
     }
+}
+
+#[test]
+fn answers_a_name_that_is_no_text(rt: HostRuntime) {
+    assert!(rt;
+        is_answered(
+            rt.alloc(),
+            b"create /\xff\nreaddir /\n",
+            b"ok\nnames 1\nf %FF\n"
+        )
+    );
 }
 
 const LINES_OF_BYTES: &[Row] = &[
@@ -307,6 +323,7 @@ fn is_measured(alloc: Global, row: &Long) -> bool {
 const LONG: &[Long] = &[
     ("#", 65_536, ""),
     ("#", 65_537, "error line\n"),
+    ("x", 65_536, "error syntax\n"),
     ("stat", 65_536, "error syntax\n"),
     ("stat /", 65_536, "fault ENAMETOOLONG\n"),
     ("stat /", 65_537, "error line\n"),

@@ -8,7 +8,8 @@ use Rattle.message.specs.declared.msg.Msg.TheVariants.{Put, Del, DelRange, Edit}
 use Rattle.message.specs.Effects.{effect, made_of, touches}
 use Rattle.node.specs.Lawful.{Rises, first_key}
 use Rattle.node.specs.Meaning.{lookup}
-use Rattle.node.proofs.EntryFacts.{below_next, rises-without}
+use Rattle.message.proofs.KeyOrder.{below_next}
+use Rattle.node.proofs.EntryFacts.{rises-without}
 use Rattle.node.proofs.Fewer.{no_more, only_first}
 
 module _ {V : Type 0} (q : List ℕ) where

@@ -9,7 +9,7 @@ use Rattle.pathkey.proofs.OrderFacts.{same_true}
 use Rattle.message.specs.declared.msg.Msg.{Msg}
 use Rattle.message.specs.declared.msg.Msg.TheVariants.{Put, Del, DelRange, Edit}
 use Rattle.message.specs.Cuts.{pieces}
-use Rattle.message.specs.Effects.{touches, made_of, effect, Takes}
+use Rattle.message.specs.Effects.{touches, made_of, effect, Takes, range_count}
 use Rattle.std.proofs.lemmas.Bool.{leb-true}
 use Rattle.message.proofs.KeyOrder.{both, not_before_from_reaches, before_from_not_reaches}
 use Rattle.node.specs.declared.node.Slot.{Slot}
@@ -24,7 +24,7 @@ use Rattle.node.specs.Lawful.{Rises, IsLawfulNode, AreLawfulSlots, slot_count, p
 use Rattle.node.specs.Leaves.{Applied, IsDivided, IsGap, IsPlace}
 use Rattle.node.specs.Searchable.{IsSearchable}
 use Rattle.node.specs.Meaning.{lookup}
-use Rattle.node.specs.StepRows.{can_flush_leaf, range_count, EditsAbsent, LeafHasNoRoom, CanPart, CannotPart, Overflows}
+use Rattle.node.specs.StepRows.{can_flush_leaf, EditsAbsent, LeafHasNoRoom, CanPart, CannotPart, Overflows}
 use Rattle.node.specs.Site.{joined, slots_from}
 use Rattle.node.specs.Sinks.{Sinks}
 use Rattle.node.specs.Steps.{Formed, HasNoRoom, LawfulSlots, MayHaveRoom, Replies}

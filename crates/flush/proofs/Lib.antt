@@ -1,4 +1,5 @@
 pub mod Counts
+pub mod OldestOf
 pub mod Flushable
 pub mod Growth
 pub mod InnerFlush

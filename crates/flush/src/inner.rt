@@ -8,9 +8,9 @@ ghost use Rattle.node.specs.Steps.{Answers};
 ghost use Rattle.node.specs.declared.step.StepKind.TheVariants.{FlushInner};
 ghost use Rattle.flush.specs.Sunk.{Sunk, left};
 
-use message::{Msg, Update};
+use message::{Msg, Pending, Update};
 use node::node::append::append_copies;
-use node::node::count::{held, pieces_in};
+use node::node::count::{held, pieces_in, pieces_of_oldest};
 use node::{Body, Change, Node, Place, Shape, Slot, StepReply, Tree};
 use pathkey::Key;
 use std::alloc::Global;
@@ -65,25 +65,37 @@ fn sink<U: Update>(alloc: Global, room: u16, msgs: &[Msg<U>], child: &mut Arc<No
     StepReply::Did(count as u32)
 }
 
+/// How many of a list's oldest messages a flush looks at: at most this many, but one if there is one.
+pub(crate) fn few_oldest<U: Update>(list: &Pending<U>, most: u16) -> usize
+    ensures within { result ≤ length list.now.0 }
+    ensures some { 0 < length list.now.0 → 0 < result }
+{
+    list.len().min((most as usize).max(1))
+}
+
 /// Likewise for a slot, which loses the messages that its child has.
 fn sink_oldest<U: Update>(alloc: Global, room: u16, slot: &mut Slot<U>) -> StepReply
     ensures lo { slot.new.lo ≡ slot.old.lo }
     ensures left { slot.new.pending.0 ≡ left result slot.old.pending.0 }
     ensures sunk { Sunk U.means room result slot.old.pending.0 slot.old.child.value slot.new.child.value }
 {
-    let reply = sink(alloc, room, slot.pending.as_slice(), &mut slot.child);
+    let few = few_oldest(&slot.pending, room);
+    let Ok(msgs) = slot.pending.copy_front(alloc, few) else {
+        return StepReply::NoMemory;
+    };
+    let reply = sink(alloc, room, msgs.as_slice(), &mut slot.child);
     if let StepReply::Did(count) = reply {
         slot.pending.drop_front(count as usize);
     }
     reply
 }
 
-/// Whether a node with these slots, which has room for `room` pieces, has room for those of the message.
-fn takes<U: Update>(slots: &[Slot<U>], msg: &Msg<U>, room: u16) -> bool
-    ensures yes { result ≡ true → pending_of (seen_slots slots.now) + piece_count (msg.now ∷ []) (seen_slots slots.now) ≤ room }
-    ensures no { result ≡ false → room < pending_of (seen_slots slots.now) + piece_count (msg.now ∷ []) (seen_slots slots.now) }
+/// Whether a node with these slots, which has room for `room` pieces, has room for those of the list's oldest message.
+fn takes<U: Update>(slots: &[Slot<U>], list: &Pending<U>, room: u16) -> bool
+    ensures yes { result ≡ true → pending_of (seen_slots slots.now) + piece_count (take 1 list.now.0) (seen_slots slots.now) ≤ room }
+    ensures no { result ≡ false → room < pending_of (seen_slots slots.now) + piece_count (take 1 list.now.0) (seen_slots slots.now) }
 {
-    held(slots) + pieces_in(slots, msg) as u128 <= room as u128
+    held(slots) + pieces_of_oldest(slots, list) as u128 <= room as u128
 }
 
 /// The flush of one slot into an inner node.
@@ -108,12 +120,12 @@ impl<U: Update> Change<U> for InnerFlush {
             return true;
         }
         let slot = &slots[i];
-        let Some((oldest, _)) = slot.pending.as_slice().split_first() else {
+        if slot.pending.len() == 0 {
             return true;
-        };
+        }
         match slot.child.body() {
             Body::Leaf(_) => true,
-            Body::Inner(below) => takes(below.as_slice(), oldest, shape.pending),
+            Body::Inner(below) => takes(below.as_slice(), &slot.pending, shape.pending),
         }
     }
 

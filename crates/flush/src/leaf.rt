@@ -4,6 +4,9 @@
 //! full and the oldest message needs an entry more is the leaf cut in two, on a copy: one message then leaves the slot,
 //! and the next flush finds a leaf with half its room free.
 ghost use Rattle.std.specs.Prelude.{◌≡◌, ◌≤◌, ◌<◌, ◌∷◌, [], None, true, false, length, take, drop, ◌⊎◌, ⊤, IsTrue, IfOk, MatchOption};
+ghost use Rattle.std.specs.Option.{option_copied};
+ghost use Rattle.message.specs.Oldest.{given_at, put_at};
+ghost use Rattle.message.specs.declared.msg.Msg.{Msg};
 ghost use Rattle.node.specs.Lawful.{Rises};
 ghost use Rattle.node.specs.Leaves.{Applied};
 ghost use Rattle.node.specs.Places.{way};
@@ -17,8 +20,8 @@ ghost use Rattle.node.specs.declared.step.StepKind.TheVariants.{FlushLeaf};
 ghost use Rattle.flush.specs.Sunk.{left};
 ghost use Rattle.flush.specs.Leaf.{AddsNone, HasPlace, Filled, AfterOldest, AfterOldestAt, KeptOne, IsHalved};
 
+use crate::inner::few_oldest;
 use message::{Msg, Pending, Update};
-use node::node::append::pieces;
 use node::node::count::can_part;
 use node::node::leaf::{applied, apply, divide, position};
 use node::{Body, Change, Node, Place, Shape, Slot, StepReply, Tree};
@@ -26,37 +29,32 @@ use pathkey::{Key, NoMemory};
 use std::alloc::Global;
 use std::sync::Arc;
 
-/// Whether the message may give a value to a key that has none.
-fn may_add<U: Update>(entries: &[(Key, U::Value)], msg: &Msg<U>) -> bool
+/// Whether a leaf of at most `most` entries stays one under a message that may give a value to this key alone, or to none.
+fn has_room<U: Update>(entries: &[(Key, U::Value)], given: Option<&Key>, most: usize) -> bool
     requires { Rises [] None entries.now }
-    ensures { result ≡ false → AddsNone U.means entries.now msg.now }
+    ensures { result ≡ true → (m : Msg U U.Value) → given_at m ≡ option_copied given.entry → length entries.now < most ⊎ AddsNone U.means entries.now m }
 {
-    match msg {
-        Msg::Put(key, _) | Msg::Edit(key, _) => position(entries, key).is_err(),
-        Msg::Del(_) | Msg::DelRange(_) => false,
+    if entries.len() < most {
+        return true;
+    }
+    match given {
+        None => true,
+        Some(key) => position(entries, key).is_ok(),
     }
 }
 
-/// Whether a leaf of at most `most` entries stays one under the message.
-fn has_room<U: Update>(entries: &[(Key, U::Value)], msg: &Msg<U>, most: usize) -> bool
-    requires { Rises [] None entries.now }
-    ensures { result ≡ true → length entries.now < most ⊎ AddsNone U.means entries.now msg.now }
-{
-    entries.len() < most || !may_add(entries, msg)
-}
-
-/// Whether a leaf of at least `most` entries has none for the key that the message puts.
+/// Whether a leaf of at least `most` entries has none for the key of a put; `None` is another message.
 ///
 /// An update of an absent key may give it a value too, but only applying it tells.
-fn is_overfull<U: Update>(entries: &[(Key, U::Value)], msg: &Msg<U>, most: u16) -> bool
+fn is_overfull<U: Update>(entries: &[(Key, U::Value)], put: Option<&Key>, most: u16) -> bool
     requires { Rises [] None entries.now }
-    ensures yes { result ≡ true → Overflows U.means most entries.now (msg.now ∷ []) }
-    ensures no { result ≡ false → length entries.now ≤ most → Overflows U.means most entries.now (msg.now ∷ []) → EditsAbsent (more [] (msg.now ∷ []) (leaf entries.now) none) }
+    ensures yes { result ≡ true → (m : Msg U U.Value) → put_at m ≡ option_copied put.entry → Overflows U.means most entries.now (m ∷ []) }
+    ensures no { result ≡ false → (m : Msg U U.Value) → put_at m ≡ option_copied put.entry → length entries.now ≤ most → Overflows U.means most entries.now (m ∷ []) → EditsAbsent (more [] (m ∷ []) (leaf entries.now) none) }
 {
-    let Msg::Put(key, _) = msg else {
-        return false;
-    };
-    entries.len() >= most as usize && position(entries, key).is_err()
+    match put {
+        None => false,
+        Some(key) => entries.len() >= most as usize && position(entries, key).is_err(),
+    }
 }
 
 /// Applies the message where there is room for it, and says whether it did.
@@ -71,7 +69,7 @@ fn apply_within<U: Update>(
     ensures few { result ≡ true → length entries.old.items ≤ most → length entries.new.items ≤ most }
     ensures same { result ≡ false → entries.new.items ≡ entries.old.items }
 {
-    if !has_room(entries.as_slice(), msg, most) {
+    if !has_room::<U>(entries.as_slice(), msg.given(), most) {
         return false;
     }
     apply(alloc, entries, msg).is_ok()
@@ -107,12 +105,15 @@ fn takes_oldest<U: Update>(slot: &Slot<U>, most: u16) -> bool
     requires { IsSearchable slot.now.child.value }
     ensures { result ≡ true → HasPlace U.means most slot.now.pending.0 slot.now.child.value }
 {
-    let Some((oldest, _)) = slot.pending.as_slice().split_first() else {
+    if slot.pending.len() == 0 {
         return false;
-    };
+    }
     match slot.child.body() {
         Body::Inner(_) => false,
-        Body::Leaf(entries) => has_room(entries.as_slice(), oldest, most as usize),
+        Body::Leaf(entries) => {
+            let given = slot.pending.oldest_given();
+            has_room::<U>(entries.as_slice(), given, most as usize)
+        }
     }
 }
 
@@ -150,7 +151,11 @@ fn absorb_oldest<U: Update>(alloc: Global, most: u16, slot: &mut Slot<U>) -> Ste
     ensures left { slot.new.pending.0 ≡ left result slot.old.pending.0 }
     ensures filled { Filled U.means most result slot.old.pending.0 slot.old.child.value slot.new.child.value }
 {
-    let reply = absorb(alloc, most, slot.pending.as_slice(), &mut slot.child);
+    let few = few_oldest(&slot.pending, most.saturating_mul(2));
+    let Ok(msgs) = slot.pending.copy_front(alloc, few) else {
+        return StepReply::NoMemory;
+    };
+    let reply = absorb(alloc, most, msgs.as_slice(), &mut slot.child);
     if let StepReply::Did(count) = reply {
         slot.pending.drop_front(count as usize);
     }
@@ -166,12 +171,12 @@ fn after_oldest<U: Update>(
     ensures found { IfOk result (λ r. MatchOption r (can_flush_leaf (more [] slot.now.pending.0 slot.now.child.value none) ≡ false) (λ v. AfterOldest U.means slot.now.pending.0 slot.now.child.value v.items)) }
     ensures rising { IfOk result (λ r. MatchOption r ⊤ (λ v. Rises [] None v.items)) }
 {
-    let msgs = slot.pending.as_slice();
-    if msgs.is_empty() {
+    if slot.pending.len() == 0 {
         return Ok(None);
     }
+    let oldest = slot.pending.copy_front(alloc, 1)?;
     match slot.child.body() {
-        Body::Leaf(entries) => Ok(Some(applied(alloc, entries.as_slice(), &msgs[..1])?)),
+        Body::Leaf(entries) => Ok(Some(applied(alloc, entries.as_slice(), oldest.as_slice())?)),
         Body::Inner(_) => Ok(None),
     }
 }
@@ -194,22 +199,23 @@ fn keep<U: Update>(alloc: Global, slot: &mut Slot<U>, entries: Vec<(Key, U::Valu
     StepReply::Did(1)
 }
 
-/// The halves of a slot from `lo` on: over the halves of the entries, each with its part of the messages.
+/// The halves of a slot from `lo` on: over the halves of the entries, each with its part of the messages but the oldest.
 fn halves<U: Update>(
     alloc: Global,
     lo: &Key,
     entries: Vec<(Key, U::Value)>,
-    rest: &[Msg<U>],
+    list: &Pending<U>,
 ) -> Result<(Slot<U>, Slot<U>), NoMemory>
     requires two { 2 ≤ length entries.items }
     requires rising { Rises [] None entries.items }
-    ensures { IfOk result (λ p. IsHalved U.means lo.now entries.items rest.now p.0 p.1) }
+    requires some { 1 ≤ length list.now.0 }
+    ensures { IfOk result (λ p. IsHalved U.means lo.now entries.items (drop 1 list.now.0) p.0 p.1) }
 {
     let mut front = entries;
     let (pivot, back) = divide(alloc, &mut front)?;
     let left = Slot {
         lo: lo.copy(alloc)?,
-        pending: Pending::of(pieces(alloc, lo, Some(&pivot), rest)?),
+        pending: list.copy_between(alloc, 1, lo, Some(&pivot))?,
         child: Arc::new(
             alloc,
             Node {
@@ -218,7 +224,7 @@ fn halves<U: Update>(
         )?,
     };
     let right = Slot {
-        pending: Pending::of(pieces(alloc, &pivot, None, rest)?),
+        pending: list.copy_between(alloc, 1, &pivot, None)?,
         child: Arc::new(
             alloc,
             Node {
@@ -247,11 +253,10 @@ fn part<U: Update>(
     ensures { Replies U.means FlushLeaf shape root i result (seen_slots slots.old.items) (seen_slots slots.new.items) }
 {
     let slot = &slots[i];
-    let rest = &slot.pending.as_slice()[1..];
-    if !can_part(shape, root, slots.as_slice(), 1, rest) {
+    if !can_part(shape, root, slots.as_slice(), 1, &slot.pending) {
         return StepReply::NoRoom;
     }
-    let Ok((left, right)) = halves(alloc, &slot.lo, entries, rest) else {
+    let Ok((left, right)) = halves(alloc, &slot.lo, entries, &slot.pending) else {
         return StepReply::NoMemory;
     };
     if slots.insert(i + 1, right).is_err() {
@@ -308,14 +313,15 @@ impl<U: Update> Change<U> for LeafFlush {
             return true;
         }
         let slot = &slots[i];
-        let Some((oldest, rest)) = slot.pending.as_slice().split_first() else {
+        if slot.pending.len() == 0 {
             return true;
-        };
+        }
         match slot.child.body() {
             Body::Inner(_) => true,
             Body::Leaf(entries) => {
-                !is_overfull(entries.as_slice(), oldest, shape.leaf)
-                    || can_part(shape, root, slots, 1, rest)
+                let put = slot.pending.oldest_put();
+                !is_overfull::<U>(entries.as_slice(), put, shape.leaf)
+                    || can_part(shape, root, slots, 1, &slot.pending)
             }
         }
     }

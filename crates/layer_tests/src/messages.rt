@@ -1,7 +1,7 @@
 //! Messages on numbers, at keys of one byte, beside the same messages told in plain numbers.
 use message::{Msg, Pending, cut, touches};
 use pathkey::{Key, KeyRange, NoMemory};
-use samples::{Digit, Plain, are, batch, key, range};
+use samples::{Digit, Plain, are, batch, key, range, waits};
 use std::alloc::Global;
 
 fn list_of(alloc: Global, msgs: &[Plain]) -> Result<Pending<Digit>, NoMemory> {
@@ -195,7 +195,7 @@ fn applies(
     old: Option<u64>,
     wanted: Option<u64>,
 ) -> bool {
-    match list.apply_at(alloc, at, old) {
+    match list.value_after(alloc, at, old) {
         Ok(new) => new == wanted,
         Err(_) => false,
     }
@@ -319,15 +319,16 @@ fn changes_beside(alloc: Global, list: &mut Pending<Digit>, copy: &Pending<Digit
         && list.len() == 5
         && begins_with(alloc, list, &[Plain::Put(1, 1), Plain::Del(2)])
         && gives_up(list, 2)
-        && are(
-            list.as_slice(),
+        && waits(
+            alloc,
+            list,
             &[
                 Plain::Edit(3, 3),
                 Plain::DelRange(4, None),
                 Plain::Put(5, 5),
             ],
         )
-        && are(copy.as_slice(), OLDER)
+        && waits(alloc, copy, OLDER)
 }
 
 /// The same beside a copy made first.

@@ -3,7 +3,7 @@ use crate::trees::{SMALL, append, small_tree};
 use flush::flush_leaf;
 use message::Msg;
 use node::{Body, Node, Place, Shape, Slot, StepReply, Tree, append_both};
-use samples::{Digit, Plain, are, batch};
+use samples::{Digit, Plain, batch, waits};
 use std::alloc::Global;
 
 fn slot_count(node: &Node<Digit>) -> usize {
@@ -21,10 +21,10 @@ fn slot_at<'a>(node: &'a Node<Digit>, number: usize) -> Option<&'a Slot<Digit>> 
 }
 
 /// Whether these messages wait in a slot.
-fn wait(node: &Node<Digit>, slot: usize, msgs: &[Plain]) -> bool {
+fn wait(alloc: Global, node: &Node<Digit>, slot: usize, msgs: &[Plain]) -> bool {
     match slot_at(node, slot) {
         None => false,
-        Some(slot) => are(slot.pending.as_slice(), msgs),
+        Some(slot) => waits(alloc, &slot.pending, msgs),
     }
 }
 
@@ -92,14 +92,16 @@ fn begins_with_one_slot_over_an_empty_leaf(rt: HostRuntime) {
 }
 
 /// Whether these messages wait in a node's first slot, over an empty leaf.
-fn wait_above_nothing(node: &Node<Digit>, msgs: &[Plain]) -> bool {
-    wait(node, 0, msgs) && matches!(slot_at(node, 0), Some(slot) if is_empty_leaf(&slot.child))
+fn wait_above_nothing(alloc: Global, node: &Node<Digit>, msgs: &[Plain]) -> bool {
+    wait(alloc, node, 0, msgs)
+        && matches!(slot_at(node, 0), Some(slot) if is_empty_leaf(&slot.child))
 }
 
 /// Whether a new tree keeps the messages of a batch in its root.
 fn keeps_batch(alloc: Global, msgs: &[Plain]) -> bool {
     match small_tree(alloc) {
-        Ok(mut tree) => append(alloc, &mut tree, msgs) && wait_above_nothing(tree.root(), msgs),
+        Ok(mut tree) => append(alloc, &mut tree, msgs)
+            && wait_above_nothing(alloc, tree.root(), msgs),
         Err(_) => false,
     }
 }
@@ -118,7 +120,7 @@ fn append_in_turn(alloc: Global, tree: &mut Tree<Digit>, msgs: &[Plain]) -> bool
 fn keeps_in_turn(alloc: Global, msgs: &[Plain]) -> bool {
     match small_tree(alloc) {
         Ok(mut tree) => append_in_turn(alloc, &mut tree, msgs)
-            && wait_above_nothing(tree.root(), msgs),
+            && wait_above_nothing(alloc, tree.root(), msgs),
         Err(_) => false,
     }
 }
@@ -142,8 +144,13 @@ fn keeps_messages_in_the_root_in_their_order(rt: HostRuntime) {
 fn part(alloc: Global, tree: &mut Tree<Digit>, shared: &mut Tree<Digit>) -> bool {
     append(alloc, tree, &[Plain::Del(3)])
         && append(alloc, shared, &[Plain::Edit(3, 2)])
-        && wait(tree.root(), 0, &[Plain::Put(3, 1), Plain::Del(3)])
-        && wait(shared.root(), 0, &[Plain::Put(3, 1), Plain::Edit(3, 2)])
+        && wait(alloc, tree.root(), 0, &[Plain::Put(3, 1), Plain::Del(3)])
+        && wait(
+            alloc,
+            shared.root(),
+            0,
+            &[Plain::Put(3, 1), Plain::Edit(3, 2)],
+        )
 }
 
 /// Whether a tree with one message and a share of it part.
@@ -196,7 +203,7 @@ fn have_halves(
         Ok(batch_of_first) => append_beside(alloc, first, batch_of_first, second, two),
         Err(_) => false,
     };
-    appended && wait(first.root(), 0, one) && wait(second.root(), 0, two)
+    appended && wait(alloc, first.root(), 0, one) && wait(alloc, second.root(), 0, two)
 }
 
 /// The same of one new tree and a second made here.
@@ -277,8 +284,8 @@ const FROM_FIVE: &[Plain] = &[
 fn cuts(alloc: Global, tree: &mut Tree<Digit>) -> bool {
     has_two_slots(alloc, tree)
         && append(alloc, tree, ACROSS)
-        && wait(tree.root(), 0, BEFORE_FIVE)
-        && wait(tree.root(), 1, FROM_FIVE)
+        && wait(alloc, tree.root(), 0, BEFORE_FIVE)
+        && wait(alloc, tree.root(), 1, FROM_FIVE)
 }
 
 /// The same of a new tree.

@@ -6,7 +6,7 @@ ghost use Rattle.node.specs.Lawful.{Rises};
 ghost use Rattle.node.specs.Meaning.{lookup, value as value_at};
 ghost use Rattle.node.specs.Searchable.{IsSearchable};
 
-use message::Update;
+use message::{Told, Update};
 use node::node::leaf::position;
 use node::node::search::slot_of;
 use node::{Body, Node, Tree};
@@ -37,12 +37,14 @@ fn find<U: Update>(alloc: Global, node: &Node<U>, key: &Key) -> Result<Option<U:
                 return Ok(None);
             }
             let slot = &slots[slot_of(slots.as_slice(), key)];
-            let (from, settled) = slot.pending.decisive(key);
-            if settled {
-                return slot.pending.apply_from(alloc, key, None, from);
+            match slot.pending.told(alloc, key)? {
+                Told::Value(value) => Ok(value),
+                Told::Nothing => find(alloc, &slot.child, key),
+                Told::Change => {
+                    let below = find(alloc, &slot.child, key)?;
+                    slot.pending.value_after(alloc, key, below)
+                }
             }
-            let below = find(alloc, &slot.child, key)?;
-            slot.pending.apply_from(alloc, key, below, from)
         }
     }
 }

@@ -3,12 +3,12 @@ use Rattle.std.proofs.Common.{◌≡◌, ℕ, Bool, true, false, List, [], ◌�
 use Rattle.std.specs.Prelude.{◌&&◌}
 use Rattle.std.specs.declared.cmp.Ordering.{Ordering}
 use Rattle.std.specs.declared.cmp.Ordering.TheVariants.{Less, Equal, Greater}
-use Rattle.std.specs.Ordering.{is_lt, is_le, ordering_reverse}
+use Rattle.std.specs.Ordering.{is_lt, is_le, is_eq, ordering_reverse}
 use Rattle.std.proofs.lemmas.Bool.{false_from_ne_true}
 use Rattle.std.proofs.lemmas.Cmp.{nat_list_cmp_total}
 use Rattle.pathkey.specs.Order.{by_bytes, same}
 use Rattle.pathkey.specs.Keys.{is_below}
-use Rattle.pathkey.proofs.OrderFacts.{tied, equal, same_true}
+use Rattle.pathkey.proofs.OrderFacts.{tied, equal, same_true, same_false, apart}
 use Rattle.message.specs.Ranges.{reaches, before, within, later_key, earlier_end}
 
 -- ---- two keys compared both ways
@@ -177,3 +177,32 @@ within-same lo q k hi e = ap (λ x. within lo hi x) (same_true q k e)
 pub apart_by : (c : Bool) (lo q k : List ℕ) (hi : Option (List ℕ)) → same q k ≡ c → within lo hi q ≡ false → within lo hi k ≡ true → c ≡ false
 apart_by false lo q k hi e f h = refl
 apart_by true lo q k hi e f h = sym h ∙ sym (within-same lo q k hi e) ∙ f
+
+-- ---- keys that are not one
+
+-- what stands before a key that stands below an end does so too
+pub below_next : (p a : List ℕ) (o : Option (List ℕ)) → before p a ≡ true → is_below a o ≡ true → is_below p o ≡ true
+below_next p a o h l = begins_before_end p a o (reaches-from_before p a h) l
+
+-- keys that compare as one before the other are not one
+unlike_by : (o : Ordering) → is_lt o ≡ true → is_eq o ≡ false
+unlike_by Less h = refl
+unlike_by Equal h = (cc)
+unlike_by Greater h = refl
+
+-- a key before another is not that key
+pub unlike_earlier : (a k : List ℕ) → before a k ≡ true → same a k ≡ false
+unlike_earlier a k h = unlike_by (by_bytes a k) h
+
+-- nor is a key behind it
+pub unlike_later : (a k : List ℕ) → before k a ≡ true → same a k ≡ false
+unlike_later a k h = same_false a k (λ e. apart k a (unlike_earlier k a h) (sym e))
+
+beyond_by : (o p : Ordering) → p ≡ ordering_reverse o → is_lt o ≡ false → is_eq o ≡ false → is_lt p ≡ true
+beyond_by Less p e h s = (cc)
+beyond_by Equal p e h s = (cc)
+beyond_by Greater p e h s = ap is_lt e
+
+-- a key that stands neither before another nor with it stands behind it
+pub beyond : (a k : List ℕ) → before a k ≡ false → same a k ≡ false → before k a ≡ true
+beyond a k h s = beyond_by (by_bytes a k) (by_bytes k a) (nat_list_cmp_total.antisymm k a) h s

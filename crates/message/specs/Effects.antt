@@ -25,6 +25,14 @@ module _ {U V : Type 0} where
   point (DelRange r) = None
   point (Edit q u) = Some q
 
+  -- how many messages are range-deletes
+  abbrev pub range_count : List (Msg U V) → ℕ
+  range_count [] = 0
+  range_count (Put q v ∷ ms) = range_count ms
+  range_count (Del q ∷ ms) = range_count ms
+  range_count (DelRange r ∷ ms) = range_count ms + 1
+  range_count (Edit q u ∷ ms) = range_count ms
+
   -- the message has one outcome, whatever the old value of a key that it touches
   abbrev pub is_settling : Msg U V → Bool
   is_settling (Put q v) = true

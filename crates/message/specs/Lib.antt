@@ -1,3 +1,10 @@
 pub mod Ranges
 pub mod Effects
 pub mod Cuts
+pub mod Runs
+pub mod Settled
+pub mod Oldest
+pub mod Told
+pub mod Stretches
+pub mod Search
+pub mod Oldests

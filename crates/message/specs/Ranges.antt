@@ -1,5 +1,5 @@
 -- Ends of ranges of keys.
-use Rattle.std.specs.Prelude.{ℕ, Bool, List, ◌&&◌, Option, Some, None, if◌then◌else◌}
+use Rattle.std.specs.Prelude.{ℕ, Bool, true, false, List, ◌&&◌, Option, Some, None, if◌then◌else◌}
 use Rattle.std.specs.Ordering.{is_lt, is_le}
 use Rattle.pathkey.specs.Order.{by_bytes}
 use Rattle.pathkey.specs.Keys.{is_below}
@@ -25,3 +25,9 @@ abbrev pub earlier_end : Option (List ℕ) → Option (List ℕ) → Option (Lis
 earlier_end None b = b
 earlier_end (Some a) None = Some a
 earlier_end (Some a) (Some b) = Some (if before a b then a else b)
+
+-- the end a stands at or before the end b
+abbrev pub ends_within : Option (List ℕ) → Option (List ℕ) → Bool
+ends_within a None = true
+ends_within None (Some b) = false
+ends_within (Some a) (Some b) = reaches a b

@@ -5,11 +5,24 @@
 //! message does to the value at each single key, and cuts messages to the range of a slot.
 #![tactic(auto)]
 
+pub mod condensed;
 pub mod ends;
+pub mod meets;
 pub mod msg;
 pub mod pending;
+pub(crate) mod points;
+pub(crate) mod ranges;
+pub mod run;
+pub mod search;
+pub mod settled;
+pub mod sorted;
+pub mod stretch;
+pub mod taken;
+pub mod told;
 pub mod update;
 
 pub use msg::{Msg, cut, touches};
 pub use pending::Pending;
+pub use taken::Taken;
+pub use told::Told;
 pub use update::{Changes, Update};

@@ -3,6 +3,7 @@ ghost use Rattle.std.specs.Prelude.{◌≡◌, IfOk};
 ghost use Rattle.std.specs.Option.{option_copied};
 ghost use Rattle.message.specs.Effects.{touches as is_touched, effect, point as point_of, is_settling};
 ghost use Rattle.message.specs.Cuts.{cut_range, cut_to, IsCut};
+ghost use Rattle.message.specs.Oldest.{given_at};
 
 use crate::ends::{earlier_end, is_within, later_key};
 use crate::update::{Changes, Update};
@@ -42,6 +43,16 @@ impl<U: Update> Msg<U> {
         match self {
             Msg::Put(key, _) | Msg::Del(key) | Msg::Edit(key, _) => Some(key),
             Msg::DelRange(_) => None,
+        }
+    }
+
+    /// The key to which the message may give a value where it had none: that of a put or of an edit.
+    pub fn given(&self) -> Option<&Key>
+        ensures { option_copied result ≡ given_at self.now }
+    {
+        match self {
+            Msg::Put(key, _) | Msg::Edit(key, _) => Some(key),
+            Msg::Del(_) | Msg::DelRange(_) => None,
         }
     }
 

@@ -12,9 +12,8 @@ use Rattle.pathkey.proofs.KeyFacts.{enc-append, path_in_subtree, path_in_subtree
 use Rattle.message.specs.Ranges.{reaches, within}
 use Rattle.message.proofs.KeyOrder.{le_le, not_reaches_from_before, reaches-from_before}
 use Rattle.scan.specs.Pairs.{IsFirst}
-use Rattle.scan.proofs.NextKey.{before-next, reaches-next}
-use Rattle.reference.specs.Tree.{Tree, Dir, File, nothing, entry, entry_at, named, found, onward}
-use Rattle.reference.specs.Tree.{At, Found, Missing, Blocked}
+use Rattle.message.proofs.NextKey.{before-next, reaches-next}
+use Rattle.reference.specs.Tree.{Tree, Dir, File, nothing, entry, entry_at, named, found, onward, At, Found, Missing, Blocked}
 use Rattle.reference.specs.Calls.{is_full}
 use Rattle.reference.specs.Looks.{seen, look}
 use Rattle.reference.specs.Indexes.{meta_of, PathOf}

@@ -11,9 +11,8 @@ use Rattle.pathkey.proofs.OrderFacts.{same_itself, same_true}
 use Rattle.message.specs.Ranges.{before, reaches, within}
 use Rattle.message.proofs.KeyOrder.{le_le, reaches-from_before, reaches-from_not_before}
 use Rattle.scan.specs.Pairs.{HasNone, IsFirst}
-use Rattle.scan.proofs.NextKey.{by_bool, in_range, not_reaches, one_key}
-use Rattle.reference.specs.Tree.{Tree, Dir, File, Entries, nothing, entry, entry_at, named, found, onward}
-use Rattle.reference.specs.Tree.{At, Found, Missing, Blocked}
+use Rattle.message.proofs.NextKey.{by_bool, in_range, not_reaches, one_key}
+use Rattle.reference.specs.Tree.{Tree, Dir, File, Entries, nothing, entry, entry_at, named, found, onward, At, Found, Missing, Blocked}
 use Rattle.reference.specs.Calls.{kind_of, listing, names_of}
 use Rattle.reference.specs.Shape.{AllAbove, Rising, RisingEntries}
 use Rattle.reference.specs.Looks.{seen}

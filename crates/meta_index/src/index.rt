@@ -1,5 +1,5 @@
 //! The metadata index, and what stands at a path.
-ghost use Rattle.std.specs.Prelude.{◌≡◌, IfOk, IsTrue, None, not};
+ghost use Rattle.std.specs.Prelude.{◌≡◌, ◌+◌, IfOk, OnOk, IsTrue, None, length, not};
 ghost use Rattle.meta_index.specs.Means.{IsMeantBy, metadata, told};
 ghost use Rattle.node.specs.Shapes.{is_shape};
 ghost use Rattle.pathkey.specs.Keys.{next_key, subtree};
@@ -90,7 +90,22 @@ impl MetaIndex {
     pub fn is_empty_dir(&self, alloc: Global, path: &Path) -> Result<bool, NoMemory>
         ensures { IfOk result (λ empty. (t : DirectoryTree) → IsMeantBy t self.now → empty ≡ not (is_full (entry_at t path.now))) }
     {
+        let mut steps = 0;
+        self.is_empty_dir_counted(alloc, path, &mut steps)
+    }
+
+    /// Likewise, and leaves in `steps` how often it asked the tree for a first pair: once.
+    pub fn is_empty_dir_counted(
+        &self,
+        alloc: Global,
+        path: &Path,
+        steps: &mut u64,
+    ) -> Result<bool, NoMemory>
+        ensures empty { IfOk result (λ empty. (t : DirectoryTree) → IsMeantBy t self.now → empty ≡ not (is_full (entry_at t path.now))) }
+        ensures counted { OnOk result (steps.new ≡ 1) }
+    {
         let below = keys_below(alloc, path)?;
+        *steps = 1;
         Ok(first_in(alloc, &self.tree, &below)?.is_none())
     }
 
@@ -101,14 +116,30 @@ impl MetaIndex {
     pub fn children(&self, alloc: Global, path: &Path) -> Result<Vec<(Kind, Vec<u8>)>, NoMemory>
         ensures { IfOk result (λ v. (t : DirectoryTree) → IsMeantBy t self.now → pairs_of v.items ≡ names_of (entry_at t path.now)) }
     {
+        let mut steps = 0;
+        self.children_counted(alloc, path, &mut steps)
+    }
+
+    /// Likewise, and leaves in `steps` how often it asked the tree for a first pair: once for each entry, and once more.
+    pub fn children_counted(
+        &self,
+        alloc: Global,
+        path: &Path,
+        steps: &mut u64,
+    ) -> Result<Vec<(Kind, Vec<u8>)>, NoMemory>
+        ensures listed { IfOk result (λ v. (t : DirectoryTree) → IsMeantBy t self.now → pairs_of v.items ≡ names_of (entry_at t path.now)) }
+        ensures counted { IfOk result (λ v. steps.new ≡ length v.items + 1) }
+    {
         let mut entries = Vec::new(alloc);
         let mut rest = keys_below(alloc, path)?;
+        *steps = 1;
         'entries: while let Some((key, meta)) = first_in(alloc, &self.tree, &rest)? {
             let Some(child) = child_at(alloc, &key)? else {
                 return Ok(entries);
             };
             entries.push((kind_of(meta), child.name))?;
             rest.lo = child.end;
+            *steps += 1;
         }
         Ok(entries)
     }

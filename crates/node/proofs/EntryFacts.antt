@@ -11,36 +11,9 @@ use Rattle.pathkey.specs.Order.{by_bytes, same}
 use Rattle.pathkey.specs.Keys.{is_below}
 use Rattle.pathkey.proofs.OrderFacts.{same_true, same_false, apart}
 use Rattle.message.specs.Ranges.{reaches, before, within}
-use Rattle.message.proofs.KeyOrder.{le_le, lt_le, both, reaches-from_before, reaches-from_not_before, begins_before_end, not_before_from_reaches, from_start}
+use Rattle.message.proofs.KeyOrder.{le_le, lt_le, both, reaches-from_before, reaches-from_not_before, begins_before_end, not_before_from_reaches, from_start, below_next, beyond, unlike_earlier, unlike_later}
 use Rattle.node.specs.Lawful.{first_key, Rises}
 use Rattle.node.specs.Meaning.{lookup}
-
--- what stands before a key that stands below an end does so too
-pub below_next : (p a : List ℕ) (o : Option (List ℕ)) → before p a ≡ true → is_below a o ≡ true → is_below p o ≡ true
-below_next p a o h l = begins_before_end p a o (reaches-from_before p a h) l
-
--- keys that compare as one before the other are not one
-unlike_by : (o : Ordering) → is_lt o ≡ true → is_eq o ≡ false
-unlike_by Less h = refl
-unlike_by Equal h = (cc)
-unlike_by Greater h = refl
-
--- a key before another is not that key
-pub unlike_earlier : (a k : List ℕ) → before a k ≡ true → same a k ≡ false
-unlike_earlier a k h = unlike_by (by_bytes a k) h
-
--- nor is a key behind it
-pub unlike_later : (a k : List ℕ) → before k a ≡ true → same a k ≡ false
-unlike_later a k h = same_false a k (λ e. apart k a (unlike_earlier k a h) (sym e))
-
-beyond_by : (o p : Ordering) → p ≡ ordering_reverse o → is_lt o ≡ false → is_eq o ≡ false → is_lt p ≡ true
-beyond_by Less p e h s = (cc)
-beyond_by Equal p e h s = (cc)
-beyond_by Greater p e h s = ap is_lt e
-
--- a key that stands neither before another nor with it stands behind it
-pub beyond : (a k : List ℕ) → before a k ≡ false → same a k ≡ false → before k a ≡ true
-beyond a k h s = beyond_by (by_bytes a k) (by_bytes k a) (nat_list_cmp_total.antisymm k a) h s
 
 -- a key outside a range is outside one that begins later
 narrower : (lo p : List ℕ) (hi : Option (List ℕ)) (k : List ℕ) → reaches lo p ≡ true → within lo hi k ≡ false → within p hi k ≡ false

@@ -5,11 +5,11 @@ use Rattle.std.proofs.lemmas.List.{get_or_default}
 use Rattle.pathkey.specs.Order.{same}
 use Rattle.pathkey.proofs.OrderFacts.{same_true, same_from_eq}
 use Rattle.message.specs.Ranges.{before}
-use Rattle.message.proofs.KeyOrder.{le_lt, lt_le}
+use Rattle.message.proofs.KeyOrder.{le_lt, lt_le, unlike_earlier, unlike_later, beyond}
 use Rattle.node.specs.Lawful.{Rises}
 use Rattle.node.specs.Meaning.{lookup}
 use Rattle.node.specs.Leaves.{IsCount, IsEntry, IsGap}
-use Rattle.node.proofs.EntryFacts.{unlike_earlier, unlike_later, beyond, first_reaches}
+use Rattle.node.proofs.EntryFacts.{first_reaches}
 
 module _ {V : Type 0} where
   -- what a search by bisection asks of entries that rise

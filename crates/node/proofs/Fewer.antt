@@ -5,10 +5,10 @@ use Rattle.pathkey.specs.Order.{same}
 use Rattle.pathkey.specs.Keys.{is_below}
 use Rattle.pathkey.proofs.OrderFacts.{same_true, same_itself}
 use Rattle.message.specs.Ranges.{before}
-use Rattle.message.proofs.KeyOrder.{not_reaches_from_before, reaches-refl}
+use Rattle.message.proofs.KeyOrder.{not_reaches_from_before, reaches-refl, beyond}
 use Rattle.node.specs.Lawful.{Rises}
 use Rattle.node.specs.Meaning.{lookup}
-use Rattle.node.proofs.EntryFacts.{beyond, lookup_outside}
+use Rattle.node.proofs.EntryFacts.{lookup_outside}
 
 module _ {V : Type 0} where
   -- no key before that of the first entry has a value

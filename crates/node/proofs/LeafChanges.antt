@@ -7,12 +7,12 @@ use Rattle.pathkey.specs.Order.{same}
 use Rattle.pathkey.specs.Keys.{is_below}
 use Rattle.pathkey.proofs.OrderFacts.{same_true, same_false, same_itself}
 use Rattle.message.specs.Ranges.{reaches, before, within}
-use Rattle.message.proofs.KeyOrder.{both, lt_le, reaches-refl, not_before_from_reaches, reaches-from_before, reaches-from_not_before}
+use Rattle.message.proofs.KeyOrder.{both, lt_le, reaches-refl, not_before_from_reaches, reaches-from_before, reaches-from_not_before, unlike_earlier, unlike_later}
 use Rattle.node.specs.Lawful.{first_key, Rises}
 use Rattle.node.specs.Meaning.{lookup}
 use Rattle.node.specs.Leaves.{IsCount, IsEntry, IsGap, IsChanged}
 use Rattle.node.proofs.EntryPlaces.{Around, around_gap, around_entry}
-use Rattle.node.proofs.EntryFacts.{unlike_earlier, unlike_later, lookup-append, lookup-without, lookup-take, lookup-beside, rises-without, rises-before, rises-others, rises-append}
+use Rattle.node.proofs.EntryFacts.{lookup-append, lookup-without, lookup-take, lookup-beside, rises-without, rises-before, rises-others, rises-append}
 
 -- a test that picks a key is not false there
 picked : (picks : List ℕ → Bool) (k : List ℕ) (b : Bool) → (b ≡ false → picks k ≡ false) → picks k ≡ true → b ≡ true

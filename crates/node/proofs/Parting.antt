@@ -7,14 +7,13 @@ use Rattle.message.specs.declared.msg.Msg.{Msg}
 use Rattle.message.specs.declared.msg.Msg.TheVariants.{Put, Del, DelRange, Edit}
 use Rattle.message.specs.Ranges.{reaches, before, later_key, earlier_end}
 use Rattle.message.specs.Cuts.{cut_to, pieces}
-use Rattle.message.specs.Effects.{effects, Takes}
+use Rattle.message.specs.Effects.{effects, Takes, range_count}
 use Rattle.message.proofs.CutFacts.{effects-pieces}
 use Rattle.message.proofs.KeyOrder.{not_reaches_from_before, before_from_not_reaches, both}
 use Rattle.node.specs.declared.shape.Shape.{Shape}
 use Rattle.node.specs.Pure.{PNode, PSlots, none, more}
 use Rattle.node.specs.Meaning.{value}
 use Rattle.node.specs.Lawful.{IsLawfulNode, AreLawfulSlots, TouchOnly}
-use Rattle.node.specs.StepRows.{range_count}
 use Rattle.node.specs.Sinks.{Sinks}
 use Rattle.node.proofs.Appending.{pieces_outside}
 use Rattle.node.proofs.Sinking.{pieces_end, touch_only-drop}

@@ -3,8 +3,8 @@ use Rattle.std.specs.Prelude.{◌≡◌, ℕ, ◌+◌, ◌-◌, ◌*◌, ◌<◌
 use Rattle.message.specs.declared.msg.Msg.{Msg}
 use Rattle.message.specs.declared.msg.Msg.TheVariants.{Put, Del, DelRange, Edit}
 use Rattle.message.specs.Cuts.{pieces}
-use Rattle.message.specs.Effects.{effects}
-use Rattle.message.specs.Ranges.{reaches}
+use Rattle.message.specs.Effects.{effects, range_count}
+use Rattle.message.specs.Ranges.{reaches, ends_within}
 use Rattle.node.specs.declared.shape.Shape.{Shape}
 use Rattle.node.specs.Pure.{PNode, leaf, inner, PSlots, none, more, depth}
 use Rattle.node.specs.Meaning.{value, lookup}
@@ -17,14 +17,6 @@ module _ {U V : Type 0} where
   abbrev pub piece_count : List (Msg U V) → PSlots U V → ℕ
   piece_count ms none = 0
   piece_count ms (more lo old n ss) = length (pieces lo (next_lo None ss) ms) + piece_count ms ss
-
-  -- how many of the messages are range-deletes
-  abbrev pub range_count : List (Msg U V) → ℕ
-  range_count [] = 0
-  range_count (Put q v ∷ ms) = range_count ms
-  range_count (Del q ∷ ms) = range_count ms
-  range_count (DelRange r ∷ ms) = range_count ms + 1
-  range_count (Edit q u ∷ ms) = range_count ms
 
   -- the slots without their messages
   abbrev pub emptied : PSlots U V → PSlots U V
@@ -184,12 +176,6 @@ module _ {U V : Type 0} where
     pub no_more : length msgs ≤ length left_msgs + length right_msgs
 
 -- ---- drop_covered
-
--- the end a stands at or before the end b
-abbrev pub ends_within : Option (List ℕ) → Option (List ℕ) → Bool
-ends_within a None = true
-ends_within None (Some b) = false
-ends_within (Some a) (Some b) = reaches a b
 
 module _ {U V : Type 0} where
   -- the oldest message of the first of these slots, which end at hi, is a range-delete of the slot's whole range

@@ -14,7 +14,6 @@ pub mod count;
 pub mod descend;
 pub mod leaf;
 pub mod make;
-pub mod meets;
 pub mod search;
 
 /// A node.

@@ -11,7 +11,7 @@ length-over b off w = simp (length-append, length-take, length-drop, length-repl
 pub length-sized : (b : List ℕ) (n : ℕ) → length (sized b n) ≡ n
 length-sized b n = simp (length-append, length-take, length-replicate) (omega arith)
 
-zeros : (n : ℕ) → AreBytes (replicate n 0)
+pub zeros : (n : ℕ) → AreBytes (replicate n 0)
 zeros n = All-replicate (λ x. x < 256) n 0 (omega arith)
 
 bytes-over : (b : List ℕ) (off : ℕ) (w : List ℕ) → AreBytes b → AreBytes w → AreBytes (over b off w)

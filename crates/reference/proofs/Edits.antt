@@ -92,7 +92,7 @@ edit_law (n ∷ m ∷ p) (Dir es) o (k ∷ q) ne h =
     ] refl h
 
 -- what is not there is not taken out
-take_out_absent : (n : Name) (es : Entries) → named n es ≡ None → take_out n es ≡ es
+pub take_out_absent : (n : Name) (es : Entries) → named n es ≡ None → take_out n es ≡ es
 take_out_absent n nothing h = refl
 take_out_absent n (entry m y rest) h =
     elim (same n m) as (λ b. cond b (Some y) (named n rest) ≡ None → cond b (take_out n rest) (entry m y (take_out n rest)) ≡ entry m y rest) [

@@ -20,7 +20,7 @@ use Rattle.reference.proofs.BlockRanges.{blocks_cleared}
 
 -- ---- what the calls change in the tree
 -- where nothing stands nothing is seen
-nothing_seen : (a : At) → is_found a ≡ false → seen a ≡ None
+pub nothing_seen : (a : At) → is_found a ≡ false → seen a ≡ None
 nothing_seen (Found x) h = absurd (cc)
 nothing_seen Missing h = refl
 nothing_seen Blocked h = refl
@@ -81,7 +81,7 @@ unlink_meta t t' p m tree old is_path e = meta_at_point t t' p None (λ o. None)
 
 -- ---- the block index
 -- where neither before nor after a file stands at the path, the blocks stay
-no_file_blocks : (t t' : Tree) (p : Path) (old new : Option Look) (d : Blocks) → ((b : List ℕ) → old ≡ Some (Bytes b) → ⊥) → ((b : List ℕ) → new ≡ Some (Bytes b) → ⊥) → BlocksMean t d → IsPath p → Became t t' p old new → BlocksMean t' d
+pub no_file_blocks : (t t' : Tree) (p : Path) (old new : Option Look) (d : Blocks) → ((b : List ℕ) → old ≡ Some (Bytes b) → ⊥) → ((b : List ℕ) → new ≡ Some (Bytes b) → ⊥) → BlocksMean t d → IsPath p → Became t t' p old new → BlocksMean t' d
 no_file_blocks t t' p old new d was now means is_path b = blocks_at_point t t' p new (λ i o. o) d d is_path b.point (unchanged p d)
     (record {
       hold = λ x e. absurd (now x e);

@@ -81,7 +81,7 @@ decimal_visible n h = decimal_by_steps (λ k ds. Visible ds) (λ k l. (omega ari
 -- ---- names
 
 -- a byte stands for itself, or is told by a percent sign and two digits
-percent_cases : (b : ℕ) → (percent b ≡ 37 ∷ two_digits 55 b) ⊎ ((33 ≤ b) × (b ≢ 37) × (percent b ≡ b ∷ []))
+pub percent_cases : (b : ℕ) → (percent b ≡ 37 ∷ two_digits 55 b) ⊎ ((33 ≤ b) × (b ≢ 37) × (percent b ≡ b ∷ []))
 percent_cases b = elim (nat_lt b 33 || b == 37 || nat_lt 126 b) as (λ t. (nat_lt b 33 || b == 37 || nat_lt 126 b) ≡ t → (cond t (37 ∷ two_digits 55 b) (b ∷ []) ≡ 37 ∷ two_digits 55 b) ⊎ ((33 ≤ b) × (b ≢ 37) × (cond t (37 ∷ two_digits 55 b) (b ∷ []) ≡ b ∷ []))) [
   | true ↦ λ e. inl refl
   | false ↦ λ e.

@@ -16,6 +16,15 @@ pub mod ImageBytes
 pub mod ImageRows
 pub mod ImageTexts
 pub mod Images
+pub mod PathOrder
+pub mod LastEntry
+pub mod LastBlock
+pub mod Planting
+pub mod PutTwice
+pub mod LinesMade
+pub mod LinesRead
+pub mod LinesCut
+pub mod LineLengths
 pub mod IndexLaws
 pub mod Listings
 pub mod MovedKeys

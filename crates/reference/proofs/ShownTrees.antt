@@ -18,7 +18,7 @@ abbrev mutual
   ShownEntries nothing = Unit {0}
   ShownEntries (entry n x rest) = Slashless n × Shown x × ShownEntries rest
 
-name_without_slash : (n : Name) → HasNameBytes n → Slashless n
+pub name_without_slash : (n : Name) → HasNameBytes n → Slashless n
 name_without_slash [] h = tt
 name_without_slash (b ∷ n) h = (h.2, name_without_slash n h.3)
 

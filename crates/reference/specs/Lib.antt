@@ -6,6 +6,8 @@ pub mod Looks
 pub mod Indexes
 pub mod Worlds
 pub mod Image
+pub mod ImageLines
+pub mod Plant
 pub mod Rows
 pub mod Laws
 pub mod Plain

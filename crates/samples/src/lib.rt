@@ -10,6 +10,6 @@ pub mod row;
 
 pub use ask::{Ask, Told};
 pub use digit::Digit;
-pub use plain::{Plain, are, are_numbered, batch, key, number, range};
+pub use plain::{Plain, are, are_numbered, batch, key, number, range, waits};
 pub use random::Random;
 pub use row::Row;

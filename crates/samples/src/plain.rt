@@ -1,7 +1,7 @@
 //! Messages, keys and ranges in plain numbers: a number stands for the key of that one byte.
 use crate::digit::{Digit, written_behind};
 use crate::random::Random;
-use message::Msg;
+use message::{Msg, Pending};
 use pathkey::{Key, KeyRange, NoMemory};
 use std::alloc::Global;
 
@@ -116,6 +116,14 @@ pub fn are(msgs: &[Msg<Digit>], plain: &[Plain]) -> bool {
         }
     }
     true
+}
+
+/// Whether the list holds these messages, the oldest first; `false` where memory is refused.
+pub fn waits(alloc: Global, list: &Pending<Digit>, plain: &[Plain]) -> bool {
+    match list.copy_front(alloc, list.len()) {
+        Ok(msgs) => are(msgs.as_slice(), plain),
+        Err(NoMemory) => false,
+    }
 }
 
 /// Whether the pairs are these, with numbers for their keys.

@@ -9,7 +9,7 @@ use Rattle.message.proofs.KeyOrder.{lt_le, reaches-refl, reaches-from_before, no
 use Rattle.node.specs.declared.node.Slot.{Slot}
 use Rattle.node.specs.See.{seen_slots}
 use Rattle.node.specs.Site.{end_of}
-use Rattle.scan.specs.Stretches.{all_ends}
+use Rattle.message.specs.Stretches.{all_ends}
 
 -- how many of the keys lie after c
 abbrev pub ahead : List ℕ → List (List ℕ) → ℕ

@@ -2,10 +2,9 @@
 use Rattle.std.proofs.Common.{◌≡◌, ℕ, true, false, List, ◌∙◌, subst, Option, Some, None}
 use Rattle.pathkey.specs.Keys.{is_below}
 use Rattle.message.specs.Ranges.{reaches, before, within}
-use Rattle.message.proofs.KeyOrder.{both, le_le, reaches-from_not_before, not_before_from_reaches, begins_before_end}
-use Rattle.node.proofs.EntryFacts.{below_next}
+use Rattle.message.proofs.KeyOrder.{both, le_le, reaches-from_not_before, not_before_from_reaches, begins_before_end, below_next}
 use Rattle.scan.specs.Pairs.{HasNone, IsFirst}
-use Rattle.scan.proofs.NextKey.{by_bool, in_range}
+use Rattle.message.proofs.NextKey.{by_bool, in_range}
 
 -- below an end that a key does not lie below, each key stands before that key
 pub past_end : (from k : List ℕ) (hi : Option (List ℕ)) → is_below from hi ≡ false → is_below k hi ≡ true → before k from ≡ true

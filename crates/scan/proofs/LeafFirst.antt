@@ -5,14 +5,14 @@ use Rattle.std.proofs.lemmas.List.{get_or_default}
 use Rattle.pathkey.specs.Keys.{is_below}
 use Rattle.pathkey.proofs.OrderFacts.{same_itself}
 use Rattle.message.specs.Ranges.{reaches, before}
-use Rattle.message.proofs.KeyOrder.{both, lt_le, reaches-refl, reaches-from_before, reaches-from_not_before, not_before_from_reaches}
+use Rattle.message.proofs.KeyOrder.{both, lt_le, reaches-refl, reaches-from_before, reaches-from_not_before, not_before_from_reaches, unlike_earlier, unlike_later}
 use Rattle.node.specs.Lawful.{Rises}
 use Rattle.node.specs.Leaves.{IsCount}
 use Rattle.node.specs.Meaning.{lookup}
-use Rattle.node.proofs.EntryFacts.{unlike_earlier, unlike_later, lookup-drop}
+use Rattle.node.proofs.EntryFacts.{lookup-drop}
 use Rattle.node.proofs.EntryPlaces.{is_entry, after_entry}
 use Rattle.scan.specs.Pairs.{HasNone, IsFirst}
-use Rattle.scan.proofs.NextKey.{in_range}
+use Rattle.message.proofs.NextKey.{in_range}
 use Rattle.scan.proofs.Firsts.{past_end}
 
 module _ {V : Type 0} (es : List (List ℕ × V)) (lo : List ℕ) (i : ℕ) (c : IsCount es (Some lo) i) where

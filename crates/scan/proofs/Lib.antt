@@ -1,7 +1,5 @@
-pub mod NextKey
 pub mod Firsts
 pub mod OnStretches
-pub mod StretchEnds
 pub mod Ahead
 pub mod SlotRange
 pub mod Searching

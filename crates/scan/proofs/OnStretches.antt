@@ -8,17 +8,17 @@ use Rattle.pathkey.proofs.OrderFacts.{same_true}
 use Rattle.message.specs.declared.msg.Msg.{Msg}
 use Rattle.message.specs.declared.msg.Msg.TheVariants.{Put, Del, DelRange, Edit}
 use Rattle.message.specs.Ranges.{reaches, before, within}
-use Rattle.message.specs.Effects.{touches, made_of, effect, effects, IsDecisive}
+use Rattle.message.specs.Effects.{touches, made_of, effect, effects}
 use Rattle.message.proofs.Lists.{effects-append}
-use Rattle.message.proofs.KeyOrder.{both, le_lt, reaches-refl, reaches-from_not_before, not_before_from_reaches}
+use Rattle.message.proofs.KeyOrder.{both, le_lt, reaches-refl, reaches-from_not_before, not_before_from_reaches, below_next}
 use Rattle.node.specs.declared.node.Slot.{Slot}
 use Rattle.node.specs.Pure.{PNode}
 use Rattle.node.specs.Meaning.{value}
-use Rattle.node.proofs.EntryFacts.{below_next}
 use Rattle.scan.specs.Pairs.{HasNone, IsFirst}
-use Rattle.scan.specs.Stretches.{ActAlike, counting, pair_of, slot_value}
-use Rattle.scan.proofs.NextKey.{by_bool, in_range, one_key}
-use Rattle.scan.proofs.Firsts.{none_start}
+use Rattle.message.specs.Stretches.{ActAlike}
+use Rattle.scan.specs.Stretches.{changed, pair_of}
+use Rattle.message.proofs.NextKey.{by_bool, in_range, one_key}
+use Rattle.scan.proofs.Firsts.{none_start, first_along}
 
 -- a key is not two keys
 not_two : {P : Type 0} (q a b : List ℕ) → same q a ≡ true → same q b ≡ true → before a b ≡ true → P
@@ -67,9 +67,17 @@ module _ {U V : Type 0} (means : U → Option V → Option V) where
     made_is : (k : List ℕ) → within from stop k ≡ true → made k ≡ effects means ms from (child k)
     made_is k h = effects-alike ms from k (child k) (alike k h)
 
+    -- the messages tell the value
+    pub first_of_told : (w : Option V) → ((o : Option V) → effects means ms from o ≡ w) → IsFirst made from stop (pair_of from w)
+    first_of_told w told = first_of_one made from stop some w (λ k h. made_is k h ∙ told (child k))
+
+    -- they leave each value as it is
+    pub first_untouched : (r : Option (List ℕ × V)) → ((o : Option V) → effects means ms from o ≡ o) → IsFirst child from stop r → IsFirst made from stop r
+    first_untouched r none below = first_along made child from stop r (λ k h. made_is k h ∙ none (child k)) below
+
     -- there is no value below
-    pub first_of_none : (i : ℕ) (settled : Bool) → IsDecisive means ms from i settled → HasNone child from stop → IsFirst made from stop (pair_of from (effects means (drop i ms) from None))
-    first_of_none i settled d n = first_of_one made from stop some (effects means (drop i ms) from None) (λ k h. made_is k h ∙ sym (d.value None (child k) (λ e. sym (n k h))))
+    first_of_none : HasNone child from stop → IsFirst made from stop (pair_of from (effects means ms from None))
+    first_of_none n = first_of_one made from stop some (effects means ms from None) (λ k h. made_is k h ∙ ap (effects means ms from) (n k h))
 
     module _ (p : List ℕ × V) (below : IsFirst child from stop (Some p)) where
       -- behind the first key of the stretch
@@ -105,43 +113,7 @@ module _ {U V : Type 0} (means : U → Option V → Option V) where
           (λ b. let one : from ≡ k = one_key from k q.0 (reaches-from_not_before from k b) in ap (λ x. effects means ms from (child x)) (sym one) ∙ none_at e)
       with_value (Some v) e = (below.0, made_is p.0 below.0 ∙ ap (effects means ms from) below.1 ∙ e, none_before)
 
-      -- the first pair below, as the messages leave it, is the first
-      pub first_of_pair : (i : ℕ) (settled : Bool) → IsDecisive means ms from i settled → IsFirst made from stop (pair_of p.0 (effects means (drop i ms) from (Some p.1)))
-      first_of_pair i settled d = with_value (effects means (drop i ms) from (Some p.1)) (sym (d.value (Some p.1) (Some p.1) (λ e. refl)))
-
--- ---- in the words of the code
-
-if_is : {A E : Type 0} (r : Result A E) (x : A) (P : A → Type 0) → IfOk r (λ y. y ≡ x) → P x → IfOk r P
-if_is (Ok y) x P e p = subst P (sym e) p
-if_is (Err y) x P e p = tt
-
-module _ {U V E : Type 0} (means : U → Option V → Option V) (s : Slot U V) (from : List ℕ) (stop : Option (List ℕ)) (some : is_below from stop ≡ true) (i : ℕ) (settled : Bool) (d : IsDecisive means s.pending.0 from i settled) (alike : ActAlike (counting i settled s.pending.0) from stop) (r : Result (Option (List ℕ × V)) E) where
-  -- where they settle the values, the older messages and what is below do not count
-  value_settled : settled ≡ true → (k : List ℕ) → within from stop k ≡ true → slot_value means s k ≡ effects means (drop i s.pending.0) from None
-  value_settled e k h =
-      let child : Option V = value means s.child.value k in
-      let old : Option V = effects means (take i s.pending.0) k child in
-      let newer : ActAlike (drop i s.pending.0) from stop = subst (λ c. ActAlike (counting i c s.pending.0) from stop) e alike in
-      ap (λ (ms : List (Msg U V)). effects means ms k child) (sym (take-append-drop i s.pending.0))
-      ∙ effects-append means (take i s.pending.0) (drop i s.pending.0) k child
-      ∙ effects-alike means (drop i s.pending.0) from k old (newer k h)
-      ∙ d.value old None (λ f. absurd (cc))
-      ∙ sym (d.value None None (λ f. refl))
-
-  pub first_settled : settled ≡ true → IfOk r (λ x. x ≡ pair_of from (effects means (drop i s.pending.0) from None)) → IfOk r (IsFirst (slot_value means s) from stop)
-  first_settled e h = if_is r (pair_of from (effects means (drop i s.pending.0) from None)) (IsFirst (slot_value means s) from stop) h
-      (first_of_one (slot_value means s) from stop some (effects means (drop i s.pending.0) from None) (value_settled e))
-
-  -- else all count
-  all_alike : settled ≡ false → ActAlike s.pending.0 from stop
-  all_alike e = subst (λ c. ActAlike (counting i c s.pending.0) from stop) e alike
-
-  -- the child, which is n, has no pair
-  pub first_below_none : settled ≡ false → (n : PNode U V) (b : Option (List ℕ × V)) → n ≡ s.child.value → b ≡ None → IsFirst (value means n) from stop b → IfOk r (λ x. x ≡ pair_of from (effects means (drop i s.pending.0) from None)) → IfOk r (IsFirst (slot_value means s) from stop)
-  first_below_none e n b en eb below h = if_is r (pair_of from (effects means (drop i s.pending.0) from None)) (IsFirst (slot_value means s) from stop) h
-      (first_of_none means s.pending.0 (value means s.child.value) from stop some (all_alike e) i settled d (subst (λ m. IsFirst (value means m) from stop None) en (subst (IsFirst (value means n) from stop) eb below)))
-
-  -- the child has one
-  pub first_below_pair : settled ≡ false → (n : PNode U V) (b : Option (List ℕ × V)) (p : List ℕ × V) → n ≡ s.child.value → b ≡ Some p → IsFirst (value means n) from stop b → IfOk r (λ x. x ≡ pair_of p.0 (effects means (drop i s.pending.0) from (Some p.1))) → IfOk r (IsFirst (slot_value means s) from stop)
-  first_below_pair e n b p en eb below h = if_is r (pair_of p.0 (effects means (drop i s.pending.0) from (Some p.1))) (IsFirst (slot_value means s) from stop) h
-      (first_of_pair means s.pending.0 (value means s.child.value) from stop some (all_alike e) p (subst (λ m. IsFirst (value means m) from stop (Some p)) en (subst (IsFirst (value means n) from stop) eb below)) i settled d)
+    -- what the messages make of the first pair below is the first
+    pub first_changed : (b : Option (List ℕ × V)) → IsFirst child from stop b → IsFirst made from stop (changed means ms from b)
+    first_changed None below = first_of_none below
+    first_changed (Some p) below = with_value p below (effects means ms from (Some p.1)) refl

@@ -8,7 +8,7 @@ use Rattle.pathkey.specs.Keys.{is_below, next_key}
 use Rattle.message.specs.Ranges.{reaches, before, within}
 use Rattle.message.proofs.KeyOrder.{both, le_le, lt_le, reaches-refl, reaches-from_before, reaches-from_not_before, not_before_from_reaches}
 use Rattle.scan.specs.Pairs.{HasNone, IsFirst, IsRising, IsScan}
-use Rattle.scan.proofs.NextKey.{by_bool, in_range, one_key, before-next, reaches-from_before_next}
+use Rattle.message.proofs.NextKey.{by_bool, in_range, one_key, before-next, reaches-from_before_next}
 
 module _ {V : Type 0} (f : List ℕ → Option V) (lo : List ℕ) (hi : Option (List ℕ)) where
   -- these are the pairs of the range that stand before `from`

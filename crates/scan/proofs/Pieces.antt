@@ -10,7 +10,7 @@ use Rattle.pathkey.specs.Keys.{is_below, next_key}
 use Rattle.message.specs.Ranges.{reaches, before, within}
 use Rattle.message.proofs.KeyOrder.{both, le_le, lt_le, reaches-from_before}
 use Rattle.scan.specs.Pairs.{IsRising, IsScan, EndsAt, HasAll}
-use Rattle.scan.proofs.NextKey.{in_range, before-next, reaches-next}
+use Rattle.message.proofs.NextKey.{in_range, before-next, reaches-next}
 
 -- two lists, where each element of the one is as R says to each of the other
 pairs_append : {X : Type 0} (R : X → X → Type 0) (xs ys : List X) → AllPairs R xs → AllPairs R ys → All (λ x. All (R x) ys) xs → AllPairs R (xs ++ ys)

@@ -11,10 +11,11 @@ use Rattle.node.specs.Pure.{PNode, inner}
 use Rattle.node.specs.Meaning.{slot_number, value}
 use Rattle.node.specs.Site.{end_of}
 use Rattle.scan.specs.Pairs.{HasNone, IsFirst}
-use Rattle.scan.specs.Stretches.{all_ends, counting, IsStretch, slot_value}
-use Rattle.scan.proofs.NextKey.{in_range}
+use Rattle.message.specs.Stretches.{all_ends, IsStretch}
+use Rattle.scan.specs.Stretches.{slot_value}
+use Rattle.message.proofs.NextKey.{in_range}
 use Rattle.scan.proofs.Firsts.{none_start, none_join, first_join, first_along}
-use Rattle.scan.proofs.StretchEnds.{below_both, below_earlier, all_count}
+use Rattle.message.proofs.StretchEnds.{below_both, below_earlier}
 use Rattle.scan.proofs.Ahead.{ahead, ahead_falls, search_ends, range_end_is, slot_end_is, message_end, pivot_end, earlier_is}
 use Rattle.scan.proofs.SlotRange.{number_inside, value_in_slot}
 
@@ -39,13 +40,12 @@ module _ {U V : Type 0} (means : U → Option V → Option V) where
     pub inside : (k : List ℕ) → is_below k stop ≡ true → is_below k (earlier_end hi (end_of None (seen_slots items) i)) ≡ true
     pub an_end : IfSome stop (λ d. (earlier_end hi (end_of None (seen_slots items) i) ≡ Some d) ⊎ Contains (all_ends s.pending.0) d)
 
-  -- the same in the words of the code: xs and ys are the slots, ms the messages of s that count, and `end` where its
-  -- stretches end
-  pub stands_at : (items xs ys : List (Slot U V)) (ms : List (Msg U V)) (j : ℕ) (settled : Bool) (n : PNode U V) (lo : List ℕ) (hi : Option (List ℕ)) (from : List ℕ) (i : ℕ) (s : Slot U V) (end stop : Option (List ℕ)) → xs ≡ items → ys ≡ items → ms ≡ counting j settled s.pending.0 → inner (seen_slots items) ≡ n → i < length xs → i ≡ slot_number (seen_slots xs) from → s ≡ get_or items i s → HasPassed n lo from → end ≡ earlier_end hi (end_of None (seen_slots ys) i) → IsStretch ms from end stop → IsAt items n lo hi from i s stop
-  stands_at items xs ys ms j settled n lo hi from i s end stop ex ey em seen b number slot passed ee h =
+  -- the same in the words of the code: xs and ys are the slots, and `end` is where its stretches end
+  pub stands_at : (items xs ys : List (Slot U V)) (n : PNode U V) (lo : List ℕ) (hi : Option (List ℕ)) (from : List ℕ) (i : ℕ) (s : Slot U V) (end stop : Option (List ℕ)) → xs ≡ items → ys ≡ items → inner (seen_slots items) ≡ n → i < length xs → i ≡ slot_number (seen_slots xs) from → s ≡ get_or items i s → HasPassed n lo from → end ≡ earlier_end hi (end_of None (seen_slots ys) i) → IsStretch s.pending.0 from end stop → IsAt items n lo hi from i s stop
+  stands_at items xs ys n lo hi from i s end stop ex ey seen b number slot passed ee h =
       let ends : Option (List ℕ) = earlier_end hi (end_of None (seen_slots items) i) in
       let same : end ≡ ends = ee ∙ ap (λ (zs : List (Slot U V)). earlier_end hi (end_of None (seen_slots zs) i)) ey in
-      let stretch : IsStretch (counting j settled s.pending.0) from ends stop = subst (λ e. IsStretch (counting j settled s.pending.0) from e stop) same (subst (λ (zs : List (Msg U V)). IsStretch zs from end stop) em h) in
+      let stretch : IsStretch s.pending.0 from ends stop = subst (λ e. IsStretch s.pending.0 from e stop) same h in
       record {
         seen = seen;
         bound = subst (λ (zs : List (Slot U V)). i < length zs) ex b;
@@ -54,7 +54,7 @@ module _ {U V : Type 0} (means : U → Option V → Option V) where
         passed = passed;
         after = stretch.after;
         inside = stretch.inside;
-        an_end = all_count s.pending.0 j settled ends stop stretch.an_end;
+        an_end = stretch.an_end;
       }
 
   -- a key below the end lies below the end of its slot

@@ -12,7 +12,7 @@ use Rattle.node.specs.Meaning.{begins_by, slot_number, slots_value}
 use Rattle.node.specs.Site.{end_of}
 use Rattle.node.proofs.SlotFacts.{slots_value_is}
 use Rattle.scan.specs.Stretches.{slot_value}
-use Rattle.scan.proofs.NextKey.{not_reaches}
+use Rattle.message.proofs.NextKey.{not_reaches}
 
 module _ {U V : Type 0} where
   begins_later : (ss : PSlots U V) (c k : List ℕ) → reaches c k ≡ true → begins_by ss c ≡ true → begins_by ss k ≡ true

@@ -19,7 +19,6 @@ pub mod laws;
 mod leaf;
 mod search;
 mod slot;
-mod stretch;
 
 /// The first pair of the range; none where the range has no value.
 pub fn first_in<U: Update>(

@@ -2,17 +2,16 @@
 ghost use Rattle.std.specs.Prelude.{◌≡◌, IfOk, true};
 ghost use Rattle.std.specs.Option.{option_copied};
 ghost use Rattle.pathkey.specs.Keys.{is_below};
-ghost use Rattle.message.specs.Effects.{IsDecisive};
 ghost use Rattle.node.specs.Meaning.{value as value_at};
 ghost use Rattle.node.specs.Searchable.{IsSearchable};
 ghost use Rattle.scan.specs.Pairs.{IsFirst};
-ghost use Rattle.scan.specs.Stretches.{ActAlike, counting, slot_value};
+ghost use Rattle.message.specs.Stretches.{ActAlike};
+ghost use Rattle.scan.specs.Stretches.{slot_value};
 
 use crate::leaf::first_entry;
-use crate::slot::{counting, made_of_none, made_of_pair, slot_end};
-use crate::stretch::stretch_end;
-use message::Update;
+use crate::slot::{changed, pair_at, slot_end};
 use message::ends::is_before_end;
+use message::{Told, Update};
 use node::node::search::slot_of;
 use node::{Body, Node, Slot};
 use pathkey::{Key, NoMemory};
@@ -42,11 +41,9 @@ pub fn first<U: Update>(
     'stretches: while is_before_end(&from, hi) {
         let i = slot_of(slots.as_slice(), &from);
         let slot = &slots[i];
-        let (decisive, settled) = slot.pending.decisive(&from);
-        let msgs = counting(&slot.pending, decisive, settled);
         let end = slot_end(slots.as_slice(), i, hi);
-        let stop = stretch_end(alloc, msgs, &from, end)?;
-        if let Some(pair) = first_of_slot(alloc, slot, &from, stop.as_ref(), decisive, settled)? {
+        let stop = slot.pending.stretch_end(alloc, &from, end)?;
+        if let Some(pair) = first_of_slot(alloc, slot, &from, stop.as_ref())? {
             return Ok(Some(pair));
         }
         let Some(next) = stop else {
@@ -57,29 +54,28 @@ pub fn first<U: Update>(
     Ok(None)
 }
 
-/// The first pair of a slot on a stretch of the messages that count there.
+/// The first pair of a slot on a stretch of its messages.
 ///
-/// The child is not asked where a message settles the values of the stretch.
+/// The child is not asked where the messages tell the values of the stretch.
 #[cycle(first)]
 fn first_of_slot<U: Update>(
     alloc: Global,
     slot: &Slot<U>,
     from: &Key,
     stop: Option<&Key>,
-    decisive: usize,
-    settled: bool,
 ) -> Result<Option<(Key, U::Value)>, NoMemory>
     requires searchable { IsSearchable slot.now.child.value }
     requires some { is_below from.now (option_copied stop) ≡ true }
-    requires decisive { IsDecisive U.means slot.now.pending.0 from.now decisive settled }
-    requires alike { ActAlike (counting decisive settled slot.now.pending.0) from.now (option_copied stop) }
+    requires alike { ActAlike slot.now.pending.0 from.now (option_copied stop) }
     ensures { IfOk result (λ r. IsFirst (slot_value U.means slot.now) from.now (option_copied stop.entry) r) }
 {
-    if settled {
-        return made_of_none(alloc, &slot.pending, from, decisive);
+    let told = slot.pending.told(alloc, from)?;
+    if let Told::Value(value) = told {
+        return pair_at(alloc, from, value);
     }
-    match first(alloc, &slot.child, from, stop)? {
-        None => made_of_none(alloc, &slot.pending, from, decisive),
-        Some(pair) => made_of_pair(alloc, &slot.pending, from, pair, decisive),
+    let below = first(alloc, &slot.child, from, stop)?;
+    if matches!(told, Told::Nothing) {
+        return Ok(below);
     }
+    changed(alloc, &slot.pending, from, below)
 }

@@ -43,11 +43,12 @@ answers_settled means means' Wrote q e r is does wrote first m =
     (reply_text (settled_reply r), after, is first (reply_text (settled_reply r)) after (r, done.0, refl, refl), done.1, wrote)
 
 -- a look into a snapshot was answered
-pub answers_look : (means : Worlds) (Wrote : List ℕ → Type 0) (q : Request) (s : List ℕ) (l : Look) (r : Reply) → q ≡ Past s l
-    → ((w : World) → means w → Tells w s l r) → Wrote (reply_text r)
-    → Leads means means (λ first. Answers first q) Wrote
-answers_look means Wrote q s l r is tells wrote first m =
-    (reply_text r, first, subst (λ (x : Request). Answers first x (reply_text r) first) (sym is) (r, tells first m, refl, refl), m, wrote)
+pub answers_look : (means means' : Worlds) (Wrote : List ℕ → Type 0) (q : Request) (s : List ℕ) (l : Look) (r : Reply) → q ≡ Past s l
+    → ((w : World) → means w → Tells w s l r × means' w) → Wrote (reply_text r)
+    → Leads means means' (λ first. Answers first q) Wrote
+answers_look means means' Wrote q s l r is tells wrote first m =
+    let told = tells first m in
+    (reply_text r, first, subst (λ (x : Request). Answers first x (reply_text r) first) (sym is) (r, told.0, refl, refl), told.1, wrote)
 
 -- what a line asks for was read and answered
 pub line_done : (means means' : Worlds) (Wrote : List ℕ → Type 0) (line : List ℕ) (q : Request) → IsReadAs (request_of line) q

@@ -9,7 +9,7 @@ use Rattle.pathkey.proofs.KeyFacts.{block_in_blocks, block_in_blocks_from, block
 use Rattle.message.specs.Ranges.{before, reaches, within}
 use Rattle.message.proofs.KeyOrder.{reaches-from_not_before}
 use Rattle.scan.specs.Pairs.{HasNone, IsFirst}
-use Rattle.scan.proofs.NextKey.{by_bool, in_range, one_key}
+use Rattle.message.proofs.NextKey.{by_bool, in_range, one_key}
 use Rattle.pathkey.specs.declared.range.KeyRange.{KeyRange}
 use Rattle.reference.specs.Tree.{Tree, File, Found, entry_at}
 use Rattle.reference.specs.Shape.{IsTree}

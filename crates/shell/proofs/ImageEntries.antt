@@ -10,9 +10,8 @@ use Rattle.pathkey.proofs.OrderFacts.{same_true}
 use Rattle.message.specs.Ranges.{before, reaches, within}
 use Rattle.message.proofs.KeyOrder.{before_from_not_reaches, from_start, le_le, not_before_from_reaches, reaches-from_before, reaches-refl}
 use Rattle.scan.specs.Pairs.{HasNone, IsFirst}
-use Rattle.scan.proofs.NextKey.{by_bool, in_range, not_reaches, reaches-next}
-use Rattle.reference.specs.Tree.{Tree, Dir, File, Entries, nothing, entry, entry_at, named, found, onward}
-use Rattle.reference.specs.Tree.{At, Found, Missing, Blocked}
+use Rattle.message.proofs.NextKey.{by_bool, in_range, not_reaches, reaches-next}
+use Rattle.reference.specs.Tree.{Tree, Dir, File, Entries, nothing, entry, entry_at, named, found, onward, At, Found, Missing, Blocked}
 use Rattle.reference.specs.Image.{Text, block_lines, image, lines, lines_of, path_text}
 use Rattle.reference.specs.Shape.{AllAbove, IsTree, Rising, RisingEntries}
 use Rattle.reference.specs.Looks.{Look, look, seen}

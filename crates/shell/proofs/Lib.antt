@@ -10,4 +10,6 @@ pub mod OneAnswer
 pub mod OptionFacts
 pub mod LineExamples
 pub mod ImageEntries
+pub mod ImageLineFacts
+pub mod LoadFacts
 pub mod ImageBlocks

@@ -18,7 +18,7 @@ use Rattle.shell.specs.Values.{bytes_of, is_decimal, is_hex, number_of}
 
 -- ---- numbers
 
-own : IsNumeralModel (λ ds. list_all is_ascii_digit ds ≡ true) (digits_value 10)
+pub own : IsNumeralModel (λ ds. list_all is_ascii_digit ds ≡ true) (digits_value 10)
 own = numerals_by_value _ (search rules)
 
 -- a decimal word is digits

@@ -24,6 +24,13 @@ option_rule id parser = record (new_rule id) {
 abbrev pub number_rule : Text → ℕ → ℕ → Rule
 number_rule id low high = option_rule id (parser.Signed (pos low) (pos high))
 
+-- an option with a value that may be any text
+abbrev pub text_rule : Text → Rule
+text_rule id = record (new_rule id) {
+  long = Some id;
+  value_names = 1;
+}
+
 -- an option without a value
 abbrev pub switch_rule : Text → Rule
 switch_rule id = record (new_rule id) {
@@ -37,6 +44,7 @@ rules = number_rule (codes "steps") 0 1000
     ∷ number_rule (codes "fanout") 4 64
     ∷ number_rule (codes "pending") 4 1024
     ∷ number_rule (codes "leaf") 4 1024
+    ∷ text_rule (codes "load")
     ∷ switch_rule (codes "image")
     ∷ new_rule (codes "SCRIPT")
     ∷ []

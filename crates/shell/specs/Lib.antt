@@ -8,3 +8,6 @@ pub mod Runs
 pub mod Progress
 pub mod CommandLine
 pub mod Image
+pub mod ImageLines
+pub mod Loads
+pub mod Sessions

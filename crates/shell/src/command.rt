@@ -279,8 +279,8 @@ fn with_named(request: Result<Request, Errno>) -> Request
     }
 }
 
-// The path that a word names, in percent form.
-fn read_path(alloc: Global, word: &[u8]) -> Result<Path, Errno>
+/// The path that a word names, in percent form.
+pub(crate) fn read_path(alloc: Global, word: &[u8]) -> Result<Path, Errno>
     ensures { (result ≡ path_of word.now) ⊎ (result ≡ Err ENOMEM) }
 {
     let mut text = Vec::new(alloc);

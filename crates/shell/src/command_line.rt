@@ -4,7 +4,7 @@ ghost use Rattle.std.specs.Prelude.{◌≡◌, codes, false, true, IfOk, IfErr, 
 ghost use Rattle.std.specs.Int.{IsInRange};
 ghost use Rattle.clap.specs.Walk.{texts};
 ghost use Rattle.clap.specs.Words.{FailsBy, app_of, fault_of, found_of, kind_of, new_app, rows_of, rule_of, takes};
-ghost use Rattle.shell.specs.CommandLine.{IsParseOf, betr, is_on, number, option_rule, rows, switch_rule, text};
+ghost use Rattle.shell.specs.CommandLine.{IsParseOf, betr, is_on, number, option_rule, rows, switch_rule, text, text_rule};
 
 use crate::help::{ABOUT, SCRIPTS};
 use clap::builder::ValueParser;
@@ -23,6 +23,8 @@ pub struct Options<'a> {
     pub pending: u16,
     /// How many entries a leaf has at most, 4 to 1,024.
     pub leaf: u16,
+    /// The file with the image that is loaded before the script runs; nothing but the root where there is none.
+    pub load: Option<&'a str>,
     /// Whether the image of the tree is printed after the replies.
     pub image: bool,
     /// The file with the script; standard input where there is none.
@@ -36,6 +38,7 @@ pub fn read_words<'a>(alloc: Global, words: &'a [&'a str]) -> Result<Options<'a>
     ensures fanout { IfOk result (λ o. (o.fanout ≡ number (codes "fanout") 16 (texts words.entry.now)) × IsInRange 4 64 o.fanout) }
     ensures pending { IfOk result (λ o. (o.pending ≡ number (codes "pending") 256 (texts words.entry.now)) × IsInRange 4 1024 o.pending) }
     ensures leaf { IfOk result (λ o. (o.leaf ≡ number (codes "leaf") 256 (texts words.entry.now)) × IsInRange 4 1024 o.leaf) }
+    ensures load { IfOk result (λ o. option_map (λ s. s.now) o.load ≡ text (codes "load") (texts words.entry.now)) }
     ensures image { IfOk result (λ o. o.image ≡ is_on (codes "image") (texts words.entry.now)) }
     ensures script { IfOk result (λ o. option_map (λ s. s.now) o.script ≡ text (codes "SCRIPT") (texts words.entry.now)) }
     ensures memory { IfErr result (λ e. takes betr (texts words.entry.now) ≡ true → kind_of e ≡ ErrorKind.OutOfMemory) }
@@ -47,6 +50,7 @@ pub fn read_words<'a>(alloc: Global, words: &'a [&'a str]) -> Result<Options<'a>
         fanout: matches.get_one::<u16>("fanout").unwrap_or(16),
         pending: matches.get_one::<u16>("pending").unwrap_or(256),
         leaf: matches.get_one::<u16>("leaf").unwrap_or(256),
+        load: matches.get_str("load"),
         image: matches.get_flag("image"),
         script: matches.get_str("SCRIPT"),
     })
@@ -94,6 +98,12 @@ fn command<'a>(alloc: Global) -> Result<Command<'a>, AllocError>
         value_parser!(u16).range(4..=1024),
         "Entries of a leaf, 4 to 1024 [default: 256]",
     );
+    let load = text_option(
+        alloc,
+        "load",
+        "FILE",
+        "Start with the tree whose image the file holds, as --image prints it",
+    );
     let image = switch(
         alloc,
         "image",
@@ -106,6 +116,7 @@ fn command<'a>(alloc: Global) -> Result<Command<'a>, AllocError>
             .arg(fanout)?
             .arg(pending)?
             .arg(leaf)?
+            .arg(load)?
             .arg(image)?
             .arg(script)?,
     )
@@ -134,6 +145,14 @@ fn option<'a>(
         .value_name(value)
         .value_parser(parser)
         .help(help)
+}
+
+/// An option with a value that may be any text.
+fn text_option<'a>(alloc: Global, id: &'a str, value: &'a str, help: &'a str) -> Arg<'a>
+    ensures rule { rule_of result ≡ text_rule id.entry.now }
+    ensures local { result.global ≡ false }
+{
+    Arg::new(alloc, id).long(id).value_name(value).help(help)
 }
 
 /// An option without a value. Its parser is named, so that its rule says that its text is `true` or `false`.

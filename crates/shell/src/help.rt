@@ -42,6 +42,14 @@ Scripts:
   and --leaf set how the trees behind the file system work; no reply rests on
   them.
 
+Images:
+  --image prints the whole tree as text after the replies, from the line 'd /'
+  on, and --load starts with the tree of such a text: so a tree is kept in a
+  file, and had back.
+
+  betr --image first | sed -n '/^d \\/$/,$p' > kept
+  betr --load kept second
+
 Example:
   printf 'mkdir /a\\ncreate /a/x\\nwrite /a/x 0 6869\\nreaddir /a\\n' | betr
 

@@ -137,7 +137,7 @@ fn number_of(key: &Key) -> u32
 }
 
 /// Writes the line of a directory, or a beginning of it.
-fn put_directory<W: Write>(writer: &mut W, path: &Path) -> Result<(), WriteFailed>
+pub(crate) fn put_directory<W: Write>(writer: &mut W, path: &Path) -> Result<(), WriteFailed>
     ensures ok { OnOk result (Appends (W.contents writer.old) (W.contents writer.new) (codes "d " ++ path_text path.now ++ codes "\n")) }
     ensures err { OnErr result (AppendsPart (W.contents writer.old) (W.contents writer.new) (codes "d " ++ path_text path.now ++ codes "\n")) }
 {
@@ -148,7 +148,7 @@ fn put_directory<W: Write>(writer: &mut W, path: &Path) -> Result<(), WriteFaile
 }
 
 /// Writes the line of a file without its blocks, or a beginning of it.
-fn put_file<W: Write>(writer: &mut W, path: &Path, len: u64) -> Result<(), WriteFailed>
+pub(crate) fn put_file<W: Write>(writer: &mut W, path: &Path, len: u64) -> Result<(), WriteFailed>
     ensures ok { OnOk result (Appends (W.contents writer.old) (W.contents writer.new) (codes "f " ++ path_text path.now ++ number_line (codes " ") len)) }
     ensures err { OnErr result (AppendsPart (W.contents writer.old) (W.contents writer.new) (codes "f " ++ path_text path.now ++ number_line (codes " ") len)) }
 {
@@ -173,7 +173,11 @@ fn put_path<W: Write>(writer: &mut W, path: &Path) -> Result<(), WriteFailed>
 }
 
 /// Writes the line of a block, or a beginning of it; none where all its bytes are zero.
-fn put_block<W: Write>(writer: &mut W, number: u32, block: &[u8]) -> Result<(), WriteFailed>
+pub(crate) fn put_block<W: Write>(
+    writer: &mut W,
+    number: u32,
+    block: &[u8],
+) -> Result<(), WriteFailed>
     ensures ok { OnOk result (Appends (W.contents writer.old) (W.contents writer.new) (block_line number (trimmed block.now))) }
     ensures err { OnErr result (AppendsPart (W.contents writer.old) (W.contents writer.new) (block_line number (trimmed block.now))) }
 {
@@ -191,7 +195,7 @@ fn put_block<W: Write>(writer: &mut W, number: u32, block: &[u8]) -> Result<(), 
 }
 
 /// How many bytes there are up to the last that is not zero.
-fn kept_len(bytes: &[u8]) -> usize
+pub(crate) fn kept_len(bytes: &[u8]) -> usize
     ensures kept { take result bytes.now ≡ trimmed bytes.now }
     ensures fits { result ≤ length bytes.now }
 {

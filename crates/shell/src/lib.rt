@@ -5,29 +5,36 @@
 //! reader or the writer fails in between, and whatever tree steps are done between its lines (`Pace`).
 #![tactic(auto)]
 
+pub mod client;
 mod command;
 mod command_line;
 mod help;
 pub mod image;
+pub mod image_line;
 mod input;
 pub mod laws;
+pub mod load;
 mod output;
 pub mod pace;
 mod program;
 mod reply;
 mod request;
 mod script;
+pub mod session;
 mod tidy;
 pub mod values;
 mod words;
 
+pub use client::run_client;
 pub use command::read_request;
 pub use command_line::{Options, read_words};
 pub use image::{ImageFault, print_image};
+pub use load::{LoadFault, load_image};
 pub use output::WriteFailed;
 pub use pace::Pace;
 pub use program::run_words;
 pub use reply::write_reply;
 pub use request::{Look, Request};
 pub use script::{ScriptFault, run_script};
+pub use session::Session;
 pub use tidy::Tidy;

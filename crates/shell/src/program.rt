@@ -1,6 +1,7 @@
 //! The program `betr`: runs a script over a new volume, as the words of a command line ask.
 use crate::command_line::{Options, read_words};
 use crate::image::{ImageFault, print_image};
+use crate::load::{LoadFault, load_image};
 use crate::script::{ScriptFault, run_script};
 use crate::tidy::Tidy;
 use clap::error::ErrorKind;
@@ -37,9 +38,12 @@ enum Failure {
     /// No tree may have the shape.
     #[error("betr: bad shape")]
     Shape,
-    /// The file with the script could not be opened.
+    /// A file that was named could not be opened.
     #[error("betr: cannot open")]
     Open,
+    /// The image was not loaded.
+    #[error(transparent)]
+    Load(LoadFault),
     /// The script was not run to its end.
     #[error(transparent)]
     Script(ScriptFault),
@@ -93,7 +97,7 @@ fn end_unread<W: Write + Drop>(error: clap::Error, mut output: W) -> Result<(), 
     }
 }
 
-/// Runs the script that the options name over a new volume.
+/// Runs the script that the options name over the volume that they start with.
 fn run<F: Files, R: Read, W: Write + Drop>(
     rt: &F,
     alloc: Global,
@@ -101,7 +105,7 @@ fn run<F: Files, R: Read, W: Write + Drop>(
     input: &mut R,
     output: W,
 ) -> Result<(), Failure> {
-    let mut volume = new_volume(alloc, options)?;
+    let mut volume = first_volume(rt, alloc, options)?;
     match options.script {
         Some(path) => {
             let mut file = open(rt, path)?;
@@ -111,13 +115,27 @@ fn run<F: Files, R: Read, W: Write + Drop>(
     }
 }
 
-/// A new volume of the shape that the options ask for.
-fn new_volume(alloc: Global, options: &Options<'_>) -> Result<Volume, Failure> {
+/// The volume that the options start with: a new one, or that of the image which they name.
+fn first_volume<F: Files>(rt: &F, alloc: Global, options: &Options<'_>) -> Result<Volume, Failure> {
     let shape = Shape {
         fanout: options.fanout,
         pending: options.pending,
         leaf: options.leaf,
     };
+    if !shape.ok() {
+        return Err(Failure::Shape);
+    }
+    match options.load {
+        Some(path) => {
+            let mut file = open(rt, path)?;
+            load_image(alloc, shape, &mut file).map_err(Failure::Load)
+        }
+        None => new_volume(alloc, shape),
+    }
+}
+
+/// A new volume of this shape.
+fn new_volume(alloc: Global, shape: Shape) -> Result<Volume, Failure> {
     match Volume::new(alloc, shape) {
         Ok(volume) => Ok(volume),
         Err(Errno::EINVAL) => Err(Failure::Shape),
@@ -125,7 +143,7 @@ fn new_volume(alloc: Global, options: &Options<'_>) -> Result<Volume, Failure> {
     }
 }
 
-/// Opens the file with the script.
+/// Opens a file that was named.
 fn open<F: Files>(rt: &F, path: &str) -> Result<F::File, Failure> {
     match fs::open(rt, path) {
         Ok(file) => Ok(file),

@@ -12,11 +12,11 @@ ghost use Rattle.shell.specs.Progress.{FailedIn, Holds, Went, last_line};
 use crate::command::{LONGEST_LINE, read_request};
 use crate::input::read_some;
 use crate::output::{WriteFailed, flush, put};
-use crate::pace::{Pace, keep_pace};
+use crate::pace::Pace;
 use crate::reply::{put_fault, write_reply};
-use crate::request::{Look, Request};
-use pathkey::{Errno, SnapName};
-use reference::Reply;
+use crate::request::Request;
+use crate::session::Session;
+use pathkey::Errno;
 use std::alloc::Global;
 use std::io::{Read, Write};
 use thiserror::Error;
@@ -37,10 +37,10 @@ pub enum ScriptFault {
 }
 
 /// How many bytes are read at a time.
-const PIECE: usize = 65_536;
+pub(crate) const PIECE: usize = 65_536;
 
 /// The byte that ends a line.
-const LINE_FEED: u8 = b'\n';
+pub(crate) const LINE_FEED: u8 = b'\n';
 
 /// Runs all the lines of the reader on the volume, and writes a reply to each as it is done. After each line the pace picks tree
 /// steps; whatever they are, the replies and what the volume means are the same.
@@ -63,6 +63,26 @@ pub fn run_script<R: Read, W: Write, P: Pace>(
     ensures write { result ≡ Err ScriptFault.Write → Leads (Means volume.old) (Means volume.new)
         (DoesUntil (R.remaining reader.old)) (Appends (W.contents writer.old) (W.contents writer.new)) }
 {
+    run_lines(alloc, volume, reader, writer, pace)
+}
+
+// The same on a session: one that others share means no world that a contract could name, and then nothing is said.
+pub(crate) fn run_lines<S: Session, R: Read, W: Write, P: Pace>(
+    alloc: Global,
+    session: &mut S,
+    reader: &mut R,
+    writer: &mut W,
+    pace: &mut P,
+) -> Result<(), ScriptFault>
+    ensures memory { result ≡ Err ScriptFault.Memory → (session.new ≡ session.old) × (reader.new ≡ reader.old)
+        × (writer.new ≡ writer.old) }
+    ensures done { OnOk result (Leads (S.means session.old) (S.means session.new) (DoesAll (R.remaining reader.old) (R.remaining reader.new))
+        (Appends (W.contents writer.old) (W.contents writer.new))) }
+    ensures read { result ≡ Err ScriptFault.Read → Leads (S.means session.old) (S.means session.new)
+        (DoesGiven (R.remaining reader.old) (R.remaining reader.new)) (Appends (W.contents writer.old) (W.contents writer.new)) }
+    ensures write { result ≡ Err ScriptFault.Write → Leads (S.means session.old) (S.means session.new)
+        (DoesUntil (R.remaining reader.old)) (Appends (W.contents writer.old) (W.contents writer.new)) }
+{
     let Ok(mut piece) = Vec::from_elem(alloc, 0u8, PIECE) else {
         return Err(ScriptFault::Memory);
     };
@@ -71,7 +91,7 @@ pub fn run_script<R: Read, W: Write, P: Pace>(
     };
     run_over(
         alloc,
-        volume,
+        session,
         reader,
         writer,
         pace,
@@ -81,9 +101,9 @@ pub fn run_script<R: Read, W: Write, P: Pace>(
 }
 
 // Reads and does piece after piece, in the given buffers.
-fn run_over<R: Read, W: Write, P: Pace>(
+fn run_over<S: Session, R: Read, W: Write, P: Pace>(
     alloc: Global,
-    volume: &mut Volume,
+    session: &mut S,
     reader: &mut R,
     writer: &mut W,
     pace: &mut P,
@@ -94,11 +114,11 @@ fn run_over<R: Read, W: Write, P: Pace>(
     requires room { 65536 < vec_capacity line.old }
     requires empty { line.old.items ≡ [] }
     ensures kinds { result ≢ Err ScriptFault.Memory }
-    ensures done { OnOk result (Leads (Means volume.old) (Means volume.new) (DoesAll (R.remaining reader.old) (R.remaining reader.new))
+    ensures done { OnOk result (Leads (S.means session.old) (S.means session.new) (DoesAll (R.remaining reader.old) (R.remaining reader.new))
         (Appends (W.contents writer.old) (W.contents writer.new))) }
-    ensures read { result ≡ Err ScriptFault.Read → Leads (Means volume.old) (Means volume.new)
+    ensures read { result ≡ Err ScriptFault.Read → Leads (S.means session.old) (S.means session.new)
         (DoesGiven (R.remaining reader.old) (R.remaining reader.new)) (Appends (W.contents writer.old) (W.contents writer.new)) }
-    ensures write { result ≡ Err ScriptFault.Write → Leads (Means volume.old) (Means volume.new)
+    ensures write { result ≡ Err ScriptFault.Write → Leads (S.means session.old) (S.means session.new)
         (DoesUntil (R.remaining reader.old)) (Appends (W.contents writer.old) (W.contents writer.new)) }
 {
     for _ in 0..u64::MAX {
@@ -109,12 +129,12 @@ fn run_over<R: Read, W: Write, P: Pace>(
             return Err(ScriptFault::Read);
         };
         if n == 0 {
-            return match finish(alloc, volume, line.as_slice(), writer, pace) {
+            return match finish(alloc, session, line.as_slice(), writer, pace) {
                 Ok(()) => Ok(()),
                 Err(WriteFailed) => Err(ScriptFault::Write),
             };
         }
-        if let Err(WriteFailed) = take_piece(alloc, volume, line, &piece[..n], writer, pace) {
+        if let Err(WriteFailed) = take_piece(alloc, session, line, &piece[..n], writer, pace) {
             return Err(ScriptFault::Write);
         }
     }
@@ -122,9 +142,9 @@ fn run_over<R: Read, W: Write, P: Pace>(
 }
 
 // Does each line that ends in a piece of the text, and holds what follows the last of them.
-fn take_piece<W: Write, P: Pace>(
+fn take_piece<S: Session, W: Write, P: Pace>(
     alloc: Global,
-    volume: &mut Volume,
+    session: &mut S,
     line: &mut Vec<u8>,
     piece: &[u8],
     writer: &mut W,
@@ -132,15 +152,15 @@ fn take_piece<W: Write, P: Pace>(
 ) -> Result<(), WriteFailed>
     requires room { 65536 < vec_capacity line.old }
     ensures room { 65536 < vec_capacity line.new }
-    ensures ok { OnOk result ((held : List ℕ) → Holds held line.old.items → Leads (Means volume.old) (Means volume.new)
+    ensures ok { OnOk result ((held : List ℕ) → Holds held line.old.items → Leads (S.means session.old) (S.means session.new)
         (λ first out after. (left : List ℕ) × Holds left line.new.items × Went held piece.now first out left after)
         (Appends (W.contents writer.old) (W.contents writer.new))) }
-    ensures err { OnErr result ((held : List ℕ) → Holds held line.old.items → Leads (Means volume.old) (Means volume.new)
+    ensures err { OnErr result ((held : List ℕ) → Holds held line.old.items → Leads (S.means session.old) (S.means session.new)
         (FailedIn held piece.now) (Appends (W.contents writer.old) (W.contents writer.new))) }
 {
     for &byte in piece {
         if byte == LINE_FEED {
-            do_line(alloc, volume, line.as_slice(), writer, pace)?;
+            do_line(alloc, session, line.as_slice(), writer, pace)?;
             line.clear();
         } else {
             hold(line, byte);
@@ -150,7 +170,7 @@ fn take_piece<W: Write, P: Pace>(
 }
 
 // Adds a byte to the line, unless what stands there is too long already.
-fn hold(line: &mut Vec<u8>, byte: u8)
+pub(crate) fn hold(line: &mut Vec<u8>, byte: u8)
     requires room { 65536 < vec_capacity line.old }
     ensures held { length line.old.items ≤ 65536 → line.new.items ≡ line.old.items ++ byte ∷ [] }
     ensures long { 65536 < length line.old.items → line.new.items ≡ line.old.items }
@@ -162,69 +182,69 @@ fn hold(line: &mut Vec<u8>, byte: u8)
 }
 
 // Does the last line, where the text does not end with a line feed.
-fn finish<W: Write, P: Pace>(
+fn finish<S: Session, W: Write, P: Pace>(
     alloc: Global,
-    volume: &mut Volume,
+    session: &mut S,
     line: &[u8],
     writer: &mut W,
     pace: &mut P,
 ) -> Result<(), WriteFailed>
-    ensures ok { OnOk result (Leads (Means volume.old) (Means volume.new) (λ first. Script first (last_line line.now))
+    ensures ok { OnOk result (Leads (S.means session.old) (S.means session.new) (λ first. Script first (last_line line.now))
         (Appends (W.contents writer.old) (W.contents writer.new))) }
-    ensures err { OnErr result (Leads (Means volume.old) (Means volume.new) (λ first. Script first (last_line line.now))
+    ensures err { OnErr result (Leads (S.means session.old) (S.means session.new) (λ first. Script first (last_line line.now))
         (AppendsPart (W.contents writer.old) (W.contents writer.new))) }
 {
     if line.is_empty() {
         return flush(writer);
     }
-    do_line(alloc, volume, line, writer, pace)?;
+    do_line(alloc, session, line, writer, pace)?;
     flush(writer)
 }
 
 // Does one line and writes its reply, and then does the steps that the pace picks.
-fn do_line<W: Write, P: Pace>(
+fn do_line<S: Session, W: Write, P: Pace>(
     alloc: Global,
-    volume: &mut Volume,
+    session: &mut S,
     line: &[u8],
     writer: &mut W,
     pace: &mut P,
 ) -> Result<(), WriteFailed>
-    ensures ok { OnOk result (Leads (Means volume.old) (Means volume.new) (λ first. Does first line.now)
+    ensures ok { OnOk result (Leads (S.means session.old) (S.means session.new) (λ first. Does first line.now)
         (Appends (W.contents writer.old) (W.contents writer.new))) }
-    ensures err { OnErr result (Leads (Means volume.old) (Means volume.new) (λ first. Does first line.now)
+    ensures err { OnErr result (Leads (S.means session.old) (S.means session.new) (λ first. Does first line.now)
         (AppendsPart (W.contents writer.old) (W.contents writer.new))) }
 {
-    answer_line(alloc, volume, line, writer)?;
-    keep_pace(alloc, volume, pace);
+    answer_line(alloc, session, line, writer)?;
+    session.keep_pace(alloc, pace);
     Ok(())
 }
 
 // Does one line, and writes its reply.
-fn answer_line<W: Write>(
+fn answer_line<S: Session, W: Write>(
     alloc: Global,
-    volume: &mut Volume,
+    session: &mut S,
     line: &[u8],
     writer: &mut W,
 ) -> Result<(), WriteFailed>
-    ensures ok { OnOk result (Leads (Means volume.old) (Means volume.new) (λ first. Does first line.now)
+    ensures ok { OnOk result (Leads (S.means session.old) (S.means session.new) (λ first. Does first line.now)
         (Appends (W.contents writer.old) (W.contents writer.new))) }
-    ensures err { OnErr result (Leads (Means volume.old) (Means volume.new) (λ first. Does first line.now)
+    ensures err { OnErr result (Leads (S.means session.old) (S.means session.new) (λ first. Does first line.now)
         (AppendsPart (W.contents writer.old) (W.contents writer.new))) }
 {
     let request = read_request(alloc, line);
-    answer(alloc, volume, request, writer)
+    answer(alloc, session, request, writer)
 }
 
 // Does what is asked for, and writes the reply.
-fn answer<W: Write>(
+fn answer<S: Session, W: Write>(
     alloc: Global,
-    volume: &mut Volume,
+    session: &mut S,
     request: Request,
     writer: &mut W,
 ) -> Result<(), WriteFailed>
-    ensures ok { OnOk result (Leads (Means volume.old) (Means volume.new) (λ first. Answers first request)
+    ensures ok { OnOk result (Leads (S.means session.old) (S.means session.new) (λ first. Answers first request)
         (Appends (W.contents writer.old) (W.contents writer.new))) }
-    ensures err { OnErr result (Leads (Means volume.old) (Means volume.new) (λ first. Answers first request)
+    ensures err { OnErr result (Leads (S.means session.old) (S.means session.new) (λ first. Answers first request)
         (AppendsPart (W.contents writer.old) (W.contents writer.new))) }
 {
     match request {
@@ -233,23 +253,23 @@ fn answer<W: Write>(
         Request::Malformed => put(writer, b"error syntax\n"),
         Request::Refused(fault) => put_fault(writer, fault),
         Request::Wanted(call) => {
-            let reply = volume.call(alloc, &call);
+            let reply = session.call(alloc, &call);
             write_reply(writer, &reply)
         }
         Request::Snapshot(name) => {
-            let settled = volume.snapshot(alloc, &name);
+            let settled = session.snapshot(alloc, &name);
             put_settled(writer, settled)
         }
         Request::DropSnapshot(name) => {
-            let settled = volume.drop_snapshot(&name);
+            let settled = session.drop_snapshot(&name);
             put_settled(writer, settled)
         }
         Request::Restore(name) => {
-            let settled = volume.restore(&name);
+            let settled = session.restore(&name);
             put_settled(writer, settled)
         }
         Request::Past(name, look) => {
-            let reply = look_back(alloc, volume, &name, &look);
+            let reply = session.look_back(alloc, &name, &look);
             write_reply(writer, &reply)
         }
     }
@@ -263,20 +283,5 @@ fn put_settled<W: Write>(writer: &mut W, settled: Result<(), Errno>) -> Result<(
     match settled {
         Ok(()) => put(writer, b"ok\n"),
         Err(fault) => put_fault(writer, fault),
-    }
-}
-
-// The reply to a look into the snapshot of that name.
-fn look_back(alloc: Global, volume: &Volume, name: &SnapName, look: &Look) -> Reply
-    ensures { (w : World) → Means volume.now w → Tells w name.now look.now result }
-{
-    let frozen = match volume.frozen(name) {
-        Ok(frozen) => frozen,
-        Err(fault) => return Reply::Fault(fault),
-    };
-    match look {
-        Look::Read(path, offset, count) => frozen.read(alloc, path, *offset, *count),
-        Look::Stat(path) => frozen.stat(alloc, path),
-        Look::Readdir(path) => frozen.readdir(alloc, path),
     }
 }

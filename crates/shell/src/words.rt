@@ -1,5 +1,5 @@
 //! The words of a line, as slices of it.
-ghost use Rattle.std.specs.Prelude.{◌≡◌, ◌≢◌, ◌<◌, [], ◌∷◌, All, MatchOption, length, take, option_map, slice_index};
+ghost use Rattle.std.specs.Prelude.{◌≡◌, ◌≢◌, ◌++◌, ◌<◌, [], ◌∷◌, All, MatchOption, length, take, option_map, slice_index};
 ghost use Rattle.shell.specs.Lines.{at_sign, words_of};
 
 /// The first word of a line, and what follows its space; none where the line is one word.
@@ -10,6 +10,16 @@ pub fn cut_word(line: &[u8]) -> Option<(&[u8], &[u8])>
     let end = place_of(line, b' ')?;
     let (word, rest) = line.split_at(end);
     Some((word, &rest[1..]))
+}
+
+/// A text before and behind its first space; none where it has none.
+pub fn cut_space(text: &[u8]) -> Option<(&[u8], &[u8])>
+    ensures { MatchOption result (All (λ b. b ≢ 32) text.now)
+        (λ cut. (text.now ≡ cut.0.now ++ 32 ∷ cut.1.now) × All (λ b. b ≢ 32) cut.0.now) }
+{
+    let end = place_of(text, b' ')?;
+    let (front, rest) = text.split_at(end);
+    Some((front, &rest[1..]))
 }
 
 /// A word before and behind its first `@`; none where it has none.

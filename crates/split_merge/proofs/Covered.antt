@@ -7,7 +7,7 @@ use Rattle.pathkey.specs.Keys.{is_below, is_in}
 use Rattle.pathkey.specs.declared.range.KeyRange.{KeyRange}
 use Rattle.message.specs.declared.msg.Msg.{Msg}
 use Rattle.message.specs.declared.msg.Msg.TheVariants.{Put, Del, DelRange, Edit}
-use Rattle.message.specs.Ranges.{reaches, within}
+use Rattle.message.specs.Ranges.{reaches, within, ends_within}
 use Rattle.message.proofs.KeyOrder.{both, le_le, lt_le}
 use Rattle.node.specs.declared.node.Slot.{Slot}
 use Rattle.node.specs.declared.shape.Shape.{Shape}
@@ -20,7 +20,7 @@ use Rattle.node.specs.Meaning.{value}
 use Rattle.node.specs.Lawful.{IsLawfulNode, AreLawfulSlots, slot_count, next_lo}
 use Rattle.node.specs.Site.{joined, slots_from}
 use Rattle.node.specs.Sinks.{Sinks}
-use Rattle.node.specs.StepRows.{can_drop_covered, ends_within, IsBare}
+use Rattle.node.specs.StepRows.{can_drop_covered, IsBare}
 use Rattle.node.specs.Steps.{Formed, Replies}
 use Rattle.node.proofs.StepDone.{replies_did}
 use Rattle.node.proofs.Outcome.{clash}

@@ -6,7 +6,7 @@ use Rattle.pathkey.specs.Keys.{is_below}
 use Rattle.message.specs.declared.msg.Msg.{Msg}
 use Rattle.message.specs.Ranges.{reaches, before}
 use Rattle.message.specs.Cuts.{pieces}
-use Rattle.message.specs.Effects.{Takes}
+use Rattle.message.specs.Effects.{Takes, range_count}
 use Rattle.message.proofs.KeyOrder.{reaches-from_before, le_lt}
 use Rattle.node.specs.declared.node.Slot.{Slot}
 use Rattle.node.specs.declared.shape.Shape.{Shape}
@@ -16,7 +16,7 @@ use Rattle.node.specs.See.{seen_slots}
 use Rattle.node.specs.Pure.{PNode, inner, PSlots, none, more}
 use Rattle.node.specs.Meaning.{slots_value, begins_by}
 use Rattle.node.specs.Lawful.{IsLawfulNode, AreLawfulSlots, slot_count, starts_at, next_lo}
-use Rattle.node.specs.StepRows.{range_count, ranges_first, CanPart, CannotPart}
+use Rattle.node.specs.StepRows.{ranges_first, CanPart, CannotPart}
 use Rattle.node.specs.Site.{joined, slots_from}
 use Rattle.node.specs.Sinks.{first_lo, Sinks}
 use Rattle.node.specs.Steps.{Formed, Replies}

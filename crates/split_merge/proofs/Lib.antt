@@ -6,3 +6,4 @@ pub mod Untouched
 pub mod RootUp
 pub mod Covered
 pub mod RootDown
+pub mod Gathering

@@ -10,7 +10,7 @@ use Rattle.pathkey.specs.Keys.{is_below}
 use Rattle.message.specs.declared.msg.Msg.{Msg}
 use Rattle.message.specs.Ranges.{reaches, before, within}
 use Rattle.message.specs.Effects.{effects, Takes}
-use Rattle.message.proofs.KeyOrder.{reaches-from_before, not_before_from_reaches, before_from_not_reaches, le_le, both as both_of}
+use Rattle.message.proofs.KeyOrder.{reaches-from_before, not_before_from_reaches, before_from_not_reaches, le_le, both as both_of, below_next}
 use Rattle.node.specs.declared.node.Slot.{Slot}
 use Rattle.node.specs.declared.shape.Shape.{Shape}
 use Rattle.node.specs.declared.step.StepReply.TheVariants.{Did, NotThere}
@@ -25,7 +25,7 @@ use Rattle.node.specs.Site.{joined, slots_from}
 use Rattle.node.specs.Sinks.{Sinks}
 use Rattle.node.specs.Steps.{Replies, Formed, HasNoRoom, MayHaveRoom, width}
 use Rattle.node.proofs.StepDone.{replies_did}
-use Rattle.node.proofs.EntryFacts.{below_next, rises-append, lookup-front, lookup-back}
+use Rattle.node.proofs.EntryFacts.{rises-append, lookup-front, lookup-back}
 use Rattle.node.proofs.Placing.{and_false}
 use Rattle.node.proofs.Splice.{starts-more, slot_count-take, slot_count-joined, pending-joined, slots_from-joined, lawful-join, slots_value-joined}
 use Rattle.split_merge.specs.Merged.{are_alike, both, IsJoined, MergeReplies}

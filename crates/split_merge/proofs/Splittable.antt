@@ -10,7 +10,8 @@ use Rattle.node.specs.declared.node.Slot.{Slot}
 use Rattle.node.specs.See.{seen_slots}
 use Rattle.node.specs.Pure.{PNode, inner, PSlots}
 use Rattle.node.specs.Lawful.{slot_count, pending}
-use Rattle.node.specs.StepRows.{can_split_inner, is_divisible, ranges_first, range_count, CanPart, CannotPart}
+use Rattle.message.specs.Effects.{range_count}
+use Rattle.node.specs.StepRows.{can_split_inner, is_divisible, ranges_first, CanPart, CannotPart}
 use Rattle.node.specs.Site.{slots_from}
 use Rattle.node.proofs.StepPlaces.{slots_from-get}
 

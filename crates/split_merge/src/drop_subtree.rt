@@ -3,42 +3,19 @@ ghost use Rattle.std.specs.Prelude.{◌≡◌, ◌∷◌, [], IfOk};
 ghost use Rattle.std.specs.Option.{option_copied};
 ghost use Rattle.node.specs.Places.{way};
 ghost use Rattle.node.specs.Pure.{inner, leaf, none, more};
-ghost use Rattle.node.specs.StepRows.{can_drop_covered, ends_within};
+ghost use Rattle.message.specs.Ranges.{ends_within};
+ghost use Rattle.node.specs.StepRows.{can_drop_covered};
 ghost use Rattle.node.specs.See.{seen_slots};
 ghost use Rattle.node.specs.Steps.{Answers};
 ghost use Rattle.node.specs.declared.step.StepKind.TheVariants.{DropCovered};
 ghost use Rattle.split_merge.specs.Swept.{bare, Swept};
 
-use message::{Msg, Pending, Update};
+use message::{Pending, Update};
 use node::node::search::next_pivot;
 use node::{Body, Change, Node, Place, Shape, Slot, StepReply, Tree};
 use pathkey::{Key, NoMemory};
 use std::alloc::Global;
 use std::sync::Arc;
-
-/// Whether the end stands at or before the end `most`; `None` is no end.
-fn ends_by(end: Option<&Key>, most: Option<&Key>) -> bool
-    ensures { result ≡ ends_within (option_copied end.entry) (option_copied most.entry) }
-{
-    match (end, most) {
-        (_, None) => true,
-        (None, Some(_)) => false,
-        (Some(end), Some(most)) => end.cmp(most).is_le(),
-    }
-}
-
-/// Whether the message is a range-delete of every key from `lo` up to and without `hi`; `None` is no end.
-fn covers<U: Update>(msg: &Msg<U>, lo: &Key, hi: Option<&Key>) -> bool
-    ensures { result ≡ can_drop_covered (option_copied hi.entry) (more lo.now (msg.now ∷ []) (leaf []) none) }
-{
-    let Msg::DelRange(range) = msg else {
-        return false;
-    };
-    if range.lo.cmp(lo).is_gt() {
-        return false;
-    }
-    ends_by(hi, range.hi.as_ref())
-}
 
 /// Whether the oldest message of the first slot covers the slot's whole range, where the slots end at `hi`.
 fn is_first_covered<U: Update>(slots: &[Slot<U>], hi: Option<&Key>) -> bool
@@ -47,10 +24,7 @@ fn is_first_covered<U: Update>(slots: &[Slot<U>], hi: Option<&Key>) -> bool
     let Some((slot, later)) = slots.split_first() else {
         return false;
     };
-    let Some(oldest) = slot.pending.as_slice().first() else {
-        return false;
-    };
-    covers(oldest, &slot.lo, next_pivot(later, hi))
+    slot.pending.oldest_covers(&slot.lo, next_pivot(later, hi))
 }
 
 /// A node with one slot, which begins at `lo`, over the child.

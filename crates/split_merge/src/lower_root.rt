@@ -6,7 +6,7 @@ ghost use Rattle.node.specs.RootSteps.{AnswersDown};
 ghost use Rattle.node.specs.See.{seen_slots};
 ghost use Rattle.split_merge.specs.Lowered.{Lowered, Stays};
 
-use message::{Msg, Update};
+use message::{Pending, Update};
 use node::node::append::append_copies;
 use node::node::copy::copy_slots;
 use node::{Body, Node, Slot, StepReply, Tree};
@@ -14,16 +14,17 @@ use pathkey::NoMemory;
 use std::alloc::Global;
 use std::sync::Arc;
 
-/// A node over copies of the slots, which share the children, with copies of the messages behind what waits in them.
+/// A node over copies of the slots, which share the children, with copies of the list's messages behind what waits in them.
 fn appended<U: Update>(
     alloc: Global,
     slots: &[Slot<U>],
-    msgs: &[Msg<U>],
+    list: &Pending<U>,
 ) -> Result<Arc<Node<U>>, NoMemory>
-    ensures { IfOk result (λ n. IsAppended U.means msgs.now (inner (seen_slots slots.now)) n.value) }
+    ensures { IfOk result (λ n. IsAppended U.means list.now.0 (inner (seen_slots slots.now)) n.value) }
 {
     let mut grown = copy_slots(alloc, slots)?;
-    append_copies(alloc, grown.as_mut_slice(), msgs)?;
+    let msgs = list.copy_front(alloc, list.len())?;
+    append_copies(alloc, grown.as_mut_slice(), msgs.as_slice())?;
     let body = Body::Inner(grown);
     Ok(Arc::new(alloc, Node { body })?)
 }
@@ -44,7 +45,7 @@ fn lowered<U: Update>(alloc: Global, root: &Node<U>) -> Result<Arc<Node<U>>, Ste
     let Body::Inner(below) = &child.body else {
         return Err(StepReply::NotThere);
     };
-    let Ok(new) = appended(alloc, below.as_slice(), slot.pending.as_slice()) else {
+    let Ok(new) = appended(alloc, below.as_slice(), &slot.pending) else {
         return Err(StepReply::NoMemory);
     };
     Ok(new)

@@ -1,10 +1,11 @@
 //! The root one level up.
-ghost use Rattle.std.specs.Prelude.{◌≡◌, ◌≤◌, ◌<◌, true, false, map, IfOk, IfErr};
+ghost use Rattle.std.specs.Prelude.{◌≡◌, ◌≤◌, ◌<◌, [], true, false, map, IfOk, IfErr};
+ghost use Rattle.message.specs.Effects.{Takes};
 ghost use Rattle.node.specs.RootSteps.{levels, AnswersUp};
 ghost use Rattle.node.specs.See.{see_slot, seen_slots};
 ghost use Rattle.split_merge.specs.Raised.{hollow, all_msgs, IsAbove, Raised, Refused};
 
-use message::{Msg, Pending, Update};
+use message::{Pending, Update};
 use node::{Body, Node, Slot, StepReply, Tree};
 use pathkey::{Key, NoMemory};
 use std::alloc::Global;
@@ -27,14 +28,15 @@ fn has_levels<U: Update>(node: &Node<U>, n: u8) -> bool
     }
 }
 
-/// Copies of all messages of the slots, slot by slot.
-fn gathered<U: Update>(alloc: Global, slots: &[Slot<U>]) -> Result<Vec<Msg<U>>, NoMemory>
-    ensures { IfOk result (λ v. v.items ≡ all_msgs (seen_slots slots.now)) }
+/// A list that has taken copies of all messages of the slots, slot by slot.
+fn gathered<U: Update>(alloc: Global, slots: &[Slot<U>]) -> Result<Pending<U>, NoMemory>
+    ensures { IfOk result (λ p. Takes U.means [] (all_msgs (seen_slots slots.now)) p.0) }
 {
-    let mut all = Vec::new(alloc);
+    let mut all = Pending::new(alloc);
     for slot in slots {
-        let mut own = slot.pending.copy_front(alloc, slot.pending.len())?;
-        all.append(&mut own)?;
+        let mut own = slot.pending.copy(alloc)?;
+        all.reserve(own.len())?;
+        all.append_list(&mut own);
     }
     Ok(all)
 }
@@ -63,7 +65,7 @@ fn above<U: Update>(alloc: Global, slots: &[Slot<U>]) -> Result<Arc<Node<U>>, No
     let body = Body::Inner(hollowed(alloc, slots)?);
     let slot = Slot {
         lo: Key::new(alloc),
-        pending: Pending::of(gathered(alloc, slots)?),
+        pending: gathered(alloc, slots)?,
         child: Arc::new(alloc, Node { body })?,
     };
     let mut one = Vec::with_capacity(alloc, 1)?;

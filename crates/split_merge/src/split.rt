@@ -8,8 +8,7 @@ ghost use Rattle.node.specs.Steps.{Answers};
 ghost use Rattle.node.specs.declared.step.StepKind.TheVariants.{SplitInner};
 ghost use Rattle.split_merge.specs.Halves.{IsHalved, HalvedOr};
 
-use message::{Pending, Update};
-use node::node::append::pieces;
+use message::Update;
 use node::node::copy::copy_slots;
 use node::node::count::can_part;
 use node::{Body, Change, Node, Place, Shape, Slot, StepReply, Tree};
@@ -29,7 +28,6 @@ fn node_over<U: Update>(alloc: Global, slots: &[Slot<U>]) -> Result<Arc<Node<U>>
 fn halves<U: Update>(alloc: Global, slot: &Slot<U>) -> Result<Option<(Slot<U>, Slot<U>)>, NoMemory>
     ensures { IfOk result (HalvedOr U.means slot.now) }
 {
-    let msgs = slot.pending.as_slice();
     let child: &Node<U> = &slot.child;
     let Body::Inner(below) = &child.body else {
         return Ok(None);
@@ -42,12 +40,12 @@ fn halves<U: Update>(alloc: Global, slot: &Slot<U>) -> Result<Option<(Slot<U>, S
     let pivot = &second[0].lo;
     let left = Slot {
         lo: slot.lo.copy(alloc)?,
-        pending: Pending::of(pieces(alloc, &slot.lo, Some(pivot), msgs)?),
+        pending: slot.pending.copy_between(alloc, 0, &slot.lo, Some(pivot))?,
         child: node_over(alloc, first)?,
     };
     let right = Slot {
         lo: pivot.copy(alloc)?,
-        pending: Pending::of(pieces(alloc, pivot, None, msgs)?),
+        pending: slot.pending.copy_between(alloc, 0, pivot, None)?,
         child: node_over(alloc, second)?,
     };
     Ok(Some((left, right)))
@@ -82,7 +80,7 @@ impl<U: Update> Change<U> for InnerSplit {
             return true;
         }
         let slot = &slots[i];
-        can_part(shape, root, slots, 0, slot.pending.as_slice())
+        can_part(shape, root, slots, 0, &slot.pending)
     }
 
     fn change(

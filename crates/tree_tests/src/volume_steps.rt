@@ -72,7 +72,17 @@ fn turn(
     Ok(Some(take_step(alloc, volume, index, step)))
 }
 
-/// Tries a step in an index, and counts it where it was done.
+/// Counts a step that was done.
+fn count(turn: Turn, done: &mut Done) -> Result<(), NoMemory> {
+    match turn.reply {
+        StepReply::Did(_) => done.count(turn.step.kind),
+        StepReply::NotThere | StepReply::NoRoom => {}
+        StepReply::NoMemory => return Err(NoMemory),
+    }
+    Ok(())
+}
+
+/// Tries a step in an index, and counts it where it was done; nothing is tried where nothing is pending.
 pub fn try_step_in(
     alloc: Global,
     random: &mut Random,
@@ -80,13 +90,8 @@ pub fn try_step_in(
     index: Index,
     done: &mut Done,
 ) -> Result<(), NoMemory> {
-    let Some(Turn { step, reply }) = turn(alloc, random, volume, index)? else {
-        return Ok(());
-    };
-    match reply {
-        StepReply::Did(_) => done.count(step.kind),
-        StepReply::NotThere | StepReply::NoRoom => {}
-        StepReply::NoMemory => return Err(NoMemory),
+    match turn(alloc, random, volume, index)? {
+        Some(turn) => count(turn, done),
+        None => Ok(()),
     }
-    Ok(())
 }

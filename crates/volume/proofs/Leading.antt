@@ -1,6 +1,6 @@
 -- From what a call did to a volume to what it means: the answer fits each world that was meant, and the next one is meant.
-use Rattle.std.proofs.Common.{◌≡◌, ℕ, ◌+◌, ◌<◌, ◌≤◌, List, Bool, true, false, cond, refl, sym, ap, subst, ◌∙◌, inl, inr, Option, Some, Ok, Err, arith, ◌-◌}
-use Rattle.std.specs.Prelude.{IsOk}
+use Rattle.std.proofs.Common.{◌≡◌, ℕ, ◌+◌, ◌<◌, ◌≤◌, List, Bool, true, false, cond, refl, sym, ap, subst, ◌∙◌, inl, inr, Option, Some, None, Ok, Err, arith, ◌-◌}
+use Rattle.std.specs.Prelude.{IsOk, IfSome, IfNone}
 use Rattle.std.specs.Result.{IsErrAnd}
 use Rattle.std.specs.FinMap as finite
 use Rattle.std.proofs.lemmas.Bool.{lt-leb, le-leb}
@@ -16,6 +16,8 @@ use Rattle.reference.specs.declared.reply.Reply.{Reply}
 use Rattle.reference.specs.declared.reply.Reply.TheVariants.{Fault}
 use Rattle.reference.proofs.NeverLacks.{no_lack}
 use Rattle.reference.proofs.Snapshots.{takes, takes_no_more, drops}
+use Rattle.volume.specs.declared.event.Index.{Index}
+use Rattle.volume.specs.declared.event.Relief.{Relief}
 use Rattle.volume.specs.declared.event.Step.{Step}
 use Rattle.node.specs.declared.step.StepReply.{StepReply}
 use Rattle.call_compiler.specs.Compiled.{no_messages, MeanTree}
@@ -165,3 +167,14 @@ stepped v s r i is = record {
 pub refused_as : (r : Snapped) (e : Errno) → IsErrAnd r (λ x. x ≡ e) → r ≡ Err e
 refused_as (Ok x) e h = absurd h
 refused_as (Err x) e h = ap {B = Snapped} (λ (y : Errno). Err y) h
+
+-- a step in the index that was named, or none, where nothing changed
+pub relieved : (v : PVolume) (index : Index) (r : Option Relief) (i : Indexes) → IfSome r (λ t. (t.step.index ≡ index) × StepsIn index t.step.step t.reply v.live i)
+    → IfSome r (λ t. Stepped t.step t.reply v (volume i v.snapshots))
+relieved v index None i some = some
+relieved v index (Some t) i some = stepped v t.step t.reply i (subst (λ (x : Index). StepsIn x t.step.step t.reply v.live i) (sym some.0) some.1)
+
+pub relief_keeps : (v : PVolume) (r : Option Relief) (i : Indexes) → IfSome r (λ t. Stepped t.step t.reply v (volume i v.snapshots)) → IfNone r (i ≡ v.live)
+    → (w : World) → Means v w → Means (volume i v.snapshots) w
+relief_keeps v None i some none w m = subst (λ (j : Indexes). Means (volume j v.snapshots) w) (sym none) m
+relief_keeps v (Some t) i some none w m = some.keeps w m

@@ -46,3 +46,8 @@ HeaviestIn Block step i = NamesHeaviest step i.block.tree.root
 abbrev pub report_in : Index → Indexes → ShapeReport
 report_in Meta i = report_of i.meta.tree
 report_in Block i = report_of i.block.tree
+
+-- how many pieces are pending in the tree of the index
+abbrev pub pending_in : Index → Indexes → ℕ
+pending_in Meta i = total Pending i.meta.tree.root
+pending_in Block i = total Pending i.block.tree.root

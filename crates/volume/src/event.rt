@@ -22,6 +22,15 @@ pub struct Step {
     pub step: TreeStep,
 }
 
+/// A step that was tried, and its reply.
+#[derive(Clone, Copy)]
+pub struct Relief {
+    /// The step.
+    pub step: Step,
+    /// What it answered.
+    pub reply: StepReply,
+}
+
 /// What is asked of a volume.
 #[derive(Drop)]
 pub enum Event {

@@ -1,21 +1,24 @@
 //! A volume, and what is asked of it.
-ghost use Rattle.std.specs.Prelude.{◌≡◌, ◌⊎◌, ◌↔◌, false, MatchResult, IfOk, IfSome, Some};
+ghost use Rattle.std.specs.Prelude.{◌≡◌, ◌⊎◌, ◌↔◌, false, MatchResult, IfOk, IfNone, IfSome, None, Some};
 ghost use Rattle.call_compiler.specs.Compiled.{MeanTree};
 ghost use Rattle.node.specs.Shapes.{is_shape};
 ghost use Rattle.std.specs.FinMap as finite;
 ghost use Rattle.reference.specs.Worlds.{World, TakeSnapshot, DropSnapshot, RestoreSnapshot};
 ghost use Rattle.volume.specs.Changes.{Called, Settles, KeptAs, Dropped, Restored, Stepped};
+ghost use Rattle.volume.specs.Plants.{Plants};
 ghost use Rattle.volume.specs.Volumes.{IsNew, IsVolume, Means};
-ghost use Rattle.volume.specs.Told.{Finds, HeaviestIn, report_in};
+ghost use Rattle.volume.specs.Told.{Finds, HeaviestIn, pending_in, report_in};
 
-use crate::change::{do_call, step_in};
-use crate::event::{Index, Step};
+use crate::change::{do_call, relieve_in, step_in};
+use crate::event::{Index, Relief, Step};
 use crate::frozen::Frozen;
+use crate::plant::plant;
 use crate::snapshots::Snapshots;
 use call_compiler::{Call, Indexes, Reply};
 use flush::heaviest;
 use node::{Shape, ShapeReport, StepReply, TreeStep};
-use pathkey::{Errno, NoMemory, SnapName};
+use pathkey::{Errno, NoMemory, Path, SnapName};
+use reference::Meta;
 use std::alloc::Global;
 use std::marker::Model;
 use steps::make_room;
@@ -68,6 +71,15 @@ impl Volume {
             Ok(reply) => reply,
             Err(NoMemory) => Reply::Fault(Errno::ENOMEM),
         }
+    }
+
+    /// Plants an entry, as an image that is loaded tells it: an empty directory, or a file of so many zeros. EEXIST at the root, ENOENT
+    /// or ENOTDIR where the parent is no directory, EEXIST where something stands at the path, EFBIG where the file would be longer than
+    /// 2^40 bytes, ENOMEM where memory is refused. A refusal changes nothing.
+    pub fn plant_entry(&mut self, alloc: Global, path: &Path, meta: Meta) -> Result<(), Errno>
+        ensures { Plants path.now meta result self.old self.new }
+    {
+        plant(alloc, &mut self.indexes, path, meta)
     }
 
     /// Keeps the live tree under the name, by one more owner of its nodes: no node is copied (Rodeh, ACM Transactions on
@@ -163,6 +175,31 @@ impl Volume {
         match index {
             Index::Meta => self.indexes.meta.tree.shape_report(),
             Index::Block => self.indexes.block.tree.shape_report(),
+        }
+    }
+
+    /// Does a tree step in the index with more pending pieces, that of the metadata where both have as many: the heaviest flush
+    /// or, where that has no room, what makes room for it. `None` exactly where nothing is pending in either.
+    pub fn relieve(&mut self, alloc: Global) -> Option<Relief>
+        ensures nothing { (result ≡ None) ↔ ((pending_in Index.Meta self.old.live ≡ 0) × (pending_in Index.Block self.old.live ≡ 0)) }
+        ensures unchanged { IfNone result (self.new ≡ self.old) }
+        ensures stepped { IfSome result (λ r. Stepped r.step r.reply self.old self.new) }
+        ensures means { (w : World) → Means self.old w → Means self.new w }
+    {
+        let index = self.busier();
+        relieve_in(alloc, &mut self.indexes, index)
+    }
+
+    /// The index with more pending pieces, that of the metadata where both have as many.
+    fn busier(&self) -> Index
+        ensures { (pending_in result self.now.live ≡ 0) → (pending_in Index.Meta self.now.live ≡ 0) × (pending_in Index.Block self.now.live ≡ 0) }
+    {
+        let meta = self.shape_report(Index::Meta).pending;
+        let block = self.shape_report(Index::Block).pending;
+        if meta >= block {
+            Index::Meta
+        } else {
+            Index::Block
         }
     }
 

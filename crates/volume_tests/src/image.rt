@@ -12,9 +12,29 @@ use volume::{Frozen, Volume};
 
 /// Takes one byte at a time, and none once it holds `most`.
 #[derive(Drop)]
-struct Small {
+pub struct Small {
     got: Vec<u8>,
     most: usize,
+}
+
+impl Small {
+    /// A writer that takes so many bytes.
+    pub fn new(alloc: Global, most: usize) -> Small {
+        Small {
+            got: Vec::new(alloc),
+            most,
+        }
+    }
+
+    /// What it has taken.
+    pub fn as_slice(&self) -> &[u8] {
+        self.got.as_slice()
+    }
+
+    /// Whether it has taken this.
+    pub fn has(&self, bytes: &[u8]) -> bool {
+        self.as_slice() == bytes
+    }
 }
 
 impl Write for Small {
@@ -39,7 +59,7 @@ impl Write for Small {
 }
 
 /// The live tree.
-fn freeze(volume: &Volume) -> Result<Frozen, NoMemory> {
+pub fn freeze(volume: &Volume) -> Result<Frozen, NoMemory> {
     volume.freeze()
 }
 
@@ -57,7 +77,7 @@ pub fn has_image(alloc: Global, volume: &Volume, image: &[u8]) -> bool {
 }
 
 /// Whether a tree has this image.
-fn prints(alloc: Global, frozen: &Frozen, image: &[u8]) -> bool {
+pub fn prints(alloc: Global, frozen: &Frozen, image: &[u8]) -> bool {
     let mut out = Vec::new(alloc);
     print(alloc, frozen, &mut out).is_ok() && out.as_slice() == image
 }
@@ -65,11 +85,8 @@ fn prints(alloc: Global, frozen: &Frozen, image: &[u8]) -> bool {
 /// Whether it is printed as far as the writer takes it.
 fn prints_half(alloc: Global, frozen: &Frozen, image: &[u8]) -> bool {
     let most = image.len() / 2;
-    let mut out = Small {
-        got: Vec::new(alloc),
-        most,
-    };
-    print(alloc, frozen, &mut out) == Err(ImageFault::Write) && out.got.as_slice() == &image[..most]
+    let mut out = Small::new(alloc, most);
+    print(alloc, frozen, &mut out) == Err(ImageFault::Write) && out.has(&image[..most])
 }
 
 /// Whether a new volume has this image after the lines.

@@ -5,7 +5,11 @@
 #[cfg(test)]
 mod asked;
 #[cfg(test)]
+mod hostile;
+#[cfg(test)]
 mod image;
+#[cfg(test)]
+mod loaded;
 #[cfg(test)]
 mod paces;
 #[cfg(test)]

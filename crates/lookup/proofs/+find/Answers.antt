@@ -1,38 +1,47 @@
-use Rattle.std.proofs.Common.{true, None, ap, sym, ◌∙◌, ◌≡◌, ◌<◌, subst, get_or, rules, arith}
+use Rattle.std.proofs.Common.{ap, sym, ◌∙◌, ◌≡◌, ◌<◌, length, refl, rules, arith}
 use Rattle.std.specs.Prelude.{IfOk}
+use Rattle.std.proofs.lemmas.Result.{IfOk-weaker}
 use Rattle.node.specs.Meaning.{value, slot_number}
-use Rattle.node.specs.Pure.{inner, depth}
+use Rattle.node.specs.Pure.{inner}
 use Rattle.node.specs.See.{see, seen_slots}
-use Rattle.node.specs.Searchable.{IsSearchable}
-use Rattle.node.proofs.Placing.{searchable_child, depth_child}
-use Rattle.lookup.proofs.Found.{value-decided}
+use Rattle.lookup.proofs.Found.{value-below, value-told, value-untouched, child_searched}
 use Rattle.lookup.proofs.+find.Goals as goal
 
 pub find-requires : goal.find-requires
 find-requires g t c κs within =
     let xs = c.in-Inner.slots.items in
     let see_it : inner (seen_slots xs) ≡ c.args.node.now = ap see (sym c.in-Inner.is) ∙ c.body.ensures in
-    let all = subst IsSearchable (sym see_it) c.requires in
-    let at : IsSearchable (get_or xs c.slot_of.result c.index-slot.result.now).child.value = searchable_child xs c.slot_of.result c.index-slot.result.now (omega arith) all.1 in
-    let child = c.deref.ensures ∙ ap (λ s. s.child.value) c.index-slot.ensures in
-    let here : IsSearchable c.deref.result.now = subst IsSearchable (sym child) at in
-    let low = depth_child xs c.slot_of.result c.index-slot.result.now (omega arith) in
-    let small : depth c.deref.result.now < depth c.args.node.now = subst (λ n. depth c.deref.result.now < depth n) see_it (subst (λ n. depth n < depth (inner (seen_slots xs))) (sym child) low) in
-    (omega (arith, small), (search rules, (search rules, here)))
+    let bound : c.slot_of.result < length xs = omega arith in
+    let child = child_searched xs c.slot_of.result c.index-slot.result.now c.args.node.now c.deref.result.now see_it bound c.index-slot.ensures c.deref.ensures c.requires in
+    (omega (arith, child.1), (search rules, (search rules, child.0)))
 
-pub returns-then-settled : goal.returns-then-settled
-returns-then-settled g t c =
+pub find-requires-in-Change : goal.find-requires-in-Change
+find-requires-in-Change g t c κs within =
+    let xs = c.in-Inner.slots.items in
+    let see_it : inner (seen_slots xs) ≡ c.args.node.now = ap see (sym c.in-Inner.is) ∙ c.body.ensures in
+    let bound : c.slot_of.result < length xs = omega arith in
+    let child = child_searched xs c.slot_of.result c.index-slot.result.now c.args.node.now c.deref-in-Change.result.now see_it bound c.index-slot.ensures c.deref-in-Change.ensures c.requires in
+    (omega (arith, child.1), (search rules, (search rules, child.0)))
+
+pub returns-in-Value : goal.returns-in-Value
+returns-in-Value g t c =
     let xs = c.in-Inner.slots.items in
     let see_it : inner (seen_slots xs) ≡ c.args.node.now = ap see (sym c.in-Inner.is) ∙ c.body.ensures in
     let number : c.slot_of.result ≡ slot_number (seen_slots xs) c.args.key.now = c.slot_of.ensures.number ∙ ap (λ ss. slot_number (seen_slots ss) c.args.key.now) c.as_slice-in-Inner.ensures.value in
-    let here = value-decided g.U.Update.means c.args.key.now xs c.slot_of.result c.index-slot.result.now c.args.node.now None c.decisive-from.result.0 c.decisive-from.result.1 see_it (omega arith) number c.index-slot.ensures c.decisive-from.ensures (λ f. absurd (let t : c.decisive-from.result.1 ≡ true = c.if-settled.true in cc)) in
-    subst (λ x. IfOk c.apply_from.result (λ v. v ≡ x)) here c.apply_from.ensures
+    value-told g.U.Update.means c.args.key.now xs c.slot_of.result c.index-slot.result.now c.args.node.now c.in-Value.value see_it (omega arith) number c.index-slot.ensures (rw c.in-Value.is at c.in_ok-value-in-Inner.ensures)
 
-pub returns-in_ok-below-in-Inner : goal.returns-in_ok-below-in-Inner
-returns-in_ok-below-in-Inner g t c =
+pub returns-in-Nothing : goal.returns-in-Nothing
+returns-in-Nothing g t c =
     let xs = c.in-Inner.slots.items in
     let see_it : inner (seen_slots xs) ≡ c.args.node.now = ap see (sym c.in-Inner.is) ∙ c.body.ensures in
     let number : c.slot_of.result ≡ slot_number (seen_slots xs) c.args.key.now = c.slot_of.ensures.number ∙ ap (λ ss. slot_number (seen_slots ss) c.args.key.now) c.as_slice-in-Inner.ensures.value in
-    let below = c.in_ok-below-in-Inner.ensures ∙ ap (λ n. value g.U.Update.means n c.args.key.now) c.deref.ensures in
-    let here = value-decided g.U.Update.means c.args.key.now xs c.slot_of.result c.index-slot.result.now c.args.node.now c.in_ok-below-in-Inner.below c.decisive-from.result.0 c.decisive-from.result.1 see_it (omega arith) number c.index-slot.ensures c.decisive-from.ensures (λ f. below) in
-    subst (λ x. IfOk c.apply_from-in-Inner.result (λ v. v ≡ x)) here c.apply_from-in-Inner.ensures
+    let none = rw c.in-Nothing.is at c.in_ok-value-in-Inner.ensures in
+    IfOk-weaker c.find.result _ (λ v. v ≡ value g.U.Update.means c.args.node.now c.args.key.now) (λ v e. value-untouched g.U.Update.means c.args.key.now xs c.slot_of.result c.index-slot.result.now c.args.node.now c.deref.result.now v see_it (omega arith) number c.index-slot.ensures c.deref.ensures none.1 e) c.find.ensures
+
+pub returns-in_ok-below-in-Change : goal.returns-in_ok-below-in-Change
+returns-in_ok-below-in-Change g t c =
+    let xs = c.in-Inner.slots.items in
+    let see_it : inner (seen_slots xs) ≡ c.args.node.now = ap see (sym c.in-Inner.is) ∙ c.body.ensures in
+    let number : c.slot_of.result ≡ slot_number (seen_slots xs) c.args.key.now = c.slot_of.ensures.number ∙ ap (λ ss. slot_number (seen_slots ss) c.args.key.now) c.as_slice-in-Inner.ensures.value in
+    let here = value-below g.U.Update.means c.args.key.now xs c.slot_of.result c.index-slot.result.now c.args.node.now c.deref-in-Change.result.now c.in_ok-below-in-Change.below see_it (omega arith) number c.index-slot.ensures c.deref-in-Change.ensures c.in_ok-below-in-Change.ensures in
+    IfOk-weaker c.value_after.result _ (λ v. v ≡ value g.U.Update.means c.args.node.now c.args.key.now) (λ v e. e ∙ here) c.value_after.ensures

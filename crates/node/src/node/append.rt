@@ -5,7 +5,6 @@
 //! cannot fail. So two trees are appended to together: prepare, prepare, put, put.
 ghost use Rattle.std.specs.Prelude.{◌≡◌, OnOk, OnErr, IfOk, map, length, ◌++◌, [], None};
 ghost use Rattle.std.specs.Option.{option_copied, option_to_list};
-ghost use Rattle.message.specs.Cuts.{pieces as pieces_of};
 ghost use Rattle.node.specs.Appended.{parts as parts_of, placed, HaveTaken, IsAppended};
 ghost use Rattle.node.specs.Pure.{inner};
 ghost use Rattle.node.specs.Searchable.{AreRising, Fits, AllFit, IsRoot, HasRoom, see_list};
@@ -98,24 +97,6 @@ pub fn parts<U: Update>(
         place(alloc, slots, hi, parts.as_mut_slice(), msg)?;
     }
     Ok(parts)
-}
-
-/// The pieces of the messages that lie from `lo` up to and without `hi`, in their order.
-pub fn pieces<U: Update>(
-    alloc: Global,
-    lo: &Key,
-    hi: Option<&Key>,
-    msgs: &[Msg<U>],
-) -> Result<Vec<Msg<U>>, NoMemory>
-    ensures { IfOk result (λ v. v.items ≡ pieces_of lo.now (option_copied hi.entry) msgs.now) }
-{
-    let mut found = Vec::new(alloc);
-    for msg in msgs {
-        if let Some(piece) = msg.cut_between(alloc, lo, hi)? {
-            found.push(piece)?;
-        }
-    }
-    Ok(found)
 }
 
 /// Copies of the messages as each slot takes them, cut at the pivots; the last slot has no end.

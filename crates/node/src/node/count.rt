@@ -1,17 +1,18 @@
 //! How much a node holds.
-ghost use Rattle.std.specs.Prelude.{◌≡◌, ◌≤◌, ◌<◌, ◌+◌, ◌*◌, ◌^◌, ◌∷◌, [], true, false, length};
+ghost use Rattle.std.specs.Prelude.{◌≡◌, ◌≤◌, ◌<◌, ◌+◌, ◌*◌, ◌^◌, ◌∷◌, [], true, false, length, take, drop};
 ghost use Rattle.node.specs.Lawful.{pending as pending_of};
 ghost use Rattle.node.specs.Report.{own as own_of, total as total_of, width};
 ghost use Rattle.node.specs.RootSteps.{levels};
-ghost use Rattle.node.specs.StepRows.{piece_count, range_count, CanPart, CannotPart};
+ghost use Rattle.message.specs.Effects.{range_count};
+ghost use Rattle.node.specs.StepRows.{piece_count, CanPart, CannotPart};
 ghost use Rattle.node.specs.See.{seen_slots};
 
-use super::meets::meets;
 use super::search::next_pivot;
 use super::{Body, Node, Slot};
 use crate::report::Quantity;
 use crate::shape::Shape;
-use message::{Msg, Update};
+use message::meets::meets;
+use message::{Msg, Pending, Update};
 
 /// How many messages wait in the slots.
 pub fn held<U: Update>(slots: &[Slot<U>]) -> u128
@@ -40,35 +41,37 @@ pub fn pieces_in<U: Update>(slots: &[Slot<U>], msg: &Msg<U>) -> usize
     if is_met { more + 1 } else { more }
 }
 
-/// How many of the messages are range-deletes.
-fn ranges_in<U: Update>(msgs: &[Msg<U>]) -> usize
-    ensures { result ≡ range_count msgs.now }
+/// How many of the slots take a part of the list's oldest message.
+pub fn pieces_of_oldest<U: Update>(slots: &[Slot<U>], list: &Pending<U>) -> usize
+    ensures bound { result ≤ length slots.now }
+    ensures exact { result ≡ piece_count (take 1 list.now.0) (seen_slots slots.now) }
 {
-    let mut count = 0;
-    for msg in msgs {
-        if let Msg::DelRange(_) = msg {
-            count += 1;
-        }
-    }
-    count
+    let Some((slot, later)) = slots.split_first() else {
+        return 0;
+    };
+    let is_met = list.oldest_meets(&slot.lo, next_pivot(later, None));
+    let more = pieces_of_oldest(later, list);
+    if is_met { more + 1 } else { more }
 }
 
 /// Whether one of a node's slots can become two: the node has room for one slot more and, unless it is the root, for the
-/// range-deletes among the slot's messages `msgs`, which would then wait in both, once `gone` messages have left.
+/// range-deletes in the slot's list, which would then wait in both, once the `gone` oldest messages have left.
 pub fn can_part<U: Update>(
     shape: Shape,
     root: bool,
     slots: &[Slot<U>],
     gone: u8,
-    msgs: &[Msg<U>],
+    list: &Pending<U>,
 ) -> bool
-    ensures room { result ≡ true → CanPart shape root (seen_slots slots.now) gone (range_count msgs.now) }
-    ensures none { result ≡ false → CannotPart shape root (seen_slots slots.now) gone (range_count msgs.now) }
+    requires { gone ≤ length list.now.0 }
+    ensures room { result ≡ true → CanPart shape root (seen_slots slots.now) gone (range_count (drop gone list.now.0)) }
+    ensures none { result ≡ false → CannotPart shape root (seen_slots slots.now) gone (range_count (drop gone list.now.0)) }
 {
     if slots.len() >= shape.fanout as usize {
         return false;
     }
-    root || held(slots) + ranges_in(msgs) as u128 <= shape.pending as u128 + gone as u128
+    let twice = list.range_deletes(gone as usize) as u128;
+    root || held(slots) + twice <= shape.pending as u128 + gone as u128
 }
 
 /// The count for the node alone.

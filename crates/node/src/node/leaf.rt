@@ -8,6 +8,7 @@ ghost use Rattle.node.specs.Leaves.{IsCount, IsEntry, IsGap, IsPlace, IsChanged,
 ghost use Rattle.node.specs.Meaning.{lookup};
 
 use super::copy::copy_entries;
+use message::search::count_passing;
 use message::{Msg, Update};
 use pathkey::{Key, KeyRange, NoMemory};
 use std::alloc::Global;
@@ -17,7 +18,7 @@ pub fn count_before<V>(entries: &[(Key, V)], key: &Key) -> usize
     requires { Rises [] None entries.now }
     ensures { IsCount entries.now (Some key.now) result }
 {
-    entries.partition_point(|entry| entry.0.cmp(key).is_lt())
+    count_passing(entries, |entry| entry.0.cmp(key).is_lt())
 }
 
 /// The number of the entry that has the key, or of the entry before which it would stand.

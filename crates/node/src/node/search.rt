@@ -9,6 +9,7 @@ ghost use Rattle.node.specs.See.{see, seen_slots};
 ghost use Rattle.node.specs.Site.{end_of};
 
 use super::{Body, Node, Slot};
+use message::search::count_passing;
 use message::{Changes, Update};
 use pathkey::Key;
 
@@ -22,7 +23,7 @@ pub fn slot_of<U: Update>(slots: &[Slot<U>], key: &Key) -> usize
     let Some((_, later)) = slots.split_first() else {
         return 0;
     };
-    later.partition_point(|slot| slot.lo.cmp(key).is_le())
+    count_passing(later, |slot| slot.lo.cmp(key).is_le())
 }
 
 /// The pivot of the first of these slots, or `hi` where there is none: so the end of the slot before them.

@@ -1,5 +1,6 @@
 //! Laws of the two indexes: which changes of them mean which call, and that they mean at most one tree.
 
+ghost use Rattle.reference.specs.Plant.{PlantLaw};
 ghost use Rattle.reference.specs.Laws.{CreateLaw, FreshLaw, LengthenLaw, MkdirLaw, OneMeaningLaw, RenameLaw, RmdirLaw, RmtreeLaw, TruncateLaw, UnlinkLaw, WriteLaw};
 
 /// What the two indexes of an empty tree are.
@@ -18,6 +19,11 @@ pub fn calls_on_indexes()
     ensures rmdir { RmdirLaw }
     ensures rmtree { RmtreeLaw }
     ensures rename { RenameLaw }
+{}
+
+/// Where two indexes mean a tree, one message plants an entry: an empty directory, or a file of zeros of any length.
+pub fn planting()
+    ensures { PlantLaw }
 {}
 
 /// Two indexes mean at most one tree.

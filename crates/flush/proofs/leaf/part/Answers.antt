@@ -1,23 +1,28 @@
-use Rattle.std.proofs.Common.{arith, refl, sym, ◌∙◌, subst, add-one}
+use Rattle.std.proofs.Common.{arith, refl, sym, ◌∙◌, subst, add-one, drop}
 use Rattle.std.proofs.Math.ListN.{set}
 use Rattle.node.specs.See.{seen_slots}
 use Rattle.node.specs.Steps.{Replies}
 use Rattle.node.specs.declared.step.StepReply.TheVariants.{Did}
 use Rattle.node.specs.declared.step.StepKind.TheVariants.{FlushLeaf}
 use Rattle.node.proofs.StepDone.{inserted}
-use Rattle.node.specs.StepRows.{range_count, CanPart, CannotPart}
-use Rattle.flush.specs.Leaf.{IsHalved}
-use Rattle.flush.proofs.LeafFlush.{rest, rest_is, some_leaf, no_room, halved}
+use Rattle.message.specs.Effects.{range_count}
+use Rattle.node.specs.StepRows.{CanPart, CannotPart}
+use Rattle.flush.proofs.OldestOf.{after_some}
+use Rattle.flush.proofs.LeafFlush.{some_leaf, no_room, halved}
 use Rattle.flush.proofs.leaf.part.Goals as goal
 
 pub returns-then-not-can_part : goal.returns-then-not-can_part
 returns-then-not-can_part g c =
     let xs = c.args.slots.now.items in
     let s = c.index-slot.result.now in
-    let lacks = subst (λ z. CannotPart c.args.shape c.args.root (seen_slots z) 1 (range_count (rest c.as_slice.result.now))) c.as_slice-2.ensures.value (c.can_part.ensures.none c.if-not-can_part.true) in
-    let here = subst (λ z. CannotPart c.args.shape c.args.root (seen_slots xs) 1 (range_count (rest z))) c.as_slice.ensures lacks in
-    let all = subst (λ z. CannotPart c.args.shape c.args.root (seen_slots xs) 1 (range_count z)) (rest_is s.pending.0) here in
-    (refl, no_room g.U.Update.means c.args.shape c.args.root c.args.i xs s c.requires.bound c.index-slot.ensures c.args.entries.items (c.requires.after s c.index-slot.ensures) c.requires.rising c.requires.many all)
+    let lacks = subst (λ z. CannotPart c.args.shape c.args.root (seen_slots z) 1 (range_count (drop 1 s.pending.0))) c.as_slice.ensures.value (c.can_part.ensures.none c.if-not-can_part.true) in
+    (refl, no_room g.U.Update.means c.args.shape c.args.root c.args.i xs s c.requires.bound c.index-slot.ensures c.args.entries.items (c.requires.after s c.index-slot.ensures) c.requires.rising c.requires.many lacks)
+
+pub can_part-requires : goal.can_part-requires
+can_part-requires g c = after_some g.U.Update.means c.index-slot.result.now.pending.0 c.index-slot.result.now.child.value c.args.entries.items (c.requires.after c.index-slot.result.now c.index-slot.ensures)
+
+pub halves-requires-clause-some : goal.halves-requires-clause-some
+halves-requires-clause-some g c = after_some g.U.Update.means c.index-slot.result.now.pending.0 c.index-slot.result.now.child.value c.args.entries.items (c.requires.after c.index-slot.result.now c.index-slot.ensures)
 
 pub halves-requires-clause-two : goal.halves-requires-clause-two
 halves-requires-clause-two g c = omega (arith, some_leaf c.args.shape c.requires.shape, c.requires.many)
@@ -26,10 +31,7 @@ pub returns : goal.returns
 returns g c =
     let xs = c.args.slots.now.items in
     let s = c.index-slot.result.now in
-    let room = subst (λ z. CanPart c.args.shape c.args.root (seen_slots z) 1 (range_count (rest c.as_slice.result.now))) c.as_slice-2.ensures.value (c.can_part.ensures.room c.if-not-can_part.false) in
-    let here = subst (λ z. CanPart c.args.shape c.args.root (seen_slots xs) 1 (range_count (rest z))) c.as_slice.ensures room in
-    let all = subst (λ z. CanPart c.args.shape c.args.root (seen_slots xs) 1 (range_count z)) (rest_is s.pending.0) here in
-    let cut = subst (λ z. IsHalved g.U.Update.means s.lo c.args.entries.items (rest z) c.in-Ok.left c.in-Ok.right) c.as_slice.ensures c.in-Ok.ensures in
+    let room = subst (λ z. CanPart c.args.shape c.args.root (seen_slots z) 1 (range_count (drop 1 s.pending.0))) c.as_slice.ensures.value (c.can_part.ensures.room c.if-not-can_part.false) in
     let now = c.insert.ensures.items ∙ inserted c.insert.result _ _ (sym c.is_err.ensures.value ∙ c.if-is_err.false) in
-    let core = halved g.U.Update.means c.args.shape c.args.root c.args.i xs s c.requires.bound c.index-slot.ensures c.args.entries.items c.in-Ok.left c.in-Ok.right (c.requires.after s c.index-slot.ensures) c.requires.rising c.requires.many (subst (λ z. IsHalved g.U.Update.means s.lo c.args.entries.items z c.in-Ok.left c.in-Ok.right) (rest_is s.pending.0) cut) all in
+    let core = halved g.U.Update.means c.args.shape c.args.root c.args.i xs s c.requires.bound c.index-slot.ensures c.args.entries.items c.in-Ok.left c.in-Ok.right (c.requires.after s c.index-slot.ensures) c.requires.rising c.requires.many c.in-Ok.ensures room in
     subst (λ z. Replies g.U.Update.means FlushLeaf c.args.shape c.args.root c.args.i (Did 1) (seen_slots xs) (seen_slots (set z c.args.i c.in-Ok.left))) (sym (rw add-one at now)) core

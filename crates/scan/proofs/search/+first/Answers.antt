@@ -1,4 +1,5 @@
-use Rattle.std.proofs.Common.{arith, ap, sym, subst, ◌∙◌, ◌≡◌, ◌<◌, ◌+◌, ◌*◌, length, List, true, Some, None}
+use Rattle.scan.proofs.search.+first.Goals.{first_of_slot-in-Nothing, first_of_slot-in_default-matches}
+use Rattle.std.proofs.Common.{true≢false, arith, ap, sym, subst, ◌∙◌, ◌≡◌, ◌<◌, ◌+◌, ◌*◌, length, List, true, Some, None}
 use Rattle.std.specs.Option.{option_copied}
 use Rattle.message.proofs.KeyOrder.{reaches-refl}
 use Rattle.node.specs.Meaning.{value}
@@ -8,9 +9,11 @@ use Rattle.node.specs.See.{see, seen_slots}
 use Rattle.node.specs.declared.node.Slot.{Slot}
 use Rattle.node.proofs.Placing.{searchable_child, depth_child}
 use Rattle.pathkey.specs.Keys.{is_below}
-use Rattle.message.specs.declared.msg.Msg.{Msg}
-use Rattle.scan.specs.Stretches.{ActAlike, counting, slot_value}
-use Rattle.scan.proofs.OnStretches.{first_settled, first_below_none, first_below_pair}
+use Rattle.message.specs.Stretches.{ActAlike}
+use Rattle.scan.specs.Stretches.{changed, slot_value}
+use Rattle.scan.specs.Pairs.{IsFirst}
+use Rattle.scan.proofs.OnStretches.{first_of_told, first_untouched, first_changed}
+use Rattle.std.proofs.lemmas.Result.{IfOk-weaker}
 use Rattle.scan.proofs.Firsts.{none_past, as_called}
 use Rattle.scan.proofs.Searching.{at_start, from_below, stands_at, found, no_more, goes_on, fewer_ahead}
 use Rattle.scan.proofs.search.+first.Goals as goal
@@ -39,8 +42,8 @@ first-first_of_slot-requires g t c κs within =
     let stretch = c.in_ok-stop.ensures in
     let e = sym c.as_ref.ensures.value in
     let some = subst (λ o. is_below c.stretches.from o ≡ true) e stretch.after in
-    let alike = subst (λ o. ActAlike (counting c.decisive-decisive.result.0 c.decisive-decisive.result.1 s.pending.0) c.stretches.from o) e (subst (λ (ms : List (Msg U V)). ActAlike ms c.stretches.from c.in_ok-stop.stop) c.counting-msgs.ensures stretch.alike) in
-    (subst (λ m. 2 * depth s.child.value + 1 < m) d falls, (within.0, (within.1, (child, (some, (c.decisive-decisive.ensures, alike))))))
+    let alike = subst (λ o. ActAlike s.pending.0 c.stretches.from o) e stretch.alike in
+    (subst (λ m. 2 * depth s.child.value + 1 < m) d falls, (within.0, (within.1, (child, (some, alike)))))
 
 pub first-returns-in-Some : goal.first-returns-in-Some
 first-returns-in-Some g t c =
@@ -53,7 +56,7 @@ first-returns-in-Some g t c =
     let i = c.slot_of-i.result in
     let s = c.index-slot.result.now in
     let stop = c.in_ok-stop.stop in
-    let at = stands_at means items c.as_slice-in-stretches.result.now c.as_slice-in-stretches-2.result.now c.counting-msgs.result.now c.decisive-decisive.result.0 c.decisive-decisive.result.1 n lo hi from i s (option_copied c.slot_end-end.result) stop c.as_slice-in-stretches.ensures.value c.as_slice-in-stretches-2.ensures.value c.counting-msgs.ensures (ap see (sym c.in-Inner.is) ∙ c.body.ensures) c.slot_of-i.ensures.bound c.slot_of-i.ensures.number c.index-slot.ensures c.stretches.invariant c.slot_end-end.ensures c.in_ok-stop.ensures in
+    let at = stands_at means items c.as_slice-in-stretches.result.now c.as_slice-in-stretches-2.result.now n lo hi from i s (option_copied c.slot_end-end.result) stop c.as_slice-in-stretches.ensures.value c.as_slice-in-stretches-2.ensures.value (ap see (sym c.in-Inner.is) ∙ c.body.ensures) c.slot_of-i.ensures.bound c.slot_of-i.ensures.number c.index-slot.ensures c.stretches.invariant c.slot_end-end.ensures c.in_ok-stop.ensures in
     found means items n lo hi from i s stop at c.in-Some.pair (as_called (slot_value means s) from (option_copied c.as_ref.result) stop c.in_ok-pair.field-0 (Some c.in-Some.pair) c.as_ref.ensures.value c.in-Some.is c.in_ok-pair.ensures)
 
 pub first-returns-in_default-stop : goal.first-returns-in_default-stop
@@ -67,7 +70,7 @@ first-returns-in_default-stop g t c =
     let i = c.slot_of-i.result in
     let s = c.index-slot.result.now in
     let stop = c.in_ok-stop.stop in
-    let at = stands_at means items c.as_slice-in-stretches.result.now c.as_slice-in-stretches-2.result.now c.counting-msgs.result.now c.decisive-decisive.result.0 c.decisive-decisive.result.1 n lo hi from i s (option_copied c.slot_end-end.result) stop c.as_slice-in-stretches.ensures.value c.as_slice-in-stretches-2.ensures.value c.counting-msgs.ensures (ap see (sym c.in-Inner.is) ∙ c.body.ensures) c.slot_of-i.ensures.bound c.slot_of-i.ensures.number c.index-slot.ensures c.stretches.invariant c.slot_end-end.ensures c.in_ok-stop.ensures in
+    let at = stands_at means items c.as_slice-in-stretches.result.now c.as_slice-in-stretches-2.result.now n lo hi from i s (option_copied c.slot_end-end.result) stop c.as_slice-in-stretches.ensures.value c.as_slice-in-stretches-2.ensures.value (ap see (sym c.in-Inner.is) ∙ c.body.ensures) c.slot_of-i.ensures.bound c.slot_of-i.ensures.number c.index-slot.ensures c.stretches.invariant c.slot_end-end.ensures c.in_ok-stop.ensures in
     no_more means items n lo hi from i s stop at c.in_default-stop.is (as_called (slot_value means s) from (option_copied c.as_ref.result) stop c.in_ok-pair.field-0 None c.as_ref.ensures.value c.in_default.is c.in_ok-pair.ensures)
 
 pub first-stretches-smaller : goal.first-stretches-smaller
@@ -81,7 +84,7 @@ first-stretches-smaller g t c =
     let i = c.slot_of-i.result in
     let s = c.index-slot.result.now in
     let stop = c.in_ok-stop.stop in
-    let at = stands_at means items c.as_slice-in-stretches.result.now c.as_slice-in-stretches-2.result.now c.counting-msgs.result.now c.decisive-decisive.result.0 c.decisive-decisive.result.1 n lo hi from i s (option_copied c.slot_end-end.result) stop c.as_slice-in-stretches.ensures.value c.as_slice-in-stretches-2.ensures.value c.counting-msgs.ensures (ap see (sym c.in-Inner.is) ∙ c.body.ensures) c.slot_of-i.ensures.bound c.slot_of-i.ensures.number c.index-slot.ensures c.stretches.invariant c.slot_end-end.ensures c.in_ok-stop.ensures in
+    let at = stands_at means items c.as_slice-in-stretches.result.now c.as_slice-in-stretches-2.result.now n lo hi from i s (option_copied c.slot_end-end.result) stop c.as_slice-in-stretches.ensures.value c.as_slice-in-stretches-2.ensures.value (ap see (sym c.in-Inner.is) ∙ c.body.ensures) c.slot_of-i.ensures.bound c.slot_of-i.ensures.number c.index-slot.ensures c.stretches.invariant c.slot_end-end.ensures c.in_ok-stop.ensures in
     fewer_ahead means items n lo hi from i s stop at c.in-Some-stop.next c.in-Some-stop.is
 
 pub first-stretches-preserved : goal.first-stretches-preserved
@@ -95,17 +98,36 @@ first-stretches-preserved g t c =
     let i = c.slot_of-i.result in
     let s = c.index-slot.result.now in
     let stop = c.in_ok-stop.stop in
-    let at = stands_at means items c.as_slice-in-stretches.result.now c.as_slice-in-stretches-2.result.now c.counting-msgs.result.now c.decisive-decisive.result.0 c.decisive-decisive.result.1 n lo hi from i s (option_copied c.slot_end-end.result) stop c.as_slice-in-stretches.ensures.value c.as_slice-in-stretches-2.ensures.value c.counting-msgs.ensures (ap see (sym c.in-Inner.is) ∙ c.body.ensures) c.slot_of-i.ensures.bound c.slot_of-i.ensures.number c.index-slot.ensures c.stretches.invariant c.slot_end-end.ensures c.in_ok-stop.ensures in
+    let at = stands_at means items c.as_slice-in-stretches.result.now c.as_slice-in-stretches-2.result.now n lo hi from i s (option_copied c.slot_end-end.result) stop c.as_slice-in-stretches.ensures.value c.as_slice-in-stretches-2.ensures.value (ap see (sym c.in-Inner.is) ∙ c.body.ensures) c.slot_of-i.ensures.bound c.slot_of-i.ensures.number c.index-slot.ensures c.stretches.invariant c.slot_end-end.ensures c.in_ok-stop.ensures in
     goes_on means items n lo hi from i s stop at c.in-Some-stop.next c.in-Some-stop.is (as_called (slot_value means s) from (option_copied c.as_ref.result) stop c.in_ok-pair.field-0 None c.as_ref.ensures.value c.in_default.is c.in_ok-pair.ensures)
 
 pub first-returns : goal.first-returns
 first-returns g t c = none_past (value g.U.Update.means c.args.node.now) c.args.lo.now c.stretches.from (option_copied c.args.hi) c.stretches.invariant.none (sym c.is_before_end.ensures ∙ c.stretches-test.false)
 
-pub first_of_slot-returns-then-settled : goal.first_of_slot-returns-then-settled
-first_of_slot-returns-then-settled g t c = first_settled g.U.Update.means c.args.slot.now c.args.from.now (option_copied c.args.stop) c.requires.some c.args.decisive c.args.settled c.requires.decisive c.requires.alike c.made_of_none.result c.if-settled.true c.made_of_none.ensures
+pub first_of_slot-returns-in-Value : goal.first_of_slot-returns-in-Value
+first_of_slot-returns-in-Value g t c =
+    let told = rw c.in-Value.is at c.in_ok-told.ensures in
+    let here = first_of_told g.U.Update.means c.args.slot.now.pending.0 (value g.U.Update.means c.args.slot.now.child.value) c.args.from.now (option_copied c.args.stop) c.requires.some c.requires.alike c.in-Value.value told in
+    IfOk-weaker c.pair_at.result _ (IsFirst (slot_value g.U.Update.means c.args.slot.now) c.args.from.now (option_copied c.args.stop)) (λ r e. subst (IsFirst (slot_value g.U.Update.means c.args.slot.now) c.args.from.now (option_copied c.args.stop)) (sym e) here) c.pair_at.ensures
 
-pub first_of_slot-returns-in-None : goal.first_of_slot-returns-in-None
-first_of_slot-returns-in-None g t c = first_below_none g.U.Update.means c.args.slot.now c.args.from.now (option_copied c.args.stop) c.requires.some c.args.decisive c.args.settled c.requires.decisive c.requires.alike c.made_of_none-in-None.result c.if-settled.false c.deref.result.now c.in_ok-first.field-0 c.deref.ensures c.in-None.is c.in_ok-first.ensures c.made_of_none-in-None.ensures
+pub first_of_slot-returns-then-matches : goal.first_of_slot-returns-then-matches
+first_of_slot-returns-then-matches g t c =
+    let means = g.U.Update.means in
+    let s = c.args.slot.now in
+    let from = c.args.from.now in
+    let stop = option_copied c.args.stop in
+    let below = subst (λ n. IsFirst (value means n) from stop c.in_ok-below.below) c.deref.ensures c.in_ok-below.ensures in
+    elim c.match-matches.branch [
+      | first_of_slot-in-Nothing w ↦ (let none = rw w.in-Nothing.is at c.in_ok-told.ensures in first_untouched means s.pending.0 (value means s.child.value) from stop c.requires.some c.requires.alike c.in_ok-below.below none.1 below)
+      | first_of_slot-in_default-matches w ↦ absurd (true≢false (sym c.if-matches.true ∙ w.matches-is))
+    ]
 
-pub first_of_slot-returns-in-Some : goal.first_of_slot-returns-in-Some
-first_of_slot-returns-in-Some g t c = first_below_pair g.U.Update.means c.args.slot.now c.args.from.now (option_copied c.args.stop) c.requires.some c.args.decisive c.args.settled c.requires.decisive c.requires.alike c.made_of_pair.result c.if-settled.false c.deref.result.now c.in_ok-first.field-0 c.in-Some.pair c.deref.ensures c.in-Some.is c.in_ok-first.ensures c.made_of_pair.ensures
+pub first_of_slot-returns : goal.first_of_slot-returns
+first_of_slot-returns g t c =
+    let means = g.U.Update.means in
+    let s = c.args.slot.now in
+    let from = c.args.from.now in
+    let stop = option_copied c.args.stop in
+    let below = subst (λ n. IsFirst (value means n) from stop c.in_ok-below.below) c.deref.ensures c.in_ok-below.ensures in
+    let here = first_changed means s.pending.0 (value means s.child.value) from stop c.requires.some c.requires.alike c.in_ok-below.below below in
+    IfOk-weaker c.changed.result _ (IsFirst (slot_value means s) from stop) (λ r e. subst (IsFirst (slot_value means s) from stop) (sym e) here) c.changed.ensures

@@ -14,9 +14,10 @@ returns c =
     let pending_in : c.range-3.result ≡ Signed (pos 4) (pos 1024) = rw (c.value_parser-3.ensures, c.new-3.ensures.start, c.new-3.ensures.end) at c.range-3.ensures in
     let leaf_in : c.range-4.result ≡ Signed (pos 4) (pos 1024) = rw (c.value_parser-4.ensures, c.new-4.ensures.start, c.new-4.ensures.end) at c.range-4.ensures in
     let script_is : rule_of c.help-script.result ≡ new_rule (codes "SCRIPT") = search std_rules in
-    let shape : app_of c.in_ok-arg-6.field-0 ≡ on_top (λ s. record s { rules = rules }) (new_app (codes "betr")) =
-    c.in_ok-arg-6.ensures.shape (search std_rules) ∙ ap₂ with_rule
-    (c.in_ok-arg-5.ensures.shape c.switch-image.ensures.local ∙ ap₂ with_rule
+    let shape : app_of c.in_ok-arg-7.field-0 ≡ on_top (λ s. record s { rules = rules }) (new_app (codes "betr")) =
+    c.in_ok-arg-7.ensures.shape (search std_rules) ∙ ap₂ with_rule
+    (c.in_ok-arg-6.ensures.shape c.switch-image.ensures.local ∙ ap₂ with_rule
+    (c.in_ok-arg-5.ensures.shape c.text_option-load.ensures.local ∙ ap₂ with_rule
     (c.in_ok-arg-4.ensures.shape c.option-leaf.ensures.local ∙ ap₂ with_rule
     (c.in_ok-arg-3.ensures.shape c.option-pending.ensures.local ∙ ap₂ with_rule
     (c.in_ok-arg-2.ensures.shape c.option-fanout.ensures.local ∙ ap₂ with_rule
@@ -24,5 +25,5 @@ returns c =
     (c.option-steps.ensures.rule ∙ ap (option_rule (codes "steps")) steps_in))
     (c.option-fanout.ensures.rule ∙ ap (option_rule (codes "fanout")) fanout_in))
     (c.option-pending.ensures.rule ∙ ap (option_rule (codes "pending")) pending_in))
-    (c.option-leaf.ensures.rule ∙ ap (option_rule (codes "leaf")) leaf_in)) c.switch-image.ensures.rule) script_is in
+    (c.option-leaf.ensures.rule ∙ ap (option_rule (codes "leaf")) leaf_in)) c.text_option-load.ensures.rule) c.switch-image.ensures.rule) script_is in
     shape ∙ betr_is

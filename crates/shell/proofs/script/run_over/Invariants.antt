@@ -1,7 +1,6 @@
 use Rattle.std.proofs.Common.{◌≡◌, ◌<◌, length, vec_capacity}
 use Rattle.std.specs.Io.KnownBytes.{Appends}
 use Rattle.shell.specs.Runs.{Leads}
-use Rattle.volume.specs.Volumes.{Means}
 use Rattle.shell.proofs.Reading.{Reads}
 use Rattle.shell.proofs.script.run_over.Given as goal
 
@@ -9,7 +8,7 @@ abbrev pub invariant-loop : goal.invariant-loop
 invariant-loop g l = record {
   room : 65536 < vec_capacity l.line;
   size : length l.piece ≡ length l.initial.piece;
-  went : Leads (Means l.initial.volume) (Means l.volume)
+  went : Leads (g.S.Session.means l.initial.session) (g.S.Session.means l.session)
       (Reads (g.R.Read.remaining l.initial.reader) (g.R.Read.remaining l.reader) l.line.items)
       (Appends (g.W.Write.contents l.initial.writer) (g.W.Write.contents l.writer));
 }

@@ -3,7 +3,6 @@ use Rattle.std.proofs.lemmas.List.{take_more, take_all}
 use Rattle.std.specs.Prelude.{Option}
 use Rattle.std.specs.Io.KnownBytes.{Appends}
 use Rattle.std.proofs.KnownBytes.{Appends-nil, Appends-trans}
-use Rattle.volume.specs.Volumes.{Means}
 use Rattle.shell.specs.Runs.{Leads, Worlds}
 use Rattle.shell.specs.Parts.{AppendsPart}
 use Rattle.shell.specs.Script.{Does}
@@ -65,7 +64,7 @@ loop-byte-preserved g c = elim c.if-byte-eq-LINE_FEED.branch [
       let answered = rw w.as_slice.ensures.value at w.in_ok-do_line.ensures.ok in
       let is : take (c.loop-byte.byte-index + 1) c.args.piece.now ≡ take c.loop-byte.byte-index c.args.piece.now ++ 10 ∷ [] =
       next_take c.args.piece.now c.loop-byte.byte-index 10 c.loop-byte-test.true w.if-byte-eq-LINE_FEED.true in
-      rw (w.volume-is, w.line-is, w.writer-is, is) (record {
+      rw (w.session-is, w.line-is, w.writer-is, is) (record {
         room = omega arith;
         went = λ held holds first means.
             let (out, before, (left, holding, went), m, appended) = c.loop-byte.invariant.went held holds first means in
@@ -86,7 +85,7 @@ loop-byte-preserved g c = elim c.if-byte-eq-LINE_FEED.branch [
       let byte : ℕ = get_or c.args.piece.now c.loop-byte.byte-index 0 in
       let is : take (c.loop-byte.byte-index + 1) c.args.piece.now ≡ take c.loop-byte.byte-index c.args.piece.now ++ byte ∷ [] =
       next_take c.args.piece.now c.loop-byte.byte-index byte c.loop-byte-test.true refl in
-      rw (w.volume-is, w.line-is, w.writer-is, is) (record {
+      rw (w.session-is, w.line-is, w.writer-is, is) (record {
         room = omega arith;
         went = λ held holds first means.
             let (out, after, (left, holding, went), m, appended) = c.loop-byte.invariant.went held holds first means in (
@@ -106,6 +105,6 @@ loop-byte-preserved g c = elim c.if-byte-eq-LINE_FEED.branch [
 pub returns-clause-ok : goal.returns-clause-ok
 returns-clause-ok g c =
     let all : take c.loop-byte.byte-index c.args.piece.now ≡ c.args.piece.now = take_all _ c.args.piece.now c.loop-byte-test.false in
-    subst (λ (p : List ℕ). So (Means c.args.volume.now) (Means c.loop-byte.volume) (g.W.Write.contents c.args.writer.now) (g.W.Write.contents c.loop-byte.writer) p
+    subst (λ (p : List ℕ). So (g.S.Session.means c.args.session.now) (g.S.Session.means c.loop-byte.session) (g.W.Write.contents c.args.writer.now) (g.W.Write.contents c.loop-byte.writer) p
     c.args.line.now.items c.loop-byte.line.items)
     all c.loop-byte.invariant.went

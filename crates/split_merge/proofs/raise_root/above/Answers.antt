@@ -1,5 +1,4 @@
-use Rattle.std.proofs.Common.{ap, ◌∙◌, subst, []}
-use Rattle.message.specs.Effects.{Takes}
+use Rattle.std.proofs.Common.{ap, ◌∙◌}
 use Rattle.node.specs.See.{seen_slots}
 use Rattle.node.specs.Pure.{inner, slots, more, none}
 use Rattle.split_merge.proofs.RootUp.{emptied-hollow}
@@ -10,7 +9,7 @@ returns g c =
     let items = rw c.in_ok-one.ensures.items at c.in_ok-push.ensures.items in
     let child = c.in_ok-new.ensures.ok ∙ ap (λ z. inner (slots z)) c.in_ok-hollowed.ensures ∙ ap inner (emptied-hollow c.args.slots.now) in
     record {
-      msgs = c.of.result.0;
-      taken = subst (λ z. Takes g.U.Update.means [] z c.of.result.0) c.in_ok-gathered.ensures c.of.ensures;
-      is = c.in_ok-new-2.ensures.ok ∙ ap (λ z. inner (seen_slots z)) items ∙ (λ j. inner (more (c.new.ensures j) c.of.result.0 (child j) none));
+      msgs = c.in_ok-gathered.field-0.0;
+      taken = c.in_ok-gathered.ensures;
+      is = c.in_ok-new-2.ensures.ok ∙ ap (λ z. inner (seen_slots z)) items ∙ (λ j. inner (more (c.new.ensures j) c.in_ok-gathered.field-0.0 (child j) none));
     }

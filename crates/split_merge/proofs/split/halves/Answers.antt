@@ -31,6 +31,6 @@ returns g c =
       right_is = c.in_ok-node_over-2.ensures;
       left_lo = c.in_ok-copy.ensures;
       right_lo = c.in_ok-copy-2.ensures ∙ pivot;
-      left_msgs = subst (λ z. Takes g.U.Update.means [] z c.of.result.0) (c.in_ok-pieces.ensures ∙ (λ j. pieces c.args.slot.now.lo (Some (pivot j)) (c.as_slice-msgs.ensures j))) c.of.ensures;
-      right_msgs = subst (λ z. Takes g.U.Update.means [] z c.of-2.result.0) (c.in_ok-pieces-2.ensures ∙ (λ j. pieces (pivot j) None (c.as_slice-msgs.ensures j))) c.of-2.ensures;
+      left_msgs = subst (λ z. Takes g.U.Update.means [] (pieces c.args.slot.now.lo (Some z) c.args.slot.now.pending.0) c.in_ok-copy_between.field-0.0) pivot c.in_ok-copy_between.ensures;
+      right_msgs = subst (λ z. Takes g.U.Update.means [] (pieces z None c.args.slot.now.pending.0) c.in_ok-copy_between-2.field-0.0) pivot c.in_ok-copy_between-2.ensures;
     }

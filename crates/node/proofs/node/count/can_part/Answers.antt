@@ -14,10 +14,10 @@ returns-else-root-clause-room g c = λ t. (
   omega (arith, slot_count-slots c.args.slots.now),
   λ r.
       let sum = leb-true _ _ t in
-      omega (arith, sum, c.held.ensures.exact, c.ranges_in.ensures),
+      omega (arith, sum, c.held.ensures.exact, c.range_deletes-twice.ensures),
 )
 
 pub returns-else-root-clause-none : goal.returns-else-root-clause-none
 returns-else-root-clause-none g c = λ f.
     let sum = leb-false _ _ f in
-    inr (c.if-root.false, omega (arith, sum, c.held.ensures.exact, c.ranges_in.ensures))
+    inr (c.if-root.false, omega (arith, sum, c.held.ensures.exact, c.range_deletes-twice.ensures))

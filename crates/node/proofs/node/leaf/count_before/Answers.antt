@@ -8,5 +8,5 @@ pub returns : goal.returns
 returns g c =
     let k = c.args.key.now in
     let es = c.args.entries.now in
-    let point = IsPartitionPoint-from_clause (λ e. before e.0 k) es _ c.partition_point.ensures.partitioned (entries_partitioned [] None k es c.requires) (λ a r q h. search rules) in
-    is_count k es _ c.partition_point.ensures.bound point
+    let point = IsPartitionPoint-from_clause (λ e. before e.0 k) es _ c.count_passing.ensures.partitioned (entries_partitioned [] None k es c.requires) (λ a r q h. search rules) in
+    is_count k es _ c.count_passing.ensures.bound point

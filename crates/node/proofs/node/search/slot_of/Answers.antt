@@ -14,5 +14,5 @@ returns-clause-number g c =
     let later = c.in-Some.later.now in
     let e : c.args.slots.now ≡ first ∷ later = search rules in
     let rising = subst (λ xs. AreRising (seen_slots xs)) e c.requires.rising in
-    let point = IsPartitionPoint-from_clause (λ s. reaches s.lo k) later _ c.partition_point.ensures.partitioned (partitioned-rising k later rising.1) (λ a r q h. search rules) in
-    number-by_search k first later _ c.partition_point.ensures.bound point ∙ ap (λ xs. slot_number (seen_slots xs) k) (sym e)
+    let point = IsPartitionPoint-from_clause (λ s. reaches s.lo k) later _ c.count_passing.ensures.partitioned (partitioned-rising k later rising.1) (λ a r q h. search rules) in
+    number-by_search k first later _ c.count_passing.ensures.bound point ∙ ap (λ xs. slot_number (seen_slots xs) k) (sym e)

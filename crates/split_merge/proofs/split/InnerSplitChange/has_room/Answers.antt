@@ -1,4 +1,4 @@
-use Rattle.std.proofs.Common.{ap, ◌≡◌, ◌≤◌, ◌<◌, length, arith, false}
+use Rattle.std.proofs.Common.{ap, refl, ◌≡◌, ◌≤◌, ◌<◌, length, arith, false}
 use Rattle.node.specs.See.{seen_slots}
 use Rattle.node.specs.Site.{slots_from}
 use Rattle.node.specs.StepRows.{can_split_inner}
@@ -16,10 +16,10 @@ pub returns-clause-yes : goal.returns-clause-yes
 returns-clause-yes g c = λ t h lo hi l able full.
     let xs = c.args.slots.now in
     let b : c.args.i < length xs = omega arith in
-    some_room g.U.Update.means c.args.shape c.args.root c.args.i xs c.index-slots-i.result c.as_slice.result.now b c.index-slots-i.is c.as_slice.ensures (c.can_part.ensures.room t) full
+    some_room g.U.Update.means c.args.shape c.args.root c.args.i xs c.index-slots-i.result c.index-slots-i.result.pending.0 b c.index-slots-i.is refl (c.can_part.ensures.room t) full
 
 pub returns-clause-no : goal.returns-clause-no
 returns-clause-no g c = λ t.
     let xs = c.args.slots.now in
     let b : c.args.i < length xs = omega arith in
-    no_room g.U.Update.means c.args.shape c.args.root c.args.i xs c.index-slots-i.result c.as_slice.result.now b c.index-slots-i.is c.as_slice.ensures (c.can_part.ensures.none t)
+    no_room g.U.Update.means c.args.shape c.args.root c.args.i xs c.index-slots-i.result c.index-slots-i.result.pending.0 b c.index-slots-i.is refl (c.can_part.ensures.none t)

@@ -1,0 +1,146 @@
+-- The calls of all clients are all calls, and a list with as many clients as the engine has, none twice, has them all.
+use Rattle.std.proofs.Common.{◌≡◌, ◌≢◌, ◌⊎◌, ℕ, ◌+◌, ◌<◌, ◌≤◌, List, [], ◌∷◌, ◌++◌, length, zero, suc, Bool, ◌==◌, if◌then◌else◌, refl, sym, ap, ◌∙◌, arith, inl, inr, ⊎_elim, eq-eqb, ne_eqb}
+use Rattle.engine.specs.Histories.{Entry, own, AllBelow}
+use Rattle.engine.specs.Clients.{Known}
+use Rattle.engine.specs.Ends.{Agrees, AllAgree, times_in, NoneTwice, EachOnce, LacksOne, Within, made_by_all}
+
+-- the calls of each of them in one history
+abbrev weigh : List Entry → List Known → ℕ
+weigh h [] = 0
+weigh h (k ∷ ks) = own k.client h + weigh h ks
+
+weigh-none : (ks : List Known) → weigh [] ks ≡ 0
+weigh-none [] = refl
+weigh-none (k ∷ ks) = omega (arith, weigh-none ks)
+
+weigh-more : (e : Entry) (h : List Entry) (ks : List Known) → weigh (e ∷ h) ks ≡ times_in e.by ks + weigh h ks
+weigh-more e h [] = refl
+weigh-more e h (k ∷ ks) = omega (arith, weigh-more e h ks)
+
+weigh-all : (n : ℕ) (h : List Entry) (ks : List Known) → AllBelow n h → EachOnce n ks → weigh h ks ≡ length h
+weigh-all n [] ks below once = weigh-none ks
+weigh-all n (e ∷ h) ks below once = omega (arith, weigh-more e h ks, once e.by below.0, weigh-all n h ks below.1 once)
+
+weigh-made : (h : List Entry) (ks : List Known) → AllAgree h ks → weigh h ks ≡ made_by_all ks
+weigh-made h [] all = refl
+weigh-made h (k ∷ ks) all = omega (arith, all.0.1, weigh-made h ks all.1)
+
+pub all_made : (n : ℕ) (h : List Entry) (ks : List Known) → AllBelow n h → EachOnce n ks → AllAgree h ks → length h ≡ made_by_all ks
+all_made n h ks below once all = sym (weigh-all n h ks below once) ∙ weigh-made h ks all
+
+pub agree-snoc : (h : List Entry) (ks : List Known) (k : Known) → AllAgree h ks → Agrees h k → AllAgree h (ks ++ k ∷ [])
+agree-snoc h [] k all one = (one, tt)
+agree-snoc h (x ∷ xs) k all one = (all.0, agree-snoc h xs k all.1 one)
+
+-- ---- how many of the clients below a number are in a list
+
+pub within-snoc : (n : ℕ) (ks : List Known) (k : Known) → Within n ks → k.client < n → Within n (ks ++ k ∷ [])
+within-snoc n [] k w lt = (lt, tt)
+within-snoc n (x ∷ xs) k w lt = (w.0, within-snoc n xs k w.1 lt)
+
+-- the clients below n, each as often as it is there
+abbrev total : ℕ → List Known → ℕ
+total zero ks = 0
+total (suc n) ks = times_in n ks + total n ks
+
+total-none : (n : ℕ) → total n [] ≡ 0
+total-none zero = refl
+total-none (suc n) = omega (arith, total-none n)
+
+abbrev weight : Bool → ℕ
+weight b = if b then 1 else 0
+
+-- how often the client is among those below n
+abbrev once_below : ℕ → ℕ → ℕ
+once_below zero c = 0
+once_below (suc n) c = (if n == c then 1 else 0) + once_below n c
+
+total-more : (n : ℕ) (k : Known) (ks : List Known) → total n (k ∷ ks) ≡ once_below n k.client + total n ks
+total-more zero k ks = refl
+total-more (suc n) k ks = omega (arith, total-more n k ks)
+
+apart : (n c : ℕ) → suc n ≤ c → n ≢ c
+apart n c le e = omega (arith, le, e)
+
+none_below : (n c : ℕ) → n ≤ c → once_below n c ≡ 0
+none_below zero c le = refl
+none_below (suc n) c le =
+    let here : (if n == c then 1 else 0) ≡ 0 = ap weight (ne_eqb n c (apart n c le)) in
+    let rest : once_below n c ≡ 0 = none_below n c (omega (arith, le)) in
+    omega (arith, here, rest)
+
+one_below : (n c : ℕ) → c < n → once_below n c ≡ 1
+one_below zero c lt = absurd (omega (arith, lt))
+one_below (suc n) c lt =
+    ⊎_elim
+    (λ (same : n ≡ c).
+    let here : (if n == c then 1 else 0) ≡ 1 = ap weight (eq-eqb n c same) in
+    let rest : once_below n c ≡ 0 = none_below n c (omega (arith, same)) in
+    omega (arith, here, rest))
+    (λ (other : n ≢ c).
+    let here : (if n == c then 1 else 0) ≡ 0 = ap weight (ne_eqb n c other) in
+    let rest : once_below n c ≡ 1 = one_below n c (below-or n c lt other) in
+    omega (arith, here, rest))
+    (same-or n c)
+  where
+    same-or : (a b : ℕ) → (a ≡ b) ⊎ (a ≢ b)
+    same-or zero zero = inl refl
+    same-or zero (suc b) = inr (λ e. let x = e in absurd (omega arith))
+    same-or (suc a) zero = inr (λ e. let x = e in absurd (omega arith))
+    same-or (suc a) (suc b) = ⊎_elim (λ (e : a ≡ b). inl (ap suc e)) (λ (n : a ≢ b). inr (λ e. n (omega (arith, e)))) (same-or a b)
+
+    below-or : (n c : ℕ) → c < suc n → n ≢ c → c < n
+    below-or zero zero lt other = absurd (other refl)
+    below-or zero (suc c) lt other = omega (arith, lt)
+    below-or (suc n) zero lt other = omega arith
+    below-or (suc n) (suc c) lt other = let e : c < n = below-or n c (omega (arith, lt)) (λ x. other (ap suc x)) in omega (arith, e)
+
+total-length : (n : ℕ) (ks : List Known) → Within n ks → total n ks ≡ length ks
+total-length n [] w = total-none n
+total-length n (k ∷ ks) w = omega (arith, total-more n k ks, one_below n k.client w.0, total-length n ks w.1)
+
+total-most : (n : ℕ) (ks : List Known) → NoneTwice ks → total n ks ≤ n
+total-most zero ks once = omega arith
+total-most (suc n) ks once = omega (arith, once n, total-most n ks once)
+
+-- as many as there are numbers: each number stands once
+all_there : (n : ℕ) (ks : List Known) → NoneTwice ks → total n ks ≡ n → EachOnce n ks
+all_there zero ks once all c lt = absurd (omega (arith, lt))
+all_there (suc n) ks once all c lt =
+    let top : times_in n ks ≡ 1 = omega (arith, all, once n, total-most n ks once) in
+    let rest : total n ks ≡ n = omega (arith, all, top) in
+    ⊎_elim
+    (λ (same : c ≡ n). ap (λ x. times_in x ks) same ∙ top)
+    (λ (less : c < n). all_there n ks once rest c less)
+    (top-or n c lt)
+  where
+    top-or : (n c : ℕ) → c < suc n → (c ≡ n) ⊎ (c < n)
+    top-or zero zero lt = inl refl
+    top-or zero (suc c) lt = absurd (omega (arith, lt))
+    top-or (suc n) zero lt = inr (omega arith)
+    top-or (suc n) (suc c) lt = ⊎_elim (λ (e : c ≡ n). inl (ap suc e)) (λ (l : c < n). inr (omega (arith, l))) (top-or n c (omega (arith, lt)))
+
+-- fewer: one number does not stand there
+lacks_or : (n : ℕ) (ks : List Known) (t : ℕ) → times_in n ks ≡ t → (t ≢ 0 → LacksOne n ks) → LacksOne (suc n) ks
+lacks_or n ks zero e rest = (n, omega arith, e)
+lacks_or n ks (suc t) e rest = let r : LacksOne n ks = rest (λ z. let y = z in absurd (omega arith)) in (r.0, omega (arith, r.1), r.2)
+
+one_lacks : (n : ℕ) (ks : List Known) → NoneTwice ks → total n ks < n → LacksOne n ks
+one_lacks zero ks once few = absurd (omega (arith, few))
+one_lacks (suc n) ks once few = lacks_or n ks (times_in n ks) refl (λ some. one_lacks n ks once (fewer (times_in n ks) (total n ks) n few some))
+  where
+    fewer : (t a n : ℕ) → t + a < suc n → t ≢ 0 → a < n
+    fewer zero a n lt some = absurd (some refl)
+    fewer (suc t) a n lt some = omega (arith, lt)
+
+pub each_once : (n : ℕ) (ks : List Known) → Within n ks → NoneTwice ks → length ks ≡ n → EachOnce n ks
+each_once n ks within once as_many = all_there n ks once (total-length n ks within ∙ as_many)
+
+less : (a b : ℕ) → a ≤ b → a ≢ b → a < b
+less zero zero le ne = absurd (ne refl)
+less zero (suc b) le ne = omega arith
+less (suc a) zero le ne = absurd (omega (arith, le))
+less (suc a) (suc b) le ne = let e : a < b = less a b (omega (arith, le)) (λ x. ne (ap suc x)) in omega (arith, e)
+
+pub lacks_one : (n : ℕ) (ks : List Known) → Within n ks → NoneTwice ks → length ks ≢ n → LacksOne n ks
+lacks_one n ks within once other = one_lacks n ks once (less (total n ks) n (total-most n ks once) (λ e. other (sym (total-length n ks within) ∙ e)))

@@ -1,0 +1,26 @@
+use Rattle.std.proofs.Common.{◌≡◌, ℕ, List, ◌∙◌, sym, subst}
+use Rattle.engine.specs.Histories.{Entry}
+use Rattle.engine.specs.Clients.{Known}
+use Rattle.engine.specs.Seats.{Shows}
+use Rattle.engine.specs.Ends.{AllAgree, EachOnce}
+use Rattle.engine.proofs.Totals.{all_made}
+use Rattle.engine.proofs.engine.Engine.close.Goals as goal
+
+pub returns-clause-ends : goal.returns-clause-ends
+returns-clause-ends g c =
+    let s = c.settle_all.ensures in
+    let h = c.settle_all.new.desk in
+    let ks : List Known = c.args.clients.items in
+    let once : EachOnce c.args.self ks = subst (λ (l : List Known). EachOnce c.args.self l) c.as_slice.ensures.value (c.has_all.ensures.all c.if-not-has_all.false) in
+    let n : c.args.self ≡ g.J.Naming.clients = sym c.self.view_is ∙ c.self.invariant.0 in
+    let all : AllAgree h ks = subst (λ (l : List Entry). AllAgree l ks) (sym s.same) s.agree in (
+      once,
+      record {
+        history = h;
+        legal = c.count.ensures.history.0;
+        agree = all;
+        length_is = c.count.ensures.count;
+        all_made = all_made g.J.Naming.clients h ks c.count.ensures.history.1 (subst (λ (x : ℕ). EachOnce x ks) n once) all;
+        leaves = subst (λ (l : List Entry). Shows g.J.Naming.opening l c.in-Ok.tree) (sym s.same) c.in-Ok.ensures;
+      },
+    )

@@ -1,0 +1,143 @@
+//! The steps on the table's word, and the ties of seats between them.
+ghost use Rattle.std.specs.Prelude.{◌≡◌, [], ◌∷◌, ◌++◌, ◌+◌, ◌%◌, ◌^◌, ◌<◌, ◌≤◌, length, true};
+ghost use Rattle.engine.specs.Histories.{entry, LegalFrom, FitsAfter, StartsWith, own};
+ghost use Rattle.engine.specs.Views.{guest, watcher, recorded, announced_more, learned, keeper};
+ghost use Rattle.engine.specs.Seats.{IsEngineSeat, IsClientSeat, IsFlusherSeat};
+
+use crate::act::Act;
+use crate::rule::{Announces, Deals, Hires, Learns, Meets, Naming, Place, Records, Told, Words};
+use std::marker::Brand;
+
+/// The client's seat is told the history of the engine's.
+pub fn tie<J: Naming>(words: &Words, engine: &mut Place, client: Place) -> Place
+    requires words { (words.now.table_id ≡ J.table) × (0 < J.table.words) }
+    requires engine { IsEngineSeat J.table J.opening engine.old }
+    requires client { IsClientSeat J.table J.opening client }
+    ensures engine { (engine.new.table_id ≡ engine.old.table_id) × (engine.new.me ≡ engine.old.me) }
+    ensures client { (result.table_id ≡ J.table)
+        × (result.me ≡ (guest J.opening client.me.0.client client.me.0.announced engine.old.me.0.history client.me.0.seen, [])) }
+{
+    words.join_seat::<Meets>(engine, client);
+    words.split_seat::<Meets>(engine)
+}
+
+/// The flusher's seat is told the history of the engine's.
+pub fn tie_flusher<J: Naming>(words: &Words, engine: &mut Place, flusher: Place) -> Place
+    requires words { (words.now.table_id ≡ J.table) × (0 < J.table.words) }
+    requires engine { IsEngineSeat J.table J.opening engine.old }
+    requires flusher { IsFlusherSeat J.table J.opening flusher }
+    ensures engine { (engine.new.table_id ≡ engine.old.table_id) × (engine.new.me ≡ engine.old.me) }
+    ensures flusher { (result.table_id ≡ J.table) × (result.me ≡ (watcher J.opening engine.old.me.0.history flusher.me.0.seen, [])) }
+{
+    words.join_seat::<Meets>(engine, flusher);
+    words.split_seat::<Meets>(engine)
+}
+
+/// The client announces one call more.
+pub fn announce<J: Naming>(words: &Words, client: &mut Place)
+    requires words { (words.now.table_id ≡ J.table) × (0 < J.table.words) }
+    requires client { IsClientSeat J.table J.opening client.old }
+    ensures seat { (client.new.table_id ≡ J.table) × (client.new.me ≡ (announced_more client.old.me.0, [])) }
+    ensures told { StartsWith client.old.me.0.told client.old.me.0.seen
+        × (own client.old.me.0.client client.old.me.0.told ≤ client.old.me.0.announced) }
+{
+    words.load::<Announces>(client, 0);
+}
+
+/// The client in hand made this call. Answers how many calls there are now, modulo 2^64.
+fn record<E: Told, A: Act>(words: &Words, seat: &mut Place, act: &A, reply: &A::Reply) -> u64
+    requires told { (E.event ≡ A.event act.now) × (E.answer ≡ A.answer reply.now) }
+    requires words { (seat.old.table_id ≡ words.now.table_id) × (0 < words.now.table_id.words) }
+    requires seat { (seat.old.me.1 ≡ []) × (seat.old.me.0.keeps ≡ true) × (seat.old.me.0.hosts ≡ true) × (seat.old.me.0.watches ≡ true) }
+    requires announced { own seat.old.me.0.client seat.old.me.0.history + 1 ≤ seat.old.me.0.announced }
+    requires fits { FitsAfter seat.old.me.0.opening seat.old.me.0.history E.event E.answer }
+    ensures seat { (seat.new.table_id ≡ seat.old.table_id) × (seat.new.me ≡ (recorded E.event E.answer seat.old.me.0, [])) }
+    ensures count { result ≡ (length seat.old.me.0.history + 1) % 2 ^ 64 }
+{
+    let _ = act;
+    let _ = reply;
+    words.fetch_add::<Records<E>>(seat, 0, 1).wrapping_add(1)
+}
+
+/// The client sees what it was told.
+pub fn learn<J: Naming>(words: &Words, client: &mut Place)
+    requires words { (words.now.table_id ≡ J.table) × (0 < J.table.words) }
+    requires client { IsClientSeat J.table J.opening client.old }
+    ensures seat { (client.new.table_id ≡ J.table) × (client.new.me ≡ (learned client.old.me.0, [])) }
+    ensures legal { LegalFrom J.opening client.old.me.0.told }
+    ensures told { StartsWith client.old.me.0.told client.old.me.0.seen
+        × (own client.old.me.0.client client.old.me.0.told ≤ client.old.me.0.announced) }
+{
+    words.load::<Learns>(client, 0);
+}
+
+/// The flusher sees what it was told.
+pub fn learn_flusher<J: Naming>(words: &Words, flusher: &mut Place)
+    requires words { (words.now.table_id ≡ J.table) × (0 < J.table.words) }
+    requires flusher { IsFlusherSeat J.table J.opening flusher.old }
+    ensures seat { (flusher.new.table_id ≡ J.table) × (flusher.new.me ≡ (learned flusher.old.me.0, [])) }
+    ensures legal { LegalFrom J.opening flusher.old.me.0.told }
+    ensures told { StartsWith flusher.old.me.0.told flusher.old.me.0.seen }
+{
+    words.load::<Learns>(flusher, 0);
+}
+
+/// Both seats record the call, whose answer fits the history, and the client sees it. Answers how many calls there are
+/// now, modulo 2^64.
+pub fn make<J: Naming, A: Act>(
+    words: &Words,
+    engine: &mut Place,
+    client: Place,
+    act: &A,
+    reply: &A::Reply,
+) -> (Place, u64)
+    requires words { (words.now.table_id ≡ J.table) × (0 < J.table.words) }
+    requires engine { IsEngineSeat J.table J.opening engine.old }
+    requires client { IsClientSeat J.table J.opening client }
+    requires announced { own client.me.0.client engine.old.me.0.history + 1 ≤ client.me.0.announced }
+    requires fits { FitsAfter J.opening engine.old.me.0.history (A.event act.now) (A.answer reply.now) }
+    ensures engine { IsEngineSeat J.table J.opening engine.new }
+    ensures dealt { engine.new.me.0.dealt ≡ engine.old.me.0.dealt }
+    ensures history { engine.new.me.0.history
+        ≡ engine.old.me.0.history ++ entry client.me.0.client (A.event act.now) (A.answer reply.now) ∷ [] }
+    ensures client { IsClientSeat J.table J.opening result.0 }
+    ensures seen { (result.0.me.0.client ≡ client.me.0.client) × (result.0.me.0.announced ≡ client.me.0.announced)
+        × (result.0.me.0.seen ≡ engine.new.me.0.history) × LegalFrom J.opening result.0.me.0.seen }
+    ensures count { result.1 ≡ (length engine.old.me.0.history + 1) % 2 ^ 64 }
+{
+    words.join_seat::<Meets>(engine, client);
+    let count = record::<Brand, A>(words, engine, act, reply);
+    let mut client = words.split_seat::<Meets>(engine);
+    learn::<J>(words, &mut client);
+    (client, count)
+}
+
+/// The engine's seat deals a further client's.
+pub fn deal_one<J: Naming>(words: &Words, engine: &mut Place) -> Place
+    requires words { (words.now.table_id ≡ J.table) × (0 < J.table.words) }
+    requires engine { (engine.old.table_id ≡ J.table) × (engine.old.me ≡ (keeper J.opening engine.old.me.0.dealt [], [])) }
+    ensures engine { (engine.new.table_id ≡ J.table) × (engine.new.me ≡ (keeper J.opening (engine.old.me.0.dealt + 1) [], [])) }
+    ensures client { (result.table_id ≡ J.table) × (result.me ≡ (guest J.opening engine.old.me.0.dealt 0 [] [], [])) }
+{
+    words.split_seat::<Deals>(engine)
+}
+
+/// The engine's seat, while nothing was called, leaves a first one for flushers.
+pub fn hire_first<J: Naming>(words: &Words, engine: &mut Place) -> Place
+    requires words { (words.now.table_id ≡ J.table) × (0 < J.table.words) }
+    requires engine { (engine.old.table_id ≡ J.table) × (engine.old.me ≡ (keeper J.opening engine.old.me.0.dealt [], [])) }
+    ensures engine { (engine.new.table_id ≡ engine.old.table_id) × (engine.new.me ≡ engine.old.me) }
+    ensures flusher { (result.table_id ≡ J.table) × (result.me ≡ (watcher J.opening [] [], [])) }
+{
+    words.split_seat::<Hires>(engine)
+}
+
+/// A flusher's seat that has seen nothing leaves another one.
+pub fn hire<J: Naming>(words: &Words, spare: &mut Place) -> Place
+    requires words { (words.now.table_id ≡ J.table) × (0 < J.table.words) }
+    requires spare { (spare.old.table_id ≡ J.table) × (spare.old.me ≡ (watcher J.opening [] [], [])) }
+    ensures spare { (spare.new.table_id ≡ spare.old.table_id) × (spare.new.me ≡ spare.old.me) }
+    ensures flusher { (result.table_id ≡ J.table) × (result.me ≡ (watcher J.opening [] [], [])) }
+{
+    words.split_seat::<Hires>(spare)
+}

@@ -1,0 +1,160 @@
+//! How an engine ends: with all its clients, or not at all; and each call of a client once.
+ghost use Rattle.std.specs.Prelude.{◌≡◌, [], ◌∷◌, IfSome, length};
+
+use crate::asked::{SMALL, answers, is, name_of, new_room};
+use crate::crew::{end, two_of};
+use engine::{Client, CloseFault, Engine, Naming, Room};
+use pathkey::{Errno, Path};
+use samples::{Ask, Told};
+use std::alloc::Global;
+use std::marker::Brand;
+use std::sync::Wait;
+use std::test::Fail;
+
+/// Keeps the live tree, or drops or restores a snapshot; why not, if it does not.
+#[derive(Clone, Copy)]
+enum Snap {
+    Keep,
+    Drop,
+    Restore,
+}
+
+/// Why a call on the snapshot of a name is refused; none where it is done.
+fn fault_of<J: Naming, R: Wait>(
+    rt: &R,
+    alloc: Global,
+    client: &mut Client<J>,
+    snap: Snap,
+    text: &str,
+) -> Option<Errno>
+    ensures { client.new.client ≡ client.old.client }
+{
+    let Some(name) = name_of(alloc, text) else {
+        return Some(Errno::ENOMEM);
+    };
+    match snap {
+        Snap::Keep => client.snapshot(rt, alloc, &name).err(),
+        Snap::Drop => client.drop_snapshot(rt, &name).err(),
+        Snap::Restore => client.restore(rt, &name).err(),
+    }
+}
+
+/// What the snapshot of a name answers to a stat; the fault where there is none.
+fn stat_in<J: Naming, R: Wait>(
+    rt: &R,
+    alloc: Global,
+    client: &mut Client<J>,
+    text: &str,
+    path: &Path,
+    told: Told<'_>,
+) -> Result<bool, Errno>
+    ensures { client.new.client ≡ client.old.client }
+{
+    let Some(name) = name_of(alloc, text) else {
+        return Err(Errno::ENOMEM);
+    };
+    match client.frozen(rt, &name) {
+        Ok(tree) => Ok(is(told, &tree.stat(alloc, path))),
+        Err(fault) => Err(fault),
+    }
+}
+
+/// Each call of a client once; how many of them were recorded.
+fn each_call<J: Naming, R: Wait>(rt: &R, alloc: Global, client: &mut Client<J>) -> Option<u64>
+    ensures { client.new.client ≡ client.old.client }
+{
+    let path = Path::parse(alloc, b"/a".as_slice()).ok()?;
+    let made = answers(rt, alloc, client, Ask::Mkdir("/a"), Told::Done);
+    let kept = fault_of(rt, alloc, client, Snap::Keep, "s");
+    let again = fault_of(rt, alloc, client, Snap::Keep, "s");
+    let gone = answers(rt, alloc, client, Ask::Rmdir("/a"), Told::Done);
+    let past = stat_in(rt, alloc, client, "s", &path, Told::Dir);
+    let none = stat_in(rt, alloc, client, "t", &path, Told::Dir);
+    let back = fault_of(rt, alloc, client, Snap::Restore, "s");
+    let there = answers(rt, alloc, client, Ask::Stat("/a"), Told::Dir);
+    let dropped = fault_of(rt, alloc, client, Snap::Drop, "s");
+    let lost = fault_of(rt, alloc, client, Snap::Drop, "s");
+    let is_right = made
+        && kept.is_none()
+        && again == Some(Errno::EEXIST)
+        && gone
+        && past == Ok(true)
+        && none == Err(Errno::ENOENT)
+        && back.is_none()
+        && there
+        && dropped.is_none()
+        && lost == Some(Errno::ENOENT);
+    is_right.then_some(client.made())
+}
+
+/// Each call of one of two clients, once; then the engine ends.
+fn in_room<J: Naming, R: Wait>(rt: &R, alloc: Global, room: Room) -> Option<u64>
+    requires { (room.0 ≡ J.table) × (room.1 ≡ J.opening) × (J.clients ≡ 2) }
+{
+    let (engine, clients) = Engine::<J>::open(alloc, room, 2).ok()?;
+    let (mut one, other) = two_of(clients)?;
+    let made = each_call(rt, alloc, &mut one)?;
+    let report = end(rt, alloc, engine, one, other)?;
+    (report.calls == made).then_some(made)
+}
+
+/// An engine over a new volume.
+fn run<R: Wait>(rt: &R, alloc: Global, room: Room) -> Option<u64> {
+    in_room::<Brand, R>(rt, alloc, room)
+}
+
+#[test]
+fn each_call_of_a_client(rt: HostRuntime) -> Result<(), Fail> {
+    let Some(room) = new_room(rt.alloc(), SMALL) else {
+        panic!(rt; "memory");
+    };
+    let made = run(&rt, rt.alloc(), room);
+    assert!(rt; made == Some(8));
+    Ok(())
+}
+
+/// Ends an engine of two clients with one of them, which fails, and then with both.
+fn without_one<J: Naming, R: Wait>(rt: &R, alloc: Global, room: Room) -> Option<bool>
+    requires { (room.0 ≡ J.table) × (room.1 ≡ J.opening) × (J.clients ≡ 2) }
+{
+    let (engine, clients) = Engine::<J>::open(alloc, room, 2).ok()?;
+    let (one, other) = two_of(clients)?;
+    let Err(CloseFault::Missing(engine, back)) = engine.close(rt, alone(alloc, one)?) else {
+        return None;
+    };
+    let one = only(back)?;
+    let report = end(rt, alloc, engine, one, other)?;
+    Some(report.calls == 0)
+}
+
+/// A list of one client.
+fn alone<J: Naming>(alloc: Global, one: Client<J>) -> Option<Vec<Client<J>>>
+    ensures { IfSome result (λ v. v.items ≡ one ∷ []) }
+{
+    let mut clients = Vec::new(alloc);
+    clients.push(one).ok()?;
+    Some(clients)
+}
+
+/// The client of a list of one.
+fn only<J: Naming>(mut clients: Vec<Client<J>>) -> Option<Client<J>>
+    requires { length clients.items ≡ 1 }
+    ensures { IfSome result (λ c. clients.items ≡ c ∷ []) }
+{
+    clients.pop()
+}
+
+/// An engine over a new volume.
+fn run_without_one<R: Wait>(rt: &R, alloc: Global, room: Room) -> Option<bool> {
+    without_one::<Brand, R>(rt, alloc, room)
+}
+
+#[test]
+fn no_end_without_a_client(rt: HostRuntime) -> Result<(), Fail> {
+    let Some(room) = new_room(rt.alloc(), SMALL) else {
+        panic!(rt; "memory");
+    };
+    let answer = run_without_one(&rt, rt.alloc(), room);
+    assert!(rt; answer == Some(true));
+    Ok(())
+}

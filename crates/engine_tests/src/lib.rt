@@ -1,0 +1,14 @@
+//! Tests of engines: threads with a client each and flushers beside them, how an engine ends, and a long run over names that all
+//! clients share.
+#![tactic(auto)]
+
+#[cfg(test)]
+mod asked;
+#[cfg(test)]
+mod crew;
+#[cfg(test)]
+mod ends;
+#[cfg(test)]
+mod meeting;
+#[cfg(test)]
+mod rows;

@@ -1,0 +1,113 @@
+//! Two clients that wait for one another's file: threads really share the volume.
+ghost use Rattle.std.specs.Prelude.{◌≡◌};
+
+use crate::asked::{SMALL, answers, is, new_room};
+use crate::crew::{end, two_of};
+use engine::{Client, Engine, Naming, Room};
+use pathkey::Path;
+use samples::{Ask, Told};
+use std::alloc::Global;
+use std::marker::Brand;
+use std::sync::Wait;
+use std::test::Fail;
+use std::thread::{Threads, join};
+use volume::Frozen;
+
+/// How often a client looks for the other's file.
+const LOOKS: u32 = 1_000_000;
+
+/// Asks for a file until it is found.
+fn finds<J: Naming, R: Wait>(rt: &R, alloc: Global, client: &mut Client<J>, text: &str) -> bool
+    ensures { client.new.client ≡ client.old.client }
+{
+    for _ in 0..LOOKS {
+        if answers(rt, alloc, client, Ask::Stat(text), Told::File(0)) {
+            return true;
+        }
+    }
+    false
+}
+
+/// Whether the file stands in a tree that stands still.
+fn has_file(alloc: Global, tree: &Frozen, text: &str) -> bool {
+    match Path::parse(alloc, text.as_bytes()) {
+        Ok(path) => is(Told::File(0), &tree.stat(alloc, &path)),
+        Err(_) => false,
+    }
+}
+
+/// Whether both files stand in the tree that the client takes.
+fn freezes_both<J: Naming, R: Wait>(rt: &R, alloc: Global, client: &mut Client<J>) -> bool
+    ensures { client.new.client ≡ client.old.client }
+{
+    match client.freeze(rt) {
+        Ok(tree) => has_file(alloc, &tree, "/w1") && has_file(alloc, &tree, "/w2"),
+        Err(_) => false,
+    }
+}
+
+/// Makes a file, waits for the other's, and then looks at both in a tree that stands still.
+fn meet<J: Naming, R: Wait>(
+    rt: &R,
+    alloc: Global,
+    mut client: Client<J>,
+    mine: &str,
+    theirs: &str,
+) -> (Client<J>, bool)
+    ensures { result.0.client ≡ client.client }
+{
+    let made = answers(rt, alloc, &mut client, Ask::Create(mine), Told::Done);
+    let found = finds(rt, alloc, &mut client, theirs);
+    let both = freezes_both(rt, alloc, &mut client);
+    (client, made && found && both)
+}
+
+/// Two clients meet, each in a thread of its own.
+fn both_meet<J: Naming + Send + Sync, R: Threads + Wait + Sync>(
+    rt: &R,
+    alloc: Global,
+    one: Client<J>,
+    other: Client<J>,
+) -> ((Client<J>, bool), (Client<J>, bool))
+    ensures { (result.0.0.client ≡ one.client) × (result.1.0.client ≡ other.client) }
+{
+    join(
+        rt,
+        move || -> (Client<J>, bool)
+            ensures { result.0.client ≡ one.client }
+        { meet(rt, alloc, one, "/w1", "/w2") },
+        move || -> (Client<J>, bool)
+            ensures { result.0.client ≡ other.client }
+        { meet(rt, alloc, other, "/w2", "/w1") },
+    )
+}
+
+/// Whether two clients of an engine meet.
+fn in_room<J: Naming + Send + Sync, R: Threads + Wait + Sync>(
+    rt: &R,
+    alloc: Global,
+    room: Room,
+) -> Option<bool>
+    requires { (room.0 ≡ J.table) × (room.1 ≡ J.opening) × (J.clients ≡ 2) }
+{
+    let (engine, clients) = Engine::<J>::open(alloc, room, 2).ok()?;
+    let (one, other) = two_of(clients)?;
+    let ((one, one_right), (other, other_right)) = both_meet(rt, alloc, one, other);
+    let report = end(rt, alloc, engine, one, other)?;
+    Some(one_right && other_right && has_file(alloc, &report.tree, "/w1"))
+}
+
+/// An engine over a new volume.
+fn run<R: Threads + Wait + Sync>(rt: &R, alloc: Global, room: Room) -> Option<bool> {
+    in_room::<Brand, R>(rt, alloc, room)
+}
+
+#[test]
+fn clients_find_one_another(rt: HostRuntime) -> Result<(), Fail> {
+    let Some(room) = new_room(rt.alloc(), SMALL) else {
+        panic!(rt; "memory");
+    };
+    let answer = run(&rt, rt.alloc(), room);
+    assert!(rt; answer == Some(true));
+    Ok(())
+}

@@ -1,0 +1,145 @@
+//! Two clients and two flushers, each in a thread of its own.
+ghost use Rattle.std.specs.Prelude.{◌≡◌, IfSome};
+
+use crate::asked::{SMALL, answers, new_room};
+use crate::crew::{end, two_flushers, two_of};
+use engine::{Client, Engine, Flusher, Naming, Room};
+use samples::{Ask, Told};
+use std::alloc::Global;
+use std::marker::Brand;
+use std::sync::Wait;
+use std::test::Fail;
+use std::thread::{Threads, join};
+
+/// How many calls a client makes.
+const CALLS: u64 = 1000;
+
+/// The bytes that a client reads at the end.
+fn written(alloc: Global) -> Option<Vec<u8>> {
+    let mut bytes = Vec::new(alloc);
+    for k in 2..CALLS {
+        bytes.push((k % 256) as u8).ok()?;
+    }
+    Some(bytes)
+}
+
+/// Writes a byte for each call but the first and the last, each behind the one before.
+fn write_all<J: Naming, R: Wait>(rt: &R, alloc: Global, client: &mut Client<J>, text: &str) -> bool
+    ensures { client.new.client ≡ client.old.client }
+{
+    let mut is_right = true;
+    for k in 2..CALLS {
+        let byte = [(k % 256) as u8];
+        is_right &= answers(
+            rt,
+            alloc,
+            client,
+            Ask::Write(text, k - 2, &byte),
+            Told::Count(1),
+        );
+    }
+    is_right
+}
+
+/// A thousand calls on one file: it is made, written byte by byte, and read.
+fn thousand<J: Naming, R: Wait>(
+    rt: &R,
+    alloc: Global,
+    mut client: Client<J>,
+    text: &str,
+) -> (Client<J>, bool)
+    ensures { result.0.client ≡ client.client }
+{
+    let Some(bytes) = written(alloc) else {
+        return (client, false);
+    };
+    let made = answers(rt, alloc, &mut client, Ask::Create(text), Told::Done);
+    let wrote = write_all(rt, alloc, &mut client, text);
+    let read = answers(
+        rt,
+        alloc,
+        &mut client,
+        Ask::Read(text, 0, CALLS - 2),
+        Told::Data(bytes.as_slice()),
+    );
+    let made_all = client.made() == CALLS;
+    (client, made && wrote && read && made_all)
+}
+
+/// A thousand calls by each of two clients.
+fn thousands<J: Naming + Send + Sync, R: Threads + Wait + Sync>(
+    rt: &R,
+    alloc: Global,
+    one: Client<J>,
+    other: Client<J>,
+) -> ((Client<J>, bool), (Client<J>, bool))
+    ensures { (result.0.0.client ≡ one.client) × (result.1.0.client ≡ other.client) }
+{
+    join(
+        rt,
+        move || -> (Client<J>, bool)
+            ensures { result.0.client ≡ one.client }
+        { thousand(rt, alloc, one, "/c0") },
+        move || -> (Client<J>, bool)
+            ensures { result.0.client ≡ other.client }
+        { thousand(rt, alloc, other, "/c1") },
+    )
+}
+
+/// A thousand turns.
+fn flush<J: Naming, R: Wait>(rt: &R, alloc: Global, mut flusher: Flusher<J>) {
+    flusher.run_flusher(rt, alloc, 1000);
+}
+
+/// A thousand turns by each of two flushers.
+fn flush_both<J: Naming + Send + Sync, R: Threads + Wait + Sync>(
+    rt: &R,
+    alloc: Global,
+    one: Flusher<J>,
+    other: Flusher<J>,
+) {
+    join(
+        rt,
+        move || flush(rt, alloc, one),
+        move || flush(rt, alloc, other),
+    );
+}
+
+/// Two clients and two flushers at once. Whether each client was answered as the only one on its file, and how many calls there
+/// were in all.
+fn at_once<J: Naming + Send + Sync, R: Threads + Wait + Sync>(
+    rt: &R,
+    alloc: Global,
+    room: Room,
+) -> Option<(bool, u64)>
+    requires { (room.0 ≡ J.table) × (room.1 ≡ J.opening) × (J.clients ≡ 2) }
+{
+    let (mut engine, clients) = Engine::<J>::open(alloc, room, 2).ok()?;
+    let (one, other) = two_of(clients)?;
+    let (first, second) = two_flushers(&mut engine)?;
+    let (done, _) = join(
+        rt,
+        move || -> ((Client<J>, bool), (Client<J>, bool))
+            ensures { (result.0.0.client ≡ one.client) × (result.1.0.client ≡ other.client) }
+        { thousands(rt, alloc, one, other) },
+        move || flush_both(rt, alloc, first, second),
+    );
+    let ((one, one_right), (other, other_right)) = done;
+    let report = end(rt, alloc, engine, one, other)?;
+    Some((one_right && other_right, report.calls))
+}
+
+/// An engine over a new volume.
+fn run<R: Threads + Wait + Sync>(rt: &R, alloc: Global, room: Room) -> Option<(bool, u64)> {
+    at_once::<Brand, R>(rt, alloc, room)
+}
+
+#[test]
+fn two_clients_and_two_flushers(rt: HostRuntime) -> Result<(), Fail> {
+    let Some(room) = new_room(rt.alloc(), SMALL) else {
+        panic!(rt; "memory");
+    };
+    let answer = run(&rt, rt.alloc(), room);
+    assert!(rt; answer == Some((true, 2 * CALLS)));
+    Ok(())
+}

@@ -1,0 +1,62 @@
+-- A sorted part with a tail.
+use Rattle.std.proofs.Common.{Option, ◌≡◌, ℕ, zero, suc, ◌-◌, ◌<◌, ◌≤◌, refl, sym, ap, ◌∙◌, List, [], ◌∷◌, ◌++◌, length, take, drop, arith, subst, append_assoc, false, length-append}
+use Rattle.std.proofs.lemmas.Bool.{or_parts, or_from}
+use Rattle.message.proofs.SettledMeaning.{untouched_left, untouched_right}
+use Rattle.message.specs.declared.msg.Msg.{Msg}
+use Rattle.message.specs.declared.told.Told.{Told}
+use Rattle.message.specs.declared.told.Told.TheVariants.{Nothing, Value, Change}
+use Rattle.message.specs.Effects.{touches, any_touches, effects, Takes}
+use Rattle.message.specs.Told.{IsTold}
+use Rattle.message.proofs.Lists.{effects-append, any_touches-append, takes-append}
+use Rattle.message.proofs.Telling.{untouched}
+
+module _ {U V : Type 0} (means : U → Option V → Option V) where
+  -- a message put behind the tail
+  pub takes_end : (s t f h : List (Msg U V)) (m : Msg U V) → t ≡ s → h ≡ f ++ m ∷ [] → Takes means (s ++ f) (m ∷ []) (t ++ h)
+  takes_end s t f h m e g = subst (λ x. Takes means (s ++ f) (m ∷ []) x) (append_assoc s f (m ∷ []) ∙ ap (λ x. s ++ x) (sym g) ∙ ap (λ x. x ++ h) (sym e)) (takes-append means (s ++ f) (m ∷ []))
+
+  pub value_behind : (s f old : List (Msg U V)) (k : List ℕ) (o w v : Option V) → s ++ f ≡ old → w ≡ effects means s k o → v ≡ effects means f k w → v ≡ effects means old k o
+  value_behind s f old k o w v e g h = h ∙ ap (λ x. effects means f k x) g ∙ sym (effects-append means s f k o) ∙ ap (λ xs. effects means xs k o) e
+
+  -- a tail that does not touch the key changes nothing that is told
+  pub told_before : (s f : List (Msg U V)) (k : List ℕ) (t : Told V) → any_touches f k ≡ false → IsTold means s k t → IsTold means (s ++ f) k t
+  told_before s f k Nothing h g = (any_touches-append s f k g.0 h, λ o. effects-append means s f k o ∙ untouched means f k (effects means s k o) h ∙ g.1 o)
+  told_before s f k (Value v) h g = λ o. effects-append means s f k o ∙ untouched means f k (effects means s k o) h ∙ g o
+  told_before s f k Change h g = tt
+
+-- so many of the first part, and then of the second
+pub drop_parts : {X : Type 0} (n k : ℕ) (xs ys : List X) → k ≤ n → k ≤ length xs → (k < n → length xs ≤ k) → drop k xs ++ drop (n - k) ys ≡ drop n (xs ++ ys)
+drop_parts n (suc k) [] ys a b c = absurd (omega (arith, b))
+drop_parts zero zero xs ys a b c = refl
+drop_parts (suc n) zero [] ys a b c = (let all : suc n - 0 ≡ suc n = omega arith in ap (λ i. drop i ys) all)
+drop_parts (suc n) zero (x ∷ xs) ys a b c = absurd (omega (arith, c (omega arith)))
+drop_parts zero (suc k) (x ∷ xs) ys a b c = absurd (omega (arith, a))
+drop_parts (suc n) (suc k) (x ∷ xs) ys a b c = (let same : suc n - suc k ≡ n - k = omega arith in ap (λ i. drop k xs ++ drop i ys) same ∙ drop_parts n k xs ys (omega (arith, a)) (omega (arith, b)) (λ h. omega (arith, c (omega (arith, h)))))
+
+pub take_parts : {X : Type 0} (n k : ℕ) (xs ys : List X) → k ≤ n → k ≤ length xs → (k < n → length xs ≤ k) → take k xs ++ take (n - k) ys ≡ take n (xs ++ ys)
+take_parts n (suc k) [] ys a b c = absurd (omega (arith, b))
+take_parts zero zero xs ys a b c = refl
+take_parts (suc n) zero [] ys a b c = (let all : suc n - 0 ≡ suc n = omega arith in ap (λ i. take i ys) all)
+take_parts (suc n) zero (x ∷ xs) ys a b c = absurd (omega (arith, c (omega arith)))
+take_parts zero (suc k) (x ∷ xs) ys a b c = absurd (omega (arith, a))
+take_parts (suc n) (suc k) (x ∷ xs) ys a b c = (let same : suc n - suc k ≡ n - k = omega arith in ap (λ t. x ∷ t) (ap (λ i. take k xs ++ take i ys) same ∙ take_parts n k xs ys (omega (arith, a)) (omega (arith, b)) (λ h. omega (arith, c (omega (arith, h))))))
+
+pub take_at_most : {X : Type 0} (n k : ℕ) (xs : List X) → k ≤ n → k ≤ length xs → (k < n → length xs ≤ k) → take n xs ≡ take k xs
+take_at_most n (suc k) [] a b c = absurd (omega (arith, b))
+take_at_most zero zero xs a b c = refl
+take_at_most (suc n) zero [] a b c = refl
+take_at_most (suc n) zero (x ∷ xs) a b c = absurd (omega (arith, c (omega arith)))
+take_at_most zero (suc k) (x ∷ xs) a b c = absurd (omega (arith, a))
+take_at_most (suc n) (suc k) (x ∷ xs) a b c = ap (λ t. x ∷ t) (take_at_most n k xs (omega (arith, a)) (omega (arith, b)) (λ h. omega (arith, c (omega (arith, h)))))
+
+module _ {U V : Type 0} (means : U → Option V → Option V) where
+  -- the first message of the tail goes into the part before it
+  pub takes_into : (old s t rest f : List (Msg U V)) (m : Msg U V) → Takes means old [] (s ++ f) → f ≡ m ∷ rest → Takes means s (m ∷ []) t → Takes means old [] (t ++ rest)
+  takes_into old s t rest f m a e b = (let c : Takes means old [] (s ++ m ∷ rest) = subst (λ x. Takes means old [] (s ++ x)) e a in record {
+    meaning = λ k v. effects-append means t rest k v ∙ ap (λ w. effects means rest k w) (b.meaning k v) ∙ sym (effects-append means s (m ∷ rest) k v) ∙ c.meaning k v;
+    bound = omega (arith, c.bound, b.bound, length-append s (m ∷ rest), length-append t rest);
+    touched = λ k h g. (let all = c.touched k h g in
+        let right = untouched_right s (m ∷ rest) k all in
+        let p = or_parts (touches m k) (any_touches rest k) right in
+        any_touches-append t rest k (b.touched k (untouched_left s (m ∷ rest) k all) (or_from (touches m k) false p.0 refl)) p.1);
+  })

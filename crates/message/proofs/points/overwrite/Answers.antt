@@ -1,0 +1,15 @@
+use Rattle.std.proofs.Common.{sym, ◌∙◌, refl, Some, None}
+use Rattle.message.proofs.Writing.{counted_insert, keyed_inserted}
+use Rattle.message.proofs.points.overwrite.Goals as goal
+
+pub returns-in-Ok-None-clause-counted : goal.returns-in-Ok-None-clause-counted
+returns-in-Ok-None-clause-counted g c = counted_insert c.args.key c.args.run c.args.points.now.entries c.insert.new.self.entries None 0 c.insert.ensures.was_ordered c.in-Ok-None.ensures.entries (sym c.in-Ok-None.field-0-is ∙ c.in-Ok-None.ensures.old) refl
+
+pub returns-in-Ok-None-clause-keyed : goal.returns-in-Ok-None-clause-keyed
+returns-in-Ok-None-clause-keyed g c h a = keyed_inserted c.args.key c.args.run c.args.points.now.entries c.insert.new.self.entries c.in-Ok-None.ensures.entries h a
+
+pub returns-in-Ok-Some-clause-counted : goal.returns-in-Ok-Some-clause-counted
+returns-in-Ok-Some-clause-counted g c = counted_insert c.args.key c.args.run c.args.points.now.entries c.insert.new.self.entries (Some c.in-Ok-Some.old) c.len.result c.insert.ensures.was_ordered c.in-Ok-Some.ensures.entries (sym c.in-Ok-Some.field-0-is ∙ c.in-Ok-Some.ensures.old) c.len.ensures
+
+pub returns-in-Ok-Some-clause-keyed : goal.returns-in-Ok-Some-clause-keyed
+returns-in-Ok-Some-clause-keyed g c h a = keyed_inserted c.args.key c.args.run c.args.points.now.entries c.insert.new.self.entries c.in-Ok-Some.ensures.entries h a

@@ -1,0 +1,9 @@
+use Rattle.std.specs.Option.{option_copied}
+use Rattle.message.proofs.StretchEnds.{range_delete_end, put_or_edit_end}
+use Rattle.message.proofs.stretch.next_end.Goals as goal
+
+pub returns-in-DelRange : goal.returns-in-DelRange
+returns-in-DelRange g c = range_delete_end c.args.from.now c.in-DelRange.range c.args.msg.now (option_copied c.range_end.result) c.in-DelRange.is c.range_end.ensures
+
+pub returns-in-Put : goal.returns-in-Put
+returns-in-Put g c = put_or_edit_end c.args.from.now c.in-Put.key c.args.msg.now (option_copied c.ahead_of.result) c.in-Put.is c.ahead_of.ensures

@@ -1,0 +1,259 @@
+//! A sorted list of messages, kept short: what a later message makes idle is taken away.
+ghost use Rattle.std.specs.Prelude.{true, ◌≡◌, ◌+◌, ◌^◌, ◌<◌, ◌≤◌, [], ◌∷◌, length, None, if◌then◌else◌, ◌++◌, take, IfSome, IfNone, IfOk, IfErr, OnOk, OnErr};
+ghost use Rattle.message.specs.declared.msg.Msg.TheVariants as msg;
+ghost use Rattle.message.specs.declared.told.Told.TheVariants as told;
+ghost use Rattle.message.specs.Effects.{effects, range_count, Takes};
+ghost use Rattle.message.specs.Oldests.{oldest_msgs, IsOldestKeyed};
+ghost use Rattle.message.specs.Stretches.{EndsAhead};
+ghost use Rattle.message.specs.Told.{IsTold};
+ghost use Rattle.pathkey.specs.Keys.{is_below};
+ghost use Rattle.std.specs.Option.{option_copied, option_map};
+
+use crate::ends::is_before_end;
+use crate::msg::Msg;
+use crate::run::Run;
+use crate::told::Told;
+use crate::update::{Changes, Update};
+use crate::{points, ranges};
+use pathkey::{Key, KeyRange, NoMemory};
+use std::alloc::Global;
+use std::collections::BTreeMap;
+use std::marker::Model;
+
+/// The most messages of a sorted list.
+pub(crate) const MOST: usize = 1 << 62;
+
+/// A sorted list of messages.
+///
+/// Contracts see the range-deletes by their low ends and then the point messages by their keys. A range-delete that comes
+/// in takes away each point message that it touches, so none in the list is newer than a point message inside it.
+#[derive(Drop)]
+pub struct Settled<U: Changes> {
+    ranges: BTreeMap<Key, Option<Key>>,
+    points: BTreeMap<Key, Run<U>>,
+    count: usize,
+}
+
+impl<U: Changes> Model for Settled<U> {
+    ghost use Rattle.std.specs.Prelude.{List};
+    ghost use Rattle.message.specs.declared.msg.Msg.{Msg};
+
+    ghost Value = { List (Msg U U.Value) };
+
+    ghost use Rattle.message.specs.Settled.{settled_msgs, IsSettled};
+
+    ghost view = { λ p. settled_msgs p.ranges.entries p.points.entries };
+
+    ghost invariant = { λ p. IsSettled p.ranges.entries p.points.entries p.count };
+}
+
+impl<U: Update> Settled<U> {
+    /// A list without messages. It takes no memory.
+    pub(crate) fn new(alloc: Global) -> Settled<U>
+        ensures { result ≡ [] }
+    {
+        Settled {
+            ranges: BTreeMap::new(alloc),
+            points: BTreeMap::new(alloc),
+            count: 0,
+        }
+    }
+
+    /// How many messages the list holds.
+    pub(crate) fn len(&self) -> usize
+        ensures len { result ≡ length self.now }
+        ensures small { result ≤ 2 ^ 62 }
+    {
+        self.ranges.len() + self.count
+    }
+
+    /// How many of the messages are range-deletes.
+    pub(crate) fn range_deletes(&self) -> usize
+        ensures { result ≡ range_count self.now }
+    {
+        self.ranges.len()
+    }
+
+    /// Lays a message that gives the key a value.
+    fn put(&mut self, key: Key, value: U::Value) -> Result<(), Msg<U>>
+        requires { length self.old < 2 ^ 62 }
+        ensures takes { OnOk result (Takes U.means self.old (msg.Put key value ∷ []) self.new) }
+        ensures unchanged { OnErr result (self.new ≡ self.old) }
+        ensures back { IfErr result (λ m. m ≡ msg.Put key value) }
+    {
+        match points::overwrite(&mut self.points, key, Run::Put(value)) {
+            Ok(gone) => {
+                self.count = self.count + 1 - gone;
+                Ok(())
+            }
+            Err((key, run)) => {
+                let Run::Put(value) = run else { unreachable!() };
+                Err(Msg::Put(key, value))
+            }
+        }
+    }
+
+    /// Lays a message that takes the key's value away.
+    fn del(&mut self, key: Key) -> Result<(), Msg<U>>
+        requires { length self.old < 2 ^ 62 }
+        ensures takes { OnOk result (Takes U.means self.old (msg.Del key ∷ []) self.new) }
+        ensures unchanged { OnErr result (self.new ≡ self.old) }
+        ensures back { IfErr result (λ m. m ≡ msg.Del key) }
+    {
+        match points::overwrite(&mut self.points, key, Run::Del) {
+            Ok(gone) => {
+                self.count = self.count + 1 - gone;
+                Ok(())
+            }
+            Err((key, _)) => Err(Msg::Del(key)),
+        }
+    }
+
+    /// Lays an update over the key's value.
+    fn edit(&mut self, alloc: Global, key: Key, update: U) -> Result<(), Msg<U>>
+        requires { length self.old < 2 ^ 62 }
+        ensures takes { OnOk result (Takes U.means self.old (msg.Edit key update ∷ []) self.new) }
+        ensures unchanged { OnErr result (self.new ≡ self.old) }
+        ensures back { IfErr result (λ m. m ≡ msg.Edit key update) }
+    {
+        match points::edit(&mut self.points, alloc, key, update) {
+            Ok((before, after)) => {
+                self.count = self.count - before + after;
+                Ok(())
+            }
+            Err((key, update)) => Err(Msg::Edit(key, update)),
+        }
+    }
+
+    /// Lays a range-delete: the older point messages and range-deletes inside it go.
+    fn del_range(&mut self, alloc: Global, range: KeyRange) -> Result<(), Msg<U>>
+        requires { length self.old < 2 ^ 62 }
+        ensures takes { OnOk result (Takes U.means self.old (msg.DelRange range ∷ []) self.new) }
+        ensures unchanged { OnErr result (self.new ≡ self.old) }
+        ensures back { IfErr result (λ m. m ≡ msg.DelRange range) }
+    {
+        if !is_before_end(&range.lo, range.hi.as_ref()) {
+            return Ok(());
+        }
+        let Ok(()) = ranges::lay(&mut self.ranges, alloc, &range) else {
+            return Err(Msg::DelRange(range));
+        };
+        self.count = points::clear(&mut self.points, &range, self.count);
+        Ok(())
+    }
+
+    /// Adds a message, newer than all others. It comes back where memory is refused, or where it is a range-delete and an
+    /// older one and it reach into each other; the list then is as it was.
+    pub(crate) fn push(&mut self, alloc: Global, msg: Msg<U>) -> Result<(), Msg<U>>
+        ensures takes { OnOk result (Takes U.means self.old (msg ∷ []) self.new) }
+        ensures unchanged { OnErr result (self.new ≡ self.old) }
+        ensures back { IfErr result (λ m. m ≡ msg) }
+    {
+        if self.len() >= MOST {
+            return Err(msg);
+        }
+        match msg {
+            Msg::Put(key, value) => self.put(key, value),
+            Msg::Del(key) => self.del(key),
+            Msg::DelRange(range) => self.del_range(alloc, range),
+            Msg::Edit(key, update) => self.edit(alloc, key, update),
+        }
+    }
+
+    /// Takes out what stands first: a range-delete, or all messages of one key. It takes no memory.
+    pub(crate) fn pop(&mut self) -> Option<Oldest<U>>
+        ensures some { IfSome result (λ oldest. (self.old ≡ oldest_msgs oldest ++ self.new) × IsOldestKeyed oldest) }
+        ensures none { IfNone result ((self.old ≡ []) × (self.new ≡ [])) }
+    {
+        if let Some((lo, hi)) = self.ranges.pop_first() {
+            return Some(Oldest::Range(KeyRange { lo, hi }));
+        }
+        let (key, run) = self.points.pop_first()?;
+        self.count -= run.len();
+        Some(Oldest::Run(key, run))
+    }
+
+    /// Copies of the messages, put behind those in `front`, until it has so many or more.
+    pub(crate) fn copy_into(
+        &self,
+        alloc: Global,
+        count: usize,
+        front: &mut Vec<Msg<U>>,
+    ) -> Result<(), NoMemory>
+        ensures { OnOk result (take count front.new.items ≡ take count (front.old.items ++ self.now)) }
+    {
+        ranges::copy_into(&self.ranges, alloc, count, front)?;
+        points::copy_into(&self.points, alloc, count, front)?;
+        Ok(())
+    }
+
+    /// What the list says of the value at the key. It copies nothing but a value that it settles.
+    pub(crate) fn told(&self, alloc: Global, key: &Key) -> Result<Told<U::Value>, NoMemory>
+        ensures { IfOk result (IsTold U.means self.now key.now) }
+    {
+        let is_covered = ranges::is_covered(&self.ranges, key);
+        match points::run_at(&self.points, key) {
+            Some(run) => run.told(alloc, is_covered),
+            None => Ok(untouched(is_covered)),
+        }
+    }
+
+    /// Where the stretch of keys that begins at `from` ends, at `end` or before it; none where a message is for `from` alone.
+    pub(crate) fn stretch_end<'a>(
+        &'a self,
+        from: &Key,
+        end: Option<&'a Key>,
+    ) -> Option<Option<&'a Key>>
+        requires { is_below from.now (option_copied end) ≡ true }
+        ensures { EndsAhead self.now from.now (option_copied end.entry) (option_map option_copied result) }
+    {
+        if points::run_at(&self.points, from).is_some() {
+            return None;
+        }
+        let stop = ranges::stretch_end::<U>(&self.ranges, from, end);
+        Some(points::stretch_end(&self.points, from, stop))
+    }
+
+    /// The value at the key after the messages, where `old` was there.
+    pub(crate) fn value_after(
+        &self,
+        alloc: Global,
+        key: &Key,
+        old: Option<U::Value>,
+    ) -> Result<Option<U::Value>, NoMemory>
+        ensures { IfOk result (λ v. v ≡ effects U.means self.now key.now old) }
+    {
+        let below = unless(ranges::is_covered(&self.ranges, key), old);
+        match points::run_at(&self.points, key) {
+            Some(run) => run.apply(alloc, below),
+            None => Ok(below),
+        }
+    }
+}
+
+/// What stands first in a sorted list.
+#[derive(Drop)]
+pub(crate) enum Oldest<U: Changes> {
+    /// A range-delete.
+    Range(KeyRange),
+    /// The messages of one key.
+    Run(Key, Run<U>),
+}
+
+/// The value, unless it is gone.
+fn unless<V: Drop>(is_gone: bool, old: Option<V>) -> Option<V>
+    ensures { result ≡ (if is_gone then None else old) }
+{
+    if is_gone { None } else { old }
+}
+
+/// What is told of a key that no point message touches.
+fn untouched<V>(is_covered: bool) -> Told<V>
+    ensures { result ≡ (if is_covered then told.Value None else told.Nothing) }
+{
+    if is_covered {
+        Told::Value(None)
+    } else {
+        Told::Nothing
+    }
+}

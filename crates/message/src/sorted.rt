@@ -1,0 +1,230 @@
+//! A sorted list from whose front messages leave one by one.
+ghost use Rattle.std.specs.Prelude.{◌≡◌, ◌+◌, ◌-◌, ◌^◌, ◌<◌, ◌≤◌, ◌++◌, [], ◌∷◌, true, false, length, take, drop, IfOk, IfErr, IfNone, OnOk, OnErr};
+ghost use Rattle.std.specs.Option.{option_copied, option_map, option_to_list};
+ghost use Rattle.std.specs.Vec.{vec_len, vec_capacity};
+ghost use Rattle.message.specs.Effects.{effects, any_touches, Takes};
+ghost use Rattle.message.specs.Stretches.{EndsAhead};
+ghost use Rattle.message.specs.Told.{IsTold};
+ghost use Rattle.pathkey.specs.Keys.{is_below};
+ghost use Rattle.message.specs.Oldests.{oldest_msgs, IsOldestKeyed};
+ghost use Rattle.message.specs.Runs.{rest_msgs, IsRestKeyed};
+
+use crate::ends::earlier;
+use crate::msg::Msg;
+use crate::run::Run;
+use crate::settled::{MOST, Oldest, Settled};
+use crate::stretch::ahead_of;
+use crate::told::Told;
+use crate::update::{Changes, Update};
+use pathkey::{Key, NoMemory};
+use std::alloc::Global;
+use std::marker::Model;
+
+/// A sorted list of messages, and before it what is left of the messages of one key, the first of which have left.
+#[derive(Drop)]
+pub struct Sorted<U: Changes> {
+    front: Option<(Key, Run<U>)>,
+    rest: Settled<U>,
+}
+
+impl<U: Changes> Model for Sorted<U> {
+    ghost use Rattle.std.specs.Prelude.{List, ◌++◌, ◌≤◌, ◌^◌, length};
+    ghost use Rattle.message.specs.declared.msg.Msg.{Msg};
+
+    ghost Value = { List (Msg U U.Value) };
+
+    ghost use Rattle.message.specs.Runs.{rest_msgs, IsRestKeyed};
+
+    ghost view = { λ p. rest_msgs p.front ++ p.rest };
+
+    ghost invariant = { λ p. IsRestKeyed p.front × (length (rest_msgs p.front ++ p.rest) ≤ 2 ^ 62) };
+}
+
+impl<U: Update> Sorted<U> {
+    /// A list without messages. It takes no memory.
+    pub(crate) fn new(alloc: Global) -> Sorted<U>
+        ensures { result ≡ [] }
+    {
+        Sorted {
+            front: None,
+            rest: Settled::new(alloc),
+        }
+    }
+
+    /// How many messages the list holds.
+    pub(crate) fn len(&self) -> usize
+        ensures len { result ≡ length self.now }
+        ensures small { result ≤ 2 ^ 62 }
+    {
+        match &self.front {
+            None => self.rest.len(),
+            Some((_, run)) => run.len() + self.rest.len(),
+        }
+    }
+
+    /// Adds a message, newer than all others. It comes back where memory is refused, or where it is a range-delete and an
+    /// older one and it reach into each other; the list then is as it was.
+    pub(crate) fn push(&mut self, alloc: Global, msg: Msg<U>) -> Result<(), Msg<U>>
+        ensures takes { OnOk result (Takes U.means self.old (msg ∷ []) self.new) }
+        ensures unchanged { OnErr result (self.new ≡ self.old) }
+        ensures back { IfErr result (λ m. m ≡ msg) }
+    {
+        if self.len() >= MOST {
+            return Err(msg);
+        }
+        self.rest.push(alloc, msg)
+    }
+
+    /// The value at the key after the messages, where `old` was there.
+    pub(crate) fn value_after(
+        &self,
+        alloc: Global,
+        key: &Key,
+        old: Option<U::Value>,
+    ) -> Result<Option<U::Value>, NoMemory>
+        ensures { IfOk result (λ v. v ≡ effects U.means self.now key.now old) }
+    {
+        let value = after(&self.front, alloc, key, old)?;
+        self.rest.value_after(alloc, key, value)
+    }
+
+    /// What the list says of the value at the key. It copies nothing but a value that it settles.
+    pub(crate) fn told(&self, alloc: Global, key: &Key) -> Result<Told<U::Value>, NoMemory>
+        ensures { IfOk result (IsTold U.means self.now key.now) }
+    {
+        let told = self.rest.told(alloc, key)?;
+        if is_at(&self.front, key) {
+            return Ok(told.or_change());
+        }
+        Ok(told)
+    }
+
+    /// Where the stretch of keys that begins at `from` ends, at `end` or before it; none where a message is for `from` alone.
+    pub(crate) fn stretch_end<'a>(
+        &'a self,
+        from: &Key,
+        end: Option<&'a Key>,
+    ) -> Option<Option<&'a Key>>
+        requires { is_below from.now (option_copied end) ≡ true }
+        ensures { EndsAhead self.now from.now (option_copied end.entry) (option_map option_copied result) }
+    {
+        match &self.front {
+            None => self.rest.stretch_end(from, end),
+            Some((key, _)) => {
+                if key == from {
+                    return None;
+                }
+                self.rest
+                    .stretch_end(from, earlier(end, ahead_of(from, Some(key))))
+            }
+        }
+    }
+
+    /// Takes the `count` oldest messages away.
+    pub(crate) fn drop_front(&mut self, count: usize)
+        requires { count ≤ length self.old }
+        ensures { self.new ≡ drop count self.old }
+    {
+        for _ in 0..count {
+            self.pop();
+        }
+    }
+
+    /// Moves the `count` oldest messages into reserved room behind those in `taken`.
+    pub(crate) fn move_front(&mut self, count: usize, taken: &mut Vec<Msg<U>>)
+        requires within { count ≤ length self.old }
+        requires room { vec_len taken.old + count ≤ vec_capacity taken.old }
+        ensures left { self.new ≡ drop count self.old }
+        ensures moved { taken.new.items ≡ taken.old.items ++ take count self.old }
+        ensures capacity { vec_capacity taken.new ≡ vec_capacity taken.old }
+    {
+        for _ in 0..count {
+            let Some(msg) = self.pop() else {
+                unreachable!()
+            };
+            taken.push_reserved(msg);
+        }
+    }
+
+    /// Copies of the `count` oldest messages, or of all where there are fewer.
+    pub(crate) fn copy_front(&self, alloc: Global, count: usize) -> Result<Vec<Msg<U>>, NoMemory>
+        ensures { IfOk result (λ front. front.items ≡ take count self.now) }
+    {
+        let mut front = Vec::new(alloc);
+        copy_rest(&self.front, alloc, &mut front)?;
+        self.rest.copy_into(alloc, count, &mut front)?;
+        front.truncate(count);
+        Ok(front)
+    }
+
+    /// Takes the oldest message out. It takes no memory.
+    pub(crate) fn pop(&mut self) -> Option<Msg<U>>
+        ensures moved { self.old ≡ option_to_list result ++ self.new }
+        ensures end { IfNone result (self.old ≡ []) }
+    {
+        let first = match std::mem::replace(&mut self.front, None) {
+            Some((key, run)) => Oldest::Run(key, run),
+            None => self.rest.pop()?,
+        };
+        let (msg, front) = split(first);
+        self.front = front;
+        Some(msg)
+    }
+}
+
+/// The oldest message of what stood first, and the others of its key, if there are any.
+fn split<U: Update>(first: Oldest<U>) -> (Msg<U>, Option<(Key, Run<U>)>)
+    requires { IsOldestKeyed first }
+    ensures parts { oldest_msgs first ≡ result.0 ∷ rest_msgs result.1 }
+    ensures keyed { IsRestKeyed result.1 }
+{
+    match first {
+        Oldest::Range(range) => (Msg::DelRange(range), None),
+        Oldest::Run(key, run) => run.split(key),
+    }
+}
+
+/// Whether there are messages left of this key.
+fn is_at<U: Update>(front: &Option<(Key, Run<U>)>, key: &Key) -> bool
+    ensures { result ≡ false → any_touches (rest_msgs front.now) key.now ≡ false }
+{
+    match front {
+        None => false,
+        Some((at, _)) => at == key,
+    }
+}
+
+/// The value at the key after the messages that are left of one key.
+fn after<U: Update>(
+    front: &Option<(Key, Run<U>)>,
+    alloc: Global,
+    key: &Key,
+    old: Option<U::Value>,
+) -> Result<Option<U::Value>, NoMemory>
+    ensures { IfOk result (λ v. v ≡ effects U.means (rest_msgs front.now) key.now old) }
+{
+    match front {
+        None => Ok(old),
+        Some((at, run)) => {
+            if at == key {
+                run.apply(alloc, old)
+            } else {
+                Ok(old)
+            }
+        }
+    }
+}
+
+/// Copies of the messages that are left of one key, put behind those in `to`.
+fn copy_rest<U: Update>(
+    front: &Option<(Key, Run<U>)>,
+    alloc: Global,
+    to: &mut Vec<Msg<U>>,
+) -> Result<(), NoMemory>
+    ensures { OnOk result (to.new.items ≡ to.old.items ++ rest_msgs front.now) }
+{
+    match front {
+        None => Ok(()),
+        Some((key, run)) => run.copy_into(alloc, key, to),
+    }
+}

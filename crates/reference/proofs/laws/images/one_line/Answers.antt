@@ -1,0 +1,9 @@
+use Rattle.reference.proofs.LinesCut.{beginning_law}
+use Rattle.reference.proofs.LinesRead.{lines_injective}
+use Rattle.reference.proofs.laws.images.one_line.Goals as goal
+
+pub returns-clause-known : goal.returns-clause-known
+returns-clause-known c = lines_injective
+
+pub returns-clause-beginnings : goal.returns-clause-beginnings
+returns-clause-beginnings c = beginning_law

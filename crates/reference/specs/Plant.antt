@@ -1,0 +1,43 @@
+-- An entry that is put into a tree at once: an empty directory, or a file of so many zeros.
+use Rattle.std.specs.Prelude.{◌≡◌, nat_lt, List, [], ◌∷◌, ◌++◌, replicate, Bool, false, Option, Some, None, Result, Ok, Err}
+use Rattle.pathkey.specs.Enc.{enc}
+use Rattle.pathkey.specs.Names.{IsPath}
+use Rattle.pathkey.specs.Outcomes.{when}
+use Rattle.pathkey.specs.declared.errno.Errno.{Errno}
+use Rattle.pathkey.specs.declared.errno.Errno.TheVariants.{EFBIG}
+use Rattle.reference.specs.Calls.{faults_of_new, first_fault, greatest_file}
+use Rattle.reference.specs.Indexes.{Metadata, Blocks, IndexesMean, put_at}
+use Rattle.reference.specs.Tree.{Path, Tree, Dir, File, nothing, with_entry}
+use Rattle.reference.specs.declared.reply.Meta.{Meta}
+use Rattle.reference.specs.declared.reply.Meta.TheVariants.{Dir as DirMeta, File as FileMeta}
+
+-- what is put: an empty directory, or a file of so many zeros
+abbrev pub fresh_entry : Meta → Tree
+fresh_entry DirMeta = Dir nothing
+fresh_entry (FileMeta n) = File (replicate n 0)
+
+-- the file would be too long
+abbrev pub is_too_long : Meta → Bool
+is_too_long DirMeta = false
+is_too_long (FileMeta n) = nat_lt greatest_file n
+
+-- why an entry is not planted
+abbrev pub faults_of_plant : Tree → Path → Meta → List (Option Errno)
+faults_of_plant t p m = faults_of_new t p ++ when (is_too_long m) EFBIG ∷ []
+
+-- the tree after it, and the answer
+abbrev pub Planted : Type 0
+Planted = Tree × Result (Unit {0}) Errno
+
+-- the tree as it was with the fault, or else the other
+abbrev pub planted_unless : Tree → Tree → Option Errno → Planted
+planted_unless t t' None = (t', Ok tt)
+planted_unless t t' (Some e) = (t, Err e)
+
+-- the entry is put, where its parent is a directory, nothing stands there and it is not too long
+abbrev pub planted : Tree → Path → Meta → Planted
+planted t p m = planted_unless t (with_entry t p (fresh_entry m)) (first_fault (faults_of_plant t p m))
+
+-- where two indexes mean a tree, one message in the metadata plants an entry
+abbrev pub PlantLaw : Type 0
+PlantLaw = (t : Tree) (p : Path) (x : Meta) (m : Metadata) (d : Blocks) → IndexesMean t m d → IsPath p → first_fault (faults_of_plant t p x) ≡ None → IndexesMean (with_entry t p (fresh_entry x)) (put_at (enc p) x m) d

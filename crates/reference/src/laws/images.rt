@@ -1,0 +1,14 @@
+//! Laws of images, line by line.
+
+ghost use Rattle.reference.specs.ImageLines.{BeginningLaw, LinesLaw, OneLineLaw};
+
+/// Lines of which each may follow those before it make a directory tree, and are its image.
+pub fn lines()
+    ensures { LinesLaw }
+{}
+
+/// Lines are known from their text, and the first lines of an image, one or more, are an image.
+pub fn one_line()
+    ensures known { OneLineLaw }
+    ensures beginnings { BeginningLaw }
+{}

@@ -1,0 +1,63 @@
+//! Scripts over a client of an engine: the same lines, on a volume that others share.
+use crate::pace::Pace;
+use crate::request::Look;
+use crate::script::{ScriptFault, run_lines};
+use crate::session::{Session, look_into};
+use crate::tidy::Tidy;
+use engine::{Client, Naming};
+use pathkey::{Errno, SnapName};
+use reference::{Call, Reply};
+use std::alloc::Global;
+use std::io::{Read, Write};
+use std::sync::Wait;
+
+/// A client, and what lets it wait for the lock. The lock is held for one call, never while a line is read, looked into or
+/// answered.
+#[derive(Drop)]
+struct Served<'a, J: Naming, H: Wait> {
+    rt: &'a H,
+    client: &'a mut Client<J>,
+}
+
+/// Of a volume that others share no world can be named: what is promised of a client's calls is its history.
+impl<'a, J: Naming, H: Wait> Session for Served<'a, J, H> {
+    ghost means = { λ s w. ⊥ };
+
+    fn call(&mut self, alloc: Global, call: &Call) -> Reply {
+        self.client.call(self.rt, alloc, call)
+    }
+
+    fn snapshot(&mut self, alloc: Global, name: &SnapName) -> Result<(), Errno> {
+        self.client.snapshot(self.rt, alloc, name)
+    }
+
+    fn drop_snapshot(&mut self, name: &SnapName) -> Result<(), Errno> {
+        self.client.drop_snapshot(self.rt, name)
+    }
+
+    fn restore(&mut self, name: &SnapName) -> Result<(), Errno> {
+        self.client.restore(self.rt, name)
+    }
+
+    fn look_back(&mut self, alloc: Global, name: &SnapName, look: &Look) -> Reply {
+        match self.client.frozen(self.rt, name) {
+            Ok(frozen) => look_into(alloc, &frozen, look),
+            Err(fault) => Reply::Fault(fault),
+        }
+    }
+
+    fn keep_pace<P: Pace>(&mut self, _alloc: Global, _pace: &mut P) {}
+}
+
+/// Runs all the lines of the reader through a client of an engine, and writes a reply to each as it is done, as `run_script`
+/// does on a volume. Flushers tidy the trees.
+pub fn run_client<J: Naming, H: Wait, R: Read, W: Write>(
+    rt: &H,
+    alloc: Global,
+    client: &mut Client<J>,
+    reader: &mut R,
+    writer: &mut W,
+) -> Result<(), ScriptFault> {
+    let mut served = Served { rt, client };
+    run_lines(alloc, &mut served, reader, writer, &mut Tidy::new(0))
+}

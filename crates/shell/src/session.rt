@@ -1,0 +1,86 @@
+//! What the lines of a script are done on: a volume, or a client of an engine that others share.
+ghost use Rattle.reference.specs.Worlds.{World, TakeSnapshot, DropSnapshot, RestoreSnapshot, Ask, Replied, Settled, Fits, next};
+ghost use Rattle.shell.specs.Script.{Tells};
+ghost use Rattle.shell.specs.Sessions.{Goes, IsTold};
+ghost use Rattle.volume.specs.Volumes.{Means};
+
+use crate::pace::{Pace, keep_pace};
+use crate::request::Look;
+use pathkey::{Errno, SnapName};
+use reference::{Call, Reply};
+use std::alloc::Global;
+use volume::{Frozen, Volume};
+
+/// What the lines of a script are done on. Contracts see which worlds it means.
+pub trait Session {
+    ghost use Rattle.reference.specs.Worlds.{World};
+
+    /// The worlds that it means.
+    ghost means: { Self → World → Type 0 };
+
+    /// Does a file call.
+    fn call(&mut self, alloc: Global, call: &Call) -> Reply
+        ensures { Goes (means self.old) (means self.new) (Ask call.now) (Replied result) };
+
+    /// Keeps the live tree under the name.
+    fn snapshot(&mut self, alloc: Global, name: &SnapName) -> Result<(), Errno>
+        ensures { Goes (means self.old) (means self.new) (TakeSnapshot name.now) (Settled result) };
+
+    /// Removes the snapshot of that name.
+    fn drop_snapshot(&mut self, name: &SnapName) -> Result<(), Errno>
+        ensures { Goes (means self.old) (means self.new) (DropSnapshot name.now) (Settled result) };
+
+    /// The live tree becomes that of the snapshot.
+    fn restore(&mut self, name: &SnapName) -> Result<(), Errno>
+        ensures { Goes (means self.old) (means self.new) (RestoreSnapshot name.now) (Settled result) };
+
+    /// The reply to a look into the snapshot of that name.
+    fn look_back(&mut self, alloc: Global, name: &SnapName, look: &Look) -> Reply
+        ensures { (w : World) → means self.old w → Tells w name.now look.now result × means self.new w };
+
+    /// Does the steps that the pace picks after a line, where the pace has a volume to look at.
+    fn keep_pace<P: Pace>(&mut self, alloc: Global, pace: &mut P)
+        ensures { (w : World) → means self.old w → means self.new w };
+}
+
+impl Session for Volume {
+    ghost means = { λ v w. Means v w };
+
+    fn call(&mut self, alloc: Global, call: &Call) -> Reply {
+        self.call(alloc, call)
+    }
+
+    fn snapshot(&mut self, alloc: Global, name: &SnapName) -> Result<(), Errno> {
+        self.snapshot(alloc, name)
+    }
+
+    fn drop_snapshot(&mut self, name: &SnapName) -> Result<(), Errno> {
+        self.drop_snapshot(name)
+    }
+
+    fn restore(&mut self, name: &SnapName) -> Result<(), Errno> {
+        self.restore(name)
+    }
+
+    fn look_back(&mut self, alloc: Global, name: &SnapName, look: &Look) -> Reply {
+        match self.frozen(name) {
+            Ok(frozen) => look_into(alloc, &frozen, look),
+            Err(fault) => Reply::Fault(fault),
+        }
+    }
+
+    fn keep_pace<P: Pace>(&mut self, alloc: Global, pace: &mut P) {
+        keep_pace(alloc, self, pace);
+    }
+}
+
+/// The reply to a look into a tree that stands still.
+pub(crate) fn look_into(alloc: Global, frozen: &Frozen, look: &Look) -> Reply
+    ensures { IsTold look.now result frozen.now }
+{
+    match look {
+        Look::Read(path, offset, count) => frozen.read(alloc, path, *offset, *count),
+        Look::Stat(path) => frozen.stat(alloc, path),
+        Look::Readdir(path) => frozen.readdir(alloc, path),
+    }
+}

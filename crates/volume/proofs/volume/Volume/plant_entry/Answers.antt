@@ -1,0 +1,14 @@
+use Rattle.std.proofs.Common.{subst}
+use Rattle.volume.specs.Plants.{Plants}
+use Rattle.volume.specs.Volumes.{PVolume}
+use Rattle.volume.proofs.Leading.{volume}
+use Rattle.volume.proofs.Plants.{lasts_planted, planted_volume}
+use Rattle.volume.proofs.volume.Volume.plant_entry.Goals as goal
+
+pub invariant_of-self : goal.invariant_of-self
+invariant_of-self c = lasts_planted (volume c.self.inside.indexes c.self.inside.snapshots) c.plant.new.indexes c.args.path.now c.args.meta c.plant.result c.self.invariant c.plant.ensures
+
+pub returns : goal.returns
+returns c =
+    let old : PVolume = volume c.self.inside.indexes c.self.inside.snapshots in
+    subst (λ (v : PVolume). Plants c.args.path.now c.args.meta c.plant.result v (volume c.plant.new.indexes c.self.inside.snapshots)) c.self.view_is (planted_volume old c.plant.new.indexes c.args.path.now c.args.meta c.plant.result c.plant.ensures)

@@ -1,0 +1,34 @@
+use Rattle.std.proofs.Common.{Option, subst}
+use Rattle.std.specs.Prelude.{IfSome}
+use Rattle.reference.specs.Worlds.{World}
+use Rattle.volume.specs.Changes.{Stepped}
+use Rattle.volume.specs.Volumes.{PVolume, Means}
+use Rattle.volume.specs.declared.event.Relief.{Relief}
+use Rattle.volume.proofs.Leading.{volume, relieved, relief_keeps}
+use Rattle.volume.proofs.volume.Volume.relieve.Goals as goal
+
+pub invariant_of-self : goal.invariant_of-self
+invariant_of-self c =
+    let old : PVolume = volume c.self.inside.indexes c.self.inside.snapshots in
+    let i = c.relieve_in.new.indexes in
+    let r : Option Relief = c.relieve_in.result in
+    record {
+      world = c.self.invariant.world;
+      means = relief_keeps old r i (relieved old c.busier-index.result r i c.relieve_in.ensures.answers) c.relieve_in.ensures.unchanged c.self.invariant.world c.self.invariant.means;
+      few = c.self.invariant.few;
+    }
+
+pub returns-clause-stepped : goal.returns-clause-stepped
+returns-clause-stepped c =
+    let old : PVolume = volume c.self.inside.indexes c.self.inside.snapshots in
+    let i = c.relieve_in.new.indexes in
+    let r : Option Relief = c.relieve_in.result in
+    subst (λ (v : PVolume). IfSome r (λ t. Stepped t.step t.reply v (volume i c.self.inside.snapshots))) c.self.view_is (relieved old c.busier-index.result r i c.relieve_in.ensures.answers)
+
+pub returns-clause-means : goal.returns-clause-means
+returns-clause-means c =
+    let old : PVolume = volume c.self.inside.indexes c.self.inside.snapshots in
+    let i = c.relieve_in.new.indexes in
+    let r : Option Relief = c.relieve_in.result in
+    subst (λ (v : PVolume). (w : World) → Means v w → Means (volume i c.self.inside.snapshots) w) c.self.view_is
+    (relief_keeps old r i (relieved old c.busier-index.result r i c.relieve_in.ensures.answers) c.relieve_in.ensures.unchanged)

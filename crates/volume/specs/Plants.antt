@@ -1,0 +1,32 @@
+-- What an entry that is planted makes of a volume.
+use Rattle.std.specs.Prelude.{◌≡◌, ◌⊎◌, [], ◌∷◌, Err, IfOk, IfErr}
+use Rattle.call_compiler.specs.Compiled.{MeanTree}
+use Rattle.call_compiler.specs.declared.indexes.Indexes.{Indexes}
+use Rattle.message.specs.declared.msg.Msg.TheVariants.{Put}
+use Rattle.meta_index.specs.Updates.{means as meta_means}
+use Rattle.node.specs.Appended.{Appended}
+use Rattle.pathkey.specs.Enc.{enc}
+use Rattle.pathkey.specs.declared.errno.Errno.TheVariants.{ENOMEM}
+use Rattle.reference.specs.Plant.{planted}
+use Rattle.reference.specs.Tree.{Path, Tree}
+use Rattle.reference.specs.Worlds.{World, Snapped}
+use Rattle.reference.specs.declared.reply.Meta.{Meta}
+use Rattle.volume.specs.Volumes.{PVolume, Means}
+
+-- an entry that is planted in indexes: the answer is the table's for each tree that they meant, or want of memory; they
+-- mean the tree with the entry, by one message in the metadata, or are as they were
+pub record PlantsIn (p : Path) (m : Meta) (r : Snapped) (old new : Indexes) : Type 0 where
+  pub answer : (t : Tree) → MeanTree old t → (r ≡ (planted t p m).1) ⊎ (r ≡ Err ENOMEM)
+  pub means : IfOk r (λ _. (t : Tree) → MeanTree old t → MeanTree new (planted t p m).0)
+  pub message : IfOk r (λ _. Appended meta_means (Put (enc p) m ∷ []) old.meta.tree new.meta.tree)
+  pub block : IfOk r (λ _. new.block ≡ old.block)
+  pub refused : IfErr r (λ _. new ≡ old)
+
+-- the same of a volume, whose snapshots stay
+pub record Plants (p : Path) (m : Meta) (r : Snapped) (old new : PVolume) : Type 0 where
+  pub answer : (w : World) → Means old w → (r ≡ (planted w.live p m).1) ⊎ (r ≡ Err ENOMEM)
+  pub means : IfOk r (λ _. (w : World) → Means old w → Means new (record w { live = (planted w.live p m).0 }))
+  pub message : IfOk r (λ _. Appended meta_means (Put (enc p) m ∷ []) old.live.meta.tree new.live.meta.tree)
+  pub block : IfOk r (λ _. new.live.block ≡ old.live.block)
+  pub refused : IfErr r (λ _. new ≡ old)
+  pub snapshots : new.snapshots ≡ old.snapshots

@@ -1,0 +1,83 @@
+//! Entries that are planted whole: an empty directory, or a file of so many zeros, as an image tells them.
+ghost use Rattle.std.specs.Prelude.{◌≡◌, [], ◌∷◌, IfOk};
+ghost use Rattle.call_compiler.specs.Compiled.{messages};
+ghost use Rattle.message.specs.declared.msg.Msg.{Msg as Message};
+ghost use Rattle.meta_index.specs.Means.{IsMeantBy};
+ghost use Rattle.pathkey.specs.Enc.{enc};
+ghost use Rattle.pathkey.specs.Names.{IsPath};
+ghost use Rattle.reference.specs.Calls.{first_fault};
+ghost use Rattle.reference.specs.Plant.{faults_of_plant, is_too_long};
+ghost use Rattle.reference.specs.Tree.{Tree};
+ghost use Rattle.volume.specs.Plants.{PlantsIn};
+
+use call_compiler::{Batch, Indexes};
+use message::Msg;
+use meta_index::MetaIndex;
+use pathkey::{Errno, NoMemory, Path};
+use reference::Meta;
+use std::alloc::Global;
+
+/// The most bytes of a file.
+const GREATEST_FILE: u64 = 1 << 40;
+
+/// Plants an entry, by one message. A refusal changes nothing.
+pub(crate) fn plant(
+    alloc: Global,
+    indexes: &mut Indexes,
+    path: &Path,
+    meta: Meta,
+) -> Result<(), Errno>
+    ensures { PlantsIn path.now meta result indexes.old indexes.new }
+{
+    if let Some(fault) = fault_of_plant(alloc, &indexes.meta, path, meta)? {
+        return Err(fault);
+    }
+    let batch = one_put(alloc, path, meta)?;
+    indexes.append(alloc, batch)?;
+    Ok(())
+}
+
+/// Why an entry is not planted at the path; none where it is. It fails only for want of memory.
+fn fault_of_plant(
+    alloc: Global,
+    index: &MetaIndex,
+    path: &Path,
+    meta: Meta,
+) -> Result<Option<Errno>, NoMemory>
+    ensures { IfOk result (λ fault. (t : Tree) → IsMeantBy t index.now → fault ≡ first_fault (faults_of_plant t path.now meta)) }
+{
+    if let Some(fault) = index.fault_of_parent(alloc, path)? {
+        return Ok(Some(fault));
+    }
+    if index.has(alloc, path)? {
+        return Ok(Some(Errno::EEXIST));
+    }
+    if is_too_long(meta) {
+        return Ok(Some(Errno::EFBIG));
+    }
+    Ok(None)
+}
+
+/// Whether a file would be too long.
+fn is_too_long(meta: Meta) -> bool
+    ensures { result ≡ is_too_long meta }
+{
+    match meta {
+        Meta::Dir => false,
+        Meta::File { len } => len > GREATEST_FILE,
+    }
+}
+
+/// The messages that plant an entry.
+fn one_put(alloc: Global, path: &Path, meta: Meta) -> Result<Batch, NoMemory>
+    ensures valid { IsPath path.now }
+    ensures messages { IfOk result (λ batch. messages batch ≡ record { meta = Message.Put (enc path.now) meta ∷ []; block = [] }) }
+{
+    let put = Msg::Put(path.key().copy(alloc)?, meta);
+    let mut msgs = Vec::with_capacity(alloc, 1)?;
+    msgs.push(put)?;
+    Ok(Batch {
+        meta: msgs,
+        block: Vec::new(alloc),
+    })
+}
