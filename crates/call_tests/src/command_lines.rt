@@ -8,8 +8,8 @@ use std::alloc::Global;
 #[derive(Debug)]
 struct Row {
     words: &'static [&'static str],
-    /// Steps, fanout, pending and leaf.
-    numbers: [u16; 4],
+    /// Flushers, steps, fanout, pending and leaf.
+    numbers: [u16; 5],
     image: bool,
     script: Option<&'static str>,
 }
@@ -17,49 +17,55 @@ struct Row {
 const TAKEN: &[Row] = &[
     Row {
         words: &["betr"],
-        numbers: [0, 16, 256, 256],
+        numbers: [0, 0, 16, 256, 256],
+        image: false,
+        script: None,
+    },
+    Row {
+        words: &["betr", "--flushers", "8"],
+        numbers: [8, 0, 16, 256, 256],
         image: false,
         script: None,
     },
     Row {
         words: &["betr", "--steps", "1000"],
-        numbers: [1_000, 16, 256, 256],
+        numbers: [0, 1_000, 16, 256, 256],
         image: false,
         script: None,
     },
     Row {
         words: &["betr", "--fanout", "4"],
-        numbers: [0, 4, 256, 256],
+        numbers: [0, 0, 4, 256, 256],
         image: false,
         script: None,
     },
     Row {
         words: &["betr", "--fanout=64"],
-        numbers: [0, 64, 256, 256],
+        numbers: [0, 0, 64, 256, 256],
         image: false,
         script: None,
     },
     Row {
         words: &["betr", "--pending", "1024"],
-        numbers: [0, 16, 1_024, 256],
+        numbers: [0, 0, 16, 1_024, 256],
         image: false,
         script: None,
     },
     Row {
         words: &["betr", "--leaf", "1024"],
-        numbers: [0, 16, 256, 1_024],
+        numbers: [0, 0, 16, 256, 1_024],
         image: false,
         script: None,
     },
     Row {
         words: &["betr", "--image"],
-        numbers: [0, 16, 256, 256],
+        numbers: [0, 0, 16, 256, 256],
         image: true,
         script: None,
     },
     Row {
         words: &["betr", "notes/script"],
-        numbers: [0, 16, 256, 256],
+        numbers: [0, 0, 16, 256, 256],
         image: false,
         script: Some("notes/script"),
     },
@@ -77,7 +83,7 @@ const TAKEN: &[Row] = &[
             "--image",
             "script",
         ],
-        numbers: [1, 4, 4, 4],
+        numbers: [0, 1, 4, 4, 4],
         image: true,
         script: Some("script"),
     },
@@ -96,7 +102,8 @@ const REFUSED: &[&[&str]] = &[
     &["betr", "--leaf", ""],
     &["betr", "--leaf"],
     &["betr", "--leaf", "5", "--leaf", "6"],
-    &["betr", "--flushers", "1"],
+    &["betr", "--flushers", "9"],
+    &["betr", "--flushers", "-1"],
     &["betr", "--unknown"],
     &["betr", "script", "another"],
 ];
@@ -106,11 +113,22 @@ fn read<'a>(alloc: Global, words: &'a [&'a str]) -> Result<Options<'a>, Error> {
     read_words(alloc, words)
 }
 
+/// The numbers of what a command line asks for.
+fn numbers_of(asked: &Options<'_>) -> [u16; 5] {
+    [
+        u16::from(asked.flushers),
+        asked.steps,
+        asked.fanout,
+        asked.pending,
+        asked.leaf,
+    ]
+}
+
 /// Whether the command line asks for what the row says.
 fn is_taken(alloc: Global, row: &Row) -> bool {
     match read(alloc, row.words) {
         Ok(asked) => {
-            [asked.steps, asked.fanout, asked.pending, asked.leaf] == row.numbers
+            numbers_of(&asked) == row.numbers
                 && asked.image == row.image
                 && asked.script == row.script
         }

@@ -4,11 +4,15 @@
 #![tactic(auto)]
 
 #[cfg(test)]
+mod beside;
+#[cfg(test)]
 mod blocks;
 #[cfg(test)]
 mod command_lines;
 #[cfg(test)]
 mod compiled;
+#[cfg(test)]
+mod condensed;
 #[cfg(test)]
 mod counts;
 #[cfg(test)]

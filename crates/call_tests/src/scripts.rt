@@ -63,7 +63,7 @@ pub fn is_answered(alloc: Global, script: &[u8], wanted: &[u8]) -> bool {
 /// A script, and what it is answered.
 pub type Row = (&'static str, &'static str);
 
-const LINES: &[Row] = &[
+pub const LINES: &[Row] = &[
     (
         "mkdir /\nmkdir /a\nmkdir /a\nstat /b\ncreate /f\n",
         "fault EEXIST\nok\nfault EEXIST\nfault ENOENT\nok\n",
@@ -147,7 +147,7 @@ fn answers_a_name_that_is_no_text(rt: HostRuntime) {
     );
 }
 
-const LINES_OF_BYTES: &[Row] = &[
+pub const LINES_OF_BYTES: &[Row] = &[
     (
         "create /f\nwrite /f 4095 aabb\nread /f 4094 4\nstat /f\n",
         "ok\ncount 2\nbytes 00aabb\nfile 4097\n",
@@ -209,7 +209,7 @@ fn answers_lines_of_bytes(rt: HostRuntime) {
     }
 }
 
-const MOVES: &[Row] = &[
+pub const MOVES: &[Row] = &[
     (
         "mkdir /a\nmkdir /a/b\nrename /a /a/b/c\nrename /a /a\nreaddir /a\n",
         "ok\nok\nfault EINVAL\nok\nnames 1\nd b\n",

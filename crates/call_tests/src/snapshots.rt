@@ -7,7 +7,7 @@ fn is_row(alloc: Global, row: &Row) -> bool {
     is_answered(alloc, row.0.as_bytes(), row.1.as_bytes())
 }
 
-const KEPT: &[Row] = &[
+pub const KEPT: &[Row] = &[
     (
         "mkdir /a\ncreate /a/x\nsnapshot s\nrmtree /a\nreaddir@s /a\nstat /a\nrestore s\nreaddir /a\n",
         "ok\nok\nok\nok\nnames 1\nf x\nfault ENOENT\nok\nnames 1\nf x\n",
@@ -57,7 +57,7 @@ fn snapshots_keep_what_stood(rt: HostRuntime) {
     }
 }
 
-const REFUSED: &[Row] = &[
+pub const REFUSED: &[Row] = &[
     (
         "stat\nstat /a /b\nread /a 00 1\nwrite /a 0 abc\nmkdir@s /a\nsnapshot a/b\n# note\ncreate /a%20b\nreaddir /\n",
         "error syntax\nerror syntax\nerror syntax\nerror syntax\nerror syntax\nfault EINVAL\nok\nnames 1\nf a%20b\n",

@@ -131,7 +131,8 @@ const WAITING: &[(&str, u128)] = &[
     ("mkdir /a\n", 2),
     ("create /a/x\n", 3),
     ("stat /a/x\nreaddir /a\nmkdir /a\nrmdir /a\n", 3),
-    ("mkdir /b\nrmdir /b\n", 5),
+    // what makes a directory gives way to what removes it
+    ("mkdir /b\nrmdir /b\n", 4),
 ];
 
 /// After how many scripts as many messages wait as their rows say, before the first where it is otherwise.

@@ -1,5 +1,5 @@
 //! An engine with two clients and two flushers.
-ghost use Rattle.std.specs.Prelude.{◌≡◌, [], ◌∷◌, IfSome};
+ghost use Rattle.std.specs.Prelude.{◌≡◌, [], ◌∷◌, IfSome, length};
 ghost use Rattle.engine.specs.Clients.{fresh};
 
 use engine::{Client, Engine, Flusher, Naming, Report};
@@ -45,5 +45,34 @@ pub fn end<J: Naming, R: Wait>(
     requires { (one.client ≡ 0) × (other.client ≡ 1) }
 {
     let clients = pair(alloc, one, other)?;
+    engine.close(rt, clients).ok()
+}
+
+/// A list of one client.
+pub fn alone<J: Naming>(alloc: Global, one: Client<J>) -> Option<Vec<Client<J>>>
+    ensures { IfSome result (λ v. v.items ≡ one ∷ []) }
+{
+    let mut clients = Vec::new(alloc);
+    clients.push(one).ok()?;
+    Some(clients)
+}
+
+/// The client of a list of one.
+pub fn only<J: Naming>(mut clients: Vec<Client<J>>) -> Option<Client<J>>
+    requires { length clients.items ≡ 1 }
+    ensures { IfSome result (λ c. clients.items ≡ c ∷ []) }
+{
+    clients.pop()
+}
+
+/// Ends an engine with its one client.
+#[tactic(auto, using(crate::proofs::Apart::one_alone))]
+pub fn end_alone<J: Naming, R: Wait>(
+    rt: &R,
+    alloc: Global,
+    engine: Engine<J>,
+    client: Client<J>,
+) -> Option<Report> {
+    let clients = alone(alloc, client)?;
     engine.close(rt, clients).ok()
 }

@@ -1,8 +1,8 @@
 //! How an engine ends: with all its clients, or not at all; and each call of a client once.
-ghost use Rattle.std.specs.Prelude.{◌≡◌, [], ◌∷◌, IfSome, length};
+ghost use Rattle.std.specs.Prelude.{◌≡◌};
 
 use crate::asked::{SMALL, answers, is, name_of, new_room};
-use crate::crew::{end, two_of};
+use crate::crew::{alone, end, only, two_of};
 use engine::{Client, CloseFault, Engine, Naming, Room};
 use pathkey::{Errno, Path};
 use samples::{Ask, Told};
@@ -13,14 +13,14 @@ use std::test::Fail;
 
 /// Keeps the live tree, or drops or restores a snapshot; why not, if it does not.
 #[derive(Clone, Copy)]
-enum Snap {
+pub enum Snap {
     Keep,
     Drop,
     Restore,
 }
 
 /// Why a call on the snapshot of a name is refused; none where it is done.
-fn fault_of<J: Naming, R: Wait>(
+pub fn fault_of<J: Naming, R: Wait>(
     rt: &R,
     alloc: Global,
     client: &mut Client<J>,
@@ -125,23 +125,6 @@ fn without_one<J: Naming, R: Wait>(rt: &R, alloc: Global, room: Room) -> Option<
     let one = only(back)?;
     let report = end(rt, alloc, engine, one, other)?;
     Some(report.calls == 0)
-}
-
-/// A list of one client.
-fn alone<J: Naming>(alloc: Global, one: Client<J>) -> Option<Vec<Client<J>>>
-    ensures { IfSome result (λ v. v.items ≡ one ∷ []) }
-{
-    let mut clients = Vec::new(alloc);
-    clients.push(one).ok()?;
-    Some(clients)
-}
-
-/// The client of a list of one.
-fn only<J: Naming>(mut clients: Vec<Client<J>>) -> Option<Client<J>>
-    requires { length clients.items ≡ 1 }
-    ensures { IfSome result (λ c. clients.items ≡ c ∷ []) }
-{
-    clients.pop()
 }
 
 /// An engine over a new volume.

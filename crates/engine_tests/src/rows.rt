@@ -86,22 +86,23 @@ fn thousands<J: Naming + Send + Sync, R: Threads + Wait + Sync>(
     )
 }
 
-/// A thousand turns.
-fn flush<J: Naming, R: Wait>(rt: &R, alloc: Global, mut flusher: Flusher<J>) {
-    flusher.run_flusher(rt, alloc, 1000);
+/// So many turns.
+fn flush<J: Naming, R: Wait>(rt: &R, alloc: Global, mut flusher: Flusher<J>, turns: u32) {
+    flusher.run_flusher(rt, alloc, turns);
 }
 
-/// A thousand turns by each of two flushers.
-fn flush_both<J: Naming + Send + Sync, R: Threads + Wait + Sync>(
+/// So many turns by each of two flushers.
+pub fn flush_both<J: Naming + Send + Sync, R: Threads + Wait + Sync>(
     rt: &R,
     alloc: Global,
     one: Flusher<J>,
     other: Flusher<J>,
+    turns: u32,
 ) {
     join(
         rt,
-        move || flush(rt, alloc, one),
-        move || flush(rt, alloc, other),
+        move || flush(rt, alloc, one, turns),
+        move || flush(rt, alloc, other, turns),
     );
 }
 
@@ -122,7 +123,7 @@ fn at_once<J: Naming + Send + Sync, R: Threads + Wait + Sync>(
         move || -> ((Client<J>, bool), (Client<J>, bool))
             ensures { (result.0.0.client ≡ one.client) × (result.1.0.client ≡ other.client) }
         { thousands(rt, alloc, one, other) },
-        move || flush_both(rt, alloc, first, second),
+        move || flush_both(rt, alloc, first, second, 1000),
     );
     let ((one, one_right), (other, other_right)) = done;
     let report = end(rt, alloc, engine, one, other)?;

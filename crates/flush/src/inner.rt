@@ -73,13 +73,21 @@ pub(crate) fn few_oldest<U: Update>(list: &Pending<U>, most: u16) -> usize
     list.len().min((most as usize).max(1))
 }
 
+/// How many pieces more a child takes where it has room for `room` in all. No claim rests on it: a flush looks at that many messages.
+fn spare<U: Update>(child: &Node<U>, room: u16) -> u16 {
+    match child.body() {
+        Body::Leaf(_) => 0,
+        Body::Inner(below) => (room as u128).saturating_sub(held(below.as_slice())) as u16,
+    }
+}
+
 /// Likewise for a slot, which loses the messages that its child has.
 fn sink_oldest<U: Update>(alloc: Global, room: u16, slot: &mut Slot<U>) -> StepReply
     ensures lo { slot.new.lo ≡ slot.old.lo }
     ensures left { slot.new.pending.0 ≡ left result slot.old.pending.0 }
     ensures sunk { Sunk U.means room result slot.old.pending.0 slot.old.child.value slot.new.child.value }
 {
-    let few = few_oldest(&slot.pending, room);
+    let few = few_oldest(&slot.pending, spare(&slot.child, room));
     let Ok(msgs) = slot.pending.copy_front(alloc, few) else {
         return StepReply::NoMemory;
     };

@@ -317,16 +317,12 @@ const OLDER: &[Plain] = &[Plain::Put(1, 1), Plain::Del(2), Plain::Edit(3, 3)];
 fn changes_beside(alloc: Global, list: &mut Pending<Digit>, copy: &Pending<Digit>) -> bool {
     takes(alloc, list, &[Plain::DelRange(4, None), Plain::Put(5, 5)])
         && list.len() == 5
-        && begins_with(alloc, list, &[Plain::Put(1, 1), Plain::Del(2)])
+        && begins_with(alloc, list, &[Plain::DelRange(4, None), Plain::Put(1, 1)])
         && gives_up(list, 2)
         && waits(
             alloc,
             list,
-            &[
-                Plain::Edit(3, 3),
-                Plain::DelRange(4, None),
-                Plain::Put(5, 5),
-            ],
+            &[Plain::Del(2), Plain::Edit(3, 3), Plain::Put(5, 5)],
         )
         && waits(alloc, copy, OLDER)
 }

@@ -97,11 +97,14 @@ fn wait_above_nothing(alloc: Global, node: &Node<Digit>, msgs: &[Plain]) -> bool
         && matches!(slot_at(node, 0), Some(slot) if is_empty_leaf(&slot.child))
 }
 
+/// Messages that come, and those that then wait for them.
+type Kept = (&'static [Plain], &'static [Plain]);
+
 /// Whether a new tree keeps the messages of a batch in its root.
-fn keeps_batch(alloc: Global, msgs: &[Plain]) -> bool {
+fn keeps_batch(alloc: Global, row: &Kept) -> bool {
     match small_tree(alloc) {
-        Ok(mut tree) => append(alloc, &mut tree, msgs)
-            && wait_above_nothing(alloc, tree.root(), msgs),
+        Ok(mut tree) => append(alloc, &mut tree, row.0)
+            && wait_above_nothing(alloc, tree.root(), row.1),
         Err(_) => false,
     }
 }
@@ -117,26 +120,62 @@ fn append_in_turn(alloc: Global, tree: &mut Tree<Digit>, msgs: &[Plain]) -> bool
 }
 
 /// Whether a new tree keeps messages that come one by one in its root.
-fn keeps_in_turn(alloc: Global, msgs: &[Plain]) -> bool {
+fn keeps_in_turn(alloc: Global, row: &Kept) -> bool {
     match small_tree(alloc) {
-        Ok(mut tree) => append_in_turn(alloc, &mut tree, msgs)
-            && wait_above_nothing(alloc, tree.root(), msgs),
+        Ok(mut tree) => append_in_turn(alloc, &mut tree, row.0)
+            && wait_above_nothing(alloc, tree.root(), row.1),
         Err(_) => false,
     }
 }
 
-const PAIRS: &[[Plain; 2]] = &[
-    [Plain::Put(3, 1), Plain::Edit(3, 2)],
-    [Plain::Edit(3, 2), Plain::Put(3, 1)],
-    [Plain::Del(7), Plain::DelRange(0, Some(9))],
-    [Plain::DelRange(2, None), Plain::Put(200, 1)],
+const KEPT: &[Kept] = &[
+    // what a message makes idle goes
+    (&[Plain::Put(3, 1), Plain::Edit(3, 2)], &[Plain::Put(3, 12)]),
+    (&[Plain::Edit(3, 2), Plain::Put(3, 1)], &[Plain::Put(3, 1)]),
+    (&[Plain::Put(3, 1), Plain::Del(3)], &[Plain::Del(3)]),
+    (&[Plain::Del(3), Plain::Edit(3, 2)], &[Plain::Put(3, 2)]),
+    (
+        &[Plain::Del(7), Plain::DelRange(0, Some(9))],
+        &[Plain::DelRange(0, Some(9))],
+    ),
+    (
+        &[
+            Plain::DelRange(3, Some(5)),
+            Plain::Put(1, 1),
+            Plain::DelRange(2, Some(8)),
+        ],
+        &[Plain::DelRange(2, Some(8)), Plain::Put(1, 1)],
+    ),
+    // a range-delete takes away nothing newer
+    (
+        &[Plain::DelRange(2, None), Plain::Put(200, 1)],
+        &[Plain::DelRange(2, None), Plain::Put(200, 1)],
+    ),
+    (
+        &[Plain::DelRange(2, None), Plain::Edit(3, 1)],
+        &[Plain::DelRange(2, None), Plain::Edit(3, 1)],
+    ),
+    // edits that do not join keep their order, and keys stand in theirs
+    (
+        &[Plain::Put(9, 1), Plain::Edit(3, 2), Plain::Edit(3, 4)],
+        &[Plain::Edit(3, 2), Plain::Edit(3, 4), Plain::Put(9, 1)],
+    ),
+    // range-deletes that reach into each other are one
+    (
+        &[Plain::DelRange(2, Some(5)), Plain::DelRange(4, Some(8))],
+        &[Plain::DelRange(2, Some(8))],
+    ),
+    (
+        &[Plain::DelRange(4, None), Plain::DelRange(2, Some(5))],
+        &[Plain::DelRange(2, None)],
+    ),
 ];
 
 #[test]
-fn keeps_messages_in_the_root_in_their_order(rt: HostRuntime) {
-    for msgs in PAIRS {
-        assert!(rt; keeps_batch(rt.alloc(), msgs), "{msgs:?}");
-        assert!(rt; keeps_in_turn(rt.alloc(), msgs), "{msgs:?}");
+fn keeps_in_the_root_what_messages_mean(rt: HostRuntime) {
+    for row in KEPT {
+        assert!(rt; keeps_batch(rt.alloc(), row), "{row:?}");
+        assert!(rt; keeps_in_turn(rt.alloc(), row), "{row:?}");
     }
 }
 
@@ -144,13 +183,8 @@ fn keeps_messages_in_the_root_in_their_order(rt: HostRuntime) {
 fn part(alloc: Global, tree: &mut Tree<Digit>, shared: &mut Tree<Digit>) -> bool {
     append(alloc, tree, &[Plain::Del(3)])
         && append(alloc, shared, &[Plain::Edit(3, 2)])
-        && wait(alloc, tree.root(), 0, &[Plain::Put(3, 1), Plain::Del(3)])
-        && wait(
-            alloc,
-            shared.root(),
-            0,
-            &[Plain::Put(3, 1), Plain::Edit(3, 2)],
-        )
+        && wait(alloc, tree.root(), 0, &[Plain::Del(3)])
+        && wait(alloc, shared.root(), 0, &[Plain::Put(3, 12)])
 }
 
 /// Whether a tree with one message and a share of it part.
@@ -226,8 +260,8 @@ fn halve(alloc: Global, one: &[Plain], two: &[Plain]) -> bool {
 type Halves = (&'static [Plain], &'static [Plain]);
 
 const HALVES: &[Halves] = &[
-    (&[Plain::Put(3, 1), Plain::Edit(3, 2)], &[Plain::Del(4)]),
-    (&[Plain::Put(3, 1), Plain::Edit(3, 2)], &[]),
+    (&[Plain::Put(3, 1), Plain::Edit(4, 2)], &[Plain::Del(4)]),
+    (&[Plain::Put(3, 1), Plain::Edit(4, 2)], &[]),
     (&[], &[Plain::Del(4)]),
     (&[], &[]),
 ];
@@ -266,19 +300,11 @@ const ACROSS: &[Plain] = &[
     Plain::Del(255),
 ];
 
-const BEFORE_FIVE: &[Plain] = &[
-    Plain::Put(4, 1),
-    Plain::DelRange(2, Some(5)),
-    Plain::Edit(4, 3),
-    Plain::DelRange(3, Some(5)),
-];
+/// The last range-delete lies inside the first, which took the put away, and it takes the edit away.
+const BEFORE_FIVE: &[Plain] = &[Plain::DelRange(2, Some(5))];
 
-const FROM_FIVE: &[Plain] = &[
-    Plain::DelRange(5, Some(8)),
-    Plain::Put(5, 2),
-    Plain::DelRange(5, None),
-    Plain::Del(255),
-];
+/// The second range-delete holds the first, and it took the put away.
+const FROM_FIVE: &[Plain] = &[Plain::DelRange(5, None), Plain::Del(255)];
 
 /// Whether messages are cut at the pivot 5.
 fn cuts(alloc: Global, tree: &mut Tree<Digit>) -> bool {

@@ -117,8 +117,13 @@ fn follow_two_leaves(alloc: Global, rows: &[Row]) -> usize {
     }
 }
 
-/// Messages for the first key, for all from it on, and for the last.
-const ACROSS: &[Plain] = &[Plain::Put(1, 1), Plain::DelRange(1, None), Plain::Put(9, 2)];
+/// Messages for the first key, for all from it on, and for the last two. Three of them wait, since the second takes the first away.
+const ACROSS: &[Plain] = &[
+    Plain::Put(1, 1),
+    Plain::DelRange(1, None),
+    Plain::Put(8, 1),
+    Plain::Put(9, 2),
+];
 
 const FULL_LEAF: &[Row] = &[
     (
@@ -127,14 +132,19 @@ const FULL_LEAF: &[Row] = &[
             Plain::Put(2, 0),
             Plain::Put(3, 0),
             Plain::Put(4, 0),
-            Plain::Put(1, 1),
-            Plain::Put(2, 1),
-            Plain::Del(9),
         ]),
-        [1, 1, 7, 0],
+        [1, 1, 4, 0],
     ),
     (
-        Turn::Step(StepKind::FlushLeaf, 0, StepReply::Did(7)),
+        Turn::Step(StepKind::FlushLeaf, 0, StepReply::Did(4)),
+        [1, 1, 0, 4],
+    ),
+    (
+        Turn::Append(&[Plain::Put(1, 1), Plain::Put(2, 1), Plain::Del(9)]),
+        [1, 1, 3, 4],
+    ),
+    (
+        Turn::Step(StepKind::FlushLeaf, 0, StepReply::Did(3)),
         [1, 1, 0, 4],
     ),
 ];
@@ -159,7 +169,7 @@ const CUT_LEAF: &[Row] = &[
         [1, 1, 0, 4],
     ),
     (
-        Turn::Append(&[Plain::Put(5, 0), Plain::Put(1, 0)]),
+        Turn::Append(&[Plain::Put(5, 0), Plain::Put(6, 0)]),
         [1, 1, 2, 4],
     ),
     (
@@ -215,7 +225,7 @@ const BOTH_SIDES: &[Row] = &[
         Turn::Step(StepKind::FlushInner, 0, StepReply::Did(3)),
         [2, 3, 4, 5],
     ),
-    (Turn::Append(&[Plain::Put(9, 3)]), [2, 3, 5, 5]),
+    (Turn::Append(&[Plain::Put(7, 3)]), [2, 3, 5, 5]),
     (
         Turn::Step(StepKind::FlushInner, 0, StepReply::NoRoom),
         [2, 3, 5, 5],
@@ -258,12 +268,13 @@ const SPLIT: &[Row] = &[
         [2, 4, 4, 5],
     ),
     (
+        // the two parts of the range-delete meet, and are one again
         Turn::Step(StepKind::MergeInner, 0, StepReply::Did(0)),
-        [2, 3, 4, 5],
+        [2, 3, 3, 5],
     ),
     (
         Turn::Step(StepKind::MergeInner, 0, StepReply::NotThere),
-        [2, 3, 4, 5],
+        [2, 3, 3, 5],
     ),
 ];
 
@@ -283,14 +294,14 @@ const FIVE_MESSAGES: &[Row] = &[
     ),
     (Turn::Append(ACROSS), [2, 4, 4, 5]),
     (
-        Turn::Step(StepKind::FlushInner, 0, StepReply::Did(2)),
+        Turn::Step(StepKind::FlushInner, 0, StepReply::Did(1)),
         [2, 4, 4, 5],
     ),
     (
-        Turn::Step(StepKind::FlushInner, 1, StepReply::Did(2)),
+        Turn::Step(StepKind::FlushInner, 1, StepReply::Did(3)),
         [2, 4, 4, 5],
     ),
-    (Turn::Append(&[Plain::Put(9, 3)]), [2, 4, 5, 5]),
+    (Turn::Append(&[Plain::Put(7, 3)]), [2, 4, 5, 5]),
     (
         Turn::Step(StepKind::FlushInner, 1, StepReply::Did(1)),
         [2, 4, 5, 5],

@@ -1,11 +1,12 @@
 -- A range-delete that comes to a sorted list.
-use Rattle.std.proofs.Common.{◌≡◌, ℕ, ◌+◌, ◌<◌, ◌≤◌, ◌^◌, refl, sym, ap, ◌∙◌, List, [], ◌∷◌, length, Option, None, Bool, true, false, cond, not, ◌||◌, arith, subst}
+use Rattle.std.proofs.Common.{◌≡◌, ℕ, ◌+◌, ◌<◌, ◌≤◌, ◌^◌, refl, sym, ap, ◌∙◌, List, [], ◌∷◌, length, Option, Some, None, IfSome, Bool, true, false, cond, not, ◌||◌, arith, subst}
 use Rattle.std.proofs.lemmas.Bool.{or_parts}
 use Rattle.std.proofs.lemmas.List.Sums.{sum_by-cons}
-use Rattle.std.proofs.lemmas.Map.Entries.{lookup-filter-keys}
+use Rattle.std.proofs.lemmas.Map.Entries.{lookup-filter-keys, sum_by-remove_entry}
 use Rattle.std.specs.List.{filter}
 use Rattle.std.specs.List.Sorted.{IsStrictlySortedBy}
-use Rattle.std.specs.Map.{keys_of, values_of}
+use Rattle.std.specs.Map.{keys_of, values_of, remove_entry}
+use Rattle.std.specs.Option.{option_map, unwrap_or}
 use Rattle.std.specs.BTreeMap.{is_at}
 use Rattle.pathkey.specs.Order.{by_bytes}
 use Rattle.pathkey.specs.Keys.{is_below, is_in}
@@ -35,6 +36,29 @@ module _ {U V : Type 0} where
     | true ↦ omega (arith, counted_filter p es, sum_by-cons run_len e.1 (values_of es), sum_by-cons run_len e.1 (values_of (filter p es)))
     | false ↦ omega (arith, counted_filter p es, sum_by-cons run_len e.1 (values_of es))
   ]
+
+  -- without the first entry whose key passes, those that stay are the same, where no such entry stays
+  pub filter_without : (test : List ℕ → Bool) (q : List ℕ × Run U V → Bool) → ((e : List ℕ × Run U V) → test e.0 ≡ true → q e ≡ false) → (es : List (List ℕ × Run U V)) → filter q (remove_entry test es) ≡ filter q es
+  filter_without test q a [] = refl
+  filter_without test q a (e ∷ es) = elim (test e.0) as (λ c. test e.0 ≡ c → filter q (cond c es (e ∷ remove_entry test es)) ≡ filter q (e ∷ es)) [
+    | true ↦ λ y. sym (ap (λ c. cond c (e ∷ filter q es) (filter q es)) (a e y))
+    | false ↦ λ n. ap (λ t. cond (q e) (e ∷ t) t) (filter_without test q a es)
+  ] refl
+
+  -- the first entry that passes does so
+  pub first_passes : (q : List ℕ × Run U V → Bool) (es : List (List ℕ × Run U V)) (x : List ℕ × Run U V) (xs : List (List ℕ × Run U V)) → filter q es ≡ x ∷ xs → q x ≡ true
+  first_passes q [] x xs h = absurd (cc)
+  first_passes q (e ∷ es) x xs h = elim (q e) as (λ c. q e ≡ c → cond c (e ∷ filter q es) (filter q es) ≡ x ∷ xs → q x ≡ true) [
+    | true ↦ λ y n. let s : e ≡ x = (cc) in subst (λ z. q z ≡ true) s y
+    | false ↦ λ y n. first_passes q es x xs n
+  ] refl h
+
+  pub counted_without : (k : List ℕ) (es fs : List (List ℕ × Run U V)) (t : Option (Run U V)) → t ≡ look k es → fs ≡ remove_entry (is_at (by_bytes k)) es → IfSome t (λ r. point_count fs + run_len r ≡ point_count es)
+  counted_without k es fs None a b = tt
+  counted_without k es fs (Some r) a b =
+      ap (λ z. point_count z + run_len r) b
+      ∙ ap (λ z. point_count (remove_entry (is_at (by_bytes k)) es) + unwrap_or (option_map run_len z) 0) a
+      ∙ sum_by-remove_entry run_len (is_at (by_bytes k)) es
 
   -- the points that a range leaves
   abbrev pub left_by : KeyRange → List (List ℕ × Run U V) → List (List ℕ × Run U V)

@@ -48,15 +48,3 @@ take_at_most (suc n) zero [] a b c = refl
 take_at_most (suc n) zero (x ∷ xs) a b c = absurd (omega (arith, c (omega arith)))
 take_at_most zero (suc k) (x ∷ xs) a b c = absurd (omega (arith, a))
 take_at_most (suc n) (suc k) (x ∷ xs) a b c = ap (λ t. x ∷ t) (take_at_most n k xs (omega (arith, a)) (omega (arith, b)) (λ h. omega (arith, c (omega (arith, h)))))
-
-module _ {U V : Type 0} (means : U → Option V → Option V) where
-  -- the first message of the tail goes into the part before it
-  pub takes_into : (old s t rest f : List (Msg U V)) (m : Msg U V) → Takes means old [] (s ++ f) → f ≡ m ∷ rest → Takes means s (m ∷ []) t → Takes means old [] (t ++ rest)
-  takes_into old s t rest f m a e b = (let c : Takes means old [] (s ++ m ∷ rest) = subst (λ x. Takes means old [] (s ++ x)) e a in record {
-    meaning = λ k v. effects-append means t rest k v ∙ ap (λ w. effects means rest k w) (b.meaning k v) ∙ sym (effects-append means s (m ∷ rest) k v) ∙ c.meaning k v;
-    bound = omega (arith, c.bound, b.bound, length-append s (m ∷ rest), length-append t rest);
-    touched = λ k h g. (let all = c.touched k h g in
-        let right = untouched_right s (m ∷ rest) k all in
-        let p = or_parts (touches m k) (any_touches rest k) right in
-        any_touches-append t rest k (b.touched k (untouched_left s (m ∷ rest) k all) (or_from (touches m k) false p.0 refl)) p.1);
-  })

@@ -2,14 +2,16 @@ pub mod KeyOrder
 pub mod CutFacts
 pub mod Lists
 pub mod Composing
-pub mod Deciding
 pub mod Runs
 pub mod SettledMeaning
 pub mod Writing
 pub mod RangesApart
+pub mod Widening
 pub mod Clearing
 pub mod SettledTelling
 pub mod Copying
+pub mod Firsts
+pub mod Copies
 pub mod InFront
 pub mod Condensing
 pub mod CountingRanges

@@ -89,7 +89,7 @@ pub ends_from_not_below : (h : Option (List ℕ)) (q : List ℕ) → is_below q 
 ends_from_not_below None q e = absurd (cc)
 ends_from_not_below (Some h) q e = reaches-from_not_before q h e
 
-ends_on : (h : Option (List ℕ)) (a b : List ℕ) → ends_by h a ≡ true → reaches a b ≡ true → ends_by h b ≡ true
+pub ends_on : (h : Option (List ℕ)) (a b : List ℕ) → ends_by h a ≡ true → reaches a b ≡ true → ends_by h b ≡ true
 ends_on None a b e r = absurd (cc)
 ends_on (Some h) a b e r = le_le h a b e r
 
@@ -203,7 +203,7 @@ begin_insert h (e ∷ es) lo hi x b = elim (by_bytes lo e.0) as (λ o. BeginFrom
 ]
 
 -- the range that comes stays
-stays : (lo x : List ℕ) (hi h : Option (List ℕ)) (o : Ordering) → by_bytes lo x ≡ o → is_lt o ≡ false → is_outside lo hi (x, h) ≡ true
+pub stays : (lo x : List ℕ) (hi h : Option (List ℕ)) (o : Ordering) → by_bytes lo x ≡ o → is_lt o ≡ false → is_outside lo hi (x, h) ≡ true
 stays lo x hi h o e f = ap (λ b. not (b && is_below x hi)) (ap is_lt e ∙ f)
 
 pub spliced_apart : (lo : List ℕ) (hi : Option (List ℕ)) (es : List Span) → IsStrictlySortedBy by_bytes (keys_of es) → AreApart es → EndBy lo es → AreApart (filter (λ e. is_outside lo hi e) (insert_entry by_bytes es lo hi))
@@ -235,7 +235,7 @@ spliced_covers lo hi (e ∷ es) q b s f =
           ∙ swap_or (within e.0 e.1 q) (within lo hi q) (covered es q)
     ] refl
 
-filter_shorter : {X : Type 0} (p : X → Bool) (xs : List X) → length (filter p xs) ≤ length xs
+pub filter_shorter : {X : Type 0} (p : X → Bool) (xs : List X) → length (filter p xs) ≤ length xs
 filter_shorter p [] = omega arith
 filter_shorter p (x ∷ xs) = elim (p x) as (λ c. length (cond c (x ∷ filter p xs) (filter p xs)) ≤ length (x ∷ xs)) [
   | true ↦ omega (arith, filter_shorter p xs)
@@ -282,7 +282,7 @@ none_taken shows s t (Some x) m h = absurd (cc)
 -- ---- a range that another holds
 
 -- the last that passes is one of them
-found_covers : (p : List ℕ → Bool) (rs : List Span) (x : Span) (k : List ℕ) → last_where p rs ≡ Some x → (p x.0 ≡ true) × (within x.0 x.1 k ≡ true → covered rs k ≡ true)
+pub found_covers : (p : List ℕ → Bool) (rs : List Span) (x : Span) (k : List ℕ) → last_where p rs ≡ Some x → (p x.0 ≡ true) × (within x.0 x.1 k ≡ true → covered rs k ≡ true)
 found_covers p [] x k e = absurd (cc)
 found_covers p (r ∷ rs) x k e =
     elim (last_where p rs) as (λ t. last_where p rs ≡ t → last_or (p r.0) r t ≡ Some x → (p x.0 ≡ true) × (within x.0 x.1 k ≡ true → covered (r ∷ rs) k ≡ true)) [
@@ -293,7 +293,7 @@ found_covers p (r ∷ rs) x k e =
       | Some z ↦ λ s f. (let g = found_covers p rs x k (s ∙ f) in (g.0, λ w. or_right (within r.0 r.1 k) (covered rs k) (g.1 w)))
     ] refl e
 
-below_later : (k : List ℕ) (hi end : Option (List ℕ)) → ends_within hi end ≡ true → is_below k hi ≡ true → is_below k end ≡ true
+pub below_later : (k : List ℕ) (hi end : Option (List ℕ)) → ends_within hi end ≡ true → is_below k hi ≡ true → is_below k end ≡ true
 below_later k hi None e b = refl
 below_later k None (Some d) e b = absurd (cc)
 below_later k (Some h) (Some d) e b = lt_le k h d b e

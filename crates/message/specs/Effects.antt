@@ -1,5 +1,5 @@
 -- What messages do to the value at a key.
-use Rattle.std.specs.Prelude.{◌≡◌, ◌≤◌, ◌+◌, ℕ, Bool, true, false, ◌||◌, ◌&&◌, if◌then◌else◌, List, [], ◌∷◌, length, drop, Option, Some, None}
+use Rattle.std.specs.Prelude.{◌≡◌, ◌≤◌, ◌+◌, ℕ, Bool, false, ◌||◌, if◌then◌else◌, List, [], ◌∷◌, length, Option, Some, None}
 use Rattle.pathkey.specs.Order.{same}
 use Rattle.pathkey.specs.Keys.{is_in}
 use Rattle.message.specs.declared.msg.Msg.{Msg}
@@ -33,18 +33,6 @@ module _ {U V : Type 0} where
   range_count (DelRange r ∷ ms) = range_count ms + 1
   range_count (Edit q u ∷ ms) = range_count ms
 
-  -- the message has one outcome, whatever the old value of a key that it touches
-  abbrev pub is_settling : Msg U V → Bool
-  is_settling (Put q v) = true
-  is_settling (Del q) = true
-  is_settling (DelRange r) = true
-  is_settling (Edit q u) = false
-
-  -- a message of the list settles the value at k
-  abbrev pub is_settled : List (Msg U V) → List ℕ → Bool
-  is_settled [] k = false
-  is_settled (m ∷ ms) k = (touches m k && is_settling m) || is_settled ms k
-
 module _ {U V : Type 0} (means : U → Option V → Option V) where
   -- what a message makes of the value at a key that it touches
   abbrev pub made_of : Msg U V → Option V → Option V
@@ -70,11 +58,3 @@ module _ {U V : Type 0} (means : U → Option V → Option V) where
     pub bound : length new ≤ length old + length added
     -- it touches no other key
     pub touched : (k : List ℕ) → any_touches old k ≡ false → any_touches added k ≡ false → any_touches new k ≡ false
-
-  -- the messages from number `from` on make of the value at k what all of them do, and where one of the list
-  -- settles it, they do so of any value; no message after the first of them settles it
-  pub record IsDecisive (ms : List (Msg U V)) (k : List ℕ) (from : ℕ) (settles : Bool) : Type 0 where
-    pub bound : from ≤ length ms
-    pub settled : settles ≡ is_settled ms k
-    pub newest : is_settled (drop (from + 1) ms) k ≡ false
-    pub value : (a b : Option V) → (settles ≡ false → a ≡ b) → effects (drop from ms) k a ≡ effects ms k b

@@ -8,3 +8,4 @@ pub mod Told
 pub mod Stretches
 pub mod Search
 pub mod Oldests
+pub mod Eldest

@@ -13,7 +13,7 @@ use Rattle.message.specs.declared.run.Run.{Run}
 use Rattle.message.specs.declared.told.Told.{Told}
 use Rattle.message.specs.declared.told.Told.TheVariants.{Nothing, Value, Change}
 use Rattle.pathkey.specs.Keys.{is_below}
-use Rattle.message.specs.Ranges.{reaches, before, within}
+use Rattle.message.specs.Ranges.{reaches, before, within, ends_within}
 use Rattle.message.specs.Stretches.{ahead_of}
 use Rattle.message.specs.Runs.{run_msgs, run_len, run_effect, IsRunKeyed}
 
@@ -124,6 +124,25 @@ EndByEnd (Some h) rs = EndBy h rs
 -- the keys from lo on and without hi are held by one of the ranges as well
 abbrev pub AreHeld : List ℕ → Option (List ℕ) → List Span → Type 0
 AreHeld lo hi rs = (k : List ℕ) → within lo hi k ≡ true → covered rs k ≡ true
+
+-- low stands at lo, or at the low end of one of the ranges that holds all from there up to lo
+pub record IsLowEnd (rs : List Span) (lo low : List ℕ) : Type 0 where
+  pub begins : reaches low lo ≡ true
+  pub apart : EndBy low rs
+  pub held : AreHeld low (Some lo) rs
+
+-- high is the end hi, or the high end of one of the ranges that holds all from hi on
+pub record IsHighEnd (rs : List Span) (hi high : Option (List ℕ)) : Type 0 where
+  pub ends : ends_within hi high ≡ true
+  pub apart : EndByEnd high rs
+  pub held : (k : List ℕ) → is_below k hi ≡ false → is_below k high ≡ true → covered rs k ≡ true
+
+-- a range is made wider where the ranges hold the keys, and then no other reaches over its ends
+pub record Widens (rs : List Span) (range wide : KeyRange) : Type 0 where
+  pub some : is_below wide.lo wide.hi ≡ true
+  pub low : EndBy wide.lo rs
+  pub high : EndByEnd wide.hi rs
+  pub same : (k : List ℕ) → (within wide.lo wide.hi k || covered rs k) ≡ (within range.lo range.hi k || covered rs k)
 
 -- the ranges cover what they covered, and the keys of one more
 abbrev pub CoversMore : List ℕ → Option (List ℕ) → List Span → List Span → Type 0

@@ -5,8 +5,9 @@
 //! message does to the value at each single key, and cuts messages to the range of a slot.
 #![tactic(auto)]
 
-pub mod condensed;
+pub mod eldest;
 pub mod ends;
+pub(crate) mod list;
 pub mod meets;
 pub mod msg;
 pub mod pending;

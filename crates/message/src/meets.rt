@@ -1,26 +1,22 @@
 //! Whether a message has a part in a range, and whether it is a range-delete of all of it.
-ghost use Rattle.std.specs.Prelude.{◌≡◌, ◌∷◌, [], is_some};
+ghost use Rattle.std.specs.Prelude.{◌≡◌, ◌&&◌, ◌∷◌, [], is_some};
 ghost use Rattle.std.specs.Option.{option_copied};
 ghost use Rattle.message.specs.Cuts.{cut_to};
 ghost use Rattle.message.specs.Oldest.{covers_first};
-ghost use Rattle.message.specs.Ranges.{ends_within, later_key, earlier_end};
+ghost use Rattle.message.specs.Ranges.{ends_within, reaches, later_key, earlier_end};
 ghost use Rattle.pathkey.specs.Keys.{is_below};
 
 use crate::ends::{earlier, is_before_end, is_within};
 use crate::msg::Msg;
 use crate::update::Update;
-use pathkey::{Key, KeyRange};
+use pathkey::Key;
 
-/// Whether a key can lie both in the range and from `lo` up to and without `hi`.
-fn overlaps(range: &KeyRange, lo: &Key, hi: Option<&Key>) -> bool
-    ensures { result ≡ is_below (later_key lo.now range.now.lo) (earlier_end (option_copied hi.entry) range.now.hi) }
+/// Whether a key can lie both from `low` up to and without `high` and from `lo` up to and without `hi`; `None` is no end.
+pub(crate) fn overlaps(low: &Key, high: Option<&Key>, lo: &Key, hi: Option<&Key>) -> bool
+    ensures { result ≡ is_below (later_key lo.now low.now) (earlier_end (option_copied hi.entry) (option_copied high.entry)) }
 {
-    let from = if lo.cmp(&range.lo).is_lt() {
-        &range.lo
-    } else {
-        lo
-    };
-    is_before_end(from, earlier(hi, range.hi.as_ref()))
+    let from = if lo.cmp(low).is_lt() { low } else { lo };
+    is_before_end(from, earlier(hi, high))
 }
 
 /// Whether the message has a part from `lo` up to and without `hi`; `None` is no end.
@@ -28,7 +24,7 @@ pub fn meets<U: Update>(msg: &Msg<U>, lo: &Key, hi: Option<&Key>) -> bool
     ensures { result ≡ is_some (cut_to lo.now (option_copied hi.entry) msg.now) }
 {
     match msg {
-        Msg::DelRange(range) => overlaps(range, lo, hi),
+        Msg::DelRange(range) => overlaps(&range.lo, range.hi.as_ref(), lo, hi),
         Msg::Put(key, _) | Msg::Del(key) | Msg::Edit(key, _) => is_within(key, lo, hi),
     }
 }
@@ -44,6 +40,13 @@ pub(crate) fn ends_by(end: Option<&Key>, most: Option<&Key>) -> bool
     }
 }
 
+/// Whether every key from `lo` up to and without `hi` lies from `low` up to and without `high`; `None` is no end.
+pub(crate) fn reaches_over(low: &Key, high: Option<&Key>, lo: &Key, hi: Option<&Key>) -> bool
+    ensures { result ≡ (reaches low.now lo.now && ends_within (option_copied hi.entry) (option_copied high.entry)) }
+{
+    low.cmp(lo).is_le() && ends_by(hi, high)
+}
+
 /// Whether the message is a range-delete of every key from `lo` up to and without `hi`; `None` is no end.
 pub fn covers<U: Update>(msg: &Msg<U>, lo: &Key, hi: Option<&Key>) -> bool
     ensures { result ≡ covers_first lo.now (option_copied hi.entry) (msg.now ∷ []) }
@@ -51,8 +54,5 @@ pub fn covers<U: Update>(msg: &Msg<U>, lo: &Key, hi: Option<&Key>) -> bool
     let Msg::DelRange(range) = msg else {
         return false;
     };
-    if range.lo.cmp(lo).is_gt() {
-        return false;
-    }
-    ends_by(hi, range.hi.as_ref())
+    reaches_over(&range.lo, range.hi.as_ref(), lo, hi)
 }

@@ -1,7 +1,7 @@
 //! Messages: which keys they touch, what they make of a value, and the part of a message that lies in a range.
 ghost use Rattle.std.specs.Prelude.{◌≡◌, IfOk};
 ghost use Rattle.std.specs.Option.{option_copied};
-ghost use Rattle.message.specs.Effects.{touches as is_touched, effect, point as point_of, is_settling};
+ghost use Rattle.message.specs.Effects.{touches as is_touched, effect, point as point_of};
 ghost use Rattle.message.specs.Cuts.{cut_range, cut_to, IsCut};
 ghost use Rattle.message.specs.Oldest.{given_at};
 
@@ -53,16 +53,6 @@ impl<U: Update> Msg<U> {
         match self {
             Msg::Put(key, _) | Msg::Edit(key, _) => Some(key),
             Msg::Del(_) | Msg::DelRange(_) => None,
-        }
-    }
-
-    /// Whether the message settles the value of a key that it touches, whatever the value was.
-    pub fn settles(&self) -> bool
-        ensures { result ≡ is_settling self.now }
-    {
-        match self {
-            Msg::Edit(_, _) => false,
-            Msg::Put(_, _) | Msg::Del(_) | Msg::DelRange(_) => true,
         }
     }
 

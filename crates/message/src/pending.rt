@@ -1,21 +1,25 @@
 //! The messages that wait in one slot, the oldest first.
 //!
 //! Contracts see a list of messages and for how many more there is room. What is added is promised by its
-//! meaning alone (`Takes`): the list may hold fewer messages that mean the same, so callers that rely on the
-//! contract do not notice when a list condenses. No call lends a message or asks for one by its number, so that a list
-//! in another order can take the place of this one.
-ghost use Rattle.std.specs.Prelude.{◌≡◌, ◌+◌, ◌≤◌, ◌<◌, ◌++◌, [], ◌∷◌, length, take, drop, is_some, true, IfOk, OnOk, OnErr};
-ghost use Rattle.std.specs.Option.{option_copied};
+//! meaning alone (`Takes`): the list is sorted and condenses, so that it holds fewer messages that mean the same, and
+//! callers that rely on the contract do not notice. No call lends a message or asks for one by its number.
+ghost use Rattle.std.specs.Prelude.{◌≡◌, ◌+◌, ◌≤◌, ◌<◌, ◌++◌, [], ◌∷◌, true, length, take, drop, IfOk, OnOk, OnErr};
+ghost use Rattle.std.specs.Vec.{vec_len, vec_capacity};
+ghost use Rattle.std.specs.Option.{option_copied, option_map};
+ghost use Rattle.std.specs.List.{slice_get};
 ghost use Rattle.message.specs.Cuts.{pieces};
-ghost use Rattle.message.specs.Effects.{any_touches, effects, range_count, Takes, IsDecisive};
-ghost use Rattle.message.specs.Oldest.{first_point, first_put, first_given, meets_first, covers_first};
+ghost use Rattle.message.specs.Effects.{effects, range_count, Takes};
+ghost use Rattle.message.specs.Eldest.{eldest_msg};
+ghost use Rattle.message.specs.Oldest.{first_put, first_given, meets_first, covers_first};
 ghost use Rattle.message.specs.Stretches.{IsStretch};
 ghost use Rattle.message.specs.Told.{IsTold};
 ghost use Rattle.pathkey.specs.Keys.{is_below};
 
-use crate::meets::{covers, meets};
-use crate::msg::{Msg, touches};
-use crate::stretch;
+use crate::eldest::Eldest;
+use crate::list::{copy_behind, is_touched, lay_all, pieces_of, ranges_in};
+use crate::msg::Msg;
+use crate::sorted::Sorted;
+use crate::stretch::stretch_end;
 use crate::taken::Taken;
 use crate::told::Told;
 use crate::update::{Changes, Update};
@@ -23,20 +27,21 @@ use pathkey::{Key, NoMemory};
 use std::alloc::Global;
 use std::marker::Model;
 
-/// A pending list.
+/// A pending list: a sorted part, and newer messages as they came, which found no memory for a place in it.
 #[derive(Drop)]
 pub struct Pending<U: Changes> {
-    msgs: Vec<Msg<U>>,
+    sorted: Sorted<U>,
+    fresh: Vec<Msg<U>>,
 }
 
 impl<U: Changes> Model for Pending<U> {
-    ghost use Rattle.std.specs.Prelude.{List, ℕ, ◌-◌};
+    ghost use Rattle.std.specs.Prelude.{List, ℕ, ◌-◌, ◌++◌};
     ghost use Rattle.std.specs.Vec.{vec_len, vec_capacity};
     ghost use Rattle.message.specs.declared.msg.Msg.{Msg};
 
     ghost Value = { List (Msg U U.Value) × ℕ };
 
-    ghost view = { λ p. (p.msgs.items, vec_capacity p.msgs - vec_len p.msgs) };
+    ghost view = { λ p. (p.sorted ++ p.fresh.items, vec_capacity p.fresh - vec_len p.fresh) };
 }
 
 // ---- what comes in
@@ -47,7 +52,8 @@ impl<U: Update> Pending<U> {
         ensures { result.0 ≡ [] }
     {
         Pending {
-            msgs: Vec::new(alloc),
+            sorted: Sorted::new(alloc),
+            fresh: Vec::new(alloc),
         }
     }
 
@@ -59,17 +65,18 @@ impl<U: Update> Pending<U> {
         ensures room { OnOk result (more ≤ self.new.1) }
         ensures refused { OnErr result (self.old.1 < more) }
     {
-        self.msgs.reserve(more)?;
+        self.fresh.reserve(more)?;
         Ok(())
     }
 
-    /// Adds a message, newer than all others, into reserved room.
+    /// Adds a message, newer than all others, into reserved room. What it makes idle goes, and an update joins those of its key
+    /// where it can.
     pub fn push_reserved(&mut self, msg: Msg<U>)
         requires { 0 < self.old.1 }
         ensures takes { Takes U.means self.old.0 (msg ∷ []) self.new.0 }
         ensures room { self.old.1 ≤ self.new.1 + 1 }
     {
-        self.msgs.push_reserved(msg);
+        lay(&mut self.sorted, &mut self.fresh, msg);
     }
 
     /// Adds all messages of `newer`, in their order and newer than all others, into reserved room, and
@@ -80,7 +87,11 @@ impl<U: Update> Pending<U> {
         ensures moved { newer.new.items ≡ [] }
         ensures room { self.old.1 ≤ self.new.1 + length newer.old.items }
     {
-        self.append_kept(newer);
+        let empty = Vec::new(*newer.allocator());
+        let mut taken = Taken::of(std::mem::replace(newer, empty));
+        while let Some(msg) = taken.next() {
+            self.push_reserved(msg);
+        }
     }
 
     /// The same, with the messages that were there and the new ones left as they are, for a slot with a mark.
@@ -90,7 +101,7 @@ impl<U: Update> Pending<U> {
         ensures moved { newer.new.items ≡ [] }
         ensures room { self.old.1 ≤ self.new.1 + length newer.old.items }
     {
-        let Ok(()) = self.msgs.append(newer) else {
+        let Ok(()) = self.fresh.append(newer) else {
             unreachable!()
         };
     }
@@ -101,7 +112,19 @@ impl<U: Update> Pending<U> {
         ensures takes { Takes U.means self.old.0 newer.old.0 self.new.0 }
         ensures moved { newer.new.0 ≡ [] }
     {
-        self.append_reserved(&mut newer.msgs);
+        self.append_sorted(&mut newer.sorted);
+        self.append_reserved(&mut newer.fresh);
+    }
+
+    fn append_sorted(&mut self, newer: &mut Sorted<U>)
+        requires { length newer.old ≤ self.old.1 }
+        ensures takes { Takes U.means self.old.0 newer.old self.new.0 }
+        ensures moved { newer.new ≡ [] }
+        ensures room { self.old.1 ≤ self.new.1 + length newer.old }
+    {
+        while let Some(msg) = newer.pop() {
+            self.push_reserved(msg);
+        }
     }
 
     // ---- what is counted
@@ -110,7 +133,7 @@ impl<U: Update> Pending<U> {
     pub fn len(&self) -> usize
         ensures { result ≡ length self.now.0 }
     {
-        self.msgs.len()
+        self.sorted.len() + self.fresh.len()
     }
 
     /// How many of the messages are range-deletes, without the `gone` oldest.
@@ -118,36 +141,22 @@ impl<U: Update> Pending<U> {
         requires { gone ≤ length self.now.0 }
         ensures { result ≡ range_count (drop gone self.now.0) }
     {
-        ranges_in(&self.msgs[gone..])
-    }
-
-    /// How many of the oldest messages, at most `most`, stand before the first range-delete.
-    pub fn points_ahead(&self, most: usize) -> usize
-        ensures few { result ≤ most }
-        ensures within { result ≤ length self.now.0 }
-        ensures points { range_count (take result self.now.0) ≡ 0 }
-        ensures some { 0 < most → is_some (first_point self.now.0) ≡ true → 0 < result }
-    {
-        points_in(self.msgs.as_slice(), most)
-    }
-
-    /// How many pieces the `count` oldest messages have from `lo` up to and without `hi`.
-    pub fn part_len(&self, count: usize, lo: &Key, hi: Option<&Key>) -> usize
-        requires { count ≤ length self.now.0 }
-        ensures { result ≡ length (pieces lo.now (option_copied hi.entry) (take count self.now.0)) }
-    {
-        pieces_in(&self.msgs[..count], lo, hi)
+        let sorted = gone.min(self.sorted.len());
+        self.sorted.range_deletes(sorted) + ranges_in(&self.fresh[gone - sorted..])
     }
 
     // ---- the oldest message
 
-    /// The key of the oldest message, if there is one and it is no range-delete.
-    pub fn oldest_point(&self) -> Option<&Key>
-        ensures { option_copied result ≡ first_point self.now.0 }
+    /// The oldest message, if there is one.
+    fn oldest(&self) -> Option<Eldest<'_, U>>
+        ensures { option_map eldest_msg result ≡ slice_get self.now.0 0 }
     {
-        match self.msgs.as_slice().first() {
-            None => None,
-            Some(msg) => msg.point(),
+        match self.sorted.oldest() {
+            Some(eldest) => Some(eldest),
+            None => match self.fresh.first() {
+                Some(msg) => Some(Eldest::Plain(msg)),
+                None => None,
+            },
         }
     }
 
@@ -155,9 +164,9 @@ impl<U: Update> Pending<U> {
     pub fn oldest_put(&self) -> Option<&Key>
         ensures { option_copied result ≡ first_put self.now.0 }
     {
-        match self.msgs.as_slice().first() {
-            Some(Msg::Put(key, _)) => Some(key),
-            _ => None,
+        match self.oldest() {
+            None => None,
+            Some(eldest) => eldest.put(),
         }
     }
 
@@ -165,9 +174,9 @@ impl<U: Update> Pending<U> {
     pub fn oldest_given(&self) -> Option<&Key>
         ensures { option_copied result ≡ first_given self.now.0 }
     {
-        match self.msgs.as_slice().first() {
+        match self.oldest() {
             None => None,
-            Some(msg) => msg.given(),
+            Some(eldest) => eldest.given(),
         }
     }
 
@@ -175,9 +184,9 @@ impl<U: Update> Pending<U> {
     pub fn oldest_meets(&self, lo: &Key, hi: Option<&Key>) -> bool
         ensures { result ≡ meets_first lo.now (option_copied hi.entry) self.now.0 }
     {
-        match self.msgs.as_slice().first() {
+        match self.oldest() {
             None => false,
-            Some(msg) => meets(msg, lo, hi),
+            Some(eldest) => eldest.meets(lo, hi),
         }
     }
 
@@ -185,9 +194,9 @@ impl<U: Update> Pending<U> {
     pub fn oldest_covers(&self, lo: &Key, hi: Option<&Key>) -> bool
         ensures { result ≡ covers_first lo.now (option_copied hi.entry) self.now.0 }
     {
-        match self.msgs.as_slice().first() {
+        match self.oldest() {
             None => false,
-            Some(msg) => covers(msg, lo, hi),
+            Some(eldest) => eldest.covers(lo, hi),
         }
     }
 
@@ -198,10 +207,9 @@ impl<U: Update> Pending<U> {
         requires { count ≤ length self.now.0 }
         ensures { IfOk result (λ front. front.items ≡ take count self.now.0) }
     {
-        let mut front = Vec::with_capacity(alloc, count)?;
-        for msg in &self.msgs[..count] {
-            front.push(msg.copy(alloc)?)?;
-        }
+        let mut front = self.sorted.copy_front(alloc, count)?;
+        let sorted = count.min(self.sorted.len());
+        copy_behind(alloc, &self.fresh[..count - sorted], &mut front)?;
         Ok(front)
     }
 
@@ -209,8 +217,10 @@ impl<U: Update> Pending<U> {
     pub fn copy(&self, alloc: Global) -> Result<Pending<U>, NoMemory>
         ensures { IfOk result (λ p. p.0 ≡ self.now.0) }
     {
-        let msgs = self.copy_front(alloc, self.len())?;
-        Ok(Pending { msgs })
+        let sorted = self.sorted.copy(alloc)?;
+        let mut fresh = Vec::new(alloc);
+        copy_behind(alloc, self.fresh.as_slice(), &mut fresh)?;
+        Ok(Pending { sorted, fresh })
     }
 
     /// A list of copies of the messages but the `gone` oldest, cut from `lo` up to and without `hi`.
@@ -224,8 +234,12 @@ impl<U: Update> Pending<U> {
         requires { gone ≤ length self.now.0 }
         ensures { IfOk result (λ p. Takes U.means [] (pieces lo.now (option_copied hi.entry) (drop gone self.now.0)) p.0) }
     {
-        let msgs = pieces_of(alloc, lo, hi, &self.msgs[gone..])?;
-        Ok(Pending { msgs })
+        let all = self.copy_front(alloc, self.len())?;
+        let mut fresh = pieces_of(alloc, lo, hi, &all[gone..])?;
+        let mut list = Pending::new(alloc);
+        list.reserve(fresh.len())?;
+        list.append_reserved(&mut fresh);
+        Ok(list)
     }
 
     /// Takes the `count` oldest messages away.
@@ -234,7 +248,9 @@ impl<U: Update> Pending<U> {
         ensures messages { self.new.0 ≡ drop count self.old.0 }
         ensures room { self.old.1 ≤ self.new.1 }
     {
-        self.msgs.drain(..count);
+        let sorted = count.min(self.sorted.len());
+        self.sorted.drop_front(sorted);
+        self.fresh.drain(..count - sorted);
     }
 
     /// Moves the `count` oldest messages out, whole or not at all.
@@ -244,26 +260,28 @@ impl<U: Update> Pending<U> {
         ensures taken { IfOk result (λ t. t ≡ take count self.old.0) }
         ensures err { OnErr result (self.new.0 ≡ self.old.0) }
     {
-        let rest = self.msgs.split_off(count)?;
-        let front = std::mem::replace(&mut self.msgs, rest);
-        Ok(Taken::of(front))
+        let sorted = count.min(self.sorted.len());
+        let mut taken = Vec::with_capacity(*self.fresh.allocator(), count)?;
+        let rest = self.fresh.split_off(count - sorted)?;
+        let mut fresh = std::mem::replace(&mut self.fresh, rest);
+        self.sorted.move_front(sorted, &mut taken);
+        let Ok(()) = taken.append(&mut fresh) else {
+            unreachable!()
+        };
+        Ok(Taken::of(taken))
     }
 
     // ---- what is asked
 
-    /// What the list says of the value at the key. It copies nothing but a value that it settles.
+    /// What the list says of the value at the key. It copies nothing but a value that it settles. Where a message that found
+    /// no memory for its place touches the key, it says nothing.
     pub fn told(&self, alloc: Global, key: &Key) -> Result<Told<U::Value>, NoMemory>
         ensures { IfOk result (IsTold U.means self.now.0 key.now) }
     {
-        if !is_touched(self.msgs.as_slice(), key) {
-            return Ok(Told::Nothing);
+        if is_touched(self.fresh.as_slice(), key) {
+            return Ok(Told::Change);
         }
-        let (from, settled) = self.decisive(key);
-        if settled {
-            let value = lay_all(alloc, &self.msgs[from..], key, None)?;
-            return Ok(Told::Value(value));
-        }
-        Ok(Told::Change)
+        self.sorted.told(alloc, key)
     }
 
     /// The value at `key` after the messages, where `old` was there.
@@ -275,7 +293,8 @@ impl<U: Update> Pending<U> {
     ) -> Result<Option<U::Value>, NoMemory>
         ensures { IfOk result (λ v. v ≡ effects U.means self.now.0 key.now old) }
     {
-        lay_all(alloc, self.msgs.as_slice(), key, old)
+        let value = self.sorted.value_after(alloc, key, old)?;
+        lay_all(alloc, self.fresh.as_slice(), key, value)
     }
 
     /// Where the stretch of keys that begins at `from` ends: up to there, at `end` or before it, each message touches all
@@ -289,117 +308,26 @@ impl<U: Update> Pending<U> {
         requires { is_below from.now (option_copied end) ≡ true }
         ensures { IfOk result (λ stop. IsStretch self.now.0 from.now (option_copied end.entry) stop) }
     {
-        stretch::stretch_end(alloc, self.msgs.as_slice(), from, end)
-    }
-
-    /// From which message on the list decides the value at `key`, and whether a message settles it, so that the list
-    /// does so whatever was there.
-    ///
-    /// It looks at the newest messages first, and at none that is older than one that settles the value.
-    fn decisive(&self, key: &Key) -> (usize, bool)
-        ensures { IsDecisive U.means self.now.0 key.now result.0 result.1 }
-    {
-        let msgs = self.msgs.as_slice();
-        let mut i = msgs.len();
-        let mut from = i;
-        while i > 0 {
-            i -= 1;
-            let msg = &msgs[i];
-            if touches(msg, key) {
-                if msg.settles() {
-                    return (i, true);
-                }
-                from = i;
-            }
-        }
-        (from, false)
-    }
-}
-
-/// Whether a message touches the key.
-pub(crate) fn is_touched<U: Update>(msgs: &[Msg<U>], key: &Key) -> bool
-    ensures { result ≡ any_touches msgs.now key.now }
-{
-    let Some((msg, rest)) = msgs.split_first() else {
-        return false;
-    };
-    touches(msg, key) || is_touched(rest, key)
-}
-
-/// How many of the messages are range-deletes.
-fn ranges_in<U: Update>(msgs: &[Msg<U>]) -> usize
-    ensures { result ≡ range_count msgs.now }
-{
-    let mut count = 0;
-    for msg in msgs {
-        if let Msg::DelRange(_) = msg {
-            count += 1;
+        match self.sorted.stretch_end(from, end) {
+            None => Ok(Some(from.next(alloc)?)),
+            Some(stop) => stretch_end(alloc, self.fresh.as_slice(), from, stop),
         }
     }
-    count
 }
 
-/// How many of the first messages, at most `most`, stand before the first range-delete.
-fn points_in<U: Update>(msgs: &[Msg<U>], most: usize) -> usize
-    ensures few { result ≤ most }
-    ensures within { result ≤ length msgs.now }
-    ensures points { range_count (take result msgs.now) ≡ 0 }
-    ensures some { 0 < most → is_some (first_point msgs.now) ≡ true → 0 < result }
+/// Lays a message over the sorted part, or puts it behind the others where it finds no place there.
+fn lay<U: Update>(sorted: &mut Sorted<U>, fresh: &mut Vec<Msg<U>>, msg: Msg<U>)
+    requires { vec_len fresh.old < vec_capacity fresh.old }
+    ensures takes { Takes U.means (sorted.old ++ fresh.old.items) (msg ∷ []) (sorted.new ++ fresh.new.items) }
+    ensures len { vec_len fresh.new ≤ vec_len fresh.old + 1 }
+    ensures capacity { vec_capacity fresh.new ≡ vec_capacity fresh.old }
 {
-    if most == 0 {
-        return 0;
+    if !fresh.is_empty() {
+        fresh.push_reserved(msg);
+        return;
     }
-    let Some((msg, rest)) = msgs.split_first() else {
-        return 0;
-    };
-    if let Msg::DelRange(_) = msg {
-        return 0;
+    let alloc = *fresh.allocator();
+    if let Err(msg) = sorted.push(alloc, msg) {
+        fresh.push_reserved(msg);
     }
-    points_in(rest, most - 1) + 1
-}
-
-/// How many of the messages have a part from `lo` up to and without `hi`.
-fn pieces_in<U: Update>(msgs: &[Msg<U>], lo: &Key, hi: Option<&Key>) -> usize
-    ensures exact { result ≡ length (pieces lo.now (option_copied hi.entry) msgs.now) }
-    ensures few { result ≤ length msgs.now }
-{
-    let Some((msg, rest)) = msgs.split_first() else {
-        return 0;
-    };
-    let more = pieces_in(rest, lo, hi);
-    if meets(msg, lo, hi) { more + 1 } else { more }
-}
-
-/// The parts of messages from `lo` up to and without `hi`, in their order.
-pub(crate) fn pieces_of<U: Update>(
-    alloc: Global,
-    lo: &Key,
-    hi: Option<&Key>,
-    msgs: &[Msg<U>],
-) -> Result<Vec<Msg<U>>, NoMemory>
-    ensures { IfOk result (λ v. v.items ≡ pieces lo.now (option_copied hi.entry) msgs.now) }
-{
-    let mut found = Vec::new(alloc);
-    for msg in msgs {
-        if let Some(piece) = msg.cut_between(alloc, lo, hi)? {
-            found.push(piece)?;
-        }
-    }
-    Ok(found)
-}
-
-/// The value at `key` after the messages, the oldest first, where `old` was there.
-pub(crate) fn lay_all<U: Update>(
-    alloc: Global,
-    msgs: &[Msg<U>],
-    key: &Key,
-    old: Option<U::Value>,
-) -> Result<Option<U::Value>, NoMemory>
-    ensures { IfOk result (λ v. v ≡ effects U.means msgs.now key.now old) }
-{
-    let mut value = old;
-    for msg in msgs {
-        value = msg.lay(alloc, key, value)?;
-    }
-    Ok(value)
 }

@@ -1,5 +1,5 @@
 //! The point messages of a sorted list, by their keys.
-ghost use Rattle.std.specs.Prelude.{◌≡◌, ◌+◌, ◌≤◌, ◌<◌, ◌^◌, not, true, false, ℕ, List, Option, None, take, ◌++◌, OnOk, OnErr, IfOk, IfErr};
+ghost use Rattle.std.specs.Prelude.{◌≡◌, ◌+◌, ◌≤◌, ◌<◌, ◌^◌, not, true, false, ℕ, List, length, Option, None, take, ◌++◌, OnOk, OnErr, IfOk, IfErr, IfSome, IfNone};
 ghost use Rattle.std.specs.BTreeMap.{IsOrdered};
 ghost use Rattle.std.specs.List.{filter};
 ghost use Rattle.std.specs.Option.{option_copied};
@@ -11,7 +11,7 @@ ghost use Rattle.message.specs.Settled.{AreRunsKeyed, Lays, look, point_msgs, po
 
 use crate::ends::earlier;
 use crate::msg::Msg;
-use crate::ranges::{end_of, first_behind};
+use crate::ranges::{end_of, first_behind, put};
 use crate::run::Run;
 use crate::update::Update;
 use pathkey::{Key, KeyRange, NoMemory};
@@ -101,8 +101,11 @@ fn edit_run<U: Update>(
 }
 
 /// Takes away the messages at the keys of a range, and answers how many are left of `count`.
+///
+/// It goes from key to key inside the range. Where memory for the copy of a key is refused, it goes through all instead.
 pub(crate) fn clear<U: Update>(
     points: &mut BTreeMap<Key, Run<U>>,
+    alloc: Global,
     range: &KeyRange,
     count: usize,
 ) -> usize
@@ -114,11 +117,37 @@ pub(crate) fn clear<U: Update>(
     ensures was_ordered { IsOrdered by_bytes points.old }
     ensures counted { result ≡ point_count points.new.entries }
 {
+    let mut left = count;
+    let _ = points.len();
+    while let Some(run) = take_inside(points, alloc, range) {
+        left -= run.len();
+    }
     if !has_inside(points, range) {
-        return count;
+        return left;
     }
     points.retain(|key, _| !range.contains(key));
     count_of(points)
+}
+
+/// Takes out the first run that stands at a key of the range. There is none to take where memory for a copy of the key is
+/// refused.
+fn take_inside<U: Update>(
+    points: &mut BTreeMap<Key, Run<U>>,
+    alloc: Global,
+    range: &KeyRange,
+) -> Option<Run<U>>
+    requires { is_below range.now.lo range.now.hi ≡ true }
+    ensures same { filter (λ e. not (is_in range.now e.0)) points.new.entries ≡ filter (λ e. not (is_in range.now e.0)) points.old.entries }
+    ensures counted { IfSome result (λ run. point_count points.new.entries + run_len run ≡ point_count points.old.entries) }
+    ensures fewer { IfSome result (λ run. length points.new.entries < length points.old.entries) }
+    ensures none { IfNone result (points.new.entries ≡ points.old.entries) }
+{
+    let mut inside = points.range((Bound::Included(&range.lo), end_of(range)));
+    let (key, _) = inside.next()?;
+    let Ok(key) = key.copy(alloc) else {
+        return None;
+    };
+    points.remove(&key)
 }
 
 /// Whether messages stand at keys of the range.
@@ -185,4 +214,22 @@ pub(crate) fn copy_into<U: Update>(
         run.copy_into(alloc, key, front)?;
     }
     Ok(())
+}
+
+/// The same messages at the same keys.
+pub(crate) fn copy<U: Update>(
+    points: &BTreeMap<Key, Run<U>>,
+    alloc: Global,
+) -> Result<BTreeMap<Key, Run<U>>, NoMemory>
+    ensures same { IfOk result (λ p. point_msgs p.entries ≡ point_msgs points.now.entries) }
+    ensures keyed { IfOk result (λ p. AreRunsKeyed points.now.entries → AreRunsKeyed p.entries) }
+{
+    let mut copy = BTreeMap::new(alloc);
+    let _ = points.len();
+    for (key, run) in points {
+        let key = key.copy(alloc)?;
+        let run = run.copy(alloc)?;
+        put(&mut copy, key, run)?;
+    }
+    Ok(copy)
 }

@@ -6,8 +6,8 @@ ghost use Rattle.std.specs.List.{filter};
 ghost use Rattle.std.specs.Range.Bound.{bound_map};
 ghost use Rattle.pathkey.specs.Order.{by_bytes};
 ghost use Rattle.pathkey.specs.Keys.{is_below};
-ghost use Rattle.message.specs.Ranges.{before, reaches, within};
-ghost use Rattle.message.specs.Settled.{covered, last_where, ends_by, AreApart, EndBy, EndByEnd, AreHeld, CoversMore, is_outside, end_bound, range_msgs, first_behind, high_ahead};
+ghost use Rattle.message.specs.Ranges.{before, reaches};
+ghost use Rattle.message.specs.Settled.{covered, last_where, ends_by, AreApart, AreHeld, CoversMore, IsLowEnd, IsHighEnd, Widens, is_outside, end_bound, range_msgs, first_behind, high_ahead};
 ghost use Rattle.message.specs.Stretches.{IsStretch};
 
 use crate::ends::{copy_end, earlier, is_before_end};
@@ -87,26 +87,50 @@ pub(crate) fn is_covered(ranges: &BTreeMap<Key, Option<Key>>, key: &Key) -> bool
     }
 }
 
-/// Whether a range begins before the key and ends after it.
-fn splits(ranges: &BTreeMap<Key, Option<Key>>, key: &Key) -> bool
+/// Where the range begins that begins before the key and ends at it or after it; the key where there is none.
+fn low_end<'a>(ranges: &'a BTreeMap<Key, Option<Key>>, key: &'a Key) -> &'a Key
     requires { AreApart ranges.now.entries }
-    ensures { result ≡ false → EndBy key.now ranges.now.entries }
+    ensures { IsLowEnd ranges.now.entries key.now result.now }
 {
-    match last_before(ranges, key) {
-        None => false,
-        Some((_, end)) => is_before_end(key, end.as_ref()),
+    let Some((low, end)) = last_before(ranges, key) else {
+        return key;
+    };
+    if ends_by(Some(key), end.as_ref()) {
+        low
+    } else {
+        key
     }
 }
 
-/// Whether a range begins before the end and ends after it; `None` is no end.
-fn splits_end(ranges: &BTreeMap<Key, Option<Key>>, end: Option<&Key>) -> bool
+/// Where the range ends that holds the end; the end where there is none. `None` is no end.
+fn high_end<'a>(ranges: &'a BTreeMap<Key, Option<Key>>, end: Option<&'a Key>) -> Option<&'a Key>
     requires { AreApart ranges.now.entries }
-    ensures { result ≡ false → EndByEnd (option_copied end.entry) ranges.now.entries }
+    ensures { IsHighEnd ranges.now.entries (option_copied end.entry) (option_copied result) }
 {
-    match end {
-        None => false,
-        Some(key) => splits(ranges, key),
+    let key = end?;
+    let Some((_, high)) = at_or_before(ranges, key) else {
+        return Some(key);
+    };
+    if is_before_end(key, high.as_ref()) {
+        high.as_ref()
+    } else {
+        Some(key)
     }
+}
+
+/// The range and those that reach over its ends or meet them, as one range.
+fn widened(
+    ranges: &BTreeMap<Key, Option<Key>>,
+    alloc: Global,
+    range: &KeyRange,
+) -> Result<KeyRange, NoMemory>
+    requires some { is_below range.now.lo range.now.hi ≡ true }
+    requires apart { AreApart ranges.now.entries }
+    ensures { IfOk result (Widens ranges.now.entries range.now) }
+{
+    let lo = low_end(ranges, &range.lo).copy(alloc)?;
+    let hi = copy_end(alloc, high_end(ranges, range.hi.as_ref()))?;
+    Ok(KeyRange { lo, hi })
 }
 
 /// Whether a range begins behind the low end of another and before its high end.
@@ -139,21 +163,19 @@ fn is_outside(key: &Key, range: &KeyRange) -> bool
 fn add(
     ranges: &mut BTreeMap<Key, Option<Key>>,
     alloc: Global,
-    range: &KeyRange,
+    range: KeyRange,
 ) -> Result<(), NoMemory>
-    requires { is_below range.now.lo range.now.hi ≡ true }
-    ensures ok { OnOk result (ranges.new.entries ≡ filter (λ e. is_outside range.now.lo range.now.hi e) (insert_entry by_bytes ranges.old.entries range.now.lo range.now.hi)) }
+    requires { is_below range.lo range.hi ≡ true }
+    ensures ok { OnOk result (ranges.new.entries ≡ filter (λ e. is_outside range.lo range.hi e) (insert_entry by_bytes ranges.old.entries range.lo range.hi)) }
     ensures err { OnErr result (ranges.new.entries ≡ ranges.old.entries) }
     ensures was_ordered { OnOk result (IsOrdered by_bytes ranges.old) }
 {
-    let lo = range.lo.copy(alloc)?;
-    let hi = copy_end(alloc, range.hi.as_ref())?;
-    let Ok(_) = ranges.insert(lo, hi) else {
-        return Err(NoMemory);
-    };
-    if has_inside(ranges, range) {
-        ranges.retain(|low, _| is_outside(low, range));
+    if !has_inside(ranges, &range) {
+        return put(ranges, range.lo, range.hi);
     }
+    let copy = range.copy(alloc)?;
+    put(ranges, copy.lo, copy.hi)?;
+    ranges.retain(|low, _| is_outside(low, &range));
     Ok(())
 }
 
@@ -168,8 +190,8 @@ fn is_held(ranges: &BTreeMap<Key, Option<Key>>, range: &KeyRange) -> bool
     }
 }
 
-/// Lays a range over the others: those inside it give way to it, and it is left out where another holds it. Where it and
-/// another reach into each other it is refused, as for want of memory, and the ranges are as they were.
+/// Lays a range over the others: those inside it give way to it, it becomes one with those that reach over its ends or
+/// meet them, and it is left out where another holds it.
 pub(crate) fn lay(
     ranges: &mut BTreeMap<Key, Option<Key>>,
     alloc: Global,
@@ -185,13 +207,8 @@ pub(crate) fn lay(
     if is_held(ranges, range) {
         return Ok(());
     }
-    if splits(ranges, &range.lo) {
-        return Err(NoMemory);
-    }
-    if splits_end(ranges, range.hi.as_ref()) {
-        return Err(NoMemory);
-    }
-    add(ranges, alloc, range)?;
+    let wide = widened(ranges, alloc, range)?;
+    add(ranges, alloc, wide)?;
     Ok(())
 }
 
@@ -212,5 +229,32 @@ pub(crate) fn copy_into<U: Update>(
         let hi = copy_end(alloc, hi.as_ref())?;
         front.push(Msg::DelRange(KeyRange { lo, hi }))?;
     }
+    Ok(())
+}
+
+/// Equal ranges.
+pub(crate) fn copy(
+    ranges: &BTreeMap<Key, Option<Key>>,
+    alloc: Global,
+) -> Result<BTreeMap<Key, Option<Key>>, NoMemory>
+    ensures { IfOk result (λ r. r.entries ≡ ranges.now.entries) }
+{
+    let mut copy = BTreeMap::new(alloc);
+    let _ = ranges.len();
+    for (lo, hi) in ranges {
+        let lo = lo.copy(alloc)?;
+        let hi = copy_end(alloc, hi.as_ref())?;
+        put(&mut copy, lo, hi)?;
+    }
+    Ok(copy)
+}
+
+/// Puts a value at a key.
+pub(crate) fn put<T: Drop>(map: &mut BTreeMap<Key, T>, key: Key, value: T) -> Result<(), NoMemory>
+    ensures ok { OnOk result (map.new.entries ≡ insert_entry by_bytes map.old.entries key value) }
+    ensures err { OnErr result (map.new.entries ≡ map.old.entries) }
+    ensures was_ordered { IsOrdered by_bytes map.old }
+{
+    map.insert(key, value)?;
     Ok(())
 }

@@ -36,8 +36,19 @@ pub struct Several<U: Changes> {
 }
 
 impl<U: Update> Several<U> {
+    /// How many updates it holds.
+    pub(crate) fn len(&self) -> usize
+        ensures { result ≡ length self.now.more.items + 1 }
+    {
+        self.more.len() + 1
+    }
+
     /// The value after the updates, where `old` was there.
-    fn apply(&self, alloc: Global, old: Option<U::Value>) -> Result<Option<U::Value>, NoMemory>
+    pub(crate) fn apply(
+        &self,
+        alloc: Global,
+        old: Option<U::Value>,
+    ) -> Result<Option<U::Value>, NoMemory>
         ensures { IfOk result (λ v. v ≡ several_effect U.means self.now old) }
     {
         let mut value = self.first.apply(alloc, old.as_ref())?;
@@ -67,7 +78,12 @@ impl<U: Update> Several<U> {
     }
 
     /// Copies of the updates as messages at the key, put behind those in `front`.
-    fn copy_into(&self, alloc: Global, key: &Key, front: &mut Vec<Msg<U>>) -> Result<(), NoMemory>
+    pub(crate) fn copy_into(
+        &self,
+        alloc: Global,
+        key: &Key,
+        front: &mut Vec<Msg<U>>,
+    ) -> Result<(), NoMemory>
         ensures { OnOk result (front.new.items ≡ front.old.items ++ several_msgs key.now self.now) }
     {
         front.push(Msg::Edit(key.copy(alloc)?, self.first.copy(alloc)?))?;
@@ -75,6 +91,19 @@ impl<U: Update> Several<U> {
             front.push(Msg::Edit(key.copy(alloc)?, update.1.copy(alloc)?))?;
         }
         Ok(())
+    }
+
+    /// Equal updates.
+    pub(crate) fn copy(&self, alloc: Global) -> Result<Several<U>, NoMemory>
+        ensures first { IfOk result (λ s. s.first ≡ self.now.first) }
+        ensures more { IfOk result (λ s. s.more.items ≡ self.now.more.items) }
+    {
+        let first = self.first.copy(alloc)?;
+        let mut more = Vec::new(alloc);
+        for update in &self.more {
+            more.push((update.0.copy(alloc)?, update.1.copy(alloc)?))?;
+        }
+        Ok(Several { first, more })
     }
 
     /// Takes the oldest update out where others stand behind it.
@@ -182,7 +211,7 @@ impl<U: Update> Run<U> {
     {
         match self {
             Run::Put(_) | Run::Del | Run::Edit(_) => 1,
-            Run::Edits(several) => several.more.len() + 1,
+            Run::Edits(several) => several.len(),
         }
     }
 
@@ -315,7 +344,7 @@ impl<U: Update> Run<U> {
     }
 
     /// The oldest message of the run at the key, and the others, if there are any.
-    pub(crate) fn split(self, key: Key) -> (Msg<U>, Option<(Key, Run<U>)>)
+    pub(crate) fn split(self, key: Key) -> (Msg<U>, Option<(Key, Box<Several<U>>)>)
         requires { IsRunKeyed key self }
         ensures parts { run_msgs key self ≡ result.0 ∷ rest_msgs result.1 }
         ensures keyed { IsRestKeyed result.1 }
@@ -328,14 +357,14 @@ impl<U: Update> Run<U> {
         }
     }
 
-    fn split_several(several: Box<Several<U>>, key: Key) -> (Msg<U>, Option<(Key, Run<U>)>)
+    fn split_several(several: Box<Several<U>>, key: Key) -> (Msg<U>, Option<(Key, Box<Several<U>>)>)
         requires { AreKeyed key several.value.more.items }
         ensures parts { several_msgs key several.value ≡ result.0 ∷ rest_msgs result.1 }
         ensures keyed { IsRestKeyed result.1 }
     {
         let mut several = several;
         match several.split_first() {
-            Some(msg) => (msg, Some((key, Run::Edits(several)))),
+            Some(msg) => (msg, Some((key, several))),
             None => (Msg::Edit(key, Box::into_inner(several).first), None),
         }
     }
@@ -363,6 +392,19 @@ impl<U: Update> Run<U> {
                 Ok(())
             }
             Run::Edits(several) => several.copy_into(alloc, key, front),
+        }
+    }
+
+    /// A run of the same messages.
+    pub(crate) fn copy(&self, alloc: Global) -> Result<Run<U>, NoMemory>
+        ensures same { IfOk result (λ r. (k : List ℕ) → run_msgs k r ≡ run_msgs k self.now) }
+        ensures keyed { IfOk result (λ r. (k : List ℕ) → IsRunKeyed k self.now → IsRunKeyed k r) }
+    {
+        match self {
+            Run::Put(value) => Ok(Run::Put(U::copy_value(alloc, value)?)),
+            Run::Del => Ok(Run::Del),
+            Run::Edit(update) => Ok(Run::Edit(update.copy(alloc)?)),
+            Run::Edits(several) => Ok(Run::Edits(Box::new(alloc, several.copy(alloc)?)?)),
         }
     }
 }

@@ -1,14 +1,17 @@
 //! A sorted list of messages, kept short: what a later message makes idle is taken away.
-ghost use Rattle.std.specs.Prelude.{true, ◌≡◌, ◌+◌, ◌^◌, ◌<◌, ◌≤◌, [], ◌∷◌, length, None, if◌then◌else◌, ◌++◌, take, IfSome, IfNone, IfOk, IfErr, OnOk, OnErr};
+ghost use Rattle.std.specs.Prelude.{true, ◌≡◌, ◌+◌, ◌^◌, ◌<◌, ◌≤◌, [], ◌∷◌, length, None, if◌then◌else◌, ◌++◌, take, drop, IfSome, IfNone, IfOk, IfErr, OnOk, OnErr};
 ghost use Rattle.message.specs.declared.msg.Msg.TheVariants as msg;
 ghost use Rattle.message.specs.declared.told.Told.TheVariants as told;
 ghost use Rattle.message.specs.Effects.{effects, range_count, Takes};
+ghost use Rattle.message.specs.Eldest.{eldest_msg};
+ghost use Rattle.std.specs.List.{slice_get};
 ghost use Rattle.message.specs.Oldests.{oldest_msgs, IsOldestKeyed};
 ghost use Rattle.message.specs.Stretches.{EndsAhead};
 ghost use Rattle.message.specs.Told.{IsTold};
 ghost use Rattle.pathkey.specs.Keys.{is_below};
 ghost use Rattle.std.specs.Option.{option_copied, option_map};
 
+use crate::eldest::Eldest;
 use crate::ends::is_before_end;
 use crate::msg::Msg;
 use crate::run::Run;
@@ -67,11 +70,25 @@ impl<U: Update> Settled<U> {
         self.ranges.len() + self.count
     }
 
-    /// How many of the messages are range-deletes.
-    pub(crate) fn range_deletes(&self) -> usize
-        ensures { result ≡ range_count self.now }
+    /// How many of the messages are range-deletes, without the `gone` oldest.
+    pub(crate) fn range_deletes(&self, gone: usize) -> usize
+        ensures count { result ≡ range_count (drop gone self.now) }
+        ensures small { result ≤ 2 ^ 62 }
     {
-        self.ranges.len()
+        self.ranges.len().saturating_sub(gone)
+    }
+
+    /// The oldest message, if there is one.
+    pub(crate) fn oldest(&self) -> Option<Eldest<'_, U>>
+        ensures { option_map eldest_msg result ≡ slice_get self.now 0 }
+    {
+        match self.ranges.first_key_value() {
+            Some((lo, hi)) => Some(Eldest::Range(lo, hi.as_ref())),
+            None => match self.points.first_key_value() {
+                Some((key, run)) => Some(Eldest::Run(key, run)),
+                None => None,
+            },
+        }
     }
 
     /// Lays a message that gives the key a value.
@@ -125,7 +142,8 @@ impl<U: Update> Settled<U> {
         }
     }
 
-    /// Lays a range-delete: the older point messages and range-deletes inside it go.
+    /// Lays a range-delete: the older point messages and range-deletes inside it go, and older range-deletes that reach over
+    /// its ends or meet them become one with it.
     fn del_range(&mut self, alloc: Global, range: KeyRange) -> Result<(), Msg<U>>
         requires { length self.old < 2 ^ 62 }
         ensures takes { OnOk result (Takes U.means self.old (msg.DelRange range ∷ []) self.new) }
@@ -138,12 +156,12 @@ impl<U: Update> Settled<U> {
         let Ok(()) = ranges::lay(&mut self.ranges, alloc, &range) else {
             return Err(Msg::DelRange(range));
         };
-        self.count = points::clear(&mut self.points, &range, self.count);
+        self.count = points::clear(&mut self.points, alloc, &range, self.count);
         Ok(())
     }
 
-    /// Adds a message, newer than all others. It comes back where memory is refused, or where it is a range-delete and an
-    /// older one and it reach into each other; the list then is as it was.
+    /// Adds a message, newer than all others. It comes back where memory is refused, or where the list holds [`MOST`]
+    /// messages; the list then is as it was.
     pub(crate) fn push(&mut self, alloc: Global, msg: Msg<U>) -> Result<(), Msg<U>>
         ensures takes { OnOk result (Takes U.means self.old (msg ∷ []) self.new) }
         ensures unchanged { OnErr result (self.new ≡ self.old) }
@@ -228,6 +246,19 @@ impl<U: Update> Settled<U> {
             Some(run) => run.apply(alloc, below),
             None => Ok(below),
         }
+    }
+
+    /// A list of the same messages.
+    pub(crate) fn copy(&self, alloc: Global) -> Result<Settled<U>, NoMemory>
+        ensures { IfOk result (λ p. p ≡ self.now) }
+    {
+        let ranges = ranges::copy(&self.ranges, alloc)?;
+        let points = points::copy(&self.points, alloc)?;
+        Ok(Settled {
+            ranges,
+            points,
+            count: self.count,
+        })
     }
 }
 

@@ -2,16 +2,19 @@
 ghost use Rattle.std.specs.Prelude.{◌≡◌, ◌+◌, ◌-◌, ◌^◌, ◌<◌, ◌≤◌, ◌++◌, [], ◌∷◌, true, false, length, take, drop, IfOk, IfErr, IfNone, OnOk, OnErr};
 ghost use Rattle.std.specs.Option.{option_copied, option_map, option_to_list};
 ghost use Rattle.std.specs.Vec.{vec_len, vec_capacity};
-ghost use Rattle.message.specs.Effects.{effects, any_touches, Takes};
+ghost use Rattle.std.specs.List.{slice_get};
+ghost use Rattle.message.specs.Effects.{effects, any_touches, range_count, Takes};
+ghost use Rattle.message.specs.Eldest.{eldest_msg};
 ghost use Rattle.message.specs.Stretches.{EndsAhead};
 ghost use Rattle.message.specs.Told.{IsTold};
 ghost use Rattle.pathkey.specs.Keys.{is_below};
 ghost use Rattle.message.specs.Oldests.{oldest_msgs, IsOldestKeyed};
 ghost use Rattle.message.specs.Runs.{rest_msgs, IsRestKeyed};
 
+use crate::eldest::Eldest;
 use crate::ends::earlier;
 use crate::msg::Msg;
-use crate::run::Run;
+use crate::run::{Run, Several};
 use crate::settled::{MOST, Oldest, Settled};
 use crate::stretch::ahead_of;
 use crate::told::Told;
@@ -20,10 +23,10 @@ use pathkey::{Key, NoMemory};
 use std::alloc::Global;
 use std::marker::Model;
 
-/// A sorted list of messages, and before it what is left of the messages of one key, the first of which have left.
+/// A sorted list of messages, and before it what is left of the updates of one key, the first of which have left.
 #[derive(Drop)]
 pub struct Sorted<U: Changes> {
-    front: Option<(Key, Run<U>)>,
+    front: Option<(Key, Box<Several<U>>)>,
     rest: Settled<U>,
 }
 
@@ -58,12 +61,33 @@ impl<U: Update> Sorted<U> {
     {
         match &self.front {
             None => self.rest.len(),
-            Some((_, run)) => run.len() + self.rest.len(),
+            Some((_, several)) => several.len() + self.rest.len(),
         }
     }
 
-    /// Adds a message, newer than all others. It comes back where memory is refused, or where it is a range-delete and an
-    /// older one and it reach into each other; the list then is as it was.
+    /// How many of the messages are range-deletes, without the `gone` oldest.
+    pub(crate) fn range_deletes(&self, gone: usize) -> usize
+        ensures count { result ≡ range_count (drop gone self.now) }
+        ensures small { result ≤ 2 ^ 62 }
+    {
+        match &self.front {
+            None => self.rest.range_deletes(gone),
+            Some((_, several)) => self.rest.range_deletes(gone.saturating_sub(several.len())),
+        }
+    }
+
+    /// The oldest message, if there is one.
+    pub(crate) fn oldest(&self) -> Option<Eldest<'_, U>>
+        ensures { option_map eldest_msg result ≡ slice_get self.now 0 }
+    {
+        match &self.front {
+            None => self.rest.oldest(),
+            Some((key, several)) => Some(Eldest::Left(key, several)),
+        }
+    }
+
+    /// Adds a message, newer than all others. It comes back where memory is refused, or where the list holds [`MOST`]
+    /// messages; the list then is as it was.
     pub(crate) fn push(&mut self, alloc: Global, msg: Msg<U>) -> Result<(), Msg<U>>
         ensures takes { OnOk result (Takes U.means self.old (msg ∷ []) self.new) }
         ensures unchanged { OnErr result (self.new ≡ self.old) }
@@ -163,17 +187,26 @@ impl<U: Update> Sorted<U> {
         ensures end { IfNone result (self.old ≡ []) }
     {
         let first = match std::mem::replace(&mut self.front, None) {
-            Some((key, run)) => Oldest::Run(key, run),
+            Some((key, several)) => Oldest::Run(key, Run::Edits(several)),
             None => self.rest.pop()?,
         };
         let (msg, front) = split(first);
         self.front = front;
         Some(msg)
     }
+
+    /// A list of the same messages.
+    pub(crate) fn copy(&self, alloc: Global) -> Result<Sorted<U>, NoMemory>
+        ensures { IfOk result (λ p. p ≡ self.now) }
+    {
+        let front = copy_left(&self.front, alloc)?;
+        let rest = self.rest.copy(alloc)?;
+        Ok(Sorted { front, rest })
+    }
 }
 
 /// The oldest message of what stood first, and the others of its key, if there are any.
-fn split<U: Update>(first: Oldest<U>) -> (Msg<U>, Option<(Key, Run<U>)>)
+fn split<U: Update>(first: Oldest<U>) -> (Msg<U>, Option<(Key, Box<Several<U>>)>)
     requires { IsOldestKeyed first }
     ensures parts { oldest_msgs first ≡ result.0 ∷ rest_msgs result.1 }
     ensures keyed { IsRestKeyed result.1 }
@@ -185,7 +218,7 @@ fn split<U: Update>(first: Oldest<U>) -> (Msg<U>, Option<(Key, Run<U>)>)
 }
 
 /// Whether there are messages left of this key.
-fn is_at<U: Update>(front: &Option<(Key, Run<U>)>, key: &Key) -> bool
+fn is_at<U: Update>(front: &Option<(Key, Box<Several<U>>)>, key: &Key) -> bool
     ensures { result ≡ false → any_touches (rest_msgs front.now) key.now ≡ false }
 {
     match front {
@@ -196,7 +229,7 @@ fn is_at<U: Update>(front: &Option<(Key, Run<U>)>, key: &Key) -> bool
 
 /// The value at the key after the messages that are left of one key.
 fn after<U: Update>(
-    front: &Option<(Key, Run<U>)>,
+    front: &Option<(Key, Box<Several<U>>)>,
     alloc: Global,
     key: &Key,
     old: Option<U::Value>,
@@ -205,9 +238,9 @@ fn after<U: Update>(
 {
     match front {
         None => Ok(old),
-        Some((at, run)) => {
+        Some((at, several)) => {
             if at == key {
-                run.apply(alloc, old)
+                several.apply(alloc, old)
             } else {
                 Ok(old)
             }
@@ -217,7 +250,7 @@ fn after<U: Update>(
 
 /// Copies of the messages that are left of one key, put behind those in `to`.
 fn copy_rest<U: Update>(
-    front: &Option<(Key, Run<U>)>,
+    front: &Option<(Key, Box<Several<U>>)>,
     alloc: Global,
     to: &mut Vec<Msg<U>>,
 ) -> Result<(), NoMemory>
@@ -225,6 +258,23 @@ fn copy_rest<U: Update>(
 {
     match front {
         None => Ok(()),
-        Some((key, run)) => run.copy_into(alloc, key, to),
+        Some((key, several)) => several.copy_into(alloc, key, to),
+    }
+}
+
+/// The same messages of the one key.
+fn copy_left<U: Update>(
+    front: &Option<(Key, Box<Several<U>>)>,
+    alloc: Global,
+) -> Result<Option<(Key, Box<Several<U>>)>, NoMemory>
+    ensures same { IfOk result (λ f. rest_msgs f ≡ rest_msgs front.now) }
+    ensures keyed { IfOk result (λ f. IsRestKeyed front.now → IsRestKeyed f) }
+{
+    match front {
+        None => Ok(None),
+        Some((key, several)) => Ok(Some((
+            key.copy(alloc)?,
+            Box::new(alloc, several.copy(alloc)?)?,
+        ))),
     }
 }

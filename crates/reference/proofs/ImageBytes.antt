@@ -35,7 +35,8 @@ trimmed_byte (b ∷ bs) (suc j) = ap (λ (x : List ℕ). get_or x (suc j) 0) (tr
 
 -- ---- the lines from a block on
 
-abbrev block : List ℕ → ℕ → List ℕ
+-- a block without its trailing zeros
+abbrev pub block : List ℕ → ℕ → List ℕ
 block b i = trimmed (take 4096 (drop (4096 * i) b))
 
 abbrev lines_from : List ℕ → ℕ → ℕ → Text

@@ -45,4 +45,5 @@ pub mod Snapshots
 pub mod Standing
 pub mod NoFaults
 pub mod TreeEdits
+pub mod TreeLines
 pub mod Unique

@@ -34,7 +34,7 @@ directory_spelled p = simp append_assoc
 file_spelled : (p : Path) (n : ℕ) → spelled (FileLine p n) ++ 10 ∷ [] ≡ 102 ∷ 32 ∷ (path_text p ++ 32 ∷ (decimal n ++ 10 ∷ []))
 file_spelled p n = simp append_assoc
 
-block_spelled : (i : ℕ) (b : List ℕ) → 0 < length b → block_line i b ≡ spelled (BlockLine i b) ++ 10 ∷ []
+pub block_spelled : (i : ℕ) (b : List ℕ) → 0 < length b → block_line i b ≡ spelled (BlockLine i b) ++ 10 ∷ []
 block_spelled i [] h = absurd (omega arith)
 block_spelled i (x ∷ b) h = simp append_assoc
 

@@ -1,5 +1,5 @@
 -- Two directory trees of one image are one tree.
-use Rattle.std.proofs.Common.{◌≡◌, ◌≢◌, ◌⊎◌, inl, inr, ⊎_elim, ℕ, ◌+◌, ◌/◌, ◌^◌, ◌<◌, ◌≤◌, List, [], ◌∷◌, ◌++◌, length, refl, sym, ap, ◌∙◌, arith, append_assoc, flat_map, decimal}
+use Rattle.std.proofs.Common.{◌≡◌, ◌≢◌, ◌⊎◌, inl, inr, ⊎_elim, ℕ, ◌+◌, ◌/◌, ◌^◌, ◌<◌, ◌≤◌, List, [], ◌∷◌, ◌++◌, length, refl, sym, ap, subst, ◌∙◌, arith, append_assoc, flat_map, decimal}
 use Rattle.std.proofs.lemmas.Fmt.{decimal_injective}
 use Rattle.std.proofs.lemmas.List.{append_cancel_left}
 use Rattle.reference.specs.Tree.{Name, Path, Tree, Dir, File, Entries, nothing, entry}
@@ -8,7 +8,7 @@ use Rattle.reference.specs.Shape.{IsTree}
 use Rattle.reference.proofs.Images.{path_text_below}
 use Rattle.reference.proofs.ImageTexts.{Visible, Slashless, cut, path_visible, decimal_visible, name_injective, name_slashless, no_slash}
 use Rattle.reference.proofs.ImageBytes.{NoBlock, one_file}
-use Rattle.reference.proofs.ShownTrees.{Shown, ShownEntries, shown}
+use Rattle.reference.proofs.ShownTrees.{Shown, ShownEntries, name_below, name_without_slash, tree_shown}
 
 -- ---- the line of an entry
 
@@ -106,7 +106,7 @@ next_beside p n m z h e =
     let names : 47 ∷ flat_map percent m ≡ 47 ∷ (flat_map percent n ++ 47 ∷ z) = append_cancel_left (path_text p) (47 ∷ flat_map percent m) (47 ∷ (flat_map percent n ++ 47 ∷ z)) both in
     no_slash (flat_map percent m) (flat_map percent n) z (name_slashless m h) (cc)
 
-behind_next : (p : Path) (n : Name) (rest : Entries) (r : Text) → ShownEntries rest → Behind p r → Behind (p ++ n ∷ []) (lines_of p rest ++ r)
+behind_next : (p : Path) (n : Name) (rest : Entries) (r : Text) → ShownEntries p rest → Behind p r → Behind (p ++ n ∷ []) (lines_of p rest ++ r)
 behind_next p n nothing r v h = behind_deeper p n r h
 behind_next p n (entry m y rest) r v h = inr (record {
   kind = kind_byte y;
@@ -117,7 +117,7 @@ behind_next p n (entry m y rest) r v h = inr (record {
   no_block = no_block_kind y;
   visible = path_visible (p ++ m ∷ []);
   low = stop_low y;
-  beside = λ z e. next_beside p n m z v.0 e;
+  beside = λ z e. next_beside p n m z (name_without_slash m (name_below p m v.0).bytes) e;
 })
 
 -- ---- one text of two trees
@@ -142,17 +142,17 @@ same_file b c r s few_b few_c after_b after_c e =
     one_file b c r s few_b (decimal_injective (length b) (length c) (omega arith) (omega arith) parts.0) after_b after_c parts.1
 
 mutual
-  same_subtree : (p : Path) (x y : Tree) (r s : Text) → Shown x → Shown y → Behind p r → Behind p s → lines p x ++ r ≡ lines p y ++ s → (x ≡ y) × (r ≡ s)
+  same_subtree : (p : Path) (x y : Tree) (r s : Text) → Shown p x → Shown p y → Behind p r → Behind p s → lines p x ++ r ≡ lines p y ++ s → (x ≡ y) × (r ≡ s)
   same_subtree p (Dir es) (Dir fs) r s v w h g e =
       let inner : (es ≡ fs) × (r ≡ s) = same_entries p es fs r s v w h g (same_path_text p p (Dir es) (Dir fs) r s e).2 in
       (ap Dir inner.0, inner.1)
   same_subtree p (Dir es) (File c) r s v w h g e = absurd (let kinds : 100 ≡ 102 = (same_path_text p p (Dir es) (File c) r s e).0 in omega arith)
   same_subtree p (File b) (Dir fs) r s v w h g e = absurd (let kinds : 102 ≡ 100 = (same_path_text p p (File b) (Dir fs) r s e).0 in omega arith)
   same_subtree p (File b) (File c) r s v w h g e =
-      let inner : (b ≡ c) × (r ≡ s) = same_file b c r s v w (behind_blocks p r h) (behind_blocks p s g) (same_path_text p p (File b) (File c) r s e).2 in
+      let inner : (b ≡ c) × (r ≡ s) = same_file b c r s v.few w.few (behind_blocks p r h) (behind_blocks p s g) (same_path_text p p (File b) (File c) r s e).2 in
       (ap File inner.0, inner.1)
 
-  same_entries : (p : Path) (es fs : Entries) (r s : Text) → ShownEntries es → ShownEntries fs → Behind p r → Behind p s → lines_of p es ++ r ≡ lines_of p fs ++ s → (es ≡ fs) × (r ≡ s)
+  same_entries : (p : Path) (es fs : Entries) (r s : Text) → ShownEntries p es → ShownEntries p fs → Behind p r → Behind p s → lines_of p es ++ r ≡ lines_of p fs ++ s → (es ≡ fs) × (r ≡ s)
   same_entries p nothing nothing r s v w h g e = (refl, e)
   same_entries p nothing (entry m y fs) r s v w h g e = absurd (behind_entries p r h m y (lines_of p fs ++ s) (e ∙ append_assoc (lines (p ++ m ∷ []) y) (lines_of p fs) s))
   same_entries p (entry n x es) nothing r s v w h g e = absurd (behind_entries p s g n x (lines_of p es ++ r) (sym e ∙ append_assoc (lines (p ++ n ∷ []) x) (lines_of p es) r))
@@ -160,7 +160,7 @@ mutual
       let both : lines (p ++ n ∷ []) x ++ (lines_of p es ++ r) ≡ lines (p ++ m ∷ []) y ++ (lines_of p fs ++ s) = sym (append_assoc (lines (p ++ n ∷ []) x) (lines_of p es) r) ∙ e ∙ append_assoc (lines (p ++ m ∷ []) y) (lines_of p fs) s in
       let name : n ≡ m = same_name p n m (same_path_text (p ++ n ∷ []) (p ++ m ∷ []) x y (lines_of p es ++ r) (lines_of p fs ++ s) both).1 in
       let first : (x ≡ y) × (lines_of p es ++ r ≡ lines_of p fs ++ s) =
-      same_subtree (p ++ n ∷ []) x y (lines_of p es ++ r) (lines_of p fs ++ s) v.1 w.1 (behind_next p n es r v.2 h) (behind_next p n fs s w.2 g)
+      same_subtree (p ++ n ∷ []) x y (lines_of p es ++ r) (lines_of p fs ++ s) v.1 (subst (λ (k : Name). Shown (p ++ k ∷ []) y) (sym name) w.1) (behind_next p n es r v.2 h) (behind_next p n fs s w.2 g)
       (both ∙ ap (λ (k : Name). lines (p ++ k ∷ []) y ++ (lines_of p fs ++ s)) (sym name))
       in
       let others : (es ≡ fs) × (r ≡ s) = same_entries p es fs r s v.2 w.2 h g first.1 in
@@ -171,7 +171,5 @@ one_image (File b) u is_t is_u e = absurd is_t.root
 one_image (Dir es) (File c) is_t is_u e = absurd is_u.root
 one_image (Dir es) (Dir fs) is_t is_u e =
     let both : lines_of [] es ≡ lines_of [] fs = cc in
-    let shown_es : ShownEntries es = shown (Dir es) is_t.rising (λ r y f. (is_t.paths r y f).names) is_t.files in
-    let shown_fs : ShownEntries fs = shown (Dir fs) is_u.rising (λ r y f. (is_u.paths r y f).names) is_u.files in
-    let one : (es ≡ fs) × ([] ≡ []) = same_entries [] es fs [] [] shown_es shown_fs (inl refl) (inl refl) (ap (λ (t : Text). t ++ []) both) in
+    let one : (es ≡ fs) × ([] ≡ []) = same_entries [] es fs [] [] (tree_shown es is_t) (tree_shown fs is_u) (inl refl) (inl refl) (ap (λ (t : Text). t ++ []) both) in
     ap Dir one.0

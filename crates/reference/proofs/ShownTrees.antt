@@ -1,22 +1,27 @@
 -- What an image asks of a tree: every directory tree has it.
-use Rattle.std.proofs.Common.{◌≡◌, ℕ, ◌^◌, ◌≤◌, List, [], ◌∷◌, length, Bool, true, false, cond, Option, Some, None, refl, sym, ap, ◌∙◌, fold}
-use Rattle.pathkey.specs.Names.{EachName, HasNameBytes}
+use Rattle.std.proofs.Common.{◌≡◌, ℕ, List, [], ◌∷◌, ◌++◌, Bool, true, false, cond, Option, Some, None, refl, sym, ap, subst, ◌∙◌, append_assoc, fold}
+use Rattle.pathkey.specs.Names.{HasNameBytes, IsName, IsPath}
 use Rattle.pathkey.proofs.OrderFacts.{same_itself, same_true}
 use Rattle.reference.specs.Tree.{same, Name, Path, Tree, Dir, File, Entries, nothing, entry, named, Found, Missing, found, onward, entry_at}
-use Rattle.reference.specs.Shape.{AllAbove, Rising, RisingEntries, IsContent}
+use Rattle.reference.specs.Shape.{AllAbove, Rising, RisingEntries, IsContent, IsTree}
 use Rattle.reference.proofs.Edits.{fold-Missing}
+use Rattle.reference.proofs.EntryPaths.{each_rest}
 use Rattle.reference.proofs.Sight.{none_above}
 use Rattle.reference.proofs.ImageTexts.{Slashless}
 
--- names without a slash, and files whose length is written in full
+-- a tree at a path p: the paths of what it holds are paths, and its files hold what files may hold
 abbrev mutual
-  pub Shown : Tree → Type 0
-  Shown (Dir es) = ShownEntries es
-  Shown (File b) = length b ≤ 2 ^ 40
+  pub Shown : Path → Tree → Type 0
+  Shown p (Dir es) = ShownEntries p es
+  Shown p (File b) = IsContent b
 
-  pub ShownEntries : Entries → Type 0
-  ShownEntries nothing = Unit {0}
-  ShownEntries (entry n x rest) = Slashless n × Shown x × ShownEntries rest
+  pub ShownEntries : Path → Entries → Type 0
+  ShownEntries p nothing = Unit {0}
+  ShownEntries p (entry n x rest) = IsPath (p ++ n ∷ []) × Shown (p ++ n ∷ []) x × ShownEntries p rest
+
+-- the last name of a path is a name
+pub name_below : (p : Path) (n : Name) → IsPath (p ++ n ∷ []) → IsName n
+name_below p n h = (each_rest p (n ∷ []) h.names).0
 
 pub name_without_slash : (n : Name) → HasNameBytes n → Slashless n
 name_without_slash [] h = tt
@@ -36,14 +41,18 @@ later_at n x rest k r y h e = elim (same k n) as (λ b. same k n ≡ b → fold 
 ] refl
 
 mutual
-  pub shown : (x : Tree) → Rising x → ((r : Path) (y : Tree) → entry_at x r ≡ Found y → EachName r) → ((r : Path) (b : List ℕ) → entry_at x r ≡ Found (File b) → IsContent b) → Shown x
-  shown (Dir es) v names files = shown_entries es v (λ n r y e. names (n ∷ r) y e) (λ n r b e. files (n ∷ r) b e)
-  shown (File b) v names files = let content : IsContent b = files [] b refl in content.few
+  pub shown : (p : Path) (x : Tree) → Rising x → ((r : Path) (y : Tree) → entry_at x r ≡ Found y → IsPath (p ++ r)) → ((r : Path) (b : List ℕ) → entry_at x r ≡ Found (File b) → IsContent b) → Shown p x
+  shown p (Dir es) v paths files = shown_entries p es v (λ n r y e. paths (n ∷ r) y e) (λ n r b e. files (n ∷ r) b e)
+  shown p (File b) v paths files = files [] b refl
 
-  shown_entries : (es : Entries) → RisingEntries es → ((n : Name) (r : Path) (y : Tree) → entry_at (Dir es) (n ∷ r) ≡ Found y → EachName (n ∷ r)) → ((n : Name) (r : Path) (b : List ℕ) → entry_at (Dir es) (n ∷ r) ≡ Found (File b) → IsContent b) → ShownEntries es
-  shown_entries nothing v names files = tt
-  shown_entries (entry n x rest) v names files = (
-    name_without_slash n (names n [] x (first_at n x rest [])).0.bytes,
-    shown x v.1 (λ r y e. (names n r y (first_at n x rest r ∙ e)).1) (λ r b e. files n r b (first_at n x rest r ∙ e)),
-    shown_entries rest v.2 (λ k r y e. names k r y (later_at n x rest k r y v.0 e)) (λ k r b e. files k r b (later_at n x rest k r (File b) v.0 e)),
+  shown_entries : (p : Path) (es : Entries) → RisingEntries es → ((n : Name) (r : Path) (y : Tree) → entry_at (Dir es) (n ∷ r) ≡ Found y → IsPath (p ++ n ∷ r)) → ((n : Name) (r : Path) (b : List ℕ) → entry_at (Dir es) (n ∷ r) ≡ Found (File b) → IsContent b) → ShownEntries p es
+  shown_entries p nothing v paths files = tt
+  shown_entries p (entry n x rest) v paths files = (
+    paths n [] x (first_at n x rest []),
+    shown (p ++ n ∷ []) x v.1 (λ r y e. subst IsPath (sym (append_assoc p (n ∷ []) r)) (paths n r y (first_at n x rest r ∙ e))) (λ r b e. files n r b (first_at n x rest r ∙ e)),
+    shown_entries p rest v.2 (λ k r y e. paths k r y (later_at n x rest k r y v.0 e)) (λ k r b e. files k r b (later_at n x rest k r (File b) v.0 e)),
   )
+
+-- every entry of a directory tree is so
+pub tree_shown : (es : Entries) → IsTree (Dir es) → ShownEntries [] es
+tree_shown es h = shown [] (Dir es) h.rising h.paths h.files

@@ -1,5 +1,5 @@
 -- Which texts are images, line by line: each line may follow those before it.
-use Rattle.std.specs.Prelude.{◌≡◌, ◌≢◌, ◌⊎◌, ℕ, zero, suc, ◌+◌, ◌-◌, ◌*◌, ◌^◌, ◌<◌, ◌≤◌, List, [], ◌∷◌, ◌++◌, length, replicate, codes, decimal, flat_map, cond, ◌==◌, Option, Some, None}
+use Rattle.std.specs.Prelude.{◌≡◌, ◌≢◌, ◌⊎◌, ◌↔◌, ℕ, zero, suc, ◌+◌, ◌-◌, ◌*◌, ◌^◌, ◌<◌, ◌≤◌, List, [], ◌∷◌, ◌++◌, length, replicate, codes, decimal, flat_map, cond, ◌==◌, Option, Some, None}
 use Rattle.std.specs.declared.cmp.Ordering.TheVariants.{Less}
 use Rattle.pathkey.specs.Enc.{enc}
 use Rattle.pathkey.specs.Names.{IsPath, parent}
@@ -134,6 +134,10 @@ IsBadAt n text = ((n ≡ 1) ⊎ IsImage (first_lines (n - 1) text)) × (IsImage 
 -- lines of an image make a directory tree, of which they are the image
 abbrev pub LinesLaw : Type 0
 LinesLaw = (ls : Lines) → AreLines ls → IsTree (tree_of_lines ls) × (image (tree_of_lines ls) ≡ image_of_lines ls)
+
+-- the images are exactly the texts that directory trees have for images
+abbrev pub ImageLaw : Type 0
+ImageLaw = (text : Text) → IsImage text ↔ ((t : Tree) × IsTree t × (text ≡ image t))
 
 -- lines of an image are known from it
 abbrev pub OneLineLaw : Type 0

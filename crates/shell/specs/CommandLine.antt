@@ -40,7 +40,8 @@ switch_rule id = record (new_rule id) {
 }
 
 abbrev pub rules : List Rule
-rules = number_rule (codes "steps") 0 1000
+rules = number_rule (codes "flushers") 0 8
+    ∷ number_rule (codes "steps") 0 1000
     ∷ number_rule (codes "fanout") 4 64
     ∷ number_rule (codes "pending") 4 1024
     ∷ number_rule (codes "leaf") 4 1024

@@ -15,6 +15,8 @@ use std::alloc::{AllocError, Global};
 /// What the words of a command line ask for.
 #[derive(Debug, Drop)]
 pub struct Options<'a> {
+    /// How many flushers make turns beside the script, 0 to 8. Above 0 no steps follow the lines.
+    pub flushers: u8,
     /// How many tree steps follow each line, 0 to 1,000.
     pub steps: u16,
     /// How many slots an inner node has at most, 4 to 64.
@@ -34,6 +36,7 @@ pub struct Options<'a> {
 /// Reads a command line, of which the first word is the program's name. Of help asked for, and of words that are refused, the error
 /// has the text; its kind tells want of memory.
 pub fn read_words<'a>(alloc: Global, words: &'a [&'a str]) -> Result<Options<'a>, Error>
+    ensures flushers { IfOk result (λ o. (o.flushers ≡ number (codes "flushers") 0 (texts words.entry.now)) × IsInRange 0 8 o.flushers) }
     ensures steps { IfOk result (λ o. (o.steps ≡ number (codes "steps") 0 (texts words.entry.now)) × IsInRange 0 1000 o.steps) }
     ensures fanout { IfOk result (λ o. (o.fanout ≡ number (codes "fanout") 16 (texts words.entry.now)) × IsInRange 4 64 o.fanout) }
     ensures pending { IfOk result (λ o. (o.pending ≡ number (codes "pending") 256 (texts words.entry.now)) × IsInRange 4 1024 o.pending) }
@@ -46,6 +49,7 @@ pub fn read_words<'a>(alloc: Global, words: &'a [&'a str]) -> Result<Options<'a>
 {
     let matches = parsed(alloc, words)?;
     Ok(Options {
+        flushers: matches.get_one::<u8>("flushers").unwrap_or(0),
         steps: matches.get_one::<u16>("steps").unwrap_or(0),
         fanout: matches.get_one::<u16>("fanout").unwrap_or(16),
         pending: matches.get_one::<u16>("pending").unwrap_or(256),
@@ -70,6 +74,13 @@ fn parsed<'a>(alloc: Global, words: &'a [&'a str]) -> Result<ArgMatches<'a>, Err
 fn command<'a>(alloc: Global) -> Result<Command<'a>, AllocError>
     ensures { IfOk result (λ c. app_of c ≡ betr) }
 {
+    let flushers = option(
+        alloc,
+        "flushers",
+        "N",
+        value_parser!(u8).range(0..=8),
+        "Flushers in threads of their own, 0 to 8 [default: 0]",
+    );
     let steps = option(
         alloc,
         "steps",
@@ -112,6 +123,7 @@ fn command<'a>(alloc: Global) -> Result<Command<'a>, AllocError>
     let script = Arg::new(alloc, "SCRIPT").help("File with the script [default: standard input]");
     Ok(
         program(alloc)
+            .arg(flushers)?
             .arg(steps)?
             .arg(fanout)?
             .arg(pending)?

@@ -40,12 +40,13 @@ Scripts:
   'fault ENOENT'. A line that is none of these is answered by 'error syntax',
   and one of more than 65536 bytes by 'error line'. --steps, --fanout, --pending
   and --leaf set how the trees behind the file system work; no reply rests on
-  them.
+  them. With --flushers above 0 so many threads tidy the trees beside the
+  script, 1000 steps each, and --steps has no effect.
 
 Images:
   --image prints the whole tree as text after the replies, from the line 'd /'
   on, and --load starts with the tree of such a text: so a tree is kept in a
-  file, and had back.
+  file, and had back, without its snapshots.
 
   betr --image first | sed -n '/^d \\/$/,$p' > kept
   betr --load kept second

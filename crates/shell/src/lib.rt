@@ -8,6 +8,7 @@
 pub mod client;
 mod command;
 mod command_line;
+mod flushers;
 mod help;
 pub mod image;
 pub mod image_line;

@@ -1,5 +1,6 @@
 //! The program `betr`: runs a script over a new volume, as the words of a command line ask.
 use crate::command_line::{Options, read_words};
+use crate::flushers::run_beside_flushers;
 use crate::image::{ImageFault, print_image};
 use crate::load::{LoadFault, load_image};
 use crate::script::{ScriptFault, run_script};
@@ -10,9 +11,11 @@ use pathkey::Errno;
 use std::alloc::Global;
 use std::fs::Files;
 use std::io::{BufWriter, Read, Write};
+use std::sync::Wait;
+use std::thread::Threads;
 use std::{fs, io};
 use thiserror::Error;
-use volume::Volume;
+use volume::{Frozen, Volume};
 
 /// How many bytes of replies are gathered before they are written.
 const OUTPUT_BUFFER: usize = 65_536;
@@ -58,8 +61,8 @@ enum Failure {
 /// Does what the words of a command line ask for, and answers with what status the program ends. The first word is the program's
 /// name. A script that no file is named for is read from `input`; replies, the image and help go to `output`, and why the program ends
 /// early to `errors`: where that cannot be printed, the status is the same.
-pub fn run_words<F: Files, R: Read, W: Write + Drop, E: Write>(
-    rt: &F,
+pub fn run_words<H: Files + Threads + Wait + Sync, R: Read, W: Write + Drop, E: Write>(
+    rt: &H,
     alloc: Global,
     words: &[&str],
     input: &mut R,
@@ -98,20 +101,20 @@ fn end_unread<W: Write + Drop>(error: clap::Error, mut output: W) -> Result<(), 
 }
 
 /// Runs the script that the options name over the volume that they start with.
-fn run<F: Files, R: Read, W: Write + Drop>(
-    rt: &F,
+fn run<H: Files + Threads + Wait + Sync, R: Read, W: Write + Drop>(
+    rt: &H,
     alloc: Global,
     options: &Options<'_>,
     input: &mut R,
     output: W,
 ) -> Result<(), Failure> {
-    let mut volume = first_volume(rt, alloc, options)?;
+    let volume = first_volume(rt, alloc, options)?;
     match options.script {
         Some(path) => {
             let mut file = open(rt, path)?;
-            print(alloc, &mut volume, options, &mut file, output)
+            print(rt, alloc, volume, options, &mut file, output)
         }
-        None => print(alloc, &mut volume, options, input, output),
+        None => print(rt, alloc, volume, options, input, output),
     }
 }
 
@@ -153,9 +156,10 @@ fn open<F: Files>(rt: &F, path: &str) -> Result<F::File, Failure> {
 }
 
 /// Prints the replies to a script, gathered into large writes, and then the image if the options ask for it.
-fn print<R: Read, W: Write + Drop>(
+fn print<H: Threads + Wait + Sync, R: Read, W: Write + Drop>(
+    rt: &H,
     alloc: Global,
-    volume: &mut Volume,
+    volume: Volume,
     options: &Options<'_>,
     script: &mut R,
     output: W,
@@ -163,31 +167,30 @@ fn print<R: Read, W: Write + Drop>(
     let Ok(mut buffer) = BufWriter::with_capacity(alloc, OUTPUT_BUFFER, output) else {
         return Err(Failure::Memory);
     };
-    print_replies(alloc, volume, options.steps, script, &mut buffer)?;
+    let tree = if options.flushers > 0 {
+        run_beside_flushers(rt, alloc, volume, options.flushers, script, &mut buffer).map_err(
+            Failure::Script,
+        )?
+    } else {
+        print_replies(alloc, volume, options.steps, script, &mut buffer)?
+    };
     if options.image {
-        print_live(alloc, volume, &mut buffer)?;
+        print_image(alloc, &tree, &mut buffer).map_err(Failure::Image)?;
     }
     flush(&mut buffer)
 }
 
-/// Prints the replies to a script; so many steps of tidying follow each line.
+/// Prints the replies to a script; so many steps of tidying follow each line. Answers the tree that is live at the end.
 fn print_replies<R: Read, W: Write>(
     alloc: Global,
-    volume: &mut Volume,
+    mut volume: Volume,
     steps: u16,
     script: &mut R,
     writer: &mut W,
-) -> Result<(), Failure> {
+) -> Result<Frozen, Failure> {
     let mut pace = Tidy::new(steps);
-    run_script(alloc, volume, script, writer, &mut pace).map_err(Failure::Script)
-}
-
-/// Prints the image of the live tree.
-fn print_live<W: Write>(alloc: Global, volume: &Volume, writer: &mut W) -> Result<(), Failure> {
-    match volume.freeze() {
-        Ok(frozen) => print_image(alloc, &frozen, writer).map_err(Failure::Image),
-        Err(_) => Err(Failure::Memory),
-    }
+    run_script(alloc, &mut volume, script, writer, &mut pace).map_err(Failure::Script)?;
+    volume.freeze().map_err(|_| Failure::Memory)
 }
 
 /// Writes out what is gathered.

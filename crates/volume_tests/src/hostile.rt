@@ -29,7 +29,7 @@ impl<'a> Read for Failing<'a> {
 }
 
 /// Runs a script with so many steps after each line. It ensures nothing, so that no proof of a test reads what a script means.
-fn run<R: Read, W: Write>(
+pub fn run<R: Read, W: Write>(
     alloc: Global,
     volume: &mut Volume,
     reader: &mut R,

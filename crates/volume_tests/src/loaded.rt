@@ -3,10 +3,14 @@
 use crate::asked::{SMALL, USUAL};
 use crate::hostile::{Failing, leaves};
 use crate::image::{freeze, prints};
+use crate::plain_image::bad_line;
+use crate::programs::ROWS;
 use node::Shape;
 use shell::{LoadFault, load_image};
 use std::alloc::Global;
+use std::fmt;
 use std::io::Read;
+use std::test::Fail;
 use volume::Volume;
 
 /// Loads an image. It ensures nothing, so that no proof of a test reads what an image is.
@@ -26,7 +30,7 @@ fn shows(alloc: Global, volume: &Volume, image: &[u8]) -> bool {
 }
 
 /// Whether a text is loaded and prints as itself, or is refused at this line.
-fn is_loaded(alloc: Global, shape: Shape, text: &[u8], bad: Option<u64>) -> bool {
+pub fn is_loaded(alloc: Global, shape: Shape, text: &[u8], bad: Option<u64>) -> bool {
     let mut reader = text;
     match load(alloc, shape, &mut reader) {
         Ok(volume) => bad.is_none() && shows(alloc, &volume, text),
@@ -106,6 +110,81 @@ fn loads_images_and_refuses_other_texts(rt: HostRuntime) {
             "{text:?}"
         );
     }
+}
+
+/// Whether the plain check of a text finds this line bad, or none.
+fn is_told(alloc: Global, text: &[u8], bad: Option<u64>) -> bool {
+    match bad_line(alloc, text) {
+        Ok(line) => line == bad,
+        Err(_) => false,
+    }
+}
+
+#[test]
+fn the_plain_check_finds_the_same_lines_bad(rt: HostRuntime) {
+    for (text, bad) in TEXTS {
+        assert!(rt; is_told(rt.alloc(), text.as_bytes(), *bad), "{text:?}");
+    }
+}
+
+/// The image at the end of what is printed: from the root's line on.
+fn image_in(output: &str) -> &str {
+    let mut start = 0usize;
+    for line in output.split('\n') {
+        if line == "d /" {
+            break;
+        }
+        start = start.saturating_add(line.len()).saturating_add(1);
+    }
+    output.get(start..).unwrap_or("")
+}
+
+#[test]
+fn loads_the_image_of_each_row(rt: HostRuntime) {
+    for row in ROWS {
+        let image = image_in(row.output).as_bytes();
+        assert!(rt;
+            row.output.is_empty() || is_loaded(rt.alloc(), USUAL, image, None),
+            "{row:?}"
+        );
+    }
+}
+
+/// Writes an image of directories in each other with names of 255 bytes, and of a last one whose name is so long.
+fn write_deep(text: &mut String, path: &mut String, last: u32) -> fmt::Result {
+    text.push_str("d /\n")?;
+    for _ in 0..3 {
+        path.push('/')?;
+        put_letters(path, 255)?;
+        writeln!(text, "d {path}")?;
+    }
+    path.push('/')?;
+    put_letters(path, last)?;
+    writeln!(text, "d {path}")?;
+    Ok(())
+}
+
+/// Appends so many letters.
+fn put_letters(path: &mut String, count: u32) -> fmt::Result {
+    for _ in 0..count {
+        path.push('n')?;
+    }
+    Ok(())
+}
+
+/// Whether that image is loaded, or refused at this line.
+fn is_deep_loaded(alloc: Global, last: u32, bad: Option<u64>) -> Result<bool, fmt::Error> {
+    let mut text = String::new(alloc);
+    let mut path = String::new(alloc);
+    write_deep(&mut text, &mut path, last)?;
+    Ok(is_loaded(alloc, SMALL, text.as_bytes(), bad) && is_told(alloc, text.as_bytes(), bad))
+}
+
+#[test]
+fn loads_paths_of_1023_bytes(rt: HostRuntime) -> Result<(), Fail> {
+    assert!(rt; is_deep_loaded(rt.alloc(), 254, None)?);
+    assert!(rt; is_deep_loaded(rt.alloc(), 255, Some(5))?);
+    Ok(())
 }
 
 const CUT: &[u8] = b"d /\nf /f 9000\nb 0 ffffffffff\n";

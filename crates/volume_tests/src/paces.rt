@@ -144,17 +144,20 @@ fn told_of_made_again(alloc: Global) -> Option<Vec<u8>> {
     Some(wanted)
 }
 
-/// How many of so many steps at the end were done, if the script is answered so and leaves the one file.
+/// So many steps behind so many lines.
+type Steps = (u32, u16);
+
+/// How many of the steps were done, if the script is answered so and leaves the one file.
 fn done_in(
     alloc: Global,
     volume: &mut Volume,
     script: &[u8],
     wanted: &[u8],
-    turns: u16,
+    steps: Steps,
 ) -> Option<u32> {
     let mut pace = AtEnd {
-        before: 304,
-        tidy: Tidy::new(turns),
+        before: steps.0,
+        tidy: Tidy::new(steps.1),
         done: 0,
     };
     if answers(alloc, volume, script, wanted, &mut pace)
@@ -167,33 +170,34 @@ fn done_in(
 }
 
 /// The same of a new volume.
-fn done_in_new(alloc: Global, script: &[u8], wanted: &[u8], turns: u16) -> Option<u32> {
+fn done_in_new(alloc: Global, script: &[u8], wanted: &[u8], steps: Steps) -> Option<u32> {
     match new_volume(alloc, SMALL) {
-        Ok(mut volume) => done_in(alloc, &mut volume, script, wanted, turns),
+        Ok(mut volume) => done_in(alloc, &mut volume, script, wanted, steps),
         Err(_) => None,
     }
 }
 
 /// The same of a script, and what it is answered.
-fn done_with(alloc: Global, script: &[u8], turns: u16) -> Option<u32> {
+fn done_with(alloc: Global, script: &[u8], steps: Steps) -> Option<u32> {
     match told_of_made_again(alloc) {
-        Some(wanted) => done_in_new(alloc, script, wanted.as_slice(), turns),
+        Some(wanted) => done_in_new(alloc, script, wanted.as_slice(), steps),
         None => None,
     }
 }
 
 /// The same of the directory that is made again.
-fn done_at_end(alloc: Global, turns: u16) -> Option<u32> {
+fn done_behind(alloc: Global, steps: Steps) -> Option<u32> {
     match made_again(alloc) {
-        Some(script) => done_with(alloc, script.as_slice(), turns),
+        Some(script) => done_with(alloc, script.as_slice(), steps),
         None => None,
     }
 }
 
 #[test]
-fn steps_after_the_last_line_leave_the_answers_and_the_image(rt: HostRuntime) {
-    assert_eq!(rt; done_at_end(rt.alloc(), 0), Some(0));
-    assert!(rt; matches!(done_at_end(rt.alloc(), 1_000), Some(100..)));
+fn steps_behind_a_line_leave_the_answers_and_the_image(rt: HostRuntime) {
+    assert_eq!(rt; done_behind(rt.alloc(), (304, 0)), Some(0));
+    assert!(rt; matches!(done_behind(rt.alloc(), (300, 1_000)), Some(100..)));
+    assert!(rt; matches!(done_behind(rt.alloc(), (304, 1_000)), Some(1..)));
 }
 
 /// The program's pace after each line, whose steps are counted.

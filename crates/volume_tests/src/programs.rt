@@ -1,16 +1,25 @@
 //! Whole command lines: what the program prints for each, and with what status it ends.
 use shell::run_words;
+use std::alloc::Global;
 use std::fs::File;
 use std::io::{Read, Write};
+use std::rt::Files;
+use std::sync::Wait;
 use std::test::Fail;
+use std::thread::Threads;
 use std::{env, fmt, fs, io, process};
+
+/// What the program asks of the runtime.
+pub trait Host: Alloc<A = Global> + Files<File = File> + Threads + Wait + Sync {}
+
+impl<H: Alloc<A = Global> + Files<File = File> + Threads + Wait + Sync> Host for H {}
 
 /// A command line, the script on standard input, and what is printed where it is run to its end.
 #[derive(Debug)]
-struct Row {
-    words: &'static [&'static str],
-    script: &'static str,
-    output: &'static str,
+pub struct Row {
+    pub words: &'static [&'static str],
+    pub script: &'static str,
+    pub output: &'static str,
 }
 
 /// A command line for which the program ends before a reply is printed, and what it says of that.
@@ -22,7 +31,7 @@ struct Failed {
 
 /// What the program has printed, and with what status it has ended.
 #[derive(Debug, Drop)]
-struct Ended {
+pub struct Ended {
     status: u8,
     output: Vec<u8>,
     errors: Vec<u8>,
@@ -30,11 +39,21 @@ struct Ended {
 
 impl Ended {
     /// Whether the program has run its script to the end, and printed this.
-    fn is_done(&self, output: &[u8]) -> bool {
+    pub fn is_done(&self, output: &[u8]) -> bool {
         self.is(0, output, b"")
     }
 
-    fn is(&self, status: u8, output: &[u8], errors: &[u8]) -> bool {
+    /// What the program has printed; none where it has failed.
+    pub fn done(&self) -> Option<&[u8]> {
+        if self.status == 0 && self.errors.is_empty() {
+            Some(self.output.as_slice())
+        } else {
+            None
+        }
+    }
+
+    /// Whether the program has ended so.
+    pub fn is(&self, status: u8, output: &[u8], errors: &[u8]) -> bool {
         self.status == status
             && self.output.as_slice() == output
             && self.errors.as_slice() == errors
@@ -42,8 +61,8 @@ impl Ended {
 }
 
 /// Runs the program over readers and writers of any kind.
-fn run<R: Read, W: Write + Drop, E: Write>(
-    rt: &HostRuntime,
+fn run<H: Host, R: Read, W: Write + Drop, E: Write>(
+    rt: &H,
     words: &[&str],
     input: &mut R,
     output: W,
@@ -53,7 +72,7 @@ fn run<R: Read, W: Write + Drop, E: Write>(
 }
 
 /// Runs the program on a text.
-fn run_on(rt: &HostRuntime, words: &[&str], input: &[u8]) -> Ended {
+pub fn run_on<H: Host>(rt: &H, words: &[&str], input: &[u8]) -> Ended {
     let mut reader = input;
     let mut output = Vec::new(rt.alloc());
     let mut errors = Vec::new(rt.alloc());
@@ -66,16 +85,16 @@ fn run_on(rt: &HostRuntime, words: &[&str], input: &[u8]) -> Ended {
 }
 
 /// Whether the script is run to its end, and prints what the row says.
-fn is_run(rt: &HostRuntime, row: &Row) -> bool {
+fn is_run<H: Host>(rt: &H, row: &Row) -> bool {
     run_on(rt, row.words, row.script.as_bytes()).is_done(row.output.as_bytes())
 }
 
 /// Whether the program fails as the row says.
-fn is_failed(rt: &HostRuntime, row: &Failed) -> bool {
+fn is_failed<H: Host>(rt: &H, row: &Failed) -> bool {
     run_on(rt, row.words, b"stat /\n").is(1, b"", row.errors.as_bytes())
 }
 
-const ROWS: &[Row] = &[
+pub const ROWS: &[Row] = &[
     Row {
         words: &["betr"],
         script: "",
@@ -211,7 +230,7 @@ fn prints_why_words_are_refused_as_an_error(rt: HostRuntime) {
 }
 
 /// Writes the script of 300 files in a folder that goes at once.
-fn write_files(script: &mut String) -> fmt::Result {
+pub fn write_files(script: &mut String) -> fmt::Result {
     script.push_str("mkdir /d\n")?;
     for number in 0..300 {
         writeln!(script, "create /d/f{number:03}")?;
@@ -221,7 +240,7 @@ fn write_files(script: &mut String) -> fmt::Result {
 }
 
 /// Writes what that script is answered, and the image after it.
-fn write_files_answers(text: &mut String) -> fmt::Result {
+pub fn write_files_answers(text: &mut String) -> fmt::Result {
     for _ in 0..304 {
         text.push_str("ok\n")?;
     }
@@ -284,7 +303,7 @@ fn prints_the_same_whatever_the_steps(rt: HostRuntime) -> Result<(), Fail> {
 }
 
 /// Writes a script that asks for a snapshot too many, and then drops some.
-fn write_snapshots(script: &mut String) -> fmt::Result {
+pub fn write_snapshots(script: &mut String) -> fmt::Result {
     for number in 1..=65 {
         writeln!(script, "snapshot s{number}")?;
     }
@@ -293,7 +312,7 @@ fn write_snapshots(script: &mut String) -> fmt::Result {
 }
 
 /// Writes what that script is answered.
-fn write_snapshots_answers(text: &mut String) -> fmt::Result {
+pub fn write_snapshots_answers(text: &mut String) -> fmt::Result {
     for _ in 0..64 {
         text.push_str("ok\n")?;
     }
@@ -373,12 +392,12 @@ fn stops_where_standard_input_is_a_folder(rt: HostRuntime) -> Result<(), Fail> {
 }
 
 /// A file that nothing can be written to.
-fn full(rt: &HostRuntime) -> io::Result<File> {
+fn full<H: Host>(rt: &H) -> io::Result<File> {
     File::options().write(true).open(rt, "/dev/full")
 }
 
 /// Whether the program fails to write, on an output that takes nothing.
-fn fails_to_write(rt: &HostRuntime, words: &[&str], script: &[u8]) -> io::Result<bool> {
+fn fails_to_write<H: Host>(rt: &H, words: &[&str], script: &[u8]) -> io::Result<bool> {
     let mut input = script;
     let mut errors = Vec::new(rt.alloc());
     let status = run(rt, words, &mut input, full(rt)?, &mut errors);
@@ -395,7 +414,7 @@ fn stops_where_nothing_can_be_written(rt: HostRuntime) -> Result<(), Fail> {
 }
 
 /// The status where what is said of an early end cannot be printed.
-fn unsaid(rt: &HostRuntime, words: &[&str]) -> io::Result<u8> {
+fn unsaid<H: Host>(rt: &H, words: &[&str]) -> io::Result<u8> {
     let mut input = b"".as_slice();
     Ok(run(rt, words, &mut input, full(rt)?, &mut full(rt)?))
 }
@@ -409,16 +428,16 @@ fn ends_the_same_where_no_error_can_be_printed(rt: HostRuntime) -> Result<(), Fa
     Ok(())
 }
 
-/// A path for a file of this test's own.
-fn own_path(rt: &HostRuntime) -> Result<String, Fail> {
+/// A path for a file of one test's own, which the name tells.
+pub fn own_path(rt: &HostRuntime, name: &str) -> Result<String, Fail> {
     let folder = env::temp_dir(rt)?;
     let number = process::id(rt.process());
-    Ok(format!(in rt.alloc(); "{}/betr_script_{number}", folder.display())?)
+    Ok(format!(in rt.alloc(); "{}/betr_{name}_{number}", folder.display())?)
 }
 
 #[test]
 fn reads_the_script_that_is_named(rt: HostRuntime) -> Result<(), Fail> {
-    let path = own_path(&rt)?;
+    let path = own_path(&rt, "script")?;
     fs::write(&rt, path.as_str(), "mkdir /a\nstat /a".as_bytes())?;
     let replies = run_on(&rt, &["betr", path.as_str()], b"stat /\nstat /\n");
     fs::remove_file(&rt, path.as_str())?;

@@ -22,16 +22,24 @@ pub fn copy_entries<U: Update>(
     Ok(copy)
 }
 
+/// A slot with an equal pivot and equal messages over the same child.
+fn copy_slot<U: Update>(alloc: Global, slot: &Slot<U>) -> Result<Slot<U>, NoMemory>
+    ensures { IfOk result (λ s. see_slot s ≡ see_slot slot.now) }
+{
+    let lo = slot.lo.copy(alloc)?;
+    let pending = slot.pending.copy(alloc)?;
+    let child = Arc::try_clone(&slot.child)?;
+    Ok(Slot { lo, pending, child })
+}
+
 /// Slots with equal pivots and messages over the same children.
 pub fn copy_slots<U: Update>(alloc: Global, slots: &[Slot<U>]) -> Result<Vec<Slot<U>>, NoMemory>
     ensures { IfOk result (λ v. map see_slot v.items ≡ map see_slot slots.now) }
 {
     let mut copy = Vec::with_capacity(alloc, slots.len())?;
     for slot in slots {
-        let lo = slot.lo.copy(alloc)?;
-        let pending = slot.pending.copy(alloc)?;
-        let child = Arc::try_clone(&slot.child)?;
-        copy.push(Slot { lo, pending, child })?;
+        let copied = copy_slot(alloc, slot)?;
+        copy.push(copied)?;
     }
     Ok(copy)
 }

@@ -1,12 +1,17 @@
-use Rattle.std.proofs.Common.{◌≡◌, ◌∙◌, sym, ap, false, subst}
+use Rattle.std.proofs.Common.{◌≡◌, ap, sym, ◌∙◌, subst, false}
+use Rattle.std.proofs.lemmas.Result.{IfOk-weaker}
 use Rattle.message.specs.Effects.{any_touches}
-use Rattle.message.proofs.Telling.{untouched}
+use Rattle.message.specs.Told.{IsTold}
+use Rattle.message.proofs.Condensing.{told_before}
 use Rattle.message.proofs.pending.Pending.told.Goals as goal
 
-pub returns-then-not-is_touched : goal.returns-then-not-is_touched
-returns-then-not-is_touched g c =
+pub returns : goal.returns
+returns g c =
+    let means = g.U.Update.means in
     let k = c.args.key.now in
-    let list : c.as_slice.result.now ≡ c.args.self.now.0 = c.as_slice.ensures.value ∙ ap (λ p. p.0) c.self.view_is in
-    let none : any_touches c.as_slice.result.now k ≡ false = sym c.is_touched.ensures ∙ c.if-not-is_touched.true in
-    let here : any_touches c.args.self.now.0 k ≡ false = subst (λ ms. any_touches ms k ≡ false) list none in
-    (here, λ o. untouched g.U.Update.means c.args.self.now.0 k o here)
+    let s = c.self.inside.sorted in
+    let f = c.self.inside.fresh.items in
+    let apart : any_touches f k ≡ false = sym (c.is_touched.ensures ∙ ap (λ ms. any_touches ms k) c.as_slice.ensures.value) ∙ c.if-is_touched.false in
+    IfOk-weaker c.told.result (IsTold means s k) (IsTold means c.args.self.now.0 k)
+    (λ t h. subst (λ ms. IsTold means ms k t) (ap (λ p. p.0) c.self.view_is) (told_before means s f k t apart h))
+    c.told.ensures

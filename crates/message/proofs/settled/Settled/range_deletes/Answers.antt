@@ -1,7 +1,11 @@
-use Rattle.std.proofs.Common.{ap, sym, ◌∙◌}
+use Rattle.std.proofs.Common.{rules, ◌≡◌, ◌-◌, ap, sym, ◌∙◌, drop, length}
 use Rattle.message.specs.Effects.{range_count}
 use Rattle.message.proofs.CountingRanges.{count_settled}
 use Rattle.message.proofs.settled.Settled.range_deletes.Goals as goal
 
-pub returns : goal.returns
-returns g c = c.len.ensures.len ∙ sym (count_settled c.self.inside.ranges.entries c.self.inside.points.entries) ∙ ap (λ ms. range_count ms) c.self.view_is
+pub returns-clause-count : goal.returns-clause-count
+returns-clause-count g c =
+    let n = c.args.gone in
+    let rs = c.self.inside.ranges.entries in
+    let left : c.saturating_sub.result ≡ length rs - n = search rules in
+    left ∙ sym (count_settled n rs c.self.inside.points.entries) ∙ ap (λ ms. range_count (drop n ms)) c.self.view_is

@@ -7,6 +7,7 @@ use Rattle.pathkey.proofs.OrderFacts.{same_true}
 use Rattle.message.specs.Ranges.{earlier_end}
 use Rattle.message.specs.Runs.{rest_msgs, run_msgs}
 use Rattle.message.specs.Stretches.{all_ends, IsStretch, EndsAhead}
+use Rattle.message.specs.declared.run.Run.TheVariants.{Edits}
 use Rattle.message.proofs.SortedStretches.{run_next, ahead_first, run_stretch, front_then}
 use Rattle.message.proofs.sorted.Sorted.stretch_end.Goals as goal
 
@@ -14,7 +15,7 @@ pub returns-then-eq : goal.returns-then-eq
 returns-then-eq g c =
     let k = c.args.from.now in
     let q = c.in-Some.key in
-    let run = c.in-Some.field-0-1 in
+    let run = Edits c.in-Some.field-0-1 in
     let one : q ≡ k = same_true q k (sym c.eq.ensures ∙ c.if-eq.true) in
     let here : Contains (all_ends (run_msgs q run)) (next_key k) = subst (λ x. Contains (all_ends (run_msgs q run)) (next_key x)) one (run_next q run) in
     let front : Contains (all_ends (rest_msgs c.self.inside.front)) (next_key k) = subst (λ o. Contains (all_ends (rest_msgs o)) (next_key k)) (sym c.in-Some.is) here in
@@ -25,7 +26,7 @@ returns-else-eq g c =
     let from = c.args.from.now in
     let end = option_copied c.args.end in
     let q = c.in-Some.key in
-    let run = c.in-Some.field-0-1 in
+    let run = Edits c.in-Some.field-0-1 in
     let other : same q from ≡ false = sym c.eq.ensures ∙ c.if-eq.false in
     let stop : option_copied c.earlier.result ≡ earlier_end end (option_copied c.ahead_of.result) = c.earlier.ensures in
     let first : IsStretch (run_msgs q run) from end (option_copied c.earlier.result) = subst (IsStretch (run_msgs q run) from end) (sym (stop ∙ ap (earlier_end end) c.ahead_of.ensures)) (run_stretch q run from end other c.requires) in

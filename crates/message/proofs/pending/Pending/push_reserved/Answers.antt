@@ -1,6 +1,0 @@
-use Rattle.std.proofs.Common.{[], ◌∷◌}
-use Rattle.message.proofs.Lists.{takes-append}
-use Rattle.message.proofs.pending.Pending.push_reserved.Goals as goal
-
-pub returns-clause-takes : goal.returns-clause-takes
-returns-clause-takes g c = rw (c.push_reserved.ensures.items, ← c.self.view_is) (takes-append g.U.Update.means c.self.inside.msgs.items (c.args.msg ∷ []))

@@ -1,0 +1,18 @@
+use Rattle.std.proofs.Common.{ap, ◌∙◌, Some}
+use Rattle.std.specs.List.{slice_get}
+use Rattle.message.specs.declared.msg.Msg.TheVariants.{DelRange}
+use Rattle.message.specs.Settled.{range_of}
+use Rattle.message.proofs.Firsts.{first_range, first_point}
+use Rattle.message.proofs.settled.Settled.oldest.Goals as goal
+
+pub returns-in-Some : goal.returns-in-Some
+returns-in-Some g c =
+    let lo = c.in-Some.lo.now in
+    ap (λ h. Some (DelRange (range_of (lo, h)))) c.as_ref.ensures.value
+    ∙ first_range c.self.inside.ranges.entries c.self.inside.points.entries lo c.in-Some.hi.now c.in-Some.ensures.first
+    ∙ ap (λ ms. slice_get ms 0) c.self.view_is
+
+pub returns-in-Some-first_key_value : goal.returns-in-Some-first_key_value
+returns-in-Some-first_key_value g c =
+    first_point c.self.inside.ranges.entries c.self.inside.points.entries c.in-Some-first_key_value.key.now c.in-Some-first_key_value.run'.now c.in-None.ensures.variant.1 c.in-Some-first_key_value.ensures.first
+    ∙ ap (λ ms. slice_get ms 0) c.self.view_is

@@ -1,0 +1,82 @@
+//! Messages as they came, the oldest first, with no order of their keys.
+ghost use Rattle.std.specs.Prelude.{◌≡◌, ◌≤◌, ◌++◌, length, IfOk, OnOk};
+ghost use Rattle.std.specs.Option.{option_copied};
+ghost use Rattle.message.specs.Cuts.{pieces};
+ghost use Rattle.message.specs.Effects.{any_touches, effects, range_count};
+
+use crate::msg::{Msg, touches};
+use crate::update::Update;
+use pathkey::{Key, NoMemory};
+use std::alloc::Global;
+
+/// Whether a message touches the key.
+pub(crate) fn is_touched<U: Update>(msgs: &[Msg<U>], key: &Key) -> bool
+    ensures { result ≡ any_touches msgs.now key.now }
+{
+    let Some((msg, rest)) = msgs.split_first() else {
+        return false;
+    };
+    touches(msg, key) || is_touched(rest, key)
+}
+
+/// How many of the messages are range-deletes.
+pub(crate) fn ranges_in<U: Update>(msgs: &[Msg<U>]) -> usize
+    ensures count { result ≡ range_count msgs.now }
+    ensures few { result ≤ length msgs.now }
+{
+    let mut count = 0;
+    for msg in msgs {
+        if let Msg::DelRange(_) = msg {
+            count += 1;
+        }
+    }
+    count
+}
+
+/// The parts of messages from `lo` up to and without `hi`, in their order.
+pub(crate) fn pieces_of<U: Update>(
+    alloc: Global,
+    lo: &Key,
+    hi: Option<&Key>,
+    msgs: &[Msg<U>],
+) -> Result<Vec<Msg<U>>, NoMemory>
+    ensures { IfOk result (λ v. v.items ≡ pieces lo.now (option_copied hi.entry) msgs.now) }
+{
+    let mut found = Vec::new(alloc);
+    for msg in msgs {
+        if let Some(piece) = msg.cut_between(alloc, lo, hi)? {
+            found.push(piece)?;
+        }
+    }
+    Ok(found)
+}
+
+/// The value at `key` after the messages, the oldest first, where `old` was there.
+pub(crate) fn lay_all<U: Update>(
+    alloc: Global,
+    msgs: &[Msg<U>],
+    key: &Key,
+    old: Option<U::Value>,
+) -> Result<Option<U::Value>, NoMemory>
+    ensures { IfOk result (λ v. v ≡ effects U.means msgs.now key.now old) }
+{
+    let mut value = old;
+    for msg in msgs {
+        value = msg.lay(alloc, key, value)?;
+    }
+    Ok(value)
+}
+
+/// Copies of messages, put behind those in `front`.
+pub(crate) fn copy_behind<U: Update>(
+    alloc: Global,
+    msgs: &[Msg<U>],
+    front: &mut Vec<Msg<U>>,
+) -> Result<(), NoMemory>
+    ensures { OnOk result (front.new.items ≡ front.old.items ++ msgs.now) }
+{
+    for msg in msgs {
+        front.push(msg.copy(alloc)?)?;
+    }
+    Ok(())
+}

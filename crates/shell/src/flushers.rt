@@ -1,0 +1,98 @@
+//! A script run by one client of an engine, while flushers tidy the trees in threads of their own.
+ghost use Rattle.std.specs.Prelude.{◌≡◌};
+
+use crate::client::run_client;
+use crate::script::ScriptFault;
+use engine::{Client, Engine, Flusher, Naming, Room};
+use std::alloc::Global;
+use std::io::{Read, Write};
+use std::marker::Brand;
+use std::sync::Wait;
+use std::thread::{Scope, Threads, scope, scope_env};
+use volume::{Frozen, Volume};
+
+/// How many turns each flusher makes.
+const TURNS: u32 = 1_000;
+
+/// Runs all the lines of the reader on the volume by one client, as `run_client` does, while so many flushers make 1,000 turns
+/// each in threads of their own. All of them have ended when it returns. A flusher for which there is no thread or no memory
+/// is left out.
+///
+/// Answers the tree that is live at the end. `Memory` also where a further owner of its nodes is refused.
+pub fn run_beside_flushers<H: Threads + Wait + Sync, R: Read, W: Write>(
+    rt: &H,
+    alloc: Global,
+    volume: Volume,
+    flushers: u8,
+    reader: &mut R,
+    writer: &mut W,
+) -> Result<Frozen, ScriptFault> {
+    match Room::new(alloc, volume) {
+        Ok(room) => run_in::<Brand, H, R, W>(rt, alloc, room, flushers, reader, writer),
+        Err(_) => Err(ScriptFault::Memory),
+    }
+}
+
+/// The same over the volume of a room.
+fn run_in<J: Naming + Send + Sync, H: Threads + Wait + Sync, R: Read, W: Write>(
+    rt: &H,
+    alloc: Global,
+    room: Room,
+    flushers: u8,
+    reader: &mut R,
+    writer: &mut W,
+) -> Result<Frozen, ScriptFault>
+    requires { (room.0 ≡ J.table) × (room.1 ≡ J.opening) × (J.clients ≡ 1) }
+{
+    let Ok((mut engine, mut clients)) = Engine::<J>::open(alloc, room, 1) else {
+        return Err(ScriptFault::Memory);
+    };
+    let Some(mut client) = clients.pop() else {
+        return Err(ScriptFault::Memory);
+    };
+    run_all(
+        rt,
+        alloc,
+        &mut engine,
+        &mut client,
+        flushers,
+        reader,
+        writer,
+    )?;
+    client.freeze(rt).map_err(|_| ScriptFault::Memory)
+}
+
+/// Starts the flushers, and runs the lines. All threads have ended when it returns.
+fn run_all<J: Naming + Send + Sync, H: Threads + Wait + Sync, R: Read, W: Write>(
+    rt: &H,
+    alloc: Global,
+    engine: &mut Engine<J>,
+    client: &mut Client<J>,
+    flushers: u8,
+    reader: &mut R,
+    writer: &mut W,
+) -> Result<(), ScriptFault> {
+    scope(scope_env(), rt, |scope| {
+        for _ in 0..flushers {
+            if let Ok(flusher) = engine.flusher() {
+                start(scope, rt, alloc, flusher);
+            }
+        }
+        run_client(rt, alloc, client, reader, writer)
+    })
+}
+
+/// Starts a flusher in a thread of its own, if there is one.
+fn start<'s, E, J: Naming + Send + Sync + 's, H: Wait + Sync>(
+    scope: &Scope<'s, E>,
+    rt: &'s H,
+    alloc: Global,
+    flusher: Flusher<J>,
+) {
+    let _ = scope.spawn(move || flush(rt, alloc, flusher));
+}
+
+/// All turns of a flusher.
+fn flush<J: Naming, H: Wait>(rt: &H, alloc: Global, mut flusher: Flusher<J>) {
+    flusher.run_flusher(rt, alloc, TURNS);
+}
