@@ -1,6 +1,6 @@
 //! Command lines with `--load`: a volume is kept as an image and had back, and what is said where that cannot be.
 
-use crate::programs::{Ended, own_path, run_on};
+use crate::programs::{Ended, Host, own_path, run_on};
 use std::alloc::Global;
 use std::test::Fail;
 use std::{fs, io};
@@ -35,8 +35,8 @@ fn words_with<'a>(alloc: Global, words: &[&'a str], path: &'a str) -> io::Result
 }
 
 /// Runs the program on a text, with an image in a file of this path.
-fn run_at(
-    rt: &HostRuntime,
+fn run_at<H: Host>(
+    rt: &H,
     path: &str,
     words: &[&str],
     image: &[u8],
@@ -50,7 +50,7 @@ fn run_at(
 }
 
 /// Whether the script is run to its end over the image, and prints what the row says.
-fn is_run(rt: &HostRuntime, path: &str, row: &Row) -> io::Result<bool> {
+fn is_run<H: Host>(rt: &H, path: &str, row: &Row) -> io::Result<bool> {
     let ended = run_at(
         rt,
         path,
@@ -62,7 +62,7 @@ fn is_run(rt: &HostRuntime, path: &str, row: &Row) -> io::Result<bool> {
 }
 
 /// Whether the program fails as the row says.
-fn is_failed(rt: &HostRuntime, path: &str, row: &Failed) -> io::Result<bool> {
+fn is_failed<H: Host>(rt: &H, path: &str, row: &Failed) -> io::Result<bool> {
     let ended = run_at(rt, path, row.words, row.image.as_bytes(), b"stat /\n")?;
     Ok(ended.is(1, b"", row.errors.as_bytes()))
 }
@@ -193,7 +193,7 @@ const MADE: &[u8] = b"mkdir /a\ncreate /a/x\nwrite /a/x 4095 aabb\nmkdir /b\nrmd
 const MADE_REPLIES: &[u8] = b"ok\nok\ncount 2\nok\nok\n";
 
 /// Whether what one run leaves is had back by the next, which goes on from there.
-fn is_kept(rt: &HostRuntime, path: &str) -> io::Result<bool> {
+fn is_kept<H: Host>(rt: &H, path: &str) -> io::Result<bool> {
     let first = run_on(rt, &["betr", "--image"], MADE);
     let Some(image) = image_behind(&first, MADE_REPLIES) else {
         return Ok(false);
@@ -216,7 +216,7 @@ fn what_one_run_leaves_is_had_back_by_the_next(rt: HostRuntime) -> Result<(), Fa
 }
 
 /// Whether a script in a file is run over an image in another.
-fn runs_a_named_script(rt: &HostRuntime, image: &str, script: &str) -> io::Result<bool> {
+fn runs_a_named_script<H: Host>(rt: &H, image: &str, script: &str) -> io::Result<bool> {
     fs::write(rt, image, b"d /\nf /f 2\nb 0 0a\n".as_slice())?;
     fs::write(rt, script, b"read /f 0 2".as_slice())?;
     let ended = run_on(rt, &["betr", "--load", image, script], b"stat /\nstat /\n");
