@@ -38,11 +38,11 @@ module _ {U V : Type 0} where
     }
 
     -- the slot and its child stay lawful
-    lawful_grown : (S : Shape) (n h : ℕ) (lo : List ℕ) (e : Option (List ℕ)) (ms : List (Msg U V)) (cs ds : PSlots U V) → HaveTaken means cs (parts None (take n ms) cs) ds → pending cs + piece_count (take n ms) cs ≤ S.pending → AreLawfulSlots S (more lo ms (inner cs) none) h e → AreLawfulSlots S (more lo (drop n ms) (inner ds) none) h e
+    lawful_grown : (S : Shape) (n h : ℕ) (lo : List ℕ) (e : Option (List ℕ)) (ms : List (Msg U V)) (cs ds : PSlots U V) → HaveTaken means cs (parts None (take n ms) cs) ds → pending ds ≤ S.pending → AreLawfulSlots S (more lo ms (inner cs) none) h e → AreLawfulSlots S (more lo (drop n ms) (inner ds) none) h e
     lawful_grown S n h lo e ms cs ds t fits l =
         let c = l.2 in
         let grown : AreLawfulSlots S ds (pred h) e = lawful-sunk means S (pred h) lo e (take n ms) cs ds (touch_only-take n lo e ms l.1) t c.4 in
-        (l.0, touch_only-drop n lo e ms l.1, (c.0, subst (λ z. z ≤ S.fanout) (sym (slot_count-taken means None (take n ms) cs ds t)) c.1, omega (arith, fits, pending-taken means (take n ms) cs ds t), starts_at-taken means lo None (take n ms) cs ds t c.3, grown), tt)
+        (l.0, touch_only-drop n lo e ms l.1, (c.0, subst (λ z. z ≤ S.fanout) (sym (slot_count-taken means None (take n ms) cs ds t)) c.1, fits, starts_at-taken means lo None (take n ms) cs ds t c.3, grown), tt)
 
   -- what can be done at a slot rests on its messages and its child
   same_there : (lo lp : List ℕ) (ms : List (Msg U V)) (c : PNode U V) (a x : PSlots U V) → can_flush_inner (more lo ms c a) ≡ can_flush_inner (more lp ms c x)
@@ -58,7 +58,7 @@ module _ {U V : Type 0} where
 
   module _ (means : U → Option V → Option V) (shape : Shape) (root : Bool) (i : ℕ) (b a : PSlots U V) (lo : List ℕ) (at_i : slot_count b ≡ i) where
     -- what became of the slot
-    sunk : (n : ℕ) (ms : List (Msg U V)) (cs ds : PSlots U V) → 1 ≤ n → n ≤ length ms → HaveTaken means cs (parts None (take n ms) cs) ds → pending cs + piece_count (take n ms) cs ≤ shape.pending → (h : ℕ) (e : Option (List ℕ)) → AreLawfulSlots shape (more lo ms (inner cs) none) h e → Sinks means n e (more lo ms (inner cs) none) (more lo (drop n ms) (inner ds) none) × Formed means FlushInner shape n (more lo ms (inner cs) none) (more lo (drop n ms) (inner ds) none) × AreLawfulSlots shape (more lo (drop n ms) (inner ds) none) h e
+    sunk : (n : ℕ) (ms : List (Msg U V)) (cs ds : PSlots U V) → 1 ≤ n → n ≤ length ms → HaveTaken means cs (parts None (take n ms) cs) ds → pending ds ≤ shape.pending → (h : ℕ) (e : Option (List ℕ)) → AreLawfulSlots shape (more lo ms (inner cs) none) h e → Sinks means n e (more lo ms (inner cs) none) (more lo (drop n ms) (inner ds) none) × Formed means FlushInner shape n (more lo ms (inner cs) none) (more lo (drop n ms) (inner ds) none) × AreLawfulSlots shape (more lo (drop n ms) (inner ds) none) h e
     sunk n ms cs ds one has t fits h e l = (
       sinks means shape n (pred h) lo e ms cs ds t l.2,
       record { lo = lo; msgs = ms; below = cs; grown = ds; some = one; has = has; was = refl; is = refl; same_slots = emptied-taken means (take n ms) cs ds t; pieces_grow = pending-taken means (take n ms) cs ds t },
@@ -66,7 +66,7 @@ module _ {U V : Type 0} where
     )
 
     -- what a flush that is done has done to the node
-    did : (n : ℕ) (ms : List (Msg U V)) (cs ds : PSlots U V) → 1 ≤ n → n ≤ length ms → HaveTaken means cs (parts None (take n ms) cs) ds → pending cs + piece_count (take n ms) cs ≤ shape.pending → Replies means FlushInner shape root i (Did n) (joined b (more lo ms (inner cs) a)) (joined b (more lo (drop n ms) (inner ds) a))
+    did : (n : ℕ) (ms : List (Msg U V)) (cs ds : PSlots U V) → 1 ≤ n → n ≤ length ms → HaveTaken means cs (parts None (take n ms) cs) ds → pending ds ≤ shape.pending → Replies means FlushInner shape root i (Did n) (joined b (more lo ms (inner cs) a)) (joined b (more lo (drop n ms) (inner ds) a))
     did n ms cs ds one has t fits = replies_did means FlushInner shape root i n b (more lo ms (inner cs) none) (more lo (drop n ms) (inner ds) none) a at_i refl tt tt refl (λ z. z) (λ r z. omega (arith, z, length-drop n ms)) (λ h hi l able. sunk n ms cs ds one has t fits h (next_lo hi a) l) (λ z. z)
 
     -- what each reply says of the node

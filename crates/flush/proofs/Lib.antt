@@ -5,5 +5,7 @@ pub mod Growth
 pub mod InnerFlush
 pub mod LeafFlush
 pub mod Loads
+pub mod Moves
+pub mod Merging
 pub mod Named
 pub mod Walks

@@ -1,74 +1,120 @@
 -- The first heaviest of loads that come one after the other, and how many messages they have in all.
-use Rattle.std.proofs.Common.{◌≡◌, ℕ, zero, suc, ◌+◌, ◌++◌, ◌<◌, ◌≤◌, List, [], ◌∷◌, length, get_or, take, refl, ap, sym, ◌∙◌, subst, Option, Some, None, arith, add-one}
+use Rattle.std.proofs.Common.{◌≡◌, ℕ, zero, suc, pred, ◌+◌, ◌++◌, ◌<◌, ◌≤◌, List, [], ◌∷◌, length, get_or, refl, ap, sym, ◌∙◌, subst, arith}
 use Rattle.std.specs.List.{All, sum_by}
-use Rattle.std.proofs.lemmas.List.{append_assoc, append-nil}
-use Rattle.std.proofs.lemmas.List.Elements.{All-weaker}
+use Rattle.std.proofs.lemmas.List.{append_assoc}
+use Rattle.std.proofs.lemmas.List.Elements.{All-nil, All-cons, All-append, All-weaker}
 use Rattle.std.proofs.lemmas.List.Sums.{sum_by-cons, sum_by-append, sum_by-le}
-use Rattle.flush.specs.declared.heaviest_slot.Candidate.{Candidate}
-use Rattle.flush.specs.Heaviest.{Load, load_of, flush_into, own_loads, loads, loads_below, IsFirstHeaviest, IsBest}
+use Rattle.flush.specs.Heaviest.{Load, load_of, flush_into, own_loads, loads, loads_below, IsFirstHeaviest, FlushesHeaviest, IsFirstOf, IsFirst, AreLight, IsWalkable, AreWalkable}
+use Rattle.flush.proofs.Named.{all-middle, all-after}
 use Rattle.node.specs.declared.node.Slot.{Slot}
+use Rattle.node.specs.declared.place.TreeStep.{TreeStep}
 use Rattle.node.specs.declared.report.Quantity.TheVariants.{Pending}
 use Rattle.node.specs.Lawful.{pending}
+use Rattle.node.specs.Places.{way}
 use Rattle.node.specs.Pure.{PNode, leaf, inner, PSlots, none, more}
 use Rattle.node.specs.Report.{total, total_below}
 use Rattle.node.specs.See.{seen_slots}
+use Rattle.node.specs.Weights.{longest, longest_in}
+
+-- the first that is heavy enough stays the first behind lighter loads
+first-behind : (least : ℕ) (step : TreeStep) (xs ys : List Load) → All (λ l. l.count < least) xs → IsFirstOf least step ys → IsFirstOf least step (xs ++ ys)
+first-behind least step xs ys light f = record {
+  count = f.count;
+  before = xs ++ f.before;
+  after = f.after;
+  is = ap (λ z. xs ++ z) f.is ∙ sym (append_assoc xs f.before (load_of step f.count ∷ f.after));
+  many = f.many;
+  lighter = All-append (λ (l : Load). l.count < least) xs f.before light f.lighter;
+}
+
+-- and before any loads
+first-before : (least : ℕ) (step : TreeStep) (xs ys : List Load) → IsFirstOf least step xs → IsFirstOf least step (xs ++ ys)
+first-before least step xs ys f = record {
+  count = f.count;
+  before = f.before;
+  after = f.after ++ ys;
+  is = ap (λ z. z ++ ys) f.is ∙ append_assoc f.before (load_of step f.count ∷ f.after) ys;
+  many = f.many;
+  lighter = f.lighter;
+}
 
 module _ {U V : Type 0} where
-  -- the load of a slot with this number
-  abbrev pub slot_load : List ℕ → ℕ → Slot U V → Load
-  slot_load at i s = record { at = at; slot = i; kind = flush_into s.child.value; count = length s.pending.0 }
+  -- slots with shorter lists have lighter loads
+  own-light : (least : ℕ) (at : List ℕ) (k : ℕ) (ss : PSlots U V) → AreLight (λ ms n. length ms) least ss → All (λ l. l.count < least) (own_loads at k ss)
+  own-light least at k none w = All-nil (λ (l : Load). l.count < least)
+  own-light least at k (more lo ms n ss) w =
+      let l : Load = record { at = at; slot = k; kind = flush_into n; count = length ms } in
+      All-cons (λ (l : Load). l.count < least) l (own_loads at (k + 1) ss) w.0 (own-light least at (k + 1) ss w.1)
 
-  -- one slot more, by successors, of slots that are numbered from k on
-  own_loads-one_more : (at : List ℕ) (k : ℕ) (xs : List (Slot U V)) (i : ℕ) (d : Slot U V) → i < length xs → own_loads at k (seen_slots (take (suc i) xs)) ≡ own_loads at k (seen_slots (take i xs)) ++ slot_load at (k + i) (get_or xs i d) ∷ []
-  own_loads-one_more at k [] i d h = absurd (omega arith)
-  own_loads-one_more at k (x ∷ xs) zero d h =
-      let e : k ≡ k + 0 = omega arith in
-      ap (λ j. slot_load at j x ∷ []) e
-  own_loads-one_more at k (x ∷ xs) (suc i) d h =
-      let e : k + 1 + i ≡ k + suc i = omega arith in
-      let rest = own_loads at (k + 1) (seen_slots (take i xs)) in
-      ap (λ z. slot_load at k x ∷ z) (own_loads-one_more at (k + 1) xs i d (omega arith) ∙ ap (λ j. rest ++ slot_load at j (get_or xs i d) ∷ []) e)
+  -- the first slot whose own list is long enough, of slots that are numbered from k on
+  own-first : (least : ℕ) (step : TreeStep) (h k i : ℕ) (ss : PSlots U V) → ((n : PNode U V) → IsWalkable (pred h) n → step.kind ≡ flush_into n) → AreWalkable h ss → step.slot ≡ k + i → IsFirst (λ ms n. length ms) least ss i → IsFirstOf least step (own_loads (way step.at) k ss)
+  own-first least step h k i none same w e f = absurd f
+  own-first least step h k zero (more lo ms n ss) same w e f =
+      let here : k ≡ step.slot = omega (arith, e) in
+      let kind : flush_into n ≡ step.kind = sym (same n w.0) in
+      record {
+        count = length ms;
+        before = [];
+        after = own_loads (way step.at) (k + 1) ss;
+        is = λ j. record { at = way step.at; slot = here j; kind = kind j; count = length ms } ∷ own_loads (way step.at) (k + 1) ss;
+        many = f;
+        lighter = All-nil (λ (l : Load). l.count < least);
+      }
+  own-first least step h k (suc i) (more lo ms n ss) same w e f =
+      let l : Load = record { at = way step.at; slot = k; kind = flush_into n; count = length ms } in
+      let light = All-cons (λ (l : Load). l.count < least) l [] f.0 (All-nil (λ (l : Load). l.count < least)) in
+      first-behind least step (l ∷ []) (own_loads (way step.at) (k + 1) ss) light (own-first least step h (k + 1) i ss same w.1 (omega (arith, e)) f.1)
 
-  -- one slot more
-  pub own_loads-take : (at : List ℕ) (xs : List (Slot U V)) (i : ℕ) (d : Slot U V) → i < length xs → own_loads at 0 (seen_slots (take (i + 1) xs)) ≡ own_loads at 0 (seen_slots (take i xs)) ++ slot_load at i (get_or xs i d) ∷ []
-  own_loads-take at xs i d h =
-      let e : 0 + i ≡ i = omega arith in
-      rw add-one (own_loads-one_more at 0 xs i d h ∙ ap (λ j. own_loads at 0 (seen_slots (take i xs)) ++ slot_load at j (get_or xs i d) ∷ []) e)
+  -- a slot of a node that has this number
+  pub first-own : (least : ℕ) (step : TreeStep) (h : ℕ) (ss : PSlots U V) (n : PNode U V) → inner ss ≡ n → ((m : PNode U V) → IsWalkable (pred h) m → step.kind ≡ flush_into m) → AreWalkable h ss → IsFirst (λ ms m. length ms) least ss step.slot → IsFirstOf least step (loads (way step.at) n)
+  first-own least step h ss n is same w f = subst (λ z. IsFirstOf least step (loads (way step.at) z)) is (first-before least step (own_loads (way step.at) 0 ss) (loads_below (way step.at) 0 ss) (own-first least step h 0 step.slot ss same w (omega arith) f))
 
-  -- the best of so many slots and one more
-  pub best_of_slots : (best : Option Candidate) (ls : List Load) (at : List ℕ) (xs : List (Slot U V)) (i : ℕ) (s : Slot U V) (l : Load) → i < length xs → s ≡ get_or xs i s → l ≡ slot_load at i s → IsBest best (ls ++ own_loads at 0 (seen_slots (take i xs)) ++ l ∷ []) → IsBest best (ls ++ own_loads at 0 (seen_slots (take (i + 1) xs)))
-  best_of_slots best ls at xs i s l h e el b =
-      let own = own_loads at 0 (seen_slots (take i xs)) in
-      let load_is : l ≡ slot_load at i (get_or xs i s) = el ∙ ap (slot_load at i) e in
-      let one_more = ap (λ z. own ++ z ∷ []) load_is ∙ sym (own_loads-take at xs i s h) in
-      subst (IsBest best) (append_assoc ls own (l ∷ []) ∙ ap (λ z. ls ++ z) one_more) b
+  mutual
+    -- no list at or below a node is longer than its longest
+    pub loads-most : (at : List ℕ) (n : PNode U V) → All (λ l. l.count ≤ longest n) (loads at n)
+    loads-most at (leaf es) = All-nil (λ (l : Load). l.count ≤ 0)
+    loads-most at (inner ss) = All-append (λ (l : Load). l.count ≤ longest_in ss) (own_loads at 0 ss) (loads_below at 0 ss) (own-most at 0 ss) (below-most at 0 ss)
 
-  -- one child more, by successors, of slots that are numbered from k on
-  loads_below-one_more : (at : List ℕ) (k : ℕ) (xs : List (Slot U V)) (i : ℕ) (d : Slot U V) → i < length xs → loads_below at k (seen_slots (take (suc i) xs)) ≡ loads_below at k (seen_slots (take i xs)) ++ loads (at ++ (k + i) ∷ []) (get_or xs i d).child.value
-  loads_below-one_more at k [] i d h = absurd (omega arith)
-  loads_below-one_more at k (x ∷ xs) zero d h =
-      let e : k ≡ k + 0 = omega arith in
-      append-nil (loads (at ++ k ∷ []) x.child.value) ∙ ap (λ j. loads (at ++ j ∷ []) x.child.value) e
-  loads_below-one_more at k (x ∷ xs) (suc i) d h =
-      let e : k + 1 + i ≡ k + suc i = omega arith in
-      let first = loads (at ++ k ∷ []) x.child.value in
-      let rest = loads_below at (k + 1) (seen_slots (take i xs)) in
-      let last = loads (at ++ (k + suc i) ∷ []) (get_or xs i d).child.value in
-      ap (λ z. first ++ z) (loads_below-one_more at (k + 1) xs i d (omega arith) ∙ ap (λ j. rest ++ loads (at ++ j ∷ []) (get_or xs i d).child.value) e) ∙ sym (append_assoc first rest last)
+    own-most : (at : List ℕ) (k : ℕ) (ss : PSlots U V) → All (λ l. l.count ≤ longest_in ss) (own_loads at k ss)
+    own-most at k none = All-nil (λ (l : Load). l.count ≤ 0)
+    own-most at k (more lo ms n ss) =
+        let l : Load = record { at = at; slot = k; kind = flush_into n; count = length ms } in
+        let rest = All-weaker (λ (l : Load). l.count ≤ longest_in ss) (λ (l : Load). l.count ≤ longest_in (more lo ms n ss)) (λ l h. omega (arith, h)) (own_loads at (k + 1) ss) (own-most at (k + 1) ss) in
+        All-cons (λ (l : Load). l.count ≤ longest_in (more lo ms n ss)) l (own_loads at (k + 1) ss) (omega arith) rest
 
-  -- one child more
-  pub loads_below-take : (at : List ℕ) (xs : List (Slot U V)) (i : ℕ) (d : Slot U V) → i < length xs → loads_below at 0 (seen_slots (take (i + 1) xs)) ≡ loads_below at 0 (seen_slots (take i xs)) ++ loads (at ++ i ∷ []) (get_or xs i d).child.value
-  loads_below-take at xs i d h =
-      let e : 0 + i ≡ i = omega arith in
-      rw add-one (loads_below-one_more at 0 xs i d h ∙ ap (λ j. loads_below at 0 (seen_slots (take i xs)) ++ loads (at ++ j ∷ []) (get_or xs i d).child.value) e)
+    below-most : (at : List ℕ) (k : ℕ) (ss : PSlots U V) → All (λ l. l.count ≤ longest_in ss) (loads_below at k ss)
+    below-most at k none = All-nil (λ (l : Load). l.count ≤ 0)
+    below-most at k (more lo ms n ss) =
+        let first = All-weaker (λ (l : Load). l.count ≤ longest n) (λ (l : Load). l.count ≤ longest_in (more lo ms n ss)) (λ l h. omega (arith, h)) (loads (at ++ k ∷ []) n) (loads-most (at ++ k ∷ []) n) in
+        let rest = All-weaker (λ (l : Load). l.count ≤ longest_in ss) (λ (l : Load). l.count ≤ longest_in (more lo ms n ss)) (λ l h. omega (arith, h)) (loads_below at (k + 1) ss) (below-most at (k + 1) ss) in
+        All-append (λ (l : Load). l.count ≤ longest_in (more lo ms n ss)) (loads (at ++ k ∷ []) n) (loads_below at (k + 1) ss) first rest
 
-  -- the best of a node's own slots, of all slots below so many children, and of those below one child more
-  pub best_of_children : (best : Option Candidate) (ls : List Load) (at under : List ℕ) (own : List Load) (xs : List (Slot U V)) (i : ℕ) (s : Slot U V) (child : PNode U V) → i < length xs → s ≡ get_or xs i s → child ≡ s.child.value → under ≡ at ++ i ∷ [] → IsBest best (ls ++ (own ++ loads_below at 0 (seen_slots (take i xs))) ++ loads under child) → IsBest best (ls ++ (own ++ loads_below at 0 (seen_slots (take (i + 1) xs))))
-  best_of_children best ls at under own xs i s child h e ec eu b =
-      let below = loads_below at 0 (seen_slots (take i xs)) in
-      let loads_are : loads under child ≡ loads (at ++ i ∷ []) (get_or xs i s).child.value = ap (λ z. loads z child) eu ∙ ap (loads (at ++ i ∷ [])) (ec ∙ ap (λ (x : Slot U V). x.child.value) e) in
-      let one_more = ap (λ z. below ++ z) loads_are ∙ sym (loads_below-take at xs i s h) in
-      subst (IsBest best) (append_assoc ls (own ++ below) (loads under child) ∙ ap (λ z. ls ++ z) (append_assoc own below (loads under child) ∙ ap (λ z. own ++ z) one_more)) b
+  -- what is first below the first slot above a list that is long enough, of slots that are numbered from k on
+  below-first : (least : ℕ) (step : TreeStep) (at : List ℕ) (k i : ℕ) (xs : List (Slot U V)) (s : Slot U V) → s ≡ get_or xs i s → IsFirst (λ ms n. longest n) least (seen_slots xs) i → IsFirstOf least step (loads (at ++ (k + i) ∷ []) s.child.value) → IsFirstOf least step (loads_below at k (seen_slots xs))
+  below-first least step at k i [] s e f d = absurd f
+  below-first least step at k zero (x ∷ xs) s e f d =
+      let here : k + 0 ≡ k = omega arith in
+      let there = subst (λ j. IsFirstOf least step (loads (at ++ j ∷ []) s.child.value)) here d in
+      first-before least step (loads (at ++ k ∷ []) x.child.value) (loads_below at (k + 1) (seen_slots xs)) (subst (λ (z : Slot U V). IsFirstOf least step (loads (at ++ k ∷ []) z.child.value)) e there)
+  below-first least step at k (suc i) (x ∷ xs) s e f d =
+      let next : k + suc i ≡ k + 1 + i = omega arith in
+      let light = All-weaker (λ (l : Load). l.count ≤ longest x.child.value) (λ (l : Load). l.count < least) (λ l h. omega (arith, h, f.0)) (loads (at ++ k ∷ []) x.child.value) (loads-most (at ++ k ∷ []) x.child.value) in
+      first-behind least step (loads (at ++ k ∷ []) x.child.value) (loads_below at (k + 1) (seen_slots xs)) light (below-first least step at (k + 1) i xs s e f.1 (subst (λ j. IsFirstOf least step (loads (at ++ j ∷ []) s.child.value)) next d))
+
+  -- that slot has such a list below it
+  pub first-reached : (least : ℕ) (xs : List (Slot U V)) (i : ℕ) (s : Slot U V) (child : PNode U V) → child ≡ s.child.value → s ≡ get_or xs i s → IsFirst (λ ms n. longest n) least (seen_slots xs) i → least ≤ longest child
+  first-reached least [] i s child ec e f = absurd f
+  first-reached least (x ∷ xs) zero s child ec e f = subst (λ n. least ≤ longest n) (sym (ec ∙ ap (λ (z : Slot U V). z.child.value) e)) f
+  first-reached least (x ∷ xs) (suc i) s child ec e f = first-reached least xs i s child ec e f.1
+
+  -- what is first below that slot of a node whose own lists are shorter
+  pub first-below : (least : ℕ) (step : TreeStep) (at under : List ℕ) (i : ℕ) (xs : List (Slot U V)) (s : Slot U V) (child n : PNode U V) → inner (seen_slots xs) ≡ n → s ≡ get_or xs i s → child ≡ s.child.value → under ≡ at ++ i ∷ [] → AreLight (λ ms m. length ms) least (seen_slots xs) → IsFirst (λ ms m. longest m) least (seen_slots xs) i → IsFirstOf least step (loads under child) → IsFirstOf least step (loads at n)
+  first-below least step at under i xs s child n is e ec eu light f d =
+      let at_child = subst (λ z. IsFirstOf least step (loads under z)) ec d in
+      let same : i ≡ 0 + i = omega arith in
+      let placed = subst (λ z. IsFirstOf least step (loads z s.child.value)) (eu ∙ ap (λ j. at ++ j ∷ []) same) at_child in
+      let below = below-first least step at 0 i xs s e f placed in
+      subst (λ z. IsFirstOf least step (loads at z)) is (first-behind least step (own_loads at 0 (seen_slots xs)) (loads_below at 0 (seen_slots xs)) (own-light least at 0 (seen_slots xs) light) below)
 
   -- a node's own slots have its own pending pieces
   own_loads-count : (at : List ℕ) (i : ℕ) (ss : PSlots U V) → sum_by (λ (l : Load). l.count) (own_loads at i ss) ≡ pending ss
@@ -96,17 +142,29 @@ count-some : (l : Load) (ls : List Load) → IsFirstHeaviest l ls → 0 < sum_by
 count-some l ls h = omega (arith, ap (sum_by (λ (m : Load). m.count)) h.is, sum_by-append (λ (m : Load). m.count) h.before (l ∷ h.after), sum_by-cons (λ (m : Load). m.count) l h.after, h.some)
 
 module _ {U V : Type 0} where
-  -- what was found in a walk that began at the root
-  pub best_of_all : (best : Option Candidate) (at : List ℕ) (n root : PNode U V) → at ≡ [] → n ≡ root → IsBest best (loads at n) → IsBest best (loads [] root)
-  best_of_all best at n root ea en b = subst (λ z. IsBest best (loads [] z)) en (subst (λ z. IsBest best (loads z n)) ea b)
+  -- where no list is long, nothing is pending
+  pub nothing_pending : (n : PNode U V) → longest n ≡ 0 → total Pending n ≡ 0
+  nothing_pending n e = sym (loads-count [] n) ∙ count-none (loads [] n) (All-weaker (λ (l : Load). l.count ≤ longest n) (λ (l : Load). l.count ≡ 0) (λ l h. omega (arith, h, e)) (loads [] n) (loads-most [] n))
 
-  -- where nothing is found, nothing is pending
-  pub nothing_pending : (best : Option Candidate) (n : PNode U V) → best ≡ None → IsBest best (loads [] n) → total Pending n ≡ 0
-  nothing_pending best n e b = sym (loads-count [] n) ∙ count-none (loads [] n) (subst (λ o. IsBest o (loads [] n)) e b)
+  -- the first load with as many messages as the longest list
+  first_heaviest : (most : ℕ) (step : TreeStep) (n : PNode U V) → most ≡ longest n → 0 < most → IsFirstOf most step (loads [] n) → FlushesHeaviest (loads [] n) step
+  first_heaviest most step n e some f =
+      let all = subst (All (λ l. l.count ≤ longest n)) f.is (loads-most [] n) in
+      let no_more = all-middle (λ (l : Load). l.count ≤ longest n) f.before f.after (load_of step f.count) all in (
+        f.count,
+        record {
+          before = f.before;
+          after = f.after;
+          is = f.is;
+          some = omega (arith, f.many, some);
+          lighter = All-weaker (λ (l : Load). l.count < most) (λ (l : Load). l.count < f.count) (λ l h. omega (arith, h, f.many)) f.before f.lighter;
+          no_heavier = All-weaker (λ (l : Load). l.count ≤ longest n) (λ (l : Load). l.count ≤ f.count) (λ l h. omega (arith, h, e, f.many)) f.after (all-after (λ (l : Load). l.count ≤ longest n) f.before f.after (load_of step f.count) all);
+        },
+      )
 
-  -- what was found is the first of the heaviest
-  pub first_of_all : (best : Option Candidate) (c : Candidate) (n : PNode U V) → best ≡ Some c → IsBest best (loads [] n) → IsFirstHeaviest (load_of c.step c.count) (loads [] n)
-  first_of_all best c n e b = subst (λ o. IsBest o (loads [] n)) e b
+  -- likewise where the walk began at the root
+  pub heaviest_of_all : (most : ℕ) (step : TreeStep) (at : List ℕ) (n root : PNode U V) → at ≡ [] → n ≡ root → most ≡ longest n → 0 < most → IsFirstOf most step (loads at n) → FlushesHeaviest (loads [] root) step
+  heaviest_of_all most step at n root ea en e some f = subst (λ z. FlushesHeaviest (loads [] z) step) en (first_heaviest most step n e some (subst (λ z. IsFirstOf most step (loads z n)) ea f))
 
   -- and where something is, something is
   pub some_pending : (l : Load) (n : PNode U V) → IsFirstHeaviest l (loads [] n) → 0 < total Pending n

@@ -22,8 +22,13 @@ here k = omega arith
 next : (k j : ℕ) → k + 1 + j ≡ k + suc j
 next k j = omega arith
 
+-- what is said of all is said of those behind one
+pub all-after : {X : Type 0} (P : X → Type 0) (xs ys : List X) (x : X) → All P (xs ++ x ∷ ys) → All P ys
+all-after P [] ys x h = All-tail P x ys h
+all-after P (y ∷ xs) ys x h = all-after P xs ys x (All-tail P y (xs ++ x ∷ ys) h)
+
 -- what is said of all is said of one in the middle
-all-middle : {X : Type 0} (P : X → Type 0) (xs ys : List X) (x : X) → All P (xs ++ x ∷ ys) → P x
+pub all-middle : {X : Type 0} (P : X → Type 0) (xs ys : List X) (x : X) → All P (xs ++ x ∷ ys) → P x
 all-middle P [] ys x h = All-head P x ys h
 all-middle P (y ∷ xs) ys x h = all-middle P xs ys x (All-tail P y (xs ++ x ∷ ys) h)
 

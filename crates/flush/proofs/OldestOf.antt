@@ -1,5 +1,5 @@
 -- The oldest message of a list, as the code asks for it, and the oldest few.
-use Rattle.std.proofs.Common.{◌≡◌, ℕ, zero, suc, ◌<◌, ◌≤◌, ◌⊎◌, inl, inr, List, [], ◌∷◌, length, take, drop, refl, ap, sym, ◌∙◌, subst, Option, Some, None, arith, false, true, Result}
+use Rattle.std.proofs.Common.{◌≡◌, ℕ, zero, suc, ◌<◌, ◌≤◌, List, [], ◌∷◌, length, take, refl, ap, sym, ◌∙◌, subst, Option, Some, None, arith, false, true, Result}
 use Rattle.std.proofs.lemmas.Option.{same_Some}
 use Rattle.std.specs.Prelude.{Ok, Err, is_ok, is_err}
 use Rattle.pathkey.specs.Order.{same}
@@ -9,10 +9,9 @@ use Rattle.message.specs.Effects.{touches, made_of}
 use Rattle.message.specs.Oldest.{given_at, put_at}
 use Rattle.node.specs.declared.step.StepReply.{StepReply}
 use Rattle.node.specs.declared.step.StepReply.TheVariants.{Did, NotThere, NoRoom, NoMemory}
-use Rattle.node.specs.Pure.{PNode, leaf, inner, more, none}
-use Rattle.node.specs.StepRows.{IsFullBelow, can_flush_inner, can_flush_leaf}
+use Rattle.node.specs.Pure.{PNode, leaf, inner}
 use Rattle.flush.specs.Sunk.{Sunk, GoneInto}
-use Rattle.flush.specs.Leaf.{AfterOldest, Filled, Absorbed, HasPlace}
+use Rattle.flush.specs.Leaf.{AfterOldest, Filled, Absorbed}
 
 -- a list that is not empty has a first element
 pub first_of : {X : Type 0} (xs : List X) → 0 < length xs → (x : X) × (ys : List X) × (xs ≡ x ∷ ys)
@@ -20,14 +19,14 @@ first_of [] h = absurd (omega arith)
 first_of (x ∷ ys) h = (x, ys, refl)
 
 -- the first few of the first few
-take_few : {X : Type 0} (xs : List X) (k n : ℕ) → k ≤ length (take n xs) → take k (take n xs) ≡ take k xs
+pub take_few : {X : Type 0} (xs : List X) (k n : ℕ) → k ≤ length (take n xs) → take k (take n xs) ≡ take k xs
 take_few xs zero n h = refl
 take_few [] (suc k) zero h = refl
 take_few [] (suc k) (suc n) h = refl
 take_few (x ∷ xs) (suc k) zero h = absurd (omega (arith, h))
 take_few (x ∷ xs) (suc k) (suc n) h = ap (λ ys. x ∷ ys) (take_few xs k n (omega (arith, h)))
 
-few_long : {X : Type 0} (xs : List X) (n k : ℕ) → k ≤ length (take n xs) → k ≤ length xs
+pub few_long : {X : Type 0} (xs : List X) (n k : ℕ) → k ≤ length (take n xs) → k ≤ length xs
 few_long xs zero k h = omega (arith, h)
 few_long [] (suc n) k h = h
 few_long (x ∷ xs) (suc n) zero h = omega arith

@@ -1,7 +1,7 @@
 -- Which nodes can be walked by numbers of slots, and how far down.
-use Rattle.std.proofs.Common.{◌≡◌, ℕ, zero, suc, pred, ◌+◌, ◌-◌, ◌++◌, ◌^◌, ◌<◌, ◌≤◌, List, [], ◌∷◌, length, get_or, refl, ap, sym, ◌∙◌, subst, Option, None, arith}
-use Rattle.std.proofs.lemmas.List.{append-nil, length-append}
-use Rattle.flush.specs.Heaviest.{flush_into, own_loads, loads, loads_below, IsWalkable, AreWalkable}
+use Rattle.std.proofs.Common.{◌≡◌, ℕ, zero, suc, pred, ◌+◌, ◌-◌, ◌++◌, ◌^◌, ◌<◌, ◌≤◌, List, [], ◌∷◌, length, get_or, ap, sym, ◌∙◌, subst, Option, None, arith}
+use Rattle.std.proofs.lemmas.List.{length-append}
+use Rattle.flush.specs.Heaviest.{flush_into, IsWalkable, AreWalkable}
 use Rattle.node.specs.declared.node.Slot.{Slot}
 use Rattle.node.specs.declared.shape.Shape.{Shape}
 use Rattle.node.specs.declared.step.StepKind.{StepKind}
@@ -10,6 +10,7 @@ use Rattle.node.specs.Lawful.{IsLawfulNode, AreLawfulSlots, IsLawfulRoot, IsLawf
 use Rattle.node.specs.Pure.{PNode, leaf, inner, PSlots, none, more, PTree}
 use Rattle.node.specs.RootSteps.{levels}
 use Rattle.node.specs.See.{seen_slots}
+use Rattle.node.specs.Weights.{longest}
 use Rattle.node.proofs.Roots.{small_shape}
 use Rattle.node.proofs.Sizes.{exact_levels, root_levels}
 
@@ -36,18 +37,10 @@ module _ {U V : Type 0} where
   flush_into-is h (leaf es) k low high some w = low (omega (arith, w))
   flush_into-is h (inner ss) k low high some w = high (omega (arith, w.0))
 
-  -- leaves have no slots
-  loads_below-leaves : (at : List ℕ) (i : ℕ) (ss : PSlots U V) → AreWalkable 1 ss → loads_below at i ss ≡ []
-  loads_below-leaves at i none w = refl
-  loads_below-leaves at i (more lo ms (leaf es) ss) w = loads_below-leaves at (i + 1) ss w.1
-  loads_below-leaves at i (more lo ms (inner cs) ss) w = absurd (omega (arith, w.0.0))
-
-  -- one level above the leaves a node's own slots are all
-  pub own_loads-lowest : (at : List ℕ) (h : ℕ) (ss : PSlots U V) (n : PNode U V) → inner ss ≡ n → h ≡ 1 → IsWalkable h n → own_loads at 0 ss ≡ loads at n
-  own_loads-lowest at h ss n is one w =
-      let here : IsWalkable h (inner ss) = subst (IsWalkable h) (sym is) w in
-      let leaves : loads_below at 0 ss ≡ [] = loads_below-leaves at 0 ss (subst (λ k. AreWalkable k ss) one here.2) in
-      sym (append-nil (own_loads at 0 ss)) ∙ ap (λ z. own_loads at 0 ss ++ z) (sym leaves) ∙ ap (loads at) is
+  -- a node with messages stands above the leaves
+  pub above_leaves : (h : ℕ) (n : PNode U V) → 0 < longest n → IsWalkable h n → 0 < h
+  above_leaves h (leaf es) some w = absurd (omega (arith, some))
+  above_leaves h (inner ss) some w = w.0
 
   module _ (S : Shape) (few : S.fanout ≤ 64) where
     -- a lawful node is walked down to its leaves

@@ -1,8 +1,8 @@
 -- The slot with the most pending messages.
-use Rattle.std.specs.Prelude.{◌≡◌, ℕ, ◌+◌, ◌<◌, ◌≤◌, ◌++◌, List, [], ◌∷◌, Option, Some, None, length, ⊤, MatchOption}
-use Rattle.std.proofs.Common.{pred}
+use Rattle.std.specs.Prelude.{◌≡◌, ℕ, ◌+◌, ◌<◌, ◌≤◌, ◌++◌, List, [], ◌∷◌, length, ⊤}
+use Rattle.std.proofs.Common.{zero, suc, pred}
 use Rattle.std.specs.List.{All}
-use Rattle.flush.specs.declared.heaviest_slot.Candidate.{Candidate}
+use Rattle.message.specs.declared.msg.Msg.{Msg}
 use Rattle.node.specs.declared.place.TreeStep.{TreeStep}
 use Rattle.node.specs.declared.step.StepKind.{StepKind}
 use Rattle.node.specs.declared.step.StepKind.TheVariants.{FlushInner, FlushLeaf}
@@ -55,14 +55,26 @@ pub record IsFirstHeaviest (l : Load) (ls : List Load) : Type 0 where
 abbrev pub FlushesHeaviest : List Load → TreeStep → Type 0
 FlushesHeaviest ls step = (count : ℕ) × IsFirstHeaviest (load_of step count) ls
 
--- what was found is the first of the heaviest of these loads, or none where none has messages
-abbrev pub IsBest : Option Candidate → List Load → Type 0
-IsBest best ls = MatchOption best (All (λ l. l.count ≡ 0) ls) (λ c. IsFirstHeaviest (load_of c.step c.count) ls)
+-- the step is the flush of the first of these loads that has at least so many messages
+pub record IsFirstOf (least : ℕ) (step : TreeStep) (ls : List Load) : Type 0 where
+  pub count : ℕ
+  pub before : List Load
+  pub after : List Load
+  pub is : ls ≡ before ++ load_of step count ∷ after
+  pub many : least ≤ count
+  pub lighter : All (λ m. m.count < least) before
 
--- how many messages wait in the slot of what was found
-abbrev pub weight : Option Candidate → ℕ
-weight None = 0
-weight (Some c) = c.count
+module _ {U V : Type 0} (weigh : List (Msg U V) → PNode U V → ℕ) (least : ℕ) where
+  -- each of these slots weighs less, by its messages and its child
+  abbrev pub AreLight : PSlots U V → Type 0
+  AreLight none = ⊤
+  AreLight (more lo ms n ss) = (weigh ms n < least) × AreLight ss
+
+  -- the first of these slots that weighs at least so much has this number
+  abbrev pub IsFirst : PSlots U V → ℕ → Type 0
+  IsFirst none i = ⊥
+  IsFirst (more lo ms n ss) zero = least ≤ weigh ms n
+  IsFirst (more lo ms n ss) (suc i) = (weigh ms n < least) × IsFirst ss i
 
 module _ {U V : Type 0} where
   -- a node h levels above its leaves, which are equally deep, and no node with more slots than a byte can number

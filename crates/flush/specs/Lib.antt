@@ -1,3 +1,4 @@
 pub mod Sunk
 pub mod Leaf
+pub mod Merge
 pub mod Heaviest

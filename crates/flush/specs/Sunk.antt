@@ -1,11 +1,11 @@
 -- What becomes of one slot and its child when messages go down.
-use Rattle.std.specs.Prelude.{◌≡◌, ℕ, ◌+◌, ◌≤◌, false, List, [], Option, None, length, take, drop}
+use Rattle.std.specs.Prelude.{◌≡◌, ℕ, ◌+◌, ◌-◌, ◌≤◌, false, List, [], Option, None, length, take, drop}
 use Rattle.message.specs.declared.msg.Msg.{Msg}
 use Rattle.node.specs.declared.step.StepReply.{StepReply}
 use Rattle.node.specs.declared.step.StepReply.TheVariants.{Did, NotThere, NoRoom, NoMemory}
 use Rattle.node.specs.Appended.{parts, HaveTaken}
 use Rattle.node.specs.Lawful.{pending}
-use Rattle.node.specs.Pure.{PNode, leaf, inner, none, more}
+use Rattle.node.specs.Pure.{PNode, leaf, inner, PSlots, none, more}
 use Rattle.node.specs.StepRows.{piece_count, can_flush_inner, IsFullBelow}
 
 -- the messages that a reply leaves in their slot
@@ -15,10 +15,29 @@ left NotThere ms = ms
 left NoRoom ms = ms
 left NoMemory ms = ms
 
+-- how many pieces more a node takes that has room for so many in all; a leaf takes none
+abbrev pub spare : {U V : Type 0} → ℕ → PNode U V → ℕ
+spare most (inner cs) = most - pending cs
+spare most (leaf es) = 0
+
 module _ {U V : Type 0} (means : U → Option V → Option V) where
-  -- the messages went into the slots of the node c, which became d, and so many pieces are enough for it
+  -- so many of the oldest messages ms went into the slots cs, at most one piece each; the slots became ds, and rest is left
+  pub record Moved (n : ℕ) (ms rest : List (Msg U V)) (cs ds : PSlots U V) : Type 0 where
+    pub within : n ≤ length ms
+    pub left : rest ≡ drop n ms
+    pub taken : HaveTaken means cs (parts None (take n ms) cs) ds
+    pub few : piece_count (take n ms) cs ≤ n
+    pub still : n ≡ 0 → ds ≡ cs
+
+  -- likewise for the slots of a node; a leaf takes none
+  abbrev pub MovedInto : ℕ → List (Msg U V) → List (Msg U V) → PNode U V → PNode U V → Type 0
+  MovedInto n ms rest (inner cs) (inner ds) = Moved n ms rest cs ds
+  MovedInto n ms rest (inner cs) (leaf es) = ⊥
+  MovedInto n ms rest (leaf es) d = (n ≡ 0) × (rest ≡ ms) × (d ≡ leaf es)
+
+  -- the messages went into the slots of the node c, which became d, and d holds at most so many
   abbrev pub GoneInto : ℕ → List (Msg U V) → PNode U V → PNode U V → Type 0
-  GoneInto most ms (inner cs) (inner ds) = HaveTaken means cs (parts None ms cs) ds × (pending cs + piece_count ms cs ≤ most)
+  GoneInto most ms (inner cs) (inner ds) = HaveTaken means cs (parts None ms cs) ds × (pending ds ≤ most)
   GoneInto most ms (inner cs) (leaf es) = ⊥
   GoneInto most ms (leaf es) d = ⊥
 

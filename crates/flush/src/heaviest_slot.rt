@@ -1,45 +1,17 @@
 //! The slot with the most pending messages, which a flush relieves most.
-ghost use Rattle.std.specs.Prelude.{◌≡◌, ◌+◌, ◌≤◌, ◌<◌, ◌++◌, ◌∷◌, ◌↔◌, [], List, true, false, IfSome, length};
-ghost use Rattle.flush.specs.Heaviest.{AreWalkable, FlushesHeaviest, IsBest, IsWalkable, Load, load_of, loads, own_loads, weight};
+ghost use Rattle.std.specs.Prelude.{◌≡◌, ◌+◌, ◌≤◌, ◌<◌, ◌++◌, ◌∷◌, ◌↔◌, [], true, false, IfSome, MatchOption, length};
+ghost use Rattle.flush.specs.Heaviest.{AreLight, FlushesHeaviest, IsFirst, IsFirstOf, IsWalkable, loads};
 ghost use Rattle.node.specs.Places.{way};
 ghost use Rattle.node.specs.Report.{total};
 ghost use Rattle.node.specs.See.{seen_slots};
 ghost use Rattle.node.specs.Steps.{there};
+ghost use Rattle.node.specs.Weights.{longest, longest_in};
 ghost use Rattle.node.specs.declared.report.Quantity.TheVariants.{Pending};
 ghost use Rattle.node.specs.declared.step.StepKind.TheVariants.{FlushInner, FlushLeaf};
 
 use message::Update;
 use node::node::count::height;
 use node::{Body, Node, Place, Slot, StepKind, Tree, TreeStep};
-
-/// A flush, and how many messages wait in its slot.
-#[derive(Clone, Copy)]
-struct Candidate {
-    /// The flush.
-    step: TreeStep,
-    /// The messages.
-    count: usize,
-}
-
-/// How many messages wait in the slot of what was found, or 0.
-fn weight(best: Option<Candidate>) -> usize
-    ensures { result ≡ weight best }
-{
-    match best {
-        None => 0,
-        Some(found) => found.count,
-    }
-}
-
-/// The first heaviest of what was found and one slot more.
-fn heavier(best: Option<Candidate>, next: Candidate) -> Option<Candidate>
-    ensures { (ls : List Load) → IsBest best ls → IsBest result (ls ++ load_of next.step next.count ∷ []) }
-{
-    if next.count <= weight(best) {
-        return best;
-    }
-    Some(next)
-}
 
 /// Whether a node that stands so many levels above the leaves has leaves below it.
 fn is_lowest(levels: usize) -> bool
@@ -85,65 +57,74 @@ fn below(at: Place, i: usize) -> Place
     under
 }
 
-/// The first heaviest of what was found and the slots of a node that stands so many levels above the leaves.
-fn heaviest_slot<U: Update>(
-    slots: &[Slot<U>],
-    levels: usize,
-    at: Place,
-    best: Option<Candidate>,
-) -> Option<Candidate>
-    requires above { 0 < levels }
-    requires few { length slots.now ≤ 256 }
-    requires even { AreWalkable levels (seen_slots slots.now) }
-    ensures { (ls : List Load) → IsBest best ls → IsBest result (ls ++ own_loads (way at) 0 (seen_slots slots.now)) }
+/// The number of the first of these slots in which at least so many messages wait.
+fn own_slot<U: Update>(slots: &[Slot<U>], least: usize) -> Option<usize>
+    ensures bound { IfSome result (λ i. i < length slots.now) }
+    ensures first { MatchOption result (AreLight (λ ms n. length ms) least (seen_slots slots.now)) (IsFirst (λ ms n. length ms) least (seen_slots slots.now)) }
 {
-    let kind = flush_at(levels);
-    let mut found = best;
-    for (i, slot) in slots.iter().enumerate() {
-        let step = step_at(kind, at, i);
-        let count = slot.pending.len();
-        found = heavier(found, Candidate { step, count });
+    let Some((slot, later)) = slots.split_first() else {
+        return None;
+    };
+    if slot.pending.len() >= least {
+        return Some(0);
     }
-    found
+    Some(own_slot(later, least)? + 1)
 }
 
-/// The first heaviest of what was found, the node's slots and all slots below it, without a look at the leaves.
-fn heaviest_below<U: Update>(
-    node: &Node<U>,
-    levels: usize,
-    at: Place,
-    best: Option<Candidate>,
-) -> Option<Candidate>
+/// The number of the first of these slots below whose child so many messages wait in one slot, where in none of their own
+/// lists so many do.
+fn slot_above<U: Update>(slots: &[Slot<U>], least: usize) -> usize
+    requires some { 0 < least }
+    requires light { AreLight (λ ms n. length ms) least (seen_slots slots.now) }
+    requires reached { least ≤ longest_in (seen_slots slots.now) }
+    ensures bound { result < length slots.now }
+    ensures first { IsFirst (λ ms n. longest n) least (seen_slots slots.now) result }
+{
+    let Some((slot, later)) = slots.split_first() else {
+        unreachable!()
+    };
+    if slot.child.weight().longest >= least {
+        return 0;
+    }
+    slot_above(later, least) + 1
+}
+
+/// The flush of the first slot with at least so many messages, in the walk of this node and all below it, where there is one.
+///
+/// It goes down one path, as the weights that the nodes keep tell.
+fn first_heavy<U: Update>(node: &Node<U>, levels: usize, at: Place, least: usize) -> TreeStep
     requires even { IsWalkable levels node.now }
     requires short { length (way at) + levels ≤ 16 }
-    ensures { (ls : List Load) → IsBest best ls → IsBest result (ls ++ loads (way at) node.now) }
+    requires some { 0 < least }
+    requires reached { least ≤ longest node.now }
+    ensures { IsFirstOf least result (loads (way at) node.now) }
 {
-    let Body::Inner(slots) = &node.body else {
-        return best;
+    let Body::Inner(slots) = node.body() else {
+        unreachable!()
     };
-    let mut found = heaviest_slot(slots.as_slice(), levels, at, best);
-    if is_lowest(levels) {
-        return found;
+    let slots = slots.as_slice();
+    if let Some(i) = own_slot(slots, least) {
+        return step_at(flush_at(levels), at, i);
     }
-    for (i, slot) in slots.as_slice().iter().enumerate() {
-        let under = below(at, i);
-        found = heaviest_below(&slot.child, levels - 1, under, found);
-    }
-    found
+    let i = slot_above(slots, least);
+    first_heavy(&slots[i].child, levels - 1, below(at, i), least)
 }
 
 /// The flush of a slot than which no slot has more pending messages; `None` where nothing is pending.
 ///
 /// Of equally heavy slots it is the first in the walk from the root that takes a node before its children. The flush
-/// is never answered by `NotThere`. It looks at each inner node and, of the leaves, at the first
-/// alone.
+/// is never answered by `NotThere`. It looks at the slots of the nodes on the way to that slot and at the weights that their
+/// children keep, and for the tree's height at the first nodes of each level.
 pub fn heaviest<U: Update>(tree: &Tree<U>) -> Option<TreeStep>
     ensures nothing { (result ≡ None) ↔ (total Pending tree.now.root ≡ 0) }
     ensures first { IfSome result (FlushesHeaviest (loads [] tree.now.root)) }
     ensures can_be_done { IfSome result (λ step. there step.kind step.slot (way step.at) None tree.now.root ≡ true) }
 {
     let root = tree.root();
+    let most = root.weight().longest;
+    if most == 0 {
+        return None;
+    }
     let levels = height(root) as usize;
-    let found = heaviest_below(root, levels, Place::root(), None)?;
-    Some(found.step)
+    Some(first_heavy(root, levels, Place::root(), most))
 }

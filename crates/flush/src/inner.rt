@@ -1,23 +1,31 @@
 //! A flush into an inner node.
-ghost use Rattle.std.specs.Prelude.{◌≡◌, true, false, ◌+◌, ◌≤◌, ◌<◌, ◌∷◌, [], length, take};
+//!
+//! Messages for one key are moved one by one into the slots that hold their keys, after room is made for each. Range-deletes
+//! at the front of a list are copied, since their pieces need keys of their own.
+ghost use Rattle.std.specs.Prelude.{◌≡◌, ℕ, true, false, ◌+◌, ◌≤◌, ◌<◌, ◌∷◌, [], length, take, map, None, if◌then◌else◌, IfOk, OnOk, OnErr};
+ghost use Rattle.node.specs.Appended.{parts, HaveTaken};
 ghost use Rattle.node.specs.Lawful.{pending as pending_of};
 ghost use Rattle.node.specs.Places.{way};
-ghost use Rattle.node.specs.StepRows.{piece_count};
-ghost use Rattle.node.specs.See.{seen_slots};
+ghost use Rattle.node.specs.Searchable.{AreRising, IsSearchable};
+ghost use Rattle.node.specs.StepRows.{can_flush_inner, piece_count};
+ghost use Rattle.node.specs.See.{see_slot, seen_slots};
+ghost use Rattle.node.specs.Site.{slots_from};
 ghost use Rattle.node.specs.Steps.{Answers};
 ghost use Rattle.node.specs.declared.step.StepKind.TheVariants.{FlushInner};
-ghost use Rattle.flush.specs.Sunk.{Sunk, left};
+ghost use Rattle.node.specs.declared.step.StepReply.TheVariants.{Did};
+ghost use Rattle.flush.specs.Sunk.{Moved, MovedInto, Sunk, left, spare};
 
 use message::{Msg, Pending, Update};
 use node::node::append::append_copies;
 use node::node::count::{held, pieces_in, pieces_of_oldest};
+use node::node::search::holder;
 use node::{Body, Change, Node, Place, Shape, Slot, StepReply, Tree};
-use pathkey::Key;
+use pathkey::{Key, NoMemory};
 use std::alloc::Global;
 use std::sync::Arc;
 
 /// How many of the messages, from the oldest on, make with what waits in the slots at most `room` pieces.
-fn fitting<U: Update>(slots: &[Slot<U>], msgs: &[Msg<U>], room: usize) -> usize
+pub fn fitting<U: Update>(slots: &[Slot<U>], msgs: &[Msg<U>], room: usize) -> usize
     requires { room < 65536 }
     ensures within { result ≤ length msgs.now }
     ensures small { result < 65536 }
@@ -41,10 +49,26 @@ fn fitting<U: Update>(slots: &[Slot<U>], msgs: &[Msg<U>], room: usize) -> usize
     count
 }
 
+/// Puts copies of messages into slots, where they and what waits there are at most `room` pieces.
+pub fn append_within<U: Update>(
+    alloc: Global,
+    below: &mut [Slot<U>],
+    msgs: &[Msg<U>],
+    room: usize,
+) -> Result<(), NoMemory>
+    requires { pending_of (seen_slots below.old) + piece_count msgs.now (seen_slots below.old) ≤ room }
+    ensures taken { OnOk result (HaveTaken U.means (seen_slots below.old) (parts None msgs.now (seen_slots below.old)) (seen_slots below.new)) }
+    ensures within { OnOk result (pending_of (seen_slots below.new) ≤ room) }
+    ensures err { OnErr result (map see_slot below.new ≡ map see_slot below.old) }
+{
+    append_copies(alloc, below, msgs)
+}
+
 /// Puts copies of the messages into the slots of the child, as many as it has room for: a node has room for `room`
 /// pieces.
 fn sink<U: Update>(alloc: Global, room: u16, msgs: &[Msg<U>], child: &mut Arc<Node<U>>) -> StepReply
-    ensures { Sunk U.means room result msgs.now child.old.value child.new.value }
+    ensures sunk { Sunk U.means room result msgs.now child.old.value child.new.value }
+    ensures small { (n : ℕ) → result ≡ Did n → n < 65536 }
 {
     if msgs.is_empty() {
         return StepReply::NotThere;
@@ -52,42 +76,51 @@ fn sink<U: Update>(alloc: Global, room: u16, msgs: &[Msg<U>], child: &mut Arc<No
     let Ok(own) = Arc::make_mut(child) else {
         return StepReply::NoMemory;
     };
-    let Body::Inner(below) = &mut own.body else {
+    let Body::Inner(below) = own.body_mut() else {
         return StepReply::NotThere;
     };
     let count = fitting(below.as_slice(), msgs, room as usize);
     if count == 0 {
+        own.weigh();
         return StepReply::NoRoom;
     }
-    let Ok(()) = append_copies(alloc, below.as_mut_slice(), &msgs[..count]) else {
+    let few = &msgs[..count];
+    let taken = append_within(alloc, below.as_mut_slice(), few, room as usize);
+    own.weigh();
+    let Ok(()) = taken else {
         return StepReply::NoMemory;
     };
     StepReply::Did(count as u32)
 }
 
 /// How many of a list's oldest messages a flush looks at: at most this many, but one if there is one.
-pub(crate) fn few_oldest<U: Update>(list: &Pending<U>, most: u16) -> usize
+pub fn few_oldest<U: Update>(list: &Pending<U>, most: u16) -> usize
     ensures within { result ≤ length list.now.0 }
     ensures some { 0 < length list.now.0 → 0 < result }
 {
     list.len().min((most as usize).max(1))
 }
 
-/// How many pieces more a child takes where it has room for `room` in all. No claim rests on it: a flush looks at that many messages.
-fn spare<U: Update>(child: &Node<U>, room: u16) -> u16 {
+/// How many pieces more a child takes where it has room for `room` in all; a leaf takes none.
+pub fn spare<U: Update>(child: &Node<U>, room: u16) -> u16
+    ensures { result ≡ spare room child.now }
+{
     match child.body() {
         Body::Leaf(_) => 0,
         Body::Inner(below) => (room as u128).saturating_sub(held(below.as_slice())) as u16,
     }
 }
 
-/// Likewise for a slot, which loses the messages that its child has.
-fn sink_oldest<U: Update>(alloc: Global, room: u16, slot: &mut Slot<U>) -> StepReply
+/// Puts copies of a slot's oldest messages into its child, as many as the child has room for, and takes them from the slot.
+/// Of the messages behind the first it looks at no more than the list has range-deletes.
+fn sink_copies<U: Update>(alloc: Global, room: u16, slot: &mut Slot<U>) -> StepReply
     ensures lo { slot.new.lo ≡ slot.old.lo }
     ensures left { slot.new.pending.0 ≡ left result slot.old.pending.0 }
     ensures sunk { Sunk U.means room result slot.old.pending.0 slot.old.child.value slot.new.child.value }
+    ensures small { (n : ℕ) → result ≡ Did n → n < 65536 }
 {
-    let few = few_oldest(&slot.pending, spare(&slot.child, room));
+    let ranges = slot.pending.range_deletes(0).min(65535) as u16;
+    let few = few_oldest(&slot.pending, spare(&slot.child, room).min(ranges));
     let Ok(msgs) = slot.pending.copy_front(alloc, few) else {
         return StepReply::NoMemory;
     };
@@ -98,6 +131,110 @@ fn sink_oldest<U: Update>(alloc: Global, room: u16, slot: &mut Slot<U>) -> StepR
     reply
 }
 
+/// Moves a list's oldest message into the slot that holds its key, and says whether it did: a range-delete stays, and a
+/// message whose key lies before all slots.
+fn move_oldest<U: Update>(below: &mut [Slot<U>], list: &mut Pending<U>) -> Result<bool, NoMemory>
+    requires { AreRising (seen_slots below.old) }
+    ensures moved { IfOk result (λ moved. Moved U.means (if moved then 1 else 0) list.old.0 list.new.0 (seen_slots below.old) (seen_slots below.new)) }
+    ensures kept { OnErr result ((list.new.0 ≡ list.old.0) × (seen_slots below.new ≡ seen_slots below.old)) }
+{
+    let Some(key) = list.oldest_point() else {
+        return Ok(false);
+    };
+    let Some(i) = holder(below, key) else {
+        return Ok(false);
+    };
+    let slot = &mut below[i];
+    slot.pending.reserve(1)?;
+    let Some(msg) = list.pop() else {
+        unreachable!()
+    };
+    slot.pending.push_reserved(msg);
+    Ok(true)
+}
+
+/// Moves a list's oldest messages into the slots that hold their keys, at most `room`, up to one that stays or finds no
+/// memory, and counts them. Memory is refused where none has moved.
+fn move_points<U: Update>(
+    below: &mut [Slot<U>],
+    list: &mut Pending<U>,
+    room: usize,
+) -> Result<usize, NoMemory>
+    requires { AreRising (seen_slots below.old) }
+    ensures within { IfOk result (λ n. n ≤ room) }
+    ensures moved { IfOk result (λ n. Moved U.means n list.old.0 list.new.0 (seen_slots below.old) (seen_slots below.new)) }
+    ensures kept { OnErr result ((list.new.0 ≡ list.old.0) × (seen_slots below.new ≡ seen_slots below.old)) }
+{
+    let mut count = 0;
+    while count < room {
+        match move_oldest(below, list) {
+            Ok(true) => count += 1,
+            Ok(false) => return Ok(count),
+            Err(refused) => return if count == 0 { Err(refused) } else { Ok(count) },
+        }
+    }
+    Ok(count)
+}
+
+/// Likewise into the slots of a child.
+fn sink_points<U: Update>(
+    child: &mut Arc<Node<U>>,
+    list: &mut Pending<U>,
+    room: usize,
+) -> Result<usize, NoMemory>
+    requires { IsSearchable child.old.value }
+    ensures within { IfOk result (λ n. n ≤ room) }
+    ensures moved { IfOk result (λ n. MovedInto U.means n list.old.0 list.new.0 child.old.value child.new.value) }
+    ensures kept { OnErr result ((list.new.0 ≡ list.old.0) × (child.new.value ≡ child.old.value)) }
+{
+    if room == 0 || list.oldest_point().is_none() {
+        return Ok(0);
+    }
+    let own = Arc::make_mut(child)?;
+    let Body::Inner(below) = own.body_mut() else {
+        return Ok(0);
+    };
+    let moved = move_points(below.as_mut_slice(), list, room);
+    own.weigh();
+    moved
+}
+
+/// Takes the oldest messages of a slot to its child, as many as the child has room for: copies of the first few, and then
+/// messages for one key.
+fn sink_front<U: Update>(alloc: Global, room: u16, slot: &mut Slot<U>) -> StepReply
+    requires { IsSearchable slot.old.child.value }
+    ensures lo { slot.new.lo ≡ slot.old.lo }
+    ensures left { slot.new.pending.0 ≡ left result slot.old.pending.0 }
+    ensures sunk { Sunk U.means room result slot.old.pending.0 slot.old.child.value slot.new.child.value }
+{
+    let reply = sink_copies(alloc, room, slot);
+    let StepReply::Did(first) = reply else {
+        return reply;
+    };
+    let most = spare(&slot.child, room) as usize;
+    match sink_points(&mut slot.child, &mut slot.pending, most) {
+        Ok(count) => StepReply::Did(first + count as u32),
+        Err(_) => reply,
+    }
+}
+
+/// Takes the oldest messages of a slot to its child, as many as the child has room for.
+fn sink_oldest<U: Update>(alloc: Global, room: u16, slot: &mut Slot<U>) -> StepReply
+    requires { IsSearchable slot.old.child.value }
+    ensures lo { slot.new.lo ≡ slot.old.lo }
+    ensures left { slot.new.pending.0 ≡ left result slot.old.pending.0 }
+    ensures sunk { Sunk U.means room result slot.old.pending.0 slot.old.child.value slot.new.child.value }
+{
+    let most = spare(&slot.child, room) as usize;
+    let Ok(count) = sink_points(&mut slot.child, &mut slot.pending, most) else {
+        return StepReply::NoMemory;
+    };
+    if count == 0 {
+        return sink_front(alloc, room, slot);
+    }
+    StepReply::Did(count as u32)
+}
+
 /// Whether a node with these slots, which has room for `room` pieces, has room for those of the list's oldest message.
 fn takes<U: Update>(slots: &[Slot<U>], list: &Pending<U>, room: u16) -> bool
     ensures yes { result ≡ true → pending_of (seen_slots slots.now) + piece_count (take 1 list.now.0) (seen_slots slots.now) ≤ room }
@@ -106,21 +243,28 @@ fn takes<U: Update>(slots: &[Slot<U>], list: &Pending<U>, room: u16) -> bool
     held(slots) + pieces_of_oldest(slots, list) as u128 <= room as u128
 }
 
+/// Whether the slot with number `i` has a message and an inner node below it.
+pub fn is_flushable<U: Update>(slots: &[Slot<U>], i: usize) -> bool
+    ensures { result ≡ can_flush_inner (slots_from i (seen_slots slots.now)) }
+{
+    if i >= slots.len() {
+        return false;
+    }
+    let slot = &slots[i];
+    if slot.pending.len() == 0 {
+        return false;
+    }
+    !slot.child.is_leaf()
+}
+
 /// The flush of one slot into an inner node.
-struct InnerFlush;
+pub struct InnerFlush;
 
 impl<U: Update> Change<U> for InnerFlush {
     ghost kind = { FlushInner };
 
     fn can(&self, slots: &[Slot<U>], i: usize, _hi: Option<&Key>) -> bool {
-        if i >= slots.len() {
-            return false;
-        }
-        let slot = &slots[i];
-        if slot.pending.len() == 0 {
-            return false;
-        }
-        !slot.child.is_leaf()
+        is_flushable(slots, i)
     }
 
     fn has_room(&self, shape: Shape, _root: bool, slots: &[Slot<U>], i: usize) -> bool {

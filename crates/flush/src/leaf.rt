@@ -17,31 +17,20 @@ ghost use Rattle.node.specs.See.{seen_slots};
 ghost use Rattle.node.specs.Shapes.{is_shape};
 ghost use Rattle.node.specs.Steps.{Answers, Replies};
 ghost use Rattle.node.specs.declared.step.StepKind.TheVariants.{FlushLeaf};
+ghost use Rattle.flush.specs.Merge.{IsFilled};
 ghost use Rattle.flush.specs.Sunk.{left};
 ghost use Rattle.flush.specs.Leaf.{AddsNone, HasPlace, Filled, AfterOldest, AfterOldestAt, KeptOne, IsHalved};
 
 use crate::inner::few_oldest;
+use crate::merge::fill_in_one_pass;
+use crate::room::{apply_within, has_room};
 use message::{Msg, Pending, Update};
 use node::node::count::can_part;
-use node::node::leaf::{applied, apply, divide, position};
+use node::node::leaf::{applied, divide, position};
 use node::{Body, Change, Node, Place, Shape, Slot, StepReply, Tree};
 use pathkey::{Key, NoMemory};
 use std::alloc::Global;
 use std::sync::Arc;
-
-/// Whether a leaf of at most `most` entries stays one under a message that may give a value to this key alone, or to none.
-fn has_room<U: Update>(entries: &[(Key, U::Value)], given: Option<&Key>, most: usize) -> bool
-    requires { Rises [] None entries.now }
-    ensures { result ≡ true → (m : Msg U U.Value) → given_at m ≡ option_copied given.entry → length entries.now < most ⊎ AddsNone U.means entries.now m }
-{
-    if entries.len() < most {
-        return true;
-    }
-    match given {
-        None => true,
-        Some(key) => position(entries, key).is_ok(),
-    }
-}
 
 /// Whether a leaf of at least `most` entries has none for the key of a put; `None` is another message.
 ///
@@ -57,22 +46,57 @@ fn is_overfull<U: Update>(entries: &[(Key, U::Value)], put: Option<&Key>, most: 
     }
 }
 
-/// Applies the message where there is room for it, and says whether it did.
-fn apply_within<U: Update>(
+/// Applies messages to entries one by one, up to one for which there may be no room or that is refused memory, and counts
+/// them.
+fn fill_each<U: Update>(
     alloc: Global,
     entries: &mut Vec<(Key, U::Value)>,
-    msg: &Msg<U>,
+    msgs: &[Msg<U>],
     most: usize,
-) -> bool
+) -> usize
     requires { Rises [] None entries.old.items }
-    ensures applied { result ≡ true → Applied U.means (msg.now ∷ []) entries.old.items entries.new.items }
-    ensures few { result ≡ true → length entries.old.items ≤ most → length entries.new.items ≤ most }
-    ensures same { result ≡ false → entries.new.items ≡ entries.old.items }
+    ensures { IsFilled U.means most msgs.now result entries.old.items entries.new.items }
 {
-    if !has_room::<U>(entries.as_slice(), msg.given(), most) {
-        return false;
+    let mut count = 0;
+    for msg in msgs {
+        if !apply_within(alloc, entries, msg, most) {
+            return count;
+        }
+        count += 1;
     }
-    apply(alloc, entries, msg).is_ok()
+    count
+}
+
+/// How many range-deletes stand before all other messages.
+fn leading_ranges<U: Update>(msgs: &[Msg<U>]) -> usize
+    ensures { result ≤ length msgs.now }
+{
+    let mut count = 0;
+    for msg in msgs {
+        if msg.point().is_some() {
+            return count;
+        }
+        count += 1;
+    }
+    count
+}
+
+/// Applies messages: the range-deletes at their head one by one, those behind them in one pass, and again one by one
+/// what the pass left over.
+fn fill_all<U: Update>(
+    alloc: Global,
+    entries: &mut Vec<(Key, U::Value)>,
+    msgs: &[Msg<U>],
+    most: usize,
+) -> usize
+    requires { Rises [] None entries.old.items }
+    ensures { IsFilled U.means most msgs.now result entries.old.items entries.new.items }
+{
+    let head = leading_ranges(msgs);
+    let ranges = fill_each(alloc, entries, &msgs[..head], most);
+    let points = fill_in_one_pass(alloc, entries, &msgs[ranges..], most);
+    let count = ranges + points;
+    count + fill_each(alloc, entries, &msgs[count..], most)
 }
 
 /// Applies messages to entries, the oldest first, up to one for which there may be no room or that is refused memory,
@@ -90,14 +114,8 @@ fn fill<U: Update>(
     ensures few { length entries.old.items ≤ most → length entries.new.items ≤ most }
     ensures none { result ≡ 0 → entries.new.items ≡ entries.old.items }
 {
-    let mut count = 0;
-    for msg in msgs {
-        if count == 4294967295 || !apply_within(alloc, entries, msg, most) {
-            return count;
-        }
-        count += 1;
-    }
-    count
+    let few = msgs.len().min(4294967295);
+    fill_all(alloc, entries, &msgs[..few], most)
 }
 
 /// Whether the slot's leaf has room for the oldest message as it is.
@@ -133,10 +151,11 @@ fn absorb<U: Update>(
     let Ok(own) = Arc::make_mut(child) else {
         return StepReply::NoMemory;
     };
-    let Body::Leaf(entries) = &mut own.body else {
+    let Body::Leaf(entries) = own.body_mut() else {
         return StepReply::NotThere;
     };
     let count = fill(alloc, entries, msgs, most as usize);
+    own.weigh();
     if count == 0 {
         return StepReply::NoMemory;
     }
@@ -186,12 +205,7 @@ fn keep<U: Update>(alloc: Global, slot: &mut Slot<U>, entries: Vec<(Key, U::Valu
     requires { 0 < length slot.old.pending.0 }
     ensures { KeptOne result entries.items slot.old slot.new }
 {
-    let Ok(child) = Arc::new(
-        alloc,
-        Node {
-            body: Body::Leaf(entries),
-        },
-    ) else {
+    let Ok(child) = Arc::new(alloc, Node::of(Body::Leaf(entries))) else {
         return StepReply::NoMemory;
     };
     slot.child = child;
@@ -216,21 +230,11 @@ fn halves<U: Update>(
     let left = Slot {
         lo: lo.copy(alloc)?,
         pending: list.copy_between(alloc, 1, lo, Some(&pivot))?,
-        child: Arc::new(
-            alloc,
-            Node {
-                body: Body::Leaf(front),
-            },
-        )?,
+        child: Arc::new(alloc, Node::of(Body::Leaf(front)))?,
     };
     let right = Slot {
         pending: list.copy_between(alloc, 1, &pivot, None)?,
-        child: Arc::new(
-            alloc,
-            Node {
-                body: Body::Leaf(back),
-            },
-        )?,
+        child: Arc::new(alloc, Node::of(Body::Leaf(back)))?,
         lo: pivot,
     };
     Ok((left, right))
@@ -292,7 +296,7 @@ fn apply_oldest<U: Update>(
 }
 
 /// The flush of one slot into a leaf.
-struct LeafFlush;
+pub struct LeafFlush;
 
 impl<U: Update> Change<U> for LeafFlush {
     ghost kind = { FlushLeaf };

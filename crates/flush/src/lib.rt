@@ -8,6 +8,8 @@
 pub mod heaviest_slot;
 pub mod inner;
 pub mod leaf;
+mod merge;
+mod room;
 
 pub use heaviest_slot::heaviest;
 pub use inner::flush_inner;

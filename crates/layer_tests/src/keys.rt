@@ -336,6 +336,66 @@ fn keys_in_order(rt: HostRuntime) {
     }
 }
 
+/// In which order two keys stand; none where their equality says otherwise.
+fn order_of(key: &Key, other: &Key) -> Option<Ordering> {
+    let order = key.cmp(other);
+    let equal = *key == *other;
+    if equal == (order == Ordering::Equal) {
+        Some(order)
+    } else {
+        None
+    }
+}
+
+/// The same of a key and bytes.
+fn order_by(alloc: Global, first: &Key, other: &[u8]) -> Option<Ordering> {
+    match key(alloc, other) {
+        Ok(other) => order_of(first, &other),
+        Err(_) => None,
+    }
+}
+
+/// The same of the keys of bytes.
+fn order_of_bytes(alloc: Global, bytes: &[u8], other: &[u8]) -> Option<Ordering> {
+    match key(alloc, bytes) {
+        Ok(key) => order_by(alloc, &key, other),
+        Err(_) => None,
+    }
+}
+
+// Keys that differ within their first eight bytes, keys that differ behind them, and keys that go on with zeros.
+const BYTES: &[(&[u8], &[u8], Ordering)] = &[
+    (b"", b"", Ordering::Equal),
+    (b"", b"\x00", Ordering::Less),
+    (b"a", b"a\x00", Ordering::Less),
+    (b"a\x00\x00\x00\x00\x00\x00\x00", b"a", Ordering::Greater),
+    (
+        b"a\x00",
+        b"a\x00\x00\x00\x00\x00\x00\x00\x00",
+        Ordering::Less,
+    ),
+    (b"ab", b"b", Ordering::Less),
+    (b"b", b"ab", Ordering::Greater),
+    (b"\x7f", b"\x80", Ordering::Less),
+    (b"\xff", b"\x01\xff", Ordering::Greater),
+    (b"abcdefg\x80", b"abcdefg\x7f", Ordering::Greater),
+    (b"abcdefgh", b"abcdefgh", Ordering::Equal),
+    (b"abcdefgh", b"abcdefgh\x00", Ordering::Less),
+    (b"abcdefgha", b"abcdefghb", Ordering::Less),
+    (b"abcdefghij", b"abcdefghij", Ordering::Equal),
+    (b"abcdefgh\xff", b"abcdefgh\x7f\xff", Ordering::Greater),
+];
+
+#[test]
+fn keys_of_bytes_in_order(rt: HostRuntime) {
+    for row in BYTES {
+        assert!(rt;
+            order_of_bytes(rt.alloc(), row.0, row.1) == Some(row.2),
+            "{row:?}"
+        );
+    }
+}
+
 /// Whether the path above has this key; the root has none above.
 fn has_parent(alloc: Global, path: &Path, want: &[u8]) -> bool {
     match path.parent(alloc) {

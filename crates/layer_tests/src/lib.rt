@@ -1,10 +1,12 @@
-//! Tests of each layer below the file calls by itself: paths and keys, messages, nodes, steps, look-ups and searches.
+//! Tests of each layer below the file calls by itself: paths and keys, messages, nodes, steps, jobs, look-ups and searches.
 //!
 //! They stand in a crate of their own, since what a crate with tests proves is proved once more with them.
 #![tactic(auto)]
 
 #[cfg(test)]
 mod keys;
+#[cfg(test)]
+mod leaf_flushes;
 #[cfg(test)]
 mod leaves;
 #[cfg(test)]
@@ -14,7 +16,11 @@ mod messages;
 #[cfg(test)]
 mod nodes;
 #[cfg(test)]
+mod refused;
+#[cfg(test)]
 mod searches;
+#[cfg(test)]
+mod takings;
 #[cfg(test)]
 mod trees;
 #[cfg(test)]

@@ -15,7 +15,7 @@ const SMALL: Shape = Shape {
 
 /// What a tree goes through.
 #[derive(Clone, Copy, Debug)]
-enum Turn {
+pub enum Turn {
     /// Messages are appended.
     Append(&'static [Plain]),
     /// A step of this kind at this slot of the root is answered so.
@@ -23,16 +23,16 @@ enum Turn {
 }
 
 /// A turn, and how many levels, slots, pending pieces and entries the tree then has.
-type Row = (Turn, [u128; 4]);
+pub type Row = (Turn, [u128; 4]);
 
 /// The numbers of levels, slots, pending pieces and entries.
-fn counts(tree: &Tree<Digit>) -> [u128; 4] {
+pub fn counts(tree: &Tree<Digit>) -> [u128; 4] {
     let report = tree.shape_report();
     [report.levels, report.slots, report.pending, report.entries]
 }
 
 /// What a step at a slot of the root is answered.
-fn take(alloc: Global, tree: &mut Tree<Digit>, kind: StepKind, slot: u8) -> StepReply {
+pub fn take(alloc: Global, tree: &mut Tree<Digit>, kind: StepKind, slot: u8) -> StepReply {
     let at = Place::root();
     do_step(alloc, tree, TreeStep { kind, at, slot })
 }
@@ -58,7 +58,7 @@ fn follow_in(alloc: Global, tree: &mut Tree<Digit>, rows: &[Row]) -> usize {
 }
 
 /// A new tree of this shape.
-fn new_tree(alloc: Global) -> Result<Tree<Digit>, NoMemory> {
+pub fn new_tree(alloc: Global) -> Result<Tree<Digit>, NoMemory> {
     Tree::new(alloc, SMALL)
 }
 
@@ -71,7 +71,7 @@ fn follow(alloc: Global, rows: &[Row]) -> usize {
 }
 
 /// Rows to a tree with two slots over leaves, of 1, 2 and of 5, 6, 7: the fifth key has cut the full leaf.
-const TWO_LEAVES: &[Row] = &[
+pub const TWO_LEAVES: &[Row] = &[
     (
         Turn::Append(&[
             Plain::Put(7, 0),
@@ -409,6 +409,9 @@ const COVERED: &[Row] = &[
 fn a_covered_leaf_goes(rt: HostRuntime) {
     assert_eq!(rt; follow_two_leaves(rt.alloc(), COVERED), COVERED.len());
 }
+
+/// The tables that a tree with these two leaves goes through.
+pub const AFTER_TWO_LEAVES: &[&[Row]] = &[BOTH_SIDES, SPLIT, FIVE_MESSAGES, FIVE_ENTRIES, COVERED];
 
 /// The slot of the root that is to be flushed into its leaf next, if one is.
 fn heaviest_slot(tree: &Tree<Digit>) -> Option<u8> {

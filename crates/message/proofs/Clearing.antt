@@ -22,6 +22,23 @@ use Rattle.message.proofs.KeyOrder.{within-same, empty_by}
 use Rattle.message.proofs.Lists.{any_touches-append}
 use Rattle.message.proofs.SettledMeaning.{effects-settled, touches-ranges, untouched_left, untouched_right, none_from_untouched, untouched_from_none, length-settled}
 
+module _ {X : Type 0} where
+  -- without the first entry whose key passes, those that stay are the same, where no such entry stays
+  pub filter_without : (test : List ℕ → Bool) (q : List ℕ × X → Bool) → ((e : List ℕ × X) → test e.0 ≡ true → q e ≡ false) → (es : List (List ℕ × X)) → filter q (remove_entry test es) ≡ filter q es
+  filter_without test q a [] = refl
+  filter_without test q a (e ∷ es) = elim (test e.0) as (λ c. test e.0 ≡ c → filter q (cond c es (e ∷ remove_entry test es)) ≡ filter q (e ∷ es)) [
+    | true ↦ λ y. sym (ap (λ c. cond c (e ∷ filter q es) (filter q es)) (a e y))
+    | false ↦ λ n. ap (λ t. cond (q e) (e ∷ t) t) (filter_without test q a es)
+  ] refl
+
+  -- the first entry that passes does so
+  pub first_passes : (q : List ℕ × X → Bool) (es : List (List ℕ × X)) (x : List ℕ × X) (xs : List (List ℕ × X)) → filter q es ≡ x ∷ xs → q x ≡ true
+  first_passes q [] x xs h = absurd (cc)
+  first_passes q (e ∷ es) x xs h = elim (q e) as (λ c. q e ≡ c → cond c (e ∷ filter q es) (filter q es) ≡ x ∷ xs → q x ≡ true) [
+    | true ↦ λ y n. let s : e ≡ x = (cc) in subst (λ z. q z ≡ true) s y
+    | false ↦ λ y n. first_passes q es x xs n
+  ] refl h
+
 module _ {U V : Type 0} where
   pub keyed_filter : (p : List ℕ × Run U V → Bool) (es : List (List ℕ × Run U V)) → AreRunsKeyed es → AreRunsKeyed (filter p es)
   keyed_filter p [] a = tt
@@ -36,22 +53,6 @@ module _ {U V : Type 0} where
     | true ↦ omega (arith, counted_filter p es, sum_by-cons run_len e.1 (values_of es), sum_by-cons run_len e.1 (values_of (filter p es)))
     | false ↦ omega (arith, counted_filter p es, sum_by-cons run_len e.1 (values_of es))
   ]
-
-  -- without the first entry whose key passes, those that stay are the same, where no such entry stays
-  pub filter_without : (test : List ℕ → Bool) (q : List ℕ × Run U V → Bool) → ((e : List ℕ × Run U V) → test e.0 ≡ true → q e ≡ false) → (es : List (List ℕ × Run U V)) → filter q (remove_entry test es) ≡ filter q es
-  filter_without test q a [] = refl
-  filter_without test q a (e ∷ es) = elim (test e.0) as (λ c. test e.0 ≡ c → filter q (cond c es (e ∷ remove_entry test es)) ≡ filter q (e ∷ es)) [
-    | true ↦ λ y. sym (ap (λ c. cond c (e ∷ filter q es) (filter q es)) (a e y))
-    | false ↦ λ n. ap (λ t. cond (q e) (e ∷ t) t) (filter_without test q a es)
-  ] refl
-
-  -- the first entry that passes does so
-  pub first_passes : (q : List ℕ × Run U V → Bool) (es : List (List ℕ × Run U V)) (x : List ℕ × Run U V) (xs : List (List ℕ × Run U V)) → filter q es ≡ x ∷ xs → q x ≡ true
-  first_passes q [] x xs h = absurd (cc)
-  first_passes q (e ∷ es) x xs h = elim (q e) as (λ c. q e ≡ c → cond c (e ∷ filter q es) (filter q es) ≡ x ∷ xs → q x ≡ true) [
-    | true ↦ λ y n. let s : e ≡ x = (cc) in subst (λ z. q z ≡ true) s y
-    | false ↦ λ y n. first_passes q es x xs n
-  ] refl h
 
   pub counted_without : (k : List ℕ) (es fs : List (List ℕ × Run U V)) (t : Option (Run U V)) → t ≡ look k es → fs ≡ remove_entry (is_at (by_bytes k)) es → IfSome t (λ r. point_count fs + run_len r ≡ point_count es)
   counted_without k es fs None a b = tt

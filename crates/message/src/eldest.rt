@@ -2,6 +2,7 @@
 ghost use Rattle.std.specs.Prelude.{◌≡◌, ◌&&◌, ◌∷◌, [], is_some};
 ghost use Rattle.std.specs.Option.{option_copied};
 ghost use Rattle.message.specs.Cuts.{cut_to};
+ghost use Rattle.message.specs.Effects.{point as point_of};
 ghost use Rattle.message.specs.Eldest.{eldest_msg};
 ghost use Rattle.message.specs.Oldest.{put_at, given_at, covers_first};
 
@@ -46,6 +47,18 @@ impl<'a, U: Update> Eldest<'a, U> {
             Eldest::Run(key, _) => Some(key),
             Eldest::Left(key, _) => Some(key),
             Eldest::Plain(msg) => msg.given(),
+        }
+    }
+
+    /// The one key that it touches, if it is no range-delete.
+    pub(crate) fn point(&self) -> Option<&'a Key>
+        ensures { option_copied result ≡ point_of (eldest_msg self.now) }
+    {
+        match self {
+            Eldest::Range(_, _) => None,
+            Eldest::Run(key, _) => Some(key),
+            Eldest::Left(key, _) => Some(key),
+            Eldest::Plain(msg) => msg.point(),
         }
     }
 

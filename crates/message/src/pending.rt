@@ -3,14 +3,14 @@
 //! Contracts see a list of messages and for how many more there is room. What is added is promised by its
 //! meaning alone (`Takes`): the list is sorted and condenses, so that it holds fewer messages that mean the same, and
 //! callers that rely on the contract do not notice. No call lends a message or asks for one by its number.
-ghost use Rattle.std.specs.Prelude.{◌≡◌, ◌+◌, ◌≤◌, ◌<◌, ◌++◌, [], ◌∷◌, true, length, take, drop, IfOk, OnOk, OnErr};
+ghost use Rattle.std.specs.Prelude.{◌≡◌, ◌+◌, ◌≤◌, ◌<◌, ◌++◌, [], ◌∷◌, true, length, take, drop, IfOk, IfNone, OnOk, OnErr};
 ghost use Rattle.std.specs.Vec.{vec_len, vec_capacity};
-ghost use Rattle.std.specs.Option.{option_copied, option_map};
+ghost use Rattle.std.specs.Option.{option_copied, option_map, option_to_list};
 ghost use Rattle.std.specs.List.{slice_get};
 ghost use Rattle.message.specs.Cuts.{pieces};
 ghost use Rattle.message.specs.Effects.{effects, range_count, Takes};
 ghost use Rattle.message.specs.Eldest.{eldest_msg};
-ghost use Rattle.message.specs.Oldest.{first_put, first_given, meets_first, covers_first};
+ghost use Rattle.message.specs.Oldest.{first_point, first_put, first_given, meets_first, covers_first};
 ghost use Rattle.message.specs.Stretches.{IsStretch};
 ghost use Rattle.message.specs.Told.{IsTold};
 ghost use Rattle.pathkey.specs.Keys.{is_below};
@@ -160,6 +160,16 @@ impl<U: Update> Pending<U> {
         }
     }
 
+    /// The key of the oldest message, if it is for one key.
+    pub fn oldest_point(&self) -> Option<&Key>
+        ensures { option_copied result ≡ first_point self.now.0 }
+    {
+        match self.oldest() {
+            None => None,
+            Some(eldest) => eldest.point(),
+        }
+    }
+
     /// The key to which the oldest message gives a value, if it is a put.
     pub fn oldest_put(&self) -> Option<&Key>
         ensures { option_copied result ≡ first_put self.now.0 }
@@ -240,6 +250,19 @@ impl<U: Update> Pending<U> {
         list.reserve(fresh.len())?;
         list.append_reserved(&mut fresh);
         Ok(list)
+    }
+
+    /// Takes the oldest message out. It takes no memory.
+    pub fn pop(&mut self) -> Option<Msg<U>>
+        ensures moved { self.old.0 ≡ option_to_list result ++ self.new.0 }
+        ensures end { IfNone result (self.old.0 ≡ []) }
+        ensures room { self.old.1 ≤ self.new.1 }
+    {
+        let oldest = self.sorted.pop();
+        if oldest.is_some() || self.fresh.is_empty() {
+            return oldest;
+        }
+        Some(self.fresh.remove(0))
     }
 
     /// Takes the `count` oldest messages away.

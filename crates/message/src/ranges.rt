@@ -1,5 +1,5 @@
 //! The range-deletes of a sorted list, by their low ends.
-ghost use Rattle.std.specs.Prelude.{◌≡◌, ◌+◌, ◌≤◌, ◌&&◌, Bool, true, false, not, length, take, ◌++◌, OnOk, OnErr, IfOk};
+ghost use Rattle.std.specs.Prelude.{◌≡◌, ◌+◌, ◌≤◌, ◌<◌, ◌&&◌, Bool, true, false, not, length, take, ◌++◌, OnOk, OnErr, IfOk};
 ghost use Rattle.std.specs.Option.{option_map, option_copied};
 ghost use Rattle.std.specs.BTreeMap.{IsOrdered, insert_entry};
 ghost use Rattle.std.specs.List.{filter};
@@ -159,6 +159,41 @@ fn is_outside(key: &Key, range: &KeyRange) -> bool
     !(range.lo.cmp(key).is_lt() && is_before_end(key, range.hi.as_ref()))
 }
 
+/// Takes out the first range that begins behind the low end of this one and before its high end, and says whether it did. It
+/// takes none where memory for a copy of its low end is refused.
+fn take_inside(
+    ranges: &mut BTreeMap<Key, Option<Key>>,
+    alloc: Global,
+    range: &KeyRange,
+) -> bool
+    requires { is_below range.now.lo range.now.hi ≡ true }
+    ensures same { filter (λ e. is_outside range.now.lo range.now.hi e) ranges.new.entries ≡ filter (λ e. is_outside range.now.lo range.now.hi e) ranges.old.entries }
+    ensures fewer { result ≡ true → length ranges.new.entries < length ranges.old.entries }
+    ensures none { result ≡ false → ranges.new.entries ≡ ranges.old.entries }
+{
+    let mut inside = ranges.range((Bound::Excluded(&range.lo), end_of(range)));
+    let Some((low, _)) = inside.next() else {
+        return false;
+    };
+    let Ok(low) = low.copy(alloc) else {
+        return false;
+    };
+    ranges.remove(&low).is_some()
+}
+
+/// Takes away the ranges that begin behind the low end of this one and before its high end.
+///
+/// It goes from one to the next. Where memory for the copy of a low end is refused, it goes through all ranges instead.
+fn clear_inside(ranges: &mut BTreeMap<Key, Option<Key>>, alloc: Global, range: &KeyRange)
+    requires { is_below range.now.lo range.now.hi ≡ true }
+    ensures { ranges.new.entries ≡ filter (λ e. is_outside range.now.lo range.now.hi e) ranges.old.entries }
+{
+    while take_inside(ranges, alloc, range) {}
+    if has_inside(ranges, range) {
+        ranges.retain(|low, _| is_outside(low, range));
+    }
+}
+
 /// Puts a range that no other reaches into in the place of those inside it.
 fn add(
     ranges: &mut BTreeMap<Key, Option<Key>>,
@@ -175,7 +210,7 @@ fn add(
     }
     let copy = range.copy(alloc)?;
     put(ranges, copy.lo, copy.hi)?;
-    ranges.retain(|low, _| is_outside(low, &range));
+    clear_inside(ranges, alloc, &range);
     Ok(())
 }
 

@@ -2,16 +2,12 @@
 use Rattle.std.proofs.Common.{◌≡◌, ℕ, zero, suc, ◌<◌, ◌≤◌, Bool, true, false, List, [], ◌∷◌, ◌++◌, length, get_or, take, drop, refl, ap, sym, ◌∙◌, subst, Option, Some, None, cond, arith}
 use Rattle.std.specs.Prelude.{◌&&◌}
 use Rattle.std.specs.Option.{option_or}
-use Rattle.std.specs.Ordering.{is_lt, is_eq, ordering_reverse}
-use Rattle.std.specs.declared.cmp.Ordering.{Ordering}
-use Rattle.std.specs.declared.cmp.Ordering.TheVariants.{Less, Equal, Greater}
 use Rattle.std.proofs.lemmas.Bool.{false_from_ne_true}
-use Rattle.std.proofs.lemmas.Cmp.{nat_list_cmp_total}
-use Rattle.pathkey.specs.Order.{by_bytes, same}
+use Rattle.pathkey.specs.Order.{same}
 use Rattle.pathkey.specs.Keys.{is_below}
-use Rattle.pathkey.proofs.OrderFacts.{same_true, same_false, apart}
+use Rattle.pathkey.proofs.OrderFacts.{same_true}
 use Rattle.message.specs.Ranges.{reaches, before, within}
-use Rattle.message.proofs.KeyOrder.{le_le, lt_le, both, reaches-from_before, reaches-from_not_before, begins_before_end, not_before_from_reaches, from_start, below_next, beyond, unlike_earlier, unlike_later}
+use Rattle.message.proofs.KeyOrder.{le_le, lt_le, both, reaches-from_before, reaches-from_not_before, not_before_from_reaches, from_start, below_next}
 use Rattle.node.specs.Lawful.{first_key, Rises}
 use Rattle.node.specs.Meaning.{lookup}
 

@@ -68,7 +68,7 @@ module _ {U V : Type 0} where
 
     -- at a node above
     mutual
-      node_kept : (p : List ℕ) (a : PNode U V) (h : ℕ) (lo : List ℕ) (hi : Option (List ℕ)) → slots_at p a ≡ Some ss → Keep false (end_at p hi a) → IsLawfulNode shape a h lo hi → NodeKept p a h lo hi
+      pub node_kept : (p : List ℕ) (a : PNode U V) (h : ℕ) (lo : List ℕ) (hi : Option (List ℕ)) → slots_at p a ≡ Some ss → Keep false (end_at p hi a) → IsLawfulNode shape a h lo hi → NodeKept p a h lo hi
       node_kept p (leaf es) h lo hi e f l = (cc)
       node_kept [] (inner ts) h lo hi e f l = here ts h lo hi (cc) f l
       node_kept (i ∷ p) (inner ts) h lo hi e f l =

@@ -17,3 +17,7 @@ pub mod Parting
 pub mod StepDone
 pub mod Sinking
 pub mod Sizes
+pub mod Grafting
+pub mod Weighing
+pub mod Wholes
+pub mod Below

@@ -70,7 +70,7 @@ module _ {U V : Type 0} where
 
   module _ (means : U → Option V → Option V) (kind : StepKind) (shape : Shape) (i : ℕ) where
     -- what sinks keeps the slots
-    kept : (root : Bool) (n h : ℕ) (lo : List ℕ) (hi : Option (List ℕ)) (ss new : PSlots U V) → LawfulSlots shape root h lo hi ss → Done means kind shape n i hi ss new → LawfulSlots shape root h lo hi new → (HasNoRoom means kind shape root i ss → ⊥) → SlotsKept means shape root h lo hi ss new (Done means kind shape n i hi ss new × (HasNoRoom means kind shape root i ss → ⊥))
+    pub kept : (root : Bool) (n h : ℕ) (lo : List ℕ) (hi : Option (List ℕ)) (ss new : PSlots U V) → LawfulSlots shape root h lo hi ss → Done means kind shape n i hi ss new → LawfulSlots shape root h lo hi new → (HasNoRoom means kind shape root i ss → ⊥) → SlotsKept means shape root h lo hi ss new (Done means kind shape n i hi ss new × (HasNoRoom means kind shape root i ss → ⊥))
     kept root n h lo hi ss new l d m f =
         let a = joined d.before (joined d.old d.after) in
         let b = joined d.before (joined d.new d.after) in

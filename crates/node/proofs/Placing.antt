@@ -170,7 +170,7 @@ module _ {U V : Type 0} where
   is_root S h (inner ss) l = (l.3, rising-lawful S h None ss l.4)
 
   mutual
-    searchable : (S : Shape) (h : ℕ) (lo : List ℕ) (hi : Option (List ℕ)) (n : PNode U V) → IsLawfulNode S n h lo hi → IsSearchable n
+    pub searchable : (S : Shape) (h : ℕ) (lo : List ℕ) (hi : Option (List ℕ)) (n : PNode U V) → IsLawfulNode S n h lo hi → IsSearchable n
     searchable S h lo hi (leaf es) l = rises_all lo hi es l.2
     searchable S h lo hi (inner ss) l = (rising-lawful S h hi ss l.4, all_searchable S h hi ss l.4)
 

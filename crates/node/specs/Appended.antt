@@ -1,5 +1,6 @@
 -- What slots become when messages come to them.
 use Rattle.std.specs.Prelude.{◌≡◌, ℕ, List, [], ◌∷◌, ◌++◌, Option, None, ⊤}
+use Rattle.std.proofs.Common.{zero, suc}
 use Rattle.std.specs.Option.{option_to_list}
 use Rattle.message.specs.declared.msg.Msg.{Msg}
 use Rattle.message.specs.Effects.{effects, Takes}
@@ -13,6 +14,12 @@ module _ {U V : Type 0} where
   abbrev pub parts : Option (List ℕ) → List (Msg U V) → PSlots U V → List (List (Msg U V))
   parts hi ms none = []
   parts hi ms (more lo old n ss) = pieces lo (next_lo hi ss) ms ∷ parts hi ms ss
+
+  -- all messages for the slot with this number, and none for the others
+  abbrev pub all_at : ℕ → List (Msg U V) → PSlots U V → List (List (Msg U V))
+  all_at i ms none = []
+  all_at zero ms (more lo old n ss) = ms ∷ parts None [] ss
+  all_at (suc i) ms (more lo old n ss) = [] ∷ all_at i ms ss
 
   -- the parts with what each slot takes of m put behind
   abbrev pub placed : Option (List ℕ) → Msg U V → PSlots U V → List (List (Msg U V)) → List (List (Msg U V))

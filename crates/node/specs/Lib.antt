@@ -7,6 +7,7 @@ pub mod Meaning
 pub mod Lawful
 pub mod Appended
 pub mod Searchable
+pub mod Batches
 pub mod Leaves
 pub mod Places
 pub mod Site
@@ -15,3 +16,6 @@ pub mod StepRows
 pub mod Steps
 pub mod RootSteps
 pub mod Report
+pub mod Grafts
+pub mod Weights
+pub mod Subtrees

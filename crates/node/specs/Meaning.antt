@@ -23,6 +23,10 @@ module _ {U V : Type 0} where
   slot_number none k = 0
   slot_number (more lo ms n ss) k = if begins_by ss k then slot_number ss k + 1 else 0
 
+  -- likewise, if one does
+  abbrev pub holder : PSlots U V → List ℕ → Option ℕ
+  holder ss k = if begins_by ss k then Some (slot_number ss k) else None
+
 module _ {U V : Type 0} (means : U → Option V → Option V) where
   -- the value at k: a leaf's entry; or what the messages of the slot that holds k make of its child's value
   abbrev mutual

@@ -1,5 +1,6 @@
 -- What must hold before messages are put into slots, and where slots are searched.
 use Rattle.std.specs.Prelude.{◌≡◌, ℕ, ◌≤◌, true, List, [], ◌∷◌, length, Option, None, ⊤}
+use Rattle.std.proofs.Common.{zero, suc}
 use Rattle.std.specs.Global.{Vec}
 use Rattle.pathkey.specs.Keys.{is_below}
 use Rattle.message.specs.declared.msg.Msg.{Msg}
@@ -31,6 +32,12 @@ module _ {U V : Type 0} where
   HasRoom [] ps = ⊤
   HasRoom (s ∷ ss) [] = ⊤
   HasRoom (s ∷ ss) (p ∷ ps) = (length p.items ≤ s.pending.1) × HasRoom ss ps
+
+  -- the slot with this number has room for so many messages
+  abbrev pub HasRoomAt : ℕ → ℕ → List (Slot U V) → Type 0
+  HasRoomAt i n [] = ⊥
+  HasRoomAt zero n (s ∷ ss) = n ≤ s.pending.1
+  HasRoomAt (suc i) n (s ∷ ss) = HasRoomAt i n ss
 
   -- a node whose slots hold every key
   abbrev pub IsRoot : PNode U V → Type 0

@@ -16,10 +16,12 @@ pub mod shape;
 pub mod step;
 pub mod tree;
 
+pub use node::below::step_subtree;
 pub use node::change::Change;
 pub use node::{Body, Node, Slot};
 pub use place::{Place, TreeStep};
 pub use report::ShapeReport;
 pub use shape::Shape;
 pub use step::{StepKind, StepReply};
+pub use tree::kept::append_both_kept;
 pub use tree::{Tree, append_both};

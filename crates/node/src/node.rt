@@ -6,22 +6,29 @@ use message::{Changes, Pending};
 use pathkey::Key;
 use std::marker::Model;
 use std::sync::Arc;
+use weight::Weight;
 
 pub mod append;
+pub mod below;
 pub mod change;
 pub mod copy;
 pub mod count;
 pub mod descend;
+pub mod kept;
 pub mod leaf;
 pub mod make;
 pub mod search;
+pub mod weight;
 
 /// A node.
 #[cycle(node)]
 #[derive(Drop)]
 pub struct Node<U: Changes> {
     /// What it holds.
-    pub body: Body<U>,
+    body: Body<U>,
+    /// What waits at or below it, where that is known. Many places make a slot and few make a node, so it stands here and
+    /// not in the slot above.
+    weight: Option<Weight>,
 }
 
 /// A leaf of entries that rise by key, or an inner node of slots that rise by pivot.
@@ -57,6 +64,10 @@ impl<U: Changes> Model for Node<U> {
     ghost use Rattle.node.specs.See.{see};
 
     ghost view = { λ n. see n.body };
+
+    ghost use Rattle.node.specs.Weights.{IsKept};
+
+    ghost invariant = { λ n. IsKept n.weight (see n.body) };
 
     ghost size = { depth };
 

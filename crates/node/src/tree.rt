@@ -3,10 +3,11 @@ ghost use Rattle.std.specs.Prelude.{◌≡◌, IfOk, OnOk, OnErr, IsTrue, IsOk, 
 ghost use Rattle.node.specs.Appended.{Appended};
 ghost use Rattle.node.specs.Lawful.{IsLawful};
 ghost use Rattle.node.specs.Pure.{empty_root};
-ghost use Rattle.node.specs.Report.{report_of};
+ghost use Rattle.node.specs.Report.{report_of, total as total_of};
 ghost use Rattle.node.specs.RootSteps.{with_root};
 ghost use Rattle.node.specs.Searchable.{IsSearchable};
 ghost use Rattle.node.specs.Shapes.{is_shape};
+ghost use Rattle.node.specs.declared.report.Quantity.TheVariants.{Pending};
 
 use crate::node::count::{height, total};
 use crate::node::{Node, append};
@@ -18,6 +19,8 @@ use std::alloc::Global;
 use std::marker::Model;
 use std::sync::Arc;
 
+pub mod graft;
+pub mod kept;
 pub mod step;
 
 /// A buffered tree. Every tree is lawful, which its type keeps.
@@ -79,14 +82,21 @@ impl<U: Update> Tree<U> {
         &self.root
     }
 
-    /// How large the tree is.
+    /// How many pieces wait in the tree. It costs a look at the root's slots and no walk.
+    pub fn pending(&self) -> u128
+        ensures { result ≡ total_of Pending self.now.root }
+    {
+        self.root.weight().pending
+    }
+
+    /// How large the tree is, but for what waits found by a walk of all its nodes.
     pub fn shape_report(&self) -> ShapeReport
         ensures { result ≡ report_of self.now }
     {
         ShapeReport {
             levels: height(&self.root),
             slots: total(&self.root, Quantity::Slots),
-            pending: total(&self.root, Quantity::Pending),
+            pending: self.pending(),
             entries: total(&self.root, Quantity::Entries),
         }
     }

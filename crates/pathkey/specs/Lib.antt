@@ -1,4 +1,5 @@
 pub mod Order
+pub mod Heads
 pub mod Names
 pub mod Texts
 pub mod Enc

@@ -1,10 +1,11 @@
 //! Keys: byte strings in byte order.
-ghost use Rattle.std.specs.Prelude.{◌≡◌, [], ◌∷◌, ◌++◌, IfOk, map};
+ghost use Rattle.std.specs.Prelude.{◌≡◌, ◌≤◌, [], ◌∷◌, ◌++◌, length, IfOk, map, slice_index_or};
 ghost use Rattle.std.specs.Cmp.{partial_order_from_agreeing_total};
 ghost use Rattle.std.specs.Ordering.{as_partial_cmp, eq_by_cmp};
 ghost use Rattle.std.proofs.Common.{refl};
 ghost use Rattle.pathkey.specs.Texts.{null_for_slash};
 ghost use Rattle.pathkey.specs.Keys.{next_key};
+ghost use Rattle.pathkey.specs.Heads.{head_of, IsHeaded};
 ghost use Rattle.pathkey.specs.Order.{by_bytes, by_bytes_total, by_bytes_equiv, by_bytes_partial_equiv};
 
 use crate::errno::NoMemory;
@@ -16,20 +17,28 @@ use std::marker::Model;
 /// How many bytes of a key lie in the value itself; a longer key takes memory.
 const INLINE: usize = 40;
 
+/// How many bytes of a key its head has.
+const HEAD: usize = 8;
+
 /// A byte string, which contracts see as the list of its bytes.
 ///
 /// Keys of usual paths lie in the value itself, so that a search through keys waits for no pointer.
+/// The first bytes are kept as a number too, which settles most comparisons.
 #[derive(Drop)]
 pub struct Key {
+    head: u64,
     bytes: SmallVec<u8, INLINE>,
 }
 
 impl Model for Key {
     ghost use Rattle.std.specs.Prelude.{List, ℕ};
+    ghost use Rattle.pathkey.specs.Heads.{IsHeaded};
 
     ghost Value = { List ℕ };
 
     ghost view = { λ k. k.bytes.items };
+
+    ghost invariant = { λ k. IsHeaded k.head k.bytes.items };
 }
 
 impl Key {
@@ -37,9 +46,7 @@ impl Key {
     pub fn new(alloc: Global) -> Key
         ensures { result ≡ [] }
     {
-        Key {
-            bytes: SmallVec::new(alloc),
-        }
+        Key::holding(SmallVec::new(alloc))
     }
 
     /// The key of these bytes.
@@ -47,7 +54,7 @@ impl Key {
         ensures { IfOk result (λ k. k ≡ bytes.now) }
     {
         let bytes = SmallVec::from_slice(alloc, bytes)?;
-        Ok(Key { bytes })
+        Ok(Key::holding(bytes))
     }
 
     /// The key of these bytes, one part after the other.
@@ -57,7 +64,7 @@ impl Key {
         let mut bytes = SmallVec::with_capacity(alloc, front.len() + back.len())?;
         bytes.extend_from_slice(front)?;
         bytes.extend_from_slice(back)?;
-        Ok(Key { bytes })
+        Ok(Key::holding(bytes))
     }
 
     /// The key of the path whose text is a slash and then this.
@@ -69,7 +76,17 @@ impl Key {
             bytes.push(if *byte == b'/' { 0 } else { *byte })?;
         }
         bytes.push(0)?;
-        Ok(Key { bytes })
+        Ok(Key::holding(bytes))
+    }
+
+    // The key whose bytes these are.
+    fn holding(bytes: SmallVec<u8, INLINE>) -> Key
+        ensures { result ≡ bytes.items }
+    {
+        Key {
+            head: head_of(bytes.as_slice()),
+            bytes,
+        }
     }
 
     /// The key's bytes.
@@ -83,7 +100,11 @@ impl Key {
     pub fn copy(&self, alloc: Global) -> Result<Key, NoMemory>
         ensures { IfOk result (λ k. k ≡ self.now) }
     {
-        Key::from_bytes(alloc, self.as_bytes())
+        let bytes = SmallVec::from_slice(alloc, self.as_bytes())?;
+        Ok(Key {
+            head: self.head,
+            bytes,
+        })
     }
 
     /// The least key after this one.
@@ -100,7 +121,7 @@ impl PartialEq for Key {
     ghost laws = { by_bytes_partial_equiv };
 
     fn eq(&self, other: &Key) -> bool {
-        self.cmp(other) == Ordering::Equal
+        self.head == other.head && self.as_bytes() == other.as_bytes()
     }
 }
 
@@ -128,6 +149,58 @@ impl Ord for Key {
     ghost matches_eq = { λ x y. refl };
 
     fn cmp(&self, other: &Key) -> Ordering {
-        self.as_bytes().cmp(other.as_bytes())
+        if self.head != other.head {
+            return self.head.cmp(&other.head);
+        }
+        order_behind_heads(self.as_bytes(), other.as_bytes())
     }
+}
+
+// The first bytes as a number, greatest first, with zeros behind fewer.
+fn head_of(bytes: &[u8]) -> u64
+    ensures { IsHeaded result bytes.now }
+{
+    if HEAD <= bytes.len() {
+        return whole_head(bytes);
+    }
+    let mut head = 0;
+    for index in 0..HEAD {
+        head = head * 256 + byte_at(bytes, index) as u64;
+    }
+    head
+}
+
+// The first eight bytes as a number, where they are there.
+fn whole_head(bytes: &[u8]) -> u64
+    requires { 8 ≤ length bytes.now }
+    ensures { result ≡ head_of bytes.now }
+{
+    u64::from_be_bytes([
+        bytes[0], bytes[1], bytes[2], bytes[3], bytes[4], bytes[5], bytes[6], bytes[7],
+    ])
+}
+
+// The byte there, or 0 behind the last.
+fn byte_at(bytes: &[u8], index: usize) -> u8
+    ensures { result ≡ slice_index_or bytes.now index 0 }
+{
+    if index < bytes.len() { bytes[index] } else { 0 }
+}
+
+// The order of byte strings whose heads are equal: eight bytes after eight, of which the last eight may overlap those before.
+fn order_behind_heads(left: &[u8], right: &[u8]) -> Ordering
+    requires { head_of left.now ≡ head_of right.now }
+    ensures { result ≡ by_bytes left.now right.now }
+{
+    let both = left.len().min(right.len());
+    let mut same = HEAD;
+    while same < both {
+        let at = same.min(both - HEAD);
+        let (head, other) = (whole_head(&left[at..]), whole_head(&right[at..]));
+        if head != other {
+            return head.cmp(&other);
+        }
+        same = at + HEAD;
+    }
+    left.len().cmp(&right.len())
 }

@@ -68,8 +68,8 @@ impl Pace for Tidy {
 /// The heaviest flush of the index in which more pieces wait, that of the metadata where both have as many; none where
 /// nothing waits.
 fn heaviest(volume: &Volume) -> Option<Step> {
-    let meta = volume.shape_report(Index::Meta).pending;
-    let block = volume.shape_report(Index::Block).pending;
+    let meta = volume.pending(Index::Meta);
+    let block = volume.pending(Index::Block);
     let index = if meta >= block {
         Index::Meta
     } else {

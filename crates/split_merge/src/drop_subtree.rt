@@ -43,7 +43,7 @@ fn node_above<U: Update>(
     let mut one = Vec::with_capacity(alloc, 1)?;
     one.push(slot)?;
     let body = Body::Inner(one);
-    Ok(Arc::new(alloc, Node { body })?)
+    Ok(Arc::new(alloc, Node::of(body))?)
 }
 
 /// An empty subtree from `lo` on, as deep as this one: a node with one slot for each level, down to an empty leaf.
@@ -52,7 +52,7 @@ fn node_above<U: Update>(
 fn bare_like<U: Update>(alloc: Global, lo: &Key, node: &Node<U>) -> Result<Arc<Node<U>>, NoMemory>
     ensures { IfOk result (λ n. n.value ≡ bare lo.now node.now) }
 {
-    let Body::Inner(slots) = &node.body else {
+    let Body::Inner(slots) = node.body() else {
         return Ok(Arc::new(alloc, Node::empty_leaf(alloc))?);
     };
     let child = match slots.first() {

@@ -26,7 +26,7 @@ fn appended<U: Update>(
     let msgs = list.copy_front(alloc, list.len())?;
     append_copies(alloc, grown.as_mut_slice(), msgs.as_slice())?;
     let body = Body::Inner(grown);
-    Ok(Arc::new(alloc, Node { body })?)
+    Ok(Arc::new(alloc, Node::of(body))?)
 }
 
 /// The root's only child with the root's messages, or why there is none.
@@ -34,7 +34,7 @@ fn lowered<U: Update>(alloc: Global, root: &Node<U>) -> Result<Arc<Node<U>>, Ste
     ensures ok { IfOk result (λ n. Lowered U.means root.now n.value) }
     ensures err { IfErr result (λ e. Stays e root.now) }
 {
-    let Body::Inner(slots) = &root.body else {
+    let Body::Inner(slots) = root.body() else {
         return Err(StepReply::NotThere);
     };
     if slots.len() != 1 {
@@ -42,7 +42,7 @@ fn lowered<U: Update>(alloc: Global, root: &Node<U>) -> Result<Arc<Node<U>>, Ste
     }
     let slot = &slots[0];
     let child: &Node<U> = &slot.child;
-    let Body::Inner(below) = &child.body else {
+    let Body::Inner(below) = child.body() else {
         return Err(StepReply::NotThere);
     };
     let Ok(new) = appended(alloc, below.as_slice(), &slot.pending) else {

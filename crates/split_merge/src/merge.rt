@@ -51,7 +51,7 @@ fn fit_in_one<U: Update>(shape: Shape, left: &Node<U>, right: &Node<U>) -> bool
     ensures yes { result ≡ true → AreTooMany shape (more [] [] left.now (more [] [] right.now none)) → ⊥ }
     ensures no { result ≡ false → AreTooMany shape (more [] [] left.now (more [] [] right.now none)) }
 {
-    match (&left.body, &right.body) {
+    match (left.body(), right.body()) {
         (Body::Leaf(entries), Body::Leaf(later)) => fit(
             entries.len() as u128,
             later.len() as u128,
@@ -82,7 +82,7 @@ fn pair_fits<U: Update>(shape: Shape, slots: &[Slot<U>], i: usize) -> bool
 fn are_of_one_kind<U: Update>(left: &Node<U>, right: &Node<U>) -> bool
     ensures { result ≡ are_alike left.now right.now }
 {
-    match (&left.body, &right.body) {
+    match (left.body(), right.body()) {
         (Body::Leaf(_), Body::Leaf(_)) => true,
         (Body::Inner(_), Body::Inner(_)) => true,
         (Body::Leaf(_), Body::Inner(_)) => false,
@@ -98,12 +98,13 @@ fn join_nodes<U: Update>(left: &mut Arc<Node<U>>, right: &mut Arc<Node<U>>) -> R
 {
     let left = Arc::make_mut(left)?;
     let right = Arc::make_mut(right)?;
-    match (&mut left.body, &mut right.body) {
+    match (left.body_mut(), right.body_mut()) {
         (Body::Leaf(entries), Body::Leaf(later)) => entries.append(later)?,
         (Body::Inner(slots), Body::Inner(later)) => slots.append(later)?,
         (Body::Leaf(_), Body::Inner(_)) => unreachable!(),
         (Body::Inner(_), Body::Leaf(_)) => unreachable!(),
     }
+    left.weigh();
     Ok(())
 }
 

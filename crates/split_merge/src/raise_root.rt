@@ -19,7 +19,7 @@ fn has_levels<U: Update>(node: &Node<U>, n: u8) -> bool
     if n == 0 {
         return true;
     }
-    let Body::Inner(slots) = &node.body else {
+    let Body::Inner(slots) = node.body() else {
         return false;
     };
     match slots.first() {
@@ -66,12 +66,12 @@ fn above<U: Update>(alloc: Global, slots: &[Slot<U>]) -> Result<Arc<Node<U>>, No
     let slot = Slot {
         lo: Key::new(alloc),
         pending: gathered(alloc, slots)?,
-        child: Arc::new(alloc, Node { body })?,
+        child: Arc::new(alloc, Node::of(body))?,
     };
     let mut one = Vec::with_capacity(alloc, 1)?;
     one.push(slot)?;
     let body = Body::Inner(one);
-    Ok(Arc::new(alloc, Node { body })?)
+    Ok(Arc::new(alloc, Node::of(body))?)
 }
 
 /// A root above this one, or why there is none.
@@ -79,7 +79,7 @@ fn raised<U: Update>(alloc: Global, root: &Node<U>) -> Result<Arc<Node<U>>, Step
     ensures ok { IfOk result (λ n. Raised U.means root.now n.value) }
     ensures err { IfErr result (λ e. Refused U.means e root.now) }
 {
-    let Body::Inner(slots) = &root.body else {
+    let Body::Inner(slots) = root.body() else {
         return Err(StepReply::NotThere);
     };
     if slots.len() == 1 {

@@ -21,7 +21,7 @@ fn node_over<U: Update>(alloc: Global, slots: &[Slot<U>]) -> Result<Arc<Node<U>>
     ensures { IfOk result (λ n. n.value ≡ inner (seen_slots slots.now)) }
 {
     let body = Body::Inner(copy_slots(alloc, slots)?);
-    Ok(Arc::new(alloc, Node { body })?)
+    Ok(Arc::new(alloc, Node::of(body))?)
 }
 
 /// The slot in two, where its child is an inner node with two slots or more.
@@ -29,7 +29,7 @@ fn halves<U: Update>(alloc: Global, slot: &Slot<U>) -> Result<Option<(Slot<U>, S
     ensures { IfOk result (HalvedOr U.means slot.now) }
 {
     let child: &Node<U> = &slot.child;
-    let Body::Inner(below) = &child.body else {
+    let Body::Inner(below) = child.body() else {
         return Ok(None);
     };
     let half = below.len() / 2;
@@ -55,7 +55,7 @@ fn halves<U: Update>(alloc: Global, slot: &Slot<U>) -> Result<Option<(Slot<U>, S
 fn is_divisible<U: Update>(node: &Node<U>) -> bool
     ensures { result ≡ is_divided node.now }
 {
-    let Body::Inner(slots) = &node.body else {
+    let Body::Inner(slots) = node.body() else {
         return false;
     };
     slots.len() >= 2

@@ -50,18 +50,33 @@ fn path(alloc: Global, text: &String) -> Result<Path, NoMemory> {
     Path::parse(alloc, text.as_bytes()).or(Err(NoMemory))
 }
 
-/// Does a call, and then a step that relieves each tree whose root has too many messages; gives the reply.
-pub fn run(alloc: Global, indexes: &mut Indexes, call: &Call) -> Result<Reply, NoMemory> {
+/// Does a call, and then a step that relieves each tree in whose root more than `limit` messages wait; gives the reply.
+fn run_above(
+    alloc: Global,
+    indexes: &mut Indexes,
+    call: &Call,
+    limit: usize,
+) -> Result<Reply, NoMemory> {
     let (reply, batch) = compile(alloc, indexes, call)?;
     indexes.append(alloc, batch)?;
-    relieve_above(alloc, &mut indexes.meta.tree, LOOKED_UP)?;
-    relieve_above(alloc, &mut indexes.block.tree, LOOKED_UP)?;
+    relieve_above(alloc, &mut indexes.meta.tree, limit)?;
+    relieve_above(alloc, &mut indexes.block.tree, limit)?;
     Ok(reply)
 }
 
+/// Does a call, and then a step that relieves each tree whose root has too many messages; gives the reply.
+pub fn run(alloc: Global, indexes: &mut Indexes, call: &Call) -> Result<Reply, NoMemory> {
+    run_above(alloc, indexes, call, LOOKED_UP)
+}
+
 /// Does a call; whether it was done.
-fn is_done(alloc: Global, indexes: &mut Indexes, call: &Call) -> Result<bool, NoMemory> {
-    let reply = run(alloc, indexes, call)?;
+fn is_done(
+    alloc: Global,
+    indexes: &mut Indexes,
+    call: &Call,
+    limit: usize,
+) -> Result<bool, NoMemory> {
+    let reply = run_above(alloc, indexes, call, limit)?;
     Ok(matches!(reply, Reply::Done))
 }
 
@@ -74,9 +89,44 @@ pub fn make_directories(
     let mut made = 0u64;
     for i in 0..population.directories {
         let call = Call::Mkdir(population.directory(alloc, i)?);
-        made = made.wrapping_add(u64::from(is_done(alloc, indexes, &call)?));
+        made = made.wrapping_add(u64::from(is_done(alloc, indexes, &call, LOOKED_UP)?));
     }
     Ok(made)
+}
+
+/// What is asked of a file.
+#[derive(Clone, Copy)]
+pub enum Asked {
+    /// To be made.
+    Create,
+    /// To be taken out.
+    Unlink,
+}
+
+impl Asked {
+    /// The call for the path.
+    fn of(self, path: Path) -> Call {
+        match self {
+            Asked::Create => Call::Create(path),
+            Asked::Unlink => Call::Unlink(path),
+        }
+    }
+}
+
+/// Asks this of the files in turn, where `limit` messages may wait in a root; gives for how many it was done.
+pub fn ask_each(
+    alloc: Global,
+    indexes: &mut Indexes,
+    population: Population,
+    asked: Asked,
+    limit: usize,
+) -> Result<u64, NoMemory> {
+    let mut done = 0u64;
+    for i in 0..population.count() {
+        let call = asked.of(population.file(alloc, i)?);
+        done = done.wrapping_add(u64::from(is_done(alloc, indexes, &call, limit)?));
+    }
+    Ok(done)
 }
 
 /// Makes the files; gives how many were made.
@@ -85,12 +135,7 @@ pub fn create(
     indexes: &mut Indexes,
     population: Population,
 ) -> Result<u64, NoMemory> {
-    let mut made = 0u64;
-    for i in 0..population.count() {
-        let call = Call::Create(population.file(alloc, i)?);
-        made = made.wrapping_add(u64::from(is_done(alloc, indexes, &call)?));
-    }
-    Ok(made)
+    ask_each(alloc, indexes, population, Asked::Create, LOOKED_UP)
 }
 
 /// Asks `count` times for one of the files; gives how many were found.
@@ -140,6 +185,20 @@ pub fn create_in_map(
         }
     }
     Ok(())
+}
+
+/// Takes the same files out of a map.
+pub fn unlink_in_map(
+    alloc: Global,
+    map: &mut BTreeMap<Key, Meta>,
+    population: Population,
+) -> Result<u64, NoMemory> {
+    let mut removed = 0u64;
+    for i in 0..population.count() {
+        let gone = map.remove(population.file(alloc, i)?.key());
+        removed = removed.wrapping_add(u64::from(gone.is_some()));
+    }
+    Ok(removed)
 }
 
 /// Looks the same files up in a map.

@@ -2,7 +2,8 @@
 //!
 //! Without an argument it does a little of the work and says how much it found. `tree_bench measure` does all of it
 //! and prints nanoseconds an operation; `tree_bench tree` and `tree_bench map` do the appends alone, for a
-//! measurement of memory from outside. `tree_bench files` does file calls beside a map of the same paths, and
+//! measurement of memory from outside. `tree_bench creates` makes files while more or fewer messages may wait.
+//! `tree_bench files` does file calls beside a map of the same paths, and
 //! `tree_bench bytes` writes and reads the bytes of files beside maps of the same blocks; `tree_bench bytes-tree` and
 //! `tree_bench bytes-map` do the writes of the long file alone. `tree_bench subtrees` moves directories and files, and takes
 //! directories out, beside the same maps. `tree_bench snapshots` takes, restores and drops snapshots of a volume beside
@@ -15,6 +16,7 @@ pub mod files;
 pub mod images;
 pub mod maps;
 pub mod measure;
+pub mod measure_creates;
 pub mod measure_volumes;
 pub mod number;
 pub mod snapshots;
@@ -28,13 +30,14 @@ use crate::contents::{
 use crate::files::{create, list, make_directories, stat};
 use crate::maps::Maps;
 use crate::measure::{
-    LONG, MESSAGES, SMALL, appends, directory_move, file_calls, long_file, long_move, look_ups,
-    removals, small_writes,
+    LONG, MESSAGES, SMALL, appends, directory_move, edits, file_calls, long_file, long_move,
+    look_ups, removals, small_writes,
 };
+use crate::measure_creates::{creates_at_limits, remade};
 use crate::measure_volumes::{
     images, little_images, little_rounds, snapshot_rounds, snapshots_alone,
 };
-use crate::work::{SHAPE, append, insert, look_up, new_tree, settle};
+use crate::work::{Appended, SHAPE, append, insert, look_up, new_tree, settle};
 use call_compiler::Indexes;
 use std::collections::BTreeMap;
 
@@ -57,6 +60,11 @@ fn do_work(rt: &HostRuntime, word: &str) -> anyhow::Result<()> {
         "measure" => {
             look_ups(rt, alloc)?;
             appends(rt, alloc)?;
+            edits(rt, alloc)?;
+        }
+        "creates" => {
+            creates_at_limits(rt, alloc)?;
+            remade(rt, alloc)?;
         }
         "files" => file_calls(rt, alloc)?,
         "subtrees" => {
@@ -88,7 +96,13 @@ fn do_work(rt: &HostRuntime, word: &str) -> anyhow::Result<()> {
 fn alone(rt: &HostRuntime, word: &str) -> anyhow::Result<()> {
     let alloc = rt.alloc();
     match word {
-        "tree" => append(alloc, &mut new_tree(alloc)?, MESSAGES, MESSAGES)?,
+        "tree" => append(
+            alloc,
+            &mut new_tree(alloc)?,
+            Appended::Put,
+            MESSAGES,
+            MESSAGES,
+        )?,
         "map" => insert(alloc, &mut BTreeMap::new(alloc), MESSAGES, MESSAGES)?,
         "bytes-tree" => {
             write_long(alloc, &mut new_indexes(alloc, LONG_FILE)?, LONG)?;
@@ -105,10 +119,10 @@ fn alone(rt: &HostRuntime, word: &str) -> anyhow::Result<()> {
 fn little(rt: &HostRuntime) -> anyhow::Result<()> {
     let alloc = rt.alloc();
     let mut tree = new_tree(alloc)?;
-    append(alloc, &mut tree, 1000, 6000)?;
+    append(alloc, &mut tree, Appended::Put, 1000, 6000)?;
     settle(alloc, &mut tree);
     let found = look_up(alloc, &tree, 1000, 1000)?;
-    let pending = tree.shape_report().pending;
+    let pending = tree.pending();
     println!(rt; "{found} found, {pending} pending")?;
     let mut indexes = Indexes::new(alloc, SHAPE)?;
     make_directories(alloc, &mut indexes, SMALL)?;

@@ -5,13 +5,17 @@ use crate::contents::{
 };
 use crate::files::{Population, create, create_in_map, list, make_directories, stat, stat_in_map};
 use crate::maps::Maps;
+use crate::number::Set;
 use crate::subtrees::{
     MOVED, MOVED_TO, Subtrees, Way, count_full, directory_of, full_indexes, full_maps,
     long_indexes, long_maps, settle_both, settled_indexes,
 };
-use crate::work::{SHAPE, append, insert, look_up, look_up_map, new_tree, settle};
+use crate::work::{
+    APPENDED, Appended, SHAPE, append, insert, look_up, look_up_map, new_tree, settle,
+};
 use call_compiler::Indexes;
 use meta_index::Meta;
+use node::Tree;
 use pathkey::{Key, Path};
 use std::alloc::Global;
 use std::collections::BTreeMap;
@@ -24,8 +28,11 @@ const KEYS: u64 = 100_000;
 /// How many messages are appended, and how many small writes are done.
 pub const MESSAGES: u64 = 1_000_000;
 
+/// How many keys are edited.
+const EDITED: u64 = 1_000;
+
 /// Large directories.
-const LARGE: Population = Population {
+pub const LARGE: Population = Population {
     letter: 'l',
     directories: 1000,
     files: 100,
@@ -48,25 +55,55 @@ const MEBIBYTES: u128 = 256;
 pub const LONG: u64 = 268_435_456;
 
 /// Nanoseconds for each of so many operations.
-fn each(time: Duration, count: u64) -> u128 {
+pub fn each(time: Duration, count: u64) -> u128 {
     time.as_nanos().checked_div(count as u128).unwrap_or(0)
 }
 
-/// Look-ups in a settled tree, and in a map of the same keys.
+/// Look-ups in a settled tree and then with messages that wait in its root, and in a map of the same keys.
 pub fn look_ups(rt: &(impl Clock + Print), alloc: Global) -> anyhow::Result<()> {
     let mut tree = new_tree(alloc)?;
-    append(alloc, &mut tree, KEYS, KEYS)?;
+    append(alloc, &mut tree, Appended::Put, KEYS, KEYS)?;
     let steps = settle(alloc, &mut tree);
+    println!(rt; "settled in {steps} steps")?;
     let mut map = BTreeMap::new(alloc);
     insert(alloc, &mut map, KEYS, KEYS)?;
+    time_look_ups(rt, alloc, &tree, &map)?;
+    append(alloc, &mut tree, Appended::Put, KEYS, APPENDED as u64)?;
+    time_look_ups(rt, alloc, &tree, &map)
+}
+
+/// Look-ups in a tree and in a map of the same keys.
+fn time_look_ups(
+    rt: &(impl Clock + Print),
+    alloc: Global,
+    tree: &Tree<Set>,
+    map: &BTreeMap<Key, u64>,
+) -> anyhow::Result<()> {
+    let pending = tree.shape_report().pending;
     let start = Instant::now(rt)?;
-    let found = look_up(alloc, &tree, KEYS, MESSAGES)?;
+    let found = look_up(alloc, tree, KEYS, MESSAGES)?;
     let tree_time = each(start.elapsed(rt)?, MESSAGES);
     let start = Instant::now(rt)?;
-    let there = look_up_map(alloc, &map, KEYS, MESSAGES)?;
+    let there = look_up_map(alloc, map, KEYS, MESSAGES)?;
     let map_time = each(start.elapsed(rt)?, MESSAGES);
-    println!(rt; "settled in {steps} steps; found {found} and {there}")?;
-    println!(rt; "look-up: tree {tree_time} ns, map {map_time} ns")?;
+    println!(rt;
+        "look-up, {pending} pending: tree {tree_time} ns, map {map_time} ns; found {found} and {there}"
+    )?;
+    Ok(())
+}
+
+/// Updates of few keys, which join, and inserts into a map of the same keys.
+pub fn edits(rt: &(impl Clock + Print), alloc: Global) -> anyhow::Result<()> {
+    let mut tree = new_tree(alloc)?;
+    let start = Instant::now(rt)?;
+    append(alloc, &mut tree, Appended::Edit, EDITED, MESSAGES)?;
+    let tree_time = each(start.elapsed(rt)?, MESSAGES);
+    let pending = tree.shape_report().pending;
+    let mut map = BTreeMap::new(alloc);
+    let start = Instant::now(rt)?;
+    insert(alloc, &mut map, EDITED, MESSAGES)?;
+    let map_time = each(start.elapsed(rt)?, MESSAGES);
+    println!(rt; "edit: tree {tree_time} ns, map {map_time} ns; {pending} pending")?;
     Ok(())
 }
 
@@ -74,7 +111,7 @@ pub fn look_ups(rt: &(impl Clock + Print), alloc: Global) -> anyhow::Result<()> 
 pub fn appends(rt: &(impl Clock + Print), alloc: Global) -> anyhow::Result<()> {
     let mut tree = new_tree(alloc)?;
     let start = Instant::now(rt)?;
-    append(alloc, &mut tree, MESSAGES, MESSAGES)?;
+    append(alloc, &mut tree, Appended::Put, MESSAGES, MESSAGES)?;
     let tree_time = each(start.elapsed(rt)?, MESSAGES);
     let mut map = BTreeMap::new(alloc);
     let start = Instant::now(rt)?;

@@ -2,6 +2,7 @@
 use crate::copies::Files;
 use crate::files::Population;
 use crate::images::{Printed, count_image, have_one_image};
+use crate::measure::each;
 use crate::snapshots::{Copied, Kept, Named, keep_only, population_of, rounds};
 use crate::volumes::{count_files, fill, freeze, new_volume, waiting_in_roots};
 use std::alloc::Global;
@@ -20,11 +21,6 @@ const ROUNDS_ON_MAPS: u64 = 20;
 
 /// How often an image is printed.
 const IMAGES: u64 = 5;
-
-/// How long each of so many took.
-fn each(time: Duration, count: u64) -> u128 {
-    time.as_nanos().checked_div(count as u128).unwrap_or(0)
-}
 
 /// Prints how large the trees of a volume are.
 fn show_volume(rt: &impl Print, volume: &Volume) -> anyhow::Result<()> {

@@ -18,7 +18,7 @@ pub const SHAPE: Shape = Shape {
 };
 
 /// How many pieces may wait in the root where messages are only appended.
-const APPENDED: usize = 4096;
+pub const APPENDED: usize = 4096;
 
 /// How many may wait there where each call looks its path up first: a look-up reads what waits on its way.
 pub const LOOKED_UP: usize = 32;
@@ -61,12 +61,37 @@ pub fn relieve_above<U: Update>(
     Ok(())
 }
 
-/// Puts the keys below `keys` into the tree in turn, `count` times in all; flushes while the root has too many.
-pub fn append(alloc: Global, tree: &mut Tree<Set>, keys: u64, count: u64) -> Result<(), NoMemory> {
+/// What is appended for a key.
+#[derive(Clone, Copy)]
+pub enum Appended {
+    /// Its value.
+    Put,
+    /// An update that sets its value, and joins those before it.
+    Edit,
+}
+
+impl Appended {
+    /// The message that gives the key the value.
+    fn msg(self, key: Key, value: u64) -> Msg<Set> {
+        match self {
+            Appended::Put => Msg::Put(key, value),
+            Appended::Edit => Msg::Edit(key, Set(value)),
+        }
+    }
+}
+
+/// Gives the keys below `keys` values in turn, `count` times in all; flushes while the root has too many.
+pub fn append(
+    alloc: Global,
+    tree: &mut Tree<Set>,
+    what: Appended,
+    keys: u64,
+    count: u64,
+) -> Result<(), NoMemory> {
     for i in 0..count {
         let number = i.checked_rem(keys).unwrap_or(0);
         let mut one = Vec::with_capacity(alloc, 1)?;
-        one.push(Msg::Put(key(alloc, number)?, i))?;
+        one.push(what.msg(key(alloc, number)?, i))?;
         tree.append(alloc, one)?;
         relieve_above(alloc, tree, APPENDED)?;
     }

@@ -178,6 +178,16 @@ impl Volume {
         }
     }
 
+    /// How many pieces wait in a live index. It costs a look at the slots of its tree's root, and takes no memory.
+    pub fn pending(&self, index: Index) -> u128
+        ensures { result ≡ pending_in index self.now.live }
+    {
+        match index {
+            Index::Meta => self.indexes.meta.tree.pending(),
+            Index::Block => self.indexes.block.tree.pending(),
+        }
+    }
+
     /// Does a tree step in the index with more pending pieces, that of the metadata where both have as many: the heaviest flush
     /// or, where that has no room, what makes room for it. `None` exactly where nothing is pending in either.
     pub fn relieve(&mut self, alloc: Global) -> Option<Relief>
@@ -194,8 +204,8 @@ impl Volume {
     fn busier(&self) -> Index
         ensures { (pending_in result self.now.live ≡ 0) → (pending_in Index.Meta self.now.live ≡ 0) × (pending_in Index.Block self.now.live ≡ 0) }
     {
-        let meta = self.shape_report(Index::Meta).pending;
-        let block = self.shape_report(Index::Block).pending;
+        let meta = self.pending(Index::Meta);
+        let block = self.pending(Index::Block);
         if meta >= block {
             Index::Meta
         } else {

@@ -46,7 +46,7 @@ fn message_is_flushed(rt: HostRuntime) {
 /// How many messages wait in an index, if there is a flush for them.
 fn waiting(volume: &Volume, index: Index) -> u128 {
     match volume.heaviest(index) {
-        Some(_) => volume.shape_report(index).pending,
+        Some(_) => volume.pending(index),
         None => 0,
     }
 }

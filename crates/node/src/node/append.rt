@@ -1,18 +1,20 @@
 //! New messages in the slots of a root, whole or not at all.
 //!
 //! An append has two steps. `prepare` cuts the messages at the pivots and makes room in every slot that takes
-//! some: it may be refused memory, and the tree looks the same. `put` moves the parts into that room and
-//! cannot fail. So two trees are appended to together: prepare, prepare, put, put.
-ghost use Rattle.std.specs.Prelude.{◌≡◌, OnOk, OnErr, IfOk, map, length, ◌++◌, [], None};
+//! some: it may be refused memory, and the tree looks the same. `put_batch` moves the parts into that room and
+//! cannot fail. So two trees are appended to together: prepare, prepare, put, put. One message for one key goes to its
+//! slot as it is, without a part for each slot.
+ghost use Rattle.std.specs.Prelude.{◌≡◌, ◌<◌, OnOk, OnErr, IfOk, IfSome, map, length, ◌++◌, [], None};
 ghost use Rattle.std.specs.Option.{option_copied, option_to_list};
-ghost use Rattle.node.specs.Appended.{parts as parts_of, placed, HaveTaken, IsAppended};
+ghost use Rattle.node.specs.Appended.{all_at, parts as parts_of, placed, HaveTaken, IsAppended};
+ghost use Rattle.node.specs.Batches.{batch_parts, HasRoomFor};
 ghost use Rattle.node.specs.Pure.{inner};
 ghost use Rattle.node.specs.Searchable.{AreRising, Fits, AllFit, IsRoot, HasRoom, see_list};
 ghost use Rattle.node.specs.See.{see_slot, seen_slots};
 
-use super::search::{next_pivot, slot_of};
+use super::search::{holder, next_pivot, slot_of};
 use super::{Body, Node, Slot};
-use message::{Msg, Update};
+use message::{Changes, Msg, Update};
 use pathkey::{Key, NoMemory};
 use std::alloc::Global;
 
@@ -144,8 +146,29 @@ pub fn put<U: Update>(slots: &mut [Slot<U>], parts: &mut [Vec<Msg<U>>])
     put(slots, parts)
 }
 
+/// The messages of an append as the slots take them.
+#[derive(Drop)]
+enum Batch<U: Changes> {
+    /// All go to the slot with this number.
+    Whole(usize, Vec<Msg<U>>),
+    /// The part of each slot.
+    Parts(Vec<Vec<Msg<U>>>),
+}
+
+/// The number of the slot that takes all of the messages, where they are one for one key.
+fn holder_of_all<U: Update>(slots: &[Slot<U>], msgs: &[Msg<U>]) -> Option<usize>
+    requires { AreRising (seen_slots slots.now) }
+    ensures bound { IfSome result (λ i. i < length slots.now) }
+    ensures whole { IfSome result (λ i. all_at i msgs.now (seen_slots slots.now) ≡ parts_of None msgs.now (seen_slots slots.now)) }
+{
+    if msgs.len() != 1 {
+        return None;
+    }
+    holder(slots, msgs[0].point()?)
+}
+
 /// Cuts the messages for a root's slots and reserves room for the parts in them.
-fn prepare<U: Update>(
+pub fn prepare_parts<U: Update>(
     alloc: Global,
     slots: &mut [Slot<U>],
     msgs: Vec<Msg<U>>,
@@ -160,6 +183,41 @@ fn prepare<U: Update>(
     Ok(parts)
 }
 
+/// Likewise, but one message for one key goes to its slot as it is.
+fn prepare<U: Update>(
+    alloc: Global,
+    slots: &mut [Slot<U>],
+    msgs: Vec<Msg<U>>,
+) -> Result<Batch<U>, NoMemory>
+    requires { IsRoot (inner (seen_slots slots.old)) }
+    ensures same { map see_slot slots.new ≡ map see_slot slots.old }
+    ensures room { IfOk result (λ b. HasRoomFor slots.new b) }
+    ensures parts { IfOk result (λ b. batch_parts b (seen_slots slots.old) ≡ parts_of None msgs.items (seen_slots slots.old)) }
+{
+    if let Some(i) = holder_of_all(slots, msgs.as_slice()) {
+        slots[i].pending.reserve(msgs.len())?;
+        return Ok(Batch::Whole(i, msgs));
+    }
+    Ok(Batch::Parts(prepare_parts(alloc, slots, msgs)?))
+}
+
+/// Puts the messages behind what waits in the slots, where there is room for them.
+fn put_batch<U: Update>(slots: &mut [Slot<U>], batch: Batch<U>)
+    requires { HasRoomFor slots.old batch }
+    ensures { HaveTaken U.means (seen_slots slots.old) (batch_parts batch (seen_slots slots.old)) (seen_slots slots.new) }
+{
+    match batch {
+        Batch::Whole(i, msgs) => {
+            let mut msgs = msgs;
+            slots[i].pending.append_reserved(&mut msgs);
+        }
+        Batch::Parts(parts) => {
+            let mut parts = parts;
+            put(slots, parts.as_mut_slice());
+        }
+    }
+}
+
 /// Puts messages behind what waits in a root's slots.
 fn append_slots<U: Update>(
     alloc: Global,
@@ -170,8 +228,8 @@ fn append_slots<U: Update>(
     ensures ok { OnOk result (IsAppended U.means msgs.items (inner (seen_slots slots.old)) (inner (seen_slots slots.new))) }
     ensures err { OnErr result (map see_slot slots.new ≡ map see_slot slots.old) }
 {
-    let mut parts = prepare(alloc, slots, msgs)?;
-    put(slots, parts.as_mut_slice());
+    let batch = prepare(alloc, slots, msgs)?;
+    put_batch(slots, batch);
     Ok(())
 }
 
@@ -190,10 +248,10 @@ fn append_both_slots<A: Update, B: Update>(
     ensures second_ok { OnOk result (IsAppended B.means second_msgs.items (inner (seen_slots second.old)) (inner (seen_slots second.new))) }
     ensures second_err { OnErr result (map see_slot second.new ≡ map see_slot second.old) }
 {
-    let mut first_parts = prepare(alloc, first, first_msgs)?;
-    let mut second_parts = prepare(alloc, second, second_msgs)?;
-    put(first, first_parts.as_mut_slice());
-    put(second, second_parts.as_mut_slice());
+    let first_batch = prepare(alloc, first, first_msgs)?;
+    let second_batch = prepare(alloc, second, second_msgs)?;
+    put_batch(first, first_batch);
+    put_batch(second, second_batch);
     Ok(())
 }
 
@@ -220,7 +278,7 @@ impl<U: Update> Node<U> {
         ensures ok { OnOk result (IsAppended U.means msgs.items self.old self.new) }
         ensures err { OnErr result (self.new ≡ self.old) }
     {
-        let Body::Inner(slots) = &mut self.body else {
+        let Body::Inner(slots) = self.body_mut() else {
             unreachable!()
         };
         append_slots(alloc, slots.as_mut_slice(), msgs)
@@ -242,10 +300,10 @@ pub fn append_both<A: Update, B: Update>(
     ensures second_ok { OnOk result (IsAppended B.means second_msgs.items second.old second.new) }
     ensures second_err { OnErr result (second.new ≡ second.old) }
 {
-    let Body::Inner(one) = &mut first.body else {
+    let Body::Inner(one) = first.body_mut() else {
         unreachable!()
     };
-    let Body::Inner(two) = &mut second.body else {
+    let Body::Inner(two) = second.body_mut() else {
         unreachable!()
     };
     append_both_slots(

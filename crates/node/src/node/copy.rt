@@ -49,14 +49,12 @@ impl<U: Update> Node<U> {
     fn copy_level(&self, alloc: Global) -> Result<Node<U>, NoMemory>
         ensures { IfOk result (λ n. n ≡ self.now) }
     {
-        match &self.body {
-            Body::Leaf(entries) => Ok(Node {
-                body: Body::Leaf(copy_entries::<U>(alloc, entries.as_slice())?),
-            }),
-            Body::Inner(slots) => Ok(Node {
-                body: Body::Inner(copy_slots(alloc, slots.as_slice())?),
-            }),
-        }
+        let body = match &self.body {
+            Body::Leaf(entries) => Body::Leaf(copy_entries::<U>(alloc, entries.as_slice())?),
+            Body::Inner(slots) => Body::Inner(copy_slots(alloc, slots.as_slice())?),
+        };
+        let weight = self.weight;
+        Ok(Node { body, weight })
     }
 }
 

@@ -68,7 +68,8 @@ pub fn refusal<U: Update, C: Change<U>>(
     refusal(change, shape, root, &slots[i].child, rest, slot, end)
 }
 
-/// Does the change at the slot with number `slot` of the node that `place` leads to, below or at `node`.
+/// Does the change at the slot with number `slot` of the node that `place` leads to, below or at `node`. On the way back
+/// up each node on the path is weighed again.
 pub fn descend<U: Update, C: Change<U>>(
     alloc: Global,
     change: &C,
@@ -85,15 +86,19 @@ pub fn descend<U: Update, C: Change<U>>(
     let Ok(own) = Arc::make_mut(node) else {
         return StepReply::NoMemory;
     };
-    let Body::Inner(slots) = &mut own.body else {
+    let Body::Inner(slots) = own.body_mut() else {
         return StepReply::NotThere;
     };
     let Some((first, rest)) = place.split_first() else {
-        return change.change(alloc, shape, root, slots, slot);
+        let reply = change.change(alloc, shape, root, slots, slot);
+        own.weigh();
+        return reply;
     };
     let i = *first as usize;
     if i >= slots.len() {
         return StepReply::NotThere;
     }
-    descend(alloc, change, shape, root, &mut slots[i].child, rest, slot)
+    let reply = descend(alloc, change, shape, root, &mut slots[i].child, rest, slot);
+    own.weigh();
+    reply
 }

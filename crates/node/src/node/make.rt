@@ -15,9 +15,7 @@ impl<U: Update> Node<U> {
     pub fn empty_leaf(alloc: Global) -> Node<U>
         ensures { result ≡ pure_leaf [] }
     {
-        Node {
-            body: Body::Leaf(Vec::new(alloc)),
-        }
+        Node::of(Body::Leaf(Vec::new(alloc)))
     }
 
     /// A slot that begins at the key, over an empty leaf.
@@ -35,8 +33,6 @@ impl<U: Update> Node<U> {
     {
         let mut slots = Vec::with_capacity(alloc, 1)?;
         slots.push(Node::empty_slot(alloc, Key::new(alloc))?)?;
-        Ok(Node {
-            body: Body::Inner(slots),
-        })
+        Ok(Node::of(Body::Inner(slots)))
     }
 }

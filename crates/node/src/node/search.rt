@@ -1,8 +1,8 @@
 //! Which slot holds a key, and where a slot ends.
-ghost use Rattle.std.specs.Prelude.{◌≡◌, ◌<◌, length};
+ghost use Rattle.std.specs.Prelude.{◌≡◌, ◌<◌, length, IfSome};
 ghost use Rattle.std.specs.Option.{option_copied};
 ghost use Rattle.node.specs.Lawful.{next_lo};
-ghost use Rattle.node.specs.Meaning.{slot_number};
+ghost use Rattle.node.specs.Meaning.{holder, slot_number};
 ghost use Rattle.node.specs.Pure.{is_leaf};
 ghost use Rattle.node.specs.Searchable.{AreRising};
 ghost use Rattle.node.specs.See.{see, seen_slots};
@@ -24,6 +24,19 @@ pub fn slot_of<U: Update>(slots: &[Slot<U>], key: &Key) -> usize
         return 0;
     };
     count_passing(later, |slot| slot.lo.cmp(key).is_le())
+}
+
+/// The number of the slot whose range holds the key; none where all slots begin behind it.
+pub fn holder<U: Update>(slots: &[Slot<U>], key: &Key) -> Option<usize>
+    requires rising { AreRising (seen_slots slots.now) }
+    ensures bound { IfSome result (λ i. i < length slots.now) }
+    ensures number { result ≡ holder (seen_slots slots.now) key.now }
+{
+    let first = slots.first()?;
+    if first.lo.cmp(key).is_gt() {
+        return None;
+    }
+    Some(slot_of(slots, key))
 }
 
 /// The pivot of the first of these slots, or `hi` where there is none: so the end of the slot before them.

@@ -1,6 +1,5 @@
-use Rattle.std.proofs.Common.{sym, ◌∙◌, ◌<◌, ◌≡◌, length, arith, inl, inr, ap, Some}
+use Rattle.std.proofs.Common.{sym, ◌∙◌, ◌<◌, length, arith, inl, inr, ap}
 use Rattle.std.specs.Option.{option_copied}
-use Rattle.message.specs.Oldest.{put_at}
 use Rattle.flush.proofs.LeafFlush.{no_put, room_within, overfull_found, place_found}
 use Rattle.flush.proofs.OldestOf.{put_is, put_none}
 use Rattle.flush.proofs.leaf.is_overfull.Goals as goal

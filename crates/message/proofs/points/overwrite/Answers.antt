@@ -1,6 +1,15 @@
 use Rattle.std.proofs.Common.{sym, ◌∙◌, refl, Some, None}
-use Rattle.message.proofs.Writing.{counted_insert, keyed_inserted}
+use Rattle.message.specs.Runs.{run_effect}
+use Rattle.message.specs.Settled.{look, found_effect}
+use Rattle.message.proofs.Writing.{lays_run, counted_insert, keyed_inserted}
 use Rattle.message.proofs.points.overwrite.Goals as goal
+
+pub returns-in-Ok-None-clause-lays : goal.returns-in-Ok-None-clause-lays
+returns-in-Ok-None-clause-lays g c =
+    let means = g.U.Update.means in
+    let k = c.args.key in
+    let es = c.args.points.now.entries in
+    lays_run means k (run_effect means c.args.run) c.args.run es c.insert.new.self.entries c.in-Ok-None.ensures.updates.0 (λ o. c.requires o (found_effect means (look k es) o))
 
 pub returns-in-Ok-None-clause-counted : goal.returns-in-Ok-None-clause-counted
 returns-in-Ok-None-clause-counted g c = counted_insert c.args.key c.args.run c.args.points.now.entries c.insert.new.self.entries None 0 c.insert.ensures.was_ordered c.in-Ok-None.ensures.entries (sym c.in-Ok-None.field-0-is ∙ c.in-Ok-None.ensures.old) refl

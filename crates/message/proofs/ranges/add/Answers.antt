@@ -1,8 +1,7 @@
-use Rattle.std.proofs.Common.{rules, ap, ◌∙◌}
+use Rattle.std.proofs.Common.{ap, ◌∙◌}
 use Rattle.std.proofs.lemmas.Result.{on_ok_weaker}
 use Rattle.std.specs.List.{filter}
 use Rattle.std.specs.BTreeMap.{insert_entry}
-use Rattle.std.proofs.lemmas.Map.Made.{filter_same_pairs}
 use Rattle.pathkey.specs.Order.{by_bytes}
 use Rattle.pathkey.specs.declared.range.KeyRange.{KeyRange}
 use Rattle.message.specs.Settled.{is_outside}
@@ -16,8 +15,5 @@ returns-then-not-has_inside-clause-ok c =
 
 pub returns-clause-ok : goal.returns-clause-ok
 returns-clause-ok c =
-    let lo = c.args.range.lo in
-    let hi = c.args.range.hi in
     let all = c.in_ok-put.ensures.ok ∙ ap (λ (r : KeyRange). insert_entry by_bytes c.args.ranges.now.entries r.lo r.hi) c.in_ok-copy.ensures in
-    filter_same_pairs _ (λ e. is_outside lo hi e) _ (λ k v b w f t. search rules) _ _ c.retain.ensures.filtered
-    ∙ ap (λ es. filter (λ e. is_outside lo hi e) es) all
+    c.clear_inside.ensures ∙ ap (λ es. filter (λ e. is_outside c.args.range.lo c.args.range.hi e) es) all

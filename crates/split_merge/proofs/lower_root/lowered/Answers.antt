@@ -7,5 +7,5 @@ use Rattle.split_merge.proofs.lower_root.lowered.Goals as goal
 pub returns-then-len-ne1-clause-err : goal.returns-then-len-ne1-clause-err
 returns-then-len-ne1-clause-err g c =
     let items = c.in-Inner.slots.items in
-    let was : inner (seen_slots items) ≡ c.args.root.now = ap see (sym c.in-Inner.is) ∙ c.root.view_is in
+    let was : inner (seen_slots items) ≡ c.args.root.now = ap see (sym c.in-Inner.is) ∙ c.body.ensures in
     not_one items c.args.root.now was (λ e. omega (arith, c.in-Inner.slots.ok.0))

@@ -7,9 +7,9 @@ use Rattle.split_merge.proofs.raise_root.above.Goals as goal
 pub returns : goal.returns
 returns g c =
     let items = rw c.in_ok-one.ensures.items at c.in_ok-push.ensures.items in
-    let child = c.in_ok-new.ensures.ok ∙ ap (λ z. inner (slots z)) c.in_ok-hollowed.ensures ∙ ap inner (emptied-hollow c.args.slots.now) in
+    let child = c.in_ok-new.ensures.ok ∙ c.of.ensures ∙ ap (λ z. inner (slots z)) c.in_ok-hollowed.ensures ∙ ap inner (emptied-hollow c.args.slots.now) in
     record {
       msgs = c.in_ok-gathered.field-0.0;
       taken = c.in_ok-gathered.ensures;
-      is = c.in_ok-new-2.ensures.ok ∙ ap (λ z. inner (seen_slots z)) items ∙ (λ j. inner (more (c.new.ensures j) c.in_ok-gathered.field-0.0 (child j) none));
+      is = c.in_ok-new-2.ensures.ok ∙ c.of-2.ensures ∙ ap (λ z. inner (seen_slots z)) items ∙ (λ j. inner (more (c.new.ensures j) c.in_ok-gathered.field-0.0 (child j) none));
     }

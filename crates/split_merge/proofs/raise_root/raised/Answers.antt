@@ -9,27 +9,27 @@ use Rattle.split_merge.proofs.raise_root.raised.Goals as goal
 pub returns-then-len-eq1-clause-err : goal.returns-then-len-eq1-clause-err
 returns-then-len-eq1-clause-err g c =
     let items = c.in-Inner.slots.items in
-    let was : inner (seen_slots items) ≡ c.args.root.now = ap see (sym c.in-Inner.is) ∙ c.root.view_is in
+    let was : inner (seen_slots items) ≡ c.args.root.now = ap see (sym c.in-Inner.is) ∙ c.body.ensures in
     let one : length items ≡ 1 = omega (arith, c.in-Inner.slots.ok.0) in
     one_slot items c.args.root.now was one
 
 pub returns-then-has_levels-clause-err : goal.returns-then-has_levels-clause-err
 returns-then-has_levels-clause-err g c =
     let items = c.in-Inner.slots.items in
-    let was : inner (seen_slots items) ≡ c.args.root.now = ap see (sym c.in-Inner.is) ∙ c.root.view_is in
+    let was : inner (seen_slots items) ≡ c.args.root.now = ap see (sym c.in-Inner.is) ∙ c.body.ensures in
     (other_slots items c.args.root.now was (λ e. omega (arith, c.in-Inner.slots.ok.0)), c.has_levels.ensures.deep c.if-has_levels.true)
 
 pub returns-in_default-above-clause-err : goal.returns-in_default-above-clause-err
 returns-in_default-above-clause-err g c =
     let items = c.in-Inner.slots.items in
-    let was : inner (seen_slots items) ≡ c.args.root.now = ap see (sym c.in-Inner.is) ∙ c.root.view_is in
+    let was : inner (seen_slots items) ≡ c.args.root.now = ap see (sym c.in-Inner.is) ∙ c.body.ensures in
     (other_slots items c.args.root.now was (λ e. omega (arith, c.in-Inner.slots.ok.0)), c.has_levels.ensures.shallow c.if-has_levels.false)
 
 pub returns-clause-ok : goal.returns-clause-ok
 returns-clause-ok g c =
     let items = c.in-Inner.slots.items in
     let ss = seen_slots items in
-    let was : inner ss ≡ c.args.root.now = ap see (sym c.in-Inner.is) ∙ c.root.view_is in
+    let was : inner ss ≡ c.args.root.now = ap see (sym c.in-Inner.is) ∙ c.body.ensures in
     let few : levels (inner ss) < 16 = subst (λ z. levels z < 16) (sym was) (c.has_levels.ensures.shallow c.if-has_levels.false) in
     let other = other_slots items (inner ss) refl (λ e. omega (arith, c.in-Inner.slots.ok.0)) in
     let new = subst (λ z. IsAbove g.U.Update.means (seen_slots z) c.in-Ok.new.value) c.as_slice.ensures.value c.in-Ok.ensures in

@@ -10,13 +10,13 @@ use Rattle.split_merge.proofs.split.halves.Goals as goal
 
 pub returns-then-half-eq0 : goal.returns-then-half-eq0
 returns-then-half-eq0 g c =
-    let was : inner (seen_slots c.in-Inner.below.items) ≡ c.args.slot.now.child.value = ap see (sym c.in-Inner.is) ∙ c.child.view_is ∙ c.deref-child.ensures in
+    let was : inner (seen_slots c.in-Inner.below.items) ≡ c.args.slot.now.child.value = ap see (sym c.in-Inner.is) ∙ c.body.ensures ∙ c.deref-child.ensures in
     let few : length c.in-Inner.below.items < 2 = omega (arith, c.in-Inner.below.ok.0) in
     divisible-few c.in-Inner.below.items c.args.slot.now.child.value was few
 
 pub returns : goal.returns
 returns g c =
-    let was : inner (seen_slots c.in-Inner.below.items) ≡ c.args.slot.now.child.value = ap see (sym c.in-Inner.is) ∙ c.child.view_is ∙ c.deref-child.ensures in
+    let was : inner (seen_slots c.in-Inner.below.items) ≡ c.args.slot.now.child.value = ap see (sym c.in-Inner.is) ∙ c.body.ensures ∙ c.deref-child.ensures in
     let first = c.split_at.result.0.now in
     let second = c.split_at.result.1.now in
     let some : 0 < length second = omega arith in

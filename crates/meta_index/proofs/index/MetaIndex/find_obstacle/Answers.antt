@@ -3,7 +3,7 @@ use Rattle.node.specs.Meaning.{value}
 use Rattle.pathkey.specs.Names.{Path}
 use Rattle.meta_index.specs.Updates.{means}
 use Rattle.meta_index.specs.Means.{Decides}
-use Rattle.meta_index.proofs.Climbing.{height_falls, parent_decides, parent_decides_for}
+use Rattle.meta_index.proofs.Climbing.{decided, height_falls, parent_decides, parent_decides_for}
 use Rattle.meta_index.proofs.index.MetaIndex.find_obstacle.Goals as goal
 
 pub climb-init : goal.climb-init
@@ -30,3 +30,9 @@ climb-preserved c =
     let here = subst (λ (a : Option Path). Decides c.args.self.now c.args.path.now a) c.in-Some.is c.climb.invariant in
     subst (λ (a : Option Path). Decides c.args.self.now c.args.path.now a) (sym c.in_ok-ancestor-2.ensures)
     (parent_decides_for c.args.self.now c.args.path.now c.in-Some.above c.key.ensures.valid none here)
+
+pub returns-in-Some-2 : goal.returns-in-Some-2
+returns-in-Some-2 c =
+    let some = sym c.in-Some-2.is ∙ c.in_ok-meta.ensures ∙ ap (λ (k : List ℕ). value means c.args.self.now.tree.root k) c.key.ensures.value in
+    let here = subst (λ (a : Option Path). Decides c.args.self.now c.args.path.now a) c.in-Some.is c.climb.invariant in
+    decided c.args.self.now c.args.path.now c.in-Some.above c.in-Some-2.meta c.below.result c.key.ensures.valid some here c.below.ensures

@@ -20,7 +20,7 @@ returns-then-i-len g t c =
     let i = c.in-Some.first.now in
     let h : length items ≤ i = omega arith in
     let own = ⊎_elim (λ x. x) (λ x. x) (rw c.in-Ok.is at c.make_mut.ensures.value) in
-    let was : inner (seen_slots items) ≡ c.args.node.now.value = ap see (sym c.in-Inner.is) ∙ c.own.view_is ∙ own in
+    let was : inner (seen_slots items) ≡ c.args.node.now.value = ap see (sym c.in-Inner.is) ∙ c.body_mut.ensures.value ∙ own in
     let new = c.make_mut.follows.holds (inner (seen_slots items)) (ap is_ok c.in-Ok.is) ∙ was in
     let none : slots_at (i ∷ c.in-Some.rest.now) (inner (seen_slots items)) ≡ None = of_child-past None (slots_at c.in-Some.rest.now) items i h in
     let gone : slots_at c.args.place.now c.args.node.now.value ≡ None = ap (λ p. slots_at p c.args.node.now.value) c.in-Some.ensures.cases.0 ∙ ap (slots_at (i ∷ c.in-Some.rest.now)) (sym was) ∙ none in
@@ -32,16 +32,16 @@ returns g t c =
     let i = c.in-Some.first.now in
     let h : i < length items = omega arith in
     let own = ⊎_elim (λ x. x) (λ x. x) (rw c.in-Ok.is at c.make_mut.ensures.value) in
-    let R = Replies g.U.Update.means g.C.Change.kind c.args.shape c.args.root c.args.slot c.descend.result in
-    at_below c.args.place.now c.in-Some.rest.now c.descend.result R items i c.index_mut.result.now _ c.descend.new.node.value c.args.node.now.value _ c.in-Some.ensures.cases.0 h c.index_mut.ensures.value refl refl refl c.descend.ensures (ap see (sym c.in-Inner.is) ∙ c.own.view_is ∙ own) (c.make_mut.follows.holds _ (ap is_ok c.in-Ok.is))
+    let R = Replies g.U.Update.means g.C.Change.kind c.args.shape c.args.root c.args.slot c.descend-reply.result in
+    at_below c.args.place.now c.in-Some.rest.now c.descend-reply.result R items i c.index_mut.result.now _ c.descend-reply.new.node.value c.args.node.now.value _ c.in-Some.ensures.cases.0 h c.index_mut.ensures.value refl refl refl c.descend-reply.ensures (ap see (sym c.in-Inner.is) ∙ c.body_mut.ensures.value ∙ own) (c.make_mut.follows.holds _ (ap is_ok c.in-Ok.is) ∙ c.weigh-2.ensures)
 
-pub descend-requires : goal.descend-requires
-descend-requires g t c κs within =
+pub descend-reply-requires : goal.descend-reply-requires
+descend-reply-requires g t c κs within =
     let items = c.in-Inner.slots.items in
     let i = c.in-Some.first.now in
     let s = c.index_mut.result.now in
     let own = ⊎_elim (λ x. x) (λ x. x) (rw c.in-Ok.is at c.make_mut.ensures.value) in
-    let was : inner (seen_slots items) ≡ c.args.node.now.value = ap see (sym c.in-Inner.is) ∙ c.own.view_is ∙ own in
+    let was : inner (seen_slots items) ≡ c.args.node.now.value = ap see (sym c.in-Inner.is) ∙ c.body_mut.ensures.value ∙ own in
     let all = subst IsSearchable (sym was) c.requires.searchable in
     let child = searchable_child items i s (omega arith) all.1 in
     let here : IsSearchable s.child.value = subst (λ x. IsSearchable x.child.value) (sym c.index_mut.ensures.value) child in

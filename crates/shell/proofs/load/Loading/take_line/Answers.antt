@@ -1,6 +1,7 @@
 use Rattle.std.proofs.Common.{subst}
 use Rattle.shell.specs.ImageLines.{Spells}
-use Rattle.shell.proofs.LoadFacts.{long_refused, root_refused, unspelled_refused, next_refused}
+use Rattle.shell.proofs.Known.{on_ok_map}
+use Rattle.shell.proofs.LoadFacts.{long_refused, root_refused, unspelled_refused, next_loaded, next_refused}
 use Rattle.shell.proofs.load.Loading.take_line.Goals as goal
 
 pub returns-then-line-gt-LONGEST_LINE-clause-bad : goal.returns-then-line-gt-LONGEST_LINE-clause-bad
@@ -19,3 +20,8 @@ returns-in-Ok-Some-clause-bad c = λ n e.
 
 pub returns-in-Ok-None-clause-bad : goal.returns-in-Ok-None-clause-bad
 returns-in-Ok-None-clause-bad c = λ n e. (cc, unspelled_refused c.args.line.now c.args.self.now (λ z. c.if-self-eq0.false z) (subst (Spells c.args.line.now) c.in-Ok-None.field-0-is c.in-Ok-None.ensures))
+
+pub returns-in-Ok-Some-clause-ok : goal.returns-in-Ok-Some-clause-ok
+returns-in-Ok-Some-clause-ok c =
+    let spells = subst (Spells c.args.line.now) c.in-Ok-Some.field-0-is c.in-Ok-Some.ensures in
+    on_ok_map _ _ _ (λ loads. next_loaded c.args.line.now _ c.args.self.now _ (λ z. c.if-self-eq0.false z) spells.1 loads) c.take_next.ensures.ok

@@ -1,0 +1,149 @@
+-- Messages that are moved one by one into slots.
+use Rattle.std.proofs.Common.{◌≡◌, ℕ, zero, suc, ◌+◌, ◌++◌, ◌≤◌, List, [], ◌∷◌, length, take, drop, refl, ap, sym, ◌∙◌, subst, Option, None, true, Result, arith, length-drop}
+use Rattle.std.specs.Prelude.{Ok, Err, OnErr}
+use Rattle.std.proofs.Math.Seq.{take-add}
+use Rattle.std.proofs.lemmas.List.{drop-drop}
+use Rattle.pathkey.specs.Keys.{is_below}
+use Rattle.message.specs.declared.msg.Msg.{Msg}
+use Rattle.message.specs.Effects.{Takes}
+use Rattle.message.specs.Cuts.{pieces}
+use Rattle.message.proofs.Composing.{takes-then}
+use Rattle.node.specs.declared.step.StepReply.TheVariants.{Did}
+use Rattle.node.specs.Appended.{parts, all_at, HaveTaken}
+use Rattle.node.specs.Lawful.{next_lo}
+use Rattle.node.specs.Pure.{PNode, leaf, inner, PSlots, none, more}
+use Rattle.node.specs.Searchable.{AreRising, AreSearchable, IsSearchable}
+use Rattle.node.specs.StepRows.{piece_count}
+use Rattle.node.proofs.Appending.{next_lo-taken}
+use Rattle.node.proofs.Placing.{pieces-append}
+use Rattle.node.proofs.Sinking.{pending-taken}
+use Rattle.node.proofs.Wholes.{taken-none}
+use Rattle.flush.specs.Sunk.{GoneInto, Moved, MovedInto, Sunk, spare}
+use Rattle.flush.proofs.Counts.{piece_count-append, piece_count-none}
+
+-- what holds, holds where there is an error
+pub on_err : {T E P : Type 0} (r : Result T E) → P → OnErr r P
+on_err (Ok x) p = tt
+on_err (Err e) p = p
+
+module _ {U V : Type 0} where
+  -- the messages of parts
+  abbrev parts_len : List (List (Msg U V)) → ℕ
+  parts_len [] = 0
+  parts_len (p ∷ ps) = length p + parts_len ps
+
+  parts_len-parts : (ms : List (Msg U V)) (ss : PSlots U V) → parts_len (parts None ms ss) ≡ piece_count ms ss
+  parts_len-parts ms none = refl
+  parts_len-parts ms (more lo old n ss) = ap (λ k. length (pieces lo (next_lo None ss) ms) + k) (parts_len-parts ms ss)
+
+  parts_len-all_at : (i : ℕ) (ms : List (Msg U V)) (ss : PSlots U V) → parts_len (all_at i ms ss) ≤ length ms
+  parts_len-all_at i ms none = omega arith
+  parts_len-all_at zero ms (more lo old n ss) = omega (arith, parts_len-parts [] ss, piece_count-none ss)
+  parts_len-all_at (suc i) ms (more lo old n ss) = omega (arith, parts_len-all_at i ms ss)
+
+  -- messages for one slot make no more pieces than they are
+  count-all_at : (i : ℕ) (ms : List (Msg U V)) (ss : PSlots U V) → all_at i ms ss ≡ parts None ms ss → piece_count ms ss ≤ length ms
+  count-all_at i ms ss e = omega (arith, ap parts_len e, parts_len-parts ms ss, parts_len-all_at i ms ss)
+
+module _ {U V : Type 0} (means : U → Option V → Option V) where
+  module _ (ms : List (Msg U V)) where
+    -- slots that have taken messages still rise
+    pub rising-taken : (ss new : PSlots U V) → HaveTaken means ss (parts None ms ss) new → AreRising ss → AreRising new
+    rising-taken none none t r = tt
+    rising-taken none (more lo' new' n' ss') t r = absurd t
+    rising-taken (more lo old n ss) none t r = absurd t
+    rising-taken (more lo old n ss) (more lo' new' n' ss') t r = (
+      subst (λ (x : List ℕ). is_below x (next_lo None ss') ≡ true) (sym t.0) (subst (λ (x : Option (List ℕ)). is_below lo x ≡ true) (sym (next_lo-taken means None None ms ss ss' t.3)) r.0),
+      rising-taken ss ss' t.3 r.1,
+    )
+
+    -- they take the same parts of other messages
+    parts-taken : (xs : List (Msg U V)) (ss new : PSlots U V) → HaveTaken means ss (parts None ms ss) new → parts None xs new ≡ parts None xs ss
+    parts-taken xs none none t = refl
+    parts-taken xs none (more lo' new' n' ss') t = absurd t
+    parts-taken xs (more lo old n ss) none t = absurd t
+    parts-taken xs (more lo old n ss) (more lo' new' n' ss') t = λ i. pieces (t.0 i) (next_lo-taken means None None ms ss ss' t.3 i) xs ∷ parts-taken xs ss ss' t.3 i
+
+  -- slots that take messages, and then more, take them all
+  taken-then : (xs ys : List (Msg U V)) (ss mid new : PSlots U V) → HaveTaken means ss (parts None xs ss) mid → HaveTaken means mid (parts None ys ss) new → HaveTaken means ss (parts None (xs ++ ys) ss) new
+  taken-then xs ys none none none t u = tt
+  taken-then xs ys none none (more lo' new' n' ss') t u = absurd u
+  taken-then xs ys none (more lo' new' n' ss') new t u = absurd t
+  taken-then xs ys (more lo old n ss) none new t u = absurd t
+  taken-then xs ys (more lo old n ss) (more lo' new' n' ss') none t u = absurd u
+  taken-then xs ys (more lo old n ss) (more lo' new' n' ss') (more lp np p sp) t u = (
+    u.0 ∙ t.0,
+    subst (λ zs. Takes means old zs np) (sym (pieces-append lo (next_lo None ss) xs ys)) (takes-then means old (pieces lo (next_lo None ss) xs) new' (pieces lo (next_lo None ss) ys) np t.1 u.1),
+    u.2 ∙ t.2,
+    taken-then xs ys ss ss' sp t.3 u.3,
+  )
+
+  -- no message
+  pub moved-none : (ms : List (Msg U V)) (ss : PSlots U V) → Moved means 0 ms ms ss ss
+  moved-none ms ss = record { within = omega arith; left = refl; taken = taken-none means ss; few = omega (arith, piece_count-none ss); still = λ z. refl }
+
+  -- one message
+  pub moved-one : (i : ℕ) (m : Msg U V) (ms rest : List (Msg U V)) (ss new : PSlots U V) → ms ≡ m ∷ rest → all_at i (m ∷ []) ss ≡ parts None (m ∷ []) ss → HaveTaken means ss (all_at i (m ∷ []) ss) new → Moved means 1 ms rest ss new
+  moved-one i m ms rest ss new e p t = record {
+    within = omega (arith, ap length e);
+    left = sym (ap (drop 1) e);
+    taken = subst (λ xs. HaveTaken means ss (parts None (take 1 xs) ss) new) (sym e) (subst (λ ps. HaveTaken means ss ps new) p t);
+    few = subst (λ xs. piece_count (take 1 xs) ss ≤ 1) (sym e) (count-all_at i (m ∷ []) ss p);
+    still = λ z. absurd (omega (arith, z));
+  }
+
+  -- messages, and then more
+  pub moved-then : (a b : ℕ) (ms mid rest : List (Msg U V)) (cs ds es : PSlots U V) → Moved means a ms mid cs ds → Moved means b mid rest ds es → Moved means (a + b) ms rest cs es
+  moved-then a b ms mid rest cs ds es s t =
+      let both : take (a + b) ms ≡ take a ms ++ take b mid = take-add a b ms ∙ ap (λ xs. take a ms ++ take b xs) (sym s.left) in
+      let same : parts None (take b mid) ds ≡ parts None (take b mid) cs = parts-taken (take a ms) (take b mid) cs ds s.taken in
+      let counts : piece_count (take b mid) cs ≤ b = omega (arith, t.few, parts_len-parts (take b mid) cs, parts_len-parts (take b mid) ds, ap parts_len same) in
+      record {
+        within = omega (arith, s.within, t.within, ap length s.left, length-drop a ms);
+        left = t.left ∙ ap (drop b) s.left ∙ drop-drop b a ms;
+        taken = subst (λ xs. HaveTaken means cs (parts None xs cs) es) (sym both) (taken-then (take a ms) (take b mid) cs ds es s.taken (subst (λ ps. HaveTaken means ds ps es) same t.taken));
+        few = subst (λ xs. piece_count xs cs ≤ a + b) (sym both) (omega (arith, s.few, counts, piece_count-append (take a ms) (take b mid) cs));
+        still = λ z. t.still (omega (arith, z)) ∙ s.still (omega (arith, z));
+      }
+
+  -- nor into a node
+  pub all_stay : (ms : List (Msg U V)) (c : PNode U V) → MovedInto means 0 ms ms c c
+  all_stay ms (leaf es) = (refl, refl, refl)
+  all_stay ms (inner cs) = moved-none ms cs
+
+  -- messages that moved, no more than there was room for, have sunk
+  pub moved_sunk : (most n : ℕ) (ms rest : List (Msg U V)) (c d : PNode U V) → (n ≡ 0 → ⊥) → n ≤ spare most c → MovedInto means n ms rest c d → Sunk means most (Did n) ms c d
+  moved_sunk most n ms rest (leaf es) d some few m = absurd (some m.0)
+  moved_sunk most n ms rest (inner cs) (leaf es) some few m = absurd m
+  moved_sunk most zero ms rest (inner cs) (inner ds) some few m = absurd (some refl)
+  moved_sunk most (suc n) ms rest (inner cs) (inner ds) some few m = (omega arith, m.within, (m.taken, omega (arith, m.few, few, pending-taken means (take (suc n) ms) cs ds m.taken)))
+
+  -- likewise after others that had sunk
+  pub sunk_then : (most a b : ℕ) (ms mid rest : List (Msg U V)) (c d e : PNode U V) → Sunk means most (Did a) ms c d → mid ≡ drop a ms → b ≤ spare most d → MovedInto means b mid rest d e → Sunk means most (Did (a + b)) ms c e
+  sunk_then most a b ms mid rest (leaf es) d e s l few m = absurd s.2
+  sunk_then most a b ms mid rest (inner cs) (leaf es) e s l few m = absurd s.2
+  sunk_then most a b ms mid rest (inner cs) (inner ds) (leaf es) s l few m = absurd m
+  sunk_then most a b ms mid rest (inner cs) (inner ds) (inner es) s l few m =
+      let both : take (a + b) ms ≡ take a ms ++ take b mid = take-add a b ms ∙ ap (λ xs. take a ms ++ take b xs) (sym l) in
+      let same = parts-taken (take a ms) (take b mid) cs ds s.2.0 in
+      let all = taken-then (take a ms) (take b mid) cs ds es s.2.0 (subst (λ ps. HaveTaken means ds ps es) same m.taken) in
+      (
+        omega (arith, s.0),
+        omega (arith, s.1, m.within, ap length l, length-drop a ms),
+        (
+          subst (λ xs. HaveTaken means cs (parts None xs cs) es) (sym both) all,
+          omega (arith, m.few, few, s.2.1, pending-taken means (take b mid) ds es m.taken),
+        ),
+      )
+
+  -- the child of a slot from which messages have sunk is as searchable as it was
+  searchable-taken : (ms : List (Msg U V)) (ss new : PSlots U V) → HaveTaken means ss (parts None ms ss) new → AreSearchable ss → AreSearchable new
+  searchable-taken ms none none t h = tt
+  searchable-taken ms none (more lo' new' n' ss') t h = absurd t
+  searchable-taken ms (more lo old n ss) none t h = absurd t
+  searchable-taken ms (more lo old n ss) (more lo' new' n' ss') t h = (subst (λ (x : PNode U V). IsSearchable x) (sym t.2) h.0, searchable-taken ms ss ss' t.3 h.1)
+
+  pub searchable_sunk : (most n : ℕ) (ms : List (Msg U V)) (c d : PNode U V) → Sunk means most (Did n) ms c d → IsSearchable c → IsSearchable d
+  searchable_sunk most n ms (leaf es) d s h = absurd s.2
+  searchable_sunk most n ms (inner cs) (leaf es) s h = absurd s.2
+  searchable_sunk most n ms (inner cs) (inner ds) s h = (rising-taken (take n ms) cs ds s.2.0 h.0, searchable-taken (take n ms) cs ds s.2.0 h.1)

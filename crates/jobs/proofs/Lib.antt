@@ -1,0 +1,9 @@
+pub mod Building
+pub mod Slots
+pub mod Moves
+pub mod MarkFacts
+pub mod Keeping
+pub mod Taking
+pub mod Stepping
+pub mod Fitting
+pub mod Installing

@@ -1,0 +1,76 @@
+//! Building a job, without its tree.
+ghost use Rattle.std.specs.Prelude.{◌≡◌, IfOk, IfErr};
+ghost use Rattle.jobs.specs.Job.{FitBelow};
+ghost use Rattle.jobs.specs.Replies.{IsBuilt};
+ghost use Rattle.flush.specs.Sunk.{GoneInto};
+
+use crate::job::{Done, Job};
+use crate::sink::sink_below;
+use flush::inner::append_within;
+use message::{Msg, Update};
+use node::{Body, Node, Place};
+use pathkey::NoMemory;
+use std::alloc::Global;
+use std::sync::Arc;
+
+/// How many nodes deep a build looks for room below the child's slots: as many as a place can name.
+const LEVELS: u8 = 15;
+
+/// A copy of the node's own level, with copies of the messages behind what waits in its slots.
+fn grown<U: Update>(
+    alloc: Global,
+    node: &Arc<Node<U>>,
+    msgs: &[Msg<U>],
+    most: u16,
+) -> Result<Arc<Node<U>>, NoMemory>
+    requires { FitBelow most msgs.now node.now.value }
+    ensures { IfOk result (λ n. GoneInto U.means most msgs.now node.now.value n.value) }
+{
+    let mut copy = Arc::try_clone(node)?;
+    let own = Arc::make_mut(&mut copy)?;
+    let Body::Inner(slots) = own.body_mut() else {
+        return Ok(copy);
+    };
+    append_within(alloc, slots.as_mut_slice(), msgs, most as usize)?;
+    own.weigh();
+    Ok(copy)
+}
+
+impl<U: Update> Job<U> {
+    /// What is built of the job.
+    fn built(&self, alloc: Global) -> Result<Done<U>, NoMemory>
+        ensures { IfOk result (λ d. IsBuilt U.means self.now d) }
+    {
+        let mut child = grown(alloc, &self.child, self.msgs.as_slice(), self.shape.pending)?;
+        let range = self.range.copy(alloc)?;
+        sink_below(
+            alloc,
+            self.shape,
+            &mut child,
+            range.hi.as_ref(),
+            Place::root(),
+            LEVELS,
+        );
+        Ok(Done {
+            ticket: self.ticket,
+            shape: self.shape,
+            range,
+            count: self.msgs.len() as u32,
+            child,
+        })
+    }
+
+    /// Builds the job: a subtree with the job's messages in it, which sink as far as there is room. Where a growth is refused
+    /// before all messages stand in the subtree, the job comes back as it was.
+    ///
+    /// It needs no tree and no lock. It copies the nodes that it changes, one level each, and shares all others.
+    pub fn build(self, alloc: Global) -> Result<Done<U>, Job<U>>
+        ensures ok { IfOk result (λ d. IsBuilt U.means self d) }
+        ensures err { IfErr result (λ job. job ≡ self) }
+    {
+        match self.built(alloc) {
+            Ok(done) => Ok(done),
+            Err(NoMemory) => Err(self),
+        }
+    }
+}

@@ -1,0 +1,83 @@
+//! A job, and what was built of it.
+ghost use Rattle.std.specs.Prelude.{◌≡◌};
+
+use crate::ticket::Ticket;
+use message::{Changes, Msg};
+use node::{Node, Shape};
+use pathkey::KeyRange;
+use std::marker::Model;
+use std::sync::Arc;
+
+/// The oldest messages of a slot of a root, and its child.
+#[derive(Drop)]
+pub struct Job<U: Changes> {
+    /// Which job it is.
+    pub(crate) ticket: u64,
+    /// The tree's shape.
+    pub(crate) shape: Shape,
+    /// The slot's range.
+    pub(crate) range: KeyRange,
+    /// The messages, the oldest first.
+    pub(crate) msgs: Vec<Msg<U>>,
+    /// The child.
+    pub(crate) child: Arc<Node<U>>,
+}
+
+impl<U: Changes> Model for Job<U> {
+    ghost use Rattle.jobs.specs.Codes.{coded_job};
+    ghost use Rattle.jobs.specs.Job.{PJob, IsJob};
+
+    ghost Value = { PJob U U.Value };
+
+    ghost coded = { coded_job U.code U.Value.code };
+
+    ghost view = { λ j. record { ticket = j.ticket; shape = j.shape; range = j.range; msgs = j.msgs.items; child = j.child.value } };
+
+    ghost invariant = { λ j. IsJob j.shape j.range j.msgs.items j.child.value };
+}
+
+impl<U: Changes> Job<U> {
+    /// The job's ticket.
+    pub fn ticket(&self) -> Ticket
+        ensures { result.number ≡ self.now.ticket }
+    {
+        Ticket::of(self.ticket)
+    }
+}
+
+/// A subtree that has the messages of a job in it.
+#[derive(Drop)]
+pub struct Done<U: Changes> {
+    /// Which job it was.
+    pub(crate) ticket: u64,
+    /// The tree's shape.
+    pub(crate) shape: Shape,
+    /// The slot's range.
+    pub(crate) range: KeyRange,
+    /// How many messages it has.
+    pub(crate) count: u32,
+    /// The subtree.
+    pub(crate) child: Arc<Node<U>>,
+}
+
+impl<U: Changes> Model for Done<U> {
+    ghost use Rattle.jobs.specs.Codes.{coded_done};
+    ghost use Rattle.jobs.specs.Job.{PDone, IsSubtree};
+
+    ghost Value = { PDone U U.Value };
+
+    ghost coded = { coded_done U.code U.Value.code };
+
+    ghost view = { λ d. record { ticket = d.ticket; shape = d.shape; range = d.range; count = d.count; child = d.child.value } };
+
+    ghost invariant = { λ d. IsSubtree d.shape d.range d.child.value };
+}
+
+impl<U: Changes> Done<U> {
+    /// The ticket of the job of which it was built.
+    pub fn ticket(&self) -> Ticket
+        ensures { result.number ≡ self.now.ticket }
+    {
+        Ticket::of(self.ticket)
+    }
+}

@@ -1,0 +1,58 @@
+//! A step in a subtree that stands in no tree.
+ghost use Rattle.std.specs.Prelude.{◌≡◌, IsTrue, ℕ, List};
+ghost use Rattle.std.specs.Option.{option_copied};
+ghost use Rattle.node.specs.Lawful.{IsLawfulNode};
+ghost use Rattle.node.specs.Shapes.{is_shape};
+ghost use Rattle.node.specs.Subtrees.{StaysSubtree};
+
+use super::Node;
+use super::change::Change;
+use super::descend::{descend, refusal};
+use crate::place::Place;
+use crate::shape::Shape;
+use crate::step::StepReply;
+use message::Update;
+use pathkey::Key;
+use std::alloc::Global;
+use std::sync::Arc;
+
+/// Does a change at the slot with number `slot` of the node at `at`, where the way begins at the top of a subtree that is not
+/// a whole tree and ends at `hi`.
+///
+/// Whatever it answers, the subtree stays lawful where it was and means what it meant at each key of its range. The nodes
+/// on the way are copied where they are shared, one level each.
+pub fn step_subtree<U: Update, C: Change<U>>(
+    alloc: Global,
+    change: &C,
+    shape: Shape,
+    top: &mut Arc<Node<U>>,
+    hi: Option<&Key>,
+    at: Place,
+    slot: u8,
+) -> StepReply
+    requires shape { IsTrue (is_shape shape) }
+    requires lawful { (h : ℕ) × (lo : List ℕ) × IsLawfulNode shape top.old.value h lo (option_copied hi) }
+    ensures { StaysSubtree U.means shape (option_copied hi.entry) top.old.value top.new.value }
+{
+    step_below(alloc, change, shape, top, hi, at.numbers(), slot as usize)
+}
+
+/// Likewise at the node that these slot numbers lead to.
+fn step_below<U: Update, C: Change<U>>(
+    alloc: Global,
+    change: &C,
+    shape: Shape,
+    top: &mut Arc<Node<U>>,
+    hi: Option<&Key>,
+    numbers: &[u8],
+    slot: usize,
+) -> StepReply
+    requires shape { IsTrue (is_shape shape) }
+    requires lawful { (h : ℕ) × (lo : List ℕ) × IsLawfulNode shape top.old.value h lo (option_copied hi) }
+    ensures { StaysSubtree U.means shape (option_copied hi.entry) top.old.value top.new.value }
+{
+    if let Some(reply) = refusal(change, shape, false, top, numbers, slot, hi) {
+        return reply;
+    }
+    descend(alloc, change, shape, false, top, numbers, slot)
+}

@@ -1,0 +1,154 @@
+//! New messages in the slots of a root of which some keep their lists: those from which a job was taken.
+ghost use Rattle.std.specs.Prelude.{◌≡◌, ◌≤◌, ◌++◌, true, OnOk, OnErr, map, length};
+ghost use Rattle.message.specs.Effects.{Takes};
+ghost use Rattle.node.specs.Appended.{HaveTaken, IsAppended};
+ghost use Rattle.node.specs.Grafts.{IsFirstKept, KeepLists, KeepsLists};
+ghost use Rattle.node.specs.Pure.{inner};
+ghost use Rattle.node.specs.Searchable.{IsRoot, HasRoom, see_list};
+ghost use Rattle.node.specs.See.{see_slot, seen_slots};
+
+use super::append::prepare_parts;
+use super::{Body, Node, Slot};
+use message::{Msg, Pending, Update};
+use pathkey::NoMemory;
+use std::alloc::Global;
+
+/// Puts a part behind a list that has room for it; where `plain`, the list stays as it was.
+fn put_part<U: Update>(pending: &mut Pending<U>, part: &mut Vec<Msg<U>>, plain: bool)
+    requires { length part.old.items ≤ pending.old.1 }
+    ensures takes { Takes U.means pending.old.0 part.old.items pending.new.0 }
+    ensures kept { plain ≡ true → pending.new.0 ≡ pending.old.0 ++ part.old.items }
+{
+    if plain {
+        pending.append_kept(part);
+    } else {
+        pending.append_reserved(part);
+    }
+}
+
+/// Whether the first of the numbers is above 0, and the others. It takes no memory.
+fn first_kept(kept: &[u32]) -> (bool, &[u32])
+    ensures { IsFirstKept kept.now result.0 result.1.now }
+{
+    match kept.split_first() {
+        None => (false, kept),
+        Some((first, rest)) => (*first > 0, rest),
+    }
+}
+
+/// Puts each part behind what waits in its slot, where there is room for it; where the slot's number is above 0, what
+/// waits stays as it was.
+fn put_kept<U: Update>(slots: &mut [Slot<U>], parts: &mut [Vec<Msg<U>>], kept: &[u32])
+    requires { HasRoom slots.old parts.old }
+    ensures taken { HaveTaken U.means (seen_slots slots.old) (map see_list parts.old) (seen_slots slots.new) }
+    ensures kept { KeepLists kept.now (map see_list parts.old) (seen_slots slots.old) (seen_slots slots.new) }
+{
+    let Some((slot, slots)) = slots.split_first_mut() else {
+        return;
+    };
+    let Some((part, parts)) = parts.split_first_mut() else {
+        return;
+    };
+    let (plain, kept) = first_kept(kept);
+    put_part(&mut slot.pending, part, plain);
+    put_kept(slots, parts, kept)
+}
+
+/// Puts messages behind what waits in a root's slots; where a slot's number is above 0, what waits stays as it was.
+fn append_slots_kept<U: Update>(
+    alloc: Global,
+    slots: &mut [Slot<U>],
+    msgs: Vec<Msg<U>>,
+    kept: &[u32],
+) -> Result<(), NoMemory>
+    requires { IsRoot (inner (seen_slots slots.old)) }
+    ensures ok { OnOk result (IsAppended U.means msgs.items (inner (seen_slots slots.old)) (inner (seen_slots slots.new))) }
+    ensures kept { OnOk result (KeepsLists kept.now msgs.items (inner (seen_slots slots.old)) (inner (seen_slots slots.new))) }
+    ensures err { OnErr result (map see_slot slots.new ≡ map see_slot slots.old) }
+{
+    let mut parts = prepare_parts(alloc, slots, msgs)?;
+    put_kept(slots, parts.as_mut_slice(), kept);
+    Ok(())
+}
+
+/// Likewise for two roots: both or neither.
+fn append_both_slots_kept<A: Update, B: Update>(
+    alloc: Global,
+    first: &mut [Slot<A>],
+    first_msgs: Vec<Msg<A>>,
+    first_kept: &[u32],
+    second: &mut [Slot<B>],
+    second_msgs: Vec<Msg<B>>,
+    second_kept: &[u32],
+) -> Result<(), NoMemory>
+    requires first { IsRoot (inner (seen_slots first.old)) }
+    requires second { IsRoot (inner (seen_slots second.old)) }
+    ensures first_ok { OnOk result (IsAppended A.means first_msgs.items (inner (seen_slots first.old)) (inner (seen_slots first.new))) }
+    ensures first_kept { OnOk result (KeepsLists first_kept.now first_msgs.items (inner (seen_slots first.old)) (inner (seen_slots first.new))) }
+    ensures first_err { OnErr result (map see_slot first.new ≡ map see_slot first.old) }
+    ensures second_ok { OnOk result (IsAppended B.means second_msgs.items (inner (seen_slots second.old)) (inner (seen_slots second.new))) }
+    ensures second_kept { OnOk result (KeepsLists second_kept.now second_msgs.items (inner (seen_slots second.old)) (inner (seen_slots second.new))) }
+    ensures second_err { OnErr result (map see_slot second.new ≡ map see_slot second.old) }
+{
+    let mut first_parts = prepare_parts(alloc, first, first_msgs)?;
+    let mut second_parts = prepare_parts(alloc, second, second_msgs)?;
+    put_kept(first, first_parts.as_mut_slice(), first_kept);
+    put_kept(second, second_parts.as_mut_slice(), second_kept);
+    Ok(())
+}
+
+impl<U: Update> Node<U> {
+    /// Puts messages into the slots of a root; where a slot's number is above 0, what waits stays as it was.
+    pub fn append_kept(
+        &mut self,
+        alloc: Global,
+        msgs: Vec<Msg<U>>,
+        kept: &[u32],
+    ) -> Result<(), NoMemory>
+        requires { IsRoot self.old }
+        ensures ok { OnOk result (IsAppended U.means msgs.items self.old self.new) }
+        ensures kept { OnOk result (KeepsLists kept.now msgs.items self.old self.new) }
+        ensures err { OnErr result (self.new ≡ self.old) }
+    {
+        let Body::Inner(slots) = self.body_mut() else {
+            unreachable!()
+        };
+        append_slots_kept(alloc, slots.as_mut_slice(), msgs, kept)
+    }
+}
+
+/// Likewise for two roots: both or neither.
+pub fn append_both_kept<A: Update, B: Update>(
+    alloc: Global,
+    first: &mut Node<A>,
+    first_msgs: Vec<Msg<A>>,
+    first_kept: &[u32],
+    second: &mut Node<B>,
+    second_msgs: Vec<Msg<B>>,
+    second_kept: &[u32],
+) -> Result<(), NoMemory>
+    requires first { IsRoot first.old }
+    requires second { IsRoot second.old }
+    ensures first_ok { OnOk result (IsAppended A.means first_msgs.items first.old first.new) }
+    ensures first_kept { OnOk result (KeepsLists first_kept.now first_msgs.items first.old first.new) }
+    ensures first_err { OnErr result (first.new ≡ first.old) }
+    ensures second_ok { OnOk result (IsAppended B.means second_msgs.items second.old second.new) }
+    ensures second_kept { OnOk result (KeepsLists second_kept.now second_msgs.items second.old second.new) }
+    ensures second_err { OnErr result (second.new ≡ second.old) }
+{
+    let Body::Inner(one) = first.body_mut() else {
+        unreachable!()
+    };
+    let Body::Inner(two) = second.body_mut() else {
+        unreachable!()
+    };
+    append_both_slots_kept(
+        alloc,
+        one.as_mut_slice(),
+        first_msgs,
+        first_kept,
+        two.as_mut_slice(),
+        second_msgs,
+        second_kept,
+    )
+}

@@ -1,0 +1,22 @@
+-- The first bytes of a key as one number, which is compared at once.
+use Rattle.std.specs.Prelude.{◌≡◌, ℕ, zero, suc, ◌+◌, ◌*◌, ◌^◌, ◌<◌, List, [], ◌∷◌}
+use Rattle.std.specs.List.{AllByRecursion}
+
+-- the number that the first n bytes make, greatest first, with zeros behind a shorter list
+abbrev pub head : ℕ → List ℕ → ℕ
+head zero bytes = 0
+head (suc n) [] = 0
+head (suc n) (b ∷ bytes) = b * 256 ^ n + head n bytes
+
+-- that of a key: eight bytes
+abbrev pub head_of : List ℕ → ℕ
+head_of bytes = head 8 bytes
+
+-- numbers that are bytes
+abbrev pub AreBytes : List ℕ → Type 0
+AreBytes bytes = AllByRecursion (λ b. b < 256) bytes
+
+-- h is the head of these bytes
+pub record IsHeaded (h : ℕ) (items : List ℕ) : Type 0 where
+  pub is_head : h ≡ head_of items
+  pub are_bytes : AreBytes items
