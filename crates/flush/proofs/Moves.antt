@@ -126,8 +126,7 @@ module _ {U V : Type 0} (means : U → Option V → Option V) where
   sunk_then most a b ms mid rest (inner cs) (inner ds) (inner es) s l few m =
       let both : take (a + b) ms ≡ take a ms ++ take b mid = take-add a b ms ∙ ap (λ xs. take a ms ++ take b xs) (sym l) in
       let same = parts-taken (take a ms) (take b mid) cs ds s.2.0 in
-      let all = taken-then (take a ms) (take b mid) cs ds es s.2.0 (subst (λ ps. HaveTaken means ds ps es) same m.taken) in
-      (
+      let all = taken-then (take a ms) (take b mid) cs ds es s.2.0 (subst (λ ps. HaveTaken means ds ps es) same m.taken) in (
         omega (arith, s.0),
         omega (arith, s.1, m.within, ap length l, length-drop a ms),
         (

@@ -161,11 +161,7 @@ fn is_outside(key: &Key, range: &KeyRange) -> bool
 
 /// Takes out the first range that begins behind the low end of this one and before its high end, and says whether it did. It
 /// takes none where memory for a copy of its low end is refused.
-fn take_inside(
-    ranges: &mut BTreeMap<Key, Option<Key>>,
-    alloc: Global,
-    range: &KeyRange,
-) -> bool
+fn take_inside(ranges: &mut BTreeMap<Key, Option<Key>>, alloc: Global, range: &KeyRange) -> bool
     requires { is_below range.now.lo range.now.hi ≡ true }
     ensures same { filter (λ e. is_outside range.now.lo range.now.hi e) ranges.new.entries ≡ filter (λ e. is_outside range.now.lo range.now.hi e) ranges.old.entries }
     ensures fewer { result ≡ true → length ranges.new.entries < length ranges.old.entries }
