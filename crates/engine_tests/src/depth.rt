@@ -2,9 +2,9 @@
 //! nothing to do.
 ghost use Rattle.std.specs.Prelude.{◌≡◌};
 
+use crate::asked::{SMALL, answers, new_room};
+use crate::crew::{end_alone, only};
 use engine::{Between, Client, Engine, Flusher, Naming, Room, TurnReply};
-use engine_crew::asked::{SMALL, answers, new_room};
-use engine_crew::crew::{end_alone, only};
 use node::{ShapeReport, StepReply};
 use samples::{Ask, Told};
 use std::alloc::Global;

@@ -1,16 +1,43 @@
 //! How an engine ends: with all its clients, or not at all; and each call of a client once.
 ghost use Rattle.std.specs.Prelude.{◌≡◌};
 
+use crate::asked::{SMALL, answers, is, name_of, new_room};
+use crate::crew::{alone, end, only, two_of};
 use engine::{Client, CloseFault, Engine, Naming, Room};
-use engine_crew::asked::{SMALL, answers, is, name_of, new_room};
-use engine_crew::crew::{alone, end, only, two_of};
-use engine_crew::snaps::{Snap, fault_of};
 use pathkey::{Errno, Path};
 use samples::{Ask, Told};
 use std::alloc::Global;
 use std::marker::Brand;
 use std::sync::Wait;
 use std::test::Fail;
+
+/// Keeps the live tree, or drops or restores a snapshot; why not, if it does not.
+#[derive(Clone, Copy)]
+pub enum Snap {
+    Keep,
+    Drop,
+    Restore,
+}
+
+/// Why a call on the snapshot of a name is refused; none where it is done.
+pub fn fault_of<J: Naming, R: Wait>(
+    rt: &R,
+    alloc: Global,
+    client: &mut Client<J>,
+    snap: Snap,
+    text: &str,
+) -> Option<Errno>
+    ensures { client.new.client ≡ client.old.client }
+{
+    let Some(name) = name_of(alloc, text) else {
+        return Some(Errno::ENOMEM);
+    };
+    match snap {
+        Snap::Keep => client.snapshot(rt, alloc, &name).err(),
+        Snap::Drop => client.drop_snapshot(rt, &name).err(),
+        Snap::Restore => client.restore(rt, &name).err(),
+    }
+}
 
 /// What the snapshot of a name answers to a stat; the fault where there is none.
 fn stat_in<J: Naming, R: Wait>(

@@ -3,11 +3,17 @@
 #![tactic(auto)]
 
 #[cfg(test)]
+mod asked;
+#[cfg(test)]
+mod crew;
+#[cfg(test)]
 mod depth;
 #[cfg(test)]
 mod ends;
 #[cfg(test)]
 mod meeting;
+#[cfg(test)]
+mod own;
 #[cfg(test)]
 mod rows;
 #[cfg(test)]

@@ -1,9 +1,9 @@
 //! Two clients that wait for one another's file: threads really share the volume.
 ghost use Rattle.std.specs.Prelude.{◌≡◌};
 
+use crate::asked::{SMALL, answers, is, new_room};
+use crate::crew::{end, two_of};
 use engine::{Client, Engine, Naming, Room};
-use engine_crew::asked::{SMALL, answers, is, new_room};
-use engine_crew::crew::{end, two_of};
 use pathkey::Path;
 use samples::{Ask, Told};
 use std::alloc::Global;

@@ -1,9 +1,9 @@
 //! Two clients and two flushers, each in a thread of its own.
 ghost use Rattle.std.specs.Prelude.{◌≡◌, IfSome};
 
-use engine::{Client, Engine, Naming, Room};
-use engine_crew::asked::{SMALL, answers, new_room};
-use engine_crew::crew::{end, flush_both, two_flushers, two_of};
+use crate::asked::{SMALL, answers, new_room};
+use crate::crew::{end, two_flushers, two_of};
+use engine::{Client, Engine, Flusher, Naming, Room};
 use samples::{Ask, Told};
 use std::alloc::Global;
 use std::marker::Brand;
@@ -84,6 +84,26 @@ fn thousands<J: Naming + Send + Sync, R: Threads + Wait + Sync>(
             ensures { result.0.client ≡ other.client }
         { thousand(rt, alloc, other, "/c1") },
     )
+}
+
+/// So many turns.
+fn flush<J: Naming, R: Wait>(rt: &R, alloc: Global, mut flusher: Flusher<J>, turns: u32) {
+    flusher.run_flusher(rt, alloc, turns);
+}
+
+/// So many turns by each of two flushers.
+pub fn flush_both<J: Naming + Send + Sync, R: Threads + Wait + Sync>(
+    rt: &R,
+    alloc: Global,
+    one: Flusher<J>,
+    other: Flusher<J>,
+    turns: u32,
+) {
+    join(
+        rt,
+        move || flush(rt, alloc, one, turns),
+        move || flush(rt, alloc, other, turns),
+    );
 }
 
 /// Two clients and two flushers at once. Whether each client was answered as the only one on its file, and how many calls there

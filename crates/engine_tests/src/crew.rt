@@ -5,7 +5,6 @@ ghost use Rattle.engine.specs.Clients.{fresh};
 use engine::{Client, Engine, Flusher, Naming, Report};
 use std::alloc::Global;
 use std::sync::Wait;
-use std::thread::{Threads, join};
 
 /// The two clients of an engine that was opened with two.
 pub fn two_of<J: Naming>(mut clients: Vec<Client<J>>) -> Option<(Client<J>, Client<J>)>
@@ -76,24 +75,4 @@ pub fn end_alone<J: Naming, R: Wait>(
 ) -> Option<Report> {
     let clients = alone(alloc, client)?;
     engine.close(rt, clients).ok()
-}
-
-/// So many turns.
-fn flush<J: Naming, R: Wait>(rt: &R, alloc: Global, mut flusher: Flusher<J>, turns: u32) {
-    flusher.run_flusher(rt, alloc, turns);
-}
-
-/// So many turns by each of two flushers.
-pub fn flush_both<J: Naming + Send + Sync, R: Threads + Wait + Sync>(
-    rt: &R,
-    alloc: Global,
-    one: Flusher<J>,
-    other: Flusher<J>,
-    turns: u32,
-) {
-    join(
-        rt,
-        move || flush(rt, alloc, one, turns),
-        move || flush(rt, alloc, other, turns),
-    );
 }

@@ -2,7 +2,7 @@
 ghost use Rattle.std.specs.Prelude.{◌≡◌};
 
 use crate::asked::call_of;
-use crate::snaps::{Snap, fault_of};
+use crate::ends::{Snap, fault_of};
 use engine::{Client, Naming};
 use pathkey::Errno;
 use reference::{Call, Reply};
