@@ -14,10 +14,10 @@ use std::test::Fail;
 use std::thread::{Threads, join};
 
 /// How many calls a client makes beside its first and its last.
-const CALLS: u64 = 498;
+const CALLS: u64 = 49_998;
 
 /// How many turns a flusher makes.
-const TURNS: u32 = 1_000;
+const TURNS: u32 = 100_000;
 
 /// Two clients.
 type Two<J> = (Client<J>, Client<J>);
