@@ -18,7 +18,7 @@ use std::collections::VecDeque;
 
 /// So many messages pay for a pass, which moves all entries, whatever the messages are.
 ///
-/// Measured beside a bisection for each message, in leaves of 100 to 900 entries: a pass is done sooner from 6 to 8 messages on
+/// Measured beside a search for each message, in leaves of 100 to 900 entries: a pass is done sooner from 6 to 8 messages on
 /// where all make or take entries, and from 50 to 100 on where none does. At this number it gains more in the one case than it
 /// loses in the other.
 const FEW: usize = 16;
@@ -204,7 +204,7 @@ fn room_after(entries: usize, msgs: usize, most: usize) -> usize
 
 /// Applies messages to entries, the oldest first, in one pass, and counts them.
 ///
-/// It takes none where they are few, and none where there is no memory for the entries' new place: a search by bisection for
+/// It takes none where they are few, and none where there is no memory for the entries' new place: a search for
 /// each is then the way.
 pub(crate) fn fill_in_one_pass<U: Update>(
     alloc: Global,

@@ -49,7 +49,7 @@ fn find<U: Update>(alloc: Global, node: &Node<U>, key: &Key) -> Result<Option<U:
     }
 }
 
-/// The value of the entry at the key, found by bisection.
+/// The value of the entry at the key, found by a search in strides.
 fn find_entry<U: Update>(
     alloc: Global,
     entries: &[(Key, U::Value)],

@@ -1,11 +1,9 @@
 -- A sorted part with a tail.
-use Rattle.std.proofs.Common.{Option, ◌≡◌, ℕ, zero, suc, ◌-◌, ◌<◌, ◌≤◌, refl, sym, ap, ◌∙◌, List, [], ◌∷◌, ◌++◌, length, take, drop, arith, subst, append_assoc, false, length-append}
-use Rattle.std.proofs.lemmas.Bool.{or_parts, or_from}
-use Rattle.message.proofs.SettledMeaning.{untouched_left, untouched_right}
+use Rattle.std.proofs.Common.{Option, ◌≡◌, ℕ, zero, suc, ◌-◌, ◌<◌, ◌≤◌, refl, sym, ap, ◌∙◌, List, [], ◌∷◌, ◌++◌, length, take, drop, arith, subst, append_assoc, false}
 use Rattle.message.specs.declared.msg.Msg.{Msg}
 use Rattle.message.specs.declared.told.Told.{Told}
 use Rattle.message.specs.declared.told.Told.TheVariants.{Nothing, Value, Change}
-use Rattle.message.specs.Effects.{touches, any_touches, effects, Takes}
+use Rattle.message.specs.Effects.{any_touches, effects, Takes}
 use Rattle.message.specs.Told.{IsTold}
 use Rattle.message.proofs.Lists.{effects-append, any_touches-append, takes-append}
 use Rattle.message.proofs.Telling.{untouched}

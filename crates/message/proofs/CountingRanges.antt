@@ -1,12 +1,12 @@
 -- How many range-deletes a sorted list has.
-use Rattle.std.proofs.Common.{◌≡◌, ℕ, zero, suc, ◌+◌, ◌-◌, ◌≤◌, refl, sym, ap, ◌∙◌, List, [], ◌∷◌, ◌++◌, length, drop, arith, append-nil}
+use Rattle.std.proofs.Common.{◌≡◌, ℕ, zero, suc, ◌+◌, ◌-◌, refl, sym, ap, ◌∙◌, List, [], ◌∷◌, ◌++◌, length, drop, arith, append-nil}
 use Rattle.message.specs.declared.msg.Msg.{Msg}
 use Rattle.message.specs.declared.msg.Msg.TheVariants.{Put as PutMsg, Del as DelMsg, DelRange, Edit as EditMsg}
 use Rattle.message.specs.declared.run.Run.{Run}
 use Rattle.message.specs.declared.run.Run.TheVariants.{Put, Del, Edit, Edits}
 use Rattle.message.specs.Effects.{range_count}
 use Rattle.message.specs.Runs.{later_msgs, run_msgs, run_len}
-use Rattle.message.specs.Settled.{Span, range_msgs, point_msgs, settled_msgs}
+use Rattle.message.specs.Settled.{Span, point_msgs, settled_msgs}
 use Rattle.message.proofs.SettledMeaning.{length-run}
 
 count_none : (U V : Type 0) (n : ℕ) → range_count (drop n (point_msgs {U = U} {V = V} [])) ≡ 0

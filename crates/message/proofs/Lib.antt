@@ -18,5 +18,5 @@ pub mod CountingRanges
 pub mod Telling
 pub mod NextKey
 pub mod StretchEnds
-pub mod Bisecting
+pub mod Searching
 pub mod SortedStretches

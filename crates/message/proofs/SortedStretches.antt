@@ -1,24 +1,22 @@
 -- Where stretches of a sorted list end.
-use Rattle.std.proofs.Common.{◌≡◌, ℕ, zero, suc, ◌<◌, ◌≤◌, ◌⊎◌, inl, inr, Bool, true, false, List, [], ◌∷◌, ◌++◌, length, get_or, refl, ap, sym, ◌∙◌, subst, Option, Some, None, cond, arith, not, append_assoc, Bor}
-use Rattle.std.specs.Prelude.{◌&&◌, ◌||◌, All, Contains, IfSome}
+use Rattle.std.proofs.Common.{◌≡◌, ℕ, ◌⊎◌, inl, inr, Bool, true, false, List, [], ◌∷◌, ◌++◌, get_or, refl, ap, sym, ◌∙◌, subst, Option, Some, None, cond, arith, not, Bor}
+use Rattle.std.specs.Prelude.{◌&&◌, All, Contains, IfSome}
 use Rattle.std.specs.List.{filter}
 use Rattle.std.specs.List.Sorted.{IsStrictlySortedBy}
 use Rattle.std.specs.List.{AllByRecursion}
-use Rattle.std.specs.Map.{keys_of, lookup}
-use Rattle.std.specs.Map.Iter.{TakesFirst}
-use Rattle.std.specs.BTreeMap.{is_at}
+use Rattle.std.specs.Map.{keys_of}
 use Rattle.std.specs.BTreeMap.Range.{range_contains}
 use Rattle.std.specs.declared.ops.Bound.TheVariants.{Excluded, Unbounded}
 use Rattle.message.proofs.RangesApart.{inside_is, found_begins, not_true}
 use Rattle.std.specs.Option.{option_to_list, is_some}
 use Rattle.std.specs.Ordering.{is_lt, is_eq}
-use Rattle.std.specs.declared.cmp.Ordering.TheVariants.{Less, Equal, Greater}
+use Rattle.std.specs.declared.cmp.Ordering.TheVariants.{Less}
 use Rattle.std.proofs.lemmas.Bool.{false_from_ne_true}
 use Rattle.std.proofs.lemmas.Map.Keys.{sorted_head, sorted_tail}
 use Rattle.std.proofs.lemmas.List.Elements.{All-nil, All-push, All-append, Contains-append_left, Contains-append_right}
 use Rattle.pathkey.specs.Order.{by_bytes, same}
 use Rattle.pathkey.specs.Keys.{is_below, next_key}
-use Rattle.pathkey.proofs.OrderFacts.{same_true, same_false, apart}
+use Rattle.pathkey.proofs.OrderFacts.{same_true}
 use Rattle.std.specs.Option.{option_copied}
 use Rattle.message.proofs.NextKey.{one_before_next, before-next, reaches-from_before_next}
 use Rattle.message.specs.declared.msg.Msg.{Msg}
@@ -28,9 +26,9 @@ use Rattle.message.specs.declared.run.Run.TheVariants.{Put, Del, Edit, Edits}
 use Rattle.message.specs.Effects.{touches}
 use Rattle.message.specs.Ranges.{reaches, before, within, earlier_end}
 use Rattle.message.specs.Runs.{run_msgs, later_msgs}
-use Rattle.message.specs.Settled.{Span, AreApart, BeginFrom, ends_by, point_msgs, range_msgs, settled_msgs, look, first_behind, high_ahead, last_where, last_or, range_of}
+use Rattle.message.specs.Settled.{Span, AreApart, ends_by, point_msgs, range_msgs, settled_msgs, look, first_behind, high_ahead, last_where, last_or, range_of}
 use Rattle.message.specs.Stretches.{ahead_of, ActAlike, ends_of, all_ends, IsStretch, EndsAhead}
-use Rattle.message.proofs.KeyOrder.{both, le_le, le_lt, lt_le, reaches-refl, reaches-from_before, reaches-from_not_before, not_before_from_reaches, not_reaches_from_before, before_from_not_reaches, begins_before_end, unlike_later, unlike_earlier, beyond}
+use Rattle.message.proofs.KeyOrder.{both, le_le, le_lt, lt_le, reaches-refl, reaches-from_before, reaches-from_not_before, not_before_from_reaches, not_reaches_from_before, begins_before_end, beyond}
 use Rattle.message.proofs.StretchEnds.{ahead_after, unlike, below_alike, below_both, below_earlier, some_earlier, weaker, all_ends-append}
 use Rattle.message.proofs.SettledMeaning.{split_bool}
 

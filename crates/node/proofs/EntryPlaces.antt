@@ -12,7 +12,7 @@ use Rattle.node.specs.Leaves.{IsCount, IsEntry, IsGap}
 use Rattle.node.proofs.EntryFacts.{first_reaches}
 
 module _ {V : Type 0} where
-  -- what a search by bisection asks of entries that rise
+  -- what a search asks of entries that rise
   pub entries_partitioned : (lo : List ℕ) (hi : Option (List ℕ)) (k : List ℕ) (es : List (List ℕ × V)) → Rises lo hi es → IsPartitionedBy (λ (e : List ℕ × V). before e.0 k) es
   entries_partitioned lo hi k [] r i j d a b h = absurd (omega arith)
   entries_partitioned lo hi k (e ∷ es) r zero zero d a b h = h
@@ -20,7 +20,7 @@ module _ {V : Type 0} where
   entries_partitioned lo hi k (e ∷ es) r (suc i) zero d a b h = absurd (omega arith)
   entries_partitioned lo hi k (e ∷ es) r (suc i) (suc j) d a b h = entries_partitioned e.0 hi k es r.2 i j d (omega arith) (omega arith) h
 
-  -- where a search by bisection ends
+  -- where a search ends
   pub is_count : (k : List ℕ) (es : List (List ℕ × V)) (i : ℕ) → i ≤ length es → IsPartitionPoint (λ (e : List ℕ × V). before e.0 k ≡ true) (λ (e : List ℕ × V). before e.0 k ≡ false) es i → IsCount es (Some k) i
   is_count k es i b p = record { bound = b; earlier = λ j d h. p.0 j d (omega arith) h; others = λ j d h l. p.1 j d h l }
 

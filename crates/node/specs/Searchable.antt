@@ -44,7 +44,7 @@ module _ {U V : Type 0} where
   IsRoot (leaf es) = ⊥
   IsRoot (inner ss) = starts_at [] ss × AreRising ss
 
-  -- pivots and keys rise in the node and in all below, so that slots and entries are found by bisection
+  -- pivots and keys rise in the node and in all below, so that slots and entries are found by a search
   abbrev mutual
     pub IsSearchable : PNode U V → Type 0
     IsSearchable (leaf es) = Rises [] None es

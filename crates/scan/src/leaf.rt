@@ -11,7 +11,7 @@ use node::node::leaf::count_before;
 use pathkey::{Key, NoMemory};
 use std::alloc::Global;
 
-/// The first entry from `lo` up to and without `hi`, found by bisection.
+/// The first entry from `lo` up to and without `hi`, found by a search in strides.
 pub fn first_entry<U: Update>(
     alloc: Global,
     entries: &[(Key, U::Value)],

@@ -13,7 +13,7 @@ use message::{Msg, Update};
 use pathkey::{Key, KeyRange, NoMemory};
 use std::alloc::Global;
 
-/// How many entries stand before the key, found by bisection.
+/// How many entries stand before the key, found by a search in strides.
 pub fn count_before<V>(entries: &[(Key, V)], key: &Key) -> usize
     requires { Rises [] None entries.now }
     ensures { IsCount entries.now (Some key.now) result }

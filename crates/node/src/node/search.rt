@@ -13,7 +13,7 @@ use message::search::count_passing;
 use message::{Changes, Update};
 use pathkey::Key;
 
-/// The number of the slot whose range holds the key, found by bisection.
+/// The number of the slot whose range holds the key, found by a search in strides.
 pub fn slot_of<U: Update>(slots: &[Slot<U>], key: &Key) -> usize
     requires some { 0 < length slots.now }
     requires rising { AreRising (seen_slots slots.now) }

@@ -1,4 +1,4 @@
-use Rattle.std.proofs.Common.{sym, ◌∙◌, ap}
+use Rattle.std.proofs.Common.{◌∙◌, ap}
 use Rattle.std.specs.Option.{option_copied}
 use Rattle.message.specs.Ranges.{earlier_end}
 use Rattle.message.proofs.SortedStretches.{points_stretch}

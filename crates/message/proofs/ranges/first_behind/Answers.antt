@@ -1,4 +1,3 @@
-use Rattle.std.proofs.Common.{sym, ◌∙◌}
 use Rattle.std.specs.Map.Iter.{deref_pair}
 use Rattle.message.proofs.SortedStretches.{behind_none, behind_some}
 use Rattle.message.proofs.ranges.first_behind.Goals as goal

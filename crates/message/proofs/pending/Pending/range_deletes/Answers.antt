@@ -1,4 +1,4 @@
-use Rattle.std.proofs.Common.{rules, ◌≡◌, ◌≤◌, ◌<◌, ◌-◌, ◌+◌, ap, sym, ◌∙◌, arith, drop, length}
+use Rattle.std.proofs.Common.{◌≡◌, ◌≤◌, ◌<◌, ◌-◌, ◌+◌, ap, sym, ◌∙◌, arith, drop, length}
 use Rattle.std.proofs.lemmas.List.{take_rest}
 use Rattle.message.specs.Effects.{range_count}
 use Rattle.message.proofs.Condensing.{drop_parts}

@@ -1,4 +1,4 @@
-use Rattle.std.proofs.Common.{◌≡◌, ◌∙◌, ap, sym, subst, true, false, Some}
+use Rattle.std.proofs.Common.{◌≡◌, ◌∙◌, ap, sym, subst, false}
 use Rattle.std.specs.Prelude.{Contains}
 use Rattle.std.specs.Option.{option_copied, option_map}
 use Rattle.pathkey.specs.Keys.{next_key}
