@@ -49,3 +49,8 @@ on_err_map (Err e) P Q f p = f p
 pub on_ok_map : {A E : Type 0} (r : Result A E) (P Q : Type 0) → (P → Q) → OnOk r P → OnOk r Q
 on_ok_map (Ok a) P Q f p = f p
 on_ok_map (Err e) P Q f p = tt
+
+-- what follows from two facts about a success
+pub on_ok_both : {A E : Type 0} (r : Result A E) (P Q R : Type 0) → (P → Q → R) → OnOk r P → OnOk r Q → OnOk r R
+on_ok_both (Ok a) P Q R f p q = f p q
+on_ok_both (Err e) P Q R f p q = tt

@@ -6,10 +6,12 @@ pub mod Texts
 pub mod Progress
 pub mod Answering
 pub mod Reading
+pub mod Cutting
 pub mod OneAnswer
 pub mod OptionFacts
 pub mod LineExamples
 pub mod ImageEntries
 pub mod ImageLineFacts
 pub mod LoadFacts
+pub mod LoadCutting
 pub mod ImageBlocks

@@ -1,5 +1,5 @@
 -- One line more of an image: what it makes of what was loaded.
-use Rattle.std.proofs.Common.{◌≡◌, ◌≢◌, ◌⊎◌, inl, inr, ⊎_elim, ℕ, ◌+◌, ◌*◌, ◌<◌, ◌≤◌, List, [], ◌∷◌, ◌++◌, length, take, drop, get_or, false, refl, sym, ap, subst, ◌∙◌, arith, append_assoc, append-nil, Option, Some, None, Result, Ok, Err, codes}
+use Rattle.std.proofs.Common.{◌≡◌, ◌≢◌, ◌⊎◌, inl, inr, ⊎_elim, ℕ, ◌+◌, ◌*◌, ◌<◌, ◌≤◌, List, [], ◌∷◌, ◌++◌, length, false, refl, sym, ap, subst, ◌∙◌, arith, append_assoc, append-nil, Option, Some, None, Result, Ok, Err, codes}
 use Rattle.std.specs.Prelude.{IfSome}
 use Rattle.std.specs.declared.cmp.Ordering.TheVariants.{Less}
 use Rattle.std.proofs.lemmas.Bool.{cases_lt, ltb-false, le-ltb}
@@ -32,10 +32,8 @@ use Rattle.volume.specs.Volumes.{PVolume, Means}
 use Rattle.shell.specs.Loads.{alone, text_so_far, lines_so_far, count_so_far, IsLoading, LoadsNext, LoadsLine, MayNotFollow, RefusesLine, HasRead, LoadsPiece, RefusesPiece, LoadsEnd, RefusesEnd, ReadsSoFar, Loaded, LoadsAll, IsBadIn, entry_line, len_of}
 use Rattle.std.specs.Io.KnownBytes.{Consumes, IsAtEnd}
 use Rattle.std.proofs.KnownBytes.{Consumes-nil, Consumes-trans}
-use Rattle.std.proofs.lemmas.List.{take_more}
 use Rattle.shell.proofs.Known.{known_text, known_whole}
-use Rattle.shell.proofs.WordFacts.{parted_at}
-use Rattle.shell.proofs.Progress.{hold_more, holds_nothing}
+use Rattle.shell.proofs.Progress.{holds_nothing}
 use Rattle.shell.specs.Progress.{Holds, IsFree}
 use Rattle.shell.specs.declared.load.LoadFault.{LoadFault}
 use Rattle.shell.specs.declared.load.LoadFault.TheVariants.{Bad}
@@ -220,16 +218,6 @@ nothing_read l means lines last len at = record {
   holds = holds_nothing;
 }
 
--- a byte more of the line that is held
-pub byte_read : (text items new : Text) (byte : ℕ) (l : Loading) → byte ≢ 10 → (length items ≤ 65536 → new ≡ items ++ byte ∷ []) → (65536 < length items → new ≡ items) → HasRead text items l → HasRead (text ++ byte ∷ []) new l
-byte_read text items new byte l other short long h = record {
-  so_far = h.so_far;
-  loading = h.loading;
-  left = h.left ++ byte ∷ [];
-  cut = ap (λ (t : Text). t ++ byte ∷ []) h.cut ∙ append_assoc (text_so_far h.so_far) h.left (byte ∷ []);
-  holds = hold_more h.left items new byte h.holds other short long;
-}
-
 -- what is held is the line, where it is short
 line_is : (left items : Text) → Holds left items → length items ≤ 65536 → items ≡ left
 line_is left items h short = ⊎_elim
@@ -307,21 +295,6 @@ loaded text l h =
       record { lines = h.0; are = h.1.are; is = h.2 },
       record { tree = tree_of_lines h.0; is_tree = m.tree; image_is = m.image_is ∙ sym h.2; means = h.1.means },
     )
-
--- a line that was refused within a piece
-pub piece_bad : (text items piece rest : Text) (i n : ℕ) (l : Loading) → i < length piece → get_or piece i 0 ≡ 10 → n ≡ l.lines + 1 → RefusesLine items l → HasRead (text ++ take i piece) items l → IsBadAt n (text ++ (piece ++ rest))
-piece_bad text items piece rest i n l lt is count refuses h =
-    let cut : text ++ (piece ++ rest) ≡ (text ++ take i piece) ++ 10 ∷ (drop (i + 1) piece ++ rest) =
-    ap (λ (t : Text). text ++ (t ++ rest)) (parted_at piece i 10 lt is)
-    ∙ ap (λ (t : Text). text ++ t) (append_assoc (take i piece) (10 ∷ drop (i + 1) piece) rest)
-    ∙ sym (append_assoc text (take i piece) (10 ∷ (drop (i + 1) piece ++ rest)))
-    in
-    subst (IsBadAt n) (sym cut) (line_bad (text ++ take i piece) items (drop (i + 1) piece ++ rest) n l count refuses h)
-
--- a piece more
-pub one_more : (text piece : Text) (i byte : ℕ) → i < length piece → get_or piece i 0 ≡ byte → text ++ take (i + 1) piece ≡ (text ++ take i piece) ++ byte ∷ []
-one_more text piece i byte lt is =
-    ap (λ (t : Text). text ++ t) (take_more piece i 0 lt ∙ ap (λ (b : ℕ). take i piece ++ b ∷ []) is) ∙ sym (append_assoc text (take i piece) (byte ∷ []))
 
 -- ---- over a reader
 

@@ -1,6 +1,8 @@
--- How a script goes on: byte by byte, line by line, piece by piece, and where it ends.
+-- How a script goes on: line by line, piece by piece, and where it ends.
 use Rattle.std.proofs.Common.{◌≡◌, ◌≢◌, ◌⊎◌, ℕ, ◌+◌, ◌≤◌, ◌<◌, ◌==◌, nat_lt, List, [], ◌∷◌, ◌++◌, length, true, false, refl, sym, ap, ◌∙◌, subst, inl, inr, append_assoc, append-nil, arith, length-append}
+use Rattle.std.specs.List.{All}
 use Rattle.std.proofs.lemmas.Bool.{ne_eqb, cases_lt, lt-ltb}
+use Rattle.std.proofs.lemmas.List.Elements.{All-head, All-tail}
 use Rattle.pathkey.specs.Texts.{onto_first}
 use Rattle.pathkey.specs.declared.errno.Errno.TheVariants.{ENOMEM}
 use Rattle.reference.specs.Worlds.{World}
@@ -11,10 +13,15 @@ use Rattle.shell.specs.Requests.{request_of, IsAsked}
 use Rattle.shell.specs.Script.{Answers, Does, Script, Stopped}
 use Rattle.shell.specs.Progress.{AreFree, FailedIn, Holds, IsFree, Went, last_line, text_of_lines}
 
--- a byte that is no line feed, after a line
-free_more : (l : List ℕ) (x : ℕ) → IsFree l → x ≢ 10 → IsFree (l ++ x ∷ [])
-free_more [] x free ne = (ne, tt)
-free_more (y ∷ l) x free ne = (free.0, free_more l x free.1 ne)
+-- no byte that is a line feed
+free_of : (l : List ℕ) → All (λ b. b ≢ 10) l → IsFree l
+free_of [] all = tt
+free_of (x ∷ l) all = (All-head (λ b. b ≢ 10) x l all, free_of l (All-tail (λ b. b ≢ 10) x l all))
+
+-- more bytes without a line feed, after a line
+free_more : (l more : List ℕ) → IsFree l → IsFree more → IsFree (l ++ more)
+free_more [] more free rest = rest
+free_more (x ∷ l) more free rest = (free.0, free_more l more free.1 rest)
 
 -- one line more without a line feed in it
 pub are_free_more : (ls : List (List ℕ)) (l : List ℕ) → AreFree ls → IsFree l → AreFree (ls ++ l ∷ [])
@@ -119,50 +126,40 @@ does_held held items a b reply holds does = go (cases_lt 65536 (length held))
 pub holds_nothing : Holds [] []
 holds_nothing = record { short = λ _. refl; long = λ h. absurd (omega arith); free = tt }
 
--- one byte more in the line so far
-pub hold_more : (held items new : List ℕ) (byte : ℕ) → Holds held items → byte ≢ 10
-    → (length items ≤ 65536 → new ≡ items ++ byte ∷ []) → (65536 < length items → new ≡ items) → Holds (held ++ byte ∷ []) new
-hold_more held items new byte holds ne short long = record {
+-- more bytes in the line so far
+pub hold_more : (held items new bytes : List ℕ) → Holds held items → All (λ b. b ≢ 10) bytes
+    → (length items + length bytes ≤ 65536 → new ≡ items ++ bytes) → (65536 < length items + length bytes → 65536 < length new) → Holds (held ++ bytes) new
+hold_more held items new bytes holds free short long = record {
   short = λ few.
-      let fewer : length held ≤ 65536 = omega (arith, length-append held (byte ∷ [])) in
-      let is = holds.short fewer in
-      let has : length items ≤ 65536 = rw is fewer in
-      short has ∙ ap (λ l. l ++ byte ∷ []) is;
-  long = λ many. elim (cases_lt 65536 (length items)) [
-    | inl past ↦ rw (long past) past
-    | inr within ↦
-        let e : length new ≡ length items + 1 = rw (short within) (length-append items (byte ∷ [])) in
-        elim (cases_lt 65536 (length held)) [
-          | inl more ↦
-              let past = holds.long more in
-              absurd (omega arith)
-          | inr few ↦
-              let is = holds.short few in
-              let l : length items ≡ length held = ap length is in
-              omega (arith, length-append held (byte ∷ []))
-        ]
-  ];
-  free = free_more held byte holds.free ne;
+      let all : length held + length bytes ≤ 65536 = omega (arith, length-append held bytes) in
+      let is : items ≡ held = holds.short (omega arith) in
+      let same : length items ≡ length held = ap length is in
+      short (omega arith) ∙ ap (λ l. l ++ bytes) is;
+  long = λ many.
+      let all : 65536 < length held + length bytes = omega (arith, length-append held bytes) in
+      elim (cases_lt 65536 (length held)) [
+        | inl past ↦
+            let more = holds.long past in
+            long (omega arith)
+        | inr few ↦
+            let same : length items ≡ length held = ap length (holds.short few) in
+            long (omega arith)
+      ];
+  free = free_more held bytes holds.free (free_of bytes free);
 }
 
--- a byte of the line
-pub went_byte : (held piece : List ℕ) (first after : World) (byte : ℕ) (out left : List ℕ) → Went held piece first out left after → Went held (piece ++ byte ∷ []) first out (left ++ byte ∷ []) after
-went_byte held piece first after byte out left w = record {
+-- where nothing is held, the line begins with these bytes
+pub hold_first : (held items bytes : List ℕ) → Holds held items → All (λ b. b ≢ 10) bytes → length items ≡ 0 → Holds (held ++ bytes) bytes
+hold_first held [] bytes holds free none = hold_more held [] bytes bytes holds free (λ few. refl) (λ many. omega arith)
+hold_first held (x ∷ items) bytes holds free none = absurd (omega arith)
+
+-- bytes of the line
+went_bytes : (held piece bytes : List ℕ) (first after : World) (out left : List ℕ) → Went held piece first out left after → Went held (piece ++ bytes) first out (left ++ bytes) after
+went_bytes held piece bytes first after out left w = record {
   lines = w.lines;
-  cut = sym (append_assoc held piece (byte ∷ [])) ∙ ap (λ l. l ++ byte ∷ []) w.cut ∙ append_assoc (text_of_lines w.lines) left (byte ∷ []);
+  cut = sym (append_assoc held piece bytes) ∙ ap (λ l. l ++ bytes) w.cut ∙ append_assoc (text_of_lines w.lines) left bytes;
   free = w.free;
   did = w.did;
-}
-
--- the line feed, and the line is done
-pub went_line : (held piece : List ℕ) (first before after : World) (out left reply : List ℕ) → Went held piece first out left before → IsFree left
-    → Does before left reply after → Went held (piece ++ 10 ∷ []) first (out ++ reply) [] after
-went_line held piece first before after out left reply w free does = record {
-  lines = w.lines ++ left ∷ [];
-  cut = sym (append_assoc held piece (10 ∷ [])) ∙ ap (λ l. l ++ 10 ∷ []) w.cut ∙ append_assoc (text_of_lines w.lines) left (10 ∷ [])
-      ∙ text_more w.lines left [];
-  free = are_free_more w.lines left w.free free;
-  did = script_then w.lines (left ∷ []) first before after out reply w.did (script_one left before after reply does);
 }
 
 -- no bytes yet
@@ -174,12 +171,44 @@ went_nothing held first = record {
   did = (refl, refl);
 }
 
+-- bytes alone, and no line is done
+pub went_on : (held bytes : List ℕ) (first : World) → Went held bytes first [] (held ++ bytes) first
+went_on held bytes first = went_bytes held [] bytes first first [] held (went_nothing held first)
+
+-- the end of a line and its line feed, and the line is done
+pub went_line : (held end : List ℕ) (first after : World) (reply : List ℕ) → IsFree (held ++ end) → Does first (held ++ end) reply after
+    → Went held (end ++ 10 ∷ []) first reply [] after
+went_line held end first after reply free does = record {
+  lines = (held ++ end) ∷ [];
+  cut = sym (append_assoc held end (10 ∷ [])) ∙ sym (append-nil ((held ++ end) ++ 10 ∷ []));
+  free = (free, tt);
+  did = script_one (held ++ end) first after reply does;
+}
+
+-- and a write failed at its reply
+pub failed_line : (held end : List ℕ) (first after : World) (part rest : List ℕ) → IsFree (held ++ end) → Does first (held ++ end) (part ++ rest) after
+    → FailedIn held (end ++ 10 ∷ []) first part after
+failed_line held end first after part rest free does = record {
+  front = end;
+  more = [];
+  line = held ++ end;
+  before = first;
+  replies = [];
+  part = part;
+  rest = rest;
+  cut = refl;
+  went = went_on held end first;
+  free = free;
+  did_last = does;
+  is = refl;
+}
+
 -- a piece after a text
-pub went_then : (text piece : List ℕ) (first before after : World) (out left more rest : List ℕ) → Went [] text first out left before
-    → Went left piece before more rest after → Went [] (text ++ piece) first (out ++ more) rest after
-went_then text piece first before after out left more rest a b = record {
+pub went_then : (held text piece : List ℕ) (first before after : World) (out left more rest : List ℕ) → Went held text first out left before
+    → Went left piece before more rest after → Went held (text ++ piece) first (out ++ more) rest after
+went_then held text piece first before after out left more rest a b = record {
   lines = a.lines ++ b.lines;
-  cut = ap (λ l. l ++ piece) a.cut ∙ append_assoc (text_of_lines a.lines) left piece ∙ ap (λ l. text_of_lines a.lines ++ l) b.cut
+  cut = sym (append_assoc held text piece) ∙ ap (λ l. l ++ piece) a.cut ∙ append_assoc (text_of_lines a.lines) left piece ∙ ap (λ l. text_of_lines a.lines ++ l) b.cut
       ∙ sym (append_assoc (text_of_lines a.lines) (text_of_lines b.lines) rest) ∙ ap (λ l. l ++ rest) (sym (text_both a.lines b.lines));
   free = free_both a.lines b.lines a.free b.free;
   did = script_then a.lines b.lines first before after out more a.did b.did;
@@ -192,6 +221,30 @@ went_then text piece first before after out left more rest a b = record {
     free_both : (ls ks : List (List ℕ)) → AreFree ls → AreFree ks → AreFree (ls ++ ks)
     free_both [] ks p q = q
     free_both (l ∷ ls) ks p q = (p.0, free_both ls ks p.1 q)
+
+-- a piece in which a write failed, after a text and before another
+pub failed_then : (held text piece later : List ℕ) (first before after : World) (out left written : List ℕ) → Went held text first out left before
+    → FailedIn left piece before written after → FailedIn held ((text ++ piece) ++ later) first (out ++ written) after
+failed_then held text piece later first before after out left written w f = record {
+  front = text ++ f.front;
+  more = f.more ++ later;
+  line = f.line;
+  before = f.before;
+  replies = out ++ f.replies;
+  part = f.part;
+  rest = f.rest;
+  cut = ap (λ p. (text ++ p) ++ later) f.cut ∙ ap (λ t. t ++ later) (sym (append_assoc text f.front (10 ∷ f.more)))
+      ∙ append_assoc (text ++ f.front) (10 ∷ f.more) later;
+  went = went_then held text f.front first before f.before out left f.replies f.line w f.went;
+  free = f.free;
+  did_last = f.did_last;
+  is = ap (λ l. out ++ l) f.is ∙ sym (append_assoc out f.replies f.part);
+}
+
+-- a text that goes on with a line
+pub line_cut : (text front rest end after : List ℕ) → text ≡ front ++ rest → rest ≡ end ++ 10 ∷ after → text ≡ (front ++ (end ++ 10 ∷ [])) ++ after
+line_cut text front rest end after is cut =
+    is ∙ ap (λ t. front ++ t) (cut ∙ sym (append_assoc end (10 ∷ []) after)) ∙ sym (append_assoc front (end ++ 10 ∷ []) after)
 
 -- the lines of a text that was read to its end
 pub script_at_end : (text : List ℕ) (first before after : World) (out left reply : List ℕ) → Went [] text first out left before → IsFree left
@@ -253,7 +306,7 @@ stopped_between text later first after out left w = record {
 pub stopped_in : (text piece later : List ℕ) (first before after : World) (out left written : List ℕ) → Went [] text first out left before
     → FailedIn left piece before written after → Stopped first ((text ++ piece) ++ later) (out ++ written) after
 stopped_in text piece later first before after out left written w f =
-    let both = went_then text f.front first before f.before out left f.replies f.line w f.went in
+    let both = went_then [] text f.front first before f.before out left f.replies f.line w f.went in
     let whole_text : (text ++ piece) ++ later ≡ text_of_lines both.lines ++ (f.line ++ (10 ∷ (f.more ++ later))) =
     ap (λ p. (text ++ p) ++ later) f.cut
     ∙ ap (λ t. t ++ later) (sym (append_assoc text f.front (10 ∷ f.more)))

@@ -83,7 +83,7 @@ reads_more meant means means' had has now old mid kept new items piece new_items
     let (more, after, (rest, holds', went'), m'', wrote') = f held holds before m' in (
       out ++ more,
       after,
-      (text ++ piece, rest, Consumes-trans _ _ _ _ _ read last, holds', went_then text piece first before after out held more rest went went'),
+      (text ++ piece, rest, Consumes-trans _ _ _ _ _ read last, holds', went_then [] text piece first before after out held more rest went went'),
       m'',
       Appends-trans _ _ _ _ _ (Appends-kept _ _ _ _ wrote flushed) wrote',
     )

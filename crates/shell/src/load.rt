@@ -2,7 +2,7 @@
 //!
 //! One line is held at a time, and of a file no block beside the volume's own. Of the lines before, only what decides which line
 //! may follow is kept.
-ghost use Rattle.std.specs.Prelude.{◌≡◌, ◌≢◌, ◌↔◌, ◌≤◌, ◌<◌, ◌+◌, ◌++◌, ◌∷◌, [], ℕ, List, Some, None, Err, false, length, vec_capacity, IfOk, OnOk, OnErr, codes};
+ghost use Rattle.std.specs.Prelude.{◌≡◌, ◌≢◌, ◌↔◌, All, ◌≤◌, ◌<◌, ◌+◌, ◌++◌, ◌∷◌, [], ℕ, List, Some, None, Err, false, length, vec_capacity, IfOk, OnOk, OnErr, codes};
 ghost use Rattle.node.specs.Shapes.{is_shape};
 ghost use Rattle.reference.specs.Tree.{Dir, nothing};
 ghost use Rattle.volume.specs.Volumes.{Means};
@@ -14,7 +14,8 @@ ghost use Rattle.shell.specs.Loads.{HasRead, IsBadIn, LoadsAll, LoadsEnd, LoadsL
 use crate::command::LONGEST_LINE;
 use crate::image_line::{ImageLine, read_image_line};
 use crate::input::read_some;
-use crate::script::{LINE_FEED, PIECE, hold};
+use crate::script::{PIECE, hold};
+use crate::words::cut_line;
 use bytes::Bytes;
 use node::Shape;
 use pathkey::{Errno, NoMemory, Path};
@@ -153,17 +154,35 @@ impl Loading {
         ensures bad { (n : ℕ) → result ≡ Err (LoadFault.Bad n) → RefusesPiece held.old.items piece.now n self.old }
         ensures shape { result ≢ Err LoadFault.Shape }
     {
-        for &byte in piece {
-            if byte == LINE_FEED {
-                let number = self.next_number()?;
-                if let Err(fault) = self.take_line(alloc, held.as_slice(), number) {
-                    return Err(fault);
-                }
-                held.clear();
-            } else {
-                hold(held, byte);
+        let mut rest = piece;
+        while let Some((end, after)) = cut_line(rest) {
+            if let Err(fault) = self.end_line(alloc, held, end) {
+                return Err(fault);
             }
+            rest = after;
         }
+        hold(held, rest);
+        Ok(())
+    }
+
+    /// Loads the line that begins with what is held and ends with `end`. It is copied only where something is held.
+    fn end_line(&mut self, alloc: Global, held: &mut Vec<u8>, end: &[u8]) -> Result<(), LoadFault>
+        requires room { 65536 < vec_capacity held.old }
+        requires free { All (λ b. b ≢ 10) end.now }
+        ensures room { 65536 < vec_capacity held.new }
+        ensures ok { OnOk result (LoadsPiece held.old.items (end.now ++ 10 ∷ []) held.new.items self.old self.new) }
+        ensures bad { (n : ℕ) → result ≡ Err (LoadFault.Bad n) → RefusesPiece held.old.items (end.now ++ 10 ∷ []) n self.old }
+        ensures shape { result ≢ Err LoadFault.Shape }
+    {
+        let number = self.next_number()?;
+        if held.is_empty() {
+            return self.take_line(alloc, end, number);
+        }
+        hold(held, end);
+        if let Err(fault) = self.take_line(alloc, held.as_slice(), number) {
+            return Err(fault);
+        }
+        held.clear();
         Ok(())
     }
 

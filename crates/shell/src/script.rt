@@ -1,5 +1,5 @@
 //! Runs a script: reads it piece by piece, does each line, and writes its reply.
-ghost use Rattle.std.specs.Prelude.{◌≡◌, ◌≢◌, ◌≤◌, ◌<◌, ◌++◌, ℕ, List, [], ◌∷◌, take, length, vec_capacity, vec_len, OnOk, OnErr};
+ghost use Rattle.std.specs.Prelude.{◌≡◌, ◌≢◌, ◌≤◌, ◌<◌, ◌+◌, ◌++◌, ℕ, List, [], ◌∷◌, All, length, vec_capacity, OnOk, OnErr};
 ghost use Rattle.std.specs.Io.KnownBytes.{Appends};
 ghost use Rattle.shell.specs.Parts.{AppendsPart};
 ghost use Rattle.shell.specs.Replies.{reply_text};
@@ -16,6 +16,7 @@ use crate::pace::Pace;
 use crate::reply::{put_fault, write_reply};
 use crate::request::Request;
 use crate::session::Session;
+use crate::words::cut_line;
 use pathkey::Errno;
 use std::alloc::Global;
 use std::io::{Read, Write};
@@ -38,9 +39,6 @@ pub enum ScriptFault {
 
 /// How many bytes are read at a time.
 pub(crate) const PIECE: usize = 65_536;
-
-/// The byte that ends a line.
-pub(crate) const LINE_FEED: u8 = b'\n';
 
 /// Runs all the lines of the reader on the volume, and writes a reply to each as it is done. After each line the pace picks tree
 /// steps; whatever they are, the replies and what the volume means are the same.
@@ -158,26 +156,53 @@ fn take_piece<S: Session, W: Write, P: Pace>(
     ensures err { OnErr result ((held : List ℕ) → Holds held line.old.items → Leads (S.means session.old) (S.means session.new)
         (FailedIn held piece.now) (Appends (W.contents writer.old) (W.contents writer.new))) }
 {
-    for &byte in piece {
-        if byte == LINE_FEED {
-            do_line(alloc, session, line.as_slice(), writer, pace)?;
-            line.clear();
-        } else {
-            hold(line, byte);
-        }
+    let mut rest = piece;
+    while let Some((end, after)) = cut_line(rest) {
+        end_line(alloc, session, line, end, writer, pace)?;
+        rest = after;
     }
+    hold(line, rest);
     Ok(())
 }
 
-// Adds a byte to the line, unless what stands there is too long already.
-pub(crate) fn hold(line: &mut Vec<u8>, byte: u8)
+// Does the line that begins with what is held, `start`, and ends with `end`. It is copied only where something is held.
+fn end_line<S: Session, W: Write, P: Pace>(
+    alloc: Global,
+    session: &mut S,
+    start: &mut Vec<u8>,
+    end: &[u8],
+    writer: &mut W,
+    pace: &mut P,
+) -> Result<(), WriteFailed>
+    requires room { 65536 < vec_capacity start.old }
+    requires free { All (λ b. b ≢ 10) end.now }
+    ensures room { 65536 < vec_capacity start.new }
+    ensures ok { OnOk result ((held : List ℕ) → Holds held start.old.items → Leads (S.means session.old) (S.means session.new)
+        (λ first out after. (left : List ℕ) × Holds left start.new.items × Went held (end.now ++ 10 ∷ []) first out left after)
+        (Appends (W.contents writer.old) (W.contents writer.new))) }
+    ensures err { OnErr result ((held : List ℕ) → Holds held start.old.items → Leads (S.means session.old) (S.means session.new)
+        (FailedIn held (end.now ++ 10 ∷ [])) (Appends (W.contents writer.old) (W.contents writer.new))) }
+{
+    if start.is_empty() {
+        return do_line(alloc, session, end, writer, pace);
+    }
+    hold(start, end);
+    do_line(alloc, session, start.as_slice(), writer, pace)?;
+    start.clear();
+    Ok(())
+}
+
+// Adds bytes to the line, of a line that is too long no more than show that it is.
+pub(crate) fn hold(line: &mut Vec<u8>, bytes: &[u8])
     requires room { 65536 < vec_capacity line.old }
-    ensures held { length line.old.items ≤ 65536 → line.new.items ≡ line.old.items ++ byte ∷ [] }
-    ensures long { 65536 < length line.old.items → line.new.items ≡ line.old.items }
+    ensures short { length line.old.items + length bytes.now ≤ 65536 → line.new.items ≡ line.old.items ++ bytes.now }
+    ensures long { 65536 < length line.old.items + length bytes.now → 65536 < length line.new.items }
     ensures room { 65536 < vec_capacity line.new }
 {
     if line.len() <= LONGEST_LINE {
-        line.push(byte).unwrap();
+        let most = LONGEST_LINE + 1 - line.len();
+        let bytes = &bytes[..bytes.len().min(most)];
+        line.extend_from_slice(bytes).unwrap();
     }
 }
 

@@ -1,4 +1,4 @@
-//! The words of a line, as slices of it.
+//! The lines of a text and the words of a line, as slices.
 ghost use Rattle.std.specs.Prelude.{◌≡◌, ◌≢◌, ◌++◌, ◌<◌, [], ◌∷◌, All, MatchOption, length, take, option_map, slice_index};
 ghost use Rattle.shell.specs.Lines.{at_sign, words_of};
 
@@ -12,12 +12,28 @@ pub fn cut_word(line: &[u8]) -> Option<(&[u8], &[u8])>
     Some((word, &rest[1..]))
 }
 
+/// The first line of a text, and what follows its line feed; none where the text has none.
+pub fn cut_line(text: &[u8]) -> Option<(&[u8], &[u8])>
+    ensures { MatchOption result (All (λ b. b ≢ 10) text.now)
+        (λ cut. (text.now ≡ cut.0.now ++ 10 ∷ cut.1.now) × All (λ b. b ≢ 10) cut.0.now) }
+{
+    cut_at(text, b'\n')
+}
+
 /// A text before and behind its first space; none where it has none.
 pub fn cut_space(text: &[u8]) -> Option<(&[u8], &[u8])>
     ensures { MatchOption result (All (λ b. b ≢ 32) text.now)
         (λ cut. (text.now ≡ cut.0.now ++ 32 ∷ cut.1.now) × All (λ b. b ≢ 32) cut.0.now) }
 {
-    let end = place_of(text, b' ')?;
+    cut_at(text, b' ')
+}
+
+// A text before and behind the first byte that is this one.
+fn cut_at(text: &[u8], wanted: u8) -> Option<(&[u8], &[u8])>
+    ensures { MatchOption result (All (λ b. b ≢ wanted) text.now)
+        (λ cut. (text.now ≡ cut.0.now ++ wanted ∷ cut.1.now) × All (λ b. b ≢ wanted) cut.0.now) }
+{
+    let end = place_of(text, wanted)?;
     let (front, rest) = text.split_at(end);
     Some((front, &rest[1..]))
 }

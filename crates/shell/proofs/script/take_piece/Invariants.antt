@@ -1,13 +1,13 @@
-use Rattle.std.proofs.Common.{◌<◌, ℕ, List, take, vec_capacity}
-use Rattle.std.specs.Io.KnownBytes.{Appends}
-use Rattle.shell.specs.Runs.{Leads}
-use Rattle.shell.specs.Progress.{Holds, Went}
+use Rattle.std.proofs.Common.{◌<◌, length, vec_capacity}
+use Rattle.shell.proofs.Cutting.{TakesFront}
 use Rattle.shell.proofs.script.take_piece.Given as goal
 
-abbrev pub invariant-loop-byte : goal.invariant-loop-byte
-invariant-loop-byte g l = record {
+abbrev pub invariant-loop-end : goal.invariant-loop-end
+invariant-loop-end g l = record {
   room : 65536 < vec_capacity l.line;
-  went : (held : List ℕ) → Holds held l.initial.line.items → Leads (g.S.Session.means l.initial.session) (g.S.Session.means l.session)
-      (λ first out after. (left : List ℕ) × Holds left l.line.items × Went held (take l.byte-index l.piece) first out left after)
-      (Appends (g.W.Write.contents l.initial.writer) (g.W.Write.contents l.writer));
+  takes : TakesFront (g.S.Session.means l.initial.session) (g.S.Session.means l.session) (g.W.Write.contents l.initial.writer) (g.W.Write.contents l.writer)
+      l.piece l.rest l.initial.line.items l.line.items;
 }
+
+abbrev pub decreases-loop-end : goal.decreases-loop-end
+decreases-loop-end g l = length l.rest

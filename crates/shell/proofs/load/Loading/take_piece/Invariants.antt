@@ -1,9 +1,12 @@
-use Rattle.std.proofs.Common.{◌<◌, take, vec_capacity}
-use Rattle.shell.specs.Loads.{LoadsPiece}
+use Rattle.std.proofs.Common.{◌<◌, length, vec_capacity}
+use Rattle.shell.proofs.LoadCutting.{LoadsFront}
 use Rattle.shell.proofs.load.Loading.take_piece.Given as goal
 
-abbrev pub invariant-loop-byte : goal.invariant-loop-byte
-invariant-loop-byte l = record {
+abbrev pub invariant-loop-end : goal.invariant-loop-end
+invariant-loop-end l = record {
   room : 65536 < vec_capacity l.held;
-  read : LoadsPiece l.initial.held.items (take l.byte-index l.piece) l.held.items l.initial.self l.self;
+  loads : LoadsFront l.piece l.rest l.initial.held.items l.held.items l.initial.self l.self;
 }
+
+abbrev pub decreases-loop-end : goal.decreases-loop-end
+decreases-loop-end l = length l.rest
