@@ -1,0 +1,66 @@
+//! Flushers that make turns, without a pause, until they are told to stop.
+use engine::{Between, Flusher, Naming, TurnReply};
+use std::alloc::Global;
+use std::sync::Wait;
+use std::sync::atomic::{AtomicBool, AtomicU64, Ordering};
+use std::thread::Scope;
+
+/// What flushers are told, and what they made.
+#[derive(Drop)]
+pub struct Watch {
+    /// Whether they have to stop.
+    pub stop: AtomicBool,
+    /// How many turns they made.
+    pub turns: AtomicU64,
+    /// How many of them were steps.
+    pub steps: AtomicU64,
+}
+
+impl Watch {
+    /// No turn was made.
+    pub fn new() -> Watch {
+        Watch {
+            stop: AtomicBool::new(false),
+            turns: AtomicU64::new(0),
+            steps: AtomicU64::new(0),
+        }
+    }
+}
+
+/// Nothing between two turns.
+#[derive(Drop)]
+struct Nothing;
+
+impl Between for Nothing {
+    fn between(&mut self) {}
+}
+
+/// Starts a flusher in a thread of its own, if there is one.
+pub fn start<'s, E, J: Naming + Send + Sync + 's, H: Wait + Sync>(
+    scope: &Scope<'s, E>,
+    rt: &'s H,
+    alloc: Global,
+    flusher: Flusher<J>,
+    watch: &'s Watch,
+) {
+    let _ = scope.spawn(move || flush(rt, alloc, flusher, watch));
+}
+
+/// Turns until it has to stop.
+fn flush<J: Naming, H: Wait>(rt: &H, alloc: Global, mut flusher: Flusher<J>, watch: &Watch) {
+    for _ in 0..u64::MAX {
+        if watch.stop.load(Ordering::Relaxed) {
+            return;
+        }
+        turn(rt, alloc, &mut flusher, watch);
+    }
+}
+
+/// One turn.
+fn turn<J: Naming, H: Wait>(rt: &H, alloc: Global, flusher: &mut Flusher<J>, watch: &Watch) {
+    let reply = flusher.turn(rt, alloc, &mut Nothing);
+    watch.turns.fetch_add(1, Ordering::Relaxed);
+    if matches!(reply, TurnReply::Stepped(_)) {
+        watch.steps.fetch_add(1, Ordering::Relaxed);
+    }
+}

@@ -1,0 +1,158 @@
+//! The work: each client makes the files of a directory of its own, writes a few bytes to each, and asks for each.
+use bytes::Bytes;
+use engine::{Client, Naming};
+use pathkey::Path;
+use reference::{Call, Reply};
+use std::alloc::Global;
+use std::sync::Wait;
+use volume::Volume;
+
+/// How many bytes a write has.
+const LEN: u64 = 16;
+
+/// What is written.
+const TEXT: [u8; 16] = [0x5a; 16];
+
+/// A kind of call.
+#[derive(Clone, Copy)]
+pub enum Kind {
+    /// Makes the client's directory.
+    Mkdir,
+    /// Makes a file.
+    Create,
+    /// Writes to a file.
+    Write,
+    /// Asks for a file.
+    Stat,
+}
+
+/// A directory of its own for each client, with as many files as each other, a power of two.
+#[derive(Clone, Copy)]
+pub struct Share {
+    /// The client's number.
+    pub client: usize,
+    /// How many files it makes.
+    pub files: u64,
+}
+
+/// What calls are made on.
+pub trait Store {
+    /// Whether a call is answered as it has to be here.
+    fn is_done<R: Wait>(&mut self, rt: &R, alloc: Global, call: &Call) -> bool;
+}
+
+/// Whether this is the reply that a call has to get here.
+fn is_right(reply: &Reply) -> bool {
+    match reply {
+        Reply::Done => true,
+        Reply::Count(count) => *count == LEN,
+        Reply::Stat(_, len) => *len == LEN,
+        _ => false,
+    }
+}
+
+impl Store for Volume {
+    fn is_done<R: Wait>(&mut self, _rt: &R, alloc: Global, call: &Call) -> bool {
+        let reply = self.call(alloc, call);
+        is_right(&reply)
+    }
+}
+
+/// A volume that does a step after each call.
+#[derive(Drop)]
+pub struct Relieved {
+    /// The volume.
+    pub volume: Volume,
+}
+
+impl Store for Relieved {
+    fn is_done<R: Wait>(&mut self, rt: &R, alloc: Global, call: &Call) -> bool {
+        let is_done = self.volume.is_done(rt, alloc, call);
+        self.volume.relieve(alloc);
+        is_done
+    }
+}
+
+impl<J: Naming> Store for Client<J> {
+    fn is_done<R: Wait>(&mut self, rt: &R, alloc: Global, call: &Call) -> bool {
+        let reply = self.call(rt, alloc, call);
+        is_right(&reply)
+    }
+}
+
+impl Share {
+    /// The path of the directory, made and parsed as text.
+    fn directory(self, alloc: Global) -> Option<Path> {
+        let client = self.client;
+        parse(alloc, &format!(in alloc; "/c{client}").ok()?)
+    }
+
+    /// The path of a file. Neighbours in number lie far apart, and each file has one number.
+    fn file(self, alloc: Global, number: u64) -> Option<Path> {
+        let client = self.client;
+        let number = number
+            .wrapping_mul(0x9E37_79B9_7F4A_7C15)
+            .checked_rem(self.files)?;
+        parse(alloc, &format!(in alloc; "/c{client}/f{number}").ok()?)
+    }
+
+    /// A call of that kind, on the file of that number where it is one on files.
+    fn call(self, alloc: Global, kind: Kind, number: u64) -> Option<Call> {
+        match kind {
+            Kind::Mkdir => Some(Call::Mkdir(self.directory(alloc)?)),
+            Kind::Create => Some(Call::Create(self.file(alloc, number)?)),
+            Kind::Write => write_call(alloc, self.file(alloc, number)?),
+            Kind::Stat => Some(Call::Stat(self.file(alloc, number)?)),
+        }
+    }
+}
+
+/// How many calls of a kind are made for so many files.
+pub fn calls_of(kind: Kind, files: u64) -> u64 {
+    match kind {
+        Kind::Mkdir => 1,
+        _ => files,
+    }
+}
+
+/// The path of a text.
+fn parse(alloc: Global, text: &String) -> Option<Path> {
+    Path::parse(alloc, text.as_bytes()).ok()
+}
+
+/// The call that writes to a file.
+fn write_call(alloc: Global, path: Path) -> Option<Call> {
+    let bytes = Bytes::copy_from_slice(alloc, &TEXT).ok()?;
+    Some(Call::Write(path, 0, bytes))
+}
+
+/// Makes a call; whether it was answered as it has to be.
+fn does<S: Store, R: Wait>(
+    rt: &R,
+    alloc: Global,
+    store: &mut S,
+    share: Share,
+    kind: Kind,
+    number: u64,
+) -> bool {
+    match share.call(alloc, kind, number) {
+        Some(call) => store.is_done(rt, alloc, &call),
+        None => false,
+    }
+}
+
+/// Makes all calls of a kind; how many were answered as they have to be.
+pub fn do_share<S: Store, R: Wait>(
+    rt: &R,
+    alloc: Global,
+    store: &mut S,
+    share: Share,
+    kind: Kind,
+) -> u64 {
+    let mut done = 0u64;
+    for number in 0..calls_of(kind, share.files) {
+        let is_done = does(rt, alloc, store, share, kind, number);
+        done = done.wrapping_add(u64::from(is_done));
+    }
+    done
+}
