@@ -20,6 +20,8 @@ use Rattle.block_index.specs.contracts.update.BlockUpdate as block_update
 use Rattle.block_index.specs.contracts.block.Block as block
 use Rattle.node.specs.contracts.node.Node as node
 use Rattle.node.specs.contracts.tree.Tree as tree
+use Rattle.jobs.specs.contracts.marks.Marks as marks
+use Rattle.volume.specs.contracts.live.Live as live
 use Rattle.volume.specs.contracts.volume.Volume as volume
 use denote.RattleType.{RattleType}
 use Rattle.engine.specs.declared.rule.Naming as naming
@@ -69,8 +71,14 @@ indexes_send = recorded_send indexes.the_field.row _ _ indexes.the_type.to_one i
 snapshots_send : IsSend snapshots.the_row
 snapshots_send = search (indexes_send, maps.the_send, names.the_send, sendable, crosses) depth 20
 
+marks_send : IsSend marks.the_row
+marks_send = search (keys.the_send, sendable, crosses) depth 20
+
+live_send : IsSend live.the_row
+live_send = search (indexes_field_send, marks_send, sendable, crosses) depth 20
+
 pub volume_send : IsSend volume.the_row
-volume_send = search (indexes_field_send, snapshots_send, sendable, crosses) depth 20
+volume_send = search (live_send, snapshots_send, sendable, crosses) depth 20
 
 module _ (J : RattleType) (g : naming.Ghosts J.Denot) where
   desk_inside_send : IsSend (desk_inside.the_row J g)

@@ -4,6 +4,7 @@ use Rattle.std.specs.FinMap as finite
 use Rattle.atomic_table.specs.Seated.{TableId}
 use Rattle.call_compiler.specs.declared.indexes.Indexes.{Indexes}
 use Rattle.node.specs.Pure.{PTree, empty_root}
+use Rattle.volume.specs.Marked.{no_marks}
 use Rattle.volume.specs.Volumes.{PVolume}
 
 abbrev pub no_table : TableId
@@ -16,4 +17,4 @@ abbrev pub no_indexes : Indexes
 no_indexes = record { meta = record { tree = no_tree }; block = record { tree = no_tree } }
 
 abbrev pub no_volume : PVolume
-no_volume = record { live = no_indexes; snapshots = finite.empty }
+no_volume = record { live = no_indexes; snapshots = finite.empty; marks = no_marks 0 }

@@ -1,5 +1,5 @@
 -- From what a call did to a volume to what it means: the answer fits each world that was meant, and the next one is meant.
-use Rattle.std.proofs.Common.{◌≡◌, ℕ, ◌+◌, ◌<◌, ◌≤◌, List, Bool, true, false, cond, refl, sym, ap, subst, ◌∙◌, inl, inr, Option, Some, None, Ok, Err, arith, ◌-◌}
+use Rattle.std.proofs.Common.{◌≡◌, ℕ, ◌+◌, ◌<◌, ◌≤◌, List, Bool, true, false, cond, refl, sym, ap, subst, ◌∙◌, inl, inr, Option, Some, None, Ok, Err, arith, ◌-◌, [], ◌∷◌}
 use Rattle.std.specs.Prelude.{IsOk, IfSome, IfNone}
 use Rattle.std.specs.Result.{IsErrAnd}
 use Rattle.std.specs.FinMap as finite
@@ -16,20 +16,47 @@ use Rattle.reference.specs.declared.reply.Reply.{Reply}
 use Rattle.reference.specs.declared.reply.Reply.TheVariants.{Fault}
 use Rattle.reference.proofs.NeverLacks.{no_lack}
 use Rattle.reference.proofs.Snapshots.{takes, takes_no_more, drops}
+use Rattle.jobs.specs.Marks.{PMarked, Each, KeepsContent}
+use Rattle.jobs.specs.declared.mark.Mark.{Mark}
+use Rattle.node.specs.Pure.{PTree}
+use Rattle.node.specs.Steps.{UnlessDid}
+use Rattle.node.specs.declared.place.TreeStep.{TreeStep}
+use Rattle.node.specs.declared.step.StepReply.TheVariants.{Did, NotThere as StepNotThere, NoRoom as StepNoRoom, NoMemory as StepNoMemory}
+use Rattle.volume.specs.Jobs.{AnswersTaking, SameValues, Takes}
+use Rattle.volume.specs.Marked.{PLive, Keeps, KeepsMarks, meta_marked, block_marked, marks_left, no_marks}
+use Rattle.volume.specs.declared.job.Job.{Job}
+use Rattle.volume.specs.declared.job.Job.TheVariants.{Meta as MetaJob, Block as BlockJob}
+use Rattle.volume.specs.declared.job.TakeReply.{TakeReply}
+use Rattle.volume.specs.declared.job.TakeReply.TheVariants.{Taken, NotThere, NoRoom, NoMemory}
 use Rattle.volume.specs.declared.event.Index.{Index}
+use Rattle.volume.specs.declared.event.Index.TheVariants.{Meta, Block}
 use Rattle.volume.specs.declared.event.Relief.{Relief}
 use Rattle.volume.specs.declared.event.Step.{Step}
 use Rattle.node.specs.declared.step.StepReply.{StepReply}
 use Rattle.call_compiler.specs.Compiled.{no_messages, MeanTree}
 use Rattle.call_compiler.proofs.Compiling.{nothing_sent}
-use Rattle.volume.specs.Volumes.{Kept, PVolume, Alike, Means, IsVolume}
-use Rattle.volume.specs.Changes.{Leads, Does, Batched, Called, Settles, KeptAs, Dropped, Restored, StepsIn, Stepped}
+use Rattle.volume.specs.Volumes.{Kept, PVolume, Alike, Means, IsVolume, live_of}
+use Rattle.volume.specs.Changes.{Leads, Does, Batched, Called, Settles, KeptAs, Dropped, Restored, StepsLive, Stepped}
 use Rattle.volume.proofs.Pairs.{same_names, alike_insert, alike_remove, found_alike, same_len}
-use Rattle.volume.proofs.Trees.{tree_kept, step_same, unless_then}
+use Rattle.volume.proofs.Trees.{tree_kept, tree_same_values, step_same, unless_then}
 
 -- a volume of these parts
-abbrev pub volume : Indexes → Kept → PVolume
-volume i m = record { live = i; snapshots = m }
+abbrev pub volume : PLive → Kept → PVolume
+volume l m = record { live = l.indexes; snapshots = m; marks = l.marks }
+
+-- where nothing changes, each mark keeps its content
+pub kept_all : (l : PLive) → KeepsMarks l l
+kept_all l = record { meta = whole (meta_marked l); block = whole (block_marked l); given = omega arith }
+  where
+    each : {U V : Type 0} (means : U → Option V → Option V) (t : PTree U V) (ms : List Mark) → Each (KeepsContent means t t) ms
+    each means t [] = tt
+    each means t (m ∷ ms) = (λ c h. h, each means t ms)
+
+    whole : {U V : Type 0} {means : U → Option V → Option V} (m : PMarked U V) → Keeps means m m
+    whole {means} m = record { content = each means m.tree m.marks; fits = λ t c lt h. h }
+
+pub kept_same : (l m : PLive) → m ≡ l → KeepsMarks l m
+kept_same l m e = subst (λ (x : PLive). KeepsMarks l x) (sym e) (kept_all l)
 
 -- the type of volumes keeps what it keeps
 pub lasts : (old new : PVolume) (e : Event) (a : Answer) → IsVolume old → Leads e a old new → finite.len new.snapshots ≤ 64 → IsVolume new
@@ -37,27 +64,35 @@ lasts old new e a is leads few = record { world = next is.world e a; means = (le
 
 -- ---- file calls
 
-pub called : (v : PVolume) (c : Call) (r : Reply) (i : Indexes) → Does c r v.live i → Leads (Ask c) (Replied r) v (volume i v.snapshots)
-called v c r i does_it w m =
-    let d : (r ≡ (does w.live c).1) × MeanTree i (does w.live c).0 = does_it w.live m.live in
+pub called : (v : PVolume) (c : Call) (r : Reply) (l : PLive) → Does c r v.live l.indexes → Leads (Ask c) (Replied r) v (volume l v.snapshots)
+called v c r l does_it w m =
+    let d : (r ≡ (does w.live c).1) × MeanTree l.indexes (does w.live c).0 = does_it w.live m.live in
     let given : is_lack (Replied r) ≡ false = ap (λ (x : Reply). is_lack (Replied x)) d.0 ∙ no_lack w.live c in
-    let there : Means (volume i v.snapshots) (outcome w (Ask c)).0 = record { live = d.1; snapshots = m.snapshots } in
-    (inl (ap Replied d.0), subst (λ (b : Bool). Means (volume i v.snapshots) (cond b w (outcome w (Ask c)).0)) (sym given) there)
+    let there : Means (volume l v.snapshots) (outcome w (Ask c)).0 = record { live = d.1; snapshots = m.snapshots } in
+    (inl (ap Replied d.0), subst (λ (b : Bool). Means (volume l v.snapshots) (cond b w (outcome w (Ask c)).0)) (sym given) there)
 
-pub lacks_call : (v : PVolume) (c : Call) (i : Indexes) → i ≡ v.live → Called c (Fault ENOMEM) v (volume i v.snapshots)
-lacks_call v c i e = record {
-  leads = λ w m. (inr refl, subst (λ (j : Indexes). Means (volume j v.snapshots) w) (sym e) m);
-  refused = λ x h. ap (λ (j : Indexes). volume j v.snapshots) e;
-  batch = record { msgs = no_messages; sends = nothing_sent v.live c; meta = ap (λ (j : Indexes). j.meta.tree) e; block = ap (λ (j : Indexes). j.block.tree) e };
+pub lacks_call : (v : PVolume) (c : Call) (l : PLive) → l ≡ live_of v → Called c (Fault ENOMEM) v (volume l v.snapshots)
+lacks_call v c l e = record {
+  leads = λ w m. (inr refl, subst (λ (k : PLive). Means (volume k v.snapshots) w) (sym e) m);
+  refused = λ x h. ap (λ (k : PLive). volume k v.snapshots) e;
+  batch = record { msgs = no_messages; sends = nothing_sent v.live c; meta = ap (λ (k : PLive). k.indexes.meta.tree) e; block = ap (λ (k : PLive). k.indexes.block.tree) e };
   snapshots = refl;
+  marks = ap (λ (k : PLive). k.marks) e;
+  kept = kept_same (live_of v) l e;
 }
 
-pub call_done : (v : PVolume) (c : Call) (r : Reply) (i : Indexes) → Does c r v.live i → ((e : Errno) → r ≡ Fault e → i ≡ v.live) → Batched c v.live i → Called c r v (volume i v.snapshots)
-call_done v c r i does_it refused batch = record {
-  leads = called v c r i does_it;
-  refused = λ e h. ap (λ (j : Indexes). volume j v.snapshots) (refused e h);
+-- live indexes whose marks stayed
+pub same_live : (a b : PLive) → b.indexes ≡ a.indexes → b.marks ≡ a.marks → b ≡ a
+same_live a b i m = λ k. record { indexes = i k; marks = m k }
+
+pub call_done : (v : PVolume) (c : Call) (r : Reply) (l : PLive) → Does c r v.live l.indexes → ((e : Errno) → r ≡ Fault e → l.indexes ≡ v.live) → Batched c v.live l.indexes → l.marks ≡ v.marks → KeepsMarks (live_of v) l → Called c r v (volume l v.snapshots)
+call_done v c r l does_it refused batch marks kept = record {
+  leads = called v c r l does_it;
+  refused = λ e h. ap (λ (k : PLive). volume k v.snapshots) (same_live (live_of v) l (refused e h) marks);
   batch = batch;
   snapshots = refl;
+  marks = marks;
+  kept = kept;
 }
 
 -- ---- snapshot calls
@@ -79,24 +114,24 @@ takes_one v s n w m =
     let few : finite.len w.snapshots < 64 = subst (λ (k : ℕ). k < 64) (same_len MeanTree v.snapshots w.snapshots m.snapshots) n.few in
     takes w.live w.snapshots s (sym (same_names MeanTree v.snapshots w.snapshots m.snapshots s) ∙ n.new) (lt-leb 64 (finite.len w.snapshots) few)
 
-taken : (v : PVolume) (s : List ℕ) (kept : Kept) → IsNewName v s → kept ≡ finite.insert v.snapshots s v.live → Leads (TakeSnapshot s) (Settled (Ok tt)) v (volume v.live kept)
+taken : (v : PVolume) (s : List ℕ) (kept : Kept) → IsNewName v s → kept ≡ finite.insert v.snapshots s v.live → Leads (TakeSnapshot s) (Settled (Ok tt)) v (volume (live_of v) kept)
 taken v s kept n e w m =
-    fits_as (volume v.live kept) w (record w { snapshots = finite.insert w.snapshots s w.live }) (TakeSnapshot s) (Ok tt) (ap settled (takes_one v s n w m)) refl (record {
+    fits_as (volume (live_of v) kept) w (record w { snapshots = finite.insert w.snapshots s w.live }) (TakeSnapshot s) (Ok tt) (ap settled (takes_one v s n w m)) refl (record {
       live = m.live;
       snapshots = subst (λ (k : Kept). Alike MeanTree k (finite.insert w.snapshots s w.live)) (sym e) (alike_insert MeanTree v.snapshots w.snapshots s v.live w.live m.snapshots m.live);
     })
 
-pub snapshot_taken : (v : PVolume) (s : List ℕ) (kept : Kept) → finite.contains_key v.snapshots s ≡ false → finite.len v.snapshots < 64 → kept ≡ finite.insert v.snapshots s v.live → Settles (TakeSnapshot s) (KeptAs s) (Ok tt) v (volume v.live kept)
-snapshot_taken v s kept new few e = record { leads = taken v s kept (record { new = new; few = few }) e; done = ap (volume v.live) e; refused = tt }
+pub snapshot_taken : (v : PVolume) (s : List ℕ) (kept : Kept) → finite.contains_key v.snapshots s ≡ false → finite.len v.snapshots < 64 → kept ≡ finite.insert v.snapshots s v.live → Settles (TakeSnapshot s) (KeptAs s) (Ok tt) v (volume (live_of v) kept)
+snapshot_taken v s kept new few e = record { leads = taken v s kept (record { new = new; few = few }) e; done = ap (volume (live_of v)) e; refused = tt; kept = kept_all (live_of v) }
 
 one_more : (m : Kept) (s : List ℕ) (i : Indexes) → finite.contains_key m s ≡ false → finite.len m < 64 → finite.len (finite.insert m s i) ≤ 64
 one_more m s i new few =
     let l : finite.len (finite.insert m s i) ≡ finite.len m + 1 = finite.len-insert nat_list_cmp_total m s i ∙ ap (λ (b : Bool). cond b (finite.len m) (finite.len m + 1)) new in
     omega (arith, l, few)
 
-pub snapshot_lasts : (v : PVolume) (s : List ℕ) (kept : Kept) → IsVolume v → finite.contains_key v.snapshots s ≡ false → finite.len v.snapshots < 64 → kept ≡ finite.insert v.snapshots s v.live → IsVolume (volume v.live kept)
+pub snapshot_lasts : (v : PVolume) (s : List ℕ) (kept : Kept) → IsVolume v → finite.contains_key v.snapshots s ≡ false → finite.len v.snapshots < 64 → kept ≡ finite.insert v.snapshots s v.live → IsVolume (volume (live_of v) kept)
 snapshot_lasts v s kept is new few e =
-    lasts v (volume v.live kept) (TakeSnapshot s) (Settled (Ok tt)) is (taken v s kept (record { new = new; few = few }) e)
+    lasts v (volume (live_of v) kept) (TakeSnapshot s) (Settled (Ok tt)) is (taken v s kept (record { new = new; few = few }) e)
     (subst (λ (k : Kept). finite.len k ≤ 64) (sym e) (one_more v.snapshots s v.live new few))
 
 pub snapshot_full : (v : PVolume) (s : List ℕ) → finite.contains_key v.snapshots s ≡ false → 64 ≤ finite.len v.snapshots → Settles (TakeSnapshot s) (KeptAs s) (Err ENOSPC) v v
@@ -106,6 +141,7 @@ snapshot_full v s new many = record {
       fits_as v w w (TakeSnapshot s) (Err ENOSPC) (ap settled (takes_no_more w.live w.snapshots s (sym (same_names MeanTree v.snapshots w.snapshots m.snapshots s) ∙ new) (le-leb 64 (finite.len w.snapshots) full))) refl m;
   done = tt;
   refused = refl;
+  kept = kept_all (live_of v);
 }
 
 pub snapshot_lacks : (v now : PVolume) (s : List ℕ) → finite.contains_key v.snapshots s ≡ false → finite.len v.snapshots < 64 → now ≡ v → Settles (TakeSnapshot s) (KeptAs s) (Err ENOMEM) v now
@@ -113,35 +149,36 @@ snapshot_lacks v now s new few e = record {
   leads = λ w m. (inr (refl, subst (λ (o : World × Snapped). IsOk o.1) (sym (takes_one v s (record { new = new; few = few }) w m)) refl), subst (λ (x : PVolume). Means x w) (sym e) m);
   done = tt;
   refused = e;
+  kept = subst (λ (x : PVolume). KeepsMarks (live_of v) (live_of x)) (sym e) (kept_all (live_of v));
 }
 
-dropped : (v : PVolume) (s : List ℕ) (kept : Kept) → finite.contains_key v.snapshots s ≡ true → kept ≡ finite.remove v.snapshots s → Leads (DropSnapshot s) (Settled (Ok tt)) v (volume v.live kept)
+dropped : (v : PVolume) (s : List ℕ) (kept : Kept) → finite.contains_key v.snapshots s ≡ true → kept ≡ finite.remove v.snapshots s → Leads (DropSnapshot s) (Settled (Ok tt)) v (volume (live_of v) kept)
 dropped v s kept old e w m =
-    fits_as (volume v.live kept) w (record w { snapshots = finite.remove w.snapshots s }) (DropSnapshot s) (Ok tt) (ap settled (drops w.live w.snapshots s (sym (same_names MeanTree v.snapshots w.snapshots m.snapshots s) ∙ old))) refl (record {
+    fits_as (volume (live_of v) kept) w (record w { snapshots = finite.remove w.snapshots s }) (DropSnapshot s) (Ok tt) (ap settled (drops w.live w.snapshots s (sym (same_names MeanTree v.snapshots w.snapshots m.snapshots s) ∙ old))) refl (record {
       live = m.live;
       snapshots = subst (λ (k : Kept). Alike MeanTree k (finite.remove w.snapshots s)) (sym e) (alike_remove MeanTree v.snapshots w.snapshots s m.snapshots);
     })
 
-pub snapshot_dropped : (v : PVolume) (s : List ℕ) (kept : Kept) → finite.contains_key v.snapshots s ≡ true → kept ≡ finite.remove v.snapshots s → Settles (DropSnapshot s) (Dropped s) (Ok tt) v (volume v.live kept)
-snapshot_dropped v s kept old e = record { leads = dropped v s kept old e; done = ap (volume v.live) e; refused = tt }
+pub snapshot_dropped : (v : PVolume) (s : List ℕ) (kept : Kept) → finite.contains_key v.snapshots s ≡ true → kept ≡ finite.remove v.snapshots s → Settles (DropSnapshot s) (Dropped s) (Ok tt) v (volume (live_of v) kept)
+snapshot_dropped v s kept old e = record { leads = dropped v s kept old e; done = ap (volume (live_of v)) e; refused = tt; kept = kept_all (live_of v) }
 
 one_less : (m : Kept) (s : List ℕ) → finite.contains_key m s ≡ true → finite.len m ≤ 64 → finite.len (finite.remove m s) ≤ 64
 one_less m s old few =
     let l : finite.len (finite.remove m s) ≡ finite.len m - 1 = finite.len-remove nat_list_cmp_total m s ∙ ap (λ (b : Bool). cond b (finite.len m - 1) (finite.len m)) old in
     omega (arith, l, few)
 
-pub drop_lasts : (v : PVolume) (s : List ℕ) (kept : Kept) → IsVolume v → finite.contains_key v.snapshots s ≡ true → kept ≡ finite.remove v.snapshots s → IsVolume (volume v.live kept)
+pub drop_lasts : (v : PVolume) (s : List ℕ) (kept : Kept) → IsVolume v → finite.contains_key v.snapshots s ≡ true → kept ≡ finite.remove v.snapshots s → IsVolume (volume (live_of v) kept)
 drop_lasts v s kept is old e =
-    lasts v (volume v.live kept) (DropSnapshot s) (Settled (Ok tt)) is (dropped v s kept old e)
+    lasts v (volume (live_of v) kept) (DropSnapshot s) (Settled (Ok tt)) is (dropped v s kept old e)
     (subst (λ (k : Kept). finite.len k ≤ 64) (sym e) (one_less v.snapshots s old is.few))
 
-pub put_back : (v : PVolume) (s : List ℕ) (i : Indexes) → finite.get v.snapshots s ≡ Some i → Leads (RestoreSnapshot s) (Settled (Ok tt)) v (volume i v.snapshots)
-put_back v s i e w m =
-    let f : (t : Tree) × (finite.get w.snapshots s ≡ Some t) × MeanTree i t = found_alike MeanTree v.snapshots w.snapshots s i m.snapshots e in
-    fits_as (volume i v.snapshots) w (record w { live = f.0 }) (RestoreSnapshot s) (Ok tt) (ap (λ (o : Option Tree). settled (restored w o)) f.1) refl (record { live = f.2; snapshots = m.snapshots })
+pub put_back : (v : PVolume) (s : List ℕ) (l : PLive) → finite.get v.snapshots s ≡ Some l.indexes → Leads (RestoreSnapshot s) (Settled (Ok tt)) v (volume l v.snapshots)
+put_back v s l e w m =
+    let f : (t : Tree) × (finite.get w.snapshots s ≡ Some t) × MeanTree l.indexes t = found_alike MeanTree v.snapshots w.snapshots s l.indexes m.snapshots e in
+    fits_as (volume l v.snapshots) w (record w { live = f.0 }) (RestoreSnapshot s) (Ok tt) (ap (λ (o : Option Tree). settled (restored w o)) f.1) refl (record { live = f.2; snapshots = m.snapshots })
 
-pub snapshot_restored : (v : PVolume) (s : List ℕ) (i : Indexes) → finite.get v.snapshots s ≡ Some i → Settles (RestoreSnapshot s) (Restored s) (Ok tt) v (volume i v.snapshots)
-snapshot_restored v s i e = record { leads = put_back v s i e; done = (e, refl); refused = tt }
+pub snapshot_restored : (v : PVolume) (s : List ℕ) (l : PLive) → finite.get v.snapshots s ≡ Some l.indexes → l.marks ≡ no_marks v.marks.given → KeepsMarks (live_of v) l → Settles (RestoreSnapshot s) (Restored s) (Ok tt) v (volume l v.snapshots)
+snapshot_restored v s l e marks kept = record { leads = put_back v s l e; done = (e, refl, marks); refused = tt; kept = kept }
 
 pub restore_lacks : (v now : PVolume) (s : List ℕ) (i : Indexes) → finite.get v.snapshots s ≡ Some i → now ≡ v → Settles (RestoreSnapshot s) (Restored s) (Err ENOMEM) v now
 restore_lacks v now s i e same = record {
@@ -150,15 +187,41 @@ restore_lacks v now s i e same = record {
       (inr (refl, subst (λ (o : Option Tree). IsOk (restored w o).1) (sym f.1) refl), subst (λ (x : PVolume). Means x w) (sym same) m);
   done = tt;
   refused = same;
+  kept = subst (λ (x : PVolume). KeepsMarks (live_of v) (live_of x)) (sym same) (kept_all (live_of v));
 }
 
 -- ---- steps
 
-pub stepped : (v : PVolume) (s : Step) (r : StepReply) (i : Indexes) → StepsIn s.index s.step r v.live i → Stepped s r v (volume i v.snapshots)
-stepped v s r i is = record {
-  keeps = λ w m. record { live = tree_kept s.index s.step r v.live i is w.live m.live; snapshots = m.snapshots };
-  refused = unless_then r (i ≡ v.live) (volume i v.snapshots ≡ v) (step_same s.index s.step r v.live i is) (λ e. ap (λ (j : Indexes). volume j v.snapshots) e);
-  index = is;
+-- the marks that a step leaves where it is not done
+marks_same : (x : Index) (step : TreeStep) (r : StepReply) (l : PLive) → UnlessDid r (marks_left x step r l ≡ l.marks)
+marks_same Meta step (Did n) l = tt
+marks_same Meta step StepNotThere l = refl
+marks_same Meta step StepNoRoom l = refl
+marks_same Meta step StepNoMemory l = refl
+marks_same Block step (Did n) l = tt
+marks_same Block step StepNotThere l = refl
+marks_same Block step StepNoRoom l = refl
+marks_same Block step StepNoMemory l = refl
+
+-- live indexes are as they were where a step is not done
+pub live_same : (s : Step) (r : StepReply) (a b : PLive) → StepsLive s r a b → UnlessDid r (b ≡ a)
+live_same s r a b is = both r (λ e m. same_live a b e (is.marks ∙ m)) (step_same s.index s.step r a.indexes b.indexes is.index) (marks_same s.index s.step r a)
+  where
+    both : {P Q R : Type 0} (r : StepReply) → (P → Q → R) → UnlessDid r P → UnlessDid r Q → UnlessDid r R
+    both (Did n) f p q = tt
+    both StepNotThere f p q = f p q
+    both StepNoRoom f p q = f p q
+    both StepNoMemory f p q = f p q
+
+-- a step after one that had no room
+pub stepped_after : (s t : Step) (r q : StepReply) (a b d : PLive) → r ≡ StepNoRoom → StepsLive s r a b → StepsLive t q b d → StepsLive t q a d
+stepped_after s t r q a b d e first later = subst (λ (x : PLive). StepsLive t q x d) (subst (λ (z : StepReply). UnlessDid z (b ≡ a)) e (live_same s r a b first)) later
+
+pub stepped : (v : PVolume) (s : Step) (r : StepReply) (l : PLive) → StepsLive s r (live_of v) l → Stepped s r v (volume l v.snapshots)
+stepped v s r l is = record {
+  keeps = λ w m. record { live = tree_kept s.index s.step r v.live l.indexes is.index w.live m.live; snapshots = m.snapshots };
+  refused = unless_then r (l ≡ live_of v) (volume l v.snapshots ≡ v) (live_same s r (live_of v) l is) (λ e. ap (λ (k : PLive). volume k v.snapshots) e);
+  live = is;
   snapshots = refl;
 }
 
@@ -168,13 +231,38 @@ pub refused_as : (r : Snapped) (e : Errno) → IsErrAnd r (λ x. x ≡ e) → r 
 refused_as (Ok x) e h = absurd h
 refused_as (Err x) e h = ap {B = Snapped} (λ (y : Errno). Err y) h
 
--- a step in the index that was named, or none, where nothing changed
-pub relieved : (v : PVolume) (index : Index) (r : Option Relief) (i : Indexes) → IfSome r (λ t. (t.step.index ≡ index) × StepsIn index t.step.step t.reply v.live i)
-    → IfSome r (λ t. Stepped t.step t.reply v (volume i v.snapshots))
-relieved v index None i some = some
-relieved v index (Some t) i some = stepped v t.step t.reply i (subst (λ (x : Index). StepsIn x t.step.step t.reply v.live i) (sym some.0) some.1)
+-- a step, or none, where nothing changed
+pub relieved : (v : PVolume) (r : Option Relief) (l : PLive) → IfSome r (λ t. StepsLive t.step t.reply (live_of v) l) → IfSome r (λ t. Stepped t.step t.reply v (volume l v.snapshots))
+relieved v None l some = some
+relieved v (Some t) l some = stepped v t.step t.reply l some
 
-pub relief_keeps : (v : PVolume) (r : Option Relief) (i : Indexes) → IfSome r (λ t. Stepped t.step t.reply v (volume i v.snapshots)) → IfNone r (i ≡ v.live)
-    → (w : World) → Means v w → Means (volume i v.snapshots) w
-relief_keeps v None i some none w m = subst (λ (j : Indexes). Means (volume j v.snapshots) w) (sym none) m
-relief_keeps v (Some t) i some none w m = some.keeps w m
+pub relief_keeps : (v : PVolume) (r : Option Relief) (l : PLive) → IfSome r (λ t. StepsLive t.step t.reply (live_of v) l) → IfNone r (l ≡ live_of v)
+    → (w : World) → Means v w → Means (volume l v.snapshots) w
+relief_keeps v None l some none w m = subst (λ (k : PLive). Means (volume k v.snapshots) w) (sym none) m
+relief_keeps v (Some t) l some none w m = (stepped v t.step t.reply l some).keeps w m
+
+-- ---- jobs
+
+-- the volume means what it meant where each key has the value that it had
+pub means_same : (v : PVolume) (l : PLive) → SameValues v.live l.indexes → (w : World) → Means v w → Means (volume l v.snapshots) w
+means_same v l same w m = record { live = tree_same_values v.live l.indexes same w.live m.live; snapshots = m.snapshots }
+
+-- and where the indexes are the same
+pub means_with : (v : PVolume) (l : PLive) → l.indexes ≡ v.live → (w : World) → Means v w → Means (volume l v.snapshots) w
+means_with v l e w m = record { live = subst (λ (i : Indexes). MeanTree i w.live) (sym e) m.live; snapshots = m.snapshots }
+
+-- which they are where a job was taken, or none
+pub taken_same : (v : PVolume) (index : Index) (i : ℕ) (r : TakeReply) (l : PLive) → AnswersTaking index i r (live_of v) l → l.indexes ≡ v.live
+taken_same v index i (Taken job) l h = of index job h.taken
+  where
+    of : (x : Index) (job : Job) → Takes x i job (live_of v) l → l.indexes ≡ v.live
+    of Meta (MetaJob j) q = q.1
+    of Meta (BlockJob j) q = absurd q
+    of Block (MetaJob j) q = absurd q
+    of Block (BlockJob j) q = q.1
+taken_same v index i NotThere l h = ap (λ (k : PLive). k.indexes) h.unchanged
+taken_same v index i NoRoom l h = ap (λ (k : PLive). k.indexes) h.unchanged
+taken_same v index i NoMemory l h = ap (λ (k : PLive). k.indexes) h.unchanged
+
+pub taken_means : (v : PVolume) (index : Index) (i : ℕ) (r : TakeReply) (l : PLive) → AnswersTaking index i r (live_of v) l → (w : World) → Means v w → Means (volume l v.snapshots) w
+taken_means v index i r l h w m = means_with v l (taken_same v index i r l h) w m

@@ -17,7 +17,9 @@ use Rattle.reference.specs.Worlds.{Snapped}
 use Rattle.reference.specs.declared.reply.Meta.{Meta}
 use Rattle.reference.proofs.Planting.{plant_law}
 use Rattle.volume.specs.Plants.{PlantsIn, Plants}
-use Rattle.volume.specs.Volumes.{PVolume, IsVolume}
+use Rattle.volume.specs.Marked.{PLive, KeepsMarks}
+use Rattle.volume.specs.Volumes.{PVolume, IsVolume, live_of}
+use Rattle.volume.proofs.Leading.{volume, same_live}
 use Rattle.volume.proofs.Trees.{Appends}
 
 -- the one message
@@ -40,32 +42,39 @@ planted_in a b p m fault msgs is_path none first is appends =
 
 -- ---- of a volume
 
-abbrev with_live : PVolume → Indexes → PVolume
-with_live v i = record v { live = i }
+-- live indexes in which an entry was planted, with the marks that stood
+pub record PlantsLive (p : Path) (m : Meta) (r : Snapped) (old new : PLive) : Type 0 where
+  pub entry : PlantsIn p m r old.indexes new.indexes
+  pub marks : new.marks ≡ old.marks
+  pub kept : KeepsMarks old new
 
-pub planted_volume : (v : PVolume) (i : Indexes) (p : Path) (m : Meta) (r : Snapped) → PlantsIn p m r v.live i → Plants p m r v (with_live v i)
-planted_volume v i p m (Ok x) h = record {
-  answer = λ w means. h.answer w.live means.live;
-  means = λ w means. record { live = h.means w.live means.live; snapshots = means.snapshots };
-  message = h.message;
-  block = h.block;
-  refused = h.refused;
+pub planted_volume : (v : PVolume) (l : PLive) (p : Path) (m : Meta) (r : Snapped) → PlantsLive p m r (live_of v) l → Plants p m r v (volume l v.snapshots)
+planted_volume v l p m (Ok x) h = record {
+  answer = λ w means. h.entry.answer w.live means.live;
+  means = λ w means. record { live = h.entry.means w.live means.live; snapshots = means.snapshots };
+  message = h.entry.message;
+  block = h.entry.block;
+  refused = h.entry.refused;
   snapshots = refl;
+  marks = h.marks;
+  kept = h.kept;
 }
-planted_volume v i p m (Err e) h = record {
-  answer = λ w means. h.answer w.live means.live;
-  means = h.means;
-  message = h.message;
-  block = h.block;
-  refused = ap (with_live v) h.refused;
+planted_volume v l p m (Err e) h = record {
+  answer = λ w means. h.entry.answer w.live means.live;
+  means = h.entry.means;
+  message = h.entry.message;
+  block = h.entry.block;
+  refused = ap (λ (k : PLive). volume k v.snapshots) (same_live (live_of v) l h.entry.refused h.marks);
   snapshots = refl;
+  marks = h.marks;
+  kept = h.kept;
 }
 
 -- it is a volume still
-pub lasts_planted : (v : PVolume) (i : Indexes) (p : Path) (m : Meta) (r : Snapped) → IsVolume v → PlantsIn p m r v.live i → IsVolume (with_live v i)
-lasts_planted v i p m (Ok x) is h = record {
+pub lasts_planted : (v : PVolume) (l : PLive) (p : Path) (m : Meta) (r : Snapped) → IsVolume v → PlantsLive p m r (live_of v) l → IsVolume (volume l v.snapshots)
+lasts_planted v l p m (Ok x) is h = record {
   world = record is.world { live = (planted is.world.live p m).0 };
-  means = record { live = h.means is.world.live is.means.live; snapshots = is.means.snapshots };
+  means = record { live = h.entry.means is.world.live is.means.live; snapshots = is.means.snapshots };
   few = is.few;
 }
-lasts_planted v i p m (Err e) is h = subst IsVolume (sym (ap (with_live v) h.refused)) is
+lasts_planted v l p m (Err e) is h = subst (λ (k : PLive). IsVolume (volume k v.snapshots)) (sym (same_live (live_of v) l h.entry.refused h.marks)) is

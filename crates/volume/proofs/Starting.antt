@@ -5,17 +5,28 @@ use Rattle.call_compiler.specs.Compiled.{MeanTree}
 use Rattle.call_compiler.specs.declared.indexes.Indexes.{Indexes}
 use Rattle.pathkey.specs.Order.{by_bytes}
 use Rattle.reference.specs.Tree.{Tree, Dir, nothing}
-use Rattle.volume.specs.Volumes.{Kept, Alike, Means, IsVolume, empty_world}
+use Rattle.node.specs.declared.shape.Shape.{Shape}
+use Rattle.volume.specs.Marked.{PLive, no_marks}
+use Rattle.volume.specs.Volumes.{Kept, Alike, Means, IsVolume, IsNew, empty_world}
 use Rattle.volume.proofs.Leading.{volume}
 use Rattle.volume.proofs.Pairs.{alike_empty}
 
-pub means_empty : (i : Indexes) (m : Kept) → MeanTree i (Dir nothing) → m ≡ finite.empty → Means (volume i m) empty_world
-means_empty i m is e = record {
+pub means_empty : (l : PLive) (m : Kept) → MeanTree l.indexes (Dir nothing) → m ≡ finite.empty → Means (volume l m) empty_world
+means_empty l m is e = record {
   live = is;
   snapshots = subst (λ (k : Kept). Alike MeanTree k (finite.empty {X = Tree})) (sym e) (alike_empty MeanTree);
 }
 
-pub volume_empty : (i : Indexes) (m : Kept) → MeanTree i (Dir nothing) → m ≡ finite.empty → IsVolume (volume i m)
-volume_empty i m is e =
-    let l : finite.len m ≡ 0 = ap (λ (k : Kept). finite.len k) e ∙ finite.len-empty by_bytes Indexes in
-    record { world = empty_world; means = means_empty i m is e; few = omega (arith, l) }
+pub volume_empty : (l : PLive) (m : Kept) → MeanTree l.indexes (Dir nothing) → m ≡ finite.empty → IsVolume (volume l m)
+volume_empty l m is e =
+    let few : finite.len m ≡ 0 = ap (λ (k : Kept). finite.len k) e ∙ finite.len-empty by_bytes Indexes in
+    record { world = empty_world; means = means_empty l m is e; few = omega (arith, few) }
+
+-- a volume of new indexes
+pub is_new : (shape : Shape) (i : Indexes) (l : PLive) (m : Kept) → i.meta.tree.shape ≡ shape → i.block.tree.shape ≡ shape → MeanTree i (Dir nothing) → l.indexes ≡ i → l.marks ≡ no_marks 0 → m ≡ finite.empty → IsNew shape (volume l m)
+is_new shape i l m meta block empty same marks none = record {
+  meta_shape = ap (λ (x : Indexes). x.meta.tree.shape) same ∙ meta;
+  block_shape = ap (λ (x : Indexes). x.block.tree.shape) same ∙ block;
+  means = means_empty l m (subst (λ (x : Indexes). MeanTree x (Dir nothing)) (sym same) empty) none;
+  marks = marks;
+}

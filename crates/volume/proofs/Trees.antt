@@ -33,6 +33,7 @@ use Rattle.reference.specs.declared.reply.Meta.{Meta as MetaValue}
 use Rattle.reference.specs.declared.reply.Reply.{Reply}
 use Rattle.volume.specs.declared.event.Index.{Index}
 use Rattle.volume.specs.declared.event.Index.TheVariants.{Meta, Block}
+use Rattle.volume.specs.Jobs.{SameValues}
 use Rattle.volume.specs.Changes.{Does, Receives, Batched, StepsIn}
 
 -- ---- calls
@@ -92,6 +93,14 @@ tree_kept Block step r a b s t m = record {
   tree = m.tree;
   meta = subst (λ (d : MetaIndex). MetaMeans t (metadata d)) (sym s.1) m.meta;
   blocks = blocks_alike t (blocks a.block) (blocks b.block) (value_kept block_means step.kind (way step.at) step.slot r a.block.tree b.block.tree s.0) m.blocks;
+}
+
+-- nor does anything that keeps the value at each key
+pub tree_same_values : (a b : Indexes) → SameValues a b → (t : Tree) → MeanTree a t → MeanTree b t
+tree_same_values a b s t m = record {
+  tree = m.tree;
+  meta = means_alike t (metadata a.meta) (metadata b.meta) s.meta m.meta;
+  blocks = blocks_alike t (blocks a.block) (blocks b.block) s.block m.blocks;
 }
 
 -- a step that is not done leaves the tree

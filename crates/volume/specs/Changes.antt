@@ -23,7 +23,8 @@ use Rattle.reference.specs.declared.reply.Reply.TheVariants.{Fault}
 use Rattle.volume.specs.declared.event.Index.{Index}
 use Rattle.volume.specs.declared.event.Index.TheVariants.{Meta, Block}
 use Rattle.volume.specs.declared.event.Step.{Step}
-use Rattle.volume.specs.Volumes.{PVolume, Means}
+use Rattle.volume.specs.Marked.{PLive, KeepsMarks, marks_left, no_marks}
+use Rattle.volume.specs.Volumes.{PVolume, Means, live_of}
 
 -- the answer fits each world that the volume meant, and the volume now means the next one
 abbrev pub Leads : Event → Answer → PVolume → PVolume → Type 0
@@ -48,12 +49,14 @@ abbrev pub Does : Call → Reply → Indexes → Indexes → Type 0
 Does c r old new = (t : Tree) → MeanTree old t → (r ≡ (does t c).1) × MeanTree new (does t c).0
 
 -- a file call: it is answered as the world says, changes nothing where it is refused, each live index takes its half of one
--- batch, and no snapshot changes
+-- batch, no snapshot changes, and all marks stay
 pub record Called (c : Call) (r : Reply) (old new : PVolume) : Type 0 where
   pub leads : Leads (Ask c) (Replied r) old new
   pub refused : (e : Errno) → r ≡ Fault e → new ≡ old
   pub batch : Batched c old.live new.live
   pub snapshots : new.snapshots ≡ old.snapshots
+  pub marks : new.marks ≡ old.marks
+  pub kept : KeepsMarks (live_of old) (live_of new)
 
 -- ---- snapshot calls
 
@@ -62,6 +65,7 @@ pub record Settles (e : Event) (Done : PVolume → PVolume → Type 0) (r : Snap
   pub leads : Leads e (Settled r) old new
   pub done : IfOk r (λ _. Done old new)
   pub refused : IfErr r (λ _. new ≡ old)
+  pub kept : KeepsMarks (live_of old) (live_of new)
 
 -- the live indexes are kept under the name too
 abbrev pub KeptAs : List ℕ → PVolume → PVolume → Type 0
@@ -71,9 +75,9 @@ KeptAs s old new = new ≡ record old { snapshots = finite.insert old.snapshots 
 abbrev pub Dropped : List ℕ → PVolume → PVolume → Type 0
 Dropped s old new = new ≡ record old { snapshots = finite.remove old.snapshots s }
 
--- the live indexes are those under the name, which stay there
+-- the live indexes are those under the name, which stay there, and all marks are gone
 abbrev pub Restored : List ℕ → PVolume → PVolume → Type 0
-Restored s old new = (finite.get old.snapshots s ≡ Some new.live) × (new.snapshots ≡ old.snapshots)
+Restored s old new = (finite.get old.snapshots s ≡ Some new.live) × (new.snapshots ≡ old.snapshots) × (new.marks ≡ no_marks old.marks.given)
 
 -- ---- tree steps
 
@@ -82,9 +86,15 @@ abbrev pub StepsIn : Index → TreeStep → StepReply → Indexes → Indexes �
 StepsIn Meta step r old new = StepAnswers meta_means step.kind (way step.at) step.slot r old.meta.tree new.meta.tree × (new.block ≡ old.block)
 StepsIn Block step r old new = StepAnswers block_means step.kind (way step.at) step.slot r old.block.tree new.block.tree × (new.meta ≡ old.meta)
 
+-- the same of live indexes with their marks, of which those stay that outlive the step
+pub record StepsLive (s : Step) (r : StepReply) (old new : PLive) : Type 0 where
+  pub index : StepsIn s.index s.step r old.indexes new.indexes
+  pub marks : new.marks ≡ marks_left s.index s.step r old
+  pub kept : KeepsMarks old new
+
 -- a tree step: the volume means each world that it meant, is as it was where the step is not done, and no snapshot changes
 pub record Stepped (s : Step) (r : StepReply) (old new : PVolume) : Type 0 where
   pub keeps : (w : World) → Means old w → Means new w
   pub refused : UnlessDid r (new ≡ old)
-  pub index : StepsIn s.index s.step r old.live new.live
+  pub live : StepsLive s r (live_of old) (live_of new)
   pub snapshots : new.snapshots ≡ old.snapshots

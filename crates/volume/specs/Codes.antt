@@ -1,10 +1,19 @@
--- The code of a volume: the pair of its fields.
-use Rattle.std.specs.Prelude.{refl}
+-- Codes of live indexes with their marks, and of a volume: each maps one to one into trees of numbers.
+use Rattle.std.specs.Prelude.{ℕ, List, refl}
 use Rattle.std.specs.Coded.{Coded, code_by, coded×, coded_list, coded_ℕ}
 use Rattle.std.specs.FinMap as finite
 use Rattle.call_compiler.specs.contracts.indexes.Indexes as indexes
 use Rattle.call_compiler.specs.declared.indexes.Indexes.{Indexes}
+use Rattle.jobs.specs.Codes.{coded_marks}
+use Rattle.jobs.specs.declared.mark.Mark.{Mark}
+use Rattle.volume.specs.Marked.{PMarks, PLive}
 use Rattle.volume.specs.Volumes.{Kept, PVolume}
 
+abbrev coded_counted : Coded PMarks
+coded_counted = code_by (List Mark × (List Mark × ℕ)) (coded× coded_marks (coded× coded_marks coded_ℕ)) (λ m. (m.meta, (m.block, m.given))) (λ p. record { meta = p.0; block = p.1.0; given = p.1.1 }) (λ _. refl)
+
+abbrev pub coded_live : Coded PLive
+coded_live = code_by (Indexes × PMarks) (coded× indexes.the_row.coded coded_counted) (λ l. (l.indexes, l.marks)) (λ p. record { indexes = p.0; marks = p.1 }) (λ _. refl)
+
 abbrev pub coded_volume : Coded PVolume
-coded_volume = code_by (Indexes × Kept) (coded× indexes.the_row.coded (finite.code (coded_list coded_ℕ) indexes.the_row.coded)) (λ v. (v.live, v.snapshots)) (λ p. record { live = p.0; snapshots = p.1 }) (λ _. refl)
+coded_volume = code_by (PLive × Kept) (coded× coded_live (finite.code (coded_list coded_ℕ) indexes.the_row.coded)) (λ v. (record { indexes = v.live; marks = v.marks }, v.snapshots)) (λ p. record { live = p.0.indexes; snapshots = p.1; marks = p.0.marks }) (λ _. refl)

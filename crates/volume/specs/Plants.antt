@@ -11,7 +11,8 @@ use Rattle.reference.specs.Plant.{planted}
 use Rattle.reference.specs.Tree.{Path, Tree}
 use Rattle.reference.specs.Worlds.{World, Snapped}
 use Rattle.reference.specs.declared.reply.Meta.{Meta}
-use Rattle.volume.specs.Volumes.{PVolume, Means}
+use Rattle.volume.specs.Marked.{KeepsMarks}
+use Rattle.volume.specs.Volumes.{PVolume, Means, live_of}
 
 -- an entry that is planted in indexes: the answer is the table's for each tree that they meant, or want of memory; they
 -- mean the tree with the entry, by one message in the metadata, or are as they were
@@ -22,7 +23,7 @@ pub record PlantsIn (p : Path) (m : Meta) (r : Snapped) (old new : Indexes) : Ty
   pub block : IfOk r (λ _. new.block ≡ old.block)
   pub refused : IfErr r (λ _. new ≡ old)
 
--- the same of a volume, whose snapshots stay
+-- the same of a volume, whose snapshots and marks stay
 pub record Plants (p : Path) (m : Meta) (r : Snapped) (old new : PVolume) : Type 0 where
   pub answer : (w : World) → Means old w → (r ≡ (planted w.live p m).1) ⊎ (r ≡ Err ENOMEM)
   pub means : IfOk r (λ _. (w : World) → Means old w → Means new (record w { live = (planted w.live p m).0 }))
@@ -30,3 +31,5 @@ pub record Plants (p : Path) (m : Meta) (r : Snapped) (old new : PVolume) : Type
   pub block : IfOk r (λ _. new.live.block ≡ old.live.block)
   pub refused : IfErr r (λ _. new ≡ old)
   pub snapshots : new.snapshots ≡ old.snapshots
+  pub marks : new.marks ≡ old.marks
+  pub kept : KeepsMarks (live_of old) (live_of new)

@@ -8,15 +8,21 @@ use Rattle.node.specs.declared.shape.Shape.{Shape}
 use Rattle.pathkey.specs.Order.{by_bytes}
 use Rattle.reference.specs.Tree.{Tree, Dir, nothing}
 use Rattle.reference.specs.Worlds.{World}
+use Rattle.volume.specs.Marked.{PMarks, PLive, no_marks}
 
 -- indexes under names
 abbrev pub Kept : Type 0
 Kept = finite.FinMap by_bytes Indexes
 
--- a volume: its live indexes, and those of each named snapshot
+-- a volume: its live indexes, those of each named snapshot, and the marks of the jobs taken from the live ones
 pub record PVolume : Type 0 where
   pub live : Indexes
   pub snapshots : Kept
+  pub marks : PMarks
+
+-- the live indexes with their marks
+abbrev pub live_of : PVolume → PLive
+live_of v = record { indexes = v.live; marks = v.marks }
 
 -- the entries of a map, as a finite map
 abbrev pub kept : BTreeMap (List ℕ) Indexes → Kept
@@ -58,8 +64,9 @@ pub record IsVolume (v : PVolume) : Type 0 where
 abbrev pub empty_world : World
 empty_world = record { live = Dir nothing; snapshots = finite.empty }
 
--- a new volume of the shape: it means the empty root directory, without snapshots
+-- a new volume of the shape: it means the empty root directory, without snapshots, and no job was taken
 pub record IsNew (shape : Shape) (v : PVolume) : Type 0 where
   pub meta_shape : v.live.meta.tree.shape ≡ shape
   pub block_shape : v.live.block.tree.shape ≡ shape
   pub means : Means v empty_world
+  pub marks : v.marks ≡ no_marks 0

@@ -1,6 +1,7 @@
 //! What is asked of a volume, and what it answers.
 
 use call_compiler::{Call, Reply};
+use jobs::Ticket;
 use node::{StepReply, TreeStep};
 use pathkey::{Errno, SnapName};
 
@@ -44,6 +45,10 @@ pub enum Event {
     Restore(SnapName),
     /// A tree step is to be tried.
     Step(Step),
+    /// A job of the slot with this number of the index's root is to be taken, and held.
+    Take(Index, u8),
+    /// The job with the ticket that the run holds is to be built and installed.
+    Finish(Ticket),
 }
 
 /// What a volume answers.
@@ -55,4 +60,34 @@ pub enum Answer {
     Snap(Result<(), Errno>),
     /// To a tree step.
     Step(StepReply),
+    /// To a taking.
+    Take(TakeAnswer),
+    /// To a finishing.
+    Finish(FinishAnswer),
+}
+
+/// What a run answers to a taking.
+#[derive(Clone, Copy, Debug, PartialEq, Eq)]
+pub enum TakeAnswer {
+    /// The job with this ticket was taken, and the run holds it.
+    Taken(Ticket),
+    /// There is no such slot, its child is a leaf, nothing waits there, or it has a mark.
+    NotThere,
+    /// The pieces of the first message have no room in the child, 64 marks stand, or no ticket is left.
+    NoRoom,
+    /// Memory was refused.
+    NoMemory,
+}
+
+/// What a run answers to a finishing.
+#[derive(Clone, Copy, Debug, PartialEq, Eq)]
+pub enum FinishAnswer {
+    /// What was built of the job stands in the volume.
+    Installed,
+    /// The mark of the job is gone, and so is the job.
+    Stale,
+    /// The run holds no job with the ticket.
+    NotThere,
+    /// Memory was refused: the run holds the job still, and it can be finished again.
+    NoMemory,
 }

@@ -8,9 +8,11 @@ ghost use Rattle.pathkey.specs.Names.{IsPath};
 ghost use Rattle.reference.specs.Calls.{first_fault};
 ghost use Rattle.reference.specs.Plant.{faults_of_plant, is_too_long};
 ghost use Rattle.reference.specs.Tree.{Tree};
+ghost use Rattle.volume.specs.Marked.{KeepsMarks};
 ghost use Rattle.volume.specs.Plants.{PlantsIn};
 
-use call_compiler::{Batch, Indexes};
+use crate::live::Live;
+use call_compiler::Batch;
 use message::Msg;
 use meta_index::MetaIndex;
 use pathkey::{Errno, NoMemory, Path};
@@ -21,19 +23,16 @@ use std::alloc::Global;
 const GREATEST_FILE: u64 = 1 << 40;
 
 /// Plants an entry, by one message. A refusal changes nothing.
-pub(crate) fn plant(
-    alloc: Global,
-    indexes: &mut Indexes,
-    path: &Path,
-    meta: Meta,
-) -> Result<(), Errno>
-    ensures { PlantsIn path.now meta result indexes.old indexes.new }
+pub(crate) fn plant(alloc: Global, live: &mut Live, path: &Path, meta: Meta) -> Result<(), Errno>
+    ensures entry { PlantsIn path.now meta result live.old.indexes live.new.indexes }
+    ensures marks { live.new.marks ≡ live.old.marks }
+    ensures kept { KeepsMarks live.old live.new }
 {
-    if let Some(fault) = fault_of_plant(alloc, &indexes.meta, path, meta)? {
+    if let Some(fault) = fault_of_plant(alloc, &live.indexes().meta, path, meta)? {
         return Err(fault);
     }
     let batch = one_put(alloc, path, meta)?;
-    indexes.append(alloc, batch)?;
+    live.append(alloc, batch)?;
     Ok(())
 }
 

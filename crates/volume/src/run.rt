@@ -1,16 +1,112 @@
 //! Lists of events.
-ghost use Rattle.std.specs.Prelude.{◌≡◌, IfOk, OnErr};
-ghost use Rattle.volume.specs.Runs.{Link, Ran};
+ghost use Rattle.std.specs.Prelude.{◌≡◌, ◌<◌, ◌+◌, ◌≤◌, ◌∷◌, [], IfOk, OnErr, length, vec_capacity};
+ghost use Rattle.volume.specs.Held.{AreHeld, IsHeld, without_held};
+ghost use Rattle.volume.specs.Marked.{KeepsMarks};
+ghost use Rattle.volume.specs.Runs.{Ends, Finishes, Link, Ran, Takes, takings};
+ghost use Rattle.volume.specs.Volumes.{live_of};
 
-use crate::event::{Answer, Event};
+use crate::event::{Answer, Event, FinishAnswer, Index, TakeAnswer};
+use crate::held::{Held, take_out};
+use crate::job::{InstallReply, TakeReply};
 use crate::volume::Volume;
+use jobs::Ticket;
 use pathkey::NoMemory;
 use std::alloc::Global;
 
+/// 1 for a taking, and 0 for any other event. It takes no memory.
+fn taking(event: &Event) -> usize
+    ensures { result ≡ takings (event.now ∷ []) }
+{
+    match event {
+        Event::Take(_, _) => 1,
+        Event::Call(_)
+        | Event::Snapshot(_)
+        | Event::DropSnapshot(_)
+        | Event::Restore(_)
+        | Event::Step(_)
+        | Event::Finish(_) => 0,
+    }
+}
+
+/// How many of the events are takings. It takes no memory.
+fn takings(events: &[Event]) -> usize
+    ensures count { result ≡ takings events.now }
+    ensures bound { result ≤ length events.now }
+{
+    let mut count = 0;
+    for event in events {
+        count += taking(event);
+    }
+    count
+}
+
 impl Volume {
+    /// Takes a job and holds it.
+    fn take_held(
+        &mut self,
+        alloc: Global,
+        held: &mut Vec<Held>,
+        index: Index,
+        slot: u8,
+    ) -> TakeAnswer
+        requires held { AreHeld (live_of self.old) held.old.items }
+        requires room { length held.old.items < vec_capacity held.old }
+        ensures link { Takes index slot result (record { volume = self.old; held = held.old.items }) (record { volume = self.new; held = held.new.items }) }
+        ensures held { AreHeld (live_of self.new) held.new.items }
+        ensures room { vec_capacity held.new ≡ vec_capacity held.old }
+    {
+        match self.take_job(alloc, index, slot) {
+            TakeReply::Taken(job) => {
+                let ticket = job.ticket();
+                held.push_reserved(Held::Taken(job));
+                TakeAnswer::Taken(ticket)
+            }
+            TakeReply::NotThere => TakeAnswer::NotThere,
+            TakeReply::NoRoom => TakeAnswer::NoRoom,
+            TakeReply::NoMemory => TakeAnswer::NoMemory,
+        }
+    }
+
+    /// Builds and installs a held job. Where memory is refused it comes back, as it was or built.
+    fn finish(&mut self, alloc: Global, job: Held) -> Result<FinishAnswer, Held>
+        requires { IsHeld (live_of self.old) job }
+        ensures ends { Ends job result self.old self.new }
+        ensures kept { KeepsMarks (live_of self.old) (live_of self.new) }
+    {
+        let done = job.built(alloc)?;
+        match self.install(done) {
+            InstallReply::Installed => Ok(FinishAnswer::Installed),
+            InstallReply::Stale => Ok(FinishAnswer::Stale),
+            InstallReply::NoMemory(done) => Err(Held::Built(done)),
+        }
+    }
+
+    /// Builds and installs the held job with the ticket.
+    fn finish_held(&mut self, alloc: Global, held: &mut Vec<Held>, ticket: Ticket) -> FinishAnswer
+        requires { AreHeld (live_of self.old) held.old.items }
+        ensures link { Finishes ticket.number result (record { volume = self.old; held = held.old.items }) (record { volume = self.new; held = held.new.items }) }
+        ensures held { AreHeld (live_of self.new) held.new.items }
+        ensures room { vec_capacity held.new ≡ vec_capacity held.old }
+    {
+        let Some(job) = take_out(held, ticket) else {
+            return FinishAnswer::NotThere;
+        };
+        match self.finish(alloc, job) {
+            Ok(answer) => answer,
+            Err(job) => {
+                held.push_reserved(job);
+                FinishAnswer::NoMemory
+            }
+        }
+    }
+
     /// Does one event, by its own call.
-    fn answer(&mut self, alloc: Global, event: &Event) -> Answer
-        ensures { Link event.now result self.old self.new }
+    fn answer(&mut self, alloc: Global, held: &mut Vec<Held>, event: &Event) -> Answer
+        requires held { AreHeld (live_of self.old) held.old.items }
+        requires room { length held.old.items + takings (event.now ∷ []) ≤ vec_capacity held.old }
+        ensures link { Link event.now result (record { volume = self.old; held = held.old.items }) (record { volume = self.new; held = held.new.items }) }
+        ensures held { AreHeld (live_of self.new) held.new.items }
+        ensures room { vec_capacity held.new ≡ vec_capacity held.old }
     {
         match event {
             Event::Call(call) => Answer::Call(self.call(alloc, call)),
@@ -18,12 +114,24 @@ impl Volume {
             Event::DropSnapshot(name) => Answer::Snap(self.drop_snapshot(name)),
             Event::Restore(name) => Answer::Snap(self.restore(name)),
             Event::Step(step) => Answer::Step(self.step(alloc, *step)),
+            Event::Take(index, slot) => Answer::Take(self.take_held(alloc, held, *index, *slot)),
+            Event::Finish(ticket) => Answer::Finish(self.finish_held(alloc, held, *ticket)),
         }
     }
 
-    /// Does the events in their order. It fails only where there is no memory for the answers, and then has done none.
+    /// Cancels the jobs. It takes no memory.
+    fn cancel_held(&mut self, held: &[Held])
+        ensures { self.new ≡ record (self.old) { marks = without_held held.now self.old.marks } }
+    {
+        for job in held {
+            self.cancel(job.ticket());
+        }
+    }
+
+    /// Does the events in their order. It fails only where there is no memory for the answers and the jobs, and then has done
+    /// none. A job that is taken is held until it is finished; the jobs that are left at the end are cancelled.
     ///
-    /// Whatever calls and steps there are between one another: the answers are those that the calls alone, in their order,
+    /// Whatever calls, steps and jobs there are between one another: the answers are those that the calls alone, in their order,
     /// have from the world that the volume meant, and the volume means the world that they leave.
     pub fn run(&mut self, alloc: Global, events: &[Event]) -> Result<Vec<Answer>, NoMemory>
         ensures ran { IfOk result (λ answers. Ran events.now answers.items self.old self.new) }
@@ -31,10 +139,12 @@ impl Volume {
     {
         self.means_a_world();
         let mut answers = Vec::with_capacity(alloc, events.len())?;
+        let mut held = Vec::with_capacity(alloc, takings(events))?;
         for event in events {
-            let answer = self.answer(alloc, event);
+            let answer = self.answer(alloc, &mut held, event);
             answers.push_reserved(answer);
         }
+        self.cancel_held(held.as_slice());
         Ok(answers)
     }
 }

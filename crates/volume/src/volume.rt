@@ -6,27 +6,29 @@ ghost use Rattle.std.specs.FinMap as finite;
 ghost use Rattle.reference.specs.Worlds.{World, TakeSnapshot, DropSnapshot, RestoreSnapshot};
 ghost use Rattle.volume.specs.Changes.{Called, Settles, KeptAs, Dropped, Restored, Stepped};
 ghost use Rattle.volume.specs.Plants.{Plants};
-ghost use Rattle.volume.specs.Volumes.{IsNew, IsVolume, Means};
+ghost use Rattle.volume.specs.Jobs.{AnswersInstalling, AnswersTaking, DoneFits};
+ghost use Rattle.volume.specs.Marked.{KeepsMarks, no_marks, without_mark};
+ghost use Rattle.volume.specs.Volumes.{IsNew, IsVolume, Means, live_of};
 ghost use Rattle.volume.specs.Told.{Finds, HeaviestIn, pending_in, report_in};
 
-use crate::change::{do_call, relieve_in, step_in};
 use crate::event::{Index, Relief, Step};
 use crate::frozen::Frozen;
+use crate::job::{Done, InstallReply, TakeReply};
+use crate::live::Live;
 use crate::plant::plant;
 use crate::snapshots::Snapshots;
 use call_compiler::{Call, Indexes, Reply};
-use flush::heaviest;
+use jobs::Ticket;
 use node::{Shape, ShapeReport, StepReply, TreeStep};
 use pathkey::{Errno, NoMemory, Path, SnapName};
 use reference::Meta;
 use std::alloc::Global;
 use std::marker::Model;
-use steps::make_room;
 
 /// The live indexes of a file system, and those of its named snapshots.
 #[derive(Drop)]
 pub struct Volume {
-    indexes: Indexes,
+    live: Live,
     snapshots: Snapshots,
 }
 
@@ -38,9 +40,9 @@ impl Model for Volume {
 
     ghost coded = { coded_volume };
 
-    ghost view = { λ v. record { live = v.indexes; snapshots = v.snapshots } };
+    ghost view = { λ v. record { live = v.live.indexes; snapshots = v.snapshots; marks = v.live.marks } };
 
-    ghost invariant = { λ v. IsVolume (record { live = v.indexes; snapshots = v.snapshots }) };
+    ghost invariant = { λ v. IsVolume (record { live = v.live.indexes; snapshots = v.snapshots; marks = v.live.marks }) };
 }
 
 impl Volume {
@@ -55,7 +57,7 @@ impl Volume {
         }
         let indexes = Indexes::new(alloc, shape)?;
         Ok(Volume {
-            indexes,
+            live: Live::new(alloc, indexes),
             snapshots: Snapshots::new(alloc),
         })
     }
@@ -67,7 +69,7 @@ impl Volume {
     pub fn call(&mut self, alloc: Global, call: &Call) -> Reply
         ensures { Called call.now result self.old self.new }
     {
-        match do_call(alloc, &mut self.indexes, call) {
+        match self.live.call(alloc, call) {
             Ok(reply) => reply,
             Err(NoMemory) => Reply::Fault(Errno::ENOMEM),
         }
@@ -79,7 +81,7 @@ impl Volume {
     pub fn plant_entry(&mut self, alloc: Global, path: &Path, meta: Meta) -> Result<(), Errno>
         ensures { Plants path.now meta result self.old self.new }
     {
-        plant(alloc, &mut self.indexes, path, meta)
+        plant(alloc, &mut self.live, path, meta)
     }
 
     /// Keeps the live tree under the name, by one more owner of its nodes: no node is copied (Rodeh, ACM Transactions on
@@ -93,7 +95,7 @@ impl Volume {
         if self.snapshots.is_full() {
             return Err(Errno::ENOSPC);
         }
-        let copy = self.indexes.share()?;
+        let copy = self.live.indexes().share()?;
         self.snapshots.keep(alloc, name, copy)?;
         Ok(())
     }
@@ -118,7 +120,7 @@ impl Volume {
             return Err(Errno::ENOENT);
         };
         let copy = kept.share()?;
-        self.indexes = copy;
+        self.live.replace(copy);
         Ok(())
     }
 
@@ -127,14 +129,14 @@ impl Volume {
     pub fn step(&mut self, alloc: Global, step: Step) -> StepReply
         ensures { Stepped step result self.old self.new }
     {
-        step_in(alloc, &mut self.indexes, step)
+        self.live.step(alloc, step)
     }
 
     /// What its type keeps: a volume means a world, and has at most 64 snapshots. It does nothing.
     pub fn means_a_world(&self)
         ensures { IsVolume self.now }
     {
-        let _ = &self.indexes;
+        let _ = &self.live;
     }
 
     /// The live tree as it stands. It fails only where a further owner of its nodes is refused.
@@ -142,7 +144,7 @@ impl Volume {
         ensures same { IfOk result (λ f. f ≡ self.now.live) }
         ensures means { IfOk result (λ f. (w : World) → Means self.now w → MeanTree f w.live) }
     {
-        Frozen::of(&self.indexes)
+        Frozen::of(self.live.indexes())
     }
 
     /// The tree of the snapshot of that name; ENOENT where there is none, ENOMEM where a further owner of its nodes is
@@ -162,10 +164,7 @@ impl Volume {
     pub fn heaviest(&self, index: Index) -> Option<TreeStep>
         ensures { HeaviestIn index result self.now.live }
     {
-        match index {
-            Index::Meta => heaviest(&self.indexes.meta.tree),
-            Index::Block => heaviest(&self.indexes.block.tree),
-        }
+        self.live.heaviest(index)
     }
 
     /// How large the tree of a live index is. It takes no memory.
@@ -173,8 +172,8 @@ impl Volume {
         ensures { result ≡ report_in index self.now.live }
     {
         match index {
-            Index::Meta => self.indexes.meta.tree.shape_report(),
-            Index::Block => self.indexes.block.tree.shape_report(),
+            Index::Meta => self.live.indexes().meta.tree.shape_report(),
+            Index::Block => self.live.indexes().block.tree.shape_report(),
         }
     }
 
@@ -183,8 +182,8 @@ impl Volume {
         ensures { result ≡ pending_in index self.now.live }
     {
         match index {
-            Index::Meta => self.indexes.meta.tree.pending(),
-            Index::Block => self.indexes.block.tree.pending(),
+            Index::Meta => self.live.indexes().meta.tree.pending(),
+            Index::Block => self.live.indexes().block.tree.pending(),
         }
     }
 
@@ -197,7 +196,7 @@ impl Volume {
         ensures means { (w : World) → Means self.old w → Means self.new w }
     {
         let index = self.busier();
-        relieve_in(alloc, &mut self.indexes, index)
+        self.live.relieve(alloc, index)
     }
 
     /// The index with more pending pieces, that of the metadata where both have as many.
@@ -218,11 +217,49 @@ impl Volume {
     pub fn make_room(&self, step: Step) -> Option<Step>
         ensures { IfSome result (λ other. other.index ≡ step.index) }
     {
-        let index = step.index;
-        let step = match index {
-            Index::Meta => make_room(&self.indexes.meta.tree, step.step)?,
-            Index::Block => make_room(&self.indexes.block.tree, step.step)?,
-        };
-        Some(Step { index, step })
+        self.live.make_room(step)
+    }
+
+    /// Takes a job of the slot with this number of an index's root: it shares the slot's child and has the slot's oldest
+    /// messages, as many as have room in the child. Its mark stands until the job is installed or cancelled, a snapshot is
+    /// restored, or a step makes another root or works at the slot or below it. Tickets count from 0, over both indexes.
+    ///
+    /// It answers `NotThere`, without memory, where the slot is missing, its child is a leaf, nothing waits there or it has a
+    /// mark; and `NoRoom` where the first message has no room in the child, 64 marks stand, or no ticket is left.
+    pub fn take_job(&mut self, alloc: Global, index: Index, slot: u8) -> TakeReply
+        ensures answers { AnswersTaking index slot result (live_of self.old) (live_of self.new) }
+        ensures snapshots { self.new.snapshots ≡ self.old.snapshots }
+        ensures means { (w : World) → Means self.old w → Means self.new w }
+    {
+        self.live.take_job(alloc, index, slot)
+    }
+
+    /// Puts what was built of a job in the place of the child of the mark's slot, and takes away the messages that it has in
+    /// it, and the mark. What came after the taking stays in the slot. Whatever it replies, the volume means what it meant.
+    ///
+    /// It answers `Stale`, without memory, where the mark is gone.
+    pub fn install(&mut self, done: Done) -> InstallReply
+        requires { DoneFits done (live_of self.old) }
+        ensures answers { AnswersInstalling done result (live_of self.old) (live_of self.new) }
+        ensures snapshots { self.new.snapshots ≡ self.old.snapshots }
+        ensures means { (w : World) → Means self.old w → Means self.new w }
+    {
+        self.live.install(done)
+    }
+
+    /// Takes away the mark with the ticket, if it stands: the job is not to be installed. It takes no memory.
+    pub fn cancel(&mut self, ticket: Ticket)
+        ensures volume { self.new ≡ record (self.old) { marks = without_mark ticket.number self.old.marks } }
+        ensures kept { KeepsMarks (live_of self.old) (live_of self.new) }
+    {
+        self.live.cancel(ticket);
+    }
+
+    /// Takes all marks away. It takes no memory.
+    pub fn cancel_all(&mut self)
+        ensures volume { self.new ≡ record (self.old) { marks = no_marks self.old.marks.given } }
+        ensures kept { KeepsMarks (live_of self.old) (live_of self.new) }
+    {
+        self.live.cancel_all();
     }
 }

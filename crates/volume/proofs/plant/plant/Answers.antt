@@ -1,10 +1,18 @@
+use Rattle.std.proofs.Common.{◌≡◌, subst}
 use Rattle.call_compiler.specs.Compiled.{messages}
+use Rattle.meta_index.specs.Means.{IsMeantBy}
+use Rattle.reference.specs.Calls.{first_fault}
+use Rattle.reference.specs.Plant.{faults_of_plant}
+use Rattle.reference.specs.Tree.{Tree}
+use Rattle.call_compiler.specs.declared.indexes.Indexes.{Indexes}
 use Rattle.volume.proofs.Plants.{planted_in}
 use Rattle.volume.proofs.plant.plant.Goals as goal
 
-pub returns : goal.returns
-returns c = planted_in c.args.indexes.now c.append.new.self c.args.path.now c.args.meta c.in_ok-fault.field-0 (messages c.in_ok-batch.batch)
-    c.one_put.ensures.valid c.in_default.is c.in_ok-fault.ensures c.in_ok-batch.ensures.messages (record {
+pub returns-clause-entry : goal.returns-clause-entry
+returns-clause-entry c =
+    let faults = subst (λ (i : Indexes). (t : Tree) → IsMeantBy t i.meta → c.in_ok-fault.field-0 ≡ first_fault (faults_of_plant t c.args.path.now c.args.meta)) c.indexes.ensures c.in_ok-fault.ensures in
+    planted_in c.args.live.now.indexes c.append.new.self.indexes c.args.path.now c.args.meta c.in_ok-fault.field-0 (messages c.in_ok-batch.batch)
+    c.one_put.ensures.valid c.in_default.is faults c.in_ok-batch.ensures.messages (record {
       taken = c.in_ok-append.ensures.done;
       no_meta = c.append.ensures.no_meta;
       no_block = c.append.ensures.no_block;

@@ -1,10 +1,10 @@
 use Rattle.std.proofs.Common.{sym, subst}
-use Rattle.call_compiler.specs.declared.indexes.Indexes.{Indexes}
 use Rattle.reference.specs.Worlds.{Ask, Replied}
 use Rattle.reference.specs.declared.reply.Reply.{Reply}
 use Rattle.reference.specs.declared.reply.Reply.TheVariants.{Fault}
 use Rattle.pathkey.specs.declared.errno.Errno.TheVariants.{ENOMEM}
 use Rattle.volume.specs.Changes.{Called}
+use Rattle.volume.specs.Marked.{PLive}
 use Rattle.volume.specs.Volumes.{PVolume, IsVolume}
 use Rattle.volume.proofs.Leading.{volume, called, call_done, lacks_call, lasts}
 use Rattle.volume.proofs.volume.Volume.call.Goals as goal
@@ -12,21 +12,21 @@ use Rattle.volume.proofs.volume.Volume.call.Goals.{in-Ok, in-Err}
 
 pub invariant_of-self : goal.invariant_of-self
 invariant_of-self c =
-    let old : PVolume = volume c.self.inside.indexes c.self.inside.snapshots in
-    let new : PVolume = volume c.do_call.new.indexes c.self.inside.snapshots in
-    elim c.match-do_call.branch [
-      | in-Ok w ↦ lasts old new (Ask c.args.call.now) (Replied w.in-Ok.reply) c.self.invariant (called old c.args.call.now w.in-Ok.reply c.do_call.new.indexes w.in-Ok.ensures.done) c.self.invariant.few
-      | in-Err w ↦ subst (λ (i : Indexes). IsVolume (volume i c.self.inside.snapshots)) (sym w.in-Err.ensures.err) c.self.invariant
+    let old : PVolume = volume c.self.inside.live c.self.inside.snapshots in
+    let new : PVolume = volume c.call.new.self c.self.inside.snapshots in
+    elim c.match-call.branch [
+      | in-Ok w ↦ lasts old new (Ask c.args.call.now) (Replied w.in-Ok.reply) c.self.invariant (called old c.args.call.now w.in-Ok.reply c.call.new.self w.in-Ok.ensures.done) c.self.invariant.few
+      | in-Err w ↦ subst (λ (l : PLive). IsVolume (volume l c.self.inside.snapshots)) (sym w.in-Err.ensures.err) c.self.invariant
     ]
 
 pub returns : goal.returns
 returns c =
-    let old : PVolume = volume c.self.inside.indexes c.self.inside.snapshots in
-    let new : PVolume = volume c.do_call.new.indexes c.self.inside.snapshots in
-    elim c.match-do_call.branch [
+    let old : PVolume = volume c.self.inside.live c.self.inside.snapshots in
+    let new : PVolume = volume c.call.new.self c.self.inside.snapshots in
+    elim c.match-call.branch [
       | in-Ok w ↦
-          let done : Called c.args.call.now w.in-Ok.reply old new = call_done old c.args.call.now w.in-Ok.reply c.do_call.new.indexes w.in-Ok.ensures.done w.in-Ok.ensures.refused w.in-Ok.ensures.batch in
+          let done : Called c.args.call.now w.in-Ok.reply old new = call_done old c.args.call.now w.in-Ok.reply c.call.new.self w.in-Ok.ensures.done w.in-Ok.ensures.refused w.in-Ok.ensures.batch c.call.ensures.marks c.call.ensures.kept in
           subst (λ (r : Reply). Called c.args.call.now r c.args.self.now new) (sym w.result-is) (subst (λ (v : PVolume). Called c.args.call.now w.in-Ok.reply v new) c.self.view_is done)
       | in-Err w ↦
-          subst (λ (r : Reply). Called c.args.call.now r c.args.self.now new) (sym w.result-is) (subst (λ (v : PVolume). Called c.args.call.now (Fault ENOMEM) v new) c.self.view_is (lacks_call old c.args.call.now c.do_call.new.indexes w.in-Err.ensures.err))
+          subst (λ (r : Reply). Called c.args.call.now r c.args.self.now new) (sym w.result-is) (subst (λ (v : PVolume). Called c.args.call.now (Fault ENOMEM) v new) c.self.view_is (lacks_call old c.args.call.now c.call.new.self w.in-Err.ensures.err))
     ]

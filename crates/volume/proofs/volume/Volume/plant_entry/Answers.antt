@@ -6,9 +6,12 @@ use Rattle.volume.proofs.Plants.{lasts_planted, planted_volume}
 use Rattle.volume.proofs.volume.Volume.plant_entry.Goals as goal
 
 pub invariant_of-self : goal.invariant_of-self
-invariant_of-self c = lasts_planted (volume c.self.inside.indexes c.self.inside.snapshots) c.plant.new.indexes c.args.path.now c.args.meta c.plant.result c.self.invariant c.plant.ensures
+invariant_of-self c =
+    let e = c.plant.ensures in
+    lasts_planted (volume c.self.inside.live c.self.inside.snapshots) c.plant.new.live c.args.path.now c.args.meta c.plant.result c.self.invariant (record { entry = e.entry; marks = e.marks; kept = e.kept })
 
 pub returns : goal.returns
 returns c =
-    let old : PVolume = volume c.self.inside.indexes c.self.inside.snapshots in
-    subst (λ (v : PVolume). Plants c.args.path.now c.args.meta c.plant.result v (volume c.plant.new.indexes c.self.inside.snapshots)) c.self.view_is (planted_volume old c.plant.new.indexes c.args.path.now c.args.meta c.plant.result c.plant.ensures)
+    let e = c.plant.ensures in
+    let old : PVolume = volume c.self.inside.live c.self.inside.snapshots in
+    subst (λ (v : PVolume). Plants c.args.path.now c.args.meta c.plant.result v (volume c.plant.new.live c.self.inside.snapshots)) c.self.view_is (planted_volume old c.plant.new.live c.args.path.now c.args.meta c.plant.result (record { entry = e.entry; marks = e.marks; kept = e.kept }))

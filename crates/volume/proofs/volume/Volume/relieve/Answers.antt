@@ -9,26 +9,23 @@ use Rattle.volume.proofs.volume.Volume.relieve.Goals as goal
 
 pub invariant_of-self : goal.invariant_of-self
 invariant_of-self c =
-    let old : PVolume = volume c.self.inside.indexes c.self.inside.snapshots in
-    let i = c.relieve_in.new.indexes in
-    let r : Option Relief = c.relieve_in.result in
+    let old : PVolume = volume c.self.inside.live c.self.inside.snapshots in
+    let r : Option Relief = c.relieve.result in
     record {
       world = c.self.invariant.world;
-      means = relief_keeps old r i (relieved old c.busier-index.result r i c.relieve_in.ensures.answers) c.relieve_in.ensures.unchanged c.self.invariant.world c.self.invariant.means;
+      means = relief_keeps old r c.relieve.new.self c.relieve.ensures.stepped c.relieve.ensures.unchanged c.self.invariant.world c.self.invariant.means;
       few = c.self.invariant.few;
     }
 
 pub returns-clause-stepped : goal.returns-clause-stepped
 returns-clause-stepped c =
-    let old : PVolume = volume c.self.inside.indexes c.self.inside.snapshots in
-    let i = c.relieve_in.new.indexes in
-    let r : Option Relief = c.relieve_in.result in
-    subst (λ (v : PVolume). IfSome r (λ t. Stepped t.step t.reply v (volume i c.self.inside.snapshots))) c.self.view_is (relieved old c.busier-index.result r i c.relieve_in.ensures.answers)
+    let old : PVolume = volume c.self.inside.live c.self.inside.snapshots in
+    let r : Option Relief = c.relieve.result in
+    subst (λ (v : PVolume). IfSome r (λ t. Stepped t.step t.reply v (volume c.relieve.new.self c.self.inside.snapshots))) c.self.view_is (relieved old r c.relieve.new.self c.relieve.ensures.stepped)
 
 pub returns-clause-means : goal.returns-clause-means
 returns-clause-means c =
-    let old : PVolume = volume c.self.inside.indexes c.self.inside.snapshots in
-    let i = c.relieve_in.new.indexes in
-    let r : Option Relief = c.relieve_in.result in
-    subst (λ (v : PVolume). (w : World) → Means v w → Means (volume i c.self.inside.snapshots) w) c.self.view_is
-    (relief_keeps old r i (relieved old c.busier-index.result r i c.relieve_in.ensures.answers) c.relieve_in.ensures.unchanged)
+    let old : PVolume = volume c.self.inside.live c.self.inside.snapshots in
+    let r : Option Relief = c.relieve.result in
+    subst (λ (v : PVolume). (w : World) → Means v w → Means (volume c.relieve.new.self c.self.inside.snapshots) w) c.self.view_is
+    (relief_keeps old r c.relieve.new.self c.relieve.ensures.stepped c.relieve.ensures.unchanged)

@@ -1,0 +1,94 @@
+//! Jobs of a volume, what is built of them, and what taking and installing are answered.
+ghost use Rattle.std.specs.Prelude.{◌≡◌, IfOk, IfErr};
+ghost use Rattle.volume.specs.Jobs.{ticket_of, done_ticket, Builds};
+
+use block_index::BlockUpdate;
+use jobs::Ticket;
+use meta_index::MetaUpdate;
+use std::alloc::Global;
+
+/// A job: the oldest messages of a slot of a live index's root, and a share of the slot's child.
+#[derive(Drop)]
+pub enum Job {
+    /// Of the metadata.
+    Meta(jobs::Job<MetaUpdate>),
+    /// Of the blocks.
+    Block(jobs::Job<BlockUpdate>),
+}
+
+impl Job {
+    /// The job's ticket. It takes no memory.
+    pub fn ticket(&self) -> Ticket
+        ensures { result.number ≡ ticket_of self.now }
+    {
+        match self {
+            Job::Meta(job) => job.ticket(),
+            Job::Block(job) => job.ticket(),
+        }
+    }
+
+    /// Builds the job: a subtree with the job's messages in it, which sink as far as there is room. Where memory is refused
+    /// the job comes back as it was.
+    ///
+    /// It needs no volume and no lock, so it can go on in another thread while the volume changes.
+    pub fn build(self, alloc: Global) -> Result<Done, Job>
+        ensures ok { IfOk result (λ d. Builds self d) }
+        ensures err { IfErr result (λ job. job ≡ self) }
+    {
+        match self {
+            Job::Meta(job) => match job.build(alloc) {
+                Ok(done) => Ok(Done::Meta(done)),
+                Err(job) => Err(Job::Meta(job)),
+            },
+            Job::Block(job) => match job.build(alloc) {
+                Ok(done) => Ok(Done::Block(done)),
+                Err(job) => Err(Job::Block(job)),
+            },
+        }
+    }
+}
+
+/// A subtree that has the messages of a job in it.
+#[derive(Drop)]
+pub enum Done {
+    /// Of the metadata.
+    Meta(jobs::Done<MetaUpdate>),
+    /// Of the blocks.
+    Block(jobs::Done<BlockUpdate>),
+}
+
+impl Done {
+    /// The ticket of the job of which it was built. It takes no memory.
+    pub fn ticket(&self) -> Ticket
+        ensures { result.number ≡ done_ticket self.now }
+    {
+        match self {
+            Done::Meta(done) => done.ticket(),
+            Done::Block(done) => done.ticket(),
+        }
+    }
+}
+
+/// The reply of taking a job. Every reply but `Taken` leaves the volume as it was.
+#[derive(Drop)]
+pub enum TakeReply {
+    /// The job, and its mark stands.
+    Taken(Job),
+    /// There is no such slot, its child is a leaf, nothing waits there, or it has a mark.
+    NotThere,
+    /// The pieces of the first message have no room in the child, 64 marks stand, or no ticket is left.
+    NoRoom,
+    /// Memory was refused.
+    NoMemory,
+}
+
+/// The reply of installing. Every reply but `Installed` leaves the volume as it was.
+#[derive(Drop)]
+pub enum InstallReply {
+    /// The subtree stands in the child's place.
+    Installed,
+    /// The mark is gone.
+    Stale,
+    /// Memory was refused: the value comes back, and the mark stays.
+    NoMemory(Done),
+}
