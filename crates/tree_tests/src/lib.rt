@@ -6,6 +6,8 @@
 #[cfg(test)]
 mod calls;
 #[cfg(test)]
+mod job_runs;
+#[cfg(test)]
 mod outcomes;
 #[cfg(test)]
 mod paces;

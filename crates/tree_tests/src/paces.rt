@@ -58,12 +58,12 @@ impl Tally {
 }
 
 /// Prints the image of a tree. It ensures nothing, so that no proof of a test reads what an image is.
-fn print<W: Write>(alloc: Global, frozen: &Frozen, writer: &mut W) -> Result<(), ImageFault> {
+pub fn print<W: Write>(alloc: Global, frozen: &Frozen, writer: &mut W) -> Result<(), ImageFault> {
     print_image(alloc, frozen, writer)
 }
 
 /// The reply to a call on snapshots.
-fn settled(answer: Result<(), Errno>) -> Reply {
+pub fn settled(answer: Result<(), Errno>) -> Reply {
     match answer {
         Ok(()) => Reply::Done,
         Err(fault) => Reply::Fault(fault),
@@ -88,7 +88,7 @@ fn plain_look(
 }
 
 /// What the plain program replies to what a line asks for; none where that is no call.
-fn plain_reply(
+pub fn plain_reply(
     alloc: Global,
     plain: &mut World,
     request: &Request,

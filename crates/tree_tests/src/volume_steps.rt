@@ -16,7 +16,7 @@ pub fn freeze(volume: &Volume) -> Result<Frozen, NoMemory> {
 }
 
 /// A step of some kind somewhere in an index.
-fn step_somewhere(
+pub fn step_somewhere(
     random: &mut Random,
     volume: &Volume,
     index: Index,

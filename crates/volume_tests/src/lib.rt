@@ -17,6 +17,8 @@ mod hostile;
 #[cfg(test)]
 mod image;
 #[cfg(test)]
+mod job_rows;
+#[cfg(test)]
 mod kept;
 #[cfg(test)]
 mod loaded;
@@ -26,6 +28,8 @@ mod paces;
 mod plain_image;
 #[cfg(test)]
 mod programs;
+#[cfg(test)]
+mod refused;
 #[cfg(test)]
 mod rows;
 #[cfg(test)]

@@ -1,21 +1,28 @@
 //! Lists of events.
 use crate::asked::{SMALL, Snap, new_volume, snap_name};
-use crate::told::first_leaf;
-use node::StepReply;
+use crate::told::{at_first_slot, first_leaf};
+use jobs::Ticket;
+use node::{StepKind, StepReply};
 use pathkey::{Errno, SnapName};
 use samples::{Ask, Told};
 use std::alloc::Global;
-use volume::{Answer, Event, Index};
+use volume::{Answer, Event, FinishAnswer, Index, TakeAnswer, Volume};
 
 /// What an event is to be, and what it is answered.
 #[derive(Clone, Copy)]
-enum Turn<'a> {
+pub enum Turn<'a> {
     /// A file call.
     Live(Ask<'a>, Told<'a>),
     /// A call on snapshots, and why it is refused, if it is.
     Snap(Snap<'a>, Option<Errno>),
     /// The flush of the leaf below the root's first slot, and whether it is done.
     Flush(Index, bool),
+    /// A step at the root's first slot, which is done, and how many messages leave their slots at least and at most.
+    Step(Index, StepKind, u32, u32),
+    /// A taking at this slot of an index's root.
+    Take(Index, u8, TakeAnswer),
+    /// The finishing of the job with this ticket.
+    Finish(u64, FinishAnswer),
 }
 
 /// A call on the snapshot of a name.
@@ -49,6 +56,9 @@ fn event_of(alloc: Global, turn: &Turn<'_>) -> Option<Event> {
         Turn::Live(ask, _) => call_event(alloc, *ask),
         Turn::Snap(snap, _) => named_event(alloc, *snap),
         Turn::Flush(index, _) => Some(Event::Step(first_leaf(*index))),
+        Turn::Step(index, kind, _, _) => Some(Event::Step(at_first_slot(*index, *kind))),
+        Turn::Take(index, slot, _) => Some(Event::Take(*index, *slot)),
+        Turn::Finish(number, _) => Some(Event::Finish(Ticket::of(*number))),
     }
 }
 
@@ -60,12 +70,23 @@ fn is_settled(fault: Option<Errno>, settled: &Result<(), Errno>) -> bool {
     }
 }
 
+/// Whether a step was done, and so many messages have left their slots.
+fn is_done(least: u32, most: u32, reply: StepReply) -> bool {
+    match reply {
+        StepReply::Did(count) => least <= count && count <= most,
+        _ => false,
+    }
+}
+
 /// Whether this is the answer of a turn.
-fn is_answer(turn: &Turn<'_>, answer: &Answer) -> bool {
+pub fn is_answer(turn: &Turn<'_>, answer: &Answer) -> bool {
     match (turn, answer) {
         (Turn::Live(_, told), Answer::Call(reply)) => told.is(reply),
         (Turn::Snap(_, fault), Answer::Snap(settled)) => is_settled(*fault, settled),
         (Turn::Flush(_, done), Answer::Step(reply)) => matches!(reply, StepReply::Did(_)) == *done,
+        (Turn::Step(_, _, least, most), Answer::Step(reply)) => is_done(*least, *most, *reply),
+        (Turn::Take(_, _, wanted), Answer::Take(answer)) => wanted == answer,
+        (Turn::Finish(_, wanted), Answer::Finish(answer)) => wanted == answer,
         _ => false,
     }
 }
@@ -79,7 +100,7 @@ fn add(alloc: Global, events: &mut Vec<Event>, turn: &Turn<'_>) -> bool {
 }
 
 /// The events of turns, in their order; of those before one that has none.
-fn events_of(alloc: Global, turns: &[Turn<'_>]) -> Vec<Event> {
+pub fn events_of(alloc: Global, turns: &[Turn<'_>]) -> Vec<Event> {
     let mut events = Vec::new(alloc);
     for turn in turns {
         if !add(alloc, &mut events, turn) {
@@ -89,12 +110,10 @@ fn events_of(alloc: Global, turns: &[Turn<'_>]) -> Vec<Event> {
     events
 }
 
-/// What a new volume answers to events; nothing where memory is refused.
-fn run(alloc: Global, events: &[Event]) -> Option<Vec<Answer>> {
-    match new_volume(alloc, SMALL) {
-        Ok(mut volume) => volume.run(alloc, events).ok(),
-        Err(_) => None,
-    }
+/// What a volume answers to events; nothing where memory is refused. It ensures nothing, so that no proof of a test reads what a
+/// run means.
+pub fn run(alloc: Global, volume: &mut Volume, events: &[Event]) -> Option<Vec<Answer>> {
+    volume.run(alloc, events).ok()
 }
 
 /// How many answers are those of the turns, before the first that is not.
@@ -110,12 +129,25 @@ fn count_answers(turns: &[Turn<'_>], answers: &[Answer]) -> usize {
 }
 
 /// How many answers a run has, and how many of them are those of the turns, before the first that is not.
-fn answered(alloc: Global, turns: &[Turn<'_>]) -> (usize, usize) {
+fn answered_in(alloc: Global, volume: &mut Volume, turns: &[Turn<'_>]) -> (usize, usize) {
     let events = events_of(alloc, turns);
-    match run(alloc, events.as_slice()) {
+    match run(alloc, volume, events.as_slice()) {
         Some(answers) => (answers.len(), count_answers(turns, answers.as_slice())),
         None => (usize::MAX, 0),
     }
+}
+
+/// The same of a run in a new volume.
+fn answered(alloc: Global, turns: &[Turn<'_>]) -> (usize, usize) {
+    match new_volume(alloc, SMALL) {
+        Ok(mut volume) => answered_in(alloc, &mut volume, turns),
+        Err(_) => (usize::MAX, 0),
+    }
+}
+
+/// Whether a run has the answers of the turns.
+pub fn follows(alloc: Global, volume: &mut Volume, turns: &[Turn<'_>]) -> bool {
+    answered_in(alloc, volume, turns) == (turns.len(), turns.len())
 }
 
 const TURNS: &[Turn<'static>] = &[

@@ -7,14 +7,18 @@ use samples::{Ask, Told};
 use std::alloc::Global;
 use volume::{Frozen, Index, Step, Volume};
 
-/// The flush of the leaf below the root's first slot.
-pub fn first_leaf(index: Index) -> Step {
+/// A step of this kind at the root's first slot.
+pub fn at_first_slot(index: Index, kind: StepKind) -> Step {
     let at = Place::root();
-    let kind = StepKind::FlushLeaf;
     Step {
         index,
         step: TreeStep { kind, at, slot: 0 },
     }
+}
+
+/// The flush of the leaf below the root's first slot.
+pub fn first_leaf(index: Index) -> Step {
+    at_first_slot(index, StepKind::FlushLeaf)
 }
 
 /// Does the flush of the leaf below the root's first slot.

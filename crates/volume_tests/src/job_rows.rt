@@ -1,0 +1,354 @@
+//! Rows of jobs: what takings and finishings are answered, with calls, snapshots and steps between.
+ghost use Rattle.volume.specs.Jobs.{DoneFits};
+ghost use Rattle.volume.specs.Volumes.{live_of};
+
+use crate::asked::{SMALL, Snap, answers, new_volume};
+use crate::runs::{Turn, follows};
+use jobs::Ticket;
+use node::StepKind;
+use pathkey::Errno;
+use reference::Kind;
+use samples::{Ask, Told};
+use std::alloc::Global;
+use volume::{Done, FinishAnswer, Index, InstallReply, TakeAnswer, TakeReply, Volume};
+
+/// A taking at the first slot of the metadata's root, where no job can be taken.
+pub const TAKES_NOTHING: Turn<'static> = Turn::Take(Index::Meta, 0, TakeAnswer::NotThere);
+
+/// A taking at the first slot of the metadata's root, of the first job.
+pub const TAKES: Turn<'static> = Turn::Take(
+    Index::Meta,
+    0,
+    TakeAnswer::Taken(Ticket { number: 0 }),
+);
+
+/// A taking there of the second job.
+const TAKES_AGAIN: Turn<'static> = Turn::Take(
+    Index::Meta,
+    0,
+    TakeAnswer::Taken(Ticket { number: 1 }),
+);
+
+/// The finishing of the first job.
+pub const INSTALLS: Turn<'static> = Turn::Finish(0, FinishAnswer::Installed);
+
+/// The finishing of the first job, whose mark is gone.
+const IS_STALE: Turn<'static> = Turn::Finish(0, FinishAnswer::Stale);
+
+/// The finishing of the first job, which the run does not hold.
+pub const HAS_NO_JOB: Turn<'static> = Turn::Finish(0, FinishAnswer::NotThere);
+
+/// A snapshot of the root alone; then five directories, all of them below a root with one slot over an inner node, and a sixth that
+/// waits there. A leaf takes four messages at once, so the second flush brings down the last of five.
+pub const OPENING: &[Turn<'static>] = &[
+    Turn::Snap(Snap::Keep("s"), None),
+    Turn::Live(Ask::Mkdir("/a"), Told::Done),
+    Turn::Live(Ask::Mkdir("/b"), Told::Done),
+    Turn::Live(Ask::Mkdir("/c"), Told::Done),
+    Turn::Live(Ask::Mkdir("/d"), Told::Done),
+    Turn::Live(Ask::Mkdir("/e"), Told::Done),
+    Turn::Step(Index::Meta, StepKind::FlushLeaf, 4, 4),
+    Turn::Step(Index::Meta, StepKind::FlushLeaf, 1, 1),
+    Turn::Flush(Index::Meta, false),
+    Turn::Flush(Index::Meta, false),
+    Turn::Flush(Index::Meta, false),
+    Turn::Flush(Index::Meta, false),
+    Turn::Step(Index::Meta, StepKind::RootUp, 0, 0),
+    Turn::Live(Ask::Mkdir("/f"), Told::Done),
+];
+
+/// A file of five blocks, all of them below a root with one slot over an inner node, and a sixth that waits there.
+const BLOCKS: &[Turn<'static>] = &[
+    Turn::Live(Ask::Create("/x"), Told::Done),
+    Turn::Live(Ask::Write("/x", 0, b"\xa0"), Told::Count(1)),
+    Turn::Live(Ask::Write("/x", 4_096, b"\xa1"), Told::Count(1)),
+    Turn::Live(Ask::Write("/x", 8_192, b"\xa2"), Told::Count(1)),
+    Turn::Live(Ask::Write("/x", 12_288, b"\xa3"), Told::Count(1)),
+    Turn::Live(Ask::Write("/x", 16_384, b"\xa4"), Told::Count(1)),
+    Turn::Step(Index::Block, StepKind::FlushLeaf, 4, 4),
+    Turn::Step(Index::Block, StepKind::FlushLeaf, 1, 1),
+    Turn::Step(Index::Block, StepKind::RootUp, 0, 0),
+    Turn::Live(Ask::Write("/x", 20_480, b"\xa5"), Told::Count(1)),
+];
+
+/// What the root has after the opening.
+const SIX: Told<'static> = Told::Names(&[
+    (Kind::Dir, "a"),
+    (Kind::Dir, "b"),
+    (Kind::Dir, "c"),
+    (Kind::Dir, "d"),
+    (Kind::Dir, "e"),
+    (Kind::Dir, "f"),
+]);
+
+/// What it has after one more call.
+pub const SEVEN: Told<'static> = Told::Names(&[
+    (Kind::Dir, "a"),
+    (Kind::Dir, "b"),
+    (Kind::Dir, "c"),
+    (Kind::Dir, "d"),
+    (Kind::Dir, "e"),
+    (Kind::Dir, "f"),
+    (Kind::Dir, "g"),
+]);
+
+/// The runs of a new volume, one behind the other.
+type Row = &'static [&'static [Turn<'static>]];
+
+const ROWS: &[Row] = &[
+    // nothing is taken where a leaf is below
+    &[&[TAKES_NOTHING]],
+    // what comes behind the taking waits, and the slot has one mark
+    &[
+        OPENING,
+        &[
+            TAKES,
+            TAKES_NOTHING,
+            Turn::Live(Ask::Mkdir("/g"), Told::Done),
+            INSTALLS,
+            HAS_NO_JOB,
+            Turn::Live(Ask::Readdir("/"), SEVEN),
+        ],
+    ],
+    // what a call takes away does not come again with the job
+    &[
+        OPENING,
+        &[
+            TAKES,
+            Turn::Live(Ask::Rmdir("/f"), Told::Done),
+            INSTALLS,
+            Turn::Live(Ask::Stat("/f"), Told::Fault(Errno::ENOENT)),
+        ],
+    ],
+    // another tree is not the one that the job was taken from
+    &[
+        OPENING,
+        &[
+            TAKES,
+            Turn::Snap(Snap::Restore("s"), None),
+            IS_STALE,
+            Turn::Live(Ask::Readdir("/"), Told::Names(&[])),
+        ],
+    ],
+    // a step at the slot of the mark ends the job
+    &[
+        OPENING,
+        &[
+            TAKES,
+            Turn::Step(Index::Meta, StepKind::FlushInner, 1, u32::MAX),
+            IS_STALE,
+        ],
+    ],
+    // with jobs all messages come down, and a job more has none
+    &[
+        OPENING,
+        &[
+            TAKES,
+            INSTALLS,
+            TAKES_NOTHING,
+            Turn::Live(Ask::Readdir("/"), SIX),
+        ],
+    ],
+    // a job that is left at the end of a run has no mark any more, and its ticket is not given again
+    &[
+        OPENING,
+        &[TAKES],
+        &[
+            HAS_NO_JOB,
+            TAKES_AGAIN,
+            HAS_NO_JOB,
+            Turn::Finish(1, FinishAnswer::Installed),
+            Turn::Live(Ask::Readdir("/"), SIX),
+        ],
+    ],
+    // tickets count over both indexes, and of two jobs the younger may be installed first
+    &[
+        OPENING,
+        BLOCKS,
+        &[
+            Turn::Take(Index::Block, 0, TakeAnswer::Taken(Ticket { number: 0 })),
+            TAKES_AGAIN,
+            Turn::Live(Ask::Write("/x", 20_480, b"\xb5\xb6"), Told::Count(2)),
+            Turn::Finish(1, FinishAnswer::Installed),
+            Turn::Live(Ask::Stat("/x"), Told::File(20_482)),
+            INSTALLS,
+            Turn::Live(Ask::Stat("/x"), Told::File(20_482)),
+            Turn::Live(Ask::Read("/x", 20_480, 4), Told::Data(b"\xb5\xb6")),
+            Turn::Live(Ask::Read("/x", 16_384, 2), Told::Data(b"\xa4\0")),
+        ],
+    ],
+    // a new root ends the jobs of its own index alone
+    &[
+        OPENING,
+        BLOCKS,
+        &[
+            Turn::Take(Index::Block, 0, TakeAnswer::Taken(Ticket { number: 0 })),
+            TAKES_AGAIN,
+            Turn::Step(Index::Block, StepKind::RootDown, 0, 0),
+            IS_STALE,
+            Turn::Finish(1, FinishAnswer::Installed),
+            Turn::Live(Ask::Read("/x", 20_479, 4), Told::Data(b"\0\xa5")),
+        ],
+    ],
+    // the other index has no job there, nor has a slot that is not there
+    &[
+        OPENING,
+        &[
+            Turn::Take(Index::Block, 0, TakeAnswer::NotThere),
+            Turn::Take(Index::Meta, 1, TakeAnswer::NotThere),
+            Turn::Take(Index::Meta, u8::MAX, TakeAnswer::NotThere),
+            TAKES,
+        ],
+    ],
+];
+
+/// Whether each run has the answers of its turns.
+fn are_followed(alloc: Global, volume: &mut Volume, row: Row) -> bool {
+    for turns in row {
+        if !follows(alloc, volume, turns) {
+            return false;
+        }
+    }
+    true
+}
+
+/// The same of a new volume.
+fn is_followed(alloc: Global, row: Row) -> bool {
+    match new_volume(alloc, SMALL) {
+        Ok(mut volume) => are_followed(alloc, &mut volume, row),
+        Err(_) => false,
+    }
+}
+
+#[test]
+fn jobs_are_answered_as_each_row_says(rt: HostRuntime) {
+    for (number, row) in ROWS.iter().enumerate() {
+        assert!(rt; is_followed(rt.alloc(), row), "row {number}");
+    }
+}
+
+/// What is asked of a volume by its own calls.
+#[derive(Clone, Copy, Debug)]
+enum Act {
+    /// A taking at the first slot of the metadata's root, and the ticket that is given, if one is.
+    Take(Option<u64>),
+    /// The mark of this ticket goes.
+    Cancel(u64),
+    /// All marks go.
+    CancelAll,
+}
+
+const ACTS: &[Act] = &[
+    Act::Take(Some(0)),
+    Act::Take(None),
+    Act::Cancel(1),
+    Act::Take(None),
+    Act::Cancel(0),
+    Act::Take(Some(1)),
+    Act::Cancel(0),
+    Act::Take(None),
+    Act::CancelAll,
+    Act::Take(Some(2)),
+];
+
+/// The ticket of a job that is taken at the first slot of the metadata's root, and let go.
+fn taken(alloc: Global, volume: &mut Volume) -> Option<u64> {
+    match volume.take_job(alloc, Index::Meta, 0) {
+        TakeReply::Taken(job) => Some(job.ticket().number),
+        _ => None,
+    }
+}
+
+/// Whether an act comes out as it says.
+fn is_done(alloc: Global, volume: &mut Volume, act: Act) -> bool {
+    match act {
+        Act::Take(wanted) => taken(alloc, volume) == wanted,
+        Act::Cancel(number) => {
+            volume.cancel(Ticket::of(number));
+            true
+        }
+        Act::CancelAll => {
+            volume.cancel_all();
+            true
+        }
+    }
+}
+
+/// How many acts come out as they say, before the first that does not.
+fn count_done(alloc: Global, volume: &mut Volume) -> usize {
+    let mut count = 0usize;
+    for act in ACTS {
+        if !is_done(alloc, volume, *act) {
+            return count;
+        }
+        count = count.saturating_add(1);
+    }
+    count
+}
+
+/// The same behind the opening.
+fn count_behind_opening(alloc: Global, volume: &mut Volume) -> usize {
+    if !follows(alloc, volume, OPENING) {
+        return 0;
+    }
+    count_done(alloc, volume)
+}
+
+/// The same of a new volume.
+fn count_in_new(alloc: Global) -> usize {
+    match new_volume(alloc, SMALL) {
+        Ok(mut volume) => count_behind_opening(alloc, &mut volume),
+        Err(_) => 0,
+    }
+}
+
+#[test]
+fn marks_are_cancelled(rt: HostRuntime) {
+    assert_eq!(rt; count_in_new(rt.alloc()), ACTS.len());
+}
+
+/// What installing is answered: whether it was done, or the mark was gone.
+fn installed(volume: &mut Volume, done: Done) -> FinishAnswer
+    requires { DoneFits done (live_of volume.old) }
+{
+    match volume.install(done) {
+        InstallReply::Installed => FinishAnswer::Installed,
+        InstallReply::Stale => FinishAnswer::Stale,
+        InstallReply::NoMemory(_) => FinishAnswer::NoMemory,
+    }
+}
+
+/// Takes a job of this slot of the metadata's root, builds it and installs it, where its mark is cancelled before on demand.
+fn take_and_install(alloc: Global, volume: &mut Volume, cancelled: bool) -> FinishAnswer {
+    let TakeReply::Taken(job) = volume.take_job(alloc, Index::Meta, 0) else {
+        return FinishAnswer::NotThere;
+    };
+    let Ok(done) = job.build(alloc) else {
+        return FinishAnswer::NoMemory;
+    };
+    if cancelled {
+        volume.cancel(done.ticket());
+    }
+    installed(volume, done)
+}
+
+/// Whether of two jobs in turn the first is cancelled, the second is installed, and the directories are then six.
+fn installs(alloc: Global, volume: &mut Volume) -> bool {
+    take_and_install(alloc, volume, true) == FinishAnswer::Stale
+        && take_and_install(alloc, volume, false) == FinishAnswer::Installed
+        && take_and_install(alloc, volume, false) == FinishAnswer::NotThere
+        && answers(alloc, volume, Ask::Readdir("/"), SIX)
+}
+
+/// The same of a new volume, behind the opening.
+fn installs_behind_opening(alloc: Global) -> bool {
+    match new_volume(alloc, SMALL) {
+        Ok(mut volume) => { follows(alloc, &mut volume, OPENING) && installs(alloc, &mut volume) }
+        Err(_) => false,
+    }
+}
+
+#[test]
+fn job_is_installed(rt: HostRuntime) {
+    assert!(rt; installs_behind_opening(rt.alloc()));
+}
