@@ -182,7 +182,7 @@ WORKLOADS = {
     "again": Workload("files unlinked and made again", 10_000, 1_000, files, made_again),
     "rmtree": Workload("rmtree of files", 25_000, 5_000, one_directory, rmtree),
     "rename": Workload("rename of a directory of files", 2_500, 250, filled, rename),
-    "snapshot": Workload(f"{ROUNDS:,} rounds: snapshot, ten writes, restore, drop; of files", 2_500, 50, files, snapshots),
+    "snapshot": Workload(f"{ROUNDS:,} rounds of snapshot, writes, restore, drop; files", 2_500, 50, files, snapshots),
     "readdir": Workload(f"{LISTINGS:,} readdirs, of files in all", 25_000, 1_000, files, readdirs),
     "image": Workload("an image of files of 100 bytes printed", 5_000, 500, filled, nothing, ("--image",)),
     "load": Workload("an image of files of 100 bytes loaded", 5_000, 500, nothing, nothing, ("--load",)),
