@@ -2,6 +2,7 @@
 use crate::outcomes::{Before, Counts, Outcome};
 use crate::some_lines::{kind_at, some_line};
 use crate::some_steps::{Done, ROOMY};
+use crate::text::Line;
 use crate::volume_steps::try_step_in;
 use node::{Shape, ShapeReport};
 use pathkey::{Errno, NoMemory};
@@ -12,7 +13,6 @@ use samples::Random;
 use shell::{Request, ScriptFault, Tidy, read_request, run_script, write_reply};
 use std::alloc::Global;
 use std::io::{Read, Write};
-use std::test::Fail;
 use volume::{Index, Volume};
 
 /// What a tree went through.
@@ -82,28 +82,45 @@ fn is_told(alloc: Global, reply: &Reply, text: &[u8]) -> bool {
     wrote(&mut wanted, reply) && wanted.as_slice() == text
 }
 
-/// A volume on which a script runs, and the plain program under the same calls.
+/// What the plain program replies to a call. It ensures nothing either.
+pub fn plain_call(alloc: Global, plain: &mut World, call: &Call) -> Result<Reply, NoMemory> {
+    plain.call(alloc, call)
+}
+
+/// A volume on which a script runs.
 #[derive(Drop)]
-struct Both {
+struct Scripted {
     volume: Volume,
-    plain: World,
     /// What the tree of the metadata went through.
     meta: Course,
     /// What the tree of the blocks went through.
     block: Course,
 }
 
-impl Both {
-    /// An empty root directory in both.
-    fn new(alloc: Global) -> Result<Both, Fail> {
-        Ok(Both {
-            volume: new_volume(alloc, ROOMY)?,
-            plain: World::new(alloc)?,
-            meta: Course::default(),
-            block: Course::default(),
-        })
+impl Scripted {
+    /// Does a line, and puts the text of its answer behind; whether it was done.
+    fn answer(&mut self, alloc: Global, line: &[u8], text: &mut Vec<u8>) -> bool {
+        let mut script = line;
+        run(alloc, &mut self.volume, &mut script, text, 0).is_ok()
     }
 
+    /// Tries steps on both trees.
+    fn shake(&mut self, alloc: Global, random: &mut Random) -> Result<(), NoMemory> {
+        self.meta
+            .shake(alloc, random, &mut self.volume, Index::Meta)?;
+        self.block
+            .shake(alloc, random, &mut self.volume, Index::Block)
+    }
+}
+
+/// The plain program under the same calls.
+#[derive(Drop)]
+struct Plainly {
+    plain: World,
+    counts: Counts,
+}
+
+impl Plainly {
     /// How many bytes the file has that a call cuts or lengthens.
     fn length(&self, call: &Call) -> u64 {
         match call {
@@ -128,113 +145,139 @@ impl Both {
         Before { length, old, new }
     }
 
-    /// What the volume answers to a line.
-    fn script_text(&mut self, alloc: Global, line: &[u8]) -> Result<Vec<u8>, Fail> {
-        let mut text = line;
-        let mut got = Vec::new(alloc);
-        run(alloc, &mut self.volume, &mut text, &mut got, 0)?;
-        Ok(got)
+    /// Counts what came of a call.
+    fn count(&mut self, call: &Call, before: Before, reply: &Reply) {
+        if let Some(outcome) = Outcome::of(call, before, reply) {
+            self.counts.count(outcome);
+        }
     }
 
-    /// What the plain program replies to a call. What came of it is counted.
-    fn plain_reply(
-        &mut self,
-        alloc: Global,
-        call: &Call,
-        counts: &mut Counts,
-    ) -> Result<Reply, Fail> {
-        counts.ask(call);
+    /// Whether the plain program replies to a call as the text says. What came of it is counted.
+    fn replies(&mut self, alloc: Global, call: &Call, text: &[u8]) -> bool {
+        self.counts.ask(call);
         let before = self.before(call);
-        let reply = self.plain.call(alloc, call)?;
-        if let Some(outcome) = Outcome::of(call, before, &reply) {
-            counts.count(outcome);
-        }
-        Ok(reply)
-    }
-
-    /// Whether the plain program replies to a call as the text says.
-    fn replies(
-        &mut self,
-        alloc: Global,
-        call: &Call,
-        text: &[u8],
-        counts: &mut Counts,
-    ) -> Result<bool, Fail> {
-        let reply = self.plain_reply(alloc, call, counts)?;
-        Ok(is_told(alloc, &reply, text))
-    }
-
-    /// Does a line on the volume and its call in the plain program; whether the script's text is that of the plain program's reply.
-    fn answer_alike(
-        &mut self,
-        alloc: Global,
-        line: &[u8],
-        call: &Call,
-        counts: &mut Counts,
-    ) -> Result<bool, Fail> {
-        let got = self.script_text(alloc, line)?;
-        self.replies(alloc, call, got.as_slice(), counts)
-    }
-
-    /// Whether a line asks for a call, and both answer it alike.
-    fn answers_alike(
-        &mut self,
-        alloc: Global,
-        line: &[u8],
-        counts: &mut Counts,
-    ) -> Result<bool, Fail> {
-        match &request_of(alloc, line) {
-            Request::Wanted(call) => self.answer_alike(alloc, line, call, counts),
-            _ => Ok(false),
-        }
-    }
-
-    /// Tries steps on both trees.
-    fn shake(&mut self, alloc: Global, random: &mut Random) -> Result<(), NoMemory> {
-        self.meta
-            .shake(alloc, random, &mut self.volume, Index::Meta)?;
-        self.block
-            .shake(alloc, random, &mut self.volume, Index::Block)
-    }
-
-    /// Does so many lines, with steps between, and counts what comes of them; the first line that was answered otherwise, if any.
-    fn run(
-        &mut self,
-        alloc: Global,
-        random: &mut Random,
-        lines: u32,
-        counts: &mut Counts,
-    ) -> Result<Option<String>, Fail> {
-        for _ in 0..lines {
-            let line = some_line(alloc, random, self.plain.live())?;
-            if !self.answers_alike(alloc, line.as_bytes(), counts)? {
-                return Ok(Some(line));
+        match plain_call(alloc, &mut self.plain, call) {
+            Ok(reply) => {
+                self.count(call, before, &reply);
+                is_told(alloc, &reply, text)
             }
-            if random.below(64) == 0 {
-                self.shake(alloc, random)?;
-            }
+            Err(_) => false,
         }
-        Ok(None)
+    }
+
+    /// Whether a request is for a call, to which the plain program replies as the text says.
+    fn meets(&mut self, alloc: Global, request: &Request, text: &[u8]) -> bool {
+        match request {
+            Request::Wanted(call) => self.replies(alloc, call, text),
+            _ => false,
+        }
     }
 }
 
-#[test]
-fn a_script_answers_as_the_plain_program(rt: HostRuntime) -> Result<(), Fail> {
-    let alloc = rt.alloc();
+/// Whether a line asks for a call, and both answer it alike.
+fn answer_alike(
+    alloc: Global,
+    scripted: &mut Scripted,
+    plainly: &mut Plainly,
+    line: &[u8],
+) -> bool {
+    let mut text = Vec::new(alloc);
+    scripted.answer(alloc, line, &mut text)
+        && plainly.meets(alloc, &request_of(alloc, line), text.as_slice())
+}
+
+/// How many lines there are.
+const LINES: u32 = 20_000;
+
+/// Does so many lines, with steps between; how many are answered alike, before the first that is not.
+fn count_alike(
+    alloc: Global,
+    scripted: &mut Scripted,
+    plainly: &mut Plainly,
+    line: &mut Line,
+) -> u32 {
     let mut random = Random(5);
-    let mut both = Both::new(alloc)?;
-    let mut counts = Counts::new();
-    assert_eq!(rt; both.run(alloc, &mut random, 20_000, &mut counts)?, None);
-    assert!(rt;
-        counts.rarest() >= 10 && counts.has_moved_a_third(),
-        "{counts:?}"
-    );
-    let Both { meta, block, .. } = &both;
-    assert!(rt; meta.steps.all() >= 1_000 && meta.levels >= 3, "{meta:?}");
-    assert!(rt;
-        block.steps.all() >= 1_000 && block.levels >= 2,
-        "{block:?}"
-    );
-    assert!(rt; block.pending >= 16, "{block:?}");
-    Ok(())
+    for count in 0..LINES {
+        if !some_line(alloc, &mut random, plainly.plain.live(), line)
+            || !answer_alike(alloc, scripted, plainly, line.bytes())
+        {
+            return count;
+        }
+        if random.below(64) == 0 && scripted.shake(alloc, &mut random).is_err() {
+            return count;
+        }
+    }
+    LINES
+}
+
+/// What was seen of both.
+type Seen = [u128; 8];
+
+/// How much of each there is at least: lines answered alike, each outcome, whether a third of the moves were done; steps and levels
+/// of the metadata's tree; and steps, levels and pending messages of that of the blocks.
+const LEAST: Seen = [LINES as u128, 10, 1, 1_000, 3, 1_000, 2, 16];
+
+/// What was seen of both.
+fn seen(scripted: &Scripted, plainly: &Plainly, alike: u32) -> Seen {
+    let (meta, block) = (&scripted.meta, &scripted.block);
+    [
+        alike as u128,
+        plainly.counts.rarest() as u128,
+        plainly.counts.has_moved_a_third() as u128,
+        meta.steps.all() as u128,
+        meta.levels,
+        block.steps.all() as u128,
+        block.levels,
+        block.pending,
+    ]
+}
+
+/// What is seen of a volume and a plain program that do the lines.
+fn see(alloc: Global, scripted: &mut Scripted, plainly: &mut Plainly) -> Seen {
+    let mut line = Line::new(alloc);
+    let alike = count_alike(alloc, scripted, plainly, &mut line);
+    seen(scripted, plainly, alike)
+}
+
+/// The same of a plain program made here.
+fn see_beside(alloc: Global, scripted: &mut Scripted) -> Option<Seen> {
+    match World::new(alloc) {
+        Ok(plain) => {
+            let counts = Counts::new();
+            Some(see(alloc, scripted, &mut Plainly { plain, counts }))
+        }
+        Err(_) => None,
+    }
+}
+
+/// The same of a volume made here.
+fn see_new(alloc: Global) -> Option<Seen> {
+    match new_volume(alloc, ROOMY) {
+        Ok(volume) => {
+            let (meta, block) = (Course::default(), Course::default());
+            let mut scripted = Scripted {
+                volume,
+                meta,
+                block,
+            };
+            see_beside(alloc, &mut scripted)
+        }
+        Err(_) => None,
+    }
+}
+
+/// Whether all lines were answered alike, and enough came of them.
+fn is_enough(seen: Seen) -> bool {
+    for (count, least) in seen.iter().zip(LEAST.iter()) {
+        if count < least {
+            return false;
+        }
+    }
+    true
+}
+
+#[test]
+fn a_script_answers_as_the_plain_program(rt: HostRuntime) {
+    let seen = see_new(rt.alloc());
+    assert!(rt; seen.is_some_and(is_enough), "{seen:?}");
 }

@@ -1,17 +1,19 @@
 //! Runs of events of every kind, with jobs taken and finished among them, beside the plain program.
 use crate::calls::{new_volume, request_of, wrote};
-use crate::paces::{plain_reply, print, settled};
+use crate::paces::{has_image, plain_image, plain_reply, settled};
 use crate::some_lines::some_line_or_snapshot;
 use crate::some_steps::{Done, SMALL};
-use crate::volume_steps::{freeze, step_somewhere, try_step_in};
+use crate::text::Line;
+use crate::volume_steps::{step_somewhere, try_step_in};
+use bytes::Bytes;
 use jobs::Ticket;
 use node::{Place, Shape, StepKind, StepReply, TreeStep};
-use pathkey::NoMemory;
-use reference::plain::{World, image_of};
+use pathkey::{NoMemory, Path, SnapName};
+use reference::plain::World;
+use reference::{Call, Reply};
 use samples::Random;
 use shell::Request;
 use std::alloc::Global;
-use std::test::Fail;
 use volume::{Answer, Event, FinishAnswer, Index, Step, TakeAnswer, Volume};
 
 /// A shape with nodes twice as wide as the smallest.
@@ -128,13 +130,81 @@ fn root_up(index: Index) -> Step {
     Step { index, step }
 }
 
-/// The event of what a line asks for; none where a run has no such event.
-fn event_of(request: Request) -> Option<Event> {
+/// The path of a call; of a move the old one.
+fn path_of(call: &Call) -> &Path {
+    match call {
+        Call::Mkdir(path)
+        | Call::Create(path)
+        | Call::Write(path, _, _)
+        | Call::Truncate(path, _)
+        | Call::Unlink(path)
+        | Call::Rmdir(path)
+        | Call::Rename(path, _)
+        | Call::Rmtree(path)
+        | Call::Read(path, _, _)
+        | Call::Stat(path)
+        | Call::Readdir(path) => path,
+    }
+}
+
+/// A copy of a path. It ensures nothing, so that no proof of a test reads what a copy is; nor does the next one.
+fn copy_path(alloc: Global, path: &Path) -> Option<Path> {
+    path.copy(alloc).ok()
+}
+
+/// A copy of a name.
+fn copy_name(alloc: Global, name: &SnapName) -> Option<SnapName> {
+    name.copy(alloc).ok()
+}
+
+/// A write of the same bytes.
+fn write_at(path: Path, offset: u64, bytes: &Bytes) -> Option<Call> {
+    match bytes.slice(..) {
+        Ok(bytes) => Some(Call::Write(path, offset, bytes)),
+        Err(_) => None,
+    }
+}
+
+/// A move to a copy of the path.
+fn rename_to(alloc: Global, old: Path, new: &Path) -> Option<Call> {
+    match copy_path(alloc, new) {
+        Some(new) => Some(Call::Rename(old, new)),
+        None => None,
+    }
+}
+
+/// The same call at a path.
+fn call_at(alloc: Global, call: &Call, path: Path) -> Option<Call> {
+    match call {
+        Call::Mkdir(_) => Some(Call::Mkdir(path)),
+        Call::Create(_) => Some(Call::Create(path)),
+        Call::Write(_, offset, bytes) => write_at(path, *offset, bytes),
+        Call::Truncate(_, len) => Some(Call::Truncate(path, *len)),
+        Call::Unlink(_) => Some(Call::Unlink(path)),
+        Call::Rmdir(_) => Some(Call::Rmdir(path)),
+        Call::Rename(_, new) => rename_to(alloc, path, new),
+        Call::Rmtree(_) => Some(Call::Rmtree(path)),
+        Call::Read(_, offset, count) => Some(Call::Read(path, *offset, *count)),
+        Call::Stat(_) => Some(Call::Stat(path)),
+        Call::Readdir(_) => Some(Call::Readdir(path)),
+    }
+}
+
+/// A copy of a call.
+fn copy_call(alloc: Global, call: &Call) -> Option<Call> {
+    match copy_path(alloc, path_of(call)) {
+        Some(path) => call_at(alloc, call, path),
+        None => None,
+    }
+}
+
+/// The event of what a line asks for; none where a run has no such event, or memory is refused.
+fn event_of(alloc: Global, request: &Request) -> Option<Event> {
     match request {
-        Request::Wanted(call) => Some(Event::Call(call)),
-        Request::Snapshot(name) => Some(Event::Snapshot(name)),
-        Request::DropSnapshot(name) => Some(Event::DropSnapshot(name)),
-        Request::Restore(name) => Some(Event::Restore(name)),
+        Request::Wanted(call) => copy_call(alloc, call).map(Event::Call),
+        Request::Snapshot(name) => copy_name(alloc, name).map(Event::Snapshot),
+        Request::DropSnapshot(name) => copy_name(alloc, name).map(Event::DropSnapshot),
+        Request::Restore(name) => copy_name(alloc, name).map(Event::Restore),
         _ => None,
     }
 }
@@ -145,21 +215,15 @@ fn run(alloc: Global, volume: &mut Volume, events: &[Event]) -> Result<Vec<Answe
 }
 
 /// Puts the text of the answer to a call behind the replies, and counts the answer of any other event; `false` where the text is not
-/// written.
-fn tells(
-    replies: &mut Vec<u8>,
-    tally: &mut Tally,
-    event: &Event,
-    answer: &Answer,
-) -> Result<bool, NoMemory> {
+/// written, or memory was refused.
+fn tells(replies: &mut Vec<u8>, tally: &mut Tally, event: &Event, answer: &Answer) -> bool {
     match answer {
-        Answer::Call(reply) => return Ok(wrote(replies, reply)),
-        Answer::Snap(answer) => return Ok(wrote(replies, &settled(*answer))),
-        Answer::Step(reply) => tally.count_step(*reply)?,
-        Answer::Take(answer) => tally.count_taking(event, *answer)?,
-        Answer::Finish(answer) => tally.count_finishing(*answer)?,
+        Answer::Call(reply) => wrote(replies, reply),
+        Answer::Snap(answer) => wrote(replies, &settled(*answer)),
+        Answer::Step(reply) => tally.count_step(*reply).is_ok(),
+        Answer::Take(answer) => tally.count_taking(event, *answer).is_ok(),
+        Answer::Finish(answer) => tally.count_finishing(*answer).is_ok(),
     }
-    Ok(true)
 }
 
 /// The events of a run, and the text of what the plain program replies to its calls.
@@ -184,19 +248,25 @@ impl Plan {
         }
     }
 
+    /// Adds an event; whether there was memory for it.
+    fn push(&mut self, event: Event) -> bool {
+        self.events.push(event).is_ok()
+    }
+
+    /// Adds the event of a request, and the text of its reply; whether a run has such an event.
+    fn add_event(&mut self, alloc: Global, request: &Request, reply: &Reply) -> bool {
+        match event_of(alloc, request) {
+            Some(event) => self.push(event) && wrote(&mut self.replies, reply),
+            None => false,
+        }
+    }
+
     /// Adds what a request asks for, and does it in the plain program; whether a run has such an event.
-    fn add_request(
-        &mut self,
-        alloc: Global,
-        plain: &mut World,
-        request: Request,
-    ) -> Result<bool, Fail> {
-        let reply = plain_reply(alloc, plain, &request)?;
-        let (Some(reply), Some(event)) = (reply, event_of(request)) else {
-            return Ok(false);
-        };
-        self.events.push(event)?;
-        Ok(wrote(&mut self.replies, &reply))
+    fn add_request(&mut self, alloc: Global, plain: &mut World, request: &Request) -> bool {
+        match plain_reply(alloc, plain, request) {
+            Some(reply) => self.add_event(alloc, request, &reply),
+            None => false,
+        }
     }
 
     /// Adds a call that looks random.
@@ -205,44 +275,44 @@ impl Plan {
         alloc: Global,
         random: &mut Random,
         plain: &mut World,
-    ) -> Result<bool, Fail> {
-        let line = some_line_or_snapshot(alloc, random, plain.live())?;
-        self.add_request(alloc, plain, request_of(alloc, line.as_bytes()))
+        line: &mut Line,
+    ) -> bool {
+        some_line_or_snapshot(alloc, random, plain.live(), line)
+            && self.add_request(alloc, plain, &request_of(alloc, line.bytes()))
     }
 
     /// Adds a new root for each tree whose root has leaves below, since no job is taken there.
-    fn add_roots(&mut self, volume: &Volume) -> Result<(), Fail> {
+    fn add_roots(&mut self, volume: &Volume) -> bool {
         for index in [Index::Meta, Index::Block] {
-            if volume.shape_report(index).levels < 2 {
-                self.events.push(Event::Step(root_up(index)))?;
+            if volume.shape_report(index).levels < 2 && !self.push(Event::Step(root_up(index))) {
+                return false;
             }
         }
-        Ok(())
+        true
     }
 
     /// Adds a step somewhere in the trees as they were before the run.
-    fn add_step(&mut self, random: &mut Random, volume: &Volume) -> Result<(), Fail> {
+    fn add_step(&mut self, random: &mut Random, volume: &Volume) -> bool {
         let index = some_index(random);
-        let step = step_somewhere(random, volume, index)?;
-        self.events.push(Event::Step(Step { index, step }))?;
-        Ok(())
+        match step_somewhere(random, volume, index) {
+            Ok(step) => self.push(Event::Step(Step { index, step })),
+            Err(_) => false,
+        }
     }
 
     /// Adds a taking at some slot of a root, mostly one of the first.
-    fn add_taking(&mut self, random: &mut Random) -> Result<(), Fail> {
+    fn add_taking(&mut self, random: &mut Random) -> bool {
         let index = some_index(random);
         let slot = random.below(4).min(random.below(4)) as u8;
-        self.events.push(Event::Take(index, slot))?;
         self.takings = self.takings.saturating_add(1);
-        Ok(())
+        self.push(Event::Take(index, slot))
     }
 
     /// Adds the finishing of a job that may have been taken, or is the last of those before the run.
-    fn add_finishing(&mut self, random: &mut Random) -> Result<(), Fail> {
+    fn add_finishing(&mut self, random: &mut Random) -> bool {
         let among = random.below(self.takings.min(NEAR).saturating_add(2));
         let number = self.first.saturating_add(among).saturating_sub(1);
-        self.events.push(Event::Finish(Ticket::of(number as u64)))?;
-        Ok(())
+        self.push(Event::Finish(Ticket::of(number as u64)))
     }
 
     /// Adds an event that looks random: of ten two are jobs, and two are steps.
@@ -252,37 +322,30 @@ impl Plan {
         random: &mut Random,
         plain: &mut World,
         volume: &Volume,
-    ) -> Result<(), Fail> {
+        line: &mut Line,
+    ) -> bool {
         match random.below(10) {
             0 => self.add_taking(random),
             1 => self.add_finishing(random),
             2 | 3 => self.add_step(random, volume),
-            _ => {
-                if self.add_call(alloc, random, plain)? {
-                    return Ok(());
-                }
-                self.add_step(random, volume)
-            }
+            _ => self.add_call(alloc, random, plain, line) || self.add_step(random, volume),
         }
     }
 
-    /// Whether these are the answers, which are counted.
-    fn is_answered(
-        &self,
-        alloc: Global,
-        answers: &[Answer],
-        tally: &mut Tally,
-    ) -> Result<bool, NoMemory> {
-        if answers.len() != self.events.len() {
-            return Ok(false);
-        }
-        let mut replies = Vec::new(alloc);
+    /// Whether the texts of the answers are those of the replies; the other answers are counted.
+    fn tells_all(&self, replies: &mut Vec<u8>, answers: &[Answer], tally: &mut Tally) -> bool {
         for (event, answer) in self.events.iter().zip(answers.iter()) {
-            if !tells(&mut replies, tally, event, answer)? {
-                return Ok(false);
+            if !tells(replies, tally, event, answer) {
+                return false;
             }
         }
-        Ok(replies.as_slice() == self.replies.as_slice())
+        replies.as_slice() == self.replies.as_slice()
+    }
+
+    /// Whether these are the answers, which are counted.
+    fn is_answered(&self, alloc: Global, answers: &[Answer], tally: &mut Tally) -> bool {
+        let mut replies = Vec::new(alloc);
+        answers.len() == self.events.len() && self.tells_all(&mut replies, answers, tally)
     }
 }
 
@@ -297,43 +360,46 @@ struct Both {
 }
 
 impl Both {
-    /// An empty root directory in both.
-    fn new(alloc: Global, shape: Shape) -> Result<Both, Fail> {
-        Ok(Both {
-            volume: new_volume(alloc, shape)?,
-            plain: World::new(alloc)?,
-            tally: Tally::default(),
-            done: Done::default(),
-        })
-    }
-
-    /// A run of events that look random. The plain program has done its calls.
-    fn plan(&mut self, alloc: Global, random: &mut Random) -> Result<Plan, Fail> {
-        let mut plan = Plan::new(alloc, self.tally.taken);
-        plan.add_roots(&self.volume)?;
-        for _ in 0..EVENTS {
-            plan.add(alloc, random, &mut self.plain, &self.volume)?;
+    /// Makes a run of events that look random, of which the plain program has then done the calls.
+    fn fill(
+        &mut self,
+        alloc: Global,
+        random: &mut Random,
+        line: &mut Line,
+        plan: &mut Plan,
+    ) -> bool {
+        if !plan.add_roots(&self.volume) {
+            return false;
         }
-        Ok(plan)
+        for _ in 0..EVENTS {
+            if !plan.add(alloc, random, &mut self.plain, &self.volume, line) {
+                return false;
+            }
+        }
+        true
     }
 
     /// Whether both have one image.
-    fn looks_alike(&self, alloc: Global) -> Result<bool, Fail> {
-        let frozen = freeze(&self.volume)?;
-        let mut image = Vec::new(alloc);
-        print(alloc, &frozen, &mut image)?;
-        let wanted = image_of(alloc, self.plain.live())?;
-        Ok(image.as_slice() == wanted.as_slice())
+    fn looks_alike(&self, alloc: Global) -> bool {
+        match plain_image(alloc, &self.plain) {
+            Some(image) => has_image(alloc, &self.volume, image.as_slice()),
+            None => false,
+        }
+    }
+
+    /// Whether the volume answers a run as the plain program did, and has its image after it.
+    fn meets(&mut self, alloc: Global, plan: &Plan) -> bool {
+        match run(alloc, &mut self.volume, plan.events.as_slice()) {
+            Ok(answers) => plan.is_answered(alloc, answers.as_slice(), &mut self.tally)
+                && self.looks_alike(alloc),
+            Err(_) => false,
+        }
     }
 
     /// Whether both answer a run alike, and have one image after it.
-    fn answers_alike(&mut self, alloc: Global, random: &mut Random) -> Result<bool, Fail> {
-        let plan = self.plan(alloc, random)?;
-        let answers = run(alloc, &mut self.volume, plan.events.as_slice())?;
-        if !plan.is_answered(alloc, answers.as_slice(), &mut self.tally)? {
-            return Ok(false);
-        }
-        self.looks_alike(alloc)
+    fn answers_alike(&mut self, alloc: Global, random: &mut Random, line: &mut Line) -> bool {
+        let mut plan = Plan::new(alloc, self.tally.taken);
+        self.fill(alloc, random, line, &mut plan) && self.meets(alloc, &plan)
     }
 
     /// Tries steps in both indexes.
@@ -346,30 +412,65 @@ impl Both {
         Ok(())
     }
 
-    /// The number of the first run that is not answered alike, if any.
-    fn differs_at(&mut self, alloc: Global, random: &mut Random) -> Result<Option<u32>, Fail> {
-        for number in 0..RUNS {
-            if !self.answers_alike(alloc, random)? {
-                return Ok(Some(number));
+    /// How many runs are answered alike, before the first that is not.
+    fn count_alike(&mut self, alloc: Global, random: &mut Random, line: &mut Line) -> u32 {
+        for count in 0..RUNS {
+            if !self.answers_alike(alloc, random, line) || self.shake(alloc, random).is_err() {
+                return count;
             }
-            self.shake(alloc, random)?;
         }
-        Ok(None)
+        RUNS
+    }
+
+    /// How many runs are answered alike, and how many jobs of the rarest kind there were.
+    fn see(&mut self, alloc: Global, seed: u32) -> (u32, u32) {
+        let mut line = Line::new(alloc);
+        let alike = self.count_alike(alloc, &mut Random(seed), &mut line);
+        (alike, self.tally.rarest())
+    }
+}
+
+/// What is seen of a volume and a plain program.
+fn see(alloc: Global, volume: Volume, plain: World, seed: u32) -> (u32, u32) {
+    let mut both = Both {
+        volume,
+        plain,
+        tally: Tally::default(),
+        done: Done::default(),
+    };
+    both.see(alloc, seed)
+}
+
+/// The same of a plain program made here.
+fn see_beside(alloc: Global, volume: Volume, seed: u32) -> (u32, u32) {
+    match World::new(alloc) {
+        Ok(plain) => see(alloc, volume, plain, seed),
+        Err(_) => (0, 0),
+    }
+}
+
+/// The same of a volume of this shape, made here.
+fn see_new(alloc: Global, shape: Shape, seed: u32) -> (u32, u32) {
+    match new_volume(alloc, shape) {
+        Ok(volume) => see_beside(alloc, volume, seed),
+        Err(_) => (0, 0),
     }
 }
 
 #[test]
-fn runs_of_small_nodes_answer_as_the_plain_program(rt: HostRuntime) -> Result<(), Fail> {
-    let mut both = Both::new(rt.alloc(), SMALL)?;
-    assert_eq!(rt; both.differs_at(rt.alloc(), &mut Random(17))?, None);
-    assert!(rt; both.tally.rarest() >= 10, "{:?}", both.tally);
-    Ok(())
+fn runs_of_small_nodes_answer_as_the_plain_program(rt: HostRuntime) {
+    let (alike, rarest) = see_new(rt.alloc(), SMALL, 17);
+    assert!(rt;
+        alike == RUNS && rarest >= 10,
+        "{alike} runs, {rarest} of the rarest"
+    );
 }
 
 #[test]
-fn runs_of_wider_nodes_answer_as_the_plain_program(rt: HostRuntime) -> Result<(), Fail> {
-    let mut both = Both::new(rt.alloc(), WIDER)?;
-    assert_eq!(rt; both.differs_at(rt.alloc(), &mut Random(18))?, None);
-    assert!(rt; both.tally.rarest() >= 10, "{:?}", both.tally);
-    Ok(())
+fn runs_of_wider_nodes_answer_as_the_plain_program(rt: HostRuntime) {
+    let (alike, rarest) = see_new(rt.alloc(), WIDER, 18);
+    assert!(rt;
+        alike == RUNS && rarest >= 10,
+        "{alike} runs, {rarest} of the rarest"
+    );
 }

@@ -22,4 +22,6 @@ mod some_steps;
 #[cfg(test)]
 mod tests;
 #[cfg(test)]
+mod text;
+#[cfg(test)]
 mod volume_steps;
