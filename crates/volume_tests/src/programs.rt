@@ -274,16 +274,21 @@ const SCRIPT_WORDS: &[&[&str]] = &[
     ],
 ];
 
+/// Whether a script is answered so by each command line.
+fn is_answered<H: Host>(rt: &H, script: &str, answers: &str) -> bool {
+    for words in SCRIPT_WORDS {
+        if !run_on(rt, words, script.as_bytes()).is_done(answers.as_bytes()) {
+            return false;
+        }
+    }
+    true
+}
+
 #[test]
 fn answers_each_script(rt: HostRuntime) {
     for (name, rows) in SCRIPTS {
         for (script, answers) in *rows {
-            for words in SCRIPT_WORDS {
-                assert!(rt;
-                    run_on(&rt, words, script.as_bytes()).is_done(answers.as_bytes()),
-                    "{name}: {words:?} {script:?}"
-                );
-            }
+            assert!(rt; is_answered(&rt, script, answers), "{name}: {script:?}");
         }
     }
 }

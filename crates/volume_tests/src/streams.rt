@@ -403,7 +403,7 @@ fn goes_on_after_a_signal(rt: HostRuntime) {
 }
 
 /// Whether a script of which no more than this can be read is answered so, and leaves a tree of this image.
-fn stops_behind(alloc: Global, given: &[u8], answers: &[u8], image: &str) -> bool {
+fn stops_behind<'a>(alloc: Global, given: &'a [u8], answers: &'a [u8], image: &'a str) -> bool {
     let mut stream = whole(given, answers);
     stream.fails = true;
     stream.fault = Some(Fault::Read);
@@ -412,7 +412,7 @@ fn stops_behind(alloc: Global, given: &[u8], answers: &[u8], image: &str) -> boo
 }
 
 /// Whether a script of which no more than these answers are taken stops there, with a tree of this image.
-fn stops_after(alloc: Global, script: &[u8], written: &[u8], image: &str) -> bool {
+fn stops_after<'a>(alloc: Global, script: &'a [u8], written: &'a [u8], image: &'a str) -> bool {
     let mut stream = whole(script, written);
     stream.most = written.len();
     stream.fault = Some(Fault::Write);
