@@ -99,7 +99,7 @@ impl<J: Naming> Hub<J> {
         }
     }
 
-    /// A flusher's turn: it takes a job, builds it and installs it, or does one tree step where no job can be taken.
+    /// A flusher's turn: it takes a job, builds it and installs it, or does one tree step where none is taken.
     pub fn turn<R: Wait, B: Between>(
         &self,
         rt: &R,
