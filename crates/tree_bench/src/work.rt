@@ -1,7 +1,7 @@
 //! The same work on a tree and on a map of std.
 use crate::number::Set;
 use lookup::get;
-use message::{Msg, Update};
+use message::Msg;
 use node::node::count::held;
 use node::{Shape, StepReply, Tree};
 use pathkey::{Key, NoMemory};
@@ -11,30 +11,39 @@ use steps::relieve;
 use steps::room::slots_of;
 
 /// The shape of the trees.
-pub const SHAPE: Shape = Shape {
+const SHAPE: Shape = Shape {
     fanout: 16,
     pending: 256,
     leaf: 256,
 };
 
-/// How many pieces may wait in the root where messages are only appended.
-pub const APPENDED: usize = 4096;
+/// The numbers of keys, in turn.
+#[derive(Clone, Copy)]
+pub struct Numbers {
+    /// The first number.
+    pub first: u64,
+    /// How many numbers there are.
+    pub keys: u64,
+    /// How many are taken in all, from the first again after the last.
+    pub count: u64,
+}
 
-/// How many may wait there where each call looks its path up first: a look-up reads what waits on its way.
-pub const LOOKED_UP: usize = 32;
-
-/// A number for each number, far from those of its neighbours.
-pub fn scattered(number: u64) -> u64 {
-    number.wrapping_mul(0x9E37_79B9_7F4A_7C15)
+impl Numbers {
+    /// The key that is taken at a place in turn.
+    fn key(self, alloc: Global, place: u64) -> Result<Key, NoMemory> {
+        let number = place.checked_rem(self.keys).unwrap_or(0);
+        key(alloc, self.first.wrapping_add(number))
+    }
 }
 
 /// The key with a number: eight bytes in which neighbours lie far apart.
 fn key(alloc: Global, number: u64) -> Result<Key, NoMemory> {
-    Key::from_bytes(alloc, &scattered(number).to_be_bytes())
+    let scattered = number.wrapping_mul(0x9E37_79B9_7F4A_7C15);
+    Key::from_bytes(alloc, &scattered.to_be_bytes())
 }
 
 /// How many messages wait in the root.
-pub fn waiting<U: Update>(tree: &Tree<U>) -> u128 {
+fn waiting(tree: &Tree<Set>) -> u128 {
     match slots_of(tree.root()) {
         Some(slots) => held(slots),
         None => 0,
@@ -42,7 +51,7 @@ pub fn waiting<U: Update>(tree: &Tree<U>) -> u128 {
 }
 
 /// Does a step that relieves the tree; whether one was done.
-fn is_relieved<U: Update>(alloc: Global, tree: &mut Tree<U>) -> bool {
+fn is_relieved(alloc: Global, tree: &mut Tree<Set>) -> bool {
     match relieve(alloc, tree) {
         Some(turn) => matches!(turn.reply, StepReply::Did(_)),
         None => false,
@@ -50,11 +59,7 @@ fn is_relieved<U: Update>(alloc: Global, tree: &mut Tree<U>) -> bool {
 }
 
 /// Does one step that relieves the tree where more than `limit` pieces wait in its root.
-pub fn relieve_above<U: Update>(
-    alloc: Global,
-    tree: &mut Tree<U>,
-    limit: usize,
-) -> Result<(), NoMemory> {
+fn relieve_above(alloc: Global, tree: &mut Tree<Set>, limit: usize) -> Result<(), NoMemory> {
     if waiting(tree) > limit as u128 && !is_relieved(alloc, tree) {
         return Err(NoMemory);
     }
@@ -80,20 +85,19 @@ impl Appended {
     }
 }
 
-/// Gives the keys below `keys` values in turn, `count` times in all; flushes while the root has too many.
+/// Gives the keys values in turn; flushes while more than `limit` pieces wait in the root.
 pub fn append(
     alloc: Global,
     tree: &mut Tree<Set>,
     what: Appended,
-    keys: u64,
-    count: u64,
+    numbers: Numbers,
+    limit: usize,
 ) -> Result<(), NoMemory> {
-    for i in 0..count {
-        let number = i.checked_rem(keys).unwrap_or(0);
+    for i in 0..numbers.count {
         let mut one = Vec::with_capacity(alloc, 1)?;
-        one.push(what.msg(key(alloc, number)?, i))?;
+        one.push(what.msg(numbers.key(alloc, i)?, i))?;
         tree.append(alloc, one)?;
-        relieve_above(alloc, tree, APPENDED)?;
+        relieve_above(alloc, tree, limit)?;
     }
     Ok(())
 }
@@ -104,7 +108,7 @@ pub fn new_tree(alloc: Global) -> Result<Tree<Set>, NoMemory> {
 }
 
 /// Flushes until nothing is pending; gives the number of steps.
-pub fn settle<U: Update>(alloc: Global, tree: &mut Tree<U>) -> u64 {
+pub fn settle(alloc: Global, tree: &mut Tree<Set>) -> u64 {
     for steps in 0..10_000_000 {
         if !is_relieved(alloc, tree) {
             return steps;
@@ -113,12 +117,11 @@ pub fn settle<U: Update>(alloc: Global, tree: &mut Tree<U>) -> u64 {
     10_000_000
 }
 
-/// Looks the keys below `keys` up in turn, `count` times in all; gives how many were found.
-pub fn look_up(alloc: Global, tree: &Tree<Set>, keys: u64, count: u64) -> Result<u64, NoMemory> {
+/// Looks the keys up in turn; gives how many were found.
+pub fn look_up(alloc: Global, tree: &Tree<Set>, numbers: Numbers) -> Result<u64, NoMemory> {
     let mut found = 0u64;
-    for i in 0..count {
-        let number = i.checked_rem(keys).unwrap_or(0);
-        if get(alloc, tree, &key(alloc, number)?)?.is_some() {
+    for i in 0..numbers.count {
+        if get(alloc, tree, &numbers.key(alloc, i)?)?.is_some() {
             found = found.wrapping_add(1);
         }
     }
@@ -129,12 +132,10 @@ pub fn look_up(alloc: Global, tree: &Tree<Set>, keys: u64, count: u64) -> Result
 pub fn insert(
     alloc: Global,
     map: &mut BTreeMap<Key, u64>,
-    keys: u64,
-    count: u64,
+    numbers: Numbers,
 ) -> Result<(), NoMemory> {
-    for i in 0..count {
-        let number = i.checked_rem(keys).unwrap_or(0);
-        if map.insert(key(alloc, number)?, i).is_err() {
+    for i in 0..numbers.count {
+        if map.insert(numbers.key(alloc, i)?, i).is_err() {
             return Err(NoMemory);
         }
     }
@@ -145,13 +146,11 @@ pub fn insert(
 pub fn look_up_map(
     alloc: Global,
     map: &BTreeMap<Key, u64>,
-    keys: u64,
-    count: u64,
+    numbers: Numbers,
 ) -> Result<u64, NoMemory> {
     let mut found = 0u64;
-    for i in 0..count {
-        let number = i.checked_rem(keys).unwrap_or(0);
-        if map.get(&key(alloc, number)?).is_some() {
+    for i in 0..numbers.count {
+        if map.get(&numbers.key(alloc, i)?).is_some() {
             found = found.wrapping_add(1);
         }
     }
