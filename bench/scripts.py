@@ -136,9 +136,9 @@ def readdirs(_size: int) -> Lines:
 
 # What words are chosen from; those early in a list come more often.
 MIXED_WORDS = {
-    "path": ["/a", "/a/x", "/a/x/y", "/b", "/b/x", "/a-b", "/a-b/x", "/c", "/c/d", "/%20", "/%20/%ff", "/%20/%", "/a/x/y/z",
-             "/", "a", "", "/b/", "/b/.", "/b/%00", "/c/" + "/".join(["p" * 200] * 4), "/" + "n" * 255, "/" + "n" * 256,
-             "/b/" + "/".join(["p" * 200] * 5)],
+    "path": ["/a", "/a/x", "/a/x/y", "/b", "/b/x", "/a-b", "/a-b/x", "/c", "/c/d", "/%20", "/%20/%ff", "/%20/%",
+             "/a/x/y/z", "/", "a", "", "/b/", "/b/.", "/b/%00", "/c/" + "/".join(["p" * 200] * 4), "/" + "n" * 255,
+             "/" + "n" * 256, "/b/" + "/".join(["p" * 200] * 5)],
     "number": ["0", "15", "4095", "4096", "9000", "1048576", "1048577", "1099511627775", "1099511627777", "007", "",
                "18446744073709551615", "18446744073709551616"],
     "bytes": ["a5" * 20, "5A" * 5_000, "00", "-", "0", "zz", ""],
@@ -150,8 +150,8 @@ MIXED_COMMANDS = {
     "truncate": (["path", "number"], 6), "unlink": (["path"], 3), "rmdir": (["path"], 2), "rmtree": (["path"], 1),
     "rename": (["path", "path"], 8), "read": (["path", "number", "number"], 12), "stat": (["path"], 8),
     "readdir": (["path"], 8), "snapshot": (["name"], 8), "drop": (["name"], 2), "restore": (["name"], 1),
-    "read@": (["path", "number", "number"], 4), "stat@": (["path"], 2), "readdir@": (["path"], 2), "mkdir@": (["path"], 1),
-    "none": (["path"], 1),
+    "read@": (["path", "number", "number"], 4), "stat@": (["path"], 2), "readdir@": (["path"], 2),
+    "mkdir@": (["path"], 1), "none": (["path"], 1),
 }
 
 
@@ -180,9 +180,9 @@ WORKLOADS = {
     "write": Workload("writes of 28 KiB, one after the other", 2_341, 40, long_file, long_writes),
     "read": Workload("reads of the same", 2_341, 40, long_written, long_reads),
     "again": Workload("files unlinked and made again", 10_000, 1_000, files, made_again),
-    "rmtree": Workload("rmtree of files", 25_000, 1_000, one_directory, rmtree),
+    "rmtree": Workload("rmtree of files", 25_000, 5_000, one_directory, rmtree),
     "rename": Workload("rename of a directory of files", 2_500, 250, filled, rename),
-    "snapshot": Workload(f"{ROUNDS:,} times snapshot, ten writes, restore, drop; of files", 2_500, 50, files, snapshots),
+    "snapshot": Workload(f"{ROUNDS:,} rounds of snapshot, writes, restore, drop; files", 2_500, 50, files, snapshots),
     "readdir": Workload(f"{LISTINGS:,} readdirs, of files in all", 25_000, 1_000, files, readdirs),
     "image": Workload("an image of files of 100 bytes printed", 5_000, 500, filled, nothing, ("--image",)),
     "load": Workload("an image of files of 100 bytes loaded", 5_000, 500, nothing, nothing, ("--load",)),

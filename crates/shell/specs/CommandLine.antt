@@ -56,6 +56,21 @@ betr =
     let app = new_app (codes "betr") in
     record app { top = record app.top { rules = rules } }
 
+-- the rules of the options that are numbers
+abbrev pub number_rules : List Rule
+number_rules = number_rule (codes "flushers") 0 8
+    ∷ number_rule (codes "steps") 0 1000
+    ∷ number_rule (codes "fanout") 4 64
+    ∷ number_rule (codes "pending") 4 1024
+    ∷ number_rule (codes "leaf") 4 1024
+    ∷ []
+
+-- the program with these options alone
+abbrev pub betr_of_numbers : App
+betr_of_numbers =
+    let app = new_app (codes "betr") in
+    record app { top = record app.top { rules = number_rules } }
+
 -- ---- what words mean
 
 -- what `clap` makes of the words

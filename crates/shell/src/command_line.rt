@@ -4,7 +4,7 @@ ghost use Rattle.std.specs.Prelude.{◌≡◌, codes, false, true, IfOk, IfErr, 
 ghost use Rattle.std.specs.Int.{IsInRange};
 ghost use Rattle.clap.specs.Walk.{texts};
 ghost use Rattle.clap.specs.Words.{FailsBy, app_of, fault_of, found_of, kind_of, new_app, rows_of, rule_of, takes};
-ghost use Rattle.shell.specs.CommandLine.{IsParseOf, betr, is_on, number, option_rule, rows, switch_rule, text, text_rule};
+ghost use Rattle.shell.specs.CommandLine.{IsParseOf, betr, betr_of_numbers, is_on, number, option_rule, rows, switch_rule, text, text_rule};
 
 use crate::help::{ABOUT, SCRIPTS};
 use clap::builder::ValueParser;
@@ -74,6 +74,30 @@ fn parsed<'a>(alloc: Global, words: &'a [&'a str]) -> Result<ArgMatches<'a>, Err
 fn command<'a>(alloc: Global) -> Result<Command<'a>, AllocError>
     ensures { IfOk result (λ c. app_of c ≡ betr) }
 {
+    let command = with_numbers(alloc)?;
+    let load = text_option(
+        alloc,
+        "load",
+        "FILE",
+        "Start with the tree whose image the file holds, as --image prints it",
+    );
+    let command = command.arg(load)?;
+    let image = switch(
+        alloc,
+        "image",
+        "Print the whole tree as text after the replies",
+    );
+    let command = command.arg(image)?;
+    let script = Arg::new(alloc, "SCRIPT").help("File with the script [default: standard input]");
+    let command = command.arg(script)?;
+    Ok(command)
+}
+
+/// The program with the options that are numbers. Each is built only once the one before is added: what waits to be added would
+/// have to be let go at each way out.
+fn with_numbers<'a>(alloc: Global) -> Result<Command<'a>, AllocError>
+    ensures { IfOk result (λ c. app_of c ≡ betr_of_numbers) }
+{
     let flushers = option(
         alloc,
         "flushers",
@@ -81,6 +105,7 @@ fn command<'a>(alloc: Global) -> Result<Command<'a>, AllocError>
         value_parser!(u8).range(0..=8),
         "Flushers in threads of their own, 0 to 8 [default: 0]",
     );
+    let command = program(alloc).arg(flushers)?;
     let steps = option(
         alloc,
         "steps",
@@ -88,6 +113,7 @@ fn command<'a>(alloc: Global) -> Result<Command<'a>, AllocError>
         value_parser!(u16).range(0..=1000),
         "Steps of tidying after each line, 0 to 1000 [default: 0]",
     );
+    let command = command.arg(steps)?;
     let fanout = option(
         alloc,
         "fanout",
@@ -95,6 +121,7 @@ fn command<'a>(alloc: Global) -> Result<Command<'a>, AllocError>
         value_parser!(u16).range(4..=64),
         "Slots of an inner node, 4 to 64 [default: 16]",
     );
+    let command = command.arg(fanout)?;
     let pending = option(
         alloc,
         "pending",
@@ -102,6 +129,7 @@ fn command<'a>(alloc: Global) -> Result<Command<'a>, AllocError>
         value_parser!(u16).range(4..=1024),
         "Pending pieces of a node, 4 to 1024 and at least F [default: 256]",
     );
+    let command = command.arg(pending)?;
     let leaf = option(
         alloc,
         "leaf",
@@ -109,29 +137,8 @@ fn command<'a>(alloc: Global) -> Result<Command<'a>, AllocError>
         value_parser!(u16).range(4..=1024),
         "Entries of a leaf, 4 to 1024 [default: 256]",
     );
-    let load = text_option(
-        alloc,
-        "load",
-        "FILE",
-        "Start with the tree whose image the file holds, as --image prints it",
-    );
-    let image = switch(
-        alloc,
-        "image",
-        "Print the whole tree as text after the replies",
-    );
-    let script = Arg::new(alloc, "SCRIPT").help("File with the script [default: standard input]");
-    Ok(
-        program(alloc)
-            .arg(flushers)?
-            .arg(steps)?
-            .arg(fanout)?
-            .arg(pending)?
-            .arg(leaf)?
-            .arg(load)?
-            .arg(image)?
-            .arg(script)?,
-    )
+    let command = command.arg(leaf)?;
+    Ok(command)
 }
 
 /// The program by its name, with its help around the options.

@@ -257,44 +257,44 @@ fn answer_line<S: Session, W: Write>(
         (AppendsPart (W.contents writer.old) (W.contents writer.new))) }
 {
     let request = read_request(alloc, line);
-    answer(alloc, session, request, writer)
+    answer(alloc, session, &request, writer)
 }
 
 // Does what is asked for, and writes the reply.
 fn answer<S: Session, W: Write>(
     alloc: Global,
     session: &mut S,
-    request: Request,
+    request: &Request,
     writer: &mut W,
 ) -> Result<(), WriteFailed>
-    ensures ok { OnOk result (Leads (S.means session.old) (S.means session.new) (λ first. Answers first request)
+    ensures ok { OnOk result (Leads (S.means session.old) (S.means session.new) (λ first. Answers first request.now)
         (Appends (W.contents writer.old) (W.contents writer.new))) }
-    ensures err { OnErr result (Leads (S.means session.old) (S.means session.new) (λ first. Answers first request)
+    ensures err { OnErr result (Leads (S.means session.old) (S.means session.new) (λ first. Answers first request.now)
         (AppendsPart (W.contents writer.old) (W.contents writer.new))) }
 {
     match request {
         Request::Silent => Ok(()),
         Request::Overlong => put(writer, b"error line\n"),
         Request::Malformed => put(writer, b"error syntax\n"),
-        Request::Refused(fault) => put_fault(writer, fault),
+        Request::Refused(fault) => put_fault(writer, *fault),
         Request::Wanted(call) => {
-            let reply = session.call(alloc, &call);
+            let reply = session.call(alloc, call);
             write_reply(writer, &reply)
         }
         Request::Snapshot(name) => {
-            let settled = session.snapshot(alloc, &name);
+            let settled = session.snapshot(alloc, name);
             put_settled(writer, settled)
         }
         Request::DropSnapshot(name) => {
-            let settled = session.drop_snapshot(&name);
+            let settled = session.drop_snapshot(name);
             put_settled(writer, settled)
         }
         Request::Restore(name) => {
-            let settled = session.restore(&name);
+            let settled = session.restore(name);
             put_settled(writer, settled)
         }
         Request::Past(name, look) => {
-            let reply = session.look_back(alloc, &name, &look);
+            let reply = session.look_back(alloc, name, look);
             write_reply(writer, &reply)
         }
     }
