@@ -3,7 +3,7 @@
 /// A script, and what it is answered.
 pub type Row = (&'static str, &'static str);
 
-const LINES: &[Row] = &[
+pub const LINES: &[Row] = &[
     (
         "mkdir /\nmkdir /a\nmkdir /a\nstat /b\ncreate /f\n",
         "fault EEXIST\nok\nfault EEXIST\nfault ENOENT\nok\n",
@@ -66,7 +66,7 @@ const LINES: &[Row] = &[
     ),
 ];
 
-const LINES_OF_BYTES: &[Row] = &[
+pub const LINES_OF_BYTES: &[Row] = &[
     (
         "create /f\nwrite /f 4095 aabb\nread /f 4094 4\nstat /f\n",
         "ok\ncount 2\nbytes 00aabb\nfile 4097\n",
@@ -118,7 +118,7 @@ const LINES_OF_BYTES: &[Row] = &[
     ),
 ];
 
-const MOVES: &[Row] = &[
+pub const MOVES: &[Row] = &[
     (
         "mkdir /a\nmkdir /a/b\nrename /a /a/b/c\nrename /a /a\nreaddir /a\n",
         "ok\nok\nfault EINVAL\nok\nnames 1\nd b\n",
@@ -150,7 +150,7 @@ const MOVES: &[Row] = &[
     ),
 ];
 
-const KEPT: &[Row] = &[
+pub const KEPT: &[Row] = &[
     (
         "mkdir /a\ncreate /a/x\nsnapshot s\nrmtree /a\nreaddir@s /a\nstat /a\nrestore s\nreaddir /a\n",
         "ok\nok\nok\nok\nnames 1\nf x\nfault ENOENT\nok\nnames 1\nf x\n",
@@ -193,7 +193,7 @@ const KEPT: &[Row] = &[
     ),
 ];
 
-const REFUSED: &[Row] = &[
+pub const REFUSED: &[Row] = &[
     (
         "stat\nstat /a /b\nread /a 00 1\nwrite /a 0 abc\nmkdir@s /a\nsnapshot a/b\n# note\ncreate /a%20b\nreaddir /\n",
         "error syntax\nerror syntax\nerror syntax\nerror syntax\nerror syntax\nfault EINVAL\nok\nnames 1\nf a%20b\n",
@@ -242,31 +242,19 @@ const REFUSED: &[Row] = &[
 ];
 
 /// A new volume has the root alone, and no snapshot.
-const ROOT_ALONE: &[Row] = &[(
+pub const ROOT_ALONE: &[Row] = &[(
     "stat /\nreaddir /\nrestore s\ndrop s\n",
     "dir 0\nnames 0\nfault ENOENT\nfault ENOENT\n",
 )];
 
 /// Each call is done.
-const EACH_CALL: &[Row] = &[(
+pub const EACH_CALL: &[Row] = &[(
     "mkdir /a\ncreate /a/f\nwrite /a/f 0 aabb\ntruncate /a/f 1\nread /a/f 0 9\nstat /a/f\nrename /a/f /g\nrmdir /a\nreaddir /\nunlink /g\nmkdir /d\nrmtree /d\nreaddir /\n",
     "ok\nok\ncount 2\nok\nbytes aa\nfile 1\nok\nok\nnames 1\nf g\nok\nok\nok\nnames 0\n",
 )];
 
 /// A snapshot keeps the bytes.
-const BYTES_STAY: &[Row] = &[(
+pub const BYTES_STAY: &[Row] = &[(
     "create /f\nwrite /f 4095 aabb\nsnapshot s\nwrite /f 4096 cc\nread@s /f 4094 4\nstat@s /f\nstat@s /\ntruncate /f 0\nrestore s\nread /f 4094 4\nunlink /f\nrestore s\ndrop s\nread /f 4096 4\n",
     "ok\ncount 2\nok\ncount 1\nbytes 00aabb\nfile 4097\ndir 0\nok\nok\nbytes 00aabb\nok\nok\nok\nbytes bb\n",
 )];
-
-/// Each table, with its name.
-pub const SCRIPTS: &[(&str, &[Row])] = &[
-    ("lines", LINES),
-    ("lines of bytes", LINES_OF_BYTES),
-    ("moves", MOVES),
-    ("kept", KEPT),
-    ("refused", REFUSED),
-    ("root alone", ROOT_ALONE),
-    ("each call", EACH_CALL),
-    ("bytes stay", BYTES_STAY),
-];
