@@ -5,7 +5,7 @@
 use std::collections::BTreeMap;
 use std::collections::btree_map::Entry;
 use std::fs::File;
-use std::io::{self, BufRead, BufReader, BufWriter, Write};
+use std::io::{self, BufRead, BufReader, BufWriter, Read, Write};
 use std::process::ExitCode;
 
 const BLOCK: usize = 4_096;
@@ -677,13 +677,20 @@ fn do_line(world: &mut World, line: &[u8], out: &mut impl Write) -> io::Result<(
     }
 }
 
-fn run(world: &mut World, mut reader: impl BufRead, out: &mut impl Write) -> io::Result<()> {
+/// Does each line. Replies are sent before more lines are waited for, so that who asks may go on by what was replied.
+fn run(world: &mut World, reader: impl Read, out: &mut impl Write) -> io::Result<()> {
+    let mut reader = BufReader::with_capacity(LONGEST_LINE, reader);
     let mut line = Vec::new();
-    while reader.read_until(b'\n', &mut line)? > 0 {
+    loop {
+        if reader.buffer().is_empty() {
+            out.flush()?;
+        }
+        if reader.read_until(b'\n', &mut line)? == 0 {
+            return Ok(());
+        }
         do_line(world, line.strip_suffix(b"\n").unwrap_or(&line), out)?;
         line.clear();
     }
-    Ok(())
 }
 
 #[derive(Default)]
@@ -716,11 +723,7 @@ fn work(options: &Options) -> Result<(), String> {
     let done = match &options.script {
         Some(name) => {
             let file = File::open(name).map_err(|_| "cannot open".to_string())?;
-            run(
-                &mut world,
-                BufReader::with_capacity(LONGEST_LINE, file),
-                &mut out,
-            )
+            run(&mut world, file, &mut out)
         }
         None => run(&mut world, io::stdin().lock(), &mut out),
     };

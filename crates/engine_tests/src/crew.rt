@@ -64,15 +64,3 @@ pub fn only<J: Naming>(mut clients: Vec<Client<J>>) -> Option<Client<J>>
 {
     clients.pop()
 }
-
-/// Ends an engine with its one client.
-#[tactic(auto, using(crate::proofs::Apart::one_alone))]
-pub fn end_alone<J: Naming, R: Wait>(
-    rt: &R,
-    alloc: Global,
-    engine: Engine<J>,
-    client: Client<J>,
-) -> Option<Report> {
-    let clients = alone(alloc, client)?;
-    engine.close(rt, clients).ok()
-}

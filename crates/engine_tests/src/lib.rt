@@ -5,11 +5,17 @@
 #[cfg(test)]
 mod asked;
 #[cfg(test)]
+mod between;
+#[cfg(test)]
 mod crew;
 #[cfg(test)]
 mod depth;
 #[cfg(test)]
 mod ends;
+#[cfg(test)]
+mod filled;
+#[cfg(test)]
+mod folded;
 #[cfg(test)]
 mod meeting;
 #[cfg(test)]
@@ -17,4 +23,10 @@ mod own;
 #[cfg(test)]
 mod rows;
 #[cfg(test)]
+mod scene;
+#[cfg(test)]
 mod stress;
+#[cfg(test)]
+mod tally;
+#[cfg(test)]
+mod unlocked;

@@ -3,6 +3,7 @@ ghost use Rattle.std.specs.Prelude.{◌≡◌};
 
 use crate::asked::call_of;
 use crate::ends::{Snap, fault_of};
+use crate::tally::{MOST, Tally};
 use engine::{Client, Naming};
 use pathkey::Errno;
 use reference::{Call, Reply};
@@ -133,17 +134,18 @@ fn found_in(reply: &Reply) -> Found {
 }
 
 /// What a call of the client is answered.
-fn found_by<J: Naming, R: Wait>(rt: &R, alloc: Global, client: &mut Client<J>, call: &Call) -> Found
-    ensures { client.new.client ≡ client.old.client }
-{
+fn found_by<J: Naming, R: Wait>(
+    rt: &R,
+    alloc: Global,
+    client: &mut Client<J>,
+    call: &Call,
+) -> Found {
     let reply = client.call(rt, alloc, call);
     found_in(&reply)
 }
 
 /// What the client is answered.
-fn asks<J: Naming, R: Wait>(rt: &R, alloc: Global, client: &mut Client<J>, ask: Ask<'_>) -> Found
-    ensures { client.new.client ≡ client.old.client }
-{
+fn asks<J: Naming, R: Wait>(rt: &R, alloc: Global, client: &mut Client<J>, ask: Ask<'_>) -> Found {
     match call_of(alloc, ask) {
         Some(call) => found_by(rt, alloc, client, &call),
         None => Found::Other,
@@ -151,9 +153,7 @@ fn asks<J: Naming, R: Wait>(rt: &R, alloc: Global, client: &mut Client<J>, ask: 
 }
 
 /// Makes the client's file, where it is not there.
-fn creates<J: Naming, R: Wait>(rt: &R, alloc: Global, client: &mut Client<J>, own: &Own) -> bool
-    ensures { client.new.client ≡ client.old.client }
-{
+fn creates<J: Naming, R: Wait>(rt: &R, alloc: Global, client: &mut Client<J>, own: &Own) -> bool {
     match asks(rt, alloc, client, Ask::Create(own.file)) {
         Found::Done => own.has_restores || own.written == 0,
         Found::Fault(Errno::EEXIST) => true,
@@ -162,9 +162,12 @@ fn creates<J: Naming, R: Wait>(rt: &R, alloc: Global, client: &mut Client<J>, ow
 }
 
 /// Writes the next mark.
-fn writes<J: Naming, R: Wait>(rt: &R, alloc: Global, client: &mut Client<J>, own: &mut Own) -> bool
-    ensures { client.new.client ≡ client.old.client }
-{
+fn writes<J: Naming, R: Wait>(
+    rt: &R,
+    alloc: Global,
+    client: &mut Client<J>,
+    own: &mut Own,
+) -> bool {
     let number = own.written.wrapping_add(1);
     let bytes = own.tag.wrapping_mul(TAG).wrapping_add(number).to_be_bytes();
     match asks(rt, alloc, client, Ask::Write(own.file, PLACE, &bytes)) {
@@ -178,9 +181,7 @@ fn writes<J: Naming, R: Wait>(rt: &R, alloc: Global, client: &mut Client<J>, own
 }
 
 /// Reads what it wrote.
-pub fn reads<J: Naming, R: Wait>(rt: &R, alloc: Global, client: &mut Client<J>, own: &Own) -> bool
-    ensures { client.new.client ≡ client.old.client }
-{
+fn reads<J: Naming, R: Wait>(rt: &R, alloc: Global, client: &mut Client<J>, own: &Own) -> bool {
     let found = asks(rt, alloc, client, Ask::Read(own.file, PLACE, 9));
     own.may_read(found)
 }
@@ -192,9 +193,7 @@ fn snaps<J: Naming, R: Wait>(
     client: &mut Client<J>,
     snap: Snap,
     number: usize,
-) -> bool
-    ensures { client.new.client ≡ client.old.client }
-{
+) -> bool {
     match fault_of(rt, alloc, client, snap, NAMES[number % NAMES.len()]) {
         Some(fault) => fault == Errno::EEXIST || fault == Errno::ENOENT,
         None => true,
@@ -202,17 +201,18 @@ fn snaps<J: Naming, R: Wait>(
 }
 
 /// A call on names that all share: whatever is answered, there is memory.
-fn shares<J: Naming, R: Wait>(rt: &R, alloc: Global, client: &mut Client<J>, number: usize) -> bool
-    ensures { client.new.client ≡ client.old.client }
-{
+fn shares<J: Naming, R: Wait>(
+    rt: &R,
+    alloc: Global,
+    client: &mut Client<J>,
+    number: usize,
+) -> bool {
     let found = asks(rt, alloc, client, SHARED[number % SHARED.len()]);
     found != Found::Fault(Errno::ENOMEM)
 }
 
 /// The next call.
-fn next<J: Naming, R: Wait>(rt: &R, alloc: Global, client: &mut Client<J>, own: &mut Own) -> bool
-    ensures { client.new.client ≡ client.old.client }
-{
+fn next<J: Naming, R: Wait>(rt: &R, alloc: Global, client: &mut Client<J>, own: &mut Own) -> bool {
     let drawn = own.draw();
     match drawn / 128 {
         0..=9 => writes(rt, alloc, client, own),
@@ -220,25 +220,29 @@ fn next<J: Naming, R: Wait>(rt: &R, alloc: Global, client: &mut Client<J>, own: 
         16 => creates(rt, alloc, client, own),
         17 => snaps(rt, alloc, client, Snap::Keep, drawn),
         18 => snaps(rt, alloc, client, Snap::Drop, drawn),
-        19 if own.has_restores => snaps(rt, alloc, client, Snap::Restore, drawn),
+        19 if own.has_restores && drawn % 16 == 0 => snaps(rt, alloc, client, Snap::Restore, drawn),
         _ => shares(rt, alloc, client, drawn),
     }
 }
 
-/// So many calls and two more, the first on the client's own file and the last. Whether each was answered as it may be.
+/// Calls, the first on the client's own file and the last, as long as the flushers want more of them. Whether each was answered
+/// as it may be, and recorded once.
 pub fn work<J: Naming, R: Wait>(
     rt: &R,
     alloc: Global,
-    mut client: Client<J>,
+    client: &mut Client<J>,
     mut own: Own,
-    calls: u64,
-) -> (Client<J>, bool)
-    ensures { result.0.client ≡ client.client }
-{
-    let mut is_right = creates(rt, alloc, &mut client, &own);
-    for _ in 0..calls {
-        is_right &= next(rt, alloc, &mut client, &mut own);
+    tally: &Tally,
+) -> bool {
+    let mut is_right = creates(rt, alloc, client, &own);
+    let mut made: u64 = 2;
+    for _ in 0..MOST {
+        if !tally.wants(made) {
+            break;
+        }
+        is_right &= next(rt, alloc, client, &mut own);
+        made = made.saturating_add(1);
     }
-    is_right &= reads(rt, alloc, &mut client, &own);
-    (client, is_right)
+    is_right &= reads(rt, alloc, client, &own);
+    is_right && client.made() == made
 }

@@ -92,7 +92,7 @@ fn flush<J: Naming, R: Wait>(rt: &R, alloc: Global, mut flusher: Flusher<J>, tur
 }
 
 /// So many turns by each of two flushers.
-pub fn flush_both<J: Naming + Send + Sync, R: Threads + Wait + Sync>(
+fn flush_both<J: Naming + Send + Sync, R: Threads + Wait + Sync>(
     rt: &R,
     alloc: Global,
     one: Flusher<J>,

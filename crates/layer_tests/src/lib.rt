@@ -1,4 +1,5 @@
-//! Tests of each layer below the file calls by itself: paths and keys, messages, nodes, steps, jobs, look-ups and searches.
+//! Tests of each layer below the file calls by itself: paths and keys, messages, nodes, steps, jobs, look-ups and searches; and of
+//! whole trees, where steps of every kind work between messages, and each look-up is compared with a plain row of numbers.
 //!
 //! They stand in a crate of their own, since what a crate with tests proves is proved once more with them.
 #![tactic(auto)]
@@ -16,12 +17,20 @@ mod messages;
 #[cfg(test)]
 mod nodes;
 #[cfg(test)]
+mod pair;
+#[cfg(test)]
 mod refused;
 #[cfg(test)]
 mod searches;
+#[cfg(test)]
+mod settling;
+#[cfg(test)]
+mod some_steps;
 #[cfg(test)]
 mod takings;
 #[cfg(test)]
 mod trees;
 #[cfg(test)]
 mod turns;
+#[cfg(test)]
+mod whole;

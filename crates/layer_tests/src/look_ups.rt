@@ -1,34 +1,16 @@
 //! Values through messages that wait in the root, by rows of messages.
-use crate::trees::{append, small_tree};
-use lookup::get;
+use crate::trees::{SMALL, append, has, new_tree};
 use node::Tree;
-use pathkey::Key;
-use samples::{Digit, Plain, key};
+use samples::{Digit, Plain};
 use std::alloc::Global;
-
-/// Whether a tree has this at a key.
-fn has(alloc: Global, tree: &Tree<Digit>, at: &Key, wanted: Option<u64>) -> bool {
-    match get(alloc, tree, at) {
-        Ok(found) => found == wanted,
-        Err(_) => false,
-    }
-}
-
-/// Whether a tree has this at the key 3.
-fn has_at_three(alloc: Global, tree: &Tree<Digit>, wanted: Option<u64>) -> bool {
-    match key(alloc, 3) {
-        Ok(at) => has(alloc, tree, &at, wanted),
-        Err(_) => false,
-    }
-}
 
 /// Messages, and the value at the key 3 after them.
 type Row = (&'static [Plain], Option<u64>);
 
 /// Whether a new tree has the row's value after the row's messages.
 fn comes_to(alloc: Global, row: &Row) -> bool {
-    match small_tree(alloc) {
-        Ok(mut tree) => append(alloc, &mut tree, row.0) && has_at_three(alloc, &tree, row.1),
+    match new_tree(alloc, SMALL) {
+        Ok(mut tree) => append(alloc, &mut tree, row.0) && has(alloc, &tree, 3, row.1),
         Err(_) => false,
     }
 }
@@ -55,8 +37,8 @@ fn finds_what_all_messages_make_of_a_key(rt: HostRuntime) {
 /// Whether a message to one tree leaves the other without a value.
 fn is_alone(alloc: Global, tree: &mut Tree<Digit>, shared: &Tree<Digit>) -> bool {
     append(alloc, tree, &[Plain::Put(3, 5)])
-        && has_at_three(alloc, tree, Some(5))
-        && has_at_three(alloc, shared, None)
+        && has(alloc, tree, 3, Some(5))
+        && has(alloc, shared, 3, None)
 }
 
 /// Whether a tree without a value and its share part.
@@ -69,8 +51,8 @@ fn parts_from_its_share(alloc: Global, tree: &mut Tree<Digit>) -> bool {
 
 /// The same of a new tree, in which nothing is found.
 fn parts(alloc: Global) -> bool {
-    match small_tree(alloc) {
-        Ok(mut tree) => has_at_three(alloc, &tree, None) && parts_from_its_share(alloc, &mut tree),
+    match new_tree(alloc, SMALL) {
+        Ok(mut tree) => has(alloc, &tree, 3, None) && parts_from_its_share(alloc, &mut tree),
         Err(_) => false,
     }
 }

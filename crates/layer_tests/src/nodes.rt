@@ -1,5 +1,5 @@
 //! Appends of messages on numbers, at keys of one byte, seen in the slots where they wait.
-use crate::trees::{SMALL, append, small_tree};
+use crate::trees::{SMALL, append, new_tree};
 use flush::flush_leaf;
 use message::Msg;
 use node::{Body, Node, Place, Shape, Slot, StepReply, Tree, append_both};
@@ -80,7 +80,7 @@ fn has_first_alone(node: &Node<Digit>) -> bool {
 
 /// Whether a new tree has its shape, and one slot over an empty leaf.
 fn begins_with_one_slot(alloc: Global) -> bool {
-    match small_tree(alloc) {
+    match new_tree(alloc, SMALL) {
         Ok(tree) => tree.shape() == SMALL && has_first_alone(tree.root()),
         Err(_) => false,
     }
@@ -102,7 +102,7 @@ type Kept = (&'static [Plain], &'static [Plain]);
 
 /// Whether a new tree keeps the messages of a batch in its root.
 fn keeps_batch(alloc: Global, row: &Kept) -> bool {
-    match small_tree(alloc) {
+    match new_tree(alloc, SMALL) {
         Ok(mut tree) => append(alloc, &mut tree, row.0)
             && wait_above_nothing(alloc, tree.root(), row.1),
         Err(_) => false,
@@ -121,7 +121,7 @@ fn append_in_turn(alloc: Global, tree: &mut Tree<Digit>, msgs: &[Plain]) -> bool
 
 /// Whether a new tree keeps messages that come one by one in its root.
 fn keeps_in_turn(alloc: Global, row: &Kept) -> bool {
-    match small_tree(alloc) {
+    match new_tree(alloc, SMALL) {
         Ok(mut tree) => append_in_turn(alloc, &mut tree, row.0)
             && wait_above_nothing(alloc, tree.root(), row.1),
         Err(_) => false,
@@ -197,7 +197,7 @@ fn parts_from_its_share(alloc: Global, tree: &mut Tree<Digit>) -> bool {
 
 /// The same of a new tree.
 fn parts(alloc: Global) -> bool {
-    match small_tree(alloc) {
+    match new_tree(alloc, SMALL) {
         Ok(mut tree) => append(alloc, &mut tree, &[Plain::Put(3, 1)])
             && parts_from_its_share(alloc, &mut tree),
         Err(_) => false,
@@ -242,7 +242,7 @@ fn have_halves(
 
 /// The same of one new tree and a second made here.
 fn has_half(alloc: Global, first: &mut Tree<Digit>, one: &[Plain], two: &[Plain]) -> bool {
-    match small_tree(alloc) {
+    match new_tree(alloc, SMALL) {
         Ok(mut second) => have_halves(alloc, first, one, &mut second, two),
         Err(_) => false,
     }
@@ -250,7 +250,7 @@ fn has_half(alloc: Global, first: &mut Tree<Digit>, one: &[Plain], two: &[Plain]
 
 /// The same of two trees made here.
 fn halve(alloc: Global, one: &[Plain], two: &[Plain]) -> bool {
-    match small_tree(alloc) {
+    match new_tree(alloc, SMALL) {
         Ok(mut first) => has_half(alloc, &mut first, one, two),
         Err(_) => false,
     }
@@ -316,7 +316,7 @@ fn cuts(alloc: Global, tree: &mut Tree<Digit>) -> bool {
 
 /// The same of a new tree.
 fn cuts_anew(alloc: Global) -> bool {
-    match small_tree(alloc) {
+    match new_tree(alloc, SMALL) {
         Ok(mut tree) => cuts(alloc, &mut tree),
         Err(_) => false,
     }

@@ -1,12 +1,11 @@
 //! Small trees of which one allocation is refused: what is refused leaves the tree as it was, and is done when it is tried again.
 //!
 //! By themselves these tests refuse nothing. `rt try --test --fail-alloc 1.. -- refused` runs them once for each allocation, which then fails.
-use crate::trees::append;
-use crate::turns::{self, AFTER_TWO_LEAVES, TWO_LEAVES, Turn, counts, new_tree, take};
-use lookup::get;
+use crate::trees::{SMALLEST, append, has_if_read, new_tree};
+use crate::turns::{self, AFTER_TWO_LEAVES, TWO_LEAVES, Turn, counts, take};
 use node::{StepReply, Tree};
-use pathkey::{Key, NoMemory};
-use samples::{Digit, Plain, Random, Row, key};
+use pathkey::NoMemory;
+use samples::{Digit, Plain, Random, Row};
 use std::alloc::Global;
 use steps::relieve;
 
@@ -23,34 +22,18 @@ enum Act {
 
 /// A new tree, asked for again where it is refused.
 fn some_tree(alloc: Global) -> Result<Tree<Digit>, NoMemory> {
-    match new_tree(alloc) {
+    match new_tree(alloc, SMALLEST) {
         Ok(tree) => Ok(tree),
-        Err(_) => new_tree(alloc),
-    }
-}
-
-/// Whether a tree has this at a key; none where memory is refused.
-fn has(alloc: Global, tree: &Tree<Digit>, at: &Key, wanted: Option<u64>) -> Option<bool> {
-    match get(alloc, tree, at) {
-        Ok(found) => Some(found == wanted),
-        Err(_) => None,
-    }
-}
-
-/// The same of the key of a number.
-fn has_at(alloc: Global, tree: &Tree<Digit>, at: u8, wanted: Option<u64>) -> Option<bool> {
-    match key(alloc, at) {
-        Ok(at) => has(alloc, tree, &at, wanted),
-        Err(_) => None,
+        Err(_) => new_tree(alloc, SMALLEST),
     }
 }
 
 /// Whether a tree and a row agree at a key; it is looked up again where that is refused.
 fn agree_at(alloc: Global, tree: &Tree<Digit>, row: &Row, at: u8) -> bool {
     let wanted = row.value(at);
-    match has_at(alloc, tree, at, wanted) {
+    match has_if_read(alloc, tree, at, wanted) {
         Some(answer) => answer,
-        None => has_at(alloc, tree, at, wanted) == Some(true),
+        None => has_if_read(alloc, tree, at, wanted) == Some(true),
     }
 }
 

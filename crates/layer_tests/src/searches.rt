@@ -1,5 +1,5 @@
 //! First pairs through many messages, beside the same messages laid on a plain row of numbers.
-use crate::trees::{append, small_tree};
+use crate::trees::{SMALL, append, new_tree};
 use node::Tree;
 use pathkey::KeyRange;
 use samples::{Digit, Plain, Random, Row, are_numbered, number, range};
@@ -34,8 +34,11 @@ fn begins_with(
     }
 }
 
+/// How many pairs are asked for.
+const LIMITS: &[usize] = &[0, 1, 2, 7, 50, 256, usize::MAX];
+
 /// A part of the keys: the first, and the one that ends it.
-type Part = (u8, Option<u8>);
+pub type Part = (u8, Option<u8>);
 
 /// Whether a part of the tree has what that part of the row has, and first what the row has first.
 fn agrees(
@@ -53,22 +56,28 @@ fn agrees(
     }
 }
 
+/// The same of a part of the keys alone.
+pub fn agrees_where(
+    alloc: Global,
+    tree: &Tree<Digit>,
+    row: &Row,
+    part: Part,
+    limit: usize,
+) -> bool {
+    match range(alloc, part.0, part.1) {
+        Ok(range) => agrees(alloc, tree, row, part, &range, limit),
+        Err(_) => false,
+    }
+}
+
 /// Whether the tree agrees with the row in a part of the keys, whatever number of pairs is asked for.
-fn agrees_in(alloc: Global, tree: &Tree<Digit>, row: &Row, part: Part, range: &KeyRange) -> bool {
-    for limit in [0, 1, 2, 7, 50, 256, usize::MAX] {
-        if !agrees(alloc, tree, row, part, range, limit) {
+fn agrees_on(alloc: Global, tree: &Tree<Digit>, row: &Row, part: Part) -> bool {
+    for limit in LIMITS {
+        if !agrees_where(alloc, tree, row, part, *limit) {
             return false;
         }
     }
     true
-}
-
-/// The same.
-fn agrees_on(alloc: Global, tree: &Tree<Digit>, row: &Row, part: Part) -> bool {
-    match range(alloc, part.0, part.1) {
-        Ok(range) => agrees_in(alloc, tree, row, part, &range),
-        Err(_) => false,
-    }
 }
 
 /// Puts 300 messages into both; `false` where memory is refused.
@@ -110,7 +119,7 @@ fn parts_alike(alloc: Global, tree: &mut Tree<Digit>, row: &mut Row) -> usize {
 
 /// The same of a new tree and a new row.
 fn parts_of_new(alloc: Global) -> usize {
-    match small_tree(alloc) {
+    match new_tree(alloc, SMALL) {
         Ok(mut tree) => parts_alike(alloc, &mut tree, &mut Row::new()),
         Err(_) => 0,
     }
@@ -136,7 +145,7 @@ fn is_all_empty(alloc: Global, tree: &Tree<Digit>) -> bool {
 
 /// Whether nothing is found in a new tree.
 fn is_empty_at_first(alloc: Global) -> bool {
-    match small_tree(alloc) {
+    match new_tree(alloc, SMALL) {
         Ok(tree) => is_all_empty(alloc, &tree),
         Err(_) => false,
     }
@@ -171,7 +180,7 @@ fn has_four(alloc: Global, tree: &Tree<Digit>, wanted: &[(u8, u64)]) -> bool {
 
 /// Whether a search goes past what a range-delete covers.
 fn goes_past(alloc: Global) -> bool {
-    match small_tree(alloc) {
+    match new_tree(alloc, SMALL) {
         Ok(mut tree) => cover(alloc, &mut tree)
             && has_four(alloc, &tree, &[(3, 3), (4, 3), (20, 4), (40, 3)]),
         Err(_) => false,

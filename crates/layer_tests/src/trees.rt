@@ -1,10 +1,11 @@
-//! A small tree of numbers, and messages that come to it.
+//! Trees of numbers, messages that come to them, and what they have at a key.
 //!
 //! What the tests of this crate ask is asked by functions that ensure nothing and of which each holds one value with a destructor: so their
 //! proofs, and those of the tests, stay short. They answer `false` where memory is refused.
+use lookup::get;
 use node::{Shape, Tree};
-use pathkey::NoMemory;
-use samples::{Digit, Plain, batch};
+use pathkey::{Key, NoMemory};
+use samples::{Digit, Plain, batch, key};
 use std::alloc::Global;
 
 /// A shape of few slots, messages and entries.
@@ -14,9 +15,26 @@ pub const SMALL: Shape = Shape {
     leaf: 4,
 };
 
-/// A new tree of this shape.
-pub fn small_tree(alloc: Global) -> Result<Tree<Digit>, NoMemory> {
-    Tree::new(alloc, SMALL)
+/// The smallest shape.
+pub const SMALLEST: Shape = Shape {
+    fanout: 4,
+    pending: 4,
+    leaf: 4,
+};
+
+/// Small nodes with room for many messages: in the smallest shape a few range-deletes leave no room for any step.
+pub const ROOMY: Shape = Shape {
+    fanout: 4,
+    pending: 64,
+    leaf: 4,
+};
+
+/// A new tree of a shape; it is refused where the shape is not ok.
+pub fn new_tree(alloc: Global, shape: Shape) -> Result<Tree<Digit>, NoMemory> {
+    if !shape.ok() {
+        return Err(NoMemory);
+    }
+    Tree::new(alloc, shape)
 }
 
 /// Appends messages to a tree.
@@ -25,4 +43,25 @@ pub fn append(alloc: Global, tree: &mut Tree<Digit>, msgs: &[Plain]) -> bool {
         Ok(batch) => tree.append(alloc, batch).is_ok(),
         Err(_) => false,
     }
+}
+
+/// Whether a tree has this at a key; none where memory is refused.
+pub fn has_at(alloc: Global, tree: &Tree<Digit>, at: &Key, wanted: Option<u64>) -> Option<bool> {
+    match get(alloc, tree, at) {
+        Ok(found) => Some(found == wanted),
+        Err(_) => None,
+    }
+}
+
+/// The same of the key of a number.
+pub fn has_if_read(alloc: Global, tree: &Tree<Digit>, at: u8, wanted: Option<u64>) -> Option<bool> {
+    match key(alloc, at) {
+        Ok(at) => has_at(alloc, tree, &at, wanted),
+        Err(_) => None,
+    }
+}
+
+/// Whether a tree has this at the key of a number.
+pub fn has(alloc: Global, tree: &Tree<Digit>, at: u8, wanted: Option<u64>) -> bool {
+    has_if_read(alloc, tree, at, wanted) == Some(true)
 }

@@ -1,17 +1,10 @@
 //! Steps on small trees, in tables of what goes in, what is done and what the tree then holds.
-use crate::trees::append;
+use crate::trees::{SMALLEST, append, new_tree};
 use flush::heaviest;
-use node::{Place, Shape, StepKind, StepReply, Tree, TreeStep};
-use pathkey::NoMemory;
+use node::{Place, StepKind, StepReply, Tree, TreeStep};
 use samples::{Digit, Plain};
 use std::alloc::Global;
 use steps::do_step;
-
-const SMALL: Shape = Shape {
-    fanout: 4,
-    pending: 4,
-    leaf: 4,
-};
 
 /// What a tree goes through.
 #[derive(Clone, Copy, Debug)]
@@ -57,14 +50,9 @@ fn follow_in(alloc: Global, tree: &mut Tree<Digit>, rows: &[Row]) -> usize {
     count
 }
 
-/// A new tree of this shape.
-pub fn new_tree(alloc: Global) -> Result<Tree<Digit>, NoMemory> {
-    Tree::new(alloc, SMALL)
-}
-
 /// Takes a new tree through the rows.
 fn follow(alloc: Global, rows: &[Row]) -> usize {
-    match new_tree(alloc) {
+    match new_tree(alloc, SMALLEST) {
         Ok(mut tree) => follow_in(alloc, &mut tree, rows),
         Err(_) => 0,
     }
@@ -111,7 +99,7 @@ fn follow_from_two_leaves(alloc: Global, tree: &mut Tree<Digit>, rows: &[Row]) -
 
 /// Takes a new tree to these two leaves and then through the rows.
 fn follow_two_leaves(alloc: Global, rows: &[Row]) -> usize {
-    match new_tree(alloc) {
+    match new_tree(alloc, SMALLEST) {
         Ok(mut tree) => follow_from_two_leaves(alloc, &mut tree, rows),
         Err(_) => 0,
     }
@@ -204,7 +192,7 @@ fn fills_up(alloc: Global, tree: &mut Tree<Digit>) -> bool {
 
 /// The same of a new tree.
 fn new_tree_fills_up(alloc: Global) -> bool {
-    match new_tree(alloc) {
+    match new_tree(alloc, SMALLEST) {
         Ok(mut tree) => fills_up(alloc, &mut tree),
         Err(_) => false,
     }
@@ -339,7 +327,7 @@ fn grows_to_sixteen(alloc: Global, tree: &mut Tree<Digit>) -> bool {
 
 /// The same of a new tree that gets two leaves.
 fn two_leaves_grow(alloc: Global) -> bool {
-    match new_tree(alloc) {
+    match new_tree(alloc, SMALLEST) {
         Ok(mut tree) => gets_two_leaves(alloc, &mut tree) && grows_to_sixteen(alloc, &mut tree),
         Err(_) => false,
     }
@@ -429,7 +417,7 @@ fn make_heaviest(alloc: Global, tree: &mut Tree<Digit>, msgs: &[Plain], slot: u8
 }
 
 /// Does the step of the heaviest slot, if there is one.
-fn relieve_heaviest(alloc: Global, tree: &mut Tree<Digit>) {
+pub fn relieve_heaviest(alloc: Global, tree: &mut Tree<Digit>) {
     if let Some(step) = heaviest(tree) {
         do_step(alloc, tree, step);
     }
@@ -456,7 +444,7 @@ fn names_first(alloc: Global, tree: &mut Tree<Digit>) -> bool {
 
 /// The same of a new tree.
 fn new_tree_names_first(alloc: Global) -> bool {
-    match new_tree(alloc) {
+    match new_tree(alloc, SMALLEST) {
         Ok(mut tree) => names_first(alloc, &mut tree),
         Err(_) => false,
     }

@@ -1,14 +1,9 @@
 //! What waits for a file that is written byte by byte.
 
-use crate::asked::{USUAL, answers, new_volume};
+use crate::asked::{USUAL, answers, new_volume, waiting};
 use samples::{Ask, Told};
 use std::alloc::Global;
 use volume::{Index, Volume};
-
-/// How many messages wait in an index. It ensures nothing, so that no proof of a test reads what a report says.
-fn waiting(volume: &Volume, index: Index) -> u128 {
-    volume.shape_report(index).pending
-}
 
 /// Whether a file is made and a thousand bytes are written one by one.
 fn write_all(alloc: Global, volume: &mut Volume) -> bool {

@@ -1,42 +1,38 @@
-//! Tests of volumes: what each call answers with ample memory, which no contract can say, and rows of calls with snapshots
-//! and steps between them.
+//! Tests of volumes and of scripts as typed calls: what each call answers with ample memory, which no contract can say, rows of
+//! calls with snapshots and steps between them, readers and writers that fail, paces, words and replies.
 #![tactic(auto)]
 
 #[cfg(test)]
 mod asked;
 #[cfg(test)]
-mod beside;
+mod command_lines;
 #[cfg(test)]
 mod condensed;
 #[cfg(test)]
-mod damage;
-#[cfg(test)]
-mod floods;
-#[cfg(test)]
-mod hostile;
-#[cfg(test)]
-mod image;
+mod event_runs;
 #[cfg(test)]
 mod job_rows;
 #[cfg(test)]
-mod kept;
-#[cfg(test)]
 mod loaded;
+#[cfg(test)]
+mod look_alike;
 #[cfg(test)]
 mod paces;
 #[cfg(test)]
-mod plain_image;
-#[cfg(test)]
-mod programs;
+mod pieces;
 #[cfg(test)]
 mod refused;
 #[cfg(test)]
-mod rows;
+mod replies;
 #[cfg(test)]
 mod runs;
 #[cfg(test)]
-mod some_images;
+mod some_events;
 #[cfg(test)]
 mod steps_between;
 #[cfg(test)]
+mod streams;
+#[cfg(test)]
 mod told;
+#[cfg(test)]
+mod words;

@@ -6,7 +6,22 @@ use node::{StepKind, StepReply};
 use pathkey::{Errno, SnapName};
 use samples::{Ask, Told};
 use std::alloc::Global;
-use volume::{Answer, Event, FinishAnswer, Index, TakeAnswer, Volume};
+use volume::{Answer, Event, FinishAnswer, Index, Step, TakeAnswer, Volume};
+
+/// What an event is to be, as a number or a text can say it.
+#[derive(Clone, Copy)]
+pub enum Act<'a> {
+    /// A file call.
+    Live(Ask<'a>),
+    /// A call on snapshots.
+    Snap(Snap<'a>),
+    /// A tree step.
+    Step(Step),
+    /// A taking at this slot of an index's root.
+    Take(Index, u8),
+    /// The finishing of the job with this ticket.
+    Finish(u64),
+}
 
 /// What an event is to be, and what it is answered.
 #[derive(Clone, Copy)]
@@ -50,15 +65,28 @@ fn named_event(alloc: Global, snap: Snap<'_>) -> Option<Event> {
     }
 }
 
-/// The event of a turn.
-fn event_of(alloc: Global, turn: &Turn<'_>) -> Option<Event> {
-    match turn {
-        Turn::Live(ask, _) => call_event(alloc, *ask),
-        Turn::Snap(snap, _) => named_event(alloc, *snap),
-        Turn::Flush(index, _) => Some(Event::Step(first_leaf(*index))),
-        Turn::Step(index, kind, _, _) => Some(Event::Step(at_first_slot(*index, *kind))),
-        Turn::Take(index, slot, _) => Some(Event::Take(*index, *slot)),
-        Turn::Finish(number, _) => Some(Event::Finish(Ticket::of(*number))),
+/// The event of an act; none where memory is refused.
+fn event_of(alloc: Global, act: Act<'_>) -> Option<Event> {
+    match act {
+        Act::Live(ask) => call_event(alloc, ask),
+        Act::Snap(snap) => named_event(alloc, snap),
+        Act::Step(step) => Some(Event::Step(step)),
+        Act::Take(index, slot) => Some(Event::Take(index, slot)),
+        Act::Finish(number) => Some(Event::Finish(Ticket::of(number))),
+    }
+}
+
+impl<'a> Turn<'a> {
+    /// What its event is to be.
+    fn act(&self) -> Act<'a> {
+        match self {
+            Turn::Live(ask, _) => Act::Live(*ask),
+            Turn::Snap(snap, _) => Act::Snap(*snap),
+            Turn::Flush(index, _) => Act::Step(first_leaf(*index)),
+            Turn::Step(index, kind, _, _) => Act::Step(at_first_slot(*index, *kind)),
+            Turn::Take(index, slot, _) => Act::Take(*index, *slot),
+            Turn::Finish(number, _) => Act::Finish(*number),
+        }
     }
 }
 
@@ -91,9 +119,9 @@ pub fn is_answer(turn: &Turn<'_>, answer: &Answer) -> bool {
     }
 }
 
-/// Puts the event of a turn behind others, and says whether that was done.
-fn add(alloc: Global, events: &mut Vec<Event>, turn: &Turn<'_>) -> bool {
-    match event_of(alloc, turn) {
+/// Puts the event of an act behind others, and says whether that was done.
+pub fn add(alloc: Global, events: &mut Vec<Event>, act: Act<'_>) -> bool {
+    match event_of(alloc, act) {
         Some(event) => events.push(event).is_ok(),
         None => false,
     }
@@ -103,7 +131,7 @@ fn add(alloc: Global, events: &mut Vec<Event>, turn: &Turn<'_>) -> bool {
 pub fn events_of(alloc: Global, turns: &[Turn<'_>]) -> Vec<Event> {
     let mut events = Vec::new(alloc);
     for turn in turns {
-        if !add(alloc, &mut events, turn) {
+        if !add(alloc, &mut events, turn.act()) {
             return events;
         }
     }
@@ -170,12 +198,27 @@ const TURNS: &[Turn<'static>] = &[
     Turn::Snap(Snap::Restore("s"), Some(Errno::ENOENT)),
 ];
 
-#[test]
-fn events_are_done_in_their_order(rt: HostRuntime) {
-    assert_eq!(rt; answered(rt.alloc(), TURNS), (TURNS.len(), TURNS.len()));
-}
+/// A message is flushed, and none waits in the other index.
+const FLUSHED: &[Turn<'static>] = &[
+    Turn::Live(Ask::Mkdir("/a"), Told::Done),
+    Turn::Step(Index::Meta, StepKind::FlushLeaf, 1, u32::MAX),
+    Turn::Flush(Index::Block, false),
+    Turn::Live(Ask::Stat("/a"), Told::Dir),
+];
+
+/// Events are done in their order; where there are none there is no answer.
+const RUNS: &[(&str, &[Turn<'static>])] = &[
+    ("turns", TURNS),
+    ("flushed", FLUSHED),
+    ("no events", &[]),
+];
 
 #[test]
-fn no_events_have_no_answers(rt: HostRuntime) {
-    assert_eq!(rt; answered(rt.alloc(), &[]), (0, 0));
+fn events_are_done_in_their_order(rt: HostRuntime) {
+    for (name, turns) in RUNS {
+        assert!(rt;
+            answered(rt.alloc(), turns) == (turns.len(), turns.len()),
+            "{name}"
+        );
+    }
 }

@@ -1,0 +1,96 @@
+//! Volumes of many files, from whose roots jobs can be taken.
+use crate::asked::{SMALL, call_of, is};
+use crate::depth::{FILES, TURNS, file_name};
+use engine::Room;
+use samples::{Ask, Told};
+use std::alloc::Global;
+use volume::{Index, TakeReply, Volume};
+
+/// Whether a call of the volume is answered so.
+pub fn answers(alloc: Global, volume: &mut Volume, ask: Ask<'_>, told: Told<'_>) -> bool {
+    match call_of(alloc, ask) {
+        Some(call) => is(told, &volume.call(alloc, &call)),
+        None => false,
+    }
+}
+
+/// Makes a file with a byte.
+fn makes(alloc: Global, volume: &mut Volume, text: &str) -> bool {
+    answers(alloc, volume, Ask::Create(text), Told::Done)
+        && answers(alloc, volume, Ask::Write(text, 0, b"a"), Told::Count(1))
+}
+
+/// Makes the file of a number.
+fn makes_one(alloc: Global, volume: &mut Volume, number: u32) -> bool {
+    match file_name(alloc, number) {
+        Some(text) => makes(alloc, volume, text.as_str()),
+        None => false,
+    }
+}
+
+/// Makes all files, and then steps until nothing waits.
+fn fills(alloc: Global, volume: &mut Volume) -> bool {
+    let mut is_right = true;
+    for number in 0..FILES {
+        is_right &= makes_one(alloc, volume, number);
+    }
+    for _ in 0..TURNS {
+        if volume.relieve(alloc).is_none() {
+            return is_right;
+        }
+    }
+    false
+}
+
+/// A volume of many files with a byte each, in which nothing waits.
+pub fn filled_volume(alloc: Global) -> Option<Volume> {
+    let mut volume = Volume::new(alloc, SMALL).ok()?;
+    if fills(alloc, &mut volume) {
+        Some(volume)
+    } else {
+        None
+    }
+}
+
+/// A room with a volume, if there is one.
+fn room_of(alloc: Global, volume: Option<Volume>) -> Option<Room> {
+    match volume {
+        Some(volume) => Room::new(alloc, volume).ok(),
+        None => None,
+    }
+}
+
+/// A room with such a volume.
+pub fn filled_room(alloc: Global) -> Option<Room> {
+    room_of(alloc, filled_volume(alloc))
+}
+
+/// Whether a job was taken of the one slot of the metadata's root in which a new file waits.
+fn marks(alloc: Global, volume: &mut Volume) -> bool {
+    if !answers(alloc, volume, Ask::Create("/z"), Told::Done) {
+        return false;
+    }
+    let Some(load) = volume.load(Index::Meta) else {
+        return false;
+    };
+    let is_taken = matches!(
+        volume.take_job(alloc, Index::Meta, load.slot),
+        TakeReply::Taken(_)
+    );
+    is_taken && volume.load(Index::Meta).is_none()
+}
+
+/// A volume of many files, and one more that waits in a slot with a mark.
+fn marked_volume(alloc: Global) -> Option<Volume> {
+    let mut volume = filled_volume(alloc)?;
+    if marks(alloc, &mut volume) {
+        Some(volume)
+    } else {
+        None
+    }
+}
+
+/// A room with such a volume.
+pub fn marked_room(alloc: Global) -> Option<Room> {
+    room_of(alloc, marked_volume(alloc))
+}

@@ -1,0 +1,177 @@
+//! What waits in a slot once the mark of a job that was taken there is gone: one message a key, however many came meanwhile.
+use crate::asked::call_of;
+use crate::filled::{answers, filled_volume};
+use samples::{Ask, Told};
+use std::alloc::Global;
+use volume::{Answer, Event, FinishAnswer, Index, Job, TakeReply, Volume};
+
+/// The file that is written.
+const FILE: &str = "/f150";
+
+/// How many bytes are written one by one while the marks stand, from offset 2 on.
+const WRITES: u64 = 1_000;
+
+/// Whether a byte is written.
+fn writes(alloc: Global, volume: &mut Volume, offset: u64) -> bool {
+    answers(
+        alloc,
+        volume,
+        Ask::Write(FILE, offset, b"x"),
+        Told::Count(1),
+    )
+}
+
+/// Whether the bytes are written one by one.
+fn writes_all(alloc: Global, volume: &mut Volume) -> bool {
+    let mut is_right = true;
+    for offset in 2..WRITES + 2 {
+        is_right &= writes(alloc, volume, offset);
+    }
+    is_right
+}
+
+/// Whether one piece and one message wait in an index. It ensures nothing, so that no proof of a test reads what a report says.
+fn waits_alone(volume: &Volume, index: Index) -> bool {
+    volume.pending(index) == 1 && volume.shape_report(index).pending == 1
+}
+
+/// Whether the file has all bytes, and one message of it waits in each index.
+fn is_folded(alloc: Global, volume: &mut Volume) -> bool {
+    waits_alone(volume, Index::Meta)
+        && waits_alone(volume, Index::Block)
+        && answers(alloc, volume, Ask::Stat(FILE), Told::File(WRITES + 3))
+}
+
+/// The job of the slot in which something waits.
+fn job_of(alloc: Global, volume: &mut Volume, index: Index) -> Option<Job> {
+    let load = volume.load(index)?;
+    match volume.take_job(alloc, index, load.slot) {
+        TakeReply::Taken(job) => Some(job),
+        _ => None,
+    }
+}
+
+/// Cancels a job, if there is one.
+fn cancels(volume: &mut Volume, job: &Option<Job>) -> bool {
+    match job {
+        Some(job) => {
+            volume.cancel(job.ticket());
+            true
+        }
+        None => false,
+    }
+}
+
+/// Many bytes, the jobs are cancelled, and one byte more: whether the lists fold.
+fn folds_where_cancelled(
+    alloc: Global,
+    volume: &mut Volume,
+    meta: &Option<Job>,
+    block: &Option<Job>,
+) -> bool {
+    let all = writes_all(alloc, volume);
+    let gone = cancels(volume, meta) && cancels(volume, block);
+    all && gone && writes(alloc, volume, WRITES + 2) && is_folded(alloc, volume)
+}
+
+/// The event that takes a job of the slot in which something waits.
+fn taking(volume: &Volume, index: Index) -> Option<Event> {
+    match volume.load(index) {
+        Some(load) => Some(Event::Take(index, load.slot)),
+        None => None,
+    }
+}
+
+/// The event that writes a byte.
+fn writing(alloc: Global, offset: u64) -> Option<Event> {
+    match call_of(alloc, Ask::Write(FILE, offset, b"x")) {
+        Some(call) => Some(Event::Call(call)),
+        None => None,
+    }
+}
+
+/// The event that finishes the job with the ticket of this one.
+fn finishing(job: &Option<Job>) -> Option<Event> {
+    match job {
+        Some(job) => Some(Event::Finish(job.ticket())),
+        None => None,
+    }
+}
+
+/// Adds an event, if there is one.
+fn adds(events: &mut Vec<Event>, event: Option<Event>) -> bool {
+    match event {
+        Some(event) => events.push(event).is_ok(),
+        None => false,
+    }
+}
+
+/// Adds the takings of a job in each index, and the many bytes.
+fn adds_writes(alloc: Global, volume: &Volume, events: &mut Vec<Event>) -> bool {
+    let mut is_right = adds(events, taking(volume, Index::Meta));
+    is_right &= adds(events, taking(volume, Index::Block));
+    for offset in 2..WRITES + 2 {
+        is_right &= adds(events, writing(alloc, offset));
+    }
+    is_right
+}
+
+/// How many jobs were installed.
+fn installed(answers: &[Answer]) -> u32 {
+    let mut count: u32 = 0;
+    for answer in answers {
+        if matches!(answer, Answer::Finish(FinishAnswer::Installed)) {
+            count = count.saturating_add(1);
+        }
+    }
+    count
+}
+
+/// Whether the events install two jobs.
+fn installs(alloc: Global, volume: &mut Volume, events: &[Event]) -> bool {
+    match volume.run(alloc, events) {
+        Ok(answers) => installed(answers.as_slice()) == 2,
+        Err(_) => false,
+    }
+}
+
+/// Jobs with the tickets of these, many bytes, the jobs are installed, and one byte more: whether the lists fold.
+fn folds_where_installed(
+    alloc: Global,
+    volume: &mut Volume,
+    meta: &Option<Job>,
+    block: &Option<Job>,
+) -> bool {
+    let mut events = Vec::new(alloc);
+    let added = adds_writes(alloc, volume, &mut events)
+        && adds(&mut events, finishing(meta))
+        && adds(&mut events, finishing(block));
+    let installed = installs(alloc, volume, events.as_slice());
+    added && installed && writes(alloc, volume, WRITES + 2) && is_folded(alloc, volume)
+}
+
+/// Whether the lists of two equal volumes fold. The jobs of both have the same tickets.
+fn both_fold(alloc: Global, one: &mut Volume, other: &mut Volume) -> bool {
+    let first = writes(alloc, one, 1) && writes(alloc, other, 1);
+    let meta = job_of(alloc, one, Index::Meta);
+    let block = job_of(alloc, one, Index::Block);
+    first
+        && folds_where_cancelled(alloc, one, &meta, &block)
+        && folds_where_installed(alloc, other, &meta, &block)
+}
+
+/// The same of two volumes of many files.
+fn fold(alloc: Global) -> bool {
+    let Some(mut one) = filled_volume(alloc) else {
+        return false;
+    };
+    match filled_volume(alloc) {
+        Some(mut other) => both_fold(alloc, &mut one, &mut other),
+        None => false,
+    }
+}
+
+#[test]
+fn a_list_folds_once_its_mark_is_gone(rt: HostRuntime) {
+    assert!(rt; fold(rt.alloc()));
+}

@@ -1,0 +1,144 @@
+//! An engine with one client and one flusher, and what is seen of them.
+ghost use Rattle.std.specs.Prelude.{◌≡◌};
+
+use crate::asked::{SMALL, new_room};
+use crate::between::{Deed, gives_back, goes_on, takes_at_first};
+use crate::depth::{sinks, sinks_beside};
+use crate::filled::{filled_room, marked_room};
+use crate::unlocked::writes_meanwhile;
+use engine::{Client, Engine, Flusher, Naming, Room};
+use std::alloc::Global;
+use std::marker::Brand;
+use std::sync::Wait;
+use std::thread::Threads;
+
+/// What is seen.
+#[derive(Clone, Copy)]
+enum Scene {
+    /// Many files sink.
+    Sinks,
+    /// So many files sink, with a turn after each.
+    SinksBeside(u32),
+    /// A client does this between the two holds of a turn.
+    GoesOn(Deed),
+    /// A job is given back.
+    GivesBack,
+    /// The first turn takes a job, in a volume that had a mark.
+    TakesAtFirst,
+    /// A client writes while a flusher builds.
+    WritesMeanwhile,
+}
+
+/// The room of a scene.
+fn room_of(alloc: Global, scene: Scene) -> Option<Room> {
+    match scene {
+        Scene::WritesMeanwhile => filled_room(alloc),
+        Scene::TakesAtFirst => marked_room(alloc),
+        _ => new_room(alloc, SMALL),
+    }
+}
+
+/// Whether it is seen of this client and this flusher.
+fn plays<J: Naming + Send + Sync, R: Threads + Wait + Sync>(
+    rt: &R,
+    alloc: Global,
+    client: Client<J>,
+    flusher: Flusher<J>,
+    scene: Scene,
+) -> bool {
+    match scene {
+        Scene::Sinks => sinks(rt, alloc, client, flusher),
+        Scene::SinksBeside(files) => sinks_beside(rt, alloc, client, flusher, files),
+        Scene::GoesOn(deed) => goes_on(rt, alloc, client, flusher, deed),
+        Scene::GivesBack => gives_back(rt, alloc, client, flusher),
+        Scene::TakesAtFirst => takes_at_first(rt, alloc, flusher),
+        Scene::WritesMeanwhile => writes_meanwhile(rt, alloc, client, flusher),
+    }
+}
+
+/// Whether it is seen of the client and a flusher of this engine.
+fn plays_with<J: Naming + Send + Sync, R: Threads + Wait + Sync>(
+    rt: &R,
+    alloc: Global,
+    engine: &mut Engine<J>,
+    client: Option<Client<J>>,
+    scene: Scene,
+) -> bool {
+    let Some(client) = client else {
+        return false;
+    };
+    match engine.flusher() {
+        Ok(flusher) => plays(rt, alloc, client, flusher, scene),
+        Err(_) => false,
+    }
+}
+
+/// Whether it is seen in an engine of one client.
+fn plays_in<J: Naming + Send + Sync, R: Threads + Wait + Sync>(
+    rt: &R,
+    alloc: Global,
+    room: Room,
+    scene: Scene,
+) -> bool
+    requires { (room.0 ≡ J.table) × (room.1 ≡ J.opening) × (J.clients ≡ 1) }
+{
+    match Engine::<J>::open(alloc, room, 1) {
+        Ok((mut engine, mut clients)) => {
+            plays_with(rt, alloc, &mut engine, clients.pop(), scene)
+        }
+        Err(_) => false,
+    }
+}
+
+/// Whether it is seen in this room.
+fn run<R: Threads + Wait + Sync>(rt: &R, alloc: Global, room: Room, scene: Scene) -> bool {
+    plays_in::<Brand, R>(rt, alloc, room, scene)
+}
+
+/// Whether it is seen.
+fn is_seen<R: Threads + Wait + Sync>(rt: &R, alloc: Global, scene: Scene) -> bool {
+    match room_of(alloc, scene) {
+        Some(room) => run(rt, alloc, room, scene),
+        None => false,
+    }
+}
+
+#[test]
+fn turns_make_a_deep_tree(rt: HostRuntime) {
+    assert!(rt; is_seen(&rt, rt.alloc(), Scene::Sinks));
+}
+
+#[test]
+fn each_turn_does_something_while_a_message_waits(rt: HostRuntime) {
+    for files in [0, 1, 40, 300] {
+        assert!(rt;
+            is_seen(&rt, rt.alloc(), Scene::SinksBeside(files)),
+            "at {files}"
+        );
+    }
+}
+
+#[test]
+fn a_restore_makes_the_job_stale(rt: HostRuntime) {
+    assert!(rt; is_seen(&rt, rt.alloc(), Scene::GoesOn(Deed::Restore)));
+}
+
+#[test]
+fn a_write_stays_beside_the_job(rt: HostRuntime) {
+    assert!(rt; is_seen(&rt, rt.alloc(), Scene::GoesOn(Deed::Write)));
+}
+
+#[test]
+fn a_refused_job_leaves_no_mark(rt: HostRuntime) {
+    assert!(rt; is_seen(&rt, rt.alloc(), Scene::GivesBack));
+}
+
+#[test]
+fn an_engine_opens_without_marks(rt: HostRuntime) {
+    assert!(rt; is_seen(&rt, rt.alloc(), Scene::TakesAtFirst));
+}
+
+#[test]
+fn a_client_writes_while_a_flusher_builds(rt: HostRuntime) {
+    assert!(rt; is_seen(&rt, rt.alloc(), Scene::WritesMeanwhile));
+}

@@ -1,0 +1,152 @@
+//! A job is built without the lock: a client's write is answered while a flusher builds.
+ghost use Rattle.std.specs.Prelude.{◌≡◌};
+
+use crate::asked::answers;
+use crate::depth::shapes;
+use engine::{Between, Client, Flusher, Naming, TurnReply};
+use samples::{Ask, Told};
+use std::alloc::Global;
+use std::sync::Wait;
+use std::sync::atomic::{AtomicBool, Ordering};
+use std::thread::{Parker, Threads, join};
+use std::time::Duration;
+use volume::{Done, Job};
+
+/// How often a flusher looks for a flag.
+const LOOKS: u32 = 10_000;
+
+/// What a flusher and a client tell one another.
+#[derive(Drop)]
+struct Flags {
+    /// The flusher has begun to build.
+    began: AtomicBool,
+    /// A write that began after that was answered.
+    wrote: AtomicBool,
+    /// The turn has ended.
+    ended: AtomicBool,
+}
+
+impl Flags {
+    fn new() -> Flags {
+        Flags {
+            began: AtomicBool::new(false),
+            wrote: AtomicBool::new(false),
+            ended: AtomicBool::new(false),
+        }
+    }
+}
+
+/// Rests for a millisecond.
+fn rest<R: Wait>(rt: &R) {
+    Parker::new().park_timeout(rt, Duration::from_millis(1));
+}
+
+/// Whether a write was answered before so many looks.
+fn sees_write<R: Wait>(rt: &R, flags: &Flags) -> bool {
+    for _ in 0..LOOKS {
+        if flags.wrote.load(Ordering::SeqCst) {
+            return true;
+        }
+        rest(rt);
+    }
+    false
+}
+
+/// Looks until the flusher builds, or its turn has ended: whether it builds.
+fn sees_build<R: Wait>(rt: &R, flags: &Flags) -> bool {
+    for _ in 0..u64::MAX {
+        if flags.began.load(Ordering::SeqCst) {
+            return true;
+        }
+        if flags.ended.load(Ordering::SeqCst) {
+            return false;
+        }
+        rest(rt);
+    }
+    false
+}
+
+/// Builds only once a client has written.
+#[derive(Drop)]
+struct Waits<'a, R: Wait> {
+    rt: &'a R,
+    flags: &'a Flags,
+    is_seen: bool,
+}
+
+impl<'a, R: Wait> Between for Waits<'a, R> {
+    fn build(&mut self, alloc: Global, job: Job) -> Result<Done, Job> {
+        self.flags.began.store(true, Ordering::SeqCst);
+        self.is_seen = sees_write(self.rt, self.flags);
+        job.build(alloc)
+    }
+
+    fn between(&mut self) {}
+}
+
+/// One turn: whether it installed a job, and saw a write while it built.
+fn builds<J: Naming, R: Wait>(
+    rt: &R,
+    alloc: Global,
+    mut flusher: Flusher<J>,
+    flags: &Flags,
+) -> bool {
+    let mut between = Waits {
+        rt,
+        flags,
+        is_seen: false,
+    };
+    let reply = flusher.turn(rt, alloc, &mut between);
+    flags.ended.store(true, Ordering::SeqCst);
+    between.is_seen && reply == TurnReply::Installed
+}
+
+/// Writes once the flusher builds, and reads the bytes back.
+fn writes<J: Naming, R: Wait>(rt: &R, alloc: Global, mut client: Client<J>, flags: &Flags) -> bool {
+    let is_built = sees_build(rt, flags);
+    let wrote = answers(
+        rt,
+        alloc,
+        &mut client,
+        Ask::Write("/z", 0, &[0xaa]),
+        Told::Count(1),
+    );
+    flags.wrote.store(is_built && wrote, Ordering::SeqCst);
+    answers(
+        rt,
+        alloc,
+        &mut client,
+        Ask::Read("/z", 0, 2),
+        Told::Data(&[0xaa]),
+    )
+}
+
+/// Whether both trees have two inner levels or more, and one file more waits.
+fn is_ready<J: Naming, R: Wait>(rt: &R, alloc: Global, client: &mut Client<J>) -> bool {
+    match shapes(rt, client) {
+        Some((meta, block)) => {
+            meta.levels >= 2
+                && block.levels >= 2
+                && answers(rt, alloc, client, Ask::Create("/z"), Told::Done)
+        }
+        None => false,
+    }
+}
+
+/// A turn beside a client: whether a write was answered while it built.
+pub fn writes_meanwhile<J: Naming + Send + Sync, R: Threads + Wait + Sync>(
+    rt: &R,
+    alloc: Global,
+    mut client: Client<J>,
+    flusher: Flusher<J>,
+) -> bool {
+    let is_ready = is_ready(rt, alloc, &mut client);
+    let flags = Flags::new();
+    let told = &flags;
+    let (built, read) = join(
+        rt,
+        move || builds(rt, alloc, flusher, told),
+        move || writes(rt, alloc, client, told),
+    );
+    is_ready && built && read
+}

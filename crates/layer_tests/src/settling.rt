@@ -1,0 +1,139 @@
+//! Trees of several shapes, from which relief takes all that is pending.
+use crate::some_steps::{Done, try_step};
+use crate::trees::new_tree;
+use message::Msg;
+use node::{Shape, StepReply, Tree};
+use pathkey::{Key, KeyRange, NoMemory};
+use samples::{Digit, Random};
+use std::alloc::Global;
+use steps::relieve;
+
+/// Any key of two bytes.
+fn some_key(alloc: Global, random: &mut Random) -> Result<Key, NoMemory> {
+    Key::from_bytes(alloc, &[random.byte(), random.byte()])
+}
+
+/// A range-delete from a key on up to another, of no keys where that stands first.
+fn delete_from(alloc: Global, random: &mut Random, lo: Key) -> Option<Msg<Digit>> {
+    match some_key(alloc, random) {
+        Ok(hi) => Some(Msg::DelRange(KeyRange { lo, hi: Some(hi) })),
+        Err(_) => None,
+    }
+}
+
+/// A message of one of the other forms at a key.
+fn message_at(random: &mut Random, key: Key) -> Msg<Digit> {
+    match random.below(8) {
+        0 => Msg::Del(key),
+        1 | 2 => Msg::Edit(key, Digit(random.below(10) as u64)),
+        _ => Msg::Put(key, random.below(1000) as u64),
+    }
+}
+
+/// A message of one of the four forms; of a hundred, so many are range-deletes.
+fn some_message(alloc: Global, random: &mut Random, ranges: u32) -> Option<Msg<Digit>> {
+    let is_range = random.below(100) < ranges;
+    match some_key(alloc, random) {
+        Ok(key) if is_range => delete_from(alloc, random, key),
+        Ok(key) => Some(message_at(random, key)),
+        Err(_) => None,
+    }
+}
+
+/// A batch of one message.
+fn batch_of(alloc: Global, msg: Msg<Digit>) -> Option<Vec<Msg<Digit>>> {
+    Vec::from_array(alloc, [msg]).ok()
+}
+
+/// A batch of such a message.
+fn some_batch(alloc: Global, random: &mut Random, ranges: u32) -> Option<Vec<Msg<Digit>>> {
+    match some_message(alloc, random, ranges) {
+        Some(msg) => batch_of(alloc, msg),
+        None => None,
+    }
+}
+
+/// Appends such a message.
+fn append_some(alloc: Global, random: &mut Random, tree: &mut Tree<Digit>, ranges: u32) -> bool {
+    match some_batch(alloc, random, ranges) {
+        Some(batch) => tree.append(alloc, batch).is_ok(),
+        None => false,
+    }
+}
+
+/// Whether what relieves the tree is done until nothing is pending.
+fn settle(alloc: Global, tree: &mut Tree<Digit>) -> bool {
+    for _ in 0..1_000_000 {
+        match relieve(alloc, tree) {
+            None => return tree.shape_report().pending == 0,
+            Some(turn) if matches!(turn.reply, StepReply::Did(_)) => {}
+            Some(_) => return false,
+        }
+    }
+    false
+}
+
+/// How many slots, pending pieces and entries there may be, and how many of a hundred messages are range-deletes.
+type Course = ([u16; 3], u32);
+
+/// How many messages come to a tree.
+const COUNT: u32 = 3_000;
+
+/// Whether messages come to a tree, with steps of all kinds between, and now and then, as at the end, all that is pending goes.
+fn fill_and_settle(alloc: Global, tree: &mut Tree<Digit>, ranges: u32) -> bool {
+    let mut random = Random(ranges);
+    let mut done = Done::new();
+    for _ in 0..COUNT {
+        if !append_some(alloc, &mut random, tree, ranges)
+            || random.below(4) == 0 && !try_step(alloc, &mut random, tree, &mut done)
+            || random.below(1000) == 0 && !settle(alloc, tree)
+        {
+            return false;
+        }
+    }
+    settle(alloc, tree)
+}
+
+/// The same of a new tree.
+fn fills_and_settles(alloc: Global, course: &Course) -> bool {
+    let [fanout, pending, leaf] = course.0;
+    let shape = Shape {
+        fanout,
+        pending,
+        leaf,
+    };
+    match new_tree(alloc, shape) {
+        Ok(mut tree) => fill_and_settle(alloc, &mut tree, course.1),
+        Err(_) => false,
+    }
+}
+
+const WITHOUT_RANGES: &[Course] = &[
+    ([4, 4, 4], 0),
+    ([64, 64, 4], 0),
+    ([4, 4, 1024], 0),
+    ([16, 256, 256], 0),
+];
+
+#[test]
+fn relief_ends_with_nothing_pending(rt: HostRuntime) {
+    for course in WITHOUT_RANGES {
+        assert!(rt; fills_and_settles(rt.alloc(), course), "{course:?}");
+    }
+}
+
+const WITH_RANGES: &[Course] = &[
+    ([4, 4, 1024], 1),
+    ([4, 4, 1024], 20),
+    ([4, 4, 1024], 60),
+    ([16, 256, 256], 1),
+    ([16, 256, 256], 20),
+    ([16, 256, 256], 60),
+];
+
+#[test]
+fn relief_ends_among_range_deletes(rt: HostRuntime) {
+    for course in WITH_RANGES {
+        assert!(rt; fills_and_settles(rt.alloc(), course), "{course:?}");
+    }
+}

@@ -1,0 +1,105 @@
+//! Steps of all eight kinds, at places that look random.
+use node::{Place, StepKind, StepReply, Tree, TreeStep};
+use samples::{Digit, Random};
+use std::alloc::Global;
+use steps::{Turn, do_step, relieve};
+
+/// How many steps of each kind were done, in the order of the kinds.
+#[derive(Clone, Copy, Debug)]
+pub struct Done([u32; 8]);
+
+impl Done {
+    /// None was done yet.
+    pub fn new() -> Done {
+        Done([0; 8])
+    }
+
+    /// Counts a step.
+    fn count(&mut self, kind: StepKind) {
+        let counter = &mut self.0[kind as usize];
+        *counter = counter.saturating_add(1);
+    }
+
+    /// How many were done in all.
+    pub fn all(&self) -> u32 {
+        let mut sum = 0u32;
+        for count in self.0 {
+            sum = sum.saturating_add(count);
+        }
+        sum
+    }
+
+    /// How many of the rarest kind were done.
+    pub fn rarest(&self) -> u32 {
+        let mut least = u32::MAX;
+        for count in self.0 {
+            least = least.min(count);
+        }
+        least
+    }
+}
+
+/// The place that up to three numbers of slots lead to, where a node may be.
+fn somewhere(random: &mut Random) -> Place {
+    let mut at = Place::root();
+    for _ in 0..random.below(4) {
+        match at.under(random.below(4) as u8) {
+            Some(below) => at = below,
+            None => return at,
+        }
+    }
+    at
+}
+
+/// A kind of step. Those that make a tree lower come more often than those that make it higher.
+fn some_kind(random: &mut Random) -> StepKind {
+    match random.below(20) {
+        0..=3 => StepKind::FlushInner,
+        4..=7 => StepKind::FlushLeaf,
+        8 => StepKind::SplitInner,
+        9..=11 => StepKind::MergeLeaves,
+        12..=14 => StepKind::MergeInner,
+        15 => StepKind::RootUp,
+        16..=17 => StepKind::RootDown,
+        _ => StepKind::DropCovered,
+    }
+}
+
+/// A step of some kind somewhere.
+fn some_step(random: &mut Random) -> TreeStep {
+    TreeStep {
+        kind: some_kind(random),
+        at: somewhere(random),
+        slot: random.below(4) as u8,
+    }
+}
+
+/// Does a step. It ensures nothing, so that no proof of a test reads what a step does.
+fn turn_of(alloc: Global, tree: &mut Tree<Digit>, step: TreeStep) -> Turn {
+    let reply = do_step(alloc, tree, step);
+    Turn { step, reply }
+}
+
+/// Relieves the heaviest slot, or tries a step of any kind somewhere; none where nothing is pending.
+fn turn(alloc: Global, random: &mut Random, tree: &mut Tree<Digit>) -> Option<Turn> {
+    if random.below(2) == 0 {
+        return relieve(alloc, tree);
+    }
+    Some(turn_of(alloc, tree, some_step(random)))
+}
+
+/// Tries a step, and counts it where it was done.
+pub fn try_step(
+    alloc: Global,
+    random: &mut Random,
+    tree: &mut Tree<Digit>,
+    done: &mut Done,
+) -> bool {
+    let Some(turn) = turn(alloc, random, tree) else {
+        return true;
+    };
+    if matches!(turn.reply, StepReply::Did(_)) {
+        done.count(turn.step.kind);
+    }
+    turn.reply != StepReply::NoMemory
+}

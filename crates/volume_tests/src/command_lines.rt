@@ -1,0 +1,122 @@
+//! Command lines, and what they ask for.
+use shell::{Options, read_words};
+use std::alloc::Global;
+
+/// A command line and what it asks for.
+struct Row {
+    words: &'static [&'static str],
+    /// Flushers, steps, fanout, pending and leaf.
+    numbers: [u16; 5],
+    image: bool,
+    script: Option<&'static str>,
+}
+
+const TAKEN: &[Row] = &[
+    Row {
+        words: &["betr"],
+        numbers: [0, 0, 16, 256, 256],
+        image: false,
+        script: None,
+    },
+    Row {
+        words: &["betr", "--flushers", "8"],
+        numbers: [8, 0, 16, 256, 256],
+        image: false,
+        script: None,
+    },
+    Row {
+        words: &["betr", "--steps", "1000"],
+        numbers: [0, 1_000, 16, 256, 256],
+        image: false,
+        script: None,
+    },
+    Row {
+        words: &["betr", "--fanout", "4"],
+        numbers: [0, 0, 4, 256, 256],
+        image: false,
+        script: None,
+    },
+    Row {
+        words: &["betr", "--fanout=64"],
+        numbers: [0, 0, 64, 256, 256],
+        image: false,
+        script: None,
+    },
+    Row {
+        words: &["betr", "--pending", "1024"],
+        numbers: [0, 0, 16, 1_024, 256],
+        image: false,
+        script: None,
+    },
+    Row {
+        words: &["betr", "--leaf", "1024"],
+        numbers: [0, 0, 16, 256, 1_024],
+        image: false,
+        script: None,
+    },
+    Row {
+        words: &["betr", "--image"],
+        numbers: [0, 0, 16, 256, 256],
+        image: true,
+        script: None,
+    },
+    Row {
+        words: &["betr", "notes/script"],
+        numbers: [0, 0, 16, 256, 256],
+        image: false,
+        script: Some("notes/script"),
+    },
+    Row {
+        words: &[
+            "betr",
+            "--fanout",
+            "4",
+            "--pending",
+            "4",
+            "--leaf",
+            "4",
+            "--steps",
+            "1",
+            "--image",
+            "script",
+        ],
+        numbers: [0, 1, 4, 4, 4],
+        image: true,
+        script: Some("script"),
+    },
+];
+
+/// Reads a command line. It ensures nothing, so that no proof of a test reads what a command line means.
+fn read<'a>(alloc: Global, words: &'a [&'a str]) -> Option<Options<'a>> {
+    read_words(alloc, words).ok()
+}
+
+/// The numbers of what a command line asks for.
+fn numbers_of(asked: &Options<'_>) -> [u16; 5] {
+    [
+        u16::from(asked.flushers),
+        asked.steps,
+        asked.fanout,
+        asked.pending,
+        asked.leaf,
+    ]
+}
+
+/// Whether the command line asks for what the row says.
+fn is_taken(alloc: Global, row: &Row) -> bool {
+    match read(alloc, row.words) {
+        Some(asked) => {
+            numbers_of(&asked) == row.numbers
+                && asked.image == row.image
+                && asked.script == row.script
+        }
+        None => false,
+    }
+}
+
+#[test]
+fn reads_each_option(rt: HostRuntime) {
+    for row in TAKEN {
+        assert!(rt; is_taken(rt.alloc(), row), "{:?}", row.words);
+    }
+}

@@ -1,0 +1,358 @@
+//! Runs of events of every kind that look random, with jobs taken and finished among them, beside the plain program.
+use crate::asked::{SMALL, new_volume};
+use crate::look_alike::{is_reply, look_alike};
+use crate::runs::{Act, add, run};
+use crate::some_events::{some_ask, some_index, some_snap, some_step};
+use node::{Place, Shape, StepKind, StepReply, TreeStep};
+use pathkey::{Errno, NoMemory, SnapName};
+use reference::plain::World;
+use reference::{Call, Reply};
+use samples::{Ask, Random};
+use std::alloc::Global;
+use volume::{Answer, Event, FinishAnswer, Index, Step, TakeAnswer, Volume};
+
+/// A shape with nodes twice as wide as the smallest.
+const WIDER: Shape = Shape {
+    fanout: 8,
+    pending: 16,
+    leaf: 8,
+};
+
+/// Small nodes with room for many messages.
+const ROOMY: Shape = Shape {
+    fanout: 4,
+    pending: 64,
+    leaf: 4,
+};
+
+/// How many events a run has.
+const EVENTS: u32 = 400;
+
+/// How many runs there are.
+const RUNS: u32 = 50;
+
+/// How many steps relieve the volume between two runs.
+const STEPS: u32 = 10;
+
+/// Among how many of a run's first tickets one is finished: a run gives about as many.
+const NEAR: u32 = 6;
+
+/// How many blocks of one file each run begins with.
+const BLOCKS: u64 = 64;
+
+/// What came of the events.
+#[derive(Clone, Copy, Debug, Default)]
+struct Tally {
+    /// Jobs taken of the metadata and of the blocks.
+    taken: [u32; 2],
+    /// Jobs installed.
+    installed: u32,
+    /// Jobs whose mark was gone.
+    stale: u32,
+    /// Steps done in the metadata and in the blocks.
+    steps: [u32; 2],
+    /// The most levels of both trees.
+    levels: [u128; 2],
+}
+
+/// The greater of a count and one more.
+fn next(count: &mut u32) {
+    *count = count.saturating_add(1);
+}
+
+impl Tally {
+    /// How many tickets were given.
+    fn tickets(&self) -> u32 {
+        self.taken[0].saturating_add(self.taken[1])
+    }
+
+    /// Counts the answer to a taking; whether memory was found.
+    fn take(&mut self, index: Index, answer: TakeAnswer) -> bool {
+        if matches!(answer, TakeAnswer::Taken(_)) {
+            next(&mut self.taken[index as usize]);
+        }
+        answer != TakeAnswer::NoMemory
+    }
+
+    /// Counts the answer to a finishing; whether memory was found.
+    fn finish(&mut self, answer: FinishAnswer) -> bool {
+        match answer {
+            FinishAnswer::Installed => next(&mut self.installed),
+            FinishAnswer::Stale => next(&mut self.stale),
+            FinishAnswer::NotThere => {}
+            FinishAnswer::NoMemory => return false,
+        }
+        true
+    }
+
+    /// Counts the answer to a step; whether memory was found.
+    fn step(&mut self, index: Index, reply: StepReply) -> bool {
+        if matches!(reply, StepReply::Did(_)) {
+            next(&mut self.steps[index as usize]);
+        }
+        reply != StepReply::NoMemory
+    }
+
+    /// Keeps what is more than before.
+    fn look(&mut self, volume: &Volume) {
+        let (meta, block) = (
+            volume.shape_report(Index::Meta),
+            volume.shape_report(Index::Block),
+        );
+        self.levels = [
+            self.levels[0].max(meta.levels),
+            self.levels[1].max(block.levels),
+        ];
+    }
+
+    /// How many jobs there were, how many were installed, gone stale, and left: the least of these.
+    fn rarest(&self) -> u32 {
+        let left = self
+            .tickets()
+            .saturating_sub(self.installed)
+            .saturating_sub(self.stale);
+        self.installed.min(self.stale).min(left)
+    }
+}
+
+/// A new root over the old one.
+fn root_up(index: Index) -> Act<'static> {
+    let step = TreeStep {
+        kind: StepKind::RootUp,
+        at: Place::root(),
+        slot: 0,
+    };
+    Act::Step(Step { index, step })
+}
+
+/// A taking at some slot of a root, mostly one of the first.
+fn some_taking(random: &mut Random) -> Act<'static> {
+    let slot = random.below(4).min(random.below(4)) as u8;
+    Act::Take(some_index(random), slot)
+}
+
+/// The finishing of a job that may have been taken since this ticket, or is the last of those before.
+fn some_finishing(random: &mut Random, first: u32) -> Act<'static> {
+    let number = first.saturating_add(random.below(NEAR)).saturating_sub(1);
+    Act::Finish(number as u64)
+}
+
+/// An act that looks random: of ten two are jobs, and two are steps.
+fn some_act(random: &mut Random, first: u32) -> Act<'static> {
+    match random.below(10) {
+        0 => some_taking(random),
+        1 => some_finishing(random, first),
+        2 | 3 => Act::Step(some_step(random)),
+        _ if random.below(8) == 0 => Act::Snap(some_snap(random)),
+        _ => Act::Live(some_ask(random)),
+    }
+}
+
+/// Adds a new root for each tree whose root has leaves below, since no job is taken there.
+fn add_roots(alloc: Global, events: &mut Vec<Event>, volume: &Volume) -> bool {
+    for index in [Index::Meta, Index::Block] {
+        if volume.shape_report(index).levels < 2 && !add(alloc, events, root_up(index)) {
+            return false;
+        }
+    }
+    true
+}
+
+/// Adds events that look random.
+fn add_all(alloc: Global, events: &mut Vec<Event>, random: &mut Random, first: u32) -> bool {
+    for _ in 0..EVENTS {
+        if !add(alloc, events, some_act(random, first)) {
+            return false;
+        }
+    }
+    true
+}
+
+/// What the plain program replies to a call; none where memory is refused. It ensures nothing, so that no proof of a test reads what a
+/// call means; nor do the next ones.
+fn plain_call(alloc: Global, plain: &mut World, call: &Call) -> Option<Reply> {
+    plain.call(alloc, call).ok()
+}
+
+/// What it replies to a snapshot.
+fn plain_snapshot(alloc: Global, plain: &mut World, name: &SnapName) -> Result<(), Errno> {
+    plain.snapshot(alloc, name)
+}
+
+/// What it replies to the drop of one.
+fn plain_drop(plain: &mut World, name: &SnapName) -> Result<(), Errno> {
+    plain.drop_snapshot(name)
+}
+
+/// What it replies to the restoring of one.
+fn plain_restore(alloc: Global, plain: &mut World, name: &SnapName) -> Result<(), Errno> {
+    plain.restore(alloc, name)
+}
+
+/// Whether the plain program replies so to a call.
+fn replies(alloc: Global, plain: &mut World, call: &Call, reply: &Reply) -> bool {
+    match plain_call(alloc, plain, call) {
+        Some(wanted) => is_reply(reply, &wanted),
+        None => false,
+    }
+}
+
+/// Whether this is the answer to an event: that of the plain program, if it knows such events. The others are counted.
+fn is_answer(
+    alloc: Global,
+    plain: &mut World,
+    tally: &mut Tally,
+    event: &Event,
+    answer: &Answer,
+) -> bool {
+    match (event, answer) {
+        (Event::Call(call), Answer::Call(reply)) => replies(alloc, plain, call, reply),
+        (Event::Snapshot(name), Answer::Snap(told)) => plain_snapshot(alloc, plain, name) == *told,
+        (Event::DropSnapshot(name), Answer::Snap(told)) => plain_drop(plain, name) == *told,
+        (Event::Restore(name), Answer::Snap(told)) => plain_restore(alloc, plain, name) == *told,
+        (Event::Step(step), Answer::Step(reply)) => tally.step(step.index, *reply),
+        (Event::Take(index, _), Answer::Take(answer)) => tally.take(*index, *answer),
+        (Event::Finish(_), Answer::Finish(answer)) => tally.finish(*answer),
+        _ => false,
+    }
+}
+
+/// Whether these are the answers to events.
+fn are_answers(
+    alloc: Global,
+    plain: &mut World,
+    tally: &mut Tally,
+    events: &[Event],
+    answers: &[Answer],
+) -> bool {
+    for (event, answer) in events.iter().zip(answers.iter()) {
+        if !is_answer(alloc, plain, tally, event, answer) {
+            return false;
+        }
+    }
+    events.len() == answers.len()
+}
+
+/// Adds a write of one byte to each of many blocks of a file.
+fn add_blocks(alloc: Global, events: &mut Vec<Event>) -> bool {
+    let mut are_added = add(alloc, events, Act::Live(Ask::Create("/k")));
+    for number in 0..BLOCKS {
+        are_added &= add(
+            alloc,
+            events,
+            Act::Live(Ask::Write("/k", number * 4_096, b"k")),
+        );
+    }
+    are_added
+}
+
+/// Whether the volume answers events as the plain program does.
+fn answer_alike(
+    alloc: Global,
+    volume: &mut Volume,
+    plain: &mut World,
+    tally: &mut Tally,
+    events: &[Event],
+) -> bool {
+    match run(alloc, volume, events) {
+        Some(answers) => are_answers(alloc, plain, tally, events, answers.as_slice()),
+        None => false,
+    }
+}
+
+/// Whether both answer events that look random alike.
+fn run_alike(
+    alloc: Global,
+    random: &mut Random,
+    volume: &mut Volume,
+    plain: &mut World,
+    tally: &mut Tally,
+) -> bool {
+    let mut events = Vec::new(alloc);
+    add_roots(alloc, &mut events, volume)
+        && add_blocks(alloc, &mut events)
+        && add_all(alloc, &mut events, random, tally.tickets())
+        && answer_alike(alloc, volume, plain, tally, events.as_slice())
+}
+
+/// Does what relieves a volume, so many times; whether memory was found.
+fn relieve(alloc: Global, volume: &mut Volume) -> bool {
+    for _ in 0..STEPS {
+        if matches!(volume.relieve(alloc), Some(relief) if relief.reply == StepReply::NoMemory) {
+            return false;
+        }
+    }
+    true
+}
+
+/// How many runs are answered alike and leave one tree, before the first that does not.
+fn count_alike(
+    alloc: Global,
+    seed: u32,
+    volume: &mut Volume,
+    plain: &mut World,
+    tally: &mut Tally,
+) -> u32 {
+    let mut random = Random(seed);
+    for count in 0..RUNS {
+        if !run_alike(alloc, &mut random, volume, plain, tally)
+            || !look_alike(alloc, volume, plain)
+            || !relieve(alloc, volume)
+        {
+            return count;
+        }
+        tally.look(volume);
+    }
+    RUNS
+}
+
+/// How many runs are answered alike, and what came of them.
+type Seen = (u32, Tally);
+
+/// What is seen of a volume beside a plain program made here.
+fn see_beside(alloc: Global, seed: u32, volume: &mut Volume) -> Seen {
+    let mut tally = Tally::default();
+    match World::new(alloc) {
+        Ok(mut plain) => {
+            let alike = count_alike(alloc, seed, volume, &mut plain, &mut tally);
+            (alike, tally)
+        }
+        Err(_) => (0, tally),
+    }
+}
+
+/// The same of a volume made here.
+fn see(alloc: Global, seed: u32, shape: Shape) -> Seen {
+    match new_volume(alloc, shape) {
+        Ok(mut volume) => see_beside(alloc, seed, &mut volume),
+        Err(_) => (0, Tally::default()),
+    }
+}
+
+/// Whether all runs were answered alike, and much came of them: so many jobs of each index at least.
+fn is_enough(seen: &Seen, jobs: u32) -> bool {
+    let (alike, tally) = seen;
+    *alike == RUNS
+        && tally.rarest() >= 10
+        && tally.taken[0].min(tally.taken[1]) >= jobs
+        && tally.steps[0].min(tally.steps[1]) >= 20
+        && tally.levels[0].max(tally.levels[1]) >= 2
+}
+
+#[test]
+fn runs_of_small_nodes_answer_as_the_plain_program(rt: HostRuntime) {
+    let seen = see(rt.alloc(), 17, SMALL);
+    assert!(rt; is_enough(&seen, 1), "{seen:?}");
+}
+
+#[test]
+fn runs_of_wider_nodes_answer_as_the_plain_program(rt: HostRuntime) {
+    let seen = see(rt.alloc(), 18, WIDER);
+    assert!(rt; is_enough(&seen, 10), "{seen:?}");
+}
+
+#[test]
+fn runs_of_roomy_nodes_answer_as_the_plain_program(rt: HostRuntime) {
+    let seen = see(rt.alloc(), 19, ROOMY);
+    assert!(rt; is_enough(&seen, 10), "{seen:?}");
+}

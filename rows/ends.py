@@ -1,0 +1,102 @@
+"""How the program ends where what it reads or writes fails, and what is told by its beginning and its end alone."""
+import os
+import subprocess
+from collections.abc import Callable, Iterator
+
+SECONDS = 300
+
+Ended = tuple[int, bytes, bytes]
+# A name, and what tells how a program ends otherwise than it must; that is empty where it does not.
+End = tuple[str, Callable[[str], str]]
+
+
+def ended(betr: str, words: list, stdin: int | bytes = b"", stdout: int = subprocess.PIPE, stderr: int = subprocess.PIPE) -> Ended:
+    given = {"input": stdin} if isinstance(stdin, bytes) else {"stdin": stdin}
+    ran = subprocess.run([betr, *words], stdout=stdout, stderr=stderr, timeout=SECONDS, **given)
+    return ran.returncode, ran.stdout or b"", ran.stderr or b""
+
+
+def fault(is_so: bool, got: object) -> str:
+    return "" if is_so else f"it ends so: {got}"
+
+
+HELP = [["--help"], ["-h", "--fanout", "8"]]
+
+
+def is_help(betr: str, words: list) -> str:
+    status, output, errors = got = ended(betr, words, b"mkdir /a\n")
+    is_text = output.startswith(b"Runs a script of file calls ") and output.endswith(b"  names 1\n  f x\n")
+    return fault(status == 0 and is_text and not errors, got)
+
+
+# Command lines that the table of options has not.
+REFUSED = [
+    ["--steps", "1001"],
+    ["--fanout", "3"],
+    ["--fanout", "65"],
+    ["--pending", "3"],
+    ["--pending", "1025"],
+    ["--leaf", "3"],
+    ["--leaf", "1025"],
+    ["--leaf", "many"],
+    ["--leaf", "4x"],
+    ["--leaf", ""],
+    ["--leaf"],
+    ["--leaf", "5", "--leaf", "6"],
+    ["--flushers", "9"],
+    ["--flushers", "-1"],
+    ["--unknown"],
+    ["script", "another"],
+]
+
+
+def is_refused(betr: str, words: list) -> str:
+    status, output, errors = got = ended(betr, words, b"mkdir /a\n")
+    return fault(status == 2 and not output and errors.startswith(b"error: ") and errors.endswith(b"\n"), got)
+
+
+def is_no_text(betr: str) -> str:
+    status, output, _ = got = ended(betr, [b"\xff"], b"mkdir /a\n")
+    return fault(status == 2 and not output, got)
+
+
+def standard_input_is_a_folder(betr: str) -> str:
+    folder = os.open("/", os.O_RDONLY)
+    try:
+        got = ended(betr, ["--image"], folder)
+    finally:
+        os.close(folder)
+    return fault(got == (1, b"", b"betr: read failed\n"), got)
+
+
+# Command lines that cannot write what they print, with their scripts.
+UNWRITTEN = [([], b"stat /\n"), (["--image"], b"stat /\n"), (["--image"], b""), (["--help"], b"")]
+
+
+def is_unwritten(betr: str, words: list, script: bytes) -> str:
+    with open("/dev/full", "wb") as full:
+        got = ended(betr, words, script, full.fileno())
+    return fault(got == (1, b"", b"betr: write failed\n"), got)
+
+
+# Command lines, and the status of each where neither output nor errors can be written.
+UNSAID = [([], 0), (["--image"], 1), (["/no/such/folder/script"], 1), (["--fanout", "3"], 2)]
+
+
+def is_unsaid(betr: str, words: list, status: int) -> str:
+    with open("/dev/full", "wb") as full:
+        got = ended(betr, words, b"", full.fileno(), full.fileno())
+    return fault(got[0] == status, got)
+
+
+def each() -> Iterator[End]:
+    for words in HELP:
+        yield f"help is output: {words}", lambda betr, words=words: is_help(betr, words)
+    for words in REFUSED:
+        yield f"refused words are an error: {words}", lambda betr, words=words: is_refused(betr, words)
+    yield "a word is no text", is_no_text
+    yield "standard input is a folder", standard_input_is_a_folder
+    for words, script in UNWRITTEN:
+        yield f"nothing can be written: {words} {script!r}", lambda betr, it=(words, script): is_unwritten(betr, *it)
+    for words, status in UNSAID:
+        yield f"no error can be written: {words}", lambda betr, it=(words, status): is_unsaid(betr, *it)
