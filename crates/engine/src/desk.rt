@@ -2,16 +2,22 @@
 ghost use Rattle.std.specs.Prelude.{◌≡◌, [], ◌∷◌, ◌++◌, ◌<◌, length, ◌%◌, ◌^◌, IfOk};
 ghost use Rattle.engine.specs.Histories.{entry, LegalFrom, AllBelow, StartsWith, own};
 ghost use Rattle.engine.specs.Seats.{IsEngineSeat, IsClientSeat, IsFlusherSeat, Shows, Makes, Looks};
-ghost use Rattle.engine.specs.Clients.{FindsAfter, Watches};
+ghost use Rattle.engine.specs.Clients.{FindsAfter, Watches, watched};
+ghost use Rattle.engine.specs.Takings.{BuiltOf, IsTaken, KnowsMarks};
+ghost use Rattle.reference.specs.Worlds.{World};
+ghost use Rattle.volume.specs.Jobs.{IfTaken};
+ghost use Rattle.volume.specs.Volumes.{Means, live_of};
 
 use crate::act::Act;
 use crate::flusher::TurnReply;
+use crate::pick::{pick, put};
 use crate::rule::{Naming, Place, Words};
-use crate::ties::{announce, learn, learn_flusher, make, tie, tie_flusher};
+use crate::ties::{announce, learn, make, record_taking, show, tie};
+use jobs::Ticket;
 use pathkey::{Errno, NoMemory, SnapName};
 use std::alloc::Global;
 use std::marker::{Model, PhantomData};
-use volume::{Frozen, Volume};
+use volume::{Done, Frozen, TakeReply, Volume};
 
 /// The volume and the engine's seat. A contract sees the history.
 #[derive(Drop)]
@@ -27,20 +33,50 @@ impl<J: Naming> Model for Desk<J> {
     ghost use Rattle.std.specs.Prelude.{◌≡◌, List};
     ghost use Rattle.engine.specs.Histories.{Entry};
     ghost use Rattle.engine.specs.Seats.{IsEngineSeat, Holds};
+    ghost use Rattle.engine.specs.Takings.{KnowsMarks};
+    ghost use Rattle.volume.specs.Volumes.{live_of};
 
     ghost Value = { List Entry };
 
     ghost view = { λ d. d.seat.me.0.history };
 
-    ghost invariant = { λ d. IsEngineSeat J.table J.opening d.seat × Holds J.opening J.clients d.seat.me.0.history d.volume d.count };
+    ghost invariant = { λ d. IsEngineSeat J.table J.opening d.seat × Holds J.opening J.clients d.seat.me.0.history d.volume d.count × KnowsMarks d.seat.me.0.takings (live_of d.volume) };
+}
+
+/// Takes a job, if one can be taken, and records it.
+fn take_recorded<J: Naming>(
+    alloc: Global,
+    words: &Words,
+    engine: &mut Place,
+    volume: &mut Volume,
+) -> TakeReply
+    requires words { (words.now.table_id ≡ J.table) × (1 < J.table.words) }
+    requires engine { IsEngineSeat J.table J.opening engine.old }
+    requires knows { KnowsMarks engine.old.me.0.takings (live_of volume.old) }
+    ensures engine { IsEngineSeat J.table J.opening engine.new }
+    ensures history { engine.new.me.0.history ≡ engine.old.me.0.history }
+    ensures knows { KnowsMarks engine.new.me.0.takings (live_of volume.new) }
+    ensures means { (w : World) → Means volume.old w → Means volume.new w }
+    ensures taken { IfTaken result (λ job. IsTaken engine.new.me.0.takings job) }
+{
+    match pick(volume, alloc) {
+        TakeReply::Taken(job) => {
+            record_taking::<J>(words, engine, &job);
+            TakeReply::Taken(job)
+        }
+        TakeReply::NotThere => TakeReply::NotThere,
+        TakeReply::NoRoom => TakeReply::NoRoom,
+        TakeReply::NoMemory => TakeReply::NoMemory,
+    }
 }
 
 impl<J: Naming> Desk<J> {
-    /// The desk of an engine of which nothing was asked.
-    pub fn new(volume: Volume, seat: Place) -> Desk<J>
-        requires { IsEngineSeat J.table J.opening seat × (seat.me.0.history ≡ []) × (volume ≡ J.opening) }
+    /// The desk of an engine of which nothing was asked. It cancels the marks that stand.
+    pub fn new(mut volume: Volume, seat: Place) -> Desk<J>
+        requires { IsEngineSeat J.table J.opening seat × (seat.me.0.history ≡ []) × (seat.me.0.takings ≡ []) × (volume ≡ J.opening) }
         ensures { result ≡ [] }
     {
+        volume.cancel_all();
         Desk {
             volume,
             count: 0,
@@ -101,12 +137,46 @@ impl<J: Naming> Desk<J> {
         requires flusher { IsFlusherSeat J.table J.opening flusher }
         ensures same { self.new ≡ self.old }
         ensures flusher { IsFlusherSeat J.table J.opening result.0 }
-        ensures seen { (result.0.me.0.seen ≡ self.old) × Watches J.opening flusher.me.0.seen result.0.me.0.seen }
+        ensures seen { (result.0.me.0.seen ≡ self.old) × Watches J.opening (watched flusher.me.0) (watched result.0.me.0) }
     {
-        let mut flusher = tie_flusher::<J>(words, &mut self.seat, flusher);
-        learn_flusher::<J>(words, &mut flusher);
+        let flusher = show::<J>(words, &mut self.seat, flusher);
         let reply = self.step(alloc);
         (flusher, reply)
+    }
+
+    /// The flusher sees the history and the takings, of which the last is the job that it takes, if one can be taken.
+    pub fn take(&mut self, alloc: Global, words: &Words, flusher: Place) -> (Place, TakeReply)
+        requires words { (words.now.table_id ≡ J.table) × (0 < J.table.words) × (1 < J.table.words) }
+        requires flusher { IsFlusherSeat J.table J.opening flusher }
+        ensures same { self.new ≡ self.old }
+        ensures flusher { IsFlusherSeat J.table J.opening result.0 }
+        ensures watches { Watches J.opening (watched flusher.me.0) (watched result.0.me.0) }
+        ensures taken { IfTaken result.1 (λ job. IsTaken result.0.me.0.seen_takings job) }
+    {
+        let reply = take_recorded::<J>(alloc, words, &mut self.seat, &mut self.volume);
+        let flusher = show::<J>(words, &mut self.seat, flusher);
+        (flusher, reply)
+    }
+
+    /// Installs what was built of a job that the flusher saw taken.
+    pub fn install(&mut self, words: &Words, flusher: Place, done: Done) -> (Place, TurnReply)
+        requires words { (words.now.table_id ≡ J.table) × (0 < J.table.words) }
+        requires flusher { IsFlusherSeat J.table J.opening flusher }
+        requires built { BuiltOf flusher.me.0.seen_takings done }
+        ensures same { self.new ≡ self.old }
+        ensures flusher { IsFlusherSeat J.table J.opening result.0 }
+        ensures watches { Watches J.opening (watched flusher.me.0) (watched result.0.me.0) }
+    {
+        let flusher = show::<J>(words, &mut self.seat, flusher);
+        let reply = put(&mut self.volume, done);
+        (flusher, reply)
+    }
+
+    /// The job with the ticket is not to be installed.
+    pub fn cancel(&mut self, ticket: Ticket)
+        ensures { self.new ≡ self.old }
+    {
+        self.volume.cancel(ticket);
     }
 
     /// Does one tree step of the volume.

@@ -2,16 +2,19 @@
 ghost use Rattle.std.specs.Prelude.{◌≡◌, ◌<◌, List, IfOk, IfErr};
 ghost use Rattle.engine.specs.Histories.{Entry, LegalFrom, own};
 ghost use Rattle.engine.specs.Seats.{IsClientSeat, IsFlusherSeat, Shows, Makes, Looks};
-ghost use Rattle.engine.specs.Clients.{FindsAfter, Watches};
+ghost use Rattle.engine.specs.Clients.{FindsAfter, Watches, watched};
+ghost use Rattle.engine.specs.Takings.{BuiltOf, IsTaken};
+ghost use Rattle.volume.specs.Jobs.{IfTaken};
 
 use crate::act::Act;
 use crate::desk::Desk;
-use crate::flusher::TurnReply;
+use crate::flusher::{Between, TurnReply};
 use crate::rule::{Board, Naming, Place, Words};
+use jobs::Ticket;
 use pathkey::{Errno, NoMemory, SnapName};
 use std::alloc::Global;
 use std::sync::{Mutex, Wait};
-use volume::Frozen;
+use volume::{Done, Frozen, Job, TakeReply};
 
 /// The table and the lock. The desk is there from the opening of the engine to its end.
 #[derive(Drop)]
@@ -20,13 +23,14 @@ pub struct Hub<J: Naming> {
     pub desk: Mutex<Option<Desk<J>>>,
     ghost named: { board.shared.table_id ≡ J.table },
     ghost one_word: { 0 < J.table.words },
+    ghost two_words: { 1 < J.table.words },
     ghost about: { board.shared.key ≡ J.opening },
 }
 
 impl<J: Naming> Hub<J> {
     /// What threads share of the table.
     pub fn words(&self) -> &Words
-        ensures { (result.now.table_id ≡ J.table) × (0 < J.table.words) }
+        ensures { (result.now.table_id ≡ J.table) × (0 < J.table.words) × (1 < J.table.words) }
     {
         &self.board.shared
     }
@@ -95,11 +99,97 @@ impl<J: Naming> Hub<J> {
         }
     }
 
-    /// The flusher sees the history, and does one tree step; nothing where the engine has ended.
-    pub fn turn<R: Wait>(&self, rt: &R, alloc: Global, flusher: Place) -> (Place, TurnReply)
+    /// A flusher's turn: it takes a job, builds it and installs it, or does one tree step where none is taken.
+    pub fn turn<R: Wait, B: Between>(
+        &self,
+        rt: &R,
+        alloc: Global,
+        flusher: Place,
+        between: &mut B,
+    ) -> (Place, TurnReply)
         requires flusher { IsFlusherSeat J.table J.opening flusher × LegalFrom J.opening flusher.me.0.seen }
         ensures flusher { IsFlusherSeat J.table J.opening result.0 }
-        ensures watches { Watches J.opening flusher.me.0.seen result.0.me.0.seen }
+        ensures watches { Watches J.opening (watched flusher.me.0) (watched result.0.me.0) }
+    {
+        let (flusher, reply) = self.take(rt, alloc, flusher);
+        match reply {
+            TakeReply::Taken(job) => self.finish(rt, alloc, flusher, between, job),
+            TakeReply::NotThere | TakeReply::NoRoom => {
+                between.between();
+                self.step(rt, alloc, flusher)
+            }
+            TakeReply::NoMemory => (flusher, TurnReply::NoMemory),
+        }
+    }
+
+    /// Builds the job that the flusher took, without the lock, and installs what was built. Where memory is refused the job is
+    /// cancelled.
+    fn finish<R: Wait, B: Between>(
+        &self,
+        rt: &R,
+        alloc: Global,
+        flusher: Place,
+        between: &mut B,
+        job: Job,
+    ) -> (Place, TurnReply)
+        requires flusher { IsFlusherSeat J.table J.opening flusher × LegalFrom J.opening flusher.me.0.seen }
+        requires taken { IsTaken flusher.me.0.seen_takings job }
+        ensures flusher { IsFlusherSeat J.table J.opening result.0 }
+        ensures watches { Watches J.opening (watched flusher.me.0) (watched result.0.me.0) }
+    {
+        match between.build(alloc, job) {
+            Ok(done) => {
+                between.between();
+                self.install(rt, flusher, done)
+            }
+            Err(job) => {
+                self.cancel(rt, job.ticket());
+                (flusher, TurnReply::NoMemory)
+            }
+        }
+    }
+
+    /// The flusher takes a job under the lock, if one can be taken, and sees it among the takings.
+    fn take<R: Wait>(&self, rt: &R, alloc: Global, flusher: Place) -> (Place, TakeReply)
+        requires flusher { IsFlusherSeat J.table J.opening flusher × LegalFrom J.opening flusher.me.0.seen }
+        ensures flusher { IsFlusherSeat J.table J.opening result.0 }
+        ensures watches { Watches J.opening (watched flusher.me.0) (watched result.0.me.0) }
+        ensures taken { IfTaken result.1 (λ job. IsTaken result.0.me.0.seen_takings job) }
+    {
+        let mut guard = self.desk.lock(rt);
+        match &mut *guard {
+            Some(desk) => desk.take(alloc, self.words(), flusher),
+            None => (flusher, TakeReply::NotThere),
+        }
+    }
+
+    /// Installs under the lock what was built of a job that the flusher saw taken; `Stale` where the engine has ended.
+    fn install<R: Wait>(&self, rt: &R, flusher: Place, done: Done) -> (Place, TurnReply)
+        requires flusher { IsFlusherSeat J.table J.opening flusher × LegalFrom J.opening flusher.me.0.seen }
+        requires built { BuiltOf flusher.me.0.seen_takings done }
+        ensures flusher { IsFlusherSeat J.table J.opening result.0 }
+        ensures watches { Watches J.opening (watched flusher.me.0) (watched result.0.me.0) }
+    {
+        let mut guard = self.desk.lock(rt);
+        match &mut *guard {
+            Some(desk) => desk.install(self.words(), flusher, done),
+            None => (flusher, TurnReply::Stale),
+        }
+    }
+
+    /// Cancels a job under the lock.
+    fn cancel<R: Wait>(&self, rt: &R, ticket: Ticket) {
+        let mut guard = self.desk.lock(rt);
+        if let Some(desk) = &mut *guard {
+            desk.cancel(ticket);
+        }
+    }
+
+    /// The flusher sees the history, and does one tree step; nothing where the engine has ended.
+    fn step<R: Wait>(&self, rt: &R, alloc: Global, flusher: Place) -> (Place, TurnReply)
+        requires flusher { IsFlusherSeat J.table J.opening flusher × LegalFrom J.opening flusher.me.0.seen }
+        ensures flusher { IsFlusherSeat J.table J.opening result.0 }
+        ensures watches { Watches J.opening (watched flusher.me.0) (watched result.0.me.0) }
     {
         let mut guard = self.desk.lock(rt);
         match &mut *guard {

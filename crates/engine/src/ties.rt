@@ -1,12 +1,18 @@
-//! The steps on the table's word, and the ties of seats between them.
+//! The steps on the table's words, and the ties of seats between them.
 ghost use Rattle.std.specs.Prelude.{◌≡◌, [], ◌∷◌, ◌++◌, ◌+◌, ◌%◌, ◌^◌, ◌<◌, ◌≤◌, length, true};
 ghost use Rattle.engine.specs.Histories.{entry, LegalFrom, FitsAfter, StartsWith, own};
-ghost use Rattle.engine.specs.Views.{guest, watcher, recorded, announced_more, learned, keeper};
+ghost use Rattle.engine.specs.Clients.{Watches, watched};
+ghost use Rattle.engine.specs.Takings.{times_taken};
+ghost use Rattle.engine.specs.Views.{guest, watcher, recorded, took, announced_more, learned, keeper};
+ghost use Rattle.volume.specs.Jobs.{ticket_of};
 ghost use Rattle.engine.specs.Seats.{IsEngineSeat, IsClientSeat, IsFlusherSeat};
 
 use crate::act::Act;
-use crate::rule::{Announces, Deals, Hires, Learns, Meets, Naming, Place, Records, Told, Words};
+use crate::rule::{
+    Announces, Deals, Hires, Learns, Meets, Naming, Place, Records, Takes, Taking, Told, Words,
+};
 use std::marker::Brand;
+use volume::Job;
 
 /// The client's seat is told the history of the engine's.
 pub fn tie<J: Naming>(words: &Words, engine: &mut Place, client: Place) -> Place
@@ -15,7 +21,7 @@ pub fn tie<J: Naming>(words: &Words, engine: &mut Place, client: Place) -> Place
     requires client { IsClientSeat J.table J.opening client }
     ensures engine { (engine.new.table_id ≡ engine.old.table_id) × (engine.new.me ≡ engine.old.me) }
     ensures client { (result.table_id ≡ J.table)
-        × (result.me ≡ (guest J.opening client.me.0.client client.me.0.announced engine.old.me.0.history client.me.0.seen, [])) }
+        × (result.me ≡ (guest J.opening client.me.0.client client.me.0.announced engine.old.me.0.history client.me.0.seen engine.old.me.0.takings client.me.0.seen_takings, [])) }
 {
     words.join_seat::<Meets>(engine, client);
     words.split_seat::<Meets>(engine)
@@ -27,7 +33,7 @@ pub fn tie_flusher<J: Naming>(words: &Words, engine: &mut Place, flusher: Place)
     requires engine { IsEngineSeat J.table J.opening engine.old }
     requires flusher { IsFlusherSeat J.table J.opening flusher }
     ensures engine { (engine.new.table_id ≡ engine.old.table_id) × (engine.new.me ≡ engine.old.me) }
-    ensures flusher { (result.table_id ≡ J.table) × (result.me ≡ (watcher J.opening engine.old.me.0.history flusher.me.0.seen, [])) }
+    ensures flusher { (result.table_id ≡ J.table) × (result.me ≡ (watcher J.opening engine.old.me.0.history flusher.me.0.seen engine.old.me.0.takings flusher.me.0.seen_takings, [])) }
 {
     words.join_seat::<Meets>(engine, flusher);
     words.split_seat::<Meets>(engine)
@@ -59,6 +65,30 @@ fn record<E: Told, A: Act>(words: &Words, seat: &mut Place, act: &A, reply: &A::
     words.fetch_add::<Records<E>>(seat, 0, 1).wrapping_add(1)
 }
 
+/// The engine took this job.
+fn take_up<E: Taking>(words: &Words, seat: &mut Place, job: &Job)
+    requires taking { E.job ≡ job.now }
+    requires words { (seat.old.table_id ≡ words.now.table_id) × (1 < words.now.table_id.words) }
+    requires seat { (seat.old.me.1 ≡ []) × (seat.old.me.0.keeps ≡ true) }
+    requires new { times_taken (ticket_of E.job) seat.old.me.0.takings ≡ 0 }
+    ensures seat { (seat.new.table_id ≡ seat.old.table_id) × (seat.new.me ≡ (took E.job seat.old.me.0, [])) }
+{
+    let _ = job;
+    words.fetch_add::<Takes<E>>(seat, 1, 1);
+}
+
+/// The engine's seat records that this job was taken, under a ticket that no other taking has.
+pub fn record_taking<J: Naming>(words: &Words, engine: &mut Place, job: &Job)
+    requires words { (words.now.table_id ≡ J.table) × (1 < J.table.words) }
+    requires engine { IsEngineSeat J.table J.opening engine.old }
+    requires new { times_taken (ticket_of job.now) engine.old.me.0.takings ≡ 0 }
+    ensures engine { IsEngineSeat J.table J.opening engine.new }
+    ensures history { engine.new.me.0.history ≡ engine.old.me.0.history }
+    ensures takings { engine.new.me.0.takings ≡ engine.old.me.0.takings ++ job.now ∷ [] }
+{
+    take_up::<Brand>(words, engine, job);
+}
+
 /// The client sees what it was told.
 pub fn learn<J: Naming>(words: &Words, client: &mut Place)
     requires words { (words.now.table_id ≡ J.table) × (0 < J.table.words) }
@@ -78,8 +108,24 @@ pub fn learn_flusher<J: Naming>(words: &Words, flusher: &mut Place)
     ensures seat { (flusher.new.table_id ≡ J.table) × (flusher.new.me ≡ (learned flusher.old.me.0, [])) }
     ensures legal { LegalFrom J.opening flusher.old.me.0.told }
     ensures told { StartsWith flusher.old.me.0.told flusher.old.me.0.seen }
+    ensures takings { StartsWith flusher.old.me.0.told_takings flusher.old.me.0.seen_takings }
 {
     words.load::<Learns>(flusher, 0);
+}
+
+/// The flusher sees the history and the takings of the engine's seat.
+pub fn show<J: Naming>(words: &Words, engine: &mut Place, flusher: Place) -> Place
+    requires words { (words.now.table_id ≡ J.table) × (0 < J.table.words) }
+    requires engine { IsEngineSeat J.table J.opening engine.old }
+    requires flusher { IsFlusherSeat J.table J.opening flusher }
+    ensures engine { (engine.new.table_id ≡ engine.old.table_id) × (engine.new.me ≡ engine.old.me) }
+    ensures flusher { IsFlusherSeat J.table J.opening result }
+    ensures seen { (result.me.0.seen ≡ engine.old.me.0.history) × (result.me.0.seen_takings ≡ engine.old.me.0.takings) }
+    ensures watches { Watches J.opening (watched flusher.me.0) (watched result.me.0) }
+{
+    let mut flusher = tie_flusher::<J>(words, engine, flusher);
+    learn_flusher::<J>(words, &mut flusher);
+    flusher
 }
 
 /// Both seats record the call, whose answer fits the history, and the client sees it. Answers how many calls there are
@@ -98,6 +144,7 @@ pub fn make<J: Naming, A: Act>(
     requires fits { FitsAfter J.opening engine.old.me.0.history (A.event act.now) (A.answer reply.now) }
     ensures engine { IsEngineSeat J.table J.opening engine.new }
     ensures dealt { engine.new.me.0.dealt ≡ engine.old.me.0.dealt }
+    ensures takings { engine.new.me.0.takings ≡ engine.old.me.0.takings }
     ensures history { engine.new.me.0.history
         ≡ engine.old.me.0.history ++ entry client.me.0.client (A.event act.now) (A.answer reply.now) ∷ [] }
     ensures client { IsClientSeat J.table J.opening result.0 }
@@ -115,9 +162,9 @@ pub fn make<J: Naming, A: Act>(
 /// The engine's seat deals a further client's.
 pub fn deal_one<J: Naming>(words: &Words, engine: &mut Place) -> Place
     requires words { (words.now.table_id ≡ J.table) × (0 < J.table.words) }
-    requires engine { (engine.old.table_id ≡ J.table) × (engine.old.me ≡ (keeper J.opening engine.old.me.0.dealt [], [])) }
-    ensures engine { (engine.new.table_id ≡ J.table) × (engine.new.me ≡ (keeper J.opening (engine.old.me.0.dealt + 1) [], [])) }
-    ensures client { (result.table_id ≡ J.table) × (result.me ≡ (guest J.opening engine.old.me.0.dealt 0 [] [], [])) }
+    requires engine { (engine.old.table_id ≡ J.table) × (engine.old.me ≡ (keeper J.opening engine.old.me.0.dealt [] [], [])) }
+    ensures engine { (engine.new.table_id ≡ J.table) × (engine.new.me ≡ (keeper J.opening (engine.old.me.0.dealt + 1) [] [], [])) }
+    ensures client { (result.table_id ≡ J.table) × (result.me ≡ (guest J.opening engine.old.me.0.dealt 0 [] [] [] [], [])) }
 {
     words.split_seat::<Deals>(engine)
 }
@@ -125,9 +172,9 @@ pub fn deal_one<J: Naming>(words: &Words, engine: &mut Place) -> Place
 /// The engine's seat, while nothing was called, leaves a first one for flushers.
 pub fn hire_first<J: Naming>(words: &Words, engine: &mut Place) -> Place
     requires words { (words.now.table_id ≡ J.table) × (0 < J.table.words) }
-    requires engine { (engine.old.table_id ≡ J.table) × (engine.old.me ≡ (keeper J.opening engine.old.me.0.dealt [], [])) }
+    requires engine { (engine.old.table_id ≡ J.table) × (engine.old.me ≡ (keeper J.opening engine.old.me.0.dealt [] [], [])) }
     ensures engine { (engine.new.table_id ≡ engine.old.table_id) × (engine.new.me ≡ engine.old.me) }
-    ensures flusher { (result.table_id ≡ J.table) × (result.me ≡ (watcher J.opening [] [], [])) }
+    ensures flusher { (result.table_id ≡ J.table) × (result.me ≡ (watcher J.opening [] [] [] [], [])) }
 {
     words.split_seat::<Hires>(engine)
 }
@@ -135,9 +182,9 @@ pub fn hire_first<J: Naming>(words: &Words, engine: &mut Place) -> Place
 /// A flusher's seat that has seen nothing leaves another one.
 pub fn hire<J: Naming>(words: &Words, spare: &mut Place) -> Place
     requires words { (words.now.table_id ≡ J.table) × (0 < J.table.words) }
-    requires spare { (spare.old.table_id ≡ J.table) × (spare.old.me ≡ (watcher J.opening [] [], [])) }
+    requires spare { (spare.old.table_id ≡ J.table) × (spare.old.me ≡ (watcher J.opening [] [] [] [], [])) }
     ensures spare { (spare.new.table_id ≡ spare.old.table_id) × (spare.new.me ≡ spare.old.me) }
-    ensures flusher { (result.table_id ≡ J.table) × (result.me ≡ (watcher J.opening [] [], [])) }
+    ensures flusher { (result.table_id ≡ J.table) × (result.me ≡ (watcher J.opening [] [] [] [], [])) }
 {
     words.split_seat::<Hires>(spare)
 }

@@ -15,10 +15,10 @@ use std::test::Fail;
 use volume::Frozen;
 
 /// How many files there are.
-const FILES: u32 = 300;
+pub const FILES: u32 = 300;
 
 /// How many turns are made.
-const TURNS: u32 = 10_000;
+pub const TURNS: u32 = 10_000;
 
 /// How many turns there were.
 #[derive(Drop)]
@@ -33,7 +33,7 @@ impl Between for Count {
 }
 
 /// The path of a file.
-fn name(alloc: Global, number: u32) -> Option<String> {
+pub fn file_name(alloc: Global, number: u32) -> Option<String> {
     let mut text = String::new(alloc);
     write!(text, "/f{number:03}").ok()?;
     Some(text)
@@ -43,14 +43,19 @@ fn name(alloc: Global, number: u32) -> Option<String> {
 fn makes<J: Naming, R: Wait>(rt: &R, alloc: Global, client: &mut Client<J>, number: u32) -> bool
     ensures { client.new.client ≡ client.old.client }
 {
-    match name(alloc, number) {
+    match file_name(alloc, number) {
         Some(text) => answers(rt, alloc, client, Ask::Create(text.as_str()), Told::Done),
         None => false,
     }
 }
 
 /// Whether all files are made.
-fn makes_all<J: Naming, R: Wait>(rt: &R, alloc: Global, client: &mut Client<J>, files: u32) -> bool
+pub fn makes_all<J: Naming, R: Wait>(
+    rt: &R,
+    alloc: Global,
+    client: &mut Client<J>,
+    files: u32,
+) -> bool
     ensures { client.new.client ≡ client.old.client }
 {
     let mut is_right = true;
@@ -71,17 +76,22 @@ fn turn<J: Naming, R: Wait>(
 }
 
 /// So many turns.
-fn run_turns<J: Naming, R: Wait>(rt: &R, alloc: Global, flusher: &mut Flusher<J>, turns: u32) {
+pub fn run_turns<J: Naming, R: Wait>(rt: &R, alloc: Global, flusher: &mut Flusher<J>, turns: u32) {
     flusher.run_flusher(rt, alloc, turns);
 }
 
-/// Turns until one is idle: how many did a step. None where one of them did not, or there are more than there may be.
-fn count_steps<J: Naming, R: Wait>(rt: &R, alloc: Global, flusher: &mut Flusher<J>) -> Option<u32> {
+/// Turns until one is idle: how many did a step or installed a job. None where one of them did neither, or there are more than
+/// there may be.
+pub fn count_steps<J: Naming, R: Wait>(
+    rt: &R,
+    alloc: Global,
+    flusher: &mut Flusher<J>,
+) -> Option<u32> {
     let mut count = Count { turns: 0 };
     for done in 0..TURNS {
         match turn(rt, alloc, flusher, &mut count) {
             TurnReply::Idle if count.turns == done.saturating_add(1) => return Some(done),
-            TurnReply::Stepped(StepReply::Did(_)) => {}
+            TurnReply::Installed | TurnReply::Stepped(StepReply::Did(_)) => {}
             _ => return None,
         }
     }
@@ -150,7 +160,7 @@ fn run_steps_after<R: Wait>(rt: &R, alloc: Global, room: Room, files: u32) -> Op
 
 #[test]
 fn each_turn_does_a_step_while_a_message_waits(rt: HostRuntime) -> Result<(), Fail> {
-    for (files, least) in [(0, 0), (1, 1), (40, 40)] {
+    for (files, least) in [(0, 0), (1, 1), (40, 4)] {
         let Some(room) = new_room(rt.alloc(), SMALL) else {
             panic!(rt; "memory");
         };

@@ -11,6 +11,8 @@ mod depth;
 #[cfg(test)]
 mod ends;
 #[cfg(test)]
+mod jobs;
+#[cfg(test)]
 mod meeting;
 #[cfg(test)]
 mod own;
@@ -18,3 +20,5 @@ mod own;
 mod rows;
 #[cfg(test)]
 mod stress;
+#[cfg(test)]
+mod unlocked;

@@ -19,5 +19,6 @@ pub use job::{Done, Job};
 pub use mark::Mark;
 pub use marked::Marked;
 pub use marks::Marks;
+pub use marks::load::Load;
 pub use reply::{InstallReply, TakeReply};
 pub use ticket::Ticket;

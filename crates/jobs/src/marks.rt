@@ -16,6 +16,7 @@ use std::alloc::Global;
 use std::marker::Model;
 
 pub mod install;
+pub mod load;
 pub mod step;
 pub mod take;
 

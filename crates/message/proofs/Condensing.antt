@@ -1,17 +1,33 @@
 -- A sorted part with a tail.
-use Rattle.std.proofs.Common.{Option, ◌≡◌, ℕ, zero, suc, ◌-◌, ◌<◌, ◌≤◌, refl, sym, ap, ◌∙◌, List, [], ◌∷◌, ◌++◌, length, take, drop, arith, subst, append_assoc, false}
+use Rattle.std.proofs.Common.{Option, ◌≡◌, ℕ, zero, suc, ◌-◌, ◌<◌, ◌≤◌, refl, sym, ap, ◌∙◌, List, [], ◌∷◌, ◌++◌, length, take, drop, arith, subst, append_assoc, length-append, Bool, true, false, ◌||◌}
 use Rattle.message.specs.declared.msg.Msg.{Msg}
 use Rattle.message.specs.declared.told.Told.{Told}
 use Rattle.message.specs.declared.told.Told.TheVariants.{Nothing, Value, Change}
-use Rattle.message.specs.Effects.{any_touches, effects, Takes}
+use Rattle.message.specs.Effects.{touches, any_touches, effects, Takes}
 use Rattle.message.specs.Told.{IsTold}
 use Rattle.message.proofs.Lists.{effects-append, any_touches-append, takes-append}
 use Rattle.message.proofs.Telling.{untouched}
+use Rattle.message.proofs.Composing.{untouched_first, untouched_second}
 
 module _ {U V : Type 0} (means : U → Option V → Option V) where
   -- a message put behind the tail
   pub takes_end : (s t f h : List (Msg U V)) (m : Msg U V) → t ≡ s → h ≡ f ++ m ∷ [] → Takes means (s ++ f) (m ∷ []) (t ++ h)
   takes_end s t f h m e g = subst (λ x. Takes means (s ++ f) (m ∷ []) x) (append_assoc s f (m ∷ []) ∙ ap (λ x. s ++ x) (sym g) ∙ ap (λ x. x ++ h) (sym e)) (takes-append means (s ++ f) (m ∷ []))
+
+  -- the oldest message of the tail laid over the sorted part
+  pub takes_folded : (s t f r : List (Msg U V)) (m : Msg U V) → f ≡ m ∷ r → Takes means s (m ∷ []) t → Takes means (s ++ f) [] (t ++ r)
+  takes_folded s t f r m e l = subst (λ x. Takes means (s ++ x) [] (t ++ r)) (sym e) (record {
+    meaning = λ k v.
+        effects-append means t r k v
+        ∙ ap (λ w. effects means r k w) (l.meaning k v)
+        ∙ sym (effects-append means s (m ∷ r) k v);
+    bound = omega (arith, l.bound, length-append t r, length-append s (m ∷ r));
+    touched = λ k h g.
+        let low = untouched_second s (m ∷ r) k h in
+        any_touches-append t r k
+        (l.touched k (untouched_first s (m ∷ r) k h) (untouched_first (m ∷ []) r k low))
+        (untouched_second (m ∷ []) r k low);
+  })
 
   pub value_behind : (s f old : List (Msg U V)) (k : List ℕ) (o w v : Option V) → s ++ f ≡ old → w ≡ effects means s k o → v ≡ effects means f k w → v ≡ effects means old k o
   value_behind s f old k o w v e g h = h ∙ ap (λ x. effects means f k x) g ∙ sym (effects-append means s f k o) ∙ ap (λ xs. effects means xs k o) e
@@ -21,6 +37,15 @@ module _ {U V : Type 0} (means : U → Option V → Option V) where
   told_before s f k Nothing h g = (any_touches-append s f k g.0 h, λ o. effects-append means s f k o ∙ untouched means f k (effects means s k o) h ∙ g.1 o)
   told_before s f k (Value v) h g = λ o. effects-append means s f k o ∙ untouched means f k (effects means s k o) h ∙ g o
   told_before s f k Change h g = tt
+
+or_assoc : (a b c : Bool) → (a || (b || c)) ≡ ((a || b) || c)
+or_assoc true b c = refl
+or_assoc false b c = refl
+
+-- what touches a key in two lists end to end
+pub touches_append : {U V : Type 0} (xs ys : List (Msg U V)) (k : List ℕ) → any_touches (xs ++ ys) k ≡ (any_touches xs k || any_touches ys k)
+touches_append [] ys k = refl
+touches_append (x ∷ xs) ys k = ap (λ b. touches x k || b) (touches_append xs ys k) ∙ or_assoc (touches x k) (any_touches xs k) (any_touches ys k)
 
 -- so many of the first part, and then of the second
 pub drop_parts : {X : Type 0} (n k : ℕ) (xs ys : List X) → k ≤ n → k ≤ length xs → (k < n → length xs ≤ k) → drop k xs ++ drop (n - k) ys ≡ drop n (xs ++ ys)

@@ -18,6 +18,7 @@ pub mod search;
 pub mod settled;
 pub mod sorted;
 pub mod stretch;
+pub(crate) mod tail;
 pub mod taken;
 pub mod told;
 pub mod update;

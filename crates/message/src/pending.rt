@@ -4,7 +4,6 @@
 //! meaning alone (`Takes`): the list is sorted and condenses, so that it holds fewer messages that mean the same, and
 //! callers that rely on the contract do not notice. No call lends a message or asks for one by its number.
 ghost use Rattle.std.specs.Prelude.{◌≡◌, ◌+◌, ◌≤◌, ◌<◌, ◌++◌, [], ◌∷◌, true, length, take, drop, IfOk, IfNone, OnOk, OnErr};
-ghost use Rattle.std.specs.Vec.{vec_len, vec_capacity};
 ghost use Rattle.std.specs.Option.{option_copied, option_map, option_to_list};
 ghost use Rattle.std.specs.List.{slice_get};
 ghost use Rattle.message.specs.Cuts.{pieces};
@@ -16,10 +15,10 @@ ghost use Rattle.message.specs.Told.{IsTold};
 ghost use Rattle.pathkey.specs.Keys.{is_below};
 
 use crate::eldest::Eldest;
-use crate::list::{copy_behind, is_touched, lay_all, pieces_of, ranges_in};
+use crate::list::pieces_of;
 use crate::msg::Msg;
 use crate::sorted::Sorted;
-use crate::stretch::stretch_end;
+use crate::tail::Tail;
 use crate::taken::Taken;
 use crate::told::Told;
 use crate::update::{Changes, Update};
@@ -27,21 +26,23 @@ use pathkey::{Key, NoMemory};
 use std::alloc::Global;
 use std::marker::Model;
 
-/// A pending list: a sorted part, and newer messages as they came, which found no memory for a place in it.
+/// A pending list: a sorted part, and a tail of newer messages as they came.
+///
+/// A message comes into the tail where the slot has a mark, or where it found no memory for its place. The next message that
+/// comes without a mark first folds the tail into the sorted part, so a list whose mark is gone condenses again.
 #[derive(Drop)]
 pub struct Pending<U: Changes> {
     sorted: Sorted<U>,
-    fresh: Vec<Msg<U>>,
+    fresh: Tail<U>,
 }
 
 impl<U: Changes> Model for Pending<U> {
-    ghost use Rattle.std.specs.Prelude.{List, ℕ, ◌-◌, ◌++◌};
-    ghost use Rattle.std.specs.Vec.{vec_len, vec_capacity};
+    ghost use Rattle.std.specs.Prelude.{List, ℕ, ◌++◌};
     ghost use Rattle.message.specs.declared.msg.Msg.{Msg};
 
     ghost Value = { List (Msg U U.Value) × ℕ };
 
-    ghost view = { λ p. (p.sorted ++ p.fresh.items, vec_capacity p.fresh - vec_len p.fresh) };
+    ghost view = { λ p. (p.sorted ++ p.fresh.0, p.fresh.1) };
 }
 
 // ---- what comes in
@@ -53,7 +54,7 @@ impl<U: Update> Pending<U> {
     {
         Pending {
             sorted: Sorted::new(alloc),
-            fresh: Vec::new(alloc),
+            fresh: Tail::new(alloc),
         }
     }
 
@@ -65,8 +66,7 @@ impl<U: Update> Pending<U> {
         ensures room { OnOk result (more ≤ self.new.1) }
         ensures refused { OnErr result (self.old.1 < more) }
     {
-        self.fresh.reserve(more)?;
-        Ok(())
+        self.fresh.reserve(more)
     }
 
     /// Adds a message, newer than all others, into reserved room. What it makes idle goes, and an update joins those of its key
@@ -101,9 +101,7 @@ impl<U: Update> Pending<U> {
         ensures moved { newer.new.items ≡ [] }
         ensures room { self.old.1 ≤ self.new.1 + length newer.old.items }
     {
-        let Ok(()) = self.fresh.append(newer) else {
-            unreachable!()
-        };
+        self.fresh.append(newer);
     }
 
     /// Moves all messages of the list `newer` into reserved room, newer than all others.
@@ -113,7 +111,7 @@ impl<U: Update> Pending<U> {
         ensures moved { newer.new.0 ≡ [] }
     {
         self.append_sorted(&mut newer.sorted);
-        self.append_reserved(&mut newer.fresh);
+        self.append_tail(&mut newer.fresh);
     }
 
     fn append_sorted(&mut self, newer: &mut Sorted<U>)
@@ -121,6 +119,16 @@ impl<U: Update> Pending<U> {
         ensures takes { Takes U.means self.old.0 newer.old self.new.0 }
         ensures moved { newer.new ≡ [] }
         ensures room { self.old.1 ≤ self.new.1 + length newer.old }
+    {
+        while let Some(msg) = newer.pop() {
+            self.push_reserved(msg);
+        }
+    }
+
+    fn append_tail(&mut self, newer: &mut Tail<U>)
+        requires { length newer.old.0 ≤ self.old.1 }
+        ensures takes { Takes U.means self.old.0 newer.old.0 self.new.0 }
+        ensures moved { newer.new.0 ≡ [] }
     {
         while let Some(msg) = newer.pop() {
             self.push_reserved(msg);
@@ -142,7 +150,7 @@ impl<U: Update> Pending<U> {
         ensures { result ≡ range_count (drop gone self.now.0) }
     {
         let sorted = gone.min(self.sorted.len());
-        self.sorted.range_deletes(sorted) + ranges_in(&self.fresh[gone - sorted..])
+        self.sorted.range_deletes(sorted) + self.fresh.count_ranges(gone - sorted)
     }
 
     // ---- the oldest message
@@ -153,10 +161,7 @@ impl<U: Update> Pending<U> {
     {
         match self.sorted.oldest() {
             Some(eldest) => Some(eldest),
-            None => match self.fresh.first() {
-                Some(msg) => Some(Eldest::Plain(msg)),
-                None => None,
-            },
+            None => self.fresh.oldest(),
         }
     }
 
@@ -219,7 +224,7 @@ impl<U: Update> Pending<U> {
     {
         let mut front = self.sorted.copy_front(alloc, count)?;
         let sorted = count.min(self.sorted.len());
-        copy_behind(alloc, &self.fresh[..count - sorted], &mut front)?;
+        self.fresh.copy_oldest(alloc, count - sorted, &mut front)?;
         Ok(front)
     }
 
@@ -228,8 +233,7 @@ impl<U: Update> Pending<U> {
         ensures { IfOk result (λ p. p.0 ≡ self.now.0) }
     {
         let sorted = self.sorted.copy(alloc)?;
-        let mut fresh = Vec::new(alloc);
-        copy_behind(alloc, self.fresh.as_slice(), &mut fresh)?;
+        let fresh = self.fresh.copy(alloc)?;
         Ok(Pending { sorted, fresh })
     }
 
@@ -258,11 +262,10 @@ impl<U: Update> Pending<U> {
         ensures end { IfNone result (self.old.0 ≡ []) }
         ensures room { self.old.1 ≤ self.new.1 }
     {
-        let oldest = self.sorted.pop();
-        if oldest.is_some() || self.fresh.is_empty() {
-            return oldest;
+        match self.sorted.pop() {
+            Some(oldest) => Some(oldest),
+            None => self.fresh.pop(),
         }
-        Some(self.fresh.remove(0))
     }
 
     /// Takes the `count` oldest messages away.
@@ -273,7 +276,7 @@ impl<U: Update> Pending<U> {
     {
         let sorted = count.min(self.sorted.len());
         self.sorted.drop_front(sorted);
-        self.fresh.drain(..count - sorted);
+        self.fresh.drop_oldest(count - sorted);
     }
 
     /// Moves the `count` oldest messages out, whole or not at all.
@@ -284,13 +287,9 @@ impl<U: Update> Pending<U> {
         ensures err { OnErr result (self.new.0 ≡ self.old.0) }
     {
         let sorted = count.min(self.sorted.len());
-        let mut taken = Vec::with_capacity(*self.fresh.allocator(), count)?;
-        let rest = self.fresh.split_off(count - sorted)?;
-        let mut fresh = std::mem::replace(&mut self.fresh, rest);
+        let mut taken = Vec::with_capacity(self.fresh.allocator(), count)?;
         self.sorted.move_front(sorted, &mut taken);
-        let Ok(()) = taken.append(&mut fresh) else {
-            unreachable!()
-        };
+        self.fresh.move_oldest(count - sorted, &mut taken);
         Ok(Taken::of(taken))
     }
 
@@ -301,7 +300,7 @@ impl<U: Update> Pending<U> {
     pub fn told(&self, alloc: Global, key: &Key) -> Result<Told<U::Value>, NoMemory>
         ensures { IfOk result (IsTold U.means self.now.0 key.now) }
     {
-        if is_touched(self.fresh.as_slice(), key) {
+        if self.fresh.is_touched(key) {
             return Ok(Told::Change);
         }
         self.sorted.told(alloc, key)
@@ -317,7 +316,7 @@ impl<U: Update> Pending<U> {
         ensures { IfOk result (λ v. v ≡ effects U.means self.now.0 key.now old) }
     {
         let value = self.sorted.value_after(alloc, key, old)?;
-        lay_all(alloc, self.fresh.as_slice(), key, value)
+        self.fresh.lay_over(alloc, key, value)
     }
 
     /// Where the stretch of keys that begins at `from` ends: up to there, at `end` or before it, each message touches all
@@ -333,24 +332,49 @@ impl<U: Update> Pending<U> {
     {
         match self.sorted.stretch_end(from, end) {
             None => Ok(Some(from.next(alloc)?)),
-            Some(stop) => stretch_end(alloc, self.fresh.as_slice(), from, stop),
+            Some(stop) => self.fresh.stretch_stop(alloc, from, stop),
         }
     }
 }
 
 /// Lays a message over the sorted part, or puts it behind the others where it finds no place there.
-fn lay<U: Update>(sorted: &mut Sorted<U>, fresh: &mut Vec<Msg<U>>, msg: Msg<U>)
-    requires { vec_len fresh.old < vec_capacity fresh.old }
-    ensures takes { Takes U.means (sorted.old ++ fresh.old.items) (msg ∷ []) (sorted.new ++ fresh.new.items) }
-    ensures len { vec_len fresh.new ≤ vec_len fresh.old + 1 }
-    ensures capacity { vec_capacity fresh.new ≡ vec_capacity fresh.old }
+fn lay<U: Update>(sorted: &mut Sorted<U>, fresh: &mut Tail<U>, msg: Msg<U>)
+    requires { 0 < fresh.old.1 }
+    ensures takes { Takes U.means (sorted.old ++ fresh.old.0) (msg ∷ []) (sorted.new ++ fresh.new.0) }
+    ensures room { fresh.old.1 ≤ fresh.new.1 + 1 }
 {
-    if !fresh.is_empty() {
+    fold(sorted, fresh);
+    if fresh.len() > 0 {
         fresh.push_reserved(msg);
         return;
     }
-    let alloc = *fresh.allocator();
-    if let Err(msg) = sorted.push(alloc, msg) {
+    if let Err(msg) = sorted.push(fresh.allocator(), msg) {
         fresh.push_reserved(msg);
+    }
+}
+
+/// Folds the tail into the sorted part, the oldest message first, up to one that finds no place there.
+fn fold<U: Update>(sorted: &mut Sorted<U>, fresh: &mut Tail<U>)
+    ensures same { Takes U.means (sorted.old ++ fresh.old.0) [] (sorted.new ++ fresh.new.0) }
+    ensures room { fresh.old.1 ≤ fresh.new.1 }
+{
+    while fold_oldest(sorted, fresh) {}
+}
+
+/// Lays the oldest message of the tail over the sorted part, and says whether it did; else both stay.
+fn fold_oldest<U: Update>(sorted: &mut Sorted<U>, fresh: &mut Tail<U>) -> bool
+    ensures same { Takes U.means (sorted.old ++ fresh.old.0) [] (sorted.new ++ fresh.new.0) }
+    ensures room { fresh.old.1 ≤ fresh.new.1 }
+    ensures fewer { result ≡ true → length fresh.new.0 < length fresh.old.0 }
+{
+    let Some(msg) = fresh.pop() else {
+        return false;
+    };
+    match sorted.push(fresh.allocator(), msg) {
+        Ok(()) => true,
+        Err(msg) => {
+            fresh.push_front_reserved(msg);
+            false
+        }
     }
 }

@@ -12,7 +12,7 @@ use crate::event::{Index, Relief, Step};
 use crate::job::{Done, InstallReply, Job, TakeReply};
 use call_compiler::{Batch, Call, Indexes, Reply, compile};
 use flush::heaviest;
-use jobs::{Marks, Ticket};
+use jobs::{Load, Marks, Ticket};
 use node::{StepReply, TreeStep};
 use pathkey::NoMemory;
 use std::alloc::Global;
@@ -133,6 +133,14 @@ impl Live {
         match index {
             Index::Meta => heaviest(&self.indexes.meta.tree),
             Index::Block => heaviest(&self.indexes.block.tree),
+        }
+    }
+
+    /// The slot of an index's root of which a job would move the most messages; none where no job would move any.
+    pub fn load(&self, index: Index) -> Option<Load> {
+        match index {
+            Index::Meta => self.meta_marks.heaviest(&self.indexes.meta.tree),
+            Index::Block => self.block_marks.heaviest(&self.indexes.block.tree),
         }
     }
 

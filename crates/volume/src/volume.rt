@@ -18,7 +18,7 @@ use crate::live::Live;
 use crate::plant::plant;
 use crate::snapshots::Snapshots;
 use call_compiler::{Call, Indexes, Reply};
-use jobs::Ticket;
+use jobs::{Load, Ticket};
 use node::{Shape, ShapeReport, StepReply, TreeStep};
 use pathkey::{Errno, NoMemory, Path, SnapName};
 use reference::Meta;
@@ -218,6 +218,12 @@ impl Volume {
         ensures { IfSome result (λ other. other.index ≡ step.index) }
     {
         self.live.make_room(step)
+    }
+
+    /// The slot of an index's root of which a job would move the most messages; none where no job would move any. It takes no
+    /// memory, and no claim rests on its choice.
+    pub fn load(&self, index: Index) -> Option<Load> {
+        self.live.load(index)
     }
 
     /// Takes a job of the slot with this number of an index's root: it shares the slot's child and has the slot's oldest

@@ -1,4 +1,4 @@
-use Rattle.std.proofs.Common.{rules, ◌≡◌, ◌≤◌, ◌<◌, ◌-◌, ◌++◌, ap, ◌∙◌, arith, drop, length}
+use Rattle.std.proofs.Common.{◌≤◌, ◌<◌, ◌++◌, ap, ◌∙◌, arith, drop, length}
 use Rattle.message.proofs.Condensing.{drop_parts}
 use Rattle.message.proofs.pending.Pending.drop_front.Goals as goal
 
@@ -7,9 +7,8 @@ returns-clause-messages g c =
     let n = c.args.count in
     let k = c.min-sorted.result in
     let xs = c.self.inside.sorted in
-    let ys = c.self.inside.fresh.items in
-    let rest : c.drop-drain.new.self.0.items ≡ drop (n - k) ys = search rules in
+    let ys = c.self.inside.fresh.0 in
     let most : k ≤ n = omega (arith, c.min-sorted.ensures) in
     let fits : k ≤ length xs = omega (arith, c.min-sorted.ensures, c.len.ensures.len) in
     let all : k < n → length xs ≤ k = λ h. omega (arith, h, c.min-sorted.ensures, c.len.ensures.len) in
-    ap (λ t. t ++ c.drop-drain.new.self.0.items) c.drop_front.ensures ∙ ap (λ t. drop k xs ++ t) rest ∙ drop_parts n k xs ys most fits all ∙ ap (λ p. drop n p.0) c.self.view_is
+    ap (λ t. t ++ c.drop_oldest.new.self.0) c.drop_front.ensures ∙ ap (λ t. drop k xs ++ t) c.drop_oldest.ensures.messages ∙ drop_parts n k xs ys most fits all ∙ ap (λ p. drop n p.0) c.self.view_is

@@ -10,8 +10,8 @@ returns g c =
     let means = g.U.Update.means in
     let k = c.args.key.now in
     let s = c.self.inside.sorted in
-    let f = c.self.inside.fresh.items in
-    let apart : any_touches f k ≡ false = sym (c.is_touched.ensures ∙ ap (λ ms. any_touches ms k) c.as_slice.ensures.value) ∙ c.if-is_touched.false in
+    let f = c.self.inside.fresh.0 in
+    let apart : any_touches f k ≡ false = sym c.is_touched.ensures ∙ c.if-is_touched.false in
     IfOk-weaker c.told.result (IsTold means s k) (IsTold means c.args.self.now.0 k)
     (λ t h. subst (λ ms. IsTold means ms k t) (ap (λ p. p.0) c.self.view_is) (told_before means s f k t apart h))
     c.told.ensures

@@ -1,0 +1,228 @@
+//! Messages as they came, the oldest first, which leave at the front.
+//!
+//! A queue holds them, so that the oldest one leaves without moving the others.
+ghost use Rattle.std.specs.Prelude.{◌≡◌, ◌+◌, ◌^◌, ◌≤◌, ◌<◌, ◌++◌, [], ◌∷◌, true, length, take, drop, IfOk, IfNone, IfSome, OnOk, OnErr};
+ghost use Rattle.std.specs.Vec.{vec_len, vec_capacity};
+ghost use Rattle.std.specs.Option.{option_copied, option_map, option_to_list};
+ghost use Rattle.std.specs.List.{slice_get};
+ghost use Rattle.message.specs.Effects.{any_touches, effects, range_count};
+ghost use Rattle.message.specs.Eldest.{eldest_msg};
+ghost use Rattle.message.specs.Stretches.{IsStretch};
+ghost use Rattle.pathkey.specs.Keys.{is_below};
+
+use crate::eldest::Eldest;
+use crate::list::{copy_behind, is_touched, lay_all, ranges_in};
+use crate::msg::Msg;
+use crate::stretch::stretch_end;
+use crate::update::{Changes, Update};
+use pathkey::{Key, NoMemory};
+use std::alloc::Global;
+use std::collections::VecDeque;
+use std::marker::Model;
+
+/// Messages as they came, and room for more.
+#[derive(Drop)]
+pub struct Tail<U: Changes> {
+    msgs: VecDeque<Msg<U>>,
+}
+
+impl<U: Changes> Model for Tail<U> {
+    ghost use Rattle.std.specs.Prelude.{List, ℕ, ◌-◌};
+    ghost use Rattle.std.specs.VecDeque.{deque_len, deque_capacity};
+    ghost use Rattle.message.specs.declared.msg.Msg.{Msg};
+
+    ghost Value = { List (Msg U U.Value) × ℕ };
+
+    ghost view = { λ t. (t.msgs.items, deque_capacity t.msgs - deque_len t.msgs) };
+}
+
+impl<U: Update> Tail<U> {
+    /// A tail without messages. It takes no memory.
+    pub(crate) fn new(alloc: Global) -> Tail<U>
+        ensures { result.0 ≡ [] }
+    {
+        Tail {
+            msgs: VecDeque::new(alloc),
+        }
+    }
+
+    /// The allocator of its room.
+    pub(crate) fn allocator(&self) -> Global {
+        *self.msgs.allocator()
+    }
+
+    /// How many messages it holds.
+    pub(crate) fn len(&self) -> usize
+        ensures len { result ≡ length self.now.0 }
+        ensures small { result < 2 ^ 63 }
+    {
+        self.msgs.len()
+    }
+
+    /// Makes room for so many messages more, where memory is not refused.
+    pub(crate) fn reserve(&mut self, more: usize) -> Result<(), NoMemory>
+        ensures messages { self.new.0 ≡ self.old.0 }
+        ensures kept { self.old.1 ≤ self.new.1 }
+        ensures room { OnOk result (more ≤ self.new.1) }
+        ensures refused { OnErr result (self.old.1 < more) }
+    {
+        self.msgs.reserve(more)?;
+        Ok(())
+    }
+
+    /// Puts a message behind the others into reserved room.
+    pub(crate) fn push_reserved(&mut self, msg: Msg<U>)
+        requires { 0 < self.old.1 }
+        ensures messages { self.new.0 ≡ self.old.0 ++ msg ∷ [] }
+        ensures room { self.old.1 ≤ self.new.1 + 1 }
+    {
+        self.msgs.push_back_reserved(msg);
+    }
+
+    /// Puts a message before the others into reserved room.
+    pub(crate) fn push_front_reserved(&mut self, msg: Msg<U>)
+        requires { 0 < self.old.1 }
+        ensures messages { self.new.0 ≡ msg ∷ self.old.0 }
+        ensures room { self.old.1 ≤ self.new.1 + 1 }
+    {
+        self.msgs.push_front_reserved(msg);
+    }
+
+    /// Puts all messages of `newer` behind the others into reserved room.
+    pub(crate) fn append(&mut self, newer: &mut Vec<Msg<U>>)
+        requires { length newer.old.items ≤ self.old.1 }
+        ensures messages { self.new.0 ≡ self.old.0 ++ newer.old.items }
+        ensures moved { newer.new.items ≡ [] }
+        ensures room { self.old.1 ≤ self.new.1 + length newer.old.items }
+    {
+        let empty = Vec::new(*newer.allocator());
+        let mut come = VecDeque::from_vec(std::mem::replace(newer, empty));
+        let Ok(()) = self.msgs.append(&mut come) else {
+            unreachable!()
+        };
+    }
+
+    /// Takes the oldest message out.
+    pub(crate) fn pop(&mut self) -> Option<Msg<U>>
+        ensures moved { self.old.0 ≡ option_to_list result ++ self.new.0 }
+        ensures end { IfNone result (self.old.0 ≡ []) }
+        ensures room { self.old.1 ≤ self.new.1 }
+        ensures more { IfSome result (λ _. self.old.1 < self.new.1) }
+    {
+        self.msgs.pop_front()
+    }
+
+    /// Takes the `count` oldest messages away.
+    pub(crate) fn drop_oldest(&mut self, count: usize)
+        requires { count ≤ length self.old.0 }
+        ensures messages { self.new.0 ≡ drop count self.old.0 }
+        ensures room { self.old.1 ≤ self.new.1 }
+    {
+        for _ in 0..count {
+            self.pop();
+        }
+    }
+
+    /// Moves the `count` oldest messages into reserved room behind those in `taken`.
+    pub(crate) fn move_oldest(&mut self, count: usize, taken: &mut Vec<Msg<U>>)
+        requires within { count ≤ length self.old.0 }
+        requires room { vec_len taken.old + count ≤ vec_capacity taken.old }
+        ensures left { self.new.0 ≡ drop count self.old.0 }
+        ensures moved { taken.new.items ≡ taken.old.items ++ take count self.old.0 }
+    {
+        for _ in 0..count {
+            let Some(msg) = self.pop() else {
+                unreachable!()
+            };
+            taken.push_reserved(msg);
+        }
+    }
+
+    /// The oldest message, if there is one.
+    pub(crate) fn oldest(&self) -> Option<Eldest<'_, U>>
+        ensures { option_map eldest_msg result ≡ slice_get self.now.0 0 }
+    {
+        match self.msgs.front() {
+            Some(msg) => Some(Eldest::Plain(msg)),
+            None => None,
+        }
+    }
+
+    /// How many of the messages are range-deletes, without the `gone` oldest.
+    pub(crate) fn count_ranges(&self, gone: usize) -> usize
+        requires { gone ≤ length self.now.0 }
+        ensures count { result ≡ range_count (drop gone self.now.0) }
+        ensures small { result < 2 ^ 63 }
+    {
+        let (near, far) = self.msgs.as_slices();
+        let first = gone.min(near.len());
+        ranges_in(&near[first..]) + ranges_in(&far[gone - first..])
+    }
+
+    /// Puts copies of the `count` oldest messages behind those in `front`.
+    pub(crate) fn copy_oldest(
+        &self,
+        alloc: Global,
+        count: usize,
+        front: &mut Vec<Msg<U>>,
+    ) -> Result<(), NoMemory>
+        requires { count ≤ length self.now.0 }
+        ensures { OnOk result (front.new.items ≡ front.old.items ++ take count self.now.0) }
+    {
+        let (near, far) = self.msgs.as_slices();
+        let first = count.min(near.len());
+        copy_behind(alloc, &near[..first], front)?;
+        copy_behind(alloc, &far[..count - first], front)?;
+        Ok(())
+    }
+
+    /// A tail of the same messages.
+    pub(crate) fn copy(&self, alloc: Global) -> Result<Tail<U>, NoMemory>
+        ensures { IfOk result (λ t. t.0 ≡ self.now.0) }
+    {
+        let (near, far) = self.msgs.as_slices();
+        let mut msgs = Vec::new(alloc);
+        copy_behind(alloc, near, &mut msgs)?;
+        copy_behind(alloc, far, &mut msgs)?;
+        Ok(Tail {
+            msgs: VecDeque::from_vec(msgs),
+        })
+    }
+
+    /// Whether a message touches the key.
+    pub(crate) fn is_touched(&self, key: &Key) -> bool
+        ensures { result ≡ any_touches self.now.0 key.now }
+    {
+        let (near, far) = self.msgs.as_slices();
+        is_touched(near, key) || is_touched(far, key)
+    }
+
+    /// The value at `key` after the messages, where `old` was there.
+    pub(crate) fn lay_over(
+        &self,
+        alloc: Global,
+        key: &Key,
+        old: Option<U::Value>,
+    ) -> Result<Option<U::Value>, NoMemory>
+        ensures { IfOk result (λ v. v ≡ effects U.means self.now.0 key.now old) }
+    {
+        let (near, far) = self.msgs.as_slices();
+        let value = lay_all(alloc, near, key, old)?;
+        lay_all(alloc, far, key, value)
+    }
+
+    /// Where the stretch that begins at `from` ends: at `end` or before it.
+    pub(crate) fn stretch_stop(
+        &self,
+        alloc: Global,
+        from: &Key,
+        end: Option<&Key>,
+    ) -> Result<Option<Key>, NoMemory>
+        requires { is_below from.now (option_copied end) ≡ true }
+        ensures { IfOk result (λ stop. IsStretch self.now.0 from.now (option_copied end.entry) stop) }
+    {
+        let (near, far) = self.msgs.as_slices();
+        let stop = stretch_end(alloc, near, from, end)?;
+        stretch_end(alloc, far, from, stop.as_ref())
+    }
+}
