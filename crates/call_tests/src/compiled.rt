@@ -94,11 +94,6 @@ const NEW_ENTRIES: &[Row] = &[
     (Ask::Create("/f/d/e"), Told::Fault(Errno::ENOTDIR), (0, 0)),
 ];
 
-#[test]
-fn a_new_entry_wants_a_directory_above_and_a_free_name(rt: HostRuntime) {
-    assert_eq!(rt; answered(rt.alloc(), NEW_ENTRIES), NEW_ENTRIES.len());
-}
-
 const EMPTY_DIRECTORY: &[Row] = &[
     (Ask::Mkdir("/a"), Told::Done, (1, 0)),
     (Ask::Create("/f"), Told::Done, (1, 0)),
@@ -115,14 +110,6 @@ const EMPTY_DIRECTORY: &[Row] = &[
     (Ask::Readdir("/a"), Told::Fault(Errno::ENOENT), (0, 0)),
 ];
 
-#[test]
-fn an_empty_directory_goes(rt: HostRuntime) {
-    assert_eq!(rt;
-        answered(rt.alloc(), EMPTY_DIRECTORY),
-        EMPTY_DIRECTORY.len()
-    );
-}
-
 const WRITES: &[Row] = &[
     (Ask::Create("/f"), Told::Done, (1, 0)),
     (Ask::Write("/f", 4_095, b"\xaa\xbb"), Told::Count(2), (1, 2)),
@@ -135,11 +122,6 @@ const WRITES: &[Row] = &[
     (Ask::Read("/f", 8_190, 9), Told::Data(b"\0\xdd"), (0, 0)),
     (Ask::Read("/f", 8_192, 9), Told::Data(b""), (0, 0)),
 ];
-
-#[test]
-fn a_write_is_a_patch_for_each_block_that_it_touches(rt: HostRuntime) {
-    assert_eq!(rt; answered(rt.alloc(), WRITES), WRITES.len());
-}
 
 const ENDS: &[Row] = &[
     (Ask::Create("/f"), Told::Done, (1, 0)),
@@ -171,11 +153,6 @@ const ENDS: &[Row] = &[
     (Ask::Truncate("/f", LIMIT), Told::Done, (1, 0)),
 ];
 
-#[test]
-fn a_file_ends_at_the_limit(rt: HostRuntime) {
-    assert_eq!(rt; answered(rt.alloc(), ENDS), ENDS.len());
-}
-
 const TRUNCATES: &[Row] = &[
     (Ask::Create("/f"), Told::Done, (1, 0)),
     (Ask::Write("/f", 0, &[0xff; 10]), Told::Count(10), (1, 1)),
@@ -191,11 +168,6 @@ const TRUNCATES: &[Row] = &[
         (0, 0),
     ),
 ];
-
-#[test]
-fn a_truncate_cuts_the_blocks_behind_its_end(rt: HostRuntime) {
-    assert_eq!(rt; answered(rt.alloc(), TRUNCATES), TRUNCATES.len());
-}
 
 const FILES: &[Row] = &[
     (Ask::Mkdir("/a"), Told::Done, (1, 0)),
@@ -216,11 +188,6 @@ const FILES: &[Row] = &[
     (Ask::Write("/f", 1, b"\xbb"), Told::Count(1), (1, 1)),
     (Ask::Read("/f", 0, 9), Told::Data(b"\0\xbb"), (0, 0)),
 ];
-
-#[test]
-fn a_file_goes_with_its_bytes(rt: HostRuntime) {
-    assert_eq!(rt; answered(rt.alloc(), FILES), FILES.len());
-}
 
 const SUBTREES: &[Row] = &[
     (Ask::Rmtree("/"), Told::Fault(Errno::EBUSY), (0, 0)),
@@ -256,11 +223,6 @@ const SUBTREES: &[Row] = &[
     (Ask::Rmtree("/a/x"), Told::Done, (1, 1)),
     (Ask::Rmdir("/a"), Told::Done, (1, 0)),
 ];
-
-#[test]
-fn a_subtree_goes_by_two_messages(rt: HostRuntime) {
-    assert_eq!(rt; answered(rt.alloc(), SUBTREES), SUBTREES.len());
-}
 
 const REFUSED_MOVES: &[Row] = &[
     (Ask::Rename("/", "/b"), Told::Fault(Errno::EBUSY), (0, 0)),
@@ -311,11 +273,6 @@ const REFUSED_MOVES: &[Row] = &[
     (Ask::Rename("/f", "/f"), Told::Done, (0, 0)),
 ];
 
-#[test]
-fn a_move_that_is_refused_sends_nothing(rt: HostRuntime) {
-    assert_eq!(rt; answered(rt.alloc(), REFUSED_MOVES), REFUSED_MOVES.len());
-}
-
 const MOVES: &[Row] = &[
     (Ask::Mkdir("/a"), Told::Done, (1, 0)),
     (Ask::Create("/a/x"), Told::Done, (1, 0)),
@@ -355,7 +312,25 @@ const MOVES: &[Row] = &[
     (Ask::Rmdir("/b"), Told::Done, (1, 0)),
 ];
 
+/// Each table, with what it shows.
+const TABLES: &[(&str, &[Row])] = &[
+    (
+        "a new entry wants a directory above and a free name",
+        NEW_ENTRIES,
+    ),
+    ("an empty directory goes", EMPTY_DIRECTORY),
+    ("a write is a patch for each block that it touches", WRITES),
+    ("a file ends at the limit", ENDS),
+    ("a truncate cuts the blocks behind its end", TRUNCATES),
+    ("a file goes with its bytes", FILES),
+    ("a subtree goes by two messages", SUBTREES),
+    ("a move that is refused sends nothing", REFUSED_MOVES),
+    ("a move is one message for each pair and the ranges", MOVES),
+];
+
 #[test]
-fn a_move_is_one_message_for_each_pair_and_the_ranges(rt: HostRuntime) {
-    assert_eq!(rt; answered(rt.alloc(), MOVES), MOVES.len());
+fn calls_are_answered_and_send_as_many_messages_as_each_table_says(rt: HostRuntime) {
+    for (name, rows) in TABLES {
+        assert!(rt; answered(rt.alloc(), rows) == rows.len(), "{name}");
+    }
 }

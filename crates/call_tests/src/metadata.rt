@@ -95,72 +95,11 @@ fn found(alloc: Global, index: &MetaIndex, text: &str) -> Option<At> {
     }
 }
 
-const FOUND: &[(&str, At)] = &[
-    ("/", At::Found(Meta::Dir)),
-    ("/f", At::Found(Meta::File { len: 5 })),
-    ("/a/d", At::Found(Meta::Dir)),
-    ("/a/d/y", At::Found(Meta::File { len: 9 })),
-    ("/c", At::Missing),
-    ("/c/d/e", At::Missing),
-    ("/a/d/z", At::Missing),
-    ("/f/g", At::Blocked),
-    ("/a/x/y/z", At::Blocked),
-];
-
-/// Whether the sample has at the row's path what the row says.
-fn is_found(alloc: Global, row: &(&str, At)) -> bool {
-    match sample(alloc) {
-        Some(index) => found(alloc, &index, row.0) == Some(row.1),
-        None => false,
-    }
-}
-
-#[test]
-fn an_entry_is_found_missing_or_blocked(rt: HostRuntime) {
-    for row in FOUND {
-        assert!(rt; is_found(rt.alloc(), row), "{row:?}");
-    }
-}
-
 /// Whether the parent of a path has this fault.
 fn has_fault(alloc: Global, index: &MetaIndex, path: &Path, wanted: Option<Errno>) -> bool {
     match index.fault_of_parent(alloc, path) {
         Ok(fault) => fault == wanted,
         Err(_) => false,
-    }
-}
-
-/// Whether the parent of a text's path has this fault.
-fn parent_has_fault(alloc: Global, index: &MetaIndex, text: &str, wanted: Option<Errno>) -> bool {
-    match path(alloc, text) {
-        Ok(path) => has_fault(alloc, index, &path, wanted),
-        Err(_) => false,
-    }
-}
-
-const FAULTS: &[(&str, Option<Errno>)] = &[
-    ("/", None),
-    ("/c", None),
-    ("/a/d/z", None),
-    ("/a/x", None),
-    ("/c/d", Some(Errno::ENOENT)),
-    ("/a/c/d/e", Some(Errno::ENOENT)),
-    ("/f/g", Some(Errno::ENOTDIR)),
-    ("/a/x/y/z", Some(Errno::ENOTDIR)),
-];
-
-/// Whether the parent of the row's path has the row's fault in the sample.
-fn has_fault_above(alloc: Global, row: &(&str, Option<Errno>)) -> bool {
-    match sample(alloc) {
-        Some(index) => parent_has_fault(alloc, &index, row.0, row.1),
-        None => false,
-    }
-}
-
-#[test]
-fn a_new_entry_wants_a_directory_above(rt: HostRuntime) {
-    for row in FAULTS {
-        assert!(rt; has_fault_above(rt.alloc(), row), "{row:?}");
     }
 }
 
@@ -239,38 +178,6 @@ fn is_empty_at(alloc: Global, index: &MetaIndex, path: &Path) -> Option<bool> {
     index.is_empty_dir(alloc, path).ok()
 }
 
-/// Whether nothing lies below a text's path; none where the text is no path, or memory is refused.
-fn is_empty(alloc: Global, index: &MetaIndex, text: &str) -> Option<bool> {
-    match path(alloc, text) {
-        Ok(path) => is_empty_at(alloc, index, &path),
-        Err(_) => None,
-    }
-}
-
-const EMPTY: &[(&str, bool)] = &[
-    ("/", false),
-    ("/a", false),
-    ("/a/d", false),
-    ("/b", true),
-    ("/f", true),
-    ("/c", true),
-];
-
-/// Whether the row's directory is empty or not in the sample, as the row says.
-fn is_empty_so(alloc: Global, row: &(&str, bool)) -> bool {
-    match sample(alloc) {
-        Some(index) => is_empty(alloc, &index, row.0) == Some(row.1),
-        None => false,
-    }
-}
-
-#[test]
-fn a_directory_is_empty_where_nothing_lies_below(rt: HostRuntime) {
-    for row in EMPTY {
-        assert!(rt; is_empty_so(rt.alloc(), row), "{row:?}");
-    }
-}
-
 /// A kind and a name.
 type Name = (Kind, &'static str);
 
@@ -297,49 +204,6 @@ fn has_names(alloc: Global, index: &MetaIndex, path: &Path, wanted: &[Name]) -> 
     match children(alloc, index, path) {
         Some(entries) => are_named(&entries, wanted),
         None => false,
-    }
-}
-
-/// Whether these are the entries of the directory at a text's path.
-fn lists(alloc: Global, index: &MetaIndex, text: &str, wanted: &[Name]) -> bool {
-    match path(alloc, text) {
-        Ok(path) => has_names(alloc, index, &path, wanted),
-        Err(_) => false,
-    }
-}
-
-/// The text of a directory's path, and its entries.
-type Listing = (&'static str, &'static [Name]);
-
-const LISTINGS: &[Listing] = &[
-    (
-        "/",
-        &[
-            (Kind::Dir, "a"),
-            (Kind::File, "a-b"),
-            (Kind::Dir, "b"),
-            (Kind::File, "f"),
-        ],
-    ),
-    ("/a", &[(Kind::Dir, "d"), (Kind::File, "x")]),
-    ("/a/d", &[(Kind::File, "y")]),
-    ("/b", &[]),
-    ("/f", &[]),
-    ("/c", &[]),
-];
-
-/// Whether the row's directory of the sample has the row's entries.
-fn lists_so(alloc: Global, row: &Listing) -> bool {
-    match sample(alloc) {
-        Some(index) => lists(alloc, &index, row.0, row.1),
-        None => false,
-    }
-}
-
-#[test]
-fn a_directory_lists_its_own_entries_in_order(rt: HostRuntime) {
-    for row in LISTINGS {
-        assert!(rt; lists_so(rt.alloc(), row), "{row:?}");
     }
 }
 
@@ -393,79 +257,153 @@ fn holds(
     }
 }
 
-/// How many pairs are asked for, and the paths of those that come.
-type Front = (usize, &'static [&'static str]);
-
-/// Whether the subtree of `/a` begins as the row says.
-fn begins(alloc: Global, index: &MetaIndex, row: &Front) -> bool {
-    match path(alloc, "/a") {
-        Ok(above) => holds(alloc, index, &above, None, row.0, row.1),
-        Err(_) => false,
-    }
+/// What is asked of the sample about a path, and what is answered.
+#[derive(Clone, Copy)]
+enum Asked {
+    /// What stands there.
+    Find(At),
+    /// The fault of its parent.
+    Fault(Option<Errno>),
+    /// Whether nothing lies below.
+    Empty(bool),
+    /// The entries of the directory.
+    Names(&'static [Name]),
+    /// So many pairs of its subtree, and the paths of those that come.
+    Below(usize, &'static [&'static str]),
+    /// The same behind the key of a path.
+    Behind(&'static str, usize, &'static [&'static str]),
 }
 
-/// Whether the subtree of `/a` in the sample begins as the row says.
-fn begins_so(alloc: Global, row: &Front) -> bool {
-    match sample(alloc) {
-        Some(index) => begins(alloc, &index, row),
-        None => false,
-    }
-}
-
-const SUBTREE: &[Front] = &[
-    (0, &[]),
-    (1, &["/a"]),
-    (3, &["/a", "/a/d", "/a/d/y"]),
-    (9, &["/a", "/a/d", "/a/d/y", "/a/x"]),
-    (usize::MAX, &["/a", "/a/d", "/a/d/y", "/a/x"]),
+/// An entry is found, missing or blocked.
+const FOUND: &[(&str, Asked)] = &[
+    ("/", Asked::Find(At::Found(Meta::Dir))),
+    ("/f", Asked::Find(At::Found(Meta::File { len: 5 }))),
+    ("/a/d", Asked::Find(At::Found(Meta::Dir))),
+    ("/a/d/y", Asked::Find(At::Found(Meta::File { len: 9 }))),
+    ("/c", Asked::Find(At::Missing)),
+    ("/c/d/e", Asked::Find(At::Missing)),
+    ("/a/d/z", Asked::Find(At::Missing)),
+    ("/f/g", Asked::Find(At::Blocked)),
+    ("/a/x/y/z", Asked::Find(At::Blocked)),
 ];
 
-#[test]
-fn the_pairs_of_a_subtree_stand_in_the_order_of_their_keys(rt: HostRuntime) {
-    for row in SUBTREE {
-        assert!(rt; begins_so(rt.alloc(), row), "{row:?}");
-    }
-}
-
-/// A path behind whose key a subtree goes on, how many pairs are asked for, and the paths of those that come.
-type Behind = (&'static str, usize, &'static [&'static str]);
-
-/// Whether the subtree of a path goes on as the row says.
-fn goes_on(alloc: Global, index: &MetaIndex, above: &Path, row: &Behind) -> bool {
-    match key_of(alloc, row.0) {
-        Some(behind) => holds(alloc, index, above, Some(&behind), row.1, row.2),
-        None => false,
-    }
-}
-
-const BEHIND: &[Behind] = &[
-    ("/a", 2, &["/a/d", "/a/d/y"]),
-    ("/a/d", 9, &["/a/d/y", "/a/x"]),
-    ("/a/d/x", 1, &["/a/d/y"]),
-    ("/a/d/y", usize::MAX, &["/a/x"]),
-    ("/a/x", 9, &[]),
-    ("/a", 0, &[]),
+/// A new entry wants a directory above.
+const FAULTS: &[(&str, Asked)] = &[
+    ("/", Asked::Fault(None)),
+    ("/c", Asked::Fault(None)),
+    ("/a/d/z", Asked::Fault(None)),
+    ("/a/x", Asked::Fault(None)),
+    ("/c/d", Asked::Fault(Some(Errno::ENOENT))),
+    ("/a/c/d/e", Asked::Fault(Some(Errno::ENOENT))),
+    ("/f/g", Asked::Fault(Some(Errno::ENOTDIR))),
+    ("/a/x/y/z", Asked::Fault(Some(Errno::ENOTDIR))),
 ];
 
-/// Whether the subtree of `/a` goes on as the row says.
-fn goes_on_below(alloc: Global, index: &MetaIndex, row: &Behind) -> bool {
-    match path(alloc, "/a") {
-        Ok(above) => goes_on(alloc, index, &above, row),
-        Err(_) => false,
-    }
-}
+/// A directory is empty where nothing lies below.
+const EMPTY: &[(&str, Asked)] = &[
+    ("/", Asked::Empty(false)),
+    ("/a", Asked::Empty(false)),
+    ("/a/d", Asked::Empty(false)),
+    ("/b", Asked::Empty(true)),
+    ("/f", Asked::Empty(true)),
+    ("/c", Asked::Empty(true)),
+];
 
-/// Whether the subtree of `/a` in the sample goes on as the row says.
-fn goes_on_so(alloc: Global, row: &Behind) -> bool {
-    match sample(alloc) {
-        Some(index) => goes_on_below(alloc, &index, row),
+/// A directory lists its own entries in order.
+const LISTINGS: &[(&str, Asked)] = &[
+    (
+        "/",
+        Asked::Names(&[
+            (Kind::Dir, "a"),
+            (Kind::File, "a-b"),
+            (Kind::Dir, "b"),
+            (Kind::File, "f"),
+        ]),
+    ),
+    ("/a", Asked::Names(&[(Kind::Dir, "d"), (Kind::File, "x")])),
+    ("/a/d", Asked::Names(&[(Kind::File, "y")])),
+    ("/b", Asked::Names(&[])),
+    ("/f", Asked::Names(&[])),
+    ("/c", Asked::Names(&[])),
+];
+
+/// The pairs of a subtree stand in the order of their keys.
+const SUBTREE: &[(&str, Asked)] = &[
+    ("/a", Asked::Below(0, &[])),
+    ("/a", Asked::Below(1, &["/a"])),
+    ("/a", Asked::Below(3, &["/a", "/a/d", "/a/d/y"])),
+    ("/a", Asked::Below(9, &["/a", "/a/d", "/a/d/y", "/a/x"])),
+    (
+        "/a",
+        Asked::Below(usize::MAX, &["/a", "/a/d", "/a/d/y", "/a/x"]),
+    ),
+];
+
+/// A subtree goes on behind each of its keys.
+const BEHIND: &[(&str, Asked)] = &[
+    ("/a", Asked::Behind("/a", 2, &["/a/d", "/a/d/y"])),
+    ("/a", Asked::Behind("/a/d", 9, &["/a/d/y", "/a/x"])),
+    ("/a", Asked::Behind("/a/d/x", 1, &["/a/d/y"])),
+    ("/a", Asked::Behind("/a/d/y", usize::MAX, &["/a/x"])),
+    ("/a", Asked::Behind("/a/x", 9, &[])),
+    ("/a", Asked::Behind("/a", 0, &[])),
+];
+
+/// Each table, with its name.
+const TABLES: &[(&str, &[(&str, Asked)])] = &[
+    ("found", FOUND),
+    ("faults", FAULTS),
+    ("empty", EMPTY),
+    ("listings", LISTINGS),
+    ("subtree", SUBTREE),
+    ("behind", BEHIND),
+];
+
+/// Whether a subtree goes on so behind the key of a text's path.
+fn goes_on(
+    alloc: Global,
+    index: &MetaIndex,
+    above: &Path,
+    behind: &str,
+    limit: usize,
+    wanted: &[&str],
+) -> bool {
+    match key_of(alloc, behind) {
+        Some(key) => holds(alloc, index, above, Some(&key), limit, wanted),
         None => false,
     }
 }
 
+/// Whether what is asked about a path is answered so.
+fn is_answered(alloc: Global, index: &MetaIndex, path: &Path, asked: Asked) -> bool {
+    match asked {
+        Asked::Find(at) => find(alloc, index, path) == Some(at),
+        Asked::Fault(fault) => has_fault(alloc, index, path, fault),
+        Asked::Empty(empty) => is_empty_at(alloc, index, path) == Some(empty),
+        Asked::Names(names) => has_names(alloc, index, path, names),
+        Asked::Below(limit, wanted) => holds(alloc, index, path, None, limit, wanted),
+        Asked::Behind(behind, limit, wanted) => {
+            goes_on(alloc, index, path, behind, limit, wanted)
+        }
+    }
+}
+
+/// Whether the sample answers as the row says.
+fn answers(alloc: Global, text: &str, asked: Asked) -> bool {
+    match (sample(alloc), path(alloc, text)) {
+        (Some(index), Ok(path)) => is_answered(alloc, &index, &path, asked),
+        _ => false,
+    }
+}
+
 #[test]
-fn a_subtree_goes_on_behind_each_of_its_keys(rt: HostRuntime) {
-    for row in BEHIND {
-        assert!(rt; goes_on_so(rt.alloc(), row), "{row:?}");
+fn an_index_answers_as_each_table_says(rt: HostRuntime) {
+    for (name, rows) in TABLES {
+        for (number, (text, asked)) in rows.iter().enumerate() {
+            assert!(rt;
+                answers(rt.alloc(), text, *asked),
+                "{name}: row {number}, {text}"
+            );
+        }
     }
 }

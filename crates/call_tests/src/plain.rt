@@ -159,11 +159,6 @@ const PARENTS: &[Row<'static>] = &[
     (Ask::Mkdir("/x/y"), Told::Fault(Errno::ENOTDIR)),
 ];
 
-#[test]
-fn parents_decide(rt: HostRuntime) {
-    assert_eq!(rt; follow(rt.alloc(), PARENTS), PARENTS.len());
-}
-
 /// A name that begins as the removed one is not below it.
 const BELOW: &[Row<'static>] = &[
     (Ask::Mkdir("/a"), Told::Done),
@@ -173,11 +168,6 @@ const BELOW: &[Row<'static>] = &[
     (Ask::Readdir("/"), Told::Names(&[(Kind::File, "a-b")])),
 ];
 
-#[test]
-fn removes_only_what_is_below(rt: HostRuntime) {
-    assert_eq!(rt; follow(rt.alloc(), BELOW), BELOW.len());
-}
-
 /// A write across the end of a block, and a read past the end of the file.
 const ACROSS: &[Row<'static>] = &[
     (Ask::Create("/f"), Told::Done),
@@ -185,11 +175,6 @@ const ACROSS: &[Row<'static>] = &[
     (Ask::Read("/f", 4094, 4), Told::Data(&[0x00, 0xaa, 0xbb])),
     (Ask::Stat("/f"), Told::File(4097)),
 ];
-
-#[test]
-fn writes_across_blocks(rt: HostRuntime) {
-    assert_eq!(rt; follow(rt.alloc(), ACROSS), ACROSS.len());
-}
 
 const CUT: &[Row<'static>] = &[
     (Ask::Create("/f"), Told::Done),
@@ -210,12 +195,6 @@ fn comes_to(alloc: Global, rows: &[Row<'_>], wanted: &[u8]) -> bool {
     }
 }
 
-/// What was cut off reads as zeros once the file is longer again, and zeros stand in no line of the image.
-#[test]
-fn cuts_and_lengthens(rt: HostRuntime) {
-    assert!(rt; comes_to(rt.alloc(), CUT, b"d /\nf /f 9000\nb 0 ffffffffff\n"));
-}
-
 /// A directory is not moved below itself, and onto itself it stays.
 const ITSELF: &[Row<'static>] = &[
     (Ask::Mkdir("/a"), Told::Done),
@@ -224,11 +203,6 @@ const ITSELF: &[Row<'static>] = &[
     (Ask::Rename("/a", "/a"), Told::Done),
     (Ask::Readdir("/a"), Told::Names(&[(Kind::Dir, "b")])),
 ];
-
-#[test]
-fn not_below_itself(rt: HostRuntime) {
-    assert_eq!(rt; follow(rt.alloc(), ITSELF), ITSELF.len());
-}
 
 /// A directory replaces an empty directory alone.
 const EMPTY: &[Row<'static>] = &[
@@ -246,11 +220,6 @@ const EMPTY: &[Row<'static>] = &[
     ),
 ];
 
-#[test]
-fn replaces_an_empty_directory(rt: HostRuntime) {
-    assert_eq!(rt; follow(rt.alloc(), EMPTY), EMPTY.len());
-}
-
 /// Nothing is moved onto a directory that holds it, nor the root anywhere.
 const HOLDERS: &[Row<'static>] = &[
     (Ask::Mkdir("/a"), Told::Done),
@@ -262,33 +231,26 @@ const HOLDERS: &[Row<'static>] = &[
     (Ask::Rename("/", "/b"), Told::Fault(Errno::EBUSY)),
 ];
 
-#[test]
-fn not_onto_what_holds_it(rt: HostRuntime) {
-    assert_eq!(rt; follow(rt.alloc(), HOLDERS), HOLDERS.len());
-}
+const BEFORE: &[Row<'static>] = &[
+    (Ask::Mkdir("/a"), Told::Done),
+    (Ask::Create("/a/x"), Told::Done),
+];
+
+const BEHIND: &[Row<'static>] = &[
+    (Ask::Rmtree("/a"), Told::Done),
+    (Ask::Stat("/a"), Told::Fault(Errno::ENOENT)),
+];
+
+const LISTED: Told<'static> = Told::Names(&[(Kind::File, "x")]);
 
 /// Whether a snapshot keeps what the live tree loses, and gives it back.
 fn keeps(alloc: Global, world: &mut World) -> bool {
-    let kept = Told::Names(&[(Kind::File, "x")]);
-    follows(
-        alloc,
-        world,
-        &[
-            (Ask::Mkdir("/a"), Told::Done),
-            (Ask::Create("/a/x"), Told::Done),
-        ],
-    ) && fault_of(alloc, world, Snap::Keep("s")).is_none()
-        && follows(
-            alloc,
-            world,
-            &[
-                (Ask::Rmtree("/a"), Told::Done),
-                (Ask::Stat("/a"), Told::Fault(Errno::ENOENT)),
-            ],
-        )
-        && lists_frozen(alloc, world, "s", "/a", kept)
+    follows(alloc, world, BEFORE)
+        && fault_of(alloc, world, Snap::Keep("s")).is_none()
+        && follows(alloc, world, BEHIND)
+        && lists_frozen(alloc, world, "s", "/a", LISTED)
         && fault_of(alloc, world, Snap::Restore("s")).is_none()
-        && follows(alloc, world, &[(Ask::Readdir("/a"), kept)])
+        && follows(alloc, world, &[(Ask::Readdir("/a"), LISTED)])
 }
 
 /// The same in a new world.
@@ -317,11 +279,6 @@ const LONGER: &[Row<'static>] = &[
     (Ask::Read("/g", 5000, 1), Told::Data(&[0x00])),
 ];
 
-#[test]
-fn replaces_a_longer_file(rt: HostRuntime) {
-    assert_eq!(rt; follow(rt.alloc(), LONGER), LONGER.len());
-}
-
 /// Calls on the wrong kind of entry, and a read that is too long or past the end.
 const KINDS: &[Row<'static>] = &[
     (Ask::Mkdir("/a"), Told::Done),
@@ -336,11 +293,6 @@ const KINDS: &[Row<'static>] = &[
     (Ask::Read("/f", 9, 1), Told::Data(&[])),
 ];
 
-#[test]
-fn wrong_kinds(rt: HostRuntime) {
-    assert_eq!(rt; follow(rt.alloc(), KINDS), KINDS.len());
-}
-
 /// Texts that are no paths.
 const NO_PATHS: &[Row<'static>] = &[
     (Ask::Stat("/a//b"), Told::Fault(Errno::EINVAL)),
@@ -350,11 +302,6 @@ const NO_PATHS: &[Row<'static>] = &[
     (Ask::Stat("/\0"), Told::Fault(Errno::EINVAL)),
     (Ask::Stat(""), Told::Fault(Errno::ENOENT)),
 ];
-
-#[test]
-fn no_paths(rt: HostRuntime) {
-    assert_eq!(rt; follow(rt.alloc(), NO_PATHS), NO_PATHS.len());
-}
 
 /// Whether the name of so many letters can be made, or is refused.
 fn name_is(alloc: Global, count: u32, told: Told<'_>) -> bool {
@@ -479,9 +426,37 @@ const NESTED: &[Row<'static>] = &[
     (Ask::Create("/d/n"), Told::Done),
 ];
 
-/// The image has the root first, and each directory before what it holds.
+/// Each table of calls, with what it shows.
+const TABLES: &[(&str, &[Row<'static>])] = &[
+    ("parents decide", PARENTS),
+    ("removes only what is below", BELOW),
+    ("writes across blocks", ACROSS),
+    ("not below itself", ITSELF),
+    ("replaces an empty directory", EMPTY),
+    ("not onto what holds it", HOLDERS),
+    ("replaces a longer file", LONGER),
+    ("wrong kinds", KINDS),
+    ("no paths", NO_PATHS),
+];
+
 #[test]
-fn image_of_nested_directories(rt: HostRuntime) {
-    assert!(rt; comes_to(rt.alloc(), &[], b"d /\n"));
-    assert!(rt; comes_to(rt.alloc(), NESTED, b"d /\nd /d\nf /d/n 0\n"));
+fn answers_as_each_table_says(rt: HostRuntime) {
+    for (name, rows) in TABLES {
+        assert!(rt; follow(rt.alloc(), rows) == rows.len(), "{name}");
+    }
+}
+
+/// Tables of calls, and the image that each comes to. What was cut off reads as zeros once the file is longer again, and zeros stand in
+/// no line; the image has the root first, and each directory before what it holds.
+const IMAGES: &[(&[Row<'static>], &[u8])] = &[
+    (CUT, b"d /\nf /f 9000\nb 0 ffffffffff\n"),
+    (&[], b"d /\n"),
+    (NESTED, b"d /\nd /d\nf /d/n 0\n"),
+];
+
+#[test]
+fn comes_to_each_image(rt: HostRuntime) {
+    for (number, (rows, image)) in IMAGES.iter().enumerate() {
+        assert!(rt; comes_to(rt.alloc(), rows, image), "row {number}");
+    }
 }

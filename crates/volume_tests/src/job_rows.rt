@@ -228,7 +228,7 @@ fn jobs_are_answered_as_each_row_says(rt: HostRuntime) {
 }
 
 /// What is asked of a volume by its own calls.
-#[derive(Clone, Copy, Debug)]
+#[derive(Clone, Copy)]
 enum Act {
     /// A taking at the first slot of the metadata's root, and the ticket that is given, if one is.
     Take(Option<u64>),

@@ -1,6 +1,6 @@
 //! Command lines with `--load`: a volume is kept as an image and had back, and what is said where that cannot be.
 
-use crate::programs::{Ended, Host, own_path, run_on};
+use crate::programs::{End, Ended, Host, own_path, run_on};
 use std::alloc::Global;
 use std::test::Fail;
 use std::{fs, io};
@@ -8,21 +8,12 @@ use std::{fs, io};
 /// The word that stands for the path of a row's image.
 const IMAGE: &str = "IMAGE";
 
-/// A command line, the image that it loads, the script on standard input, and what is printed where it is run to its end.
-#[derive(Debug)]
-struct Row {
+/// A command line, the image that it loads, the script on standard input, and how it ends.
+struct Kept {
     words: &'static [&'static str],
     image: &'static str,
     script: &'static str,
-    output: &'static str,
-}
-
-/// A command line for which the program ends before a reply is printed, and what it says of that.
-#[derive(Debug)]
-struct Failed {
-    words: &'static [&'static str],
-    image: &'static str,
-    errors: &'static str,
+    end: End,
 }
 
 /// The words of a row, with the path of its image.
@@ -49,45 +40,41 @@ fn run_at<H: Host>(
     Ok(ended)
 }
 
-/// Whether the script is run to its end over the image, and prints what the row says.
-fn is_run<H: Host>(rt: &H, path: &str, row: &Row) -> io::Result<bool> {
-    let ended = run_at(
+/// Whether a row ends as it says.
+fn ends_so<H: Host>(rt: &H, path: &str, row: &Kept) -> bool {
+    match run_at(
         rt,
         path,
         row.words,
         row.image.as_bytes(),
         row.script.as_bytes(),
-    )?;
-    Ok(ended.is_done(row.output.as_bytes()))
+    ) {
+        Ok(ended) => ended.is(&row.end),
+        Err(_) => false,
+    }
 }
 
-/// Whether the program fails as the row says.
-fn is_failed<H: Host>(rt: &H, path: &str, row: &Failed) -> io::Result<bool> {
-    let ended = run_at(rt, path, row.words, row.image.as_bytes(), b"stat /\n")?;
-    Ok(ended.is(1, b"", row.errors.as_bytes()))
-}
-
-const ROWS: &[Row] = &[
-    Row {
+const ROWS: &[Kept] = &[
+    Kept {
         words: &["betr", "--load", IMAGE],
         image: "d /\nf /f 9000\nb 0 ffffffffff\n",
         script: "read /f 4 4\nstat /f\n",
-        output: "bytes ff000000\nfile 9000\n",
+        end: End::Done("bytes ff000000\nfile 9000\n"),
     },
     // a script of notes alone has the image back
-    Row {
+    Kept {
         words: &["betr", "--load", IMAGE, "--image"],
         image: "d /\nd /a\nf /a/x 8194\nb 2 01\nf /a%20b 0\nf /a-b 0\n",
         script: "# nothing is done\n",
-        output: "d /\nd /a\nf /a/x 8194\nb 2 01\nf /a%20b 0\nf /a-b 0\n",
+        end: End::Done("d /\nd /a\nf /a/x 8194\nb 2 01\nf /a%20b 0\nf /a-b 0\n"),
     },
-    Row {
+    Kept {
         words: &["betr", "--image", "--load", IMAGE],
         image: "d /\n",
         script: "",
-        output: "d /\n",
+        end: End::Done("d /\n"),
     },
-    Row {
+    Kept {
         words: &[
             "betr",
             "--load",
@@ -104,131 +91,176 @@ const ROWS: &[Row] = &[
         ],
         image: "d /\nd /q\nd /r\nf /r/k 3\nb 0 0000ff\nf /s 0\n",
         script: "readdir /\nread /r/k 0 3\nmkdir /q\nrename /r /q\nwrite /s 4096 01\n",
-        output: "names 3\nd q\nd r\nf s\nbytes 0000ff\nfault EEXIST\nok\ncount 1\nd /\nd /q\nf /q/k 3\nb 0 0000ff\nf /s 4097\nb 1 01\n",
+        end: End::Done(
+            "names 3\nd q\nd r\nf s\nbytes 0000ff\nfault EEXIST\nok\ncount 1\nd /\nd /q\nf /q/k 3\nb 0 0000ff\nf /s 4097\nb 1 01\n",
+        ),
     },
     // an image has no snapshots
-    Row {
+    Kept {
         words: &["betr", "--load", IMAGE],
         image: "d /\nf /f 0\n",
         script: "stat@s /f\nsnapshot s\nunlink /f\nstat@s /f\nstat /f\n",
-        output: "fault ENOENT\nok\nok\nfile 0\nfault ENOENT\n",
+        end: End::Done("fault ENOENT\nok\nok\nfile 0\nfault ENOENT\n"),
     },
 ];
 
-const FAILURES: &[Failed] = &[
-    Failed {
+const FAILURES: &[Kept] = &[
+    Kept {
         words: &["betr", "--load", IMAGE],
         image: "",
-        errors: "betr: bad image at line 1\n",
+        script: "stat /\n",
+        end: End::Failed("betr: bad image at line 1\n"),
     },
-    Failed {
+    Kept {
         words: &["betr", "--load", IMAGE, "--image"],
         image: "d /",
-        errors: "betr: bad image at line 1\n",
+        script: "stat /\n",
+        end: End::Failed("betr: bad image at line 1\n"),
     },
-    Failed {
+    Kept {
         words: &["betr", "--load", IMAGE, "--image"],
         image: "d /\nf /a 01\n",
-        errors: "betr: bad image at line 2\n",
+        script: "stat /\n",
+        end: End::Failed("betr: bad image at line 2\n"),
     },
-    Failed {
+    Kept {
         words: &["betr", "--load", IMAGE, "--image"],
         image: "d /\nd /a\nd /a-b\nf /a/x 0\n",
-        errors: "betr: bad image at line 4\n",
+        script: "stat /\n",
+        end: End::Failed("betr: bad image at line 4\n"),
     },
     // the shape is looked at before the image, and the image before the script
-    Failed {
+    Kept {
         words: &["betr", "--fanout", "8", "--pending", "4", "--load", IMAGE],
         image: "",
-        errors: "betr: bad shape\n",
+        script: "stat /\n",
+        end: End::Failed("betr: bad shape\n"),
     },
-    Failed {
+    Kept {
         words: &["betr", "--load", IMAGE, "/no/such/folder/script"],
         image: "d /\nd /b\nd /a\n",
-        errors: "betr: bad image at line 3\n",
+        script: "stat /\n",
+        end: End::Failed("betr: bad image at line 3\n"),
     },
-    Failed {
+    Kept {
         words: &["betr", "--load", IMAGE, "/no/such/folder/script"],
         image: "d /\n",
-        errors: "betr: cannot open\n",
+        script: "stat /\n",
+        end: End::Failed("betr: cannot open\n"),
     },
-    Failed {
+    Kept {
         words: &["betr", "--load", "/no/such/folder/image", "--image"],
         image: "d /\n",
-        errors: "betr: cannot open\n",
+        script: "stat /\n",
+        end: End::Failed("betr: cannot open\n"),
     },
     // a folder can be opened, and not read
-    Failed {
+    Kept {
         words: &["betr", "--load", "/", "--image"],
         image: "d /\n",
-        errors: "betr: read failed\n",
+        script: "stat /\n",
+        end: End::Failed("betr: read failed\n"),
     },
 ];
 
 #[test]
-fn runs_each_row_over_its_image(rt: HostRuntime) -> Result<(), Fail> {
-    let path = own_path(&rt, "loaded")?;
-    for row in ROWS {
-        assert!(rt; is_run(&rt, path.as_str(), row)?, "{row:?}");
+fn ends_as_each_row_says_over_its_image(rt: HostRuntime) -> Result<(), Fail> {
+    let path = own_path(&rt, "kept")?;
+    for row in ROWS.iter().chain(FAILURES.iter()) {
+        assert!(rt;
+            ends_so(&rt, path.as_str(), row),
+            "{:?} {:?}",
+            row.words,
+            row.image
+        );
     }
     Ok(())
-}
-
-#[test]
-fn ends_where_no_image_is_loaded(rt: HostRuntime) -> Result<(), Fail> {
-    let path = own_path(&rt, "refused")?;
-    for row in FAILURES {
-        assert!(rt; is_failed(&rt, path.as_str(), row)?, "{row:?}");
-    }
-    Ok(())
-}
-
-/// What is printed of a script that ends with the image: the image, if these are the replies before it.
-fn image_behind<'a>(ended: &'a Ended, replies: &[u8]) -> Option<&'a [u8]> {
-    ended.done()?.strip_prefix(replies)
 }
 
 const MADE: &[u8] = b"mkdir /a\ncreate /a/x\nwrite /a/x 4095 aabb\nmkdir /b\nrmdir /b\n";
 
 const MADE_REPLIES: &[u8] = b"ok\nok\ncount 2\nok\nok\n";
 
-/// Whether what one run leaves is had back by the next, which goes on from there.
-fn is_kept<H: Host>(rt: &H, path: &str) -> io::Result<bool> {
-    let first = run_on(rt, &["betr", "--image"], MADE);
-    let Some(image) = image_behind(&first, MADE_REPLIES) else {
-        return Ok(false);
-    };
-    let next = run_at(
+/// Runs the program over what the run before has printed behind its replies, if those are the ones wanted.
+fn run_next<H: Host>(rt: &H, path: &str, first: &Ended) -> io::Result<Ended> {
+    let image = first
+        .output
+        .as_slice()
+        .strip_prefix(MADE_REPLIES)
+        .unwrap_or(b"");
+    run_at(
         rt,
         path,
         &["betr", "--load", IMAGE, "--image"],
         image,
         b"stat /a/x\nread /a/x 4094 3\nrename /a /c\ntruncate /c/x 0\n",
-    )?;
-    Ok(next.is_done(b"file 4097\nbytes 00aabb\nok\nok\nd /\nd /c\nf /c/x 0\n"))
+    )
+}
+
+/// Whether what one run leaves is had back by the next, which goes on from there.
+fn is_kept<H: Host>(rt: &H, path: &str) -> bool {
+    let first = run_on(rt, &["betr", "--image"], MADE);
+    match run_next(rt, path, &first) {
+        Ok(next) => {
+            first.status == 0
+                && next.is_done(b"file 4097\nbytes 00aabb\nok\nok\nd /\nd /c\nf /c/x 0\n")
+        }
+        Err(_) => false,
+    }
 }
 
 #[test]
 fn what_one_run_leaves_is_had_back_by_the_next(rt: HostRuntime) -> Result<(), Fail> {
-    let path = own_path(&rt, "kept")?;
-    assert!(rt; is_kept(&rt, path.as_str())?);
+    let path = own_path(&rt, "had_back")?;
+    assert!(rt; is_kept(&rt, path.as_str()));
     Ok(())
 }
 
-/// Whether a script in a file is run over an image in another.
-fn runs_a_named_script<H: Host>(rt: &H, image: &str, script: &str) -> io::Result<bool> {
-    fs::write(rt, image, b"d /\nf /f 2\nb 0 0a\n".as_slice())?;
-    fs::write(rt, script, b"read /f 0 2".as_slice())?;
-    let ended = run_on(rt, &["betr", "--load", image, script], b"stat /\nstat /\n");
-    fs::remove_file(rt, image)?;
+/// Whether a script in a file is run, in place of standard input.
+fn runs_a_named_script<H: Host>(
+    rt: &H,
+    words: &[&str],
+    script: &str,
+    text: &[u8],
+    output: &[u8],
+) -> io::Result<bool> {
+    fs::write(rt, script, text)?;
+    let ended = run_on(rt, words, b"stat /\nstat /\n");
     fs::remove_file(rt, script)?;
-    Ok(ended.is_done(b"bytes 0a00\n"))
+    Ok(ended.is_done(output))
+}
+
+#[test]
+fn runs_a_script_that_is_named(rt: HostRuntime) -> Result<(), Fail> {
+    let script = own_path(&rt, "script")?;
+    let words = ["betr", script.as_str()];
+    assert!(rt;
+        runs_a_named_script(
+            &rt,
+            &words,
+            script.as_str(),
+            b"mkdir /a\nstat /a",
+            b"ok\ndir 0\n"
+        )?
+    );
+    Ok(())
 }
 
 #[test]
 fn runs_a_script_that_is_named_over_an_image(rt: HostRuntime) -> Result<(), Fail> {
     let image = own_path(&rt, "named_image")?;
     let script = own_path(&rt, "named_script")?;
-    assert!(rt; runs_a_named_script(&rt, image.as_str(), script.as_str())?);
+    let words = ["betr", "--load", image.as_str(), script.as_str()];
+    fs::write(&rt, image.as_str(), b"d /\nf /f 2\nb 0 0a\n".as_slice())?;
+    assert!(rt;
+        runs_a_named_script(
+            &rt,
+            &words,
+            script.as_str(),
+            b"read /f 0 2",
+            b"bytes 0a00\n"
+        )?
+    );
+    fs::remove_file(&rt, image.as_str())?;
     Ok(())
 }

@@ -1,11 +1,11 @@
-//! Tests of volumes: what each call answers with ample memory, which no contract can say, and rows of calls with snapshots
-//! and steps between them.
+//! Tests of volumes and of the program: what each call answers with ample memory, which no contract can say, rows of calls with
+//! snapshots and steps between them, scripts, and whole command lines.
 #![tactic(auto)]
 
 #[cfg(test)]
 mod asked;
 #[cfg(test)]
-mod beside;
+mod command_lines;
 #[cfg(test)]
 mod condensed;
 #[cfg(test)]
@@ -13,30 +13,30 @@ mod damage;
 #[cfg(test)]
 mod floods;
 #[cfg(test)]
-mod hostile;
-#[cfg(test)]
-mod image;
-#[cfg(test)]
 mod job_rows;
 #[cfg(test)]
 mod kept;
 #[cfg(test)]
+mod lines;
+#[cfg(test)]
 mod loaded;
 #[cfg(test)]
-mod paces;
+mod long;
 #[cfg(test)]
-mod plain_image;
+mod paces;
 #[cfg(test)]
 mod programs;
 #[cfg(test)]
 mod refused;
 #[cfg(test)]
-mod rows;
+mod replies;
 #[cfg(test)]
 mod runs;
 #[cfg(test)]
-mod some_images;
-#[cfg(test)]
 mod steps_between;
 #[cfg(test)]
+mod streams;
+#[cfg(test)]
 mod told;
+#[cfg(test)]
+mod words;

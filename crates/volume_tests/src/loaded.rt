@@ -1,16 +1,13 @@
 //! Images that are loaded: what is refused and at which line, and that what is loaded prints as itself.
 
 use crate::asked::{SMALL, USUAL};
-use crate::hostile::{Failing, leaves};
-use crate::image::{freeze, prints};
-use crate::plain_image::bad_line;
-use crate::programs::ROWS;
+use crate::programs::{End, ROWS};
+use crate::streams::{Source, ends_so, freeze, prints, whole};
+use image_samples::{Piece, bad_line, built};
 use node::Shape;
 use shell::{LoadFault, load_image};
 use std::alloc::Global;
-use std::fmt;
 use std::io::Read;
-use std::test::Fail;
 use volume::Volume;
 
 /// Loads an image. It ensures nothing, so that no proof of a test reads what an image is.
@@ -98,20 +95,6 @@ const TEXTS: &[Text] = &[
     ("d /\nf /g 5001\nb 0 aa\n", None),
 ];
 
-#[test]
-fn loads_images_and_refuses_other_texts(rt: HostRuntime) {
-    for (text, bad) in TEXTS {
-        assert!(rt;
-            is_loaded(rt.alloc(), USUAL, text.as_bytes(), *bad),
-            "{text:?}"
-        );
-        assert!(rt;
-            is_loaded(rt.alloc(), SMALL, text.as_bytes(), *bad),
-            "{text:?}"
-        );
-    }
-}
-
 /// Whether the plain check of a text finds this line bad, or none.
 fn is_told(alloc: Global, text: &[u8], bad: Option<u64>) -> bool {
     match bad_line(alloc, text) {
@@ -120,10 +103,17 @@ fn is_told(alloc: Global, text: &[u8], bad: Option<u64>) -> bool {
     }
 }
 
+/// Whether a text is an image, or none by this line, for the loader at two shapes and for the plain check.
+fn is_known(alloc: Global, text: &[u8], bad: Option<u64>) -> bool {
+    is_loaded(alloc, USUAL, text, bad)
+        && is_loaded(alloc, SMALL, text, bad)
+        && is_told(alloc, text, bad)
+}
+
 #[test]
-fn the_plain_check_finds_the_same_lines_bad(rt: HostRuntime) {
+fn knows_images_from_other_texts(rt: HostRuntime) {
     for (text, bad) in TEXTS {
-        assert!(rt; is_told(rt.alloc(), text.as_bytes(), *bad), "{text:?}");
+        assert!(rt; is_known(rt.alloc(), text.as_bytes(), *bad), "{text:?}");
     }
 }
 
@@ -139,67 +129,78 @@ fn image_in(output: &str) -> &str {
     output.get(start..).unwrap_or("")
 }
 
+/// Whether the image that a command line prints is loaded, if it prints one.
+fn is_loaded_behind(alloc: Global, end: &End) -> bool {
+    match end {
+        End::Done(output) => {
+            output.is_empty() || is_loaded(alloc, USUAL, image_in(output).as_bytes(), None)
+        }
+        End::Failed(_) => true,
+    }
+}
+
 #[test]
 fn loads_the_image_of_each_row(rt: HostRuntime) {
     for row in ROWS {
-        let image = image_in(row.output).as_bytes();
-        assert!(rt;
-            row.output.is_empty() || is_loaded(rt.alloc(), USUAL, image, None),
-            "{row:?}"
-        );
+        assert!(rt; is_loaded_behind(rt.alloc(), &row.end), "{:?}", row.script);
     }
 }
 
-/// Writes an image of directories in each other with names of 255 bytes, and of a last one whose name is so long.
-fn write_deep(text: &mut String, path: &mut String, last: u32) -> fmt::Result {
-    text.push_str("d /\n")?;
-    for _ in 0..3 {
-        path.push('/')?;
-        put_letters(path, 255)?;
-        writeln!(text, "d {path}")?;
+/// Whether the text of pieces is an image, or none by this line.
+fn is_known_of(alloc: Global, pieces: &[Piece], bad: Option<u64>) -> bool {
+    match built(alloc, pieces) {
+        Some(text) => is_known(alloc, text.as_slice(), bad),
+        None => false,
     }
-    path.push('/')?;
-    put_letters(path, last)?;
-    writeln!(text, "d {path}")?;
-    Ok(())
 }
 
-/// Appends so many letters.
-fn put_letters(path: &mut String, count: u32) -> fmt::Result {
-    for _ in 0..count {
-        path.push('n')?;
-    }
-    Ok(())
-}
-
-/// Whether that image is loaded, or refused at this line.
-fn is_deep_loaded(alloc: Global, last: u32, bad: Option<u64>) -> Result<bool, fmt::Error> {
-    let mut text = String::new(alloc);
-    let mut path = String::new(alloc);
-    write_deep(&mut text, &mut path, last)?;
-    Ok(is_loaded(alloc, SMALL, text.as_bytes(), bad) && is_told(alloc, text.as_bytes(), bad))
-}
+/// Directories in each other with names of 255 bytes, and the last of them with one of these lengths.
+const LAST: &[(u32, Option<u64>)] = &[(254, None), (255, Some(5))];
 
 #[test]
-fn loads_paths_of_1023_bytes(rt: HostRuntime) -> Result<(), Fail> {
-    assert!(rt; is_deep_loaded(rt.alloc(), 254, None)?);
-    assert!(rt; is_deep_loaded(rt.alloc(), 255, Some(5))?);
-    Ok(())
+fn loads_paths_of_1023_bytes(rt: HostRuntime) {
+    let name = Piece::Times("n", 255);
+    let slash = Piece::Text("/");
+    let line = Piece::Text("\nd /");
+    for (last, bad) in LAST {
+        let end = Piece::Times("n", *last);
+        let pieces = [
+            Piece::Text("d /"),
+            line,
+            name,
+            line,
+            name,
+            slash,
+            name,
+            line,
+            name,
+            slash,
+            name,
+            slash,
+            name,
+            line,
+            name,
+            slash,
+            name,
+            slash,
+            name,
+            slash,
+            end,
+            Piece::Text("\n"),
+        ];
+        assert!(rt; is_known_of(rt.alloc(), &pieces, *bad), "{last}");
+    }
 }
 
-const CUT: &[u8] = b"d /\nf /f 9000\nb 0 ffffffffff\n";
+const CUT: &str = "d /\nf /f 9000\nb 0 ffffffffff\n";
 
 /// Whether a script goes on over what was loaded.
 fn goes_on(alloc: Global) -> bool {
-    let mut reader = CUT;
+    let mut reader = CUT.as_bytes();
+    let mut stream = whole(b"read /f 4 4\n", b"bytes ff000000\n");
+    stream.image = Some(CUT);
     match load(alloc, USUAL, &mut reader) {
-        Ok(mut volume) => leaves(
-            alloc,
-            &mut volume,
-            b"read /f 4 4\n",
-            b"bytes ff000000\n",
-            CUT,
-        ),
+        Ok(mut volume) => ends_so(alloc, &mut volume, &stream),
         Err(_) => false,
     }
 }
@@ -214,16 +215,22 @@ fn fault_of<R: Read>(alloc: Global, shape: Shape, reader: &mut R) -> Option<Load
     load(alloc, shape, reader).err()
 }
 
+/// Fewer messages may wait than a node has slots.
+const NARROW: Shape = Shape {
+    fanout: 8,
+    pending: 4,
+    leaf: 4,
+};
+
 #[test]
 fn refuses_a_bad_shape_and_a_failing_read(rt: HostRuntime) {
-    let shape = Shape {
-        fanout: 8,
-        pending: 4,
-        leaf: 4,
+    let mut reader = CUT.as_bytes();
+    assert!(rt; fault_of(rt.alloc(), NARROW, &mut reader) == Some(LoadFault::Shape));
+    assert!(rt; reader == CUT.as_bytes());
+    let mut failing = Source {
+        text: CUT.as_bytes(),
+        fails: true,
+        signal: false,
     };
-    let mut reader = CUT;
-    assert!(rt; fault_of(rt.alloc(), shape, &mut reader) == Some(LoadFault::Shape));
-    assert!(rt; reader == CUT);
-    let mut failing = Failing { given: CUT };
     assert!(rt; fault_of(rt.alloc(), USUAL, &mut failing) == Some(LoadFault::Read));
 }

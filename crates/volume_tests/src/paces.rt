@@ -1,7 +1,9 @@
 //! Scripts with steps that a pace picks: what it is told of them, and that the answers and the tree are the same with them.
 use crate::asked::{SMALL, USUAL, new_volume};
-use crate::image::has_image;
+use crate::long::{FILES, FILES_ANSWERS};
+use crate::streams::has_image;
 use crate::told::first_leaf;
+use image_samples::built;
 use node::StepReply;
 use shell::{Pace, ScriptFault, Tidy, run_script};
 use std::alloc::Global;
@@ -116,38 +118,10 @@ impl Pace for AtEnd {
     }
 }
 
-/// Adds the line that creates the file with this number; none where memory is refused.
-fn add_file(alloc: Global, script: &mut Vec<u8>, number: u32) -> Option<()> {
-    let line = format!(in alloc; "create /d/f{number:03}\n").ok()?;
-    script.extend_from_slice(line.as_bytes()).ok()
-}
-
-/// Lines that make a directory of 300 files, remove it, make it again with one file, and list it.
-fn made_again(alloc: Global) -> Option<Vec<u8>> {
-    let mut script = Vec::from_slice(alloc, b"mkdir /d\n").ok()?;
-    for number in 0..300u32 {
-        add_file(alloc, &mut script, number)?;
-    }
-    script
-        .extend_from_slice(b"rmtree /d\nmkdir /d\ncreate /d/n\nreaddir /d\n")
-        .ok()?;
-    Some(script)
-}
-
-/// What they are answered.
-fn told_of_made_again(alloc: Global) -> Option<Vec<u8>> {
-    let mut wanted = Vec::new(alloc);
-    for _ in 0..304 {
-        wanted.extend_from_slice(b"ok\n").ok()?;
-    }
-    wanted.extend_from_slice(b"names 1\nf n\n").ok()?;
-    Some(wanted)
-}
-
 /// So many steps behind so many lines.
 type Steps = (u32, u16);
 
-/// How many of the steps were done, if the script is answered so and leaves the one file.
+/// How many of the steps were done, if the directory that is made again is answered so and leaves the one file.
 fn done_in(
     alloc: Global,
     volume: &mut Volume,
@@ -177,85 +151,32 @@ fn done_in_new(alloc: Global, script: &[u8], wanted: &[u8], steps: Steps) -> Opt
     }
 }
 
-/// The same of a script, and what it is answered.
-fn done_with(alloc: Global, script: &[u8], steps: Steps) -> Option<u32> {
-    match told_of_made_again(alloc) {
-        Some(wanted) => done_in_new(alloc, script, wanted.as_slice(), steps),
-        None => None,
+/// The same of the directory's script.
+fn done_behind(alloc: Global, steps: Steps) -> Option<u32> {
+    match (built(alloc, FILES), built(alloc, FILES_ANSWERS)) {
+        (Some(script), Some(wanted)) => {
+            done_in_new(alloc, script.as_slice(), wanted.as_slice(), steps)
+        }
+        _ => None,
     }
 }
 
-/// The same of the directory that is made again.
-fn done_behind(alloc: Global, steps: Steps) -> Option<u32> {
-    match made_again(alloc) {
-        Some(script) => done_with(alloc, script.as_slice(), steps),
-        None => None,
-    }
-}
+/// Steps behind the directory's lines, and how many of them are done at least and at most. In small nodes most flushes wait for room,
+/// which one step a line has to make before it can go on.
+const STEPS: &[(Steps, u32, u32)] = &[
+    ((304, 0), 0, 0),
+    ((300, 1_000), 100, u32::MAX),
+    ((304, 1_000), 1, u32::MAX),
+    ((0, 1), 100, u32::MAX),
+];
 
 #[test]
 fn steps_behind_a_line_leave_the_answers_and_the_image(rt: HostRuntime) {
-    assert_eq!(rt; done_behind(rt.alloc(), (304, 0)), Some(0));
-    assert!(rt; matches!(done_behind(rt.alloc(), (300, 1_000)), Some(100..)));
-    assert!(rt; matches!(done_behind(rt.alloc(), (304, 1_000)), Some(1..)));
-}
-
-/// The program's pace after each line, whose steps are counted.
-#[derive(Drop)]
-struct Counted {
-    tidy: Tidy,
-    /// How many steps were done.
-    done: u32,
-}
-
-impl Pace for Counted {
-    fn turns(&mut self) -> u16 {
-        self.tidy.turns()
+    for (steps, least, most) in STEPS {
+        let done = done_behind(rt.alloc(), *steps);
+        assert!(rt;
+            matches!(done, Some(done) if *least <= done && done <= *most),
+            "{steps:?}: {done:?}"
+        );
     }
-
-    fn pick(&mut self, volume: &Volume) -> Option<Step> {
-        self.tidy.pick(volume)
-    }
-
-    fn saw(&mut self, reply: StepReply) {
-        if matches!(&reply, StepReply::Did(_)) {
-            self.done = self.done.saturating_add(1);
-        }
-        self.tidy.saw(reply);
-    }
-}
-
-/// How many steps were done by one after each line, if the script is answered so.
-fn done_between(alloc: Global, volume: &mut Volume, script: &[u8], wanted: &[u8]) -> Option<u32> {
-    let mut pace = Counted {
-        tidy: Tidy::new(1),
-        done: 0,
-    };
-    if answers(alloc, volume, script, wanted, &mut pace) {
-        Some(pace.done)
-    } else {
-        None
-    }
-}
-
-/// The same of a new volume.
-fn done_between_in_new(alloc: Global, script: &[u8], wanted: &[u8]) -> Option<u32> {
-    match new_volume(alloc, SMALL) {
-        Ok(mut volume) => done_between(alloc, &mut volume, script, wanted),
-        Err(_) => None,
-    }
-}
-
-/// The same of the directory that is made again.
-fn done_by_one(alloc: Global) -> Option<u32> {
-    let script = made_again(alloc)?;
-    let wanted = told_of_made_again(alloc)?;
-    done_between_in_new(alloc, script.as_slice(), wanted.as_slice())
-}
-
-// In small nodes most flushes wait for room, which one step a line has to make before it can go on.
-#[test]
-fn one_step_a_line_makes_room(rt: HostRuntime) {
-    let done = done_by_one(rt.alloc());
-    assert!(rt; matches!(done, Some(100..)), "{done:?}");
 }

@@ -3,9 +3,9 @@
 //!
 //! By itself this test refuses nothing. `rt try --test --fail-alloc 1.. -- refused` runs it once for each allocation, which then fails.
 use crate::asked::{SMALL, Snap, new_volume};
-use crate::image::{freeze, prints};
 use crate::job_rows::{HAS_NO_JOB, INSTALLS, OPENING, SEVEN, TAKES, TAKES_NOTHING};
 use crate::runs::{Turn, events_of, follows, is_answer, run};
+use crate::streams::{freeze, prints};
 use node::StepReply;
 use pathkey::Errno;
 use reference::Reply;

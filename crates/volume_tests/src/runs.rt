@@ -170,12 +170,27 @@ const TURNS: &[Turn<'static>] = &[
     Turn::Snap(Snap::Restore("s"), Some(Errno::ENOENT)),
 ];
 
-#[test]
-fn events_are_done_in_their_order(rt: HostRuntime) {
-    assert_eq!(rt; answered(rt.alloc(), TURNS), (TURNS.len(), TURNS.len()));
-}
+/// A message is flushed, and none waits in the other index.
+const FLUSHED: &[Turn<'static>] = &[
+    Turn::Live(Ask::Mkdir("/a"), Told::Done),
+    Turn::Step(Index::Meta, StepKind::FlushLeaf, 1, u32::MAX),
+    Turn::Flush(Index::Block, false),
+    Turn::Live(Ask::Stat("/a"), Told::Dir),
+];
+
+/// Events are done in their order; where there are none there is no answer.
+const RUNS: &[(&str, &[Turn<'static>])] = &[
+    ("turns", TURNS),
+    ("flushed", FLUSHED),
+    ("no events", &[]),
+];
 
 #[test]
-fn no_events_have_no_answers(rt: HostRuntime) {
-    assert_eq!(rt; answered(rt.alloc(), &[]), (0, 0));
+fn events_are_done_in_their_order(rt: HostRuntime) {
+    for (name, turns) in RUNS {
+        assert!(rt;
+            answered(rt.alloc(), turns) == (turns.len(), turns.len()),
+            "{name}"
+        );
+    }
 }

@@ -1,5 +1,5 @@
 //! Many files with steps of both trees between the calls: the answers are the same whatever steps are done.
-use crate::asked::{Line, SMALL, answers, is_answered, new_volume};
+use crate::asked::{SMALL, answers, new_volume};
 use node::StepReply;
 use reference::Kind;
 use samples::{Ask, Told};
@@ -67,17 +67,13 @@ fn create_all(alloc: Global, volume: &mut Volume, turns: u32) -> u32 {
     created
 }
 
-const REMOVED: &[Line<'static>] = &[
-    Line::Live(Ask::Rmtree("/d"), Told::Done),
-    Line::Live(Ask::Mkdir("/d"), Told::Done),
-    Line::Live(Ask::Create("/d/n"), Told::Done),
-];
+const REMOVED: &[Ask<'static>] = &[Ask::Rmtree("/d"), Ask::Mkdir("/d"), Ask::Create("/d/n")];
 
 /// The directory goes and comes again with one file, with so many steps after each call; how many calls were done.
 fn remove(alloc: Global, volume: &mut Volume, turns: u32) -> usize {
     let mut done = 0usize;
-    for line in REMOVED {
-        if is_answered(alloc, volume, line) {
+    for ask in REMOVED {
+        if answers(alloc, volume, *ask, Told::Done) {
             done = done.saturating_add(1);
         }
         tidy_both(alloc, volume, turns);

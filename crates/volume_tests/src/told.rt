@@ -1,6 +1,6 @@
 //! What a volume tells of its trees, and what a tree that stands still tells.
 use crate::asked::{SMALL, answers, frozen, new_volume, tells};
-use node::{Place, StepKind, StepReply, TreeStep};
+use node::{Place, Shape, StepKind, TreeStep};
 use pathkey::{Errno, NoMemory};
 use reference::Kind;
 use samples::{Ask, Told};
@@ -19,32 +19,6 @@ pub fn at_first_slot(index: Index, kind: StepKind) -> Step {
 /// The flush of the leaf below the root's first slot.
 pub fn first_leaf(index: Index) -> Step {
     at_first_slot(index, StepKind::FlushLeaf)
-}
-
-/// Does the flush of the leaf below the root's first slot.
-fn flush(alloc: Global, volume: &mut Volume, index: Index) -> StepReply {
-    volume.step(alloc, first_leaf(index))
-}
-
-/// Whether a message can be flushed after a call, and the call stands.
-fn is_flushed(alloc: Global, volume: &mut Volume) -> bool {
-    answers(alloc, volume, Ask::Mkdir("/a"), Told::Done)
-        && matches!(flush(alloc, volume, Index::Meta), StepReply::Did(1..))
-        && flush(alloc, volume, Index::Block) == StepReply::NotThere
-        && answers(alloc, volume, Ask::Stat("/a"), Told::Dir)
-}
-
-/// The same of a new volume.
-fn new_is_flushed(alloc: Global) -> bool {
-    match new_volume(alloc, SMALL) {
-        Ok(mut volume) => is_flushed(alloc, &mut volume),
-        Err(_) => false,
-    }
-}
-
-#[test]
-fn message_is_flushed(rt: HostRuntime) {
-    assert!(rt; new_is_flushed(rt.alloc()));
 }
 
 /// How many messages wait in an index, if there is a flush for them.
@@ -137,4 +111,16 @@ fn fault_of_unknown(alloc: Global) -> Option<Errno> {
 #[test]
 fn unknown_snapshot_is_refused(rt: HostRuntime) {
     assert_eq!(rt; fault_of_unknown(rt.alloc()), Some(Errno::ENOENT));
+}
+
+/// Fewer messages may wait than a node has slots.
+const NARROW: Shape = Shape {
+    fanout: 8,
+    pending: 4,
+    leaf: 4,
+};
+
+#[test]
+fn shape_is_tested(rt: HostRuntime) {
+    assert!(rt; matches!(new_volume(rt.alloc(), NARROW), Err(Errno::EINVAL)));
 }

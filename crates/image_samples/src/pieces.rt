@@ -1,0 +1,66 @@
+//! Texts that are told by their pieces, where they are long.
+use std::alloc::Global;
+use std::io;
+use std::io::Write;
+
+/// A piece of a text.
+#[derive(Clone, Copy)]
+pub enum Piece {
+    Text(&'static str),
+    Byte(u8),
+    /// A text so many times.
+    Times(&'static str, u32),
+    /// A line for each number from one up to and without another: a text, and the number behind it.
+    Numbered(&'static str, u32, u32),
+    /// So many lines: a text, and behind it another, once in the first line and once more in each line than in the one before.
+    Deeper(&'static str, &'static str, u32),
+}
+
+/// Appends a text so many times.
+fn put_times(text: &mut Vec<u8>, piece: &str, count: u32) -> io::Result<()> {
+    for _ in 0..count {
+        text.extend_from_slice(piece.as_bytes())?;
+    }
+    Ok(())
+}
+
+/// Appends a line for each number.
+fn put_numbered(text: &mut Vec<u8>, front: &str, first: u32, end: u32) -> io::Result<()> {
+    for number in first..end {
+        writeln!(text, "{front}{number}")?;
+    }
+    Ok(())
+}
+
+/// Appends so many lines, each longer than the one before.
+fn put_deeper(text: &mut Vec<u8>, front: &str, name: &str, count: u32) -> io::Result<()> {
+    for depth in 1..=count {
+        text.extend_from_slice(front.as_bytes())?;
+        put_times(text, name, depth)?;
+        text.push(b'\n')?;
+    }
+    Ok(())
+}
+
+/// Appends the pieces.
+fn put(text: &mut Vec<u8>, pieces: &[Piece]) -> io::Result<()> {
+    for piece in pieces {
+        match piece {
+            Piece::Text(piece) => put_times(text, piece, 1)?,
+            Piece::Byte(byte) => text.push(*byte)?,
+            Piece::Times(piece, count) => put_times(text, piece, *count)?,
+            Piece::Numbered(front, first, end) => put_numbered(text, front, *first, *end)?,
+            Piece::Deeper(front, name, count) => put_deeper(text, front, name, *count)?,
+        }
+    }
+    Ok(())
+}
+
+/// The text of pieces; none where memory is refused.
+pub fn built(alloc: Global, pieces: &[Piece]) -> Option<Vec<u8>> {
+    let mut text = Vec::new(alloc);
+    match put(&mut text, pieces) {
+        Ok(()) => Some(text),
+        Err(_) => None,
+    }
+}

@@ -1,0 +1,529 @@
+//! Scripts over readers and writers that fail in the middle: what was done, answered and left by then.
+ghost use Rattle.std.specs.Prelude.{Some};
+
+use crate::asked::{SMALL, USUAL, new_volume};
+use image_samples::{Piece, built};
+use node::Shape;
+use pathkey::NoMemory;
+use shell::{ImageFault, ScriptFault, Tidy, print_image, run_script};
+use std::alloc::Global;
+use std::io;
+use std::io::{Read, Write};
+use volume::{Frozen, Index, Volume};
+
+/// Gives a text, and then ends or fails; the first read may be one that a signal came between.
+#[derive(Drop)]
+pub struct Source<'a> {
+    pub text: &'a [u8],
+    pub fails: bool,
+    pub signal: bool,
+}
+
+impl<'a> Read for Source<'a> {
+    ghost remaining = { λ r. Some r.text.now };
+
+    fn read(&mut self, buf: &mut [u8]) -> io::Result<usize> {
+        if self.signal {
+            self.signal = false;
+            return Err(io::Error::from(io::ErrorKind::Interrupted));
+        }
+        if self.fails && self.text.is_empty() {
+            return Err(io::Error::from(io::ErrorKind::BrokenPipe));
+        }
+        self.text.read(buf)
+    }
+}
+
+/// Takes one byte at a time, and none once it holds `most`; counts its flushes, of which the one with the number `fails` fails. The
+/// first write may be one that a signal came between.
+#[derive(Drop)]
+struct Sink {
+    got: Vec<u8>,
+    most: usize,
+    flushes: u32,
+    fails: u32,
+    signal: bool,
+}
+
+impl Write for Sink {
+    ghost contents = { λ w. Some w.got.items };
+
+    fn write(&mut self, buf: &[u8]) -> io::Result<usize> {
+        if self.signal {
+            self.signal = false;
+            return Err(io::Error::from(io::ErrorKind::Interrupted));
+        }
+        if self.got.len() >= self.most {
+            return Ok(0);
+        }
+        match buf.first() {
+            Some(&byte) => {
+                self.got.push(byte)?;
+                Ok(1)
+            }
+            None => Ok(0),
+        }
+    }
+
+    fn flush(&mut self) -> io::Result<()> {
+        self.flushes = self.flushes.saturating_add(1);
+        if self.flushes == self.fails {
+            return Err(io::Error::from(io::ErrorKind::BrokenPipe));
+        }
+        Ok(())
+    }
+}
+
+/// Runs a script with no steps after its lines; why it ends early, if it does. It ensures nothing, so that no proof of a test
+/// reads what a script means; nor do the next three.
+fn run<R: Read, W: Write>(
+    alloc: Global,
+    volume: &mut Volume,
+    reader: &mut R,
+    writer: &mut W,
+) -> Option<ScriptFault> {
+    run_script(alloc, volume, reader, writer, &mut Tidy::new(0)).err()
+}
+
+/// How many messages wait in the index of metadata, the root directory's own among them.
+fn waiting(volume: &Volume) -> u128 {
+    volume.shape_report(Index::Meta).pending
+}
+
+/// The live tree.
+pub fn freeze(volume: &Volume) -> Result<Frozen, NoMemory> {
+    volume.freeze()
+}
+
+/// Prints the image of a tree; why not to its end, if it does not.
+fn print<W: Write>(alloc: Global, frozen: &Frozen, writer: &mut W) -> Option<ImageFault> {
+    print_image(alloc, frozen, writer).err()
+}
+
+/// Whether a tree has this image.
+pub fn prints(alloc: Global, frozen: &Frozen, image: &[u8]) -> bool {
+    let mut out = Vec::new(alloc);
+    print(alloc, frozen, &mut out).is_none() && out.as_slice() == image
+}
+
+/// Whether a tree's image is printed up to so many bytes where no more are taken.
+fn prints_beginning(alloc: Global, frozen: &Frozen, image: &[u8], most: usize) -> bool {
+    let mut out = Sink {
+        got: Vec::new(alloc),
+        most,
+        flushes: 0,
+        fails: 0,
+        signal: false,
+    };
+    print(alloc, frozen, &mut out) == Some(ImageFault::Write)
+        && image.get(..most) == Some(out.got.as_slice())
+}
+
+/// Whether the live tree has this image: all of it is printed, and to a writer that takes no more than half of it a beginning.
+pub fn has_image(alloc: Global, volume: &Volume, image: &[u8]) -> bool {
+    match freeze(volume) {
+        Ok(frozen) => {
+            prints(alloc, &frozen, image)
+                && prints_beginning(alloc, &frozen, image, image.len() / 2)
+        }
+        Err(_) => false,
+    }
+}
+
+/// A script over a reader and a writer, and what comes of it.
+#[derive(Clone, Copy)]
+pub struct Stream<'a> {
+    /// What can be read, whether reading it further fails, and whether a signal comes between the first read and the first write.
+    pub script: &'a [u8],
+    pub fails: bool,
+    pub signal: bool,
+    /// How many bytes are written at most.
+    pub most: usize,
+    /// The number of the flush that fails; 0 where none does.
+    pub unflushed: u32,
+    /// Why the script ends early.
+    pub fault: Option<Fault>,
+    /// What was written.
+    pub answers: &'a [u8],
+    /// How many flushes there were, if that is asked.
+    pub flushes: Option<u32>,
+    /// How many messages wait then, if that is asked.
+    pub waiting: Option<u128>,
+    /// The image of the tree then, if that is asked.
+    pub image: Option<&'a str>,
+}
+
+/// What fails.
+#[derive(Clone, Copy)]
+pub enum Fault {
+    Read,
+    Write,
+}
+
+/// A script that is run to its end, and answered so.
+pub fn whole<'a>(script: &'a [u8], answers: &'a [u8]) -> Stream<'a> {
+    Stream {
+        script,
+        fails: false,
+        signal: false,
+        most: usize::MAX,
+        unflushed: 0,
+        fault: None,
+        answers,
+        flushes: None,
+        waiting: None,
+        image: None,
+    }
+}
+
+/// Whether this is why a script has ended.
+fn is_fault(told: &Option<ScriptFault>, wanted: Option<Fault>) -> bool {
+    match (told, wanted) {
+        (None, None)
+        | (Some(ScriptFault::Read), Some(Fault::Read))
+        | (Some(ScriptFault::Write), Some(Fault::Write)) => true,
+        _ => false,
+    }
+}
+
+/// Whether a volume is left so.
+fn is_left(alloc: Global, volume: &Volume, stream: &Stream<'_>) -> bool {
+    if let Some(wanted) = stream.waiting {
+        if waiting(volume) != wanted {
+            return false;
+        }
+    }
+    match stream.image {
+        Some(image) => has_image(alloc, volume, image.as_bytes()),
+        None => true,
+    }
+}
+
+/// Whether a script ends so.
+pub fn ends_so(alloc: Global, volume: &mut Volume, stream: &Stream<'_>) -> bool {
+    let mut reader = Source {
+        text: stream.script,
+        fails: stream.fails,
+        signal: stream.signal,
+    };
+    let mut writer = Sink {
+        got: Vec::new(alloc),
+        most: stream.most,
+        flushes: 0,
+        fails: stream.unflushed,
+        signal: stream.signal,
+    };
+    let told = run(alloc, volume, &mut reader, &mut writer);
+    is_fault(&told, stream.fault)
+        && writer.got.as_slice() == stream.answers
+        && !reader.signal
+        && !writer.signal
+        && (stream.flushes.is_none() || stream.flushes == Some(writer.flushes))
+        && is_left(alloc, volume, stream)
+}
+
+/// The same of a new volume.
+fn new_ends_so(alloc: Global, shape: Shape, stream: &Stream<'_>) -> bool {
+    match new_volume(alloc, shape) {
+        Ok(mut volume) => ends_so(alloc, &mut volume, stream),
+        Err(_) => false,
+    }
+}
+
+/// A script, what it is answered, and the image of the tree after it.
+type Left = (&'static str, &'static str, &'static str);
+
+const IMAGES: &[Left] = &[
+    ("", "", "d /\n"),
+    // trailing zeros are left out
+    (
+        "create /f\nwrite /f 0 ffffffffffffffffffff\ntruncate /f 5\ntruncate /f 9000\nread /f 0 8\n",
+        "ok\ncount 10\nok\nok\nbytes ffffffffff000000\n",
+        "d /\nf /f 9000\nb 0 ffffffffff\n",
+    ),
+    // the entries stand in the order of their keys
+    (
+        "create /a-b\nmkdir /a\ncreate /a/x\ncreate /a%20b\nwrite /a/x 8192 0100\n",
+        "ok\nok\nok\nok\ncount 2\n",
+        "d /\nd /a\nf /a/x 8194\nb 2 01\nf /a%20b 0\nf /a-b 0\n",
+    ),
+];
+
+/// Whether a script leaves the row's image.
+fn leaves(alloc: Global, row: &Left) -> bool {
+    let mut stream = whole(row.0.as_bytes(), row.1.as_bytes());
+    stream.image = Some(row.2);
+    new_ends_so(alloc, SMALL, &stream)
+}
+
+#[test]
+fn leaves_the_image_of_each_row(rt: HostRuntime) {
+    for row in IMAGES {
+        assert!(rt; leaves(rt.alloc(), row), "{row:?}");
+    }
+}
+
+/// A script that goes on where the one before it ended, what it is answered, and how many messages wait after it.
+const WAITING: &[(&str, &str, u128)] = &[
+    ("", "", 1),
+    ("mkdir /a\n", "ok\n", 2),
+    ("create /a/x\n", "ok\n", 3),
+    (
+        "stat /a/x\nreaddir /a\nmkdir /a\nrmdir /a\n",
+        "file 0\nnames 1\nf x\nfault EEXIST\nfault ENOTEMPTY\n",
+        3,
+    ),
+    // what makes a directory gives way to what removes it
+    ("mkdir /b\nrmdir /b\n", "ok\nok\n", 4),
+];
+
+/// After how many scripts as many messages wait as their rows say, before the first where it is otherwise.
+fn waiting_so(alloc: Global, volume: &mut Volume) -> usize {
+    for (number, row) in WAITING.iter().enumerate() {
+        let mut stream = whole(row.0.as_bytes(), row.1.as_bytes());
+        stream.waiting = Some(row.2);
+        if !ends_so(alloc, volume, &stream) {
+            return number;
+        }
+    }
+    WAITING.len()
+}
+
+/// The same of a new volume.
+fn waiting_in_new(alloc: Global) -> usize {
+    match new_volume(alloc, SMALL) {
+        Ok(mut volume) => waiting_so(alloc, &mut volume),
+        Err(_) => 0,
+    }
+}
+
+#[test]
+fn a_done_call_waits_as_one_message(rt: HostRuntime) {
+    assert_eq!(rt; waiting_in_new(rt.alloc()), WAITING.len());
+}
+
+/// What can be read before the read that fails, what was answered by then, and how many messages wait.
+const CUT: &[(&str, &str, u128)] = &[
+    ("mkdir /a\nstat /a\nmkdir /b", "ok\ndir 0\n", 2),
+    ("mkdir /a\nstat /a\nmkdir /", "ok\ndir 0\n", 2),
+    ("mkdir /a\nstat /a\n", "ok\ndir 0\n", 2),
+    ("mkdir /a\nstat /a", "ok\n", 2),
+    ("mkdir /a\n", "ok\n", 2),
+    ("mkdir /a", "", 1),
+    ("", "", 1),
+];
+
+/// Whether a script that cannot be read to its end stops as the row says.
+fn stops_at_read(alloc: Global, row: &(&str, &str, u128)) -> bool {
+    let mut stream = whole(row.0.as_bytes(), row.1.as_bytes());
+    stream.fails = true;
+    stream.fault = Some(Fault::Read);
+    stream.waiting = Some(row.2);
+    new_ends_so(alloc, SMALL, &stream)
+}
+
+#[test]
+fn stops_at_a_failing_read(rt: HostRuntime) {
+    for row in CUT {
+        assert!(rt; stops_at_read(rt.alloc(), row), "{row:?}");
+    }
+}
+
+/// What a script of four lines is answered where everything is written.
+const ANSWERS: &[u8] = b"ok\ndir 0\nfault EEXIST\nok\n";
+
+/// Whether a script stops where no more than so many bytes are written, and then has done so many lines.
+fn stops_at_write(alloc: Global, most: usize) -> bool {
+    let answers = ANSWERS.get(..most).unwrap_or(b"");
+    let mut stream = whole(b"mkdir /a\nstat /a\nmkdir /a\nmkdir /b\n", answers);
+    stream.most = most;
+    if most < ANSWERS.len() {
+        stream.fault = Some(Fault::Write);
+    }
+    stream.waiting = Some(if most < 22 { 2 } else { 3 });
+    new_ends_so(alloc, SMALL, &stream)
+}
+
+#[test]
+fn stops_at_a_failing_write(rt: HostRuntime) {
+    for most in 0..=ANSWERS.len() {
+        assert!(rt; stops_at_write(rt.alloc(), most), "{most}");
+    }
+}
+
+/// Whether a script of so many empty lines is read with so many flushes.
+fn lines_flush(alloc: Global, length: u32, wanted: u32) -> bool {
+    match built(alloc, &[Piece::Times("\n", length)]) {
+        Some(script) => {
+            let mut stream = whole(script.as_slice(), b"");
+            stream.flushes = Some(wanted);
+            new_ends_so(alloc, SMALL, &stream)
+        }
+        None => false,
+    }
+}
+
+#[test]
+fn flushes_before_each_read(rt: HostRuntime) {
+    // a piece of 65,536 bytes is read at once, and a last read gives none: so many pieces, and so many flushes
+    for (length, want) in [(0, 2), (1, 3), (65_536, 3), (65_537, 4), (131_073, 5)] {
+        assert!(rt; lines_flush(rt.alloc(), length, want), "{length}");
+    }
+}
+
+/// The number of the flush that fails, what was answered before it, and how many messages wait.
+const UNFLUSHED: &[(u32, &str, u128)] = &[(1, "", 1), (2, "ok\n", 2), (3, "ok\nok\n", 3)];
+
+/// Whether a script whose answers cannot be flushed stops as the row says.
+fn stops_at_flush(alloc: Global, row: &(u32, &str, u128)) -> bool {
+    let mut stream = whole(b"mkdir /a\nmkdir /b", row.1.as_bytes());
+    stream.unflushed = row.0;
+    stream.fault = Some(Fault::Write);
+    stream.waiting = Some(row.2);
+    new_ends_so(alloc, SMALL, &stream)
+}
+
+#[test]
+fn stops_at_a_failing_flush(rt: HostRuntime) {
+    for row in UNFLUSHED {
+        assert!(rt; stops_at_flush(rt.alloc(), row), "{row:?}");
+    }
+}
+
+/// Whether a script goes on after a signal at the first read and at the first write.
+fn goes_on(alloc: Global) -> bool {
+    let mut stream = whole(b"mkdir /a\nstat /a\n", b"ok\ndir 0\n");
+    stream.signal = true;
+    new_ends_so(alloc, SMALL, &stream)
+}
+
+#[test]
+fn goes_on_after_a_signal(rt: HostRuntime) {
+    assert!(rt; goes_on(rt.alloc()));
+}
+
+/// Whether a script of which no more than this can be read is answered so, and leaves a tree of this image.
+fn stops_behind<'a>(alloc: Global, given: &'a [u8], answers: &'a [u8], image: &'a str) -> bool {
+    let mut stream = whole(given, answers);
+    stream.fails = true;
+    stream.fault = Some(Fault::Read);
+    stream.image = Some(image);
+    new_ends_so(alloc, USUAL, &stream)
+}
+
+/// Whether a script of which no more than these answers are taken stops there, with a tree of this image.
+fn stops_after<'a>(alloc: Global, script: &'a [u8], written: &'a [u8], image: &'a str) -> bool {
+    let mut stream = whole(script, written);
+    stream.most = written.len();
+    stream.fault = Some(Fault::Write);
+    stream.image = Some(image);
+    new_ends_so(alloc, USUAL, &stream)
+}
+
+#[test]
+fn keeps_the_whole_lines_before_what_fails(rt: HostRuntime) {
+    assert!(rt; stops_behind(rt.alloc(), b"mkdir /a\nmkd", b"ok\n", "d /\nd /a\n"));
+    assert!(rt; stops_after(rt.alloc(), b"mkdir /a\nmkdir /b\n", b"o", "d /\nd /a\n"));
+}
+
+/// A script, and what it is answered.
+const SNAPSHOT: &[u8] =
+    b"mkdir /a\ncreate /a/x\nsnapshot s\nrmtree /a\nreaddir@s /a\nstat /a\nrestore s\nreaddir /a\n";
+
+const TOLD: &[u8] = b"ok\nok\nok\nok\nnames 1\nf x\nfault ENOENT\nok\nnames 1\nf x\n";
+
+/// Each of its lines, what that is answered, and the image of the tree after it.
+const DONE: &[Left] = &[
+    ("mkdir /a\n", "ok\n", "d /\nd /a\n"),
+    ("create /a/x\n", "ok\n", "d /\nd /a\nf /a/x 0\n"),
+    ("snapshot s\n", "ok\n", "d /\nd /a\nf /a/x 0\n"),
+    ("rmtree /a\n", "ok\n", "d /\n"),
+    ("readdir@s /a\n", "names 1\nf x\n", "d /\n"),
+    ("stat /a\n", "fault ENOENT\n", "d /\n"),
+    ("restore s\n", "ok\n", "d /\nd /a\nf /a/x 0\n"),
+    ("readdir /a\n", "names 1\nf x\n", "d /\nd /a\nf /a/x 0\n"),
+];
+
+/// At how many places the script stops as the lines before say, where it cannot be read further.
+fn stops_everywhere(alloc: Global) -> usize {
+    let mut place = 0usize;
+    let mut told = 0usize;
+    let mut image = "d /\n";
+    for row in DONE {
+        let answers = TOLD.get(..told).unwrap_or(b"");
+        for _ in 0..row.0.len() {
+            if !stops_behind(alloc, SNAPSHOT.get(..place).unwrap_or(b"x"), answers, image) {
+                return place;
+            }
+            place = place.saturating_add(1);
+        }
+        told = told.saturating_add(row.1.len());
+        image = row.2;
+    }
+    place
+}
+
+#[test]
+fn stops_at_each_byte_that_cannot_be_read(rt: HostRuntime) {
+    assert_eq!(rt; stops_everywhere(rt.alloc()), SNAPSHOT.len());
+}
+
+/// At how many of the bytes of its answers the script stops as its lines say, where no more is taken.
+fn fails_everywhere(alloc: Global) -> usize {
+    let mut told = 0usize;
+    for row in DONE {
+        for _ in 0..row.1.len() {
+            if !stops_after(alloc, SNAPSHOT, TOLD.get(..told).unwrap_or(b"x"), row.2) {
+                return told;
+            }
+            told = told.saturating_add(1);
+        }
+    }
+    told
+}
+
+#[test]
+fn stops_at_each_byte_that_cannot_be_written(rt: HostRuntime) {
+    assert_eq!(rt; fails_everywhere(rt.alloc()), TOLD.len());
+}
+
+const CUT_SCRIPT: &[u8] =
+    b"create /f\nwrite /f 0 ffffffffffffffffffff\ntruncate /f 5\ntruncate /f 9000\n";
+
+const CUT_IMAGE: &str = "d /\nf /f 9000\nb 0 ffffffffff\n";
+
+/// Up to how many bytes each beginning of the image is printed where no more are taken.
+fn prints_beginnings(alloc: Global, frozen: &Frozen) -> usize {
+    for most in 0..CUT_IMAGE.len() {
+        if !prints_beginning(alloc, frozen, CUT_IMAGE.as_bytes(), most) {
+            return most;
+        }
+    }
+    CUT_IMAGE.len()
+}
+
+/// The same after the script on a volume.
+fn prints_beginnings_in(alloc: Global, volume: &mut Volume) -> usize {
+    let mut stream = whole(CUT_SCRIPT, b"ok\ncount 10\nok\nok\n");
+    stream.image = Some(CUT_IMAGE);
+    if !ends_so(alloc, volume, &stream) {
+        return 0;
+    }
+    match freeze(volume) {
+        Ok(frozen) => prints_beginnings(alloc, &frozen),
+        Err(_) => 0,
+    }
+}
+
+/// The same on a new volume.
+fn new_print_beginnings(alloc: Global) -> usize {
+    match new_volume(alloc, SMALL) {
+        Ok(mut volume) => prints_beginnings_in(alloc, &mut volume),
+        Err(_) => 0,
+    }
+}
+
+#[test]
+fn prints_a_beginning_of_the_image_wherever_the_writer_fails(rt: HostRuntime) {
+    assert_eq!(rt; new_print_beginnings(rt.alloc()), CUT_IMAGE.len());
+}
