@@ -1,5 +1,5 @@
-//! Flushers that make turns, without a pause, until they are told to stop.
-use engine::{Between, Flusher, Naming, TurnReply};
+//! Flushers that make turns until they are told to stop.
+use engine::{Flusher, Naming};
 use std::alloc::Global;
 use std::sync::Wait;
 use std::sync::atomic::{AtomicBool, AtomicU64, Ordering};
@@ -12,8 +12,6 @@ pub struct Watch {
     pub stop: AtomicBool,
     /// How many turns they made.
     pub turns: AtomicU64,
-    /// How many of them were steps.
-    pub steps: AtomicU64,
 }
 
 impl Watch {
@@ -22,18 +20,12 @@ impl Watch {
         Watch {
             stop: AtomicBool::new(false),
             turns: AtomicU64::new(0),
-            steps: AtomicU64::new(0),
         }
     }
 }
 
-/// Nothing between two turns.
-#[derive(Drop)]
-struct Nothing;
-
-impl Between for Nothing {
-    fn between(&mut self) {}
-}
+/// After how many turns a flusher looks whether it has to stop.
+const TURNS: u32 = 64;
 
 /// Starts a flusher in a thread of its own, if there is one.
 pub fn start<'s, E, J: Naming + Send + Sync + 's, H: Wait + Sync>(
@@ -52,15 +44,7 @@ fn flush<J: Naming, H: Wait>(rt: &H, alloc: Global, mut flusher: Flusher<J>, wat
         if watch.stop.load(Ordering::Relaxed) {
             return;
         }
-        turn(rt, alloc, &mut flusher, watch);
-    }
-}
-
-/// One turn.
-fn turn<J: Naming, H: Wait>(rt: &H, alloc: Global, flusher: &mut Flusher<J>, watch: &Watch) {
-    let reply = flusher.turn(rt, alloc, &mut Nothing);
-    watch.turns.fetch_add(1, Ordering::Relaxed);
-    if matches!(reply, TurnReply::Stepped(_)) {
-        watch.steps.fetch_add(1, Ordering::Relaxed);
+        flusher.run_flusher(rt, alloc, TURNS);
+        watch.turns.fetch_add(u64::from(TURNS), Ordering::Relaxed);
     }
 }

@@ -23,7 +23,7 @@ const SHAPE: Shape = Shape {
     leaf: 256,
 };
 
-/// Nanoseconds of all calls of a kind, and how many turns and steps flushers made meanwhile.
+/// Nanoseconds of all calls of a kind, and how many turns flushers made meanwhile.
 #[derive(Clone, Copy)]
 pub struct Figures {
     /// Of all creates.
@@ -34,19 +34,16 @@ pub struct Figures {
     pub stat: u64,
     /// How many turns were made.
     pub turns: u64,
-    /// How many of them were steps.
-    pub steps: u64,
 }
 
 impl Figures {
-    /// The lesser times of both, and the greater numbers of turns and of steps.
+    /// The lesser times of both, and the greater number of turns.
     pub fn least(self, other: Figures) -> Figures {
         Figures {
             create: self.create.min(other.create),
             write: self.write.min(other.write),
             stat: self.stat.min(other.stat),
             turns: self.turns.max(other.turns),
-            steps: self.steps.max(other.steps),
         }
     }
 }
@@ -91,7 +88,6 @@ fn time_all<S: Store + Send, R: Threads + Wait + Clock + Sync>(
         write: time(rt, alloc, stores, files, Kind::Write)?,
         stat: time(rt, alloc, stores, files, Kind::Stat)?,
         turns: 0,
-        steps: 0,
     })
 }
 
@@ -155,7 +151,6 @@ fn beside<J: Naming + Send + Sync, R: Threads + Wait + Clock + Sync>(
     })?;
     Some(Figures {
         turns: watch.turns.load(Ordering::Relaxed),
-        steps: watch.steps.load(Ordering::Relaxed),
         ..figures
     })
 }

@@ -94,9 +94,9 @@ fn show_figures(rt: &impl Print, figures: Figures) -> anyhow::Result<()> {
         .checked_div(FILES)
         .unwrap_or(0));
     let rate = (3 * FILES * 1_000_000).checked_div(all).unwrap_or(0);
-    let (turns, steps) = (figures.turns, figures.steps);
+    let turns = figures.turns;
     println!(rt;
-        "create {create} ns, write {write} ns, stat {stat} ns; {rate} thousand calls a second; {turns} turns, {steps} steps"
+        "create {create} ns, write {write} ns, stat {stat} ns; {rate} thousand calls a second; {turns} turns"
     )?;
     Ok(())
 }
