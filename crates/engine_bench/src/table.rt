@@ -63,10 +63,15 @@ fn figures_of<R: Threads + Wait + Clock + Sync>(
 }
 
 /// The least figures of all runs.
-fn least_of<R: Threads + Wait + Clock + Sync>(rt: &R, alloc: Global, row: Row) -> Option<Figures> {
-    let mut least = figures_of(rt, alloc, row, FILES)?;
+fn least_of<R: Threads + Wait + Clock + Sync>(
+    rt: &R,
+    alloc: Global,
+    row: Row,
+    files: u64,
+) -> Option<Figures> {
+    let mut least = figures_of(rt, alloc, row, files)?;
     for _ in 1..RUNS {
-        least = least.least(figures_of(rt, alloc, row, FILES)?);
+        least = least.least(figures_of(rt, alloc, row, files)?);
     }
     Some(least)
 }
@@ -85,15 +90,18 @@ fn show_name(rt: &impl Print, row: Row) -> anyhow::Result<()> {
 }
 
 /// Prints the figures of a row.
-fn show_figures(rt: &impl Print, figures: Figures) -> anyhow::Result<()> {
+fn show_figures(rt: &impl Print, figures: Figures, files: u64) -> anyhow::Result<()> {
     let all = figures
         .create
         .saturating_add(figures.write)
         .saturating_add(figures.stat);
     let [create, write, stat] = [figures.create, figures.write, figures.stat].map(|time| time
-        .checked_div(FILES)
+        .checked_div(files)
         .unwrap_or(0));
-    let rate = (3 * FILES * 1_000_000).checked_div(all).unwrap_or(0);
+    let rate = files
+        .saturating_mul(3_000_000)
+        .checked_div(all)
+        .unwrap_or(0);
     let turns = figures.turns;
     println!(rt;
         "create {create} ns, write {write} ns, stat {stat} ns; {rate} thousand calls a second; {turns} turns"
@@ -102,10 +110,10 @@ fn show_figures(rt: &impl Print, figures: Figures) -> anyhow::Result<()> {
 }
 
 /// Prints a row.
-fn show(rt: &impl Print, row: Row, figures: Option<Figures>) -> anyhow::Result<()> {
+fn show(rt: &impl Print, row: Row, figures: Option<Figures>, files: u64) -> anyhow::Result<()> {
     show_name(rt, row)?;
     match figures {
-        Some(figures) => show_figures(rt, figures),
+        Some(figures) => show_figures(rt, figures, files),
         None => {
             println!(rt; "not all calls were answered as they have to be")?;
             Ok(())
@@ -119,7 +127,20 @@ pub fn measure<R: Threads + Wait + Clock + Print + Sync>(
     alloc: Global,
 ) -> anyhow::Result<()> {
     for row in ROWS {
-        show(rt, *row, least_of(rt, alloc, *row))?;
+        show(rt, *row, least_of(rt, alloc, *row, FILES), FILES)?;
+    }
+    Ok(())
+}
+
+/// Prints the row of one client beside one flusher for twice and four times as many files.
+pub fn measure_growth<R: Threads + Wait + Clock + Print + Sync>(
+    rt: &R,
+    alloc: Global,
+) -> anyhow::Result<()> {
+    let row = Row::Engine(1, 1);
+    for files in [FILES / 2, FILES, 2 * FILES] {
+        print!(rt; "{files} files, ")?;
+        show(rt, row, least_of(rt, alloc, row, files), files)?;
     }
     Ok(())
 }
@@ -130,7 +151,7 @@ pub fn show_once<R: Threads + Wait + Clock + Print + Sync>(
     alloc: Global,
     row: Row,
 ) -> anyhow::Result<()> {
-    show(rt, row, figures_of(rt, alloc, row, FILES))
+    show(rt, row, figures_of(rt, alloc, row, FILES), FILES)
 }
 
 /// A little of the work.
