@@ -3,8 +3,8 @@
 ghost use Rattle.std.specs.Prelude.{◌≡◌, codes, false, true, IfOk, IfErr, option_map};
 ghost use Rattle.std.specs.Int.{IsInRange};
 ghost use Rattle.clap.specs.Walk.{texts};
-ghost use Rattle.clap.specs.Words.{FailsBy, app_of, fault_of, found_of, kind_of, new_app, rows_of, rule_of, takes};
-ghost use Rattle.shell.specs.CommandLine.{IsParseOf, betr, betr_of_numbers, is_on, number, option_rule, rows, switch_rule, text, text_rule};
+ghost use Rattle.clap.specs.Words.{FailsBy, app_of, fault_of, found_of, kind_of, new_app, rows_of, rule_of, takes, with_rule};
+ghost use Rattle.shell.specs.CommandLine.{IsParseOf, betr, betr_of_numbers, betr_of_work, is_on, number, option_rule, rows, switch_rule, text, text_rule};
 
 use crate::help::{ABOUT, SCRIPTS};
 use clap::builder::ValueParser;
@@ -70,33 +70,65 @@ fn parsed<'a>(alloc: Global, words: &'a [&'a str]) -> Result<ArgMatches<'a>, Err
     command(alloc)?.try_get_matches_from(words)
 }
 
-/// The options and the argument that are known.
+/// The options and the argument that are known. Each is built only once the one before is added: what waits to be added would
+/// have to be let go at each way out.
 fn command<'a>(alloc: Global) -> Result<Command<'a>, AllocError>
     ensures { IfOk result (λ c. app_of c ≡ betr) }
 {
-    let command = with_numbers(alloc)?;
+    let command = with_shape(alloc)?;
     let load = text_option(
         alloc,
         "load",
         "FILE",
         "Start with the tree whose image the file holds, as --image prints it",
     );
-    let command = command.arg(load)?;
+    let command = with_arg(command, load)?;
     let image = switch(
         alloc,
         "image",
         "Print the whole tree as text after the replies",
     );
-    let command = command.arg(image)?;
+    let command = with_arg(command, image)?;
     let script = Arg::new(alloc, "SCRIPT").help("File with the script [default: standard input]");
-    let command = command.arg(script)?;
+    let command = with_arg(command, script)?;
     Ok(command)
 }
 
-/// The program with the options that are numbers. Each is built only once the one before is added: what waits to be added would
-/// have to be let go at each way out.
-fn with_numbers<'a>(alloc: Global) -> Result<Command<'a>, AllocError>
+/// The program with all options that are numbers.
+fn with_shape<'a>(alloc: Global) -> Result<Command<'a>, AllocError>
     ensures { IfOk result (λ c. app_of c ≡ betr_of_numbers) }
+{
+    let command = with_work(alloc)?;
+    let fanout = option(
+        alloc,
+        "fanout",
+        "F",
+        value_parser!(u16).range(4..=64),
+        "Slots of an inner node, 4 to 64 [default: 16]",
+    );
+    let command = with_arg(command, fanout)?;
+    let pending = option(
+        alloc,
+        "pending",
+        "P",
+        value_parser!(u16).range(4..=1024),
+        "Pending pieces of a node, 4 to 1024 and at least F [default: 256]",
+    );
+    let command = with_arg(command, pending)?;
+    let leaf = option(
+        alloc,
+        "leaf",
+        "E",
+        value_parser!(u16).range(4..=1024),
+        "Entries of a leaf, 4 to 1024 [default: 256]",
+    );
+    let command = with_arg(command, leaf)?;
+    Ok(command)
+}
+
+/// The program with the options of what is done beside the lines.
+fn with_work<'a>(alloc: Global) -> Result<Command<'a>, AllocError>
+    ensures { IfOk result (λ c. app_of c ≡ betr_of_work) }
 {
     let flushers = option(
         alloc,
@@ -105,7 +137,7 @@ fn with_numbers<'a>(alloc: Global) -> Result<Command<'a>, AllocError>
         value_parser!(u8).range(0..=8),
         "Flushers in threads of their own, 0 to 8 [default: 0]",
     );
-    let command = program(alloc).arg(flushers)?;
+    let command = with_arg(program(alloc), flushers)?;
     let steps = option(
         alloc,
         "steps",
@@ -113,32 +145,16 @@ fn with_numbers<'a>(alloc: Global) -> Result<Command<'a>, AllocError>
         value_parser!(u16).range(0..=1000),
         "Steps of tidying after each line, 0 to 1000 [default: 0]",
     );
-    let command = command.arg(steps)?;
-    let fanout = option(
-        alloc,
-        "fanout",
-        "F",
-        value_parser!(u16).range(4..=64),
-        "Slots of an inner node, 4 to 64 [default: 16]",
-    );
-    let command = command.arg(fanout)?;
-    let pending = option(
-        alloc,
-        "pending",
-        "P",
-        value_parser!(u16).range(4..=1024),
-        "Pending pieces of a node, 4 to 1024 and at least F [default: 256]",
-    );
-    let command = command.arg(pending)?;
-    let leaf = option(
-        alloc,
-        "leaf",
-        "E",
-        value_parser!(u16).range(4..=1024),
-        "Entries of a leaf, 4 to 1024 [default: 256]",
-    );
-    let command = command.arg(leaf)?;
+    let command = with_arg(command, steps)?;
     Ok(command)
+}
+
+/// A command with one more option or argument.
+fn with_arg<'a>(command: Command<'a>, arg: Arg<'a>) -> Result<Command<'a>, AllocError>
+    requires { arg.global ≡ false }
+    ensures { IfOk result (λ c. app_of c ≡ with_rule (app_of command.entry) (rule_of arg.entry)) }
+{
+    command.arg(arg)
 }
 
 /// The program by its name, with its help around the options.

@@ -1,22 +1,24 @@
 //! Prints the image of a tree that stands still: one line for each entry in key order, and for a file one for each block
 //! that holds a byte other than zero.
-ghost use Rattle.std.specs.Prelude.{◌≡◌, ◌≢◌, ◌<◌, ◌≤◌, ◌^◌, ◌++◌, ◌∷◌, ◌+◌, ◌/◌, [], ℕ, List, Some, codes, decimal, flat_map, length, take, OnOk, OnErr};
+ghost use Rattle.std.specs.Prelude.{◌≡◌, ◌≢◌, ◌<◌, ◌≤◌, ◌^◌, ◌++◌, ◌∷◌, ◌+◌, ◌/◌, [], ℕ, List, Some, None, IfOk, IfSome, codes, decimal, flat_map, length, take, OnOk, OnErr};
 ghost use Rattle.std.specs.Io.KnownBytes.{Appends};
 ghost use Rattle.block_index.specs.Means.{blocks};
 ghost use Rattle.call_compiler.specs.Compiled.{MeanTree};
-ghost use Rattle.pathkey.specs.Keys.{block_key, enc};
+ghost use Rattle.meta_index.specs.Means.{metadata};
+ghost use Rattle.pathkey.specs.Keys.{block_key, enc, next_key};
 ghost use Rattle.reference.specs.Image.{block_line, block_lines, image, path_text, percent, trimmed};
-ghost use Rattle.reference.specs.Indexes.{BlocksMean, meta_of};
+ghost use Rattle.reference.specs.Indexes.{BlocksMean, meta_of, most_blocks};
 ghost use Rattle.reference.specs.Looks.{seen};
 ghost use Rattle.reference.specs.Shape.{IsTree};
 ghost use Rattle.reference.specs.Tree.{File, Found, Tree, entry_at};
-ghost use Rattle.shell.specs.Image.{entry_lines};
+ghost use Rattle.scan.specs.Pairs.{IsFirst};
+ghost use Rattle.shell.specs.Image.{IsNextBlock, entry_lines};
 ghost use Rattle.shell.specs.Parts.{AppendsPart};
 ghost use Rattle.shell.specs.Replies.{number_line};
 
 use crate::output::{WriteFailed, put};
 use crate::reply::{put_hex, put_number_line, put_percent};
-use block_index::BlockIndex;
+use block_index::{Block, BlockIndex};
 use call_compiler::Indexes;
 use itoa::Buffer;
 use pathkey::{Key, KeyRange, NoMemory, Path, blocks_from, dec};
@@ -62,19 +64,43 @@ pub fn print_image<W: Write>(
     ensures err { (t : Tree) → MeanTree frozen.now t → OnErr result (AppendsPart (W.contents writer.old) (W.contents writer.new) (image t)) }
 {
     let indexes = frozen.indexes();
-    let lo = Key::new(alloc).next(alloc)?;
-    let mut rest = KeyRange { lo, hi: None };
+    let mut rest = below_root(alloc)?;
     put(writer, b"d /\n")?;
     // No tree has more entries.
     for _ in 0..u64::MAX {
-        let Some((key, meta)) = first_in(alloc, &indexes.meta.tree, &rest)? else {
+        let Some((key, meta)) = next_entry(alloc, indexes, &mut rest)? else {
             return Ok(());
         };
-        let behind = key.next(alloc)?;
         print_entry(alloc, indexes, &key, meta, writer)?;
-        rest.lo = behind;
     }
     Err(ImageFault::Memory)
+}
+
+/// The keys behind the root's.
+fn below_root(alloc: Global) -> Result<KeyRange, NoMemory>
+    ensures { IfOk result (λ r. (r.lo ≡ next_key []) × (r.hi ≡ None)) }
+{
+    let lo = Key::new(alloc).next(alloc)?;
+    Ok(KeyRange { lo, hi: None })
+}
+
+/// The first entry of a range, which then begins behind it; none where none is left.
+fn next_entry(
+    alloc: Global,
+    indexes: &Indexes,
+    rest: &mut KeyRange,
+) -> Result<Option<(Key, Meta)>, NoMemory>
+    ensures first { IfOk result (IsFirst (metadata indexes.now.meta) rest.old.lo rest.old.hi) }
+    ensures behind { IfOk result (λ first. IfSome first (λ e. rest.new.lo ≡ next_key e.0)) }
+    ensures end { rest.new.hi ≡ rest.old.hi }
+{
+    match first_in(alloc, &indexes.meta.tree, rest)? {
+        Some((key, meta)) => {
+            rest.lo = key.next(alloc)?;
+            Ok(Some((key, meta)))
+        }
+        None => Ok(None),
+    }
 }
 
 /// Writes the lines of the entry whose path has the key, or a beginning of them.
@@ -115,15 +141,30 @@ fn print_blocks<W: Write>(
     let mut next = 0u32;
     // No file has more blocks.
     for _ in 0..u64::MAX {
-        let rest = blocks_from(alloc, path, next)?;
-        let Some((key, block)) = first_in(alloc, &index.tree, &rest)? else {
+        let Some((number, block)) = first_block(alloc, index, path, next)? else {
             return Ok(());
         };
-        let number = number_of(&key);
         put_block(writer, number, block.as_slice())?;
         next = number.saturating_add(1);
     }
     Err(ImageFault::Memory)
+}
+
+/// The first block of a file from a number on, with its number; none where none is left.
+fn first_block(
+    alloc: Global,
+    index: &BlockIndex,
+    path: &Path,
+    from: u32,
+) -> Result<Option<(u32, Block)>, NoMemory>
+    requires { path.now ≢ [] }
+    ensures { (t : Tree) (b : List ℕ) → IsTree t → BlocksMean t (blocks index.now) → entry_at t path.now ≡ Found (File b) → from ≤ most_blocks → IfOk result (IsNextBlock b from) }
+{
+    let rest = blocks_from(alloc, path, from)?;
+    match first_in(alloc, &index.tree, &rest)? {
+        Some((key, block)) => Ok(Some((number_of(&key), block))),
+        None => Ok(None),
+    }
 }
 
 /// The number of the block that has the key.

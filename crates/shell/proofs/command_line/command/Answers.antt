@@ -9,8 +9,8 @@ pub returns : goal.returns
 returns c =
     let script_is : rule_of c.help-script.result ≡ new_rule (codes "SCRIPT") = search std_rules in
     let shape : app_of c.in_ok-command-4.command ≡ on_top (λ s. record s { rules = rules }) (new_app (codes "betr")) =
-    c.in_ok-command-4.ensures.shape (search std_rules) ∙ ap₂ with_rule
-    (c.in_ok-command-3.ensures.shape c.switch-image.ensures.local ∙ ap₂ with_rule
-    (c.in_ok-command-2.ensures.shape c.text_option-load.ensures.local ∙ ap₂ with_rule
+    c.in_ok-command-4.ensures ∙ ap₂ with_rule
+    (c.in_ok-command-3.ensures ∙ ap₂ with_rule
+    (c.in_ok-command-2.ensures ∙ ap₂ with_rule
     c.in_ok-command.ensures c.text_option-load.ensures.rule) c.switch-image.ensures.rule) script_is in
     shape ∙ betr_is

@@ -1,0 +1,18 @@
+use Rattle.std.proofs.Common.{ap, ap₂, ◌≡◌, ◌∙◌, codes}
+use Rattle.std.specs.Prelude.{pos}
+use Rattle.clap.specs.Words.{with_rule}
+use Rattle.clap.specs.declared.builder.value_parser.ValueParser.TheVariants.{Signed}
+use Rattle.shell.specs.CommandLine.{option_rule}
+use Rattle.shell.proofs.command_line.with_shape.Goals as goal
+
+pub returns : goal.returns
+returns c =
+    let fanout_in : c.range.result ≡ Signed (pos 4) (pos 64) = rw (c.value_parser.ensures, c.new.ensures.start, c.new.ensures.end) at c.range.ensures in
+    let pending_in : c.range-2.result ≡ Signed (pos 4) (pos 1024) = rw (c.value_parser-2.ensures, c.new-2.ensures.start, c.new-2.ensures.end) at c.range-2.ensures in
+    let leaf_in : c.range-3.result ≡ Signed (pos 4) (pos 1024) = rw (c.value_parser-3.ensures, c.new-3.ensures.start, c.new-3.ensures.end) at c.range-3.ensures in
+    c.in_ok-command-4.ensures ∙ ap₂ with_rule
+    (c.in_ok-command-3.ensures ∙ ap₂ with_rule
+    (c.in_ok-command-2.ensures ∙ ap₂ with_rule c.in_ok-command.ensures
+    (c.option-fanout.ensures.rule ∙ ap (option_rule (codes "fanout")) fanout_in))
+    (c.option-pending.ensures.rule ∙ ap (option_rule (codes "pending")) pending_in))
+    (c.option-leaf.ensures.rule ∙ ap (option_rule (codes "leaf")) leaf_in)
