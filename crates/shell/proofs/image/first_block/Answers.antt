@@ -13,3 +13,7 @@ returns-in-Some c = λ t b is means there few.
     let low : next.number < most_blocks = next.few in
     let number : c.number_of.result ≡ next.number = c.number_of.ensures c.args.path.now next.number (omega arith) next.key in
     subst (λ (n : ℕ). (n < most_blocks) × (block_lines b (n + 1) ≡ block_lines b c.args.from ++ block_line n (trimmed c.in-Some.block))) (sym number) (low, next.lines)
+
+pub returns : goal.returns
+returns c = λ t b is means there few.
+    blocks_end t (blocks c.args.index.now) c.args.path.now b is means there c.args.from few c.in_ok-rest.rest c.in_ok-rest.ensures c.in_ok-first_in.field-0 c.in_ok-first_in.ensures c.in-None.is
