@@ -30,13 +30,13 @@ impl<'a, R: Wait> Between for Rests<'a, R> {
     }
 }
 
-/// How many turns are made between two looks at the clients, where they are not counted.
+/// How many turns are made between two looks at the clients where there are no restores.
 const TURNS: u32 = 64;
 
-/// Turns: one that is counted, or many with the flusher's own rests between them where there are no restores.
+/// Turns: one with a rest in it, or many with the flusher's own rests between them where there are no restores.
 fn turn<J: Naming, R: Wait>(rt: &R, alloc: Global, flusher: &mut Flusher<J>, tally: &Tally) {
     if tally.has_restores {
-        tally.count(flusher.turn(rt, alloc, &mut Rests { rt }));
+        flusher.turn(rt, alloc, &mut Rests { rt });
     } else {
         flusher.run_flusher(rt, alloc, TURNS);
     }
@@ -82,7 +82,7 @@ fn work_all<J: Naming + Send + Sync, R: Threads + Wait + Sync>(
 }
 
 /// The clients work while flushers make turns. Whether each client was answered as it may be, and each of its calls was recorded
-/// once, beside enough jobs that were installed or stale.
+/// once.
 fn beside<J: Naming + Send + Sync, R: Threads + Wait + Sync>(
     rt: &R,
     alloc: Global,
