@@ -23,7 +23,7 @@ use Rattle.node.specs.Steps.{UnlessDid}
 use Rattle.node.specs.declared.place.TreeStep.{TreeStep}
 use Rattle.node.specs.declared.step.StepReply.TheVariants.{Did, NotThere as StepNotThere, NoRoom as StepNoRoom, NoMemory as StepNoMemory}
 use Rattle.volume.specs.Jobs.{AnswersTaking, SameValues, Takes}
-use Rattle.volume.specs.Marked.{PLive, Keeps, KeepsMarks, meta_marked, block_marked, marks_left, no_marks}
+use Rattle.volume.specs.Marked.{PLive, Stands, Keeps, KeepsMarks, meta_marked, block_marked, marks_left, no_marks}
 use Rattle.volume.specs.declared.job.Job.{Job}
 use Rattle.volume.specs.declared.job.Job.TheVariants.{Meta as MetaJob, Block as BlockJob}
 use Rattle.volume.specs.declared.job.TakeReply.{TakeReply}
@@ -59,8 +59,8 @@ pub kept_same : (l m : PLive) → m ≡ l → KeepsMarks l m
 kept_same l m e = subst (λ (x : PLive). KeepsMarks l x) (sym e) (kept_all l)
 
 -- the type of volumes keeps what it keeps
-pub lasts : (old new : PVolume) (e : Event) (a : Answer) → IsVolume old → Leads e a old new → finite.len new.snapshots ≤ 64 → IsVolume new
-lasts old new e a is leads few = record { world = next is.world e a; means = (leads is.world is.means).1; few = few }
+pub lasts : (old new : PVolume) (e : Event) (a : Answer) → IsVolume old → Leads e a old new → finite.len new.snapshots ≤ 64 → Stands (live_of new) → IsVolume new
+lasts old new e a is leads few stands = record { world = next is.world e a; means = (leads is.world is.means).1; few = few; stands = stands }
 
 -- ---- file calls
 
@@ -132,7 +132,7 @@ one_more m s i new few =
 pub snapshot_lasts : (v : PVolume) (s : List ℕ) (kept : Kept) → IsVolume v → finite.contains_key v.snapshots s ≡ false → finite.len v.snapshots < 64 → kept ≡ finite.insert v.snapshots s v.live → IsVolume (volume (live_of v) kept)
 snapshot_lasts v s kept is new few e =
     lasts v (volume (live_of v) kept) (TakeSnapshot s) (Settled (Ok tt)) is (taken v s kept (record { new = new; few = few }) e)
-    (subst (λ (k : Kept). finite.len k ≤ 64) (sym e) (one_more v.snapshots s v.live new few))
+    (subst (λ (k : Kept). finite.len k ≤ 64) (sym e) (one_more v.snapshots s v.live new few)) is.stands
 
 pub snapshot_full : (v : PVolume) (s : List ℕ) → finite.contains_key v.snapshots s ≡ false → 64 ≤ finite.len v.snapshots → Settles (TakeSnapshot s) (KeptAs s) (Err ENOSPC) v v
 snapshot_full v s new many = record {
@@ -170,7 +170,7 @@ one_less m s old few =
 pub drop_lasts : (v : PVolume) (s : List ℕ) (kept : Kept) → IsVolume v → finite.contains_key v.snapshots s ≡ true → kept ≡ finite.remove v.snapshots s → IsVolume (volume (live_of v) kept)
 drop_lasts v s kept is old e =
     lasts v (volume (live_of v) kept) (DropSnapshot s) (Settled (Ok tt)) is (dropped v s kept old e)
-    (subst (λ (k : Kept). finite.len k ≤ 64) (sym e) (one_less v.snapshots s old is.few))
+    (subst (λ (k : Kept). finite.len k ≤ 64) (sym e) (one_less v.snapshots s old is.few)) is.stands
 
 pub put_back : (v : PVolume) (s : List ℕ) (l : PLive) → finite.get v.snapshots s ≡ Some l.indexes → Leads (RestoreSnapshot s) (Settled (Ok tt)) v (volume l v.snapshots)
 put_back v s l e w m =

@@ -17,7 +17,7 @@ use Rattle.reference.specs.Worlds.{Snapped}
 use Rattle.reference.specs.declared.reply.Meta.{Meta}
 use Rattle.reference.proofs.Planting.{plant_law}
 use Rattle.volume.specs.Plants.{PlantsIn, Plants}
-use Rattle.volume.specs.Marked.{PLive, KeepsMarks}
+use Rattle.volume.specs.Marked.{PLive, Stands, KeepsMarks}
 use Rattle.volume.specs.Volumes.{PVolume, IsVolume, live_of}
 use Rattle.volume.proofs.Leading.{volume, same_live}
 use Rattle.volume.proofs.Trees.{Appends}
@@ -71,10 +71,11 @@ planted_volume v l p m (Err e) h = record {
 }
 
 -- it is a volume still
-pub lasts_planted : (v : PVolume) (l : PLive) (p : Path) (m : Meta) (r : Snapped) → IsVolume v → PlantsLive p m r (live_of v) l → IsVolume (volume l v.snapshots)
-lasts_planted v l p m (Ok x) is h = record {
+pub lasts_planted : (v : PVolume) (l : PLive) (p : Path) (m : Meta) (r : Snapped) → IsVolume v → PlantsLive p m r (live_of v) l → Stands l → IsVolume (volume l v.snapshots)
+lasts_planted v l p m (Ok x) is h stands = record {
   world = record is.world { live = (planted is.world.live p m).0 };
   means = record { live = h.entry.means is.world.live is.means.live; snapshots = is.means.snapshots };
   few = is.few;
+  stands = stands;
 }
-lasts_planted v l p m (Err e) is h = subst (λ (k : PLive). IsVolume (volume k v.snapshots)) (sym (same_live (live_of v) l h.entry.refused h.marks)) is
+lasts_planted v l p m (Err e) is h stands = subst (λ (k : PLive). IsVolume (volume k v.snapshots)) (sym (same_live (live_of v) l h.entry.refused h.marks)) is

@@ -101,11 +101,11 @@ link_cases P a b f (Finish t) (FinishAnswered r) link = f.finish t r link
 
 -- ---- a link more
 
-pub chain_more : (es : List Event) (rs : List Answer) (e : Event) (r : Answer) (a b c : PRun) → Chain a es rs b → Link e r b c → Chain a (es ++ e ∷ []) (rs ++ r ∷ []) c
-chain_more [] [] e r a b c chain link = (c, subst (λ (x : PRun). Link e r x c) chain link, refl)
-chain_more [] (s ∷ rs) e r a b c chain link = absurd chain
-chain_more (d ∷ es) [] e r a b c chain link = absurd chain
-chain_more (d ∷ es) (s ∷ rs) e r a b c chain link = (chain.0, chain.1, chain_more es rs e r chain.0 b c chain.2 link)
+pub chain_more : (es : List Event) (rs : List Answer) (e : Event) (r : Answer) (a b c : PRun) → Chain a es rs b → Link e r b c → IsVolume c.volume → Chain a (es ++ e ∷ []) (rs ++ r ∷ []) c
+chain_more [] [] e r a b c chain link is = (c, subst (λ (x : PRun). Link e r x c) chain link, is, refl)
+chain_more [] (s ∷ rs) e r a b c chain link is = absurd chain
+chain_more (d ∷ es) [] e r a b c chain link is = absurd chain
+chain_more (d ∷ es) (s ∷ rs) e r a b c chain link is = (chain.0, chain.1, chain.2, chain_more es rs e r chain.0 b c chain.3 link is)
 
 -- ---- how many jobs are held
 
@@ -191,7 +191,7 @@ chain_leaves : (es : List Event) (rs : List Answer) (a c : PRun) → Chain a es 
 chain_leaves [] [] a c chain w m = record { legal = tt; means = subst (λ (x : PRun). Means x.volume w) (sym chain) m }
 chain_leaves [] (r ∷ rs) a c chain w m = absurd chain
 chain_leaves (e ∷ es) [] a c chain w m = absurd chain
-chain_leaves (e ∷ es) (r ∷ rs) a c chain w m = link_leaves e r a chain.0 c.volume (calls_alone es rs) chain.1 (chain_leaves es rs chain.0 c chain.2) w m
+chain_leaves (e ∷ es) (r ∷ rs) a c chain w m = link_leaves e r a chain.0 c.volume (calls_alone es rs) chain.1 (chain_leaves es rs chain.0 c chain.3) w m
 
 -- the run of a chain that begins at a volume, and after which the jobs that are left are cancelled
 pub chain_ran : (es : List Event) (rs : List Answer) (old new : PVolume) (last : PRun) → IsVolume old → Chain (begun old) es rs last → new ≡ ended last → Ran es rs old new

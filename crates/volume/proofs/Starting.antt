@@ -6,7 +6,7 @@ use Rattle.call_compiler.specs.declared.indexes.Indexes.{Indexes}
 use Rattle.pathkey.specs.Order.{by_bytes}
 use Rattle.reference.specs.Tree.{Tree, Dir, nothing}
 use Rattle.node.specs.declared.shape.Shape.{Shape}
-use Rattle.volume.specs.Marked.{PLive, no_marks}
+use Rattle.volume.specs.Marked.{PLive, Stands, no_marks}
 use Rattle.volume.specs.Volumes.{Kept, Alike, Means, IsVolume, IsNew, empty_world}
 use Rattle.volume.proofs.Leading.{volume}
 use Rattle.volume.proofs.Pairs.{alike_empty}
@@ -17,10 +17,10 @@ means_empty l m is e = record {
   snapshots = subst (λ (k : Kept). Alike MeanTree k (finite.empty {X = Tree})) (sym e) (alike_empty MeanTree);
 }
 
-pub volume_empty : (l : PLive) (m : Kept) → MeanTree l.indexes (Dir nothing) → m ≡ finite.empty → IsVolume (volume l m)
-volume_empty l m is e =
+pub volume_empty : (l : PLive) (m : Kept) → MeanTree l.indexes (Dir nothing) → m ≡ finite.empty → Stands l → IsVolume (volume l m)
+volume_empty l m is e stands =
     let few : finite.len m ≡ 0 = ap (λ (k : Kept). finite.len k) e ∙ finite.len-empty by_bytes Indexes in
-    record { world = empty_world; means = means_empty l m is e; few = omega (arith, few) }
+    record { world = empty_world; means = means_empty l m is e; few = omega (arith, few); stands = stands }
 
 -- a volume of new indexes
 pub is_new : (shape : Shape) (i : Indexes) (l : PLive) (m : Kept) → i.meta.tree.shape ≡ shape → i.block.tree.shape ≡ shape → MeanTree i (Dir nothing) → l.indexes ≡ i → l.marks ≡ no_marks 0 → m ≡ finite.empty → IsNew shape (volume l m)

@@ -16,6 +16,11 @@ abbrev pub MayInstall : Held → Done → Type 0
 MayInstall (Taken job) d = Builds job d
 MayInstall (Built done) d = d ≡ done
 
+-- it is as it was taken
+abbrev pub IsUnbuilt : Held → Type 0
+IsUnbuilt (Taken job) = ⊤
+IsUnbuilt (Built done) = ⊥
+
 -- the number of the first with the ticket
 abbrev pub place_of : ℕ → List Held → Option ℕ
 place_of t [] = None

@@ -9,6 +9,7 @@ use Rattle.jobs.specs.Survive.{survives, left_by}
 use Rattle.jobs.specs.declared.mark.Mark.{Mark}
 use Rattle.meta_index.specs.Updates.{means as meta_means}
 use Rattle.meta_index.specs.declared.update.MetaUpdate.{MetaUpdate}
+use Rattle.node.specs.Lawful.{IsLawful}
 use Rattle.node.specs.Places.{way}
 use Rattle.node.specs.declared.place.TreeStep.{TreeStep}
 use Rattle.node.specs.declared.step.StepReply.{StepReply}
@@ -48,6 +49,12 @@ pub record AreMarked (l : PLive) : Type 0 where
   pub block : AreMarks l.indexes.block.tree.root 0 l.marks.block l.marks.given
   pub few : length l.marks.meta + length l.marks.block ≤ 64
   pub given : l.marks.given ≤ 2 ^ 64
+
+-- live indexes with their marks as they stand: both trees are lawful, and the marks are so
+pub record Stands (l : PLive) : Type 0 where
+  pub meta : IsLawful l.indexes.meta.tree
+  pub block : IsLawful l.indexes.block.tree
+  pub marks : AreMarked l
 
 -- what a call keeps of one index: each mark that stands after it has the content that it had, and so have the marks of each
 -- ticket that was given

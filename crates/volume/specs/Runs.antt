@@ -1,5 +1,5 @@
 -- What a list of events makes of a volume.
-use Rattle.std.specs.Prelude.{◌≡◌, ◌⊎◌, ◌+◌, ℕ, List, [], ◌∷◌, ◌++◌, Some, None, Result, Ok, Err}
+use Rattle.std.specs.Prelude.{◌≡◌, ◌⊎◌, ◌+◌, ℕ, List, [], ◌∷◌, ◌++◌, Some, None, Result, Ok, Err, ⊤}
 use Rattle.reference.specs.Worlds.{World, Ask, TakeSnapshot, DropSnapshot as DropNamed, RestoreSnapshot, Replied, Settled, History, IsLegal, after}
 use Rattle.volume.specs.declared.event.Event.{Event}
 use Rattle.volume.specs.declared.event.Event.TheVariants.{Call as CallEvent, Snapshot, DropSnapshot, Restore, Step as StepEvent, Take, Finish}
@@ -18,8 +18,9 @@ use Rattle.volume.specs.declared.job.InstallReply.TheVariants.{Installed, Stale}
 use Rattle.volume.specs.declared.held.Held.{Held}
 use Rattle.volume.specs.declared.held.Held.TheVariants.{Taken as HeldJob, Built as HeldDone}
 use Rattle.volume.specs.Held.{MayInstall, with_ticket, others, without_held}
-use Rattle.volume.specs.Jobs.{AnswersTaking, AnswersInstalling, ticket_of}
-use Rattle.volume.specs.Volumes.{PVolume, Means, live_of}
+use Rattle.volume.specs.Jobs.{AnswersTaking, AnswersInstalling, ticket_of, mark_for}
+use Rattle.volume.specs.Marked.{PMarks}
+use Rattle.volume.specs.Volumes.{PVolume, Means, IsVolume, live_of}
 use Rattle.volume.specs.Changes.{Called, Settles, KeptAs, Dropped, Restored, Stepped}
 
 -- what an event with its answer is in a history of calls: a step is not in it, nor a job
@@ -89,13 +90,19 @@ pub record InstalledAs (job : Held) (r : InstallReply) (old new : PVolume) : Typ
 abbrev pub IsAgain : Held → Held → Type 0
 IsAgain job again = (again ≡ job) ⊎ ((done : Done) × MayInstall job done × (again ≡ HeldDone done))
 
--- how the finishing of a job ends: where it was refused memory the job is kept, and nothing has changed
+-- the mark of a job that was built stands
+abbrev pub MarkStands : Held → PMarks → Type 0
+MarkStands (HeldJob job) m = ⊤
+MarkStands (HeldDone done) m = mark_for done m ≡ None → ⊥
+
+-- how the finishing of a job ends: where it was refused memory the job is kept, its mark stands if it was built, and nothing has
+-- changed
 abbrev pub Ends : Held → Result FinishAnswer Held → PVolume → PVolume → Type 0
 Ends job (Ok FinishInstalled) old new = InstalledAs job Installed old new
 Ends job (Ok FinishStale) old new = InstalledAs job Stale old new
 Ends job (Ok FinishNotThere) old new = ⊥
 Ends job (Ok FinishNoMemory) old new = ⊥
-Ends job (Err again) old new = IsAgain job again × (new ≡ old)
+Ends job (Err again) old new = IsAgain job again × MarkStands again old.marks × (new ≡ old)
 
 -- the held job with the ticket was installed with this reply, and is gone
 pub record Installing (t : ℕ) (r : InstallReply) (old new : PRun) : Type 0 where
@@ -104,12 +111,14 @@ pub record Installing (t : ℕ) (r : InstallReply) (old new : PRun) : Type 0 whe
   pub installed : InstalledAs job r old.volume new.volume
   pub held : new.held ≡ others t old.held
 
--- the held job with the ticket was refused memory: nothing has changed but that it is held last, as it was or built
+-- the held job with the ticket was refused memory: nothing has changed but that it is held last, as it was, or built and with its
+-- mark standing
 pub record Refused (t : ℕ) (old new : PRun) : Type 0 where
   pub job : Held
   pub has : with_ticket t old.held ≡ Some job
   pub again : Held
   pub same : IsAgain job again
+  pub stands : MarkStands again old.volume.marks
   pub volume : new.volume ≡ old.volume
   pub held : new.held ≡ others t old.held ++ again ∷ []
 
@@ -132,10 +141,10 @@ Link (Take index i) (TakeAnswered a) old new = Takes index i a old new
 Link (Finish t) (FinishAnswered a) old new = Finishes t.number a old new
 Link _ _ old new = ⊥
 
--- a volume with jobs for each event after the first, and each event leads with its answer to the next
+-- a volume with jobs after each event, as its type keeps it, to which the event leads with its answer from the one before
 abbrev pub Chain : PRun → List Event → List Answer → PRun → Type 0
 Chain first [] [] last = last ≡ first
-Chain first (e ∷ es) (a ∷ rs) last = (second : PRun) × Link e a first second × Chain second es rs last
+Chain first (e ∷ es) (a ∷ rs) last = (second : PRun) × Link e a first second × IsVolume second.volume × Chain second es rs last
 Chain first _ _ last = ⊥
 
 -- no job is held when a run begins

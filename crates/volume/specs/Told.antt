@@ -1,5 +1,5 @@
 -- What is told of a volume, and of a tree that stands still.
-use Rattle.std.specs.Prelude.{◌≡◌, ◌⊎◌, ◌↔◌, List, ℕ, Option, Some, None, Result, Err, [], true, MatchResult, IfSome}
+use Rattle.std.specs.Prelude.{◌≡◌, ◌⊎◌, ◌↔◌, List, ℕ, Option, Some, None, Result, Err, [], true, if◌then◌else◌, nat_le, MatchResult, IfSome}
 use Rattle.std.specs.FinMap as finite
 use Rattle.call_compiler.specs.Compiled.{MeanTree}
 use Rattle.call_compiler.specs.declared.indexes.Indexes.{Indexes}
@@ -51,3 +51,7 @@ report_in Block i = report_of i.block.tree
 abbrev pub pending_in : Index → Indexes → ℕ
 pending_in Meta i = total Pending i.meta.tree.root
 pending_in Block i = total Pending i.block.tree.root
+
+-- the index with more pending pieces, that of the metadata where both have as many
+abbrev pub busier : Indexes → Index
+busier i = if nat_le (pending_in Block i) (pending_in Meta i) then Meta else Block

@@ -8,7 +8,7 @@ use Rattle.node.specs.declared.shape.Shape.{Shape}
 use Rattle.pathkey.specs.Order.{by_bytes}
 use Rattle.reference.specs.Tree.{Tree, Dir, nothing}
 use Rattle.reference.specs.Worlds.{World}
-use Rattle.volume.specs.Marked.{PMarks, PLive, no_marks}
+use Rattle.volume.specs.Marked.{PMarks, PLive, Stands, no_marks}
 
 -- indexes under names
 abbrev pub Kept : Type 0
@@ -54,11 +54,13 @@ pub record Means (v : PVolume) (w : World) : Type 0 where
 abbrev pub most_snapshots : ℕ
 most_snapshots = 64
 
--- what the type of volumes keeps: a volume means a world, and has at most 64 snapshots
+-- what the type of volumes keeps: a volume means a world, has at most 64 snapshots, its live trees are lawful, and each of its
+-- marks, of which there are at most 64, has a slot of its own in a live root
 pub record IsVolume (v : PVolume) : Type 0 where
   pub world : World
   pub means : Means v world
   pub few : finite.len v.snapshots ≤ most_snapshots
+  pub stands : Stands (live_of v)
 
 -- the world of the empty root directory, without snapshots
 abbrev pub empty_world : World

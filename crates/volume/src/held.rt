@@ -1,6 +1,6 @@
 //! Jobs that a run of events holds.
 ghost use Rattle.std.specs.Prelude.{◌≡◌, ◌<◌, IfOk, IfErr, IfSome, length, vec_capacity};
-ghost use Rattle.volume.specs.Held.{MayInstall, held_ticket, others, place_of, with_ticket};
+ghost use Rattle.volume.specs.Held.{IsUnbuilt, MayInstall, held_ticket, others, place_of, with_ticket};
 
 use crate::job::{Done, Job};
 use jobs::Ticket;
@@ -30,6 +30,7 @@ impl Held {
     pub(crate) fn built(self, alloc: Global) -> Result<Done, Held>
         ensures ok { IfOk result (λ d. MayInstall self d) }
         ensures err { IfErr result (λ held. held ≡ self) }
+        ensures unbuilt { IfErr result IsUnbuilt }
     {
         match self {
             Held::Taken(job) => match job.build(alloc) {

@@ -5,7 +5,7 @@ ghost use Rattle.call_compiler.specs.Laws.{HaveTaken};
 ghost use Rattle.pathkey.specs.declared.errno.Errno.{Errno as Refusal};
 ghost use Rattle.volume.specs.Changes.{Does, Batched, StepsLive};
 ghost use Rattle.volume.specs.Jobs.{AnswersTaking, AnswersInstalling, DoneFits, mark_count};
-ghost use Rattle.volume.specs.Marked.{KeepsMarks, no_marks, without_mark};
+ghost use Rattle.volume.specs.Marked.{KeepsMarks, Stands, no_marks, without_mark};
 ghost use Rattle.volume.specs.Told.{HeaviestIn, pending_in};
 
 use crate::event::{Index, Relief, Step};
@@ -63,6 +63,15 @@ impl Live {
         ensures { result.now ≡ self.now.indexes }
     {
         &self.indexes
+    }
+
+    /// What its type keeps: both trees are lawful, each mark has a slot of its own, at most 64 stand, and no ticket was given
+    /// twice. It does nothing.
+    pub fn stands(&self)
+        ensures { Stands self.now }
+    {
+        let _ = self.indexes.meta.tree.root();
+        let _ = self.indexes.block.tree.root();
     }
 
     /// Other indexes in the place of these. All marks go; no ticket is given again.

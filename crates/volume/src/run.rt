@@ -142,6 +142,7 @@ impl Volume {
         let mut held = Vec::with_capacity(alloc, takings(events))?;
         for event in events {
             let answer = self.answer(alloc, &mut held, event);
+            self.means_a_world();
             answers.push_reserved(answer);
         }
         self.cancel_held(held.as_slice());

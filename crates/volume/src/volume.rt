@@ -9,7 +9,7 @@ ghost use Rattle.volume.specs.Plants.{Plants};
 ghost use Rattle.volume.specs.Jobs.{AnswersInstalling, AnswersTaking, DoneFits};
 ghost use Rattle.volume.specs.Marked.{KeepsMarks, no_marks, without_mark};
 ghost use Rattle.volume.specs.Volumes.{IsNew, IsVolume, Means, live_of};
-ghost use Rattle.volume.specs.Told.{Finds, HeaviestIn, pending_in, report_in};
+ghost use Rattle.volume.specs.Told.{Finds, HeaviestIn, busier, pending_in, report_in};
 
 use crate::event::{Index, Relief, Step};
 use crate::frozen::Frozen;
@@ -56,8 +56,10 @@ impl Volume {
             return Err(Errno::EINVAL);
         }
         let indexes = Indexes::new(alloc, shape)?;
+        let live = Live::new(alloc, indexes);
+        live.stands();
         Ok(Volume {
-            live: Live::new(alloc, indexes),
+            live,
             snapshots: Snapshots::new(alloc),
         })
     }
@@ -69,7 +71,9 @@ impl Volume {
     pub fn call(&mut self, alloc: Global, call: &Call) -> Reply
         ensures { Called call.now result self.old self.new }
     {
-        match self.live.call(alloc, call) {
+        let answer = self.live.call(alloc, call);
+        self.live.stands();
+        match answer {
             Ok(reply) => reply,
             Err(NoMemory) => Reply::Fault(Errno::ENOMEM),
         }
@@ -81,7 +85,9 @@ impl Volume {
     pub fn plant_entry(&mut self, alloc: Global, path: &Path, meta: Meta) -> Result<(), Errno>
         ensures { Plants path.now meta result self.old self.new }
     {
-        plant(alloc, &mut self.live, path, meta)
+        let answer = plant(alloc, &mut self.live, path, meta);
+        self.live.stands();
+        answer
     }
 
     /// Keeps the live tree under the name, by one more owner of its nodes: no node is copied (Rodeh, ACM Transactions on
@@ -121,6 +127,7 @@ impl Volume {
         };
         let copy = kept.share()?;
         self.live.replace(copy);
+        self.live.stands();
         Ok(())
     }
 
@@ -129,10 +136,13 @@ impl Volume {
     pub fn step(&mut self, alloc: Global, step: Step) -> StepReply
         ensures { Stepped step result self.old self.new }
     {
-        self.live.step(alloc, step)
+        let reply = self.live.step(alloc, step);
+        self.live.stands();
+        reply
     }
 
-    /// What its type keeps: a volume means a world, and has at most 64 snapshots. It does nothing.
+    /// What its type keeps: a volume means a world, has at most 64 snapshots, its live trees are lawful, and it has at most 64
+    /// marks, each of a slot of its own in a live root. It does nothing.
     pub fn means_a_world(&self)
         ensures { IsVolume self.now }
     {
@@ -192,16 +202,20 @@ impl Volume {
     pub fn relieve(&mut self, alloc: Global) -> Option<Relief>
         ensures nothing { (result ≡ None) ↔ ((pending_in Index.Meta self.old.live ≡ 0) × (pending_in Index.Block self.old.live ≡ 0)) }
         ensures unchanged { IfNone result (self.new ≡ self.old) }
+        ensures busier { IfSome result (λ r. r.step.index ≡ busier self.old.live) }
         ensures stepped { IfSome result (λ r. Stepped r.step r.reply self.old self.new) }
         ensures means { (w : World) → Means self.old w → Means self.new w }
     {
         let index = self.busier();
-        self.live.relieve(alloc, index)
+        let relief = self.live.relieve(alloc, index);
+        self.live.stands();
+        relief
     }
 
     /// The index with more pending pieces, that of the metadata where both have as many.
     fn busier(&self) -> Index
-        ensures { (pending_in result self.now.live ≡ 0) → (pending_in Index.Meta self.now.live ≡ 0) × (pending_in Index.Block self.now.live ≡ 0) }
+        ensures index { result ≡ busier self.now.live }
+        ensures nothing { (pending_in result self.now.live ≡ 0) → (pending_in Index.Meta self.now.live ≡ 0) × (pending_in Index.Block self.now.live ≡ 0) }
     {
         let meta = self.pending(Index::Meta);
         let block = self.pending(Index::Block);
@@ -237,7 +251,9 @@ impl Volume {
         ensures snapshots { self.new.snapshots ≡ self.old.snapshots }
         ensures means { (w : World) → Means self.old w → Means self.new w }
     {
-        self.live.take_job(alloc, index, slot)
+        let reply = self.live.take_job(alloc, index, slot);
+        self.live.stands();
+        reply
     }
 
     /// Puts what was built of a job in the place of the child of the mark's slot, and takes away the messages that it has in
@@ -250,7 +266,9 @@ impl Volume {
         ensures snapshots { self.new.snapshots ≡ self.old.snapshots }
         ensures means { (w : World) → Means self.old w → Means self.new w }
     {
-        self.live.install(done)
+        let reply = self.live.install(done);
+        self.live.stands();
+        reply
     }
 
     /// Takes away the mark with the ticket, if it stands: the job is not to be installed. It takes no memory.
@@ -259,6 +277,7 @@ impl Volume {
         ensures kept { KeepsMarks (live_of self.old) (live_of self.new) }
     {
         self.live.cancel(ticket);
+        self.live.stands();
     }
 
     /// Takes all marks away. It takes no memory.
@@ -267,5 +286,6 @@ impl Volume {
         ensures kept { KeepsMarks (live_of self.old) (live_of self.new) }
     {
         self.live.cancel_all();
+        self.live.stands();
     }
 }

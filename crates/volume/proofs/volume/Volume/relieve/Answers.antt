@@ -10,22 +10,23 @@ use Rattle.volume.proofs.volume.Volume.relieve.Goals as goal
 pub invariant_of-self : goal.invariant_of-self
 invariant_of-self c =
     let old : PVolume = volume c.self.inside.live c.self.inside.snapshots in
-    let r : Option Relief = c.relieve.result in
+    let r : Option Relief = c.relieve-relief.result in
     record {
       world = c.self.invariant.world;
-      means = relief_keeps old r c.relieve.new.self c.relieve.ensures.stepped c.relieve.ensures.unchanged c.self.invariant.world c.self.invariant.means;
+      means = relief_keeps old r c.relieve-relief.new.self c.relieve-relief.ensures.stepped c.relieve-relief.ensures.unchanged c.self.invariant.world c.self.invariant.means;
       few = c.self.invariant.few;
+      stands = c.stands.ensures;
     }
 
 pub returns-clause-stepped : goal.returns-clause-stepped
 returns-clause-stepped c =
     let old : PVolume = volume c.self.inside.live c.self.inside.snapshots in
-    let r : Option Relief = c.relieve.result in
-    subst (λ (v : PVolume). IfSome r (λ t. Stepped t.step t.reply v (volume c.relieve.new.self c.self.inside.snapshots))) c.self.view_is (relieved old r c.relieve.new.self c.relieve.ensures.stepped)
+    let r : Option Relief = c.relieve-relief.result in
+    subst (λ (v : PVolume). IfSome r (λ t. Stepped t.step t.reply v (volume c.relieve-relief.new.self c.self.inside.snapshots))) c.self.view_is (relieved old r c.relieve-relief.new.self c.relieve-relief.ensures.stepped)
 
 pub returns-clause-means : goal.returns-clause-means
 returns-clause-means c =
     let old : PVolume = volume c.self.inside.live c.self.inside.snapshots in
-    let r : Option Relief = c.relieve.result in
-    subst (λ (v : PVolume). (w : World) → Means v w → Means (volume c.relieve.new.self c.self.inside.snapshots) w) c.self.view_is
-    (relief_keeps old r c.relieve.new.self c.relieve.ensures.stepped c.relieve.ensures.unchanged)
+    let r : Option Relief = c.relieve-relief.result in
+    subst (λ (v : PVolume). (w : World) → Means v w → Means (volume c.relieve-relief.new.self c.self.inside.snapshots) w) c.self.view_is
+    (relief_keeps old r c.relieve-relief.new.self c.relieve-relief.ensures.stepped c.relieve-relief.ensures.unchanged)

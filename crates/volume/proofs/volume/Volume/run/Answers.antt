@@ -17,7 +17,7 @@ loop-event-preserved c =
     let old : PRun = record { volume = c.loop-event.self; held = c.loop-event.held.items } in
     let new : PRun = record { volume = c.answer-answer.new.self; held = c.answer-answer.new.held.items } in
     let more : Chain (begun c.args.self.now) (take c.loop-event.event-index c.args.events.now ++ c.event-item.result ∷ []) (c.loop-event.answers.items ++ c.answer-answer.result ∷ []) new =
-    chain_more (take c.loop-event.event-index c.args.events.now) c.loop-event.answers.items c.event-item.result c.answer-answer.result (begun c.args.self.now) old new c.loop-event.invariant.chain c.answer-answer.ensures.link in
+    chain_more (take c.loop-event.event-index c.args.events.now) c.loop-event.answers.items c.event-item.result c.answer-answer.result (begun c.args.self.now) old new c.loop-event.invariant.chain c.answer-answer.ensures.link c.means_a_world-in-loop-event.ensures in
     let ahead : takings (drop c.loop-event.event-index c.args.events.now) ≡ takings (c.event-item.result ∷ []) + takings (drop (c.loop-event.event-index + 1) c.args.events.now) =
     ap takings (drop_more c.args.events.now c.loop-event.event-index c.event-item.result h)
     ∙ ap (λ (x : Event). takings (x ∷ drop (c.loop-event.event-index + 1) c.args.events.now)) (sym c.event-item.is)

@@ -10,15 +10,16 @@ invariant_of-self c =
     let old : PVolume = volume c.self.inside.live c.self.inside.snapshots in
     record {
       world = c.self.invariant.world;
-      means = taken_means old c.args.index c.args.slot c.take_job.result c.take_job.new.self c.take_job.ensures c.self.invariant.world c.self.invariant.means;
+      means = taken_means old c.args.index c.args.slot c.take_job-reply.result c.take_job-reply.new.self c.take_job-reply.ensures c.self.invariant.world c.self.invariant.means;
       few = c.self.invariant.few;
+      stands = c.stands.ensures;
     }
 
 pub returns-clause-answers : goal.returns-clause-answers
-returns-clause-answers c = subst (λ (v : PVolume). AnswersTaking c.args.index c.args.slot c.take_job.result (live_of v) c.take_job.new.self) c.self.view_is c.take_job.ensures
+returns-clause-answers c = subst (λ (v : PVolume). AnswersTaking c.args.index c.args.slot c.take_job-reply.result (live_of v) c.take_job-reply.new.self) c.self.view_is c.take_job-reply.ensures
 
 pub returns-clause-means : goal.returns-clause-means
 returns-clause-means c =
     let old : PVolume = volume c.self.inside.live c.self.inside.snapshots in
-    subst (λ (v : PVolume). (w : World) → Means v w → Means (volume c.take_job.new.self c.self.inside.snapshots) w) c.self.view_is
-    (taken_means old c.args.index c.args.slot c.take_job.result c.take_job.new.self c.take_job.ensures)
+    subst (λ (v : PVolume). (w : World) → Means v w → Means (volume c.take_job-reply.new.self c.self.inside.snapshots) w) c.self.view_is
+    (taken_means old c.args.index c.args.slot c.take_job-reply.result c.take_job-reply.new.self c.take_job-reply.ensures)
