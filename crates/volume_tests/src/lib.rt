@@ -9,6 +9,8 @@ mod command_lines;
 #[cfg(test)]
 mod condensed;
 #[cfg(test)]
+mod embedding;
+#[cfg(test)]
 mod event_runs;
 #[cfg(test)]
 mod job_rows;
