@@ -17,7 +17,6 @@ use Rattle.reference.specs.Worlds.{World, Snapped, Ask, Replied, Fits, outcome}
 use Rattle.reference.specs.declared.call.Call.TheVariants.{Write}
 use Rattle.reference.specs.declared.reply.Meta.{Meta}
 use Rattle.reference.specs.declared.reply.Meta.TheVariants.{Dir as DirMeta, File as FileMeta}
-use Rattle.reference.specs.declared.reply.Reply.{Reply}
 use Rattle.reference.specs.declared.reply.Reply.TheVariants.{Count, Fault}
 use Rattle.reference.proofs.CallCases.{written_cases}
 use Rattle.reference.proofs.LineLengths.{line_length}

@@ -1,4 +1,4 @@
-use Rattle.std.proofs.Common.{◌≡◌, ◌+◌, ◌++◌, ◌<◌, ℕ, List, ap, subst, sym, arith}
+use Rattle.std.proofs.Common.{◌≡◌, ◌+◌, ◌++◌, ◌<◌, ℕ, subst, sym, arith}
 use Rattle.block_index.specs.Means.{blocks}
 use Rattle.reference.specs.Image.{block_line, block_lines, trimmed}
 use Rattle.reference.specs.Indexes.{most_blocks}

@@ -1,10 +1,9 @@
-use Rattle.std.proofs.Common.{◌≡◌, ◌+◌, ◌<◌, ℕ, List, Some, sym, ap, subst, arith}
+use Rattle.std.proofs.Common.{◌≡◌, ◌+◌, ◌<◌, ℕ, Some, sym, subst, arith}
 use Rattle.std.specs.Io.KnownBytes.{Appends}
 use Rattle.std.proofs.KnownBytes.{Appends-trans}
 use Rattle.reference.specs.Image.{block_line, block_lines, trimmed}
 use Rattle.reference.specs.Indexes.{most_blocks}
 use Rattle.shell.specs.Image.{IsNextBlock}
-use Rattle.shell.specs.Parts.{AppendsPart}
 use Rattle.shell.proofs.Known.{on_err}
 use Rattle.shell.proofs.ImageBlocks.{line_part, lines_part}
 use Rattle.shell.proofs.image.print_blocks.Goals as goal

@@ -1,4 +1,4 @@
-use Rattle.std.proofs.Common.{◌≡◌, ◌+◌, ◌*◌, ◌<◌, length, inl, inr, arith}
+use Rattle.std.proofs.Common.{◌≡◌, ◌+◌, ◌*◌, ◌<◌, inl, inr, arith}
 use Rattle.shell.proofs.LoadFacts.{block_refused, no_file_refused}
 use Rattle.shell.proofs.load.Loading.offset_of.Goals as goal
 
