@@ -17,7 +17,6 @@ use Rattle.reference.specs.Worlds.{World, Snapped, Ask, Replied, Fits, outcome}
 use Rattle.reference.specs.declared.call.Call.TheVariants.{Write}
 use Rattle.reference.specs.declared.reply.Meta.{Meta}
 use Rattle.reference.specs.declared.reply.Meta.TheVariants.{Dir as DirMeta, File as FileMeta}
-use Rattle.reference.specs.declared.reply.Reply.{Reply}
 use Rattle.reference.specs.declared.reply.Reply.TheVariants.{Count, Fault}
 use Rattle.reference.proofs.CallCases.{written_cases}
 use Rattle.reference.proofs.LineLengths.{line_length}
@@ -29,7 +28,7 @@ use Rattle.reference.proofs.Standing.{parent_directory}
 use Rattle.volume.specs.Changes.{Called}
 use Rattle.volume.specs.Plants.{Plants}
 use Rattle.volume.specs.Volumes.{PVolume, Means}
-use Rattle.shell.specs.Loads.{alone, text_so_far, lines_so_far, count_so_far, IsLoading, LoadsNext, LoadsLine, MayNotFollow, RefusesLine, HasRead, LoadsPiece, RefusesPiece, LoadsEnd, RefusesEnd, ReadsSoFar, Loaded, LoadsAll, IsBadIn, entry_line, len_of}
+use Rattle.shell.specs.Loads.{Counts, FitsAt, alone, text_so_far, lines_so_far, count_so_far, IsLoading, LoadsNext, LoadsLine, MayNotFollow, RefusesLine, HasRead, LoadsPiece, RefusesPiece, LoadsEnd, RefusesEnd, ReadsSoFar, Loaded, LoadsAll, IsBadIn, entry_line, len_of}
 use Rattle.std.specs.Io.KnownBytes.{Consumes, IsAtEnd}
 use Rattle.std.proofs.KnownBytes.{Consumes-nil, Consumes-trans}
 use Rattle.shell.proofs.Known.{known_text, known_whole}
@@ -149,17 +148,15 @@ block_done old v i b len number n count block file rises inside h = λ ls is.
       next = refl;
     }
 
--- the same, where the write is known by its parts
-pub block_done_by : (old : Loading) (v : PVolume) (i j off : ℕ) (q : Path) (b : List ℕ) (len number n : ℕ) (r : Reply) → j ≡ i → off ≡ 4096 * j → q ≡ old.last → r ≡ Count n → number ≡ old.lines + 1 → IsBlock b → old.len ≡ Some len → old.next ≤ j → off + length b ≤ len
-    → Called (Write q off b) r old.volume v → LoadsNext (BlockLine i b) old (record { volume = v; lines = number; last = old.last; len = old.len; next = j + 1 })
-block_done_by old v i j off q b len number n r same at path counted count block file rises inside h =
-    let told : Called (Write old.last (4096 * i) b) (Count n) old.volume v =
-    subst (λ (x : Reply). Called (Write old.last (4096 * i) b) x old.volume v) counted
-    (subst (λ (o : ℕ). Called (Write old.last o b) r old.volume v) (at ∙ ap (λ (k : ℕ). 4096 * k) same)
-    (subst (λ (p : Path). Called (Write p off b) r old.volume v) path h))
-    in
+-- the same, where the place is known to fit
+pub block_at : (old : Loading) (v : PVolume) (i j off : ℕ) (b : List ℕ) (number : ℕ) → j ≡ i → number ≡ old.lines + 1 → IsBlock b → FitsAt i (length b) old off → Counts (Write old.last off b) old.volume v
+    → LoadsNext (BlockLine i b) old (record { volume = v; lines = number; last = old.last; len = old.len; next = j + 1 })
+block_at old v i j off b number same count block fits counts =
+    let told : Called (Write old.last (4096 * i) b) (Count counts.0) old.volume v = subst (λ (o : ℕ). Called (Write old.last o b) (Count counts.0) old.volume v) fits.at counts.1 in
+    let inside : off + length b ≤ fits.file = fits.inside in
+    let at : off ≡ 4096 * i = fits.at in
     subst (λ (k : ℕ). LoadsNext (BlockLine i b) old (record { volume = v; lines = number; last = old.last; len = old.len; next = k + 1 })) (sym same)
-    (block_done old v i b len number n count block file (omega arith) (omega arith) told)
+    (block_done old v i b fits.file number counts.0 count block fits.is_file fits.behind (omega arith) told)
 
 some_same : (n k : ℕ) → ◌≡◌ {A = Option ℕ} (Some n) (Some k) → n ≡ k
 some_same n k e = cc

@@ -56,6 +56,12 @@ betr =
     let app = new_app (codes "betr") in
     record app { top = record app.top { rules = rules } }
 
+-- the program with the options of what is done beside the lines alone
+abbrev pub betr_of_work : App
+betr_of_work =
+    let app = new_app (codes "betr") in
+    record app { top = record app.top { rules = number_rule (codes "flushers") 0 8 ∷ number_rule (codes "steps") 0 1000 ∷ [] } }
+
 -- the rules of the options that are numbers
 abbrev pub number_rules : List Rule
 number_rules = number_rule (codes "flushers") 0 8

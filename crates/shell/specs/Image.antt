@@ -1,6 +1,7 @@
 -- The lines of one entry of an image.
-use Rattle.std.specs.Prelude.{ℕ, ◌+◌, ◌/◌, ◌++◌, length, codes}
-use Rattle.reference.specs.Image.{Text, block_lines, path_text}
+use Rattle.std.specs.Prelude.{◌≡◌, ℕ, List, Option, Some, None, ◌+◌, ◌/◌, ◌<◌, ◌++◌, length, codes}
+use Rattle.reference.specs.Image.{Text, block_line, block_lines, path_text, trimmed}
+use Rattle.reference.specs.Indexes.{most_blocks}
 use Rattle.reference.specs.Tree.{Path, Tree, Dir, File}
 use Rattle.shell.specs.Replies.{number_line}
 
@@ -12,3 +13,8 @@ file_line p len = codes "f " ++ path_text p ++ number_line (codes " ") len
 abbrev pub entry_lines : Path → Tree → Text
 entry_lines p (Dir es) = codes "d " ++ path_text p ++ codes "\n"
 entry_lines p (File b) = file_line p (length b) ++ block_lines b (length b / 4096 + 1)
+
+-- the block that comes next behind those before number i, whose line follows theirs; none where theirs are all lines
+abbrev pub IsNextBlock : List ℕ → ℕ → Option (ℕ × List ℕ) → Type 0
+IsNextBlock b i None = block_lines b i ≡ block_lines b (length b / 4096 + 1)
+IsNextBlock b i (Some (n, v)) = (n < most_blocks) × (block_lines b (n + 1) ≡ block_lines b i ++ block_line n (trimmed v))

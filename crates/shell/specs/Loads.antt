@@ -1,16 +1,19 @@
 -- How far an image is loaded, line by line.
-use Rattle.std.specs.Prelude.{◌≡◌, ◌+◌, ℕ, List, [], ◌∷◌, ◌++◌, length, codes, Option, Some, None, IfSome}
+use Rattle.std.specs.Prelude.{◌≡◌, ◌+◌, ◌*◌, ◌≤◌, ℕ, List, [], ◌∷◌, ◌++◌, length, codes, Option, Some, None, IfSome}
 use Rattle.std.specs.FinMap as finite
 use Rattle.std.specs.Io.KnownBytes.{Consumes, IsAtEnd}
 use Rattle.reference.specs.Image.{Text, image}
 use Rattle.reference.specs.ImageLines.{Line, DirectoryLine, FileLine, Lines, AreLines, IsBadAt, IsImage, MayFollow, image_of_lines, last_len, last_path, next_block, tree_of_lines}
 use Rattle.reference.specs.Shape.{IsTree}
 use Rattle.reference.specs.Tree.{Path, Tree}
+use Rattle.reference.specs.declared.call.Call.{Call}
 use Rattle.reference.specs.declared.reply.Meta.{Meta}
 use Rattle.reference.specs.declared.reply.Meta.TheVariants.{Dir as DirMeta, File as FileMeta}
+use Rattle.reference.specs.declared.reply.Reply.TheVariants.{Count}
 use Rattle.reference.specs.Worlds.{World}
 use Rattle.shell.specs.Progress.{Holds, IsFree}
 use Rattle.shell.specs.declared.load.Loading.{Loading}
+use Rattle.volume.specs.Changes.{Called}
 use Rattle.volume.specs.Volumes.{PVolume, Means}
 
 -- the world of a tree without snapshots
@@ -49,6 +52,18 @@ LoadsRoot line old new = IsLoading None old → IsLoading (Some []) new × (line
 -- a line that may follow was loaded
 abbrev pub LoadsNext : Line → Loading → Loading → Type 0
 LoadsNext l old new = (ls : Lines) → IsLoading (Some ls) old → IsLoading (Some (l ∷ ls)) new
+
+-- a block of this number and of so many bytes lies at this place within the last file, behind the blocks before it
+pub record FitsAt (i len : ℕ) (l : Loading) (offset : ℕ) : Type 0 where
+  pub file : ℕ
+  pub is_file : l.len ≡ Some file
+  pub behind : l.next ≤ i
+  pub at : offset ≡ 4096 * i
+  pub inside : offset + len ≤ file
+
+-- a call was answered by a count
+abbrev pub Counts : Call → PVolume → PVolume → Type 0
+Counts call old new = (n : ℕ) × Called call (Count n) old new
 
 -- the line may not follow
 abbrev pub MayNotFollow : Line → Loading → Type 0

@@ -41,7 +41,11 @@ impl<'a, J: Naming, H: Wait> Session for Served<'a, J, H> {
 
     fn look_back(&mut self, alloc: Global, name: &SnapName, look: &Look) -> Reply {
         match self.client.frozen(self.rt, name) {
-            Ok(frozen) => look_into(alloc, &frozen, look),
+            Ok(frozen) => {
+                let reply = look_into(alloc, &frozen, look);
+                drop(frozen);
+                reply
+            }
             Err(fault) => Reply::Fault(fault),
         }
     }

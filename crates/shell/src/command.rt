@@ -1,9 +1,9 @@
 //! Reads what a line asks for.
-ghost use Rattle.std.specs.Prelude.{◌≡◌, ◌⊎◌, Err, MatchResult};
+ghost use Rattle.std.specs.Prelude.{◌≡◌, ◌⊎◌, ℕ, List, Err, MatchOption, MatchResult};
 ghost use Rattle.pathkey.specs.declared.errno.Errno.TheVariants.{ENOMEM};
 ghost use Rattle.shell.specs.Lines.{words_of};
 ghost use Rattle.pathkey.specs.SnapNames.{snap_parsed};
-ghost use Rattle.shell.specs.Requests.{IsReadAs, command_of, looking, named_command, offset_command, past, past_path_command, past_read_command, path_command, path_of, read_command, rename_of, request_of, third_command, truncate_command, write_command};
+ghost use Rattle.shell.specs.Requests.{IsReadAs, call_at, command_of, looking, named_command, offset_command, on_path, past, past_path_command, past_read_command, path_command, path_of, read_command, rename_of, request_of, third_command, truncate_command, write_command};
 
 use crate::request::{Look, Request};
 use crate::values::{read_bytes, read_number, writes_bytes};
@@ -52,28 +52,76 @@ fn read_command(alloc: Global, line: &[u8]) -> Request
 fn read_path_command(alloc: Global, name: &[u8], word: &[u8]) -> Request
     ensures { IsReadAs (path_command name.now word.now) result }
 {
+    match path_call(name) {
+        Some(call) => read_on_path(alloc, call, word),
+        None => read_named_command(alloc, name, word),
+    }
+}
+
+/// A call that needs nothing but a path.
+#[derive(Clone, Copy)]
+pub(crate) enum PathCall {
+    Mkdir,
+    Create,
+    Unlink,
+    Rmdir,
+    Rmtree,
+    Stat,
+    Readdir,
+}
+
+// The call of that name that needs nothing but a path.
+fn path_call(name: &[u8]) -> Option<PathCall>
+    ensures { MatchOption result ((word : List ℕ) → path_command name.now word ≡ named_command name.now word)
+        (λ call. (word : List ℕ) → path_command name.now word ≡ on_path (call_at call) (path_of word)) }
+{
     if name == b"mkdir".as_slice() {
-        return ask(read_path(alloc, word).map(Call::Mkdir));
+        return Some(PathCall::Mkdir);
     }
     if name == b"create".as_slice() {
-        return ask(read_path(alloc, word).map(Call::Create));
+        return Some(PathCall::Create);
     }
     if name == b"unlink".as_slice() {
-        return ask(read_path(alloc, word).map(Call::Unlink));
+        return Some(PathCall::Unlink);
     }
     if name == b"rmdir".as_slice() {
-        return ask(read_path(alloc, word).map(Call::Rmdir));
+        return Some(PathCall::Rmdir);
     }
     if name == b"rmtree".as_slice() {
-        return ask(read_path(alloc, word).map(Call::Rmtree));
+        return Some(PathCall::Rmtree);
     }
     if name == b"stat".as_slice() {
-        return ask(read_path(alloc, word).map(Call::Stat));
+        return Some(PathCall::Stat);
     }
     if name == b"readdir".as_slice() {
-        return ask(read_path(alloc, word).map(Call::Readdir));
+        return Some(PathCall::Readdir);
     }
-    read_named_command(alloc, name, word)
+    None
+}
+
+// The call on the path that a word names.
+fn read_on_path(alloc: Global, call: PathCall, word: &[u8]) -> Request
+    ensures { IsReadAs (on_path (call_at call) (path_of word.now)) result }
+{
+    match read_path(alloc, word) {
+        Ok(path) => Request::Wanted(call_at(call, path)),
+        Err(fault) => Request::Refused(fault),
+    }
+}
+
+// The call on a path.
+fn call_at(call: PathCall, path: Path) -> Call
+    ensures { result ≡ call_at call path }
+{
+    match call {
+        PathCall::Mkdir => Call::Mkdir(path),
+        PathCall::Create => Call::Create(path),
+        PathCall::Unlink => Call::Unlink(path),
+        PathCall::Rmdir => Call::Rmdir(path),
+        PathCall::Rmtree => Call::Rmtree(path),
+        PathCall::Stat => Call::Stat(path),
+        PathCall::Readdir => Call::Readdir(path),
+    }
 }
 
 // What a command of two words asks for with a snapshot's name: it is the second word, or stands behind an `@` in the first.
@@ -241,7 +289,10 @@ fn read_write(alloc: Global, path: &[u8], offset: &[u8], hex: &[u8]) -> Request
     };
     match read_bytes(alloc, hex) {
         Ok(bytes) => Request::Wanted(Call::Write(path, offset, bytes)),
-        Err(NoMemory) => Request::Refused(Errno::ENOMEM),
+        Err(NoMemory) => {
+            drop(path);
+            Request::Refused(Errno::ENOMEM)
+        }
     }
 }
 

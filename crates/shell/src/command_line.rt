@@ -3,8 +3,8 @@
 ghost use Rattle.std.specs.Prelude.{◌≡◌, codes, false, true, IfOk, IfErr, option_map};
 ghost use Rattle.std.specs.Int.{IsInRange};
 ghost use Rattle.clap.specs.Walk.{texts};
-ghost use Rattle.clap.specs.Words.{FailsBy, app_of, fault_of, found_of, kind_of, new_app, rows_of, rule_of, takes};
-ghost use Rattle.shell.specs.CommandLine.{IsParseOf, betr, betr_of_numbers, is_on, number, option_rule, rows, switch_rule, text, text_rule};
+ghost use Rattle.clap.specs.Words.{App, FailsBy, app_of, fault_of, found_of, kind_of, new_app, new_rule, rows_of, rule_of, takes, with_rule};
+ghost use Rattle.shell.specs.CommandLine.{IsParseOf, betr, betr_of_numbers, betr_of_work, is_on, number, option_rule, rows, switch_rule, text, text_rule};
 
 use crate::help::{ABOUT, SCRIPTS};
 use clap::builder::ValueParser;
@@ -48,7 +48,7 @@ pub fn read_words<'a>(alloc: Global, words: &'a [&'a str]) -> Result<Options<'a>
     ensures kinds { FailsBy (fault_of betr (texts words.entry.now)) result }
 {
     let matches = parsed(alloc, words)?;
-    Ok(Options {
+    let options = Options {
         flushers: matches.get_one::<u8>("flushers").unwrap_or(0),
         steps: matches.get_one::<u16>("steps").unwrap_or(0),
         fanout: matches.get_one::<u16>("fanout").unwrap_or(16),
@@ -57,7 +57,9 @@ pub fn read_words<'a>(alloc: Global, words: &'a [&'a str]) -> Result<Options<'a>
         load: matches.get_str("load"),
         image: matches.get_flag("image"),
         script: matches.get_str("SCRIPT"),
-    })
+    };
+    drop(matches);
+    Ok(options)
 }
 
 /// What `clap` finds among the words.
@@ -70,75 +72,139 @@ fn parsed<'a>(alloc: Global, words: &'a [&'a str]) -> Result<ArgMatches<'a>, Err
     command(alloc)?.try_get_matches_from(words)
 }
 
-/// The options and the argument that are known.
+/// The options and the argument that are known. Each is built and added in a function of its own, to a command for which memory may
+/// have been refused before: what waits at a way out would have to be let go there.
 fn command<'a>(alloc: Global) -> Result<Command<'a>, AllocError>
     ensures { IfOk result (λ c. app_of c ≡ betr) }
 {
-    let command = with_numbers(alloc)?;
+    let loading = with_load(alloc, with_shape(alloc));
+    let printing = with_image(alloc, loading);
+    with_script(alloc, printing)
+}
+
+/// The command with the option that names an image.
+fn with_load<'a>(
+    alloc: Global,
+    command: Result<Command<'a>, AllocError>,
+) -> Result<Command<'a>, AllocError>
+    ensures { (app : App) → IfOk command.entry (λ c. app_of c ≡ app) → IfOk result (λ c. app_of c ≡ with_rule app (text_rule (codes "load"))) }
+{
     let load = text_option(
         alloc,
         "load",
         "FILE",
         "Start with the tree whose image the file holds, as --image prints it",
     );
-    let command = command.arg(load)?;
+    with_arg(command, load)
+}
+
+/// The command with the option that asks for the image.
+fn with_image<'a>(
+    alloc: Global,
+    command: Result<Command<'a>, AllocError>,
+) -> Result<Command<'a>, AllocError>
+    ensures { (app : App) → IfOk command.entry (λ c. app_of c ≡ app) → IfOk result (λ c. app_of c ≡ with_rule app (switch_rule (codes "image"))) }
+{
     let image = switch(
         alloc,
         "image",
         "Print the whole tree as text after the replies",
     );
-    let command = command.arg(image)?;
-    let script = Arg::new(alloc, "SCRIPT").help("File with the script [default: standard input]");
-    let command = command.arg(script)?;
-    Ok(command)
+    with_arg(command, image)
 }
 
-/// The program with the options that are numbers. Each is built only once the one before is added: what waits to be added would
-/// have to be let go at each way out.
-fn with_numbers<'a>(alloc: Global) -> Result<Command<'a>, AllocError>
+/// The command with the argument that names a script.
+fn with_script<'a>(
+    alloc: Global,
+    command: Result<Command<'a>, AllocError>,
+) -> Result<Command<'a>, AllocError>
+    ensures { (app : App) → IfOk command.entry (λ c. app_of c ≡ app) → IfOk result (λ c. app_of c ≡ with_rule app (new_rule (codes "SCRIPT"))) }
+{
+    let script = Arg::new(alloc, "SCRIPT").help("File with the script [default: standard input]");
+    with_arg(command, script)
+}
+
+/// The program with all options that are numbers.
+fn with_shape<'a>(alloc: Global) -> Result<Command<'a>, AllocError>
     ensures { IfOk result (λ c. app_of c ≡ betr_of_numbers) }
 {
-    let flushers = option(
+    let wide = with_option(
         alloc,
-        "flushers",
-        "N",
-        value_parser!(u8).range(0..=8),
-        "Flushers in threads of their own, 0 to 8 [default: 0]",
-    );
-    let command = program(alloc).arg(flushers)?;
-    let steps = option(
-        alloc,
-        "steps",
-        "N",
-        value_parser!(u16).range(0..=1000),
-        "Steps of tidying after each line, 0 to 1000 [default: 0]",
-    );
-    let command = command.arg(steps)?;
-    let fanout = option(
-        alloc,
+        with_work(alloc),
         "fanout",
         "F",
         value_parser!(u16).range(4..=64),
         "Slots of an inner node, 4 to 64 [default: 16]",
     );
-    let command = command.arg(fanout)?;
-    let pending = option(
+    let filled = with_option(
         alloc,
+        wide,
         "pending",
         "P",
         value_parser!(u16).range(4..=1024),
         "Pending pieces of a node, 4 to 1024 and at least F [default: 256]",
     );
-    let command = command.arg(pending)?;
-    let leaf = option(
+    with_option(
         alloc,
+        filled,
         "leaf",
         "E",
         value_parser!(u16).range(4..=1024),
         "Entries of a leaf, 4 to 1024 [default: 256]",
+    )
+}
+
+/// The program with the options of what is done beside the lines.
+fn with_work<'a>(alloc: Global) -> Result<Command<'a>, AllocError>
+    ensures { IfOk result (λ c. app_of c ≡ betr_of_work) }
+{
+    let flushed = with_option(
+        alloc,
+        Ok(program(alloc)),
+        "flushers",
+        "N",
+        value_parser!(u8).range(0..=8),
+        "Flushers in threads of their own, 0 to 8 [default: 0]",
     );
-    let command = command.arg(leaf)?;
-    Ok(command)
+    with_option(
+        alloc,
+        flushed,
+        "steps",
+        "N",
+        value_parser!(u16).range(0..=1000),
+        "Steps of tidying after each line, 0 to 1000 [default: 0]",
+    )
+}
+
+/// The command with one more option that has a value.
+fn with_option<'a>(
+    alloc: Global,
+    command: Result<Command<'a>, AllocError>,
+    id: &'a str,
+    value: &'a str,
+    parser: ValueParser<'a>,
+    help: &'a str,
+) -> Result<Command<'a>, AllocError>
+    ensures { (app : App) → IfOk command.entry (λ c. app_of c ≡ app) → IfOk result (λ c. app_of c ≡ with_rule app (option_rule id.entry.now parser.entry)) }
+{
+    with_arg(command, option(alloc, id, value, parser, help))
+}
+
+/// The command with one more option or argument.
+fn with_arg<'a>(
+    command: Result<Command<'a>, AllocError>,
+    arg: Arg<'a>,
+) -> Result<Command<'a>, AllocError>
+    requires { arg.global ≡ false }
+    ensures { (app : App) → IfOk command.entry (λ c. app_of c ≡ app) → IfOk result (λ c. app_of c ≡ with_rule app (rule_of arg.entry)) }
+{
+    match command {
+        Ok(command) => command.arg(arg),
+        Err(refused) => {
+            drop(arg);
+            Err(refused)
+        }
+    }
 }
 
 /// The program by its name, with its help around the options.

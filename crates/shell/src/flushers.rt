@@ -29,7 +29,10 @@ pub fn run_beside_flushers<H: Threads + Wait + Sync, R: Read, W: Write>(
 ) -> Result<Frozen, ScriptFault> {
     match Room::new(alloc, volume) {
         Ok(room) => run_in::<Brand, H, R, W>(rt, alloc, room, flushers, reader, writer),
-        Err(_) => Err(ScriptFault::Memory),
+        Err(volume) => {
+            drop(volume);
+            Err(ScriptFault::Memory)
+        }
     }
 }
 
@@ -44,22 +47,58 @@ fn run_in<J: Naming + Send + Sync, H: Threads + Wait + Sync, R: Read, W: Write>(
 ) -> Result<Frozen, ScriptFault>
     requires { (room.0 ≡ J.table) × (room.1 ≡ J.opening) × (J.clients ≡ 1) }
 {
-    let Ok((mut engine, mut clients)) = Engine::<J>::open(alloc, room, 1) else {
-        return Err(ScriptFault::Memory);
+    match Engine::<J>::open(alloc, room, 1) {
+        Ok((engine, clients)) => { run_first(rt, alloc, engine, clients, flushers, reader, writer) }
+        Err(volume) => {
+            drop(volume);
+            Err(ScriptFault::Memory)
+        }
+    }
+}
+
+/// The same by the client of an engine that has one.
+fn run_first<J: Naming + Send + Sync, H: Threads + Wait + Sync, R: Read, W: Write>(
+    rt: &H,
+    alloc: Global,
+    mut engine: Engine<J>,
+    mut clients: Vec<Client<J>>,
+    flushers: u8,
+    reader: &mut R,
+    writer: &mut W,
+) -> Result<Frozen, ScriptFault> {
+    let tree = match clients.pop() {
+        Some(client) => run_by(rt, alloc, &mut engine, client, flushers, reader, writer),
+        None => Err(ScriptFault::Memory),
     };
-    let Some(mut client) = clients.pop() else {
-        return Err(ScriptFault::Memory);
+    drop(clients);
+    drop(engine);
+    tree
+}
+
+/// The same by this client.
+fn run_by<J: Naming + Send + Sync, H: Threads + Wait + Sync, R: Read, W: Write>(
+    rt: &H,
+    alloc: Global,
+    engine: &mut Engine<J>,
+    mut client: Client<J>,
+    flushers: u8,
+    reader: &mut R,
+    writer: &mut W,
+) -> Result<Frozen, ScriptFault> {
+    let tree = match run_all(rt, alloc, engine, &mut client, flushers, reader, writer) {
+        Ok(()) => live_tree(rt, &mut client),
+        Err(fault) => Err(fault),
     };
-    run_all(
-        rt,
-        alloc,
-        &mut engine,
-        &mut client,
-        flushers,
-        reader,
-        writer,
-    )?;
-    client.freeze(rt).map_err(|_| ScriptFault::Memory)
+    drop(client);
+    tree
+}
+
+/// The tree that is live.
+fn live_tree<J: Naming, H: Wait>(rt: &H, client: &mut Client<J>) -> Result<Frozen, ScriptFault> {
+    match client.freeze(rt) {
+        Ok(tree) => Ok(tree),
+        Err(_) => Err(ScriptFault::Memory),
+    }
 }
 
 /// Starts the flushers, and runs the lines. All threads have ended when it returns.

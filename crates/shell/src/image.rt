@@ -1,22 +1,24 @@
 //! Prints the image of a tree that stands still: one line for each entry in key order, and for a file one for each block
 //! that holds a byte other than zero.
-ghost use Rattle.std.specs.Prelude.{◌≡◌, ◌≢◌, ◌<◌, ◌≤◌, ◌^◌, ◌++◌, ◌∷◌, ◌+◌, ◌/◌, [], ℕ, List, Some, codes, decimal, flat_map, length, take, OnOk, OnErr};
+ghost use Rattle.std.specs.Prelude.{◌≡◌, ◌≢◌, ◌<◌, ◌≤◌, ◌^◌, ◌++◌, ◌∷◌, ◌+◌, ◌/◌, [], ℕ, List, Some, None, IfOk, IfSome, codes, decimal, flat_map, length, take, OnOk, OnErr};
 ghost use Rattle.std.specs.Io.KnownBytes.{Appends};
 ghost use Rattle.block_index.specs.Means.{blocks};
 ghost use Rattle.call_compiler.specs.Compiled.{MeanTree};
-ghost use Rattle.pathkey.specs.Keys.{block_key, enc};
+ghost use Rattle.meta_index.specs.Means.{metadata};
+ghost use Rattle.pathkey.specs.Keys.{block_key, enc, next_key};
 ghost use Rattle.reference.specs.Image.{block_line, block_lines, image, path_text, percent, trimmed};
-ghost use Rattle.reference.specs.Indexes.{BlocksMean, meta_of};
+ghost use Rattle.reference.specs.Indexes.{BlocksMean, meta_of, most_blocks};
 ghost use Rattle.reference.specs.Looks.{seen};
 ghost use Rattle.reference.specs.Shape.{IsTree};
 ghost use Rattle.reference.specs.Tree.{File, Found, Tree, entry_at};
-ghost use Rattle.shell.specs.Image.{entry_lines};
+ghost use Rattle.scan.specs.Pairs.{IsFirst};
+ghost use Rattle.shell.specs.Image.{IsNextBlock, entry_lines};
 ghost use Rattle.shell.specs.Parts.{AppendsPart};
 ghost use Rattle.shell.specs.Replies.{number_line};
 
 use crate::output::{WriteFailed, put};
 use crate::reply::{put_hex, put_number_line, put_percent};
-use block_index::BlockIndex;
+use block_index::{Block, BlockIndex};
 use call_compiler::Indexes;
 use itoa::Buffer;
 use pathkey::{Key, KeyRange, NoMemory, Path, blocks_from, dec};
@@ -61,24 +63,80 @@ pub fn print_image<W: Write>(
     ensures ok { (t : Tree) → MeanTree frozen.now t → OnOk result (Appends (W.contents writer.old) (W.contents writer.new) (image t)) }
     ensures err { (t : Tree) → MeanTree frozen.now t → OnErr result (AppendsPart (W.contents writer.old) (W.contents writer.new) (image t)) }
 {
-    let indexes = frozen.indexes();
-    let lo = Key::new(alloc).next(alloc)?;
-    let mut rest = KeyRange { lo, hi: None };
+    let mut rest = below_root(alloc)?;
+    let told = print_all(alloc, frozen.indexes(), &mut rest, writer);
+    drop(rest);
+    told
+}
+
+/// Writes the image of a tree, or a beginning of it: the range that is left lies behind the root at first.
+fn print_all<W: Write>(
+    alloc: Global,
+    indexes: &Indexes,
+    rest: &mut KeyRange,
+    writer: &mut W,
+) -> Result<(), ImageFault>
+    requires { (rest.old.lo ≡ next_key []) × (rest.old.hi ≡ None) }
+    ensures ok { (t : Tree) → MeanTree indexes.now t → OnOk result (Appends (W.contents writer.old) (W.contents writer.new) (image t)) }
+    ensures err { (t : Tree) → MeanTree indexes.now t → OnErr result (AppendsPart (W.contents writer.old) (W.contents writer.new) (image t)) }
+{
     put(writer, b"d /\n")?;
     // No tree has more entries.
     for _ in 0..u64::MAX {
-        let Some((key, meta)) = first_in(alloc, &indexes.meta.tree, &rest)? else {
+        let Some((key, meta)) = next_entry(alloc, indexes, rest)? else {
             return Ok(());
         };
-        let behind = key.next(alloc)?;
-        print_entry(alloc, indexes, &key, meta, writer)?;
-        rest.lo = behind;
+        print_entry(alloc, indexes, key, meta, writer)?;
     }
     Err(ImageFault::Memory)
 }
 
-/// Writes the lines of the entry whose path has the key, or a beginning of them.
+/// The keys behind the root's.
+fn below_root(alloc: Global) -> Result<KeyRange, NoMemory>
+    ensures { IfOk result (λ r. (r.lo ≡ next_key []) × (r.hi ≡ None)) }
+{
+    let lo = Key::new(alloc).next(alloc)?;
+    Ok(KeyRange { lo, hi: None })
+}
+
+/// The first entry of a range, which then begins behind it; none where none is left.
+fn next_entry(
+    alloc: Global,
+    indexes: &Indexes,
+    rest: &mut KeyRange,
+) -> Result<Option<(Key, Meta)>, NoMemory>
+    ensures first { IfOk result (IsFirst (metadata indexes.now.meta) rest.old.lo rest.old.hi) }
+    ensures behind { IfOk result (λ first. IfSome first (λ e. rest.new.lo ≡ next_key e.0)) }
+    ensures end { rest.new.hi ≡ rest.old.hi }
+{
+    match first_in(alloc, &indexes.meta.tree, rest)? {
+        Some((key, meta)) => {
+            rest.lo = key.next(alloc)?;
+            Ok(Some((key, meta)))
+        }
+        None => Ok(None),
+    }
+}
+
+/// Writes the lines of the entry whose path has the key, or a beginning of them. The key is let go by a call, once.
 fn print_entry<W: Write>(
+    alloc: Global,
+    indexes: &Indexes,
+    key: Key,
+    meta: Meta,
+    writer: &mut W,
+) -> Result<(), ImageFault>
+    requires { key ≢ [] }
+    ensures ok { (t : Tree) (q : List (List ℕ)) (x : Tree) → MeanTree indexes.now t → entry_at t q ≡ Found x → key ≡ enc q → meta_of (seen (Found x)) ≡ Some meta → OnOk result (Appends (W.contents writer.old) (W.contents writer.new) (entry_lines q x)) }
+    ensures err { (t : Tree) (q : List (List ℕ)) (x : Tree) → MeanTree indexes.now t → entry_at t q ≡ Found x → key ≡ enc q → meta_of (seen (Found x)) ≡ Some meta → OnErr result (AppendsPart (W.contents writer.old) (W.contents writer.new) (entry_lines q x)) }
+{
+    let told = print_key(alloc, indexes, &key, meta, writer);
+    drop(key);
+    told
+}
+
+/// Writes the lines of the entry whose path has the key, or a beginning of them.
+fn print_key<W: Write>(
     alloc: Global,
     indexes: &Indexes,
     key: &Key,
@@ -92,11 +150,28 @@ fn print_entry<W: Write>(
     let Some(path) = dec(alloc, key)? else {
         return Err(ImageFault::Memory);
     };
+    let told = print_at(alloc, indexes, &path, meta, writer);
+    drop(path);
+    told
+}
+
+/// Writes the lines of the entry at a path, or a beginning of them.
+fn print_at<W: Write>(
+    alloc: Global,
+    indexes: &Indexes,
+    path: &Path,
+    meta: Meta,
+    writer: &mut W,
+) -> Result<(), ImageFault>
+    requires { path.now ≢ [] }
+    ensures ok { (t : Tree) (x : Tree) → MeanTree indexes.now t → entry_at t path.now ≡ Found x → meta_of (seen (Found x)) ≡ Some meta → OnOk result (Appends (W.contents writer.old) (W.contents writer.new) (entry_lines path.now x)) }
+    ensures err { (t : Tree) (x : Tree) → MeanTree indexes.now t → entry_at t path.now ≡ Found x → meta_of (seen (Found x)) ≡ Some meta → OnErr result (AppendsPart (W.contents writer.old) (W.contents writer.new) (entry_lines path.now x)) }
+{
     match meta {
-        Meta::Dir => Ok(put_directory(writer, &path)?),
+        Meta::Dir => Ok(put_directory(writer, path)?),
         Meta::File { len } => {
-            put_file(writer, &path, len)?;
-            print_blocks(alloc, &indexes.block, &path, writer)
+            put_file(writer, path, len)?;
+            print_blocks(alloc, &indexes.block, path, writer)
         }
     }
 }
@@ -115,15 +190,48 @@ fn print_blocks<W: Write>(
     let mut next = 0u32;
     // No file has more blocks.
     for _ in 0..u64::MAX {
-        let rest = blocks_from(alloc, path, next)?;
-        let Some((key, block)) = first_in(alloc, &index.tree, &rest)? else {
+        let Some((number, block)) = first_block(alloc, index, path, next)? else {
             return Ok(());
         };
-        let number = number_of(&key);
-        put_block(writer, number, block.as_slice())?;
+        print_block(writer, number, block)?;
         next = number.saturating_add(1);
     }
     Err(ImageFault::Memory)
+}
+
+/// Writes the line of a block, or a beginning of it.
+fn print_block<W: Write>(writer: &mut W, number: u32, block: Block) -> Result<(), WriteFailed>
+    ensures ok { OnOk result (Appends (W.contents writer.old) (W.contents writer.new) (block_line number (trimmed block))) }
+    ensures err { OnErr result (AppendsPart (W.contents writer.old) (W.contents writer.new) (block_line number (trimmed block))) }
+{
+    let told = put_block(writer, number, block.as_slice());
+    drop(block);
+    told
+}
+
+/// The first block of a file from a number on, with its number; none where none is left.
+fn first_block(
+    alloc: Global,
+    index: &BlockIndex,
+    path: &Path,
+    from: u32,
+) -> Result<Option<(u32, Block)>, NoMemory>
+    requires { path.now ≢ [] }
+    ensures { (t : Tree) (b : List ℕ) → IsTree t → BlocksMean t (blocks index.now) → entry_at t path.now ≡ Found (File b) → from ≤ most_blocks → IfOk result (IsNextBlock b from) }
+{
+    let rest = blocks_from(alloc, path, from)?;
+    match first_in(alloc, &index.tree, &rest)? {
+        Some((key, block)) => {
+            let number = number_of(&key);
+            drop(key);
+            drop(rest);
+            Ok(Some((number, block)))
+        }
+        None => {
+            drop(rest);
+            Ok(None)
+        }
+    }
 }
 
 /// The number of the block that has the key.

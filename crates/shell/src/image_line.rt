@@ -45,8 +45,11 @@ pub fn read_image_line(alloc: Global, text: &[u8]) -> Result<Option<ImageLine>, 
     };
     let written = write_line(alloc, &line)?;
     if written.as_slice() == text {
+        drop(written);
         Ok(Some(line))
     } else {
+        drop(written);
+        drop(line);
         Ok(None)
     }
 }

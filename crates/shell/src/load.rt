@@ -2,14 +2,15 @@
 //!
 //! One line is held at a time, and of a file no block beside the volume's own. Of the lines before, only what decides which line
 //! may follow is kept.
-ghost use Rattle.std.specs.Prelude.{◌≡◌, ◌≢◌, ◌↔◌, All, ◌≤◌, ◌<◌, ◌+◌, ◌++◌, ◌∷◌, [], ℕ, List, Some, None, Err, false, length, vec_capacity, IfOk, OnOk, OnErr, codes};
+ghost use Rattle.std.specs.Prelude.{◌≡◌, ◌≢◌, ◌↔◌, All, ◌≤◌, ◌<◌, ◌+◌, ◌++◌, ◌∷◌, [], ℕ, List, Some, None, Err, false, true, length, IfSome, vec_capacity, IfOk, OnOk, OnErr, codes};
 ghost use Rattle.node.specs.Shapes.{is_shape};
 ghost use Rattle.reference.specs.Tree.{Dir, nothing};
+ghost use Rattle.reference.specs.declared.call.Call.TheVariants.{Write};
 ghost use Rattle.volume.specs.Volumes.{Means};
 ghost use Rattle.reference.specs.ImageLines.{IsBlock, IsLine, Line};
 ghost use Rattle.reference.specs.ImageLines.{BlockLine, DirectoryLine, FileLine};
 ghost use Rattle.shell.specs.ImageLines.{line_of};
-ghost use Rattle.shell.specs.Loads.{HasRead, IsBadIn, LoadsAll, LoadsEnd, LoadsLine, LoadsNext, LoadsPiece, LoadsRoot, MayNotFollow, RefusesEnd, RefusesLine, RefusesPiece, alone, entry_line, len_of};
+ghost use Rattle.shell.specs.Loads.{Counts, FitsAt, HasRead, IsBadIn, LoadsAll, LoadsEnd, LoadsLine, LoadsNext, LoadsPiece, LoadsRoot, MayNotFollow, RefusesEnd, RefusesLine, RefusesPiece, alone, entry_line, len_of};
 
 use crate::command::LONGEST_LINE;
 use crate::image_line::{ImageLine, read_image_line};
@@ -70,15 +71,23 @@ fn load_into<R: Read>(alloc: Global, volume: Volume, reader: &mut R) -> Result<V
     ensures shape { result ≢ Err LoadFault.Shape }
 {
     let Ok(mut piece) = Vec::from_elem(alloc, 0u8, PIECE) else {
+        drop(volume);
         return Err(LoadFault::Memory);
     };
     let Ok(mut held) = Vec::with_capacity(alloc, LONGEST_LINE + 1) else {
+        drop(piece);
+        drop(volume);
         return Err(LoadFault::Memory);
     };
     let mut loading = Loading::new(alloc, volume);
     if let Err(fault) = loading.take_all(alloc, reader, piece.as_mut_slice(), &mut held) {
+        drop(loading);
+        drop(held);
+        drop(piece);
         return Err(fault);
     }
+    drop(held);
+    drop(piece);
     Ok(loading.volume)
 }
 
@@ -279,10 +288,13 @@ impl Loading {
         ensures shape { result ≢ Err LoadFault.Shape }
     {
         if self.last.key().cmp(path.key()) != Ordering::Less {
+            drop(path);
             return Err(LoadFault::Bad(number));
         }
         if let Err(fault) = self.volume.plant_entry(alloc, &path, meta) {
-            return Err(entry_fault(fault, number));
+            let refused = entry_fault(fault, number);
+            drop(path);
+            return Err(refused);
         }
         self.len = len_of(meta);
         self.last = path;
@@ -305,26 +317,65 @@ impl Loading {
         ensures bad { (n : ℕ) → result ≡ Err (LoadFault.Bad n) → (n ≡ number) × MayNotFollow (BlockLine index bytes) self.old }
         ensures shape { result ≢ Err LoadFault.Shape }
     {
-        let Some(len) = self.len else {
+        let Some(offset) = self.offset_of(index, bytes.len() as u64) else {
             return Err(LoadFault::Bad(number));
+        };
+        if !write_bytes(alloc, &mut self.volume, &self.last, offset, bytes) {
+            return Err(LoadFault::Memory);
+        }
+        self.next = u64::from(index) + 1;
+        self.lines = number;
+        Ok(())
+    }
+
+    /// Where in the last file a block of this number and of so many bytes lies; none where it may not follow.
+    fn offset_of(&self, index: u32, len: u64) -> Option<u64>
+        requires { len ≤ 4096 }
+        ensures fits { IfSome result (FitsAt index len self.now) }
+        ensures none { result ≡ None → (b : List ℕ) → length b ≡ len → MayNotFollow (BlockLine index b) self.now }
+    {
+        let Some(file) = self.len else {
+            return None;
         };
         let index = u64::from(index);
+        if index < self.next {
+            return None;
+        }
         let offset = BLOCK * index;
-        if index < self.next || offset + bytes.len() as u64 > len {
-            return Err(LoadFault::Bad(number));
+        let end = offset + len;
+        if file < end {
+            return None;
         }
-        let Ok(path) = self.last.copy(alloc) else {
-            return Err(LoadFault::Memory);
-        };
-        let call = Call::Write(path, offset, bytes);
-        match self.volume.call(alloc, &call) {
-            Reply::Count(_) => {
-                self.next = index + 1;
-                self.lines = number;
-                Ok(())
-            }
-            _ => Err(LoadFault::Memory),
+        Some(offset)
+    }
+}
+
+/// Writes bytes into a file of the volume; `false` where memory is refused.
+fn write_bytes(alloc: Global, volume: &mut Volume, path: &Path, offset: u64, bytes: Bytes) -> bool
+    ensures { result ≡ true → Counts (Write path.now offset bytes) volume.old volume.new }
+{
+    match path.copy(alloc) {
+        Ok(path) => {
+            let call = Call::Write(path, offset, bytes);
+            let counted = counts(alloc, volume, &call);
+            drop(call);
+            counted
         }
+        Err(NoMemory) => {
+            drop(bytes);
+            false
+        }
+    }
+}
+
+/// Whether a call is answered by a count.
+fn counts(alloc: Global, volume: &mut Volume, call: &Call) -> bool
+    ensures { result ≡ true → Counts call.now volume.old volume.new }
+{
+    let reply = volume.call(alloc, call);
+    match &reply {
+        Reply::Count(_) => true,
+        _ => false,
     }
 }
 

@@ -66,20 +66,29 @@ pub fn run_words<H: Files + Threads + Wait + Sync, R: Read, W: Write + Drop, E: 
     alloc: Global,
     words: &[&str],
     input: &mut R,
-    output: W,
+    mut output: W,
     errors: &mut E,
 ) -> u8 {
     let ended = match read_words(alloc, words) {
-        Ok(options) => run(rt, alloc, &options, input, output),
-        Err(error) => end_unread(error, output),
+        Ok(options) => run(rt, alloc, &options, input, &mut output),
+        Err(error) => end_unread(error, &mut output),
     };
-    match ended {
+    let status = match &ended {
         Ok(()) => DONE,
-        Err(Failure::Words(error)) => {
+        Err(failure) => tell(failure, errors),
+    };
+    drop(ended);
+    status
+}
+
+/// Prints why the program ends early. Answers with what status.
+fn tell<E: Write>(failure: &Failure, errors: &mut E) -> u8 {
+    match failure {
+        Failure::Words(error) => {
             let _ = write!(errors, "{error}");
             REFUSED
         }
-        Err(failure) => {
+        _ => {
             let _ = writeln!(errors, "{failure}");
             FAILED
         }
@@ -87,34 +96,57 @@ pub fn run_words<H: Files + Threads + Wait + Sync, R: Read, W: Write + Drop, E: 
 }
 
 /// Prints help, where that was asked for.
-fn end_unread<W: Write + Drop>(error: clap::Error, mut output: W) -> Result<(), Failure> {
+fn end_unread<W: Write>(error: clap::Error, output: &mut W) -> Result<(), Failure> {
     if error.kind() == ErrorKind::OutOfMemory {
+        drop(error);
         return Err(Failure::Memory);
     }
     if error.use_stderr() {
         return Err(Failure::Words(error));
     }
-    match write!(output, "{error}") {
-        Ok(()) => flush(&mut output),
+    let ended = print_help(&error, output);
+    drop(error);
+    ended
+}
+
+/// Prints help.
+fn print_help<W: Write>(help: &clap::Error, output: &mut W) -> Result<(), Failure> {
+    match write!(output, "{help}") {
+        Ok(()) => flush(output),
         Err(_) => Err(Failure::Write),
     }
 }
 
 /// Runs the script that the options name over the volume that they start with.
-fn run<H: Files + Threads + Wait + Sync, R: Read, W: Write + Drop>(
+fn run<H: Files + Threads + Wait + Sync, R: Read, W: Write>(
     rt: &H,
     alloc: Global,
     options: &Options<'_>,
     input: &mut R,
-    output: W,
+    output: &mut W,
 ) -> Result<(), Failure> {
     let volume = first_volume(rt, alloc, options)?;
     match options.script {
-        Some(path) => {
-            let mut file = open(rt, path)?;
-            print(rt, alloc, volume, options, &mut file, output)
-        }
+        Some(path) => run_file(rt, alloc, volume, path, options, output),
         None => print(rt, alloc, volume, options, input, output),
+    }
+}
+
+/// Runs the script that stands in a file.
+fn run_file<H: Files + Threads + Wait + Sync, W: Write>(
+    rt: &H,
+    alloc: Global,
+    volume: Volume,
+    path: &str,
+    options: &Options<'_>,
+    output: &mut W,
+) -> Result<(), Failure> {
+    match open(rt, path) {
+        Ok(mut file) => print(rt, alloc, volume, options, &mut file, output),
+        Err(failure) => {
+            drop(volume);
+            Err(failure)
+        }
     }
 }
 
@@ -156,28 +188,65 @@ fn open<F: Files>(rt: &F, path: &str) -> Result<F::File, Failure> {
 }
 
 /// Prints the replies to a script, gathered into large writes, and then the image if the options ask for it.
-fn print<H: Threads + Wait + Sync, R: Read, W: Write + Drop>(
+fn print<H: Threads + Wait + Sync, R: Read, W: Write>(
     rt: &H,
     alloc: Global,
     volume: Volume,
     options: &Options<'_>,
     script: &mut R,
-    output: W,
+    output: &mut W,
 ) -> Result<(), Failure> {
-    let Ok(mut buffer) = BufWriter::with_capacity(alloc, OUTPUT_BUFFER, output) else {
-        return Err(Failure::Memory);
-    };
-    let tree = if options.flushers > 0 {
-        run_beside_flushers(rt, alloc, volume, options.flushers, script, &mut buffer).map_err(
-            Failure::Script,
-        )?
-    } else {
-        print_replies(alloc, volume, options.steps, script, &mut buffer)?
-    };
-    if options.image {
-        print_image(alloc, &tree, &mut buffer).map_err(Failure::Image)?;
+    match BufWriter::with_capacity(alloc, OUTPUT_BUFFER, output) {
+        Ok(mut buffer) => print_all(rt, alloc, volume, options, script, &mut buffer),
+        Err(_) => {
+            drop(volume);
+            Err(Failure::Memory)
+        }
     }
-    flush(&mut buffer)
+}
+
+/// Prints the replies to a script, and then the image if the options ask for it.
+fn print_all<H: Threads + Wait + Sync, R: Read, W: Write>(
+    rt: &H,
+    alloc: Global,
+    volume: Volume,
+    options: &Options<'_>,
+    script: &mut R,
+    writer: &mut W,
+) -> Result<(), Failure> {
+    let tree = if options.flushers > 0 {
+        print_beside(rt, alloc, volume, options.flushers, script, writer)?
+    } else {
+        print_replies(alloc, volume, options.steps, script, writer)?
+    };
+    let ended = print_end(alloc, &tree, options.image, writer);
+    drop(tree);
+    ended
+}
+
+/// Prints the replies to a script while so many flushers tidy. Answers the tree that is live at the end.
+fn print_beside<H: Threads + Wait + Sync, R: Read, W: Write>(
+    rt: &H,
+    alloc: Global,
+    volume: Volume,
+    flushers: u8,
+    script: &mut R,
+    writer: &mut W,
+) -> Result<Frozen, Failure> {
+    run_beside_flushers(rt, alloc, volume, flushers, script, writer).map_err(Failure::Script)
+}
+
+/// Prints the image of a tree if that is asked for, and writes out what is gathered.
+fn print_end<W: Write>(
+    alloc: Global,
+    tree: &Frozen,
+    image: bool,
+    writer: &mut W,
+) -> Result<(), Failure> {
+    if image {
+        print_image(alloc, tree, writer).map_err(Failure::Image)?;
+    }
+    flush(writer)
 }
 
 /// Prints the replies to a script; so many steps of tidying follow each line. Answers the tree that is live at the end.
@@ -188,8 +257,21 @@ fn print_replies<R: Read, W: Write>(
     script: &mut R,
     writer: &mut W,
 ) -> Result<Frozen, Failure> {
+    let tree = print_to_end(alloc, &mut volume, steps, script, writer);
+    drop(volume);
+    tree
+}
+
+/// The same on a volume that is lent.
+fn print_to_end<R: Read, W: Write>(
+    alloc: Global,
+    volume: &mut Volume,
+    steps: u16,
+    script: &mut R,
+    writer: &mut W,
+) -> Result<Frozen, Failure> {
     let mut pace = Tidy::new(steps);
-    run_script(alloc, &mut volume, script, writer, &mut pace).map_err(Failure::Script)?;
+    run_script(alloc, volume, script, writer, &mut pace).map_err(Failure::Script)?;
     volume.freeze().map_err(|_| Failure::Memory)
 }
 

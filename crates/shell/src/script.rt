@@ -18,6 +18,7 @@ use crate::request::Request;
 use crate::session::Session;
 use crate::words::cut_line;
 use pathkey::Errno;
+use reference::Reply;
 use std::alloc::Global;
 use std::io::{Read, Write};
 use thiserror::Error;
@@ -244,7 +245,7 @@ fn do_line<S: Session, W: Write, P: Pace>(
     Ok(())
 }
 
-// Does one line, and writes its reply.
+// Does one line, and writes its reply. What was asked is let go by a call: its kinds are not told apart here.
 fn answer_line<S: Session, W: Write>(
     alloc: Global,
     session: &mut S,
@@ -257,7 +258,9 @@ fn answer_line<S: Session, W: Write>(
         (AppendsPart (W.contents writer.old) (W.contents writer.new))) }
 {
     let request = read_request(alloc, line);
-    answer(alloc, session, &request, writer)
+    let told = answer(alloc, session, &request, writer);
+    drop(request);
+    told
 }
 
 // Does what is asked for, and writes the reply.
@@ -279,7 +282,7 @@ fn answer<S: Session, W: Write>(
         Request::Refused(fault) => put_fault(writer, *fault),
         Request::Wanted(call) => {
             let reply = session.call(alloc, call);
-            write_reply(writer, &reply)
+            put_reply(writer, reply)
         }
         Request::Snapshot(name) => {
             let settled = session.snapshot(alloc, name);
@@ -295,9 +298,19 @@ fn answer<S: Session, W: Write>(
         }
         Request::Past(name, look) => {
             let reply = session.look_back(alloc, name, look);
-            write_reply(writer, &reply)
+            put_reply(writer, reply)
         }
     }
+}
+
+// Writes the reply to a call.
+fn put_reply<W: Write>(writer: &mut W, reply: Reply) -> Result<(), WriteFailed>
+    ensures ok { OnOk result (Appends (W.contents writer.old) (W.contents writer.new) (reply_text reply)) }
+    ensures err { OnErr result (AppendsPart (W.contents writer.old) (W.contents writer.new) (reply_text reply)) }
+{
+    let told = write_reply(writer, &reply);
+    drop(reply);
+    told
 }
 
 // Writes the reply to a snapshot call.

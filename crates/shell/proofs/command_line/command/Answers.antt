@@ -1,16 +1,13 @@
-use Rattle.std.proofs.Common.{rules as std_rules, codes, ap₂, ◌≡◌, ◌∙◌}
-use Rattle.clap.specs.Words.{app_of, new_app, new_rule, rule_of, with_rule}
+use Rattle.std.proofs.Common.{codes, ◌≡◌, ◌∙◌}
+use Rattle.std.proofs.lemmas.Result.{IfOk-weaker}
+use Rattle.clap.specs.Words.{app_of, new_app}
 use Rattle.clap.specs.Simple.{on_top}
-use Rattle.shell.specs.CommandLine.{rules}
+use Rattle.shell.specs.CommandLine.{betr_of_numbers, rules}
 use Rattle.shell.proofs.OptionFacts.{betr_is}
 use Rattle.shell.proofs.command_line.command.Goals as goal
 
 pub returns : goal.returns
 returns c =
-    let script_is : rule_of c.help-script.result ≡ new_rule (codes "SCRIPT") = search std_rules in
-    let shape : app_of c.in_ok-command-4.command ≡ on_top (λ s. record s { rules = rules }) (new_app (codes "betr")) =
-    c.in_ok-command-4.ensures.shape (search std_rules) ∙ ap₂ with_rule
-    (c.in_ok-command-3.ensures.shape c.switch-image.ensures.local ∙ ap₂ with_rule
-    (c.in_ok-command-2.ensures.shape c.text_option-load.ensures.local ∙ ap₂ with_rule
-    c.in_ok-command.ensures c.text_option-load.ensures.rule) c.switch-image.ensures.rule) script_is in
-    shape ∙ betr_is
+    IfOk-weaker c.with_script.result _ _
+    (λ r is. let shape : app_of r ≡ on_top (λ s. record s { rules = rules }) (new_app (codes "betr")) = is in shape ∙ betr_is)
+    (c.with_script.ensures _ (c.with_image-printing.ensures _ (c.with_load-loading.ensures betr_of_numbers c.with_shape.ensures)))

@@ -24,10 +24,10 @@ pub returns-in-Refused-clause-err : goal.returns-in-Refused-clause-err
 returns-in-Refused-clause-err g c = on_err_map _ _ _ (answers_kept _ _ _ _ _ c.in-Refused.is (λ w. (refl, refl))) c.put_fault.ensures.err
 
 pub returns-in-Wanted-clause-ok : goal.returns-in-Wanted-clause-ok
-returns-in-Wanted-clause-ok g c = on_ok_map _ _ _ (answers_call _ _ _ _ _ _ c.in-Wanted.is c.call-reply.ensures) c.write_reply.ensures.ok
+returns-in-Wanted-clause-ok g c = on_ok_map _ _ _ (answers_call _ _ _ _ _ _ c.in-Wanted.is c.call-reply.ensures) c.put_reply.ensures.ok
 
 pub returns-in-Wanted-clause-err : goal.returns-in-Wanted-clause-err
-returns-in-Wanted-clause-err g c = on_err_map _ _ _ (answers_call _ _ _ _ _ _ c.in-Wanted.is c.call-reply.ensures) c.write_reply.ensures.err
+returns-in-Wanted-clause-err g c = on_err_map _ _ _ (answers_call _ _ _ _ _ _ c.in-Wanted.is c.call-reply.ensures) c.put_reply.ensures.err
 
 pub returns-in-Snapshot-clause-ok : goal.returns-in-Snapshot-clause-ok
 returns-in-Snapshot-clause-ok g c = on_ok_map _ _ _ (answers_settled _ _ _ _ (TakeSnapshot c.in-Snapshot.name) _ (λ w text w'. answers_as _ _ w text w' c.in-Snapshot.is) c.snapshot-settled.ensures) c.put_settled.ensures.ok
@@ -48,10 +48,10 @@ pub returns-in-Restore-clause-err : goal.returns-in-Restore-clause-err
 returns-in-Restore-clause-err g c = on_err_map _ _ _ (answers_settled _ _ _ _ (RestoreSnapshot c.in-Restore.name) _ (λ w text w'. answers_as _ _ w text w' c.in-Restore.is) c.restore-settled.ensures) c.put_settled-in-Restore.ensures.err
 
 pub returns-in-Past-clause-ok : goal.returns-in-Past-clause-ok
-returns-in-Past-clause-ok g c = on_ok_map _ _ _ (answers_look _ _ _ _ _ _ _ c.in-Past.is c.look_back-reply.ensures) c.write_reply-in-Past.ensures.ok
+returns-in-Past-clause-ok g c = on_ok_map _ _ _ (answers_look _ _ _ _ _ _ _ c.in-Past.is c.look_back-reply.ensures) c.put_reply-in-Past.ensures.ok
 
 pub returns-in-Past-clause-err : goal.returns-in-Past-clause-err
-returns-in-Past-clause-err g c = on_err_map _ _ _ (answers_look _ _ _ _ _ _ _ c.in-Past.is c.look_back-reply.ensures) c.write_reply-in-Past.ensures.err
+returns-in-Past-clause-err g c = on_err_map _ _ _ (answers_look _ _ _ _ _ _ _ c.in-Past.is c.look_back-reply.ensures) c.put_reply-in-Past.ensures.err
 
 pub returns-in-Silent-clause-ok : goal.returns-in-Silent-clause-ok
 returns-in-Silent-clause-ok g c = answers_kept _ _ _ _ [] c.in-Silent.is (λ w. (refl, refl)) (Appends-nil _)

@@ -1,8 +1,16 @@
-use Rattle.std.proofs.Common.{rules, arith}
-use Rattle.shell.proofs.LoadFacts.{block_done_by}
+use Rattle.std.proofs.Common.{ℕ, arith, rules, subst, sym}
+use Rattle.shell.specs.Loads.{FitsAt}
+use Rattle.shell.proofs.LoadFacts.{bad_number, block_at}
 use Rattle.shell.proofs.load.Loading.take_block.Goals as goal
 
-pub returns-in-Count-clause-ok : goal.returns-in-Count-clause-ok
-returns-in-Count-clause-ok c = block_done_by c.args.self.now c.call.new.self c.args.index c.from-index.result _ c.in-Ok.path c.args.bytes c.in-Some.len c.args.number c.in-Count.field-0 c.call.result
-    c.from-index.ensures (search rules) c.in-Ok.ensures c.in-Count.is c.requires.number c.requires.block c.in-Some.is
-    (omega (arith, c.if-index-self.false)) (omega (arith, c.if-offset-len.false, c.len.ensures.value)) c.call.ensures
+pub offset_of-requires : goal.offset_of-requires
+offset_of-requires c = omega (arith, c.len.ensures.value, c.requires.block.most)
+
+pub returns-in_default-clause-bad : goal.returns-in_default-clause-bad
+returns-in_default-clause-bad c = λ n e. (sym (bad_number c.args.number n e), c.in_default.ensures.none (cc) c.args.bytes (omega (arith, c.len.ensures.value)))
+
+pub returns-clause-ok : goal.returns-clause-ok
+returns-clause-ok c = block_at c.args.self.now c.write_bytes.new.volume c.args.index c.from.result c.in-Some.offset c.args.bytes c.args.number
+    c.from.ensures c.requires.number c.requires.block
+    (subst (λ (k : ℕ). FitsAt c.args.index k c.args.self.now c.in-Some.offset) c.len.ensures.value c.in-Some.ensures.fits)
+    (c.write_bytes.ensures (search rules))

@@ -6,7 +6,7 @@ use Rattle.shell.proofs.load.Loading.take_entry.Goals as goal
 
 pub returns-in-Err-clause-bad : goal.returns-in-Err-clause-bad
 returns-in-Err-clause-bad c = λ n e.
-    let told = c.entry_fault.ensures.bad n (cc) in (
+    let told = c.entry_fault-refused.ensures.bad n (cc) in (
       told.0,
       entry_refused c.args.self.now c.plant_entry.new.self c.args.path c.args.meta c.in-Err.fault told.1
           (subst (λ r. Plants c.args.path c.args.meta r c.args.self.now.volume c.plant_entry.new.self) c.in-Err.is c.plant_entry.ensures),

@@ -5,11 +5,11 @@ use Rattle.message.specs.Ranges.{reaches}
 use Rattle.reference.specs.Image.{image}
 use Rattle.reference.specs.Tree.{Tree}
 use Rattle.shell.proofs.ImageEntries.{image_from}
-use Rattle.shell.proofs.image.print_image.Given as goal
+use Rattle.shell.proofs.image.print_all.Given as goal
 
 -- the lines from the low end on are all that is left to print
 abbrev pub invariant-loop : goal.invariant-loop
 invariant-loop g l =
     (l.rest.hi ≡ None)
     × (reaches l.rest.lo [] ≡ false)
-    × ((t : Tree) → MeanTree l.frozen t → (done : List ℕ) × (image t ≡ done ++ image_from l.rest.lo t) × Appends (g.W.Write.contents l.fn.writer) (g.W.Write.contents l.writer) done)
+    × ((t : Tree) → MeanTree l.indexes t → (done : List ℕ) × (image t ≡ done ++ image_from l.rest.lo t) × Appends (g.W.Write.contents l.fn.writer) (g.W.Write.contents l.writer) done)

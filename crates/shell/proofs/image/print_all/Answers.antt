@@ -1,8 +1,7 @@
 use Rattle.std.proofs.Common.{◌≡◌, ◌++◌, false, ℕ, List, [], codes, refl, sym, ap, ◌∙◌, subst, append_assoc, append-nil}
+use Rattle.std.specs.Prelude.{IfSome}
 use Rattle.std.specs.Io.KnownBytes.{Appends}
 use Rattle.std.proofs.KnownBytes.{Appends-trans}
-use Rattle.call_compiler.specs.Compiled.{MeanTree}
-use Rattle.call_compiler.specs.declared.indexes.Indexes.{Indexes}
 use Rattle.message.specs.Ranges.{reaches}
 use Rattle.pathkey.specs.Keys.{next_key}
 use Rattle.reference.specs.Image.{image}
@@ -10,7 +9,7 @@ use Rattle.shell.specs.Image.{entry_lines}
 use Rattle.shell.specs.Parts.{AppendsPart}
 use Rattle.shell.proofs.Known.{on_err, part_after, part_before}
 use Rattle.shell.proofs.ImageEntries.{FirstEntry, behind_root, image_from, image_starts, walk_ends, walk_goes_on}
-use Rattle.shell.proofs.image.print_image.Goals as goal
+use Rattle.shell.proofs.image.print_all.Goals as goal
 
 pub returns-in_err-put-clause-err : goal.returns-in_err-put-clause-err
 returns-in_err-put-clause-err g c = λ t mean.
@@ -18,8 +17,8 @@ returns-in_err-put-clause-err g c = λ t mean.
 
 pub loop-init : goal.loop-init
 loop-init g c =
-    let low : c.in_ok-lo.lo ≡ next_key [] = c.in_ok-lo.ensures ∙ ap next_key c.new.ensures in (
-      refl,
+    let low : c.args.rest.now.lo ≡ next_key [] = c.requires.0 in (
+      c.requires.1,
       subst (λ (k : List ℕ). reaches k [] ≡ false) (sym low) (behind_root []),
       λ t mean. (codes "d /\n", image_starts t mean.tree ∙ ap (λ (k : List ℕ). codes "d /\n" ++ image_from k t) (sym low), c.in_ok-put.ensures.ok),
     )
@@ -34,46 +33,41 @@ pub returns-in_default-clause-ok : goal.returns-in_default-clause-ok
 returns-in_default-clause-ok g c = λ t mean.
     let (done, split, written) = c.loop.invariant.2 t mean in
     let none : image_from c.loop.rest.lo t ≡ [] =
-    walk_ends c.indexes-indexes.result.now c.args.frozen.now c.indexes-indexes.ensures t mean c.loop.rest.lo c.loop.rest.hi c.loop.invariant.0 c.in_ok-key.field-0 c.in_ok-key.ensures c.in_default.is
+    walk_ends c.args.indexes.now c.args.indexes.now refl t mean c.loop.rest.lo c.loop.rest.hi c.loop.invariant.0 c.in_ok-key.field-0 c.in_ok-key.ensures.first c.in_default.is
     in
     subst (Appends _ _) (sym (split ∙ ap (λ (l : List ℕ). done ++ l) none ∙ append-nil done)) written
-
-pub returns-in_err-behind-clause-err : goal.returns-in_err-behind-clause-err
-returns-in_err-behind-clause-err g c = λ t mean.
-    let (done, split, written) = c.loop.invariant.2 t mean in
-    let part : AppendsPart (g.W.Write.contents c.args.writer.now) (g.W.Write.contents c.loop.writer) (image t) = (done, image_from c.loop.rest.lo t, split, written) in
-    on_err _ _ part
 
 pub returns-in_err-print_entry-clause-err : goal.returns-in_err-print_entry-clause-err
 returns-in_err-print_entry-clause-err g c = λ t mean.
     let (done, split, written) = c.loop.invariant.2 t mean in
     let next : FirstEntry t c.loop.rest.lo c.in-Some.key c.in-Some.meta =
-    walk_goes_on c.indexes-indexes.result.now c.args.frozen.now c.indexes-indexes.ensures t mean c.loop.rest.lo c.loop.rest.hi c.loop.invariant.0 c.in_ok-key.field-0 c.in_ok-key.ensures c.in-Some.key c.in-Some.meta c.in-Some.is c.loop.invariant.1
+    walk_goes_on c.args.indexes.now c.args.indexes.now refl t mean c.loop.rest.lo c.loop.rest.hi c.loop.invariant.0 c.in_ok-key.field-0 c.in_ok-key.ensures.first c.in-Some.key c.in-Some.meta c.in-Some.is c.loop.invariant.1
     in
-    let part = c.in_err-print_entry.ensures.err t next.path next.tree (subst (λ (i : Indexes). MeanTree i t) (sym c.indexes-indexes.ensures) mean) next.stands next.key next.meta in
+    let part = c.in_err-print_entry.ensures.err t next.path next.tree mean next.stands next.key next.meta in
     let lines : List ℕ = entry_lines next.path next.tree in
     let rest : List ℕ = image_from (next_key c.in-Some.key) t in
     on_err _ _ (subst (AppendsPart _ _) (sym (split ∙ ap (λ (l : List ℕ). done ++ l) next.text)) (part_after _ _ _ done (lines ++ rest) written (part_before _ _ lines rest part)))
 
 pub loop-preserved : goal.loop-preserved
-loop-preserved g c = (
-  c.loop.invariant.0,
-  subst (λ (k : List ℕ). reaches k [] ≡ false) (sym c.in_ok-behind.ensures) (behind_root c.in-Some.key),
-  λ t mean.
-      let (done, split, written) = c.loop.invariant.2 t mean in
-      let next : FirstEntry t c.loop.rest.lo c.in-Some.key c.in-Some.meta =
-      walk_goes_on c.indexes-indexes.result.now c.args.frozen.now c.indexes-indexes.ensures t mean c.loop.rest.lo c.loop.rest.hi c.loop.invariant.0 c.in_ok-key.field-0 c.in_ok-key.ensures c.in-Some.key c.in-Some.meta c.in-Some.is c.loop.invariant.1
-      in
-      let more = c.in_ok-print_entry.ensures.ok t next.path next.tree (subst (λ (i : Indexes). MeanTree i t) (sym c.indexes-indexes.ensures) mean) next.stands next.key next.meta in
-      let lines : List ℕ = entry_lines next.path next.tree in (
-        done ++ lines,
-        split
-            ∙ ap (λ (l : List ℕ). done ++ l) next.text
-            ∙ sym (append_assoc done lines (image_from (next_key c.in-Some.key) t))
-            ∙ ap (λ (k : List ℕ). (done ++ lines) ++ image_from k t) (sym c.in_ok-behind.ensures),
-        Appends-trans _ _ _ done lines written more,
-      ),
-)
+loop-preserved g c =
+    let behind : c.next_entry.new.rest.lo ≡ next_key c.in-Some.key = subst (λ o. IfSome o (λ e. c.next_entry.new.rest.lo ≡ next_key e.0)) c.in-Some.is c.in_ok-key.ensures.behind in (
+      c.next_entry.ensures.end ∙ c.loop.invariant.0,
+      subst (λ (k : List ℕ). reaches k [] ≡ false) (sym behind) (behind_root c.in-Some.key),
+      λ t mean.
+          let (done, split, written) = c.loop.invariant.2 t mean in
+          let next : FirstEntry t c.loop.rest.lo c.in-Some.key c.in-Some.meta =
+          walk_goes_on c.args.indexes.now c.args.indexes.now refl t mean c.loop.rest.lo c.loop.rest.hi c.loop.invariant.0 c.in_ok-key.field-0 c.in_ok-key.ensures.first c.in-Some.key c.in-Some.meta c.in-Some.is c.loop.invariant.1
+          in
+          let more = c.in_ok-print_entry.ensures.ok t next.path next.tree mean next.stands next.key next.meta in
+          let lines : List ℕ = entry_lines next.path next.tree in (
+            done ++ lines,
+            split
+                ∙ ap (λ (l : List ℕ). done ++ l) next.text
+                ∙ sym (append_assoc done lines (image_from (next_key c.in-Some.key) t))
+                ∙ ap (λ (k : List ℕ). (done ++ lines) ++ image_from k t) (sym behind),
+            Appends-trans _ _ _ done lines written more,
+          ),
+    )
 
 pub returns-clause-err : goal.returns-clause-err
 returns-clause-err g c = λ t mean.
