@@ -1,5 +1,6 @@
 //! Updates of single blocks, and a file's bytes through an index, in tables with the values written out.
 
+use crate::rows::{Holds, all_hold};
 use block_index::{Block, BlockIndex, BlockUpdate, Patch};
 use bytes::Bytes;
 use message::{Msg, Update};
@@ -15,8 +16,8 @@ const SHAPE: Shape = Shape {
 };
 
 /// An update of one block, as a table can hold it.
-#[derive(Clone, Copy, Debug)]
-enum Laid {
+#[derive(Clone, Copy)]
+pub enum Laid {
     /// Bytes from an offset on.
     Patch(u16, &'static [u8]),
     /// A cut to so many bytes.
@@ -31,12 +32,20 @@ fn patch(off: u16, bytes: Bytes) -> Option<BlockUpdate> {
     Some(BlockUpdate::Patch(Patch::new(off, bytes)))
 }
 
+/// The same of these bytes.
+fn patched(alloc: Global, off: u16, new: &[u8]) -> Option<BlockUpdate> {
+    match Bytes::copy_from_slice(alloc, new) {
+        Ok(bytes) => patch(off, bytes),
+        Err(_) => None,
+    }
+}
+
 impl Laid {
     /// The update; none where a patch ends behind its block, or memory is refused.
-    fn update(self, alloc: Global) -> Option<BlockUpdate> {
+    pub fn update(self, alloc: Global) -> Option<BlockUpdate> {
         match self {
             Laid::CutTo(len) => Some(BlockUpdate::CutTo(len)),
-            Laid::Patch(off, new) => patch(off, Bytes::copy_from_slice(alloc, new).ok()?),
+            Laid::Patch(off, new) => patched(alloc, off, new),
         }
     }
 }
@@ -49,7 +58,8 @@ fn block(alloc: Global, bytes: &[u8]) -> Option<Block> {
     Block::copied(alloc, bytes).ok()
 }
 
-/// Changes a block; `false` where memory is refused. It ensures nothing, so that no proof of a test reads what an update means; nor do the next.
+/// Changes a block; `false` where memory is refused. It ensures nothing, so that no proof of a test reads what an update means; nor do
+/// the next.
 fn change(alloc: Global, update: &BlockUpdate, block: &mut Block) -> bool {
     matches!(update.change(alloc, block), Ok(true))
 }
@@ -68,21 +78,25 @@ fn makes(alloc: Global, update: &BlockUpdate, wanted: &[u8]) -> bool {
 }
 
 /// The update that two are.
-fn joined(alloc: Global, first: &BlockUpdate, later: &BlockUpdate) -> Option<Option<BlockUpdate>> {
-    first.join(alloc, later).ok()
+fn join_both(
+    alloc: Global,
+    first: &BlockUpdate,
+    later: &BlockUpdate,
+) -> Result<Option<BlockUpdate>, NoMemory> {
+    first.join(alloc, later)
 }
 
 /// Whether two updates are one that makes these bytes; or none.
 fn join_to(alloc: Global, first: &BlockUpdate, later: &BlockUpdate, wanted: Option<&[u8]>) -> bool {
-    match (joined(alloc, first, later), wanted) {
-        (Some(Some(one)), Some(bytes)) => makes(alloc, &one, bytes),
-        (Some(None), None) => true,
-        _ => false,
+    match join_both(alloc, first, later) {
+        Ok(Some(one)) => matches!(wanted, Some(bytes) if makes(alloc, &one, bytes)),
+        Ok(None) => wanted.is_none(),
+        Err(_) => false,
     }
 }
 
 /// Two updates, and the bytes that the one which they are makes of five; none where they are not one.
-type Joined = (Laid, Laid, Option<&'static [u8]>);
+struct Joined(Laid, Laid, Option<&'static [u8]>);
 
 /// Whether an update and the later one of the row join as the row says.
 fn joins(alloc: Global, first: &BlockUpdate, row: &Joined) -> bool {
@@ -92,36 +106,35 @@ fn joins(alloc: Global, first: &BlockUpdate, row: &Joined) -> bool {
     }
 }
 
-/// Whether the two updates of the row join as the row says.
-fn join_so(alloc: Global, row: &Joined) -> bool {
-    match row.0.update(alloc) {
-        Some(first) => joins(alloc, &first, row),
-        None => false,
+impl Holds for Joined {
+    fn holds(&self, alloc: Global) -> bool {
+        match self.0.update(alloc) {
+            Some(first) => joins(alloc, &first, self),
+            None => false,
+        }
     }
 }
 
 const JOINED: &[Joined] = &[
-    (Laid::Patch(4, b"ab"), Laid::Patch(2, b"c"), None),
-    (Laid::Patch(2, b"c"), Laid::Patch(4, b"ab"), None),
-    (Laid::Patch(2, b"c"), Laid::Patch(3, b"d"), Some(b"12cd5")),
-    (
+    Joined(Laid::Patch(4, b"ab"), Laid::Patch(2, b"c"), None),
+    Joined(Laid::Patch(2, b"c"), Laid::Patch(4, b"ab"), None),
+    Joined(Laid::Patch(2, b"c"), Laid::Patch(3, b"d"), Some(b"12cd5")),
+    Joined(
         Laid::Patch(4, b"ab"),
         Laid::Patch(2, b"cd"),
         Some(b"12cdab"),
     ),
-    (Laid::Patch(1, b"aaa"), Laid::Patch(2, b"b"), Some(b"1aba5")),
-    (Laid::Patch(2, b"b"), Laid::Patch(1, b"aaa"), Some(b"1aaa5")),
-    (Laid::CutTo(2), Laid::CutTo(4), Some(b"12")),
-    (Laid::CutTo(4), Laid::CutTo(2), Some(b"12")),
-    (Laid::Patch(0, b"a"), Laid::CutTo(4), None),
-    (Laid::CutTo(4), Laid::Patch(0, b"a"), None),
+    Joined(Laid::Patch(1, b"aaa"), Laid::Patch(2, b"b"), Some(b"1aba5")),
+    Joined(Laid::Patch(2, b"b"), Laid::Patch(1, b"aaa"), Some(b"1aaa5")),
+    Joined(Laid::CutTo(2), Laid::CutTo(4), Some(b"12")),
+    Joined(Laid::CutTo(4), Laid::CutTo(2), Some(b"12")),
+    Joined(Laid::Patch(0, b"a"), Laid::CutTo(4), None),
+    Joined(Laid::CutTo(4), Laid::Patch(0, b"a"), None),
 ];
 
 #[test]
-fn updates_join_where_they_are_one(rt: HostRuntime) {
-    for row in JOINED {
-        assert!(rt; join_so(rt.alloc(), row), "{row:?}");
-    }
+fn updates_join_where_they_are_one(rt: HostRuntime) -> Result<(), usize> {
+    all_hold(rt.alloc(), JOINED)
 }
 
 /// An update of a block, the length that the block then has, and bytes with which it begins and ends.
@@ -171,76 +184,70 @@ const FILLED: &[Filled] = &[
     (Laid::Patch(1, b"c"), 2, b"\0c", b"\0c"),
 ];
 
-/// How many updates make the block what their rows say, before the first that does not.
-fn filled(alloc: Global, block: &mut Block) -> usize {
-    let mut count = 0usize;
+/// Whether all updates make the block what their rows say; the number of the first that does not.
+fn filled(alloc: Global, block: &mut Block) -> Result<(), usize> {
+    let mut number = 0usize;
     for row in FILLED {
         if !fills_so(alloc, block, row) {
-            return count;
+            return Err(number);
         }
-        count = count.saturating_add(1);
+        number = number.saturating_add(1);
     }
-    count
+    Ok(())
 }
 
 /// The same of a block of one byte.
-fn one_byte_filled(alloc: Global) -> usize {
+fn one_byte_filled(alloc: Global) -> Result<(), usize> {
     match block(alloc, b"d") {
         Some(mut block) => filled(alloc, &mut block),
-        None => 0,
+        None => Err(usize::MAX),
     }
 }
 
 #[test]
-fn a_block_is_filled_to_its_end_and_cut_to_nothing(rt: HostRuntime) {
-    assert_eq!(rt; one_byte_filled(rt.alloc()), FILLED.len());
+fn a_block_is_filled_to_its_end_and_cut_to_nothing(rt: HostRuntime) -> Result<(), usize> {
+    one_byte_filled(rt.alloc())
 }
 
 /// What an update makes where no block is.
-fn made_of_nothing(alloc: Global, update: &BlockUpdate) -> Option<Option<Block>> {
-    update.apply(alloc, None).ok()
-}
-
-/// Whether the block has these bytes; or there is none.
-fn is_block_of(block: &Option<Block>, wanted: Option<&[u8]>) -> bool {
-    match (block, wanted) {
-        (Some(block), Some(bytes)) => block.as_slice() == bytes,
-        (None, None) => true,
-        _ => false,
-    }
+fn made_of_nothing(alloc: Global, update: &BlockUpdate) -> Result<Option<Block>, NoMemory> {
+    update.apply(alloc, None)
 }
 
 /// Whether an update makes these bytes where no block is; or none.
 fn makes_of_nothing(alloc: Global, update: &BlockUpdate, wanted: Option<&[u8]>) -> bool {
     match made_of_nothing(alloc, update) {
-        Some(made) => is_block_of(&made, wanted),
-        None => false,
+        Ok(Some(block)) => wanted == Some(block.as_slice()),
+        Ok(None) => wanted.is_none(),
+        Err(_) => false,
     }
 }
 
-/// Whether the update of a row makes the row's bytes where no block is; or none.
-fn begins_so(alloc: Global, row: &(Laid, Option<&[u8]>)) -> bool {
-    match row.0.update(alloc) {
-        Some(update) => makes_of_nothing(alloc, &update, row.1),
-        None => false,
+/// An update, and the bytes that it makes where no block is; or none.
+struct Begun(Laid, Option<&'static [u8]>);
+
+impl Holds for Begun {
+    fn holds(&self, alloc: Global) -> bool {
+        match self.0.update(alloc) {
+            Some(update) => makes_of_nothing(alloc, &update, self.1),
+            None => false,
+        }
     }
 }
 
-const BEGUN: &[(Laid, Option<&[u8]>)] = &[
-    (Laid::Patch(2, b"a"), Some(b"\0\0a")),
-    (Laid::CutTo(7), None),
+const BEGUN: &[Begun] = &[
+    Begun(Laid::Patch(2, b"a"), Some(b"\0\0a")),
+    Begun(Laid::CutTo(7), None),
 ];
 
 #[test]
-fn a_block_that_is_absent_is_made_by_a_patch_alone(rt: HostRuntime) {
-    for row in BEGUN {
-        assert!(rt; begins_so(rt.alloc(), row), "{row:?}");
-    }
+fn a_block_that_is_absent_is_made_by_a_patch_alone(rt: HostRuntime) -> Result<(), usize> {
+    all_hold(rt.alloc(), BEGUN)
 }
 
 /// What is asked of an index about one file, with what comes of it.
 #[derive(Clone, Copy)]
-enum Ask {
+pub enum Ask {
     /// Writes bytes at an offset, by so many messages.
     Write(u64, &'static [u8], usize),
     /// Cuts the file to a length, by so many messages.
@@ -325,7 +332,7 @@ fn reads(read: Option<Vec<u8>>, wanted: &[u8]) -> bool {
 }
 
 /// Whether what is asked about a file comes out as it should. What is sent is appended.
-fn is_answered(alloc: Global, index: &mut BlockIndex, file: &Path, ask: Ask) -> bool {
+pub fn is_answered(alloc: Global, index: &mut BlockIndex, file: &Path, ask: Ask) -> bool {
     match ask {
         Ask::Read(off, n, len, wanted) => {
             reads(bytes_of(alloc, index, file, off, n, len), wanted)
@@ -356,42 +363,55 @@ const ASKED: &[Ask] = &[
     Ask::Read(LAST, 2, LIMIT, b"z"),
 ];
 
-/// How much of what is asked about a file comes out as it should, before the first that does not.
-fn answered(alloc: Global, index: &mut BlockIndex, file: &Path) -> usize {
-    let mut count = 0usize;
-    for ask in ASKED {
-        if !is_answered(alloc, index, file, *ask) {
-            return count;
+/// What a new index goes through at a path.
+pub trait Course {
+    /// Whether it goes as it should; the number of what does not, where memory is refused too.
+    fn goes(&self, alloc: Global, index: &mut BlockIndex, path: &Path) -> Result<(), usize>;
+}
+
+/// Whether a new index of a shape goes through a course at a path.
+fn goes_at<C: Course>(alloc: Global, shape: Shape, path: &Path, course: &C) -> Result<(), usize> {
+    if !shape.ok() {
+        return Err(usize::MAX);
+    }
+    match BlockIndex::new(alloc, shape) {
+        Ok(mut index) => course.goes(alloc, &mut index, path),
+        Err(_) => Err(usize::MAX),
+    }
+}
+
+/// The same at the path of a text.
+pub fn goes_anew<C: Course>(
+    alloc: Global,
+    shape: Shape,
+    text: &str,
+    course: &C,
+) -> Result<(), usize> {
+    match path(alloc, text) {
+        Ok(path) => goes_at(alloc, shape, &path, course),
+        Err(_) => Err(usize::MAX),
+    }
+}
+
+/// What is asked about a file comes out as it should.
+struct Asking;
+
+impl Course for Asking {
+    fn goes(&self, alloc: Global, index: &mut BlockIndex, file: &Path) -> Result<(), usize> {
+        let mut number = 0usize;
+        for ask in ASKED {
+            if !is_answered(alloc, index, file, *ask) {
+                return Err(number);
+            }
+            number = number.saturating_add(1);
         }
-        count = count.saturating_add(1);
-    }
-    count
-}
-
-/// An index without blocks.
-fn nothing(alloc: Global) -> Result<BlockIndex, NoMemory> {
-    BlockIndex::new(alloc, SHAPE)
-}
-
-/// The same of the file `/f` in a new index.
-fn answered_of_file(alloc: Global, file: &Path) -> usize {
-    match nothing(alloc) {
-        Ok(mut index) => answered(alloc, &mut index, file),
-        Err(_) => 0,
-    }
-}
-
-/// The same.
-fn answered_of_f(alloc: Global) -> usize {
-    match path(alloc, "/f") {
-        Ok(file) => answered_of_file(alloc, &file),
-        Err(_) => 0,
+        Ok(())
     }
 }
 
 #[test]
-fn bytes_are_read_as_they_were_written_and_cut(rt: HostRuntime) {
-    assert_eq!(rt; answered_of_f(rt.alloc()), ASKED.len());
+fn bytes_are_read_as_they_were_written_and_cut(rt: HostRuntime) -> Result<(), usize> {
+    goes_anew(rt.alloc(), SHAPE, "/f", &Asking)
 }
 
 /// The text of a file's path, and the number of a block of it.
@@ -400,10 +420,12 @@ type Place = (&'static str, u32);
 /// Writes a byte at the start of a block; `false` where memory is refused.
 fn put(alloc: Global, index: &mut BlockIndex, place: &Place) -> bool {
     match path(alloc, place.0) {
-        Ok(file) => {
-            let msgs = write_new(alloc, index, &file, 4096 * place.1 as u64, b"x");
-            append(alloc, index, msgs, 1)
-        }
+        Ok(file) => is_answered(
+            alloc,
+            index,
+            &file,
+            Ask::Write(4096 * place.1 as u64, b"x", 1),
+        ),
         Err(_) => false,
     }
 }
@@ -504,25 +526,27 @@ fn fill(alloc: Global, index: &mut BlockIndex) -> bool {
     true
 }
 
-/// Whether the subtree of a path goes on so in a new index of the blocks.
-fn goes_on_below(alloc: Global, above: &Path, limit: usize) -> bool {
-    match nothing(alloc) {
-        Ok(mut index) => fill(alloc, &mut index) && goes_on(alloc, &index, above, limit),
-        Err(_) => false,
+/// The subtree of a path goes on so in an index of the blocks, whatever number of pairs is asked for.
+struct GoingOn;
+
+impl Course for GoingOn {
+    fn goes(&self, alloc: Global, index: &mut BlockIndex, above: &Path) -> Result<(), usize> {
+        if !fill(alloc, index) {
+            return Err(usize::MAX);
+        }
+        for limit in LIMITS {
+            if !goes_on(alloc, index, above, *limit) {
+                return Err(*limit);
+            }
+        }
+        Ok(())
     }
 }
 
-/// The same below `/a`.
-fn goes_on_below_a(alloc: Global, limit: usize) -> bool {
-    match path(alloc, "/a") {
-        Ok(above) => goes_on_below(alloc, &above, limit),
-        Err(_) => false,
-    }
-}
+/// How many pairs are asked for at most.
+const LIMITS: &[usize] = &[1, 2, 3, usize::MAX];
 
 #[test]
-fn the_blocks_of_a_subtree_go_on_behind_each_of_their_keys(rt: HostRuntime) {
-    for limit in [1, 2, 3, usize::MAX] {
-        assert!(rt; goes_on_below_a(rt.alloc(), limit), "at most {limit}");
-    }
+fn the_blocks_of_a_subtree_go_on_behind_each_of_their_keys(rt: HostRuntime) -> Result<(), usize> {
+    goes_anew(rt.alloc(), SHAPE, "/a", &GoingOn)
 }

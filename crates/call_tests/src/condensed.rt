@@ -1,28 +1,44 @@
 //! Pending lists of blocks that condense: patches that touch join.
 
-use block_index::{BlockUpdate, Patch};
-use bytes::Bytes;
+use crate::blocks::Laid;
+use crate::metadata::key_of;
+use crate::rows::{Holds, all_hold};
+use block_index::BlockUpdate;
 use message::{Msg, Pending};
-use pathkey::{Key, Path};
-use samples::ask::path;
+use pathkey::Key;
 use std::alloc::Global;
 
 /// A patch of one block, and how many messages wait for the block then.
 type Patched = (u16, &'static [u8], usize);
 
+/// The message of an update at a key; none where memory is refused.
+fn edit(alloc: Global, key: &Key, update: BlockUpdate) -> Option<Msg<BlockUpdate>> {
+    match key.copy(alloc) {
+        Ok(key) => Some(Msg::Edit(key, update)),
+        Err(_) => None,
+    }
+}
+
+/// The message of a row's patch at a key; none where memory is refused.
+fn message(alloc: Global, key: &Key, row: &Patched) -> Option<Msg<BlockUpdate>> {
+    match Laid::Patch(row.0, row.1).update(alloc) {
+        Some(update) => edit(alloc, key, update),
+        None => None,
+    }
+}
+
 /// Adds a patch at a key to a list; `false` where memory is refused.
 fn push(alloc: Global, list: &mut Pending<BlockUpdate>, key: &Key, row: &Patched) -> bool {
-    let (Ok(key), Ok(bytes)) = (key.copy(alloc), Bytes::copy_from_slice(alloc, row.1)) else {
-        return false;
-    };
-    if usize::from(row.0) > 4096 || bytes.len() > 4096 - usize::from(row.0) {
-        return false;
-    }
     if list.reserve(1).is_err() {
         return false;
     }
-    list.push_reserved(Msg::Edit(key, BlockUpdate::Patch(Patch::new(row.0, bytes))));
-    list.len() == row.2
+    match message(alloc, key, row) {
+        Some(message) => {
+            list.push_reserved(message);
+            list.len() == row.2
+        }
+        None => false,
+    }
 }
 
 /// Whether each patch of the rows leaves so many messages.
@@ -43,38 +59,40 @@ fn makes(alloc: Global, list: &Pending<BlockUpdate>, key: &Key, wanted: &[u8]) -
     }
 }
 
-/// Whether patches at the path's key leave so many messages each, and these bytes.
-fn patch(alloc: Global, path: &Path, rows: &[Patched], wanted: &[u8]) -> bool {
+/// Whether patches at a key leave so many messages each, and these bytes.
+fn patch(alloc: Global, key: &Key, rows: &[Patched], wanted: &[u8]) -> bool {
     let mut list = Pending::new(alloc);
-    push_all(alloc, &mut list, path.key(), rows) && makes(alloc, &list, path.key(), wanted)
+    push_all(alloc, &mut list, key, rows) && makes(alloc, &list, key, wanted)
 }
 
-/// Whether the patches of a row do as it says.
-fn patch_so(alloc: Global, rows: &[Patched], wanted: &[u8]) -> bool {
-    match path(alloc, "/f") {
-        Ok(path) => patch(alloc, &path, rows, wanted),
-        Err(_) => false,
+/// Patches of one block, and the bytes that they make.
+struct Patches(&'static [Patched], &'static [u8]);
+
+impl Holds for Patches {
+    fn holds(&self, alloc: Global) -> bool {
+        match key_of(alloc, "/f") {
+            Some(key) => patch(alloc, &key, self.0, self.1),
+            None => false,
+        }
     }
 }
 
-const PATCHED: &[(&[Patched], &[u8])] = &[
-    (
+const PATCHED: &[Patches] = &[
+    Patches(
         &[(4, b"\xaa\xbb", 1), (2, b"\xcc", 2), (3, b"\xdd", 1)],
         b"\0\0\xcc\xdd\xaa\xbb",
     ),
-    (
+    Patches(
         &[(2, b"\xcc", 1), (4, b"\xaa\xbb", 2), (3, b"\xdd", 1)],
         b"\0\0\xcc\xdd\xaa\xbb",
     ),
-    (
+    Patches(
         &[(0, b"aaa", 1), (1, b"b", 1), (9, b"c", 2)],
         b"aba\0\0\0\0\0\0c",
     ),
 ];
 
 #[test]
-fn patches_join_with_those_that_they_touch(rt: HostRuntime) {
-    for row in PATCHED {
-        assert!(rt; patch_so(rt.alloc(), row.0, row.1), "{row:?}");
-    }
+fn patches_join_with_those_that_they_touch(rt: HostRuntime) -> Result<(), usize> {
+    all_hold(rt.alloc(), PATCHED)
 }

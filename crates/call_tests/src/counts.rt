@@ -1,11 +1,10 @@
 //! How often listings and reads ask the tree: never for what lies below a name, and once a block.
-use block_index::{BlockIndex, BlockUpdate};
-use bytes::Bytes;
-use message::Msg;
+use crate::blocks::{self, Course, goes_anew};
+use crate::metadata::{Asked, asks, put};
+use block_index::BlockIndex;
 use meta_index::{Kind, Meta, MetaIndex};
 use node::Shape;
-use pathkey::{Key, Path};
-use samples::ask::path;
+use pathkey::Path;
 use std::alloc::Global;
 
 const SHAPE: Shape = Shape {
@@ -14,82 +13,33 @@ const SHAPE: Shape = Shape {
     leaf: 256,
 };
 
-/// The key of the file with a number of four digits in `/a`; none where memory is refused.
-fn key_of(alloc: Global, number: u32) -> Option<Key> {
-    let mut text = Vec::from_slice(alloc, b"/a/").ok()?;
-    for unit in [1_000, 100, 10, 1] {
-        text.push(b'0' + (number / unit % 10) as u8).ok()?;
+/// Puts the file with a number of four digits in `/a` into an index.
+fn put_numbered(alloc: Global, index: &mut MetaIndex, number: u32) -> bool {
+    match format!(in alloc; "/a/{number:04}") {
+        Ok(text) => put(alloc, index, text.as_str(), Meta::File { len: 0 }),
+        Err(_) => false,
     }
-    match Path::parse(alloc, text.as_slice()) {
-        Ok(path) => path.key().copy(alloc).ok(),
-        Err(_) => None,
-    }
-}
-
-/// Puts an entry into an index; `false` where memory is refused.
-fn put(alloc: Global, index: &mut MetaIndex, key: Option<Key>, meta: Meta) -> bool {
-    let Some(key) = key else {
-        return false;
-    };
-    let mut msgs = Vec::new(alloc);
-    msgs.push(Msg::Put(key, meta)).is_ok() && index.tree.append(alloc, msgs).is_ok()
-}
-
-/// Puts a directory into an index.
-fn make(alloc: Global, index: &mut MetaIndex, text: &str) -> bool {
-    let key = match path(alloc, text) {
-        Ok(path) => path.key().copy(alloc).ok(),
-        Err(_) => None,
-    };
-    put(alloc, index, key, Meta::Dir)
 }
 
 /// Puts `/a` with 2,000 files and an empty `/b` into an index.
 fn fill(alloc: Global, index: &mut MetaIndex) -> bool {
     for number in 0..2_000 {
-        let key = key_of(alloc, number);
-        if !put(alloc, index, key, Meta::File { len: 0 }) {
+        if !put_numbered(alloc, index, number) {
             return false;
         }
     }
-    make(alloc, index, "/a") && make(alloc, index, "/b")
+    put(alloc, index, "/a", Meta::Dir) && put(alloc, index, "/b", Meta::Dir)
 }
 
-/// Whether the entries are the directories `a` and `b`.
-fn are_both(entries: &[(Kind, Vec<u8>)]) -> bool {
-    entries.len() == 2
-        && entries[0].0 == Kind::Dir
-        && entries[0].1.as_slice() == b"a".as_slice()
-        && entries[1].0 == Kind::Dir
-        && entries[1].1.as_slice() == b"b".as_slice()
-}
-
-/// How many searches list the two directories of the root; none where others are listed.
-fn listing(alloc: Global, index: &MetaIndex) -> Option<u64> {
-    let root = path(alloc, "/").ok()?;
-    let mut steps = 0;
-    let entries = index.children_counted(alloc, &root, &mut steps).ok()?;
-    if are_both(entries.as_slice()) {
-        Some(steps)
-    } else {
-        None
-    }
-}
-
-/// How many searches tell whether a directory is empty, and whether it is.
-fn emptiness(alloc: Global, index: &MetaIndex, text: &str) -> Option<(bool, u64)> {
-    let dir = path(alloc, text).ok()?;
-    let mut steps = 0;
-    let empty = index.is_empty_dir_counted(alloc, &dir, &mut steps).ok()?;
-    Some((empty, steps))
-}
+/// What stands in the root.
+const BOTH: Asked = Asked::Listed(&[(Kind::Dir, "a"), (Kind::Dir, "b")], 3);
 
 /// Whether listings of an index with 2,000 files in one directory pass them all at once.
 fn passes(alloc: Global, index: &mut MetaIndex) -> bool {
     fill(alloc, index)
-        && listing(alloc, index) == Some(3)
-        && emptiness(alloc, index, "/a") == Some((false, 1))
-        && emptiness(alloc, index, "/b") == Some((true, 1))
+        && asks(alloc, index, "/", BOTH)
+        && asks(alloc, index, "/a", Asked::Told(false, 1))
+        && asks(alloc, index, "/b", Asked::Told(true, 1))
 }
 
 /// The same of a new index.
@@ -103,28 +53,6 @@ fn passes_anew(alloc: Global) -> bool {
 #[test]
 fn a_listing_passes_what_lies_below_each_name(rt: HostRuntime) {
     assert!(rt; passes_anew(rt.alloc()));
-}
-
-/// Appends messages; `false` where memory is refused.
-fn append(alloc: Global, index: &mut BlockIndex, msgs: Option<Vec<Msg<BlockUpdate>>>) -> bool {
-    match msgs {
-        Some(msgs) => index.tree.append(alloc, msgs).is_ok(),
-        None => false,
-    }
-}
-
-/// The messages of a write of the byte 1 at this place.
-fn one_byte(
-    alloc: Global,
-    index: &BlockIndex,
-    file: &Path,
-    off: u64,
-) -> Option<Vec<Msg<BlockUpdate>>> {
-    let bytes = Bytes::copy_from_slice(alloc, b"\x01").ok()?;
-    if file.is_root() || off > 2_000_000 || bytes.len() != 1 {
-        return None;
-    }
-    index.write_msgs(alloc, file, off, &bytes).ok()
 }
 
 /// Whether all bytes are 0.
@@ -145,37 +73,33 @@ fn end_with_one(bytes: &[u8], zeros: usize) -> bool {
     }
 }
 
-/// How many look-ups read 1,048,576 bytes from the second on; none where they are not zeros and then a byte 1.
-fn reading(alloc: Global, index: &BlockIndex, file: &Path) -> Option<u64> {
+/// Whether so many look-ups read 1,048,576 bytes from the second on, and they are zeros and then a byte 1.
+fn reads_in(alloc: Global, index: &BlockIndex, file: &Path, wanted: u64) -> bool {
     if file.is_root() {
-        return None;
+        return false;
     }
     let mut steps = 0;
-    let bytes = index
-        .read_counted(alloc, file, 1, 1_048_576, 1_048_577, &mut steps)
-        .ok()?;
-    if end_with_one(bytes.as_slice(), 1_048_575) {
-        Some(steps)
-    } else {
-        None
+    match index.read_counted(alloc, file, 1, 1_048_576, 1_048_577, &mut steps) {
+        Ok(bytes) => end_with_one(&bytes, 1_048_575) && steps == wanted,
+        Err(_) => false,
     }
 }
 
-/// Whether a file of 1,048,577 bytes, of which the last alone is 1, is read by one look-up a block.
-fn reads(alloc: Global, index: &mut BlockIndex, file: &Path) -> bool {
-    let msgs = one_byte(alloc, index, file, 1_048_576);
-    append(alloc, index, msgs) && reading(alloc, index, file) == Some(257)
-}
+/// A file of 1,048,577 bytes, of which the last alone is 1, is read by one look-up a block.
+struct Reading;
 
-/// The same of a new index.
-fn reads_anew(alloc: Global) -> bool {
-    match (BlockIndex::new(alloc, SHAPE), path(alloc, "/f")) {
-        (Ok(mut index), Ok(file)) => reads(alloc, &mut index, &file),
-        _ => false,
+impl Course for Reading {
+    fn goes(&self, alloc: Global, index: &mut BlockIndex, file: &Path) -> Result<(), usize> {
+        let last = blocks::Ask::Write(1_048_576, b"\x01", 1);
+        if blocks::is_answered(alloc, index, file, last) && reads_in(alloc, index, file, 257) {
+            Ok(())
+        } else {
+            Err(0)
+        }
     }
 }
 
 #[test]
-fn a_read_asks_once_for_each_block(rt: HostRuntime) {
-    assert!(rt; reads_anew(rt.alloc()));
+fn a_read_asks_once_for_each_block(rt: HostRuntime) -> Result<(), usize> {
+    goes_anew(rt.alloc(), SHAPE, "/f", &Reading)
 }

@@ -15,3 +15,5 @@ mod counts;
 mod metadata;
 #[cfg(test)]
 mod plain;
+#[cfg(test)]
+mod rows;

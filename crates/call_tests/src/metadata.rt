@@ -1,5 +1,6 @@
 //! What an index answers, by rows of paths, beside the directory tree that the rows name.
 
+use crate::rows::{Holds, all_hold};
 use message::Msg;
 use meta_index::{At, Kind, Meta, MetaIndex, MetaUpdate};
 use node::{Shape, Tree};
@@ -21,7 +22,7 @@ fn nothing(alloc: Global) -> Result<MetaIndex, NoMemory> {
 }
 
 /// The key of a text's path; none where the text is no path, or memory is refused.
-fn key_of(alloc: Global, text: &str) -> Option<Key> {
+pub fn key_of(alloc: Global, text: &str) -> Option<Key> {
     match path(alloc, text) {
         Ok(path) => path.key().copy(alloc).ok(),
         Err(_) => None,
@@ -35,7 +36,7 @@ fn append(alloc: Global, index: &mut MetaIndex, msg: Msg<MetaUpdate>) -> bool {
 }
 
 /// Puts an entry at a path.
-fn put(alloc: Global, index: &mut MetaIndex, text: &str, meta: Meta) -> bool {
+pub fn put(alloc: Global, index: &mut MetaIndex, text: &str, meta: Meta) -> bool {
     match key_of(alloc, text) {
         Some(key) => append(alloc, index, Msg::Put(key, meta)),
         None => false,
@@ -87,14 +88,6 @@ fn find(alloc: Global, index: &MetaIndex, path: &Path) -> Option<At> {
     index.find(alloc, path).ok()
 }
 
-/// What stands at the path of a text.
-fn found(alloc: Global, index: &MetaIndex, text: &str) -> Option<At> {
-    match path(alloc, text) {
-        Ok(path) => find(alloc, index, &path),
-        Err(_) => None,
-    }
-}
-
 /// Whether the parent of a path has this fault.
 fn has_fault(alloc: Global, index: &MetaIndex, path: &Path, wanted: Option<Errno>) -> bool {
     match index.fault_of_parent(alloc, path) {
@@ -117,49 +110,57 @@ const UPDATES: &[(&str, MetaUpdate, At)] = &[
     ("/c", MetaUpdate::Grow(2), At::Missing),
 ];
 
-/// How many updates come to what their rows say, before the first that does not.
-fn updated_so(alloc: Global, index: &mut MetaIndex) -> usize {
-    let mut count = 0usize;
+/// Whether all updates come to what their rows say; the number of the first that does not.
+fn updated_so(alloc: Global, index: &mut MetaIndex) -> Result<(), usize> {
+    let mut number = 0usize;
     for (text, update, wanted) in UPDATES {
-        if !edit(alloc, index, text, *update) || found(alloc, index, text) != Some(*wanted) {
-            return count;
+        if !edit(alloc, index, text, *update) || !asks(alloc, index, text, Asked::Find(*wanted)) {
+            return Err(number);
         }
-        count = count.saturating_add(1);
+        number = number.saturating_add(1);
     }
-    count
+    Ok(())
 }
 
 /// The same in the sample.
-fn updated_in_sample(alloc: Global) -> usize {
+fn updated_in_sample(alloc: Global) -> Result<(), usize> {
     match sample(alloc) {
         Some(mut index) => updated_so(alloc, &mut index),
-        None => 0,
+        None => Err(usize::MAX),
     }
 }
 
 #[test]
-fn lengths_are_set_and_raised(rt: HostRuntime) {
-    assert_eq!(rt; updated_in_sample(rt.alloc()), UPDATES.len());
+fn lengths_are_set_and_raised(rt: HostRuntime) -> Result<(), usize> {
+    updated_in_sample(rt.alloc())
 }
 
 /// Two updates, and the one that they are.
-const JOINED: &[(MetaUpdate, MetaUpdate, MetaUpdate)] = &[
-    (
+struct Joined(MetaUpdate, MetaUpdate, MetaUpdate);
+
+impl Holds for Joined {
+    fn holds(&self, _alloc: Global) -> bool {
+        self.0.then(self.1) == self.2
+    }
+}
+
+const JOINED: &[Joined] = &[
+    Joined(
         MetaUpdate::SetLen(3),
         MetaUpdate::SetLen(2),
         MetaUpdate::SetLen(2),
     ),
-    (
+    Joined(
         MetaUpdate::Grow(3),
         MetaUpdate::Grow(2),
         MetaUpdate::Grow(3),
     ),
-    (
+    Joined(
         MetaUpdate::SetLen(3),
         MetaUpdate::Grow(5),
         MetaUpdate::SetLen(5),
     ),
-    (
+    Joined(
         MetaUpdate::Grow(3),
         MetaUpdate::SetLen(2),
         MetaUpdate::SetLen(2),
@@ -167,10 +168,8 @@ const JOINED: &[(MetaUpdate, MetaUpdate, MetaUpdate)] = &[
 ];
 
 #[test]
-fn two_updates_are_one(rt: HostRuntime) {
-    for row in JOINED {
-        assert!(rt; row.0.then(row.1) == row.2, "{row:?}");
-    }
+fn two_updates_are_one(rt: HostRuntime) -> Result<(), usize> {
+    all_hold(rt.alloc(), JOINED)
 }
 
 /// Whether nothing lies below a path.
@@ -179,7 +178,7 @@ fn is_empty_at(alloc: Global, index: &MetaIndex, path: &Path) -> Option<bool> {
 }
 
 /// A kind and a name.
-type Name = (Kind, &'static str);
+pub type Name = (Kind, &'static str);
 
 /// Whether these are the entries of a directory.
 fn are_named(entries: &[(Kind, Vec<u8>)], wanted: &[Name]) -> bool {
@@ -204,6 +203,24 @@ fn has_names(alloc: Global, index: &MetaIndex, path: &Path, wanted: &[Name]) -> 
     match children(alloc, index, path) {
         Some(entries) => are_named(&entries, wanted),
         None => false,
+    }
+}
+
+/// Whether so many searches list these entries of the directory at a path.
+fn is_listed(alloc: Global, index: &MetaIndex, path: &Path, names: &[Name], wanted: u64) -> bool {
+    let mut steps = 0;
+    match index.children_counted(alloc, path, &mut steps) {
+        Ok(entries) => are_named(&entries, names) && steps == wanted,
+        Err(_) => false,
+    }
+}
+
+/// Whether so many searches tell that nothing lies below a path, or that something does.
+fn is_told(alloc: Global, index: &MetaIndex, path: &Path, empty: bool, wanted: u64) -> bool {
+    let mut steps = 0;
+    match index.is_empty_dir_counted(alloc, path, &mut steps) {
+        Ok(told) => told == empty && steps == wanted,
+        Err(_) => false,
     }
 }
 
@@ -259,7 +276,7 @@ fn holds(
 
 /// What is asked of the sample about a path, and what is answered.
 #[derive(Clone, Copy)]
-enum Asked {
+pub enum Asked {
     /// What stands there.
     Find(At),
     /// The fault of its parent.
@@ -268,6 +285,10 @@ enum Asked {
     Empty(bool),
     /// The entries of the directory.
     Names(&'static [Name]),
+    /// The entries of the directory, and how many searches list them.
+    Listed(&'static [Name], u64),
+    /// Whether nothing lies below, and how many searches tell.
+    Told(bool, u64),
     /// So many pairs of its subtree, and the paths of those that come.
     Below(usize, &'static [&'static str]),
     /// The same behind the key of a path.
@@ -381,6 +402,8 @@ fn is_answered(alloc: Global, index: &MetaIndex, path: &Path, asked: Asked) -> b
         Asked::Fault(fault) => has_fault(alloc, index, path, fault),
         Asked::Empty(empty) => is_empty_at(alloc, index, path) == Some(empty),
         Asked::Names(names) => has_names(alloc, index, path, names),
+        Asked::Listed(names, wanted) => is_listed(alloc, index, path, names, wanted),
+        Asked::Told(empty, wanted) => is_told(alloc, index, path, empty, wanted),
         Asked::Below(limit, wanted) => holds(alloc, index, path, None, limit, wanted),
         Asked::Behind(behind, limit, wanted) => {
             goes_on(alloc, index, path, behind, limit, wanted)
@@ -388,22 +411,43 @@ fn is_answered(alloc: Global, index: &MetaIndex, path: &Path, asked: Asked) -> b
     }
 }
 
-/// Whether the sample answers as the row says.
-fn answers(alloc: Global, text: &str, asked: Asked) -> bool {
-    match (sample(alloc), path(alloc, text)) {
-        (Some(index), Ok(path)) => is_answered(alloc, &index, &path, asked),
-        _ => false,
+/// Whether an index answers so at the path of a text.
+pub fn asks(alloc: Global, index: &MetaIndex, text: &str, asked: Asked) -> bool {
+    match path(alloc, text) {
+        Ok(path) => is_answered(alloc, index, &path, asked),
+        Err(_) => false,
+    }
+}
+
+/// Whether an index answers all rows as they say.
+fn asks_all(alloc: Global, index: &MetaIndex, rows: &[(&str, Asked)]) -> bool {
+    for (text, asked) in rows {
+        if !asks(alloc, index, text, *asked) {
+            return false;
+        }
+    }
+    true
+}
+
+/// The same of each table in the sample; the name of the first that is answered otherwise.
+fn asks_tables(alloc: Global, index: &MetaIndex) -> Result<(), &'static str> {
+    for (name, rows) in TABLES {
+        if !asks_all(alloc, index, rows) {
+            return Err(name);
+        }
+    }
+    Ok(())
+}
+
+/// The same of a sample made here.
+fn asks_sample(alloc: Global) -> Result<(), &'static str> {
+    match sample(alloc) {
+        Some(index) => asks_tables(alloc, &index),
+        None => Err("no memory"),
     }
 }
 
 #[test]
-fn an_index_answers_as_each_table_says(rt: HostRuntime) {
-    for (name, rows) in TABLES {
-        for (number, (text, asked)) in rows.iter().enumerate() {
-            assert!(rt;
-                answers(rt.alloc(), text, *asked),
-                "{name}: row {number}, {text}"
-            );
-        }
-    }
+fn an_index_answers_as_each_table_says(rt: HostRuntime) -> Result<(), &'static str> {
+    asks_sample(rt.alloc())
 }

@@ -116,12 +116,30 @@ fn new_world(alloc: Global) -> Result<World, NoMemory> {
     World::new(alloc)
 }
 
-/// Asks call after call in a new world.
-fn follow(alloc: Global, rows: &[Row<'_>]) -> usize {
+/// What a new world goes through.
+trait Course {
+    /// Whether it goes as it should; `false` where memory is refused.
+    fn goes(&self, alloc: Global, world: &mut World) -> bool;
+}
+
+/// Whether a new world goes through a course.
+fn goes_anew<C: Course>(alloc: Global, course: &C) -> bool {
     match new_world(alloc) {
-        Ok(mut world) => follow_in(alloc, &mut world, rows),
-        Err(_) => 0,
+        Ok(mut world) => course.goes(alloc, &mut world),
+        Err(_) => false,
     }
+}
+
+/// Whether a new world goes through each course; the number of the first through which it does not.
+fn all_go<C: Course>(alloc: Global, courses: &[C]) -> Result<(), usize> {
+    let mut number = 0usize;
+    for course in courses {
+        if !goes_anew(alloc, course) {
+            return Err(number);
+        }
+        number = number.saturating_add(1);
+    }
+    Ok(())
 }
 
 /// Whether all calls are answered as their rows say.
@@ -130,13 +148,13 @@ fn follows(alloc: Global, world: &mut World, rows: &[Row<'_>]) -> bool {
 }
 
 /// The image of the live tree. It ensures nothing, as `path`.
-fn image(alloc: Global, world: &World) -> Result<Vec<u8>, NoMemory> {
+fn image_now(alloc: Global, world: &World) -> Result<Vec<u8>, NoMemory> {
     image_of(alloc, world.live())
 }
 
 /// Whether the live tree has this image.
 fn has_image(alloc: Global, world: &World, wanted: &[u8]) -> bool {
-    match image(alloc, world) {
+    match image_now(alloc, world) {
         Ok(image) => image.as_slice() == wanted,
         Err(_) => false,
     }
@@ -187,14 +205,6 @@ const CUT: &[Row<'static>] = &[
     ),
 ];
 
-/// Whether a new world follows the rows, and then has this image.
-fn comes_to(alloc: Global, rows: &[Row<'_>], wanted: &[u8]) -> bool {
-    match new_world(alloc) {
-        Ok(mut world) => follows(alloc, &mut world, rows) && has_image(alloc, &world, wanted),
-        Err(_) => false,
-    }
-}
-
 /// A directory is not moved below itself, and onto itself it stays.
 const ITSELF: &[Row<'static>] = &[
     (Ask::Mkdir("/a"), Told::Done),
@@ -243,27 +253,25 @@ const BEHIND: &[Row<'static>] = &[
 
 const LISTED: Told<'static> = Told::Names(&[(Kind::File, "x")]);
 
-/// Whether a snapshot keeps what the live tree loses, and gives it back.
-fn keeps(alloc: Global, world: &mut World) -> bool {
-    follows(alloc, world, BEFORE)
-        && fault_of(alloc, world, Snap::Keep("s")).is_none()
-        && follows(alloc, world, BEHIND)
-        && lists_frozen(alloc, world, "s", "/a", LISTED)
-        && fault_of(alloc, world, Snap::Restore("s")).is_none()
-        && follows(alloc, world, &[(Ask::Readdir("/a"), LISTED)])
-}
+const RESTORED: &[Row<'static>] = &[(Ask::Readdir("/a"), LISTED)];
 
-/// The same in a new world.
-fn new_world_keeps(alloc: Global) -> bool {
-    match new_world(alloc) {
-        Ok(mut world) => keeps(alloc, &mut world),
-        Err(_) => false,
+/// A snapshot keeps what the live tree loses, and gives it back.
+struct Keeping;
+
+impl Course for Keeping {
+    fn goes(&self, alloc: Global, world: &mut World) -> bool {
+        follows(alloc, world, BEFORE)
+            && fault_of(alloc, world, Snap::Keep("s")).is_none()
+            && follows(alloc, world, BEHIND)
+            && lists_frozen(alloc, world, "s", "/a", LISTED)
+            && fault_of(alloc, world, Snap::Restore("s")).is_none()
+            && follows(alloc, world, RESTORED)
     }
 }
 
 #[test]
 fn snapshot_and_restore(rt: HostRuntime) {
-    assert!(rt; new_world_keeps(rt.alloc()));
+    assert!(rt; goes_anew(rt.alloc(), &Keeping));
 }
 
 /// A file that is moved onto a longer one leaves none of its bytes, also where the file grows again.
@@ -303,28 +311,36 @@ const NO_PATHS: &[Row<'static>] = &[
     (Ask::Stat(""), Told::Fault(Errno::ENOENT)),
 ];
 
-/// Whether the name of so many letters can be made, or is refused.
-fn name_is(alloc: Global, count: u32, told: Told<'_>) -> bool {
-    match longer(alloc, "", "n", count) {
-        Ok(text) => follow(alloc, &[(Ask::Create(text.as_str()), told)]) == 1,
-        Err(_) => false,
+/// How many letters a name has, and whether it can be made or is refused.
+struct Name(u32, Told<'static>);
+
+impl Course for Name {
+    fn goes(&self, alloc: Global, world: &mut World) -> bool {
+        match longer(alloc, "", "n", self.0) {
+            Ok(text) => is_answered(alloc, world, &(Ask::Create(text.as_str()), self.1)),
+            Err(_) => false,
+        }
     }
 }
 
 /// A name may have 255 bytes, and no more.
+const LONGEST: &[Name] = &[
+    Name(255, Told::Done),
+    Name(256, Told::Fault(Errno::ENAMETOOLONG)),
+];
+
 #[test]
-fn longest_name(rt: HostRuntime) {
-    assert!(rt; name_is(rt.alloc(), 255, Told::Done));
-    assert!(rt; name_is(rt.alloc(), 256, Told::Fault(Errno::ENAMETOOLONG)));
+fn longest_name(rt: HostRuntime) -> Result<(), usize> {
+    all_go(rt.alloc(), LONGEST)
 }
 
 /// Makes a directory; whether it is done.
 fn makes(alloc: Global, world: &mut World, text: &str) -> bool {
-    follows(alloc, world, &[(Ask::Mkdir(text), Told::Done)])
+    is_answered(alloc, world, &(Ask::Mkdir(text), Told::Done))
 }
 
 /// Makes four directories in one another below `/a`, each with a name of 254 letters; the deepest text.
-fn deepest(alloc: Global, world: &mut World) -> Option<String> {
+fn deepest_text_in(alloc: Global, world: &mut World) -> Option<String> {
     let mut at = String::from_str(alloc, "/a").ok()?;
     for _ in 0..4 {
         at = longer(alloc, at.as_str(), "x", 254).ok()?;
@@ -337,37 +353,29 @@ fn deepest(alloc: Global, world: &mut World) -> Option<String> {
 
 /// Whether the deepest text has so many bytes.
 fn is_deep(alloc: Global, world: &mut World, wanted: usize) -> bool {
-    match deepest(alloc, world) {
+    match deepest_text_in(alloc, world) {
         Some(text) => text.len() == wanted,
         None => false,
     }
 }
 
-/// Whether a subtree whose deepest text has 1,022 bytes can be moved to a name one byte longer, and no further.
-fn moves_deep(alloc: Global, world: &mut World) -> bool {
-    makes(alloc, world, "/a")
-        && is_deep(alloc, world, 1022)
-        && follows(
-            alloc,
-            world,
-            &[
-                (Ask::Rename("/a", "/abc"), Told::Fault(Errno::ENAMETOOLONG)),
-                (Ask::Rename("/a", "/ab"), Told::Done),
-            ],
-        )
-}
+const DEEP: &[Row<'static>] = &[
+    (Ask::Rename("/a", "/abc"), Told::Fault(Errno::ENAMETOOLONG)),
+    (Ask::Rename("/a", "/ab"), Told::Done),
+];
 
-/// The same in a new world.
-fn new_world_moves_deep(alloc: Global) -> bool {
-    match new_world(alloc) {
-        Ok(mut world) => moves_deep(alloc, &mut world),
-        Err(_) => false,
+/// A subtree whose deepest text has 1,022 bytes can be moved to a name one byte longer, and no further.
+struct Deepest;
+
+impl Course for Deepest {
+    fn goes(&self, alloc: Global, world: &mut World) -> bool {
+        makes(alloc, world, "/a") && is_deep(alloc, world, 1022) && follows(alloc, world, DEEP)
     }
 }
 
 #[test]
 fn deepest_text(rt: HostRuntime) {
-    assert!(rt; new_world_moves_deep(rt.alloc()));
+    assert!(rt; goes_anew(rt.alloc(), &Deepest));
 }
 
 /// Why a snapshot of the name with a number is refused; none where it is kept.
@@ -398,27 +406,23 @@ fn follows_snapshots(alloc: Global, world: &mut World) -> bool {
     true
 }
 
-/// Whether 64 snapshots are kept and no more, and a name that is dropped is free again.
-fn keeps_most(alloc: Global, world: &mut World) -> bool {
-    for number in 1u32..65 {
-        if fault_of_number(alloc, world, number).is_some() {
-            return false;
-        }
-    }
-    follows_snapshots(alloc, world)
-}
+/// 64 snapshots are kept and no more, and a name that is dropped is free again.
+struct Most;
 
-/// The same in a new world.
-fn new_world_keeps_most(alloc: Global) -> bool {
-    match new_world(alloc) {
-        Ok(mut world) => keeps_most(alloc, &mut world),
-        Err(_) => false,
+impl Course for Most {
+    fn goes(&self, alloc: Global, world: &mut World) -> bool {
+        for number in 1u32..65 {
+            if fault_of_number(alloc, world, number).is_some() {
+                return false;
+            }
+        }
+        follows_snapshots(alloc, world)
     }
 }
 
 #[test]
 fn most_snapshots(rt: HostRuntime) {
-    assert!(rt; new_world_keeps_most(rt.alloc()));
+    assert!(rt; goes_anew(rt.alloc(), &Most));
 }
 
 const NESTED: &[Row<'static>] = &[
@@ -426,37 +430,60 @@ const NESTED: &[Row<'static>] = &[
     (Ask::Create("/d/n"), Told::Done),
 ];
 
-/// Each table of calls, with what it shows.
-const TABLES: &[(&str, &[Row<'static>])] = &[
-    ("parents decide", PARENTS),
-    ("removes only what is below", BELOW),
-    ("writes across blocks", ACROSS),
-    ("not below itself", ITSELF),
-    ("replaces an empty directory", EMPTY),
-    ("not onto what holds it", HOLDERS),
-    ("replaces a longer file", LONGER),
-    ("wrong kinds", KINDS),
-    ("no paths", NO_PATHS),
-];
+/// A table of calls, with what it shows.
+struct Table(&'static str, &'static [Row<'static>]);
 
-#[test]
-fn answers_as_each_table_says(rt: HostRuntime) {
-    for (name, rows) in TABLES {
-        assert!(rt; follow(rt.alloc(), rows) == rows.len(), "{name}");
+impl Course for Table {
+    fn goes(&self, alloc: Global, world: &mut World) -> bool {
+        follows(alloc, world, self.1)
     }
 }
 
-/// Tables of calls, and the image that each comes to. What was cut off reads as zeros once the file is longer again, and zeros stand in
-/// no line; the image has the root first, and each directory before what it holds.
-const IMAGES: &[(&[Row<'static>], &[u8])] = &[
-    (CUT, b"d /\nf /f 9000\nb 0 ffffffffff\n"),
-    (&[], b"d /\n"),
-    (NESTED, b"d /\nd /d\nf /d/n 0\n"),
+const TABLES: &[Table] = &[
+    Table("parents decide", PARENTS),
+    Table("removes only what is below", BELOW),
+    Table("writes across blocks", ACROSS),
+    Table("not below itself", ITSELF),
+    Table("replaces an empty directory", EMPTY),
+    Table("not onto what holds it", HOLDERS),
+    Table("replaces a longer file", LONGER),
+    Table("wrong kinds", KINDS),
+    Table("no paths", NO_PATHS),
+];
+
+/// Whether all tables are answered as they say; the name of the first that is not.
+fn all_answered(alloc: Global) -> Result<(), &'static str> {
+    for table in TABLES {
+        if !goes_anew(alloc, table) {
+            return Err(table.0);
+        }
+    }
+    Ok(())
+}
+
+#[test]
+fn answers_as_each_table_says(rt: HostRuntime) -> Result<(), &'static str> {
+    all_answered(rt.alloc())
+}
+
+/// A table of calls, and the image that it comes to.
+struct Image(&'static [Row<'static>], &'static [u8]);
+
+impl Course for Image {
+    fn goes(&self, alloc: Global, world: &mut World) -> bool {
+        follows(alloc, world, self.0) && has_image(alloc, world, self.1)
+    }
+}
+
+/// What was cut off reads as zeros once the file is longer again, and zeros stand in no line; the image has the root first, and each
+/// directory before what it holds.
+const IMAGES: &[Image] = &[
+    Image(CUT, b"d /\nf /f 9000\nb 0 ffffffffff\n"),
+    Image(&[], b"d /\n"),
+    Image(NESTED, b"d /\nd /d\nf /d/n 0\n"),
 ];
 
 #[test]
-fn comes_to_each_image(rt: HostRuntime) {
-    for (number, (rows, image)) in IMAGES.iter().enumerate() {
-        assert!(rt; comes_to(rt.alloc(), rows, image), "row {number}");
-    }
+fn comes_to_each_image(rt: HostRuntime) -> Result<(), usize> {
+    all_go(rt.alloc(), IMAGES)
 }

@@ -2,6 +2,7 @@
 //!
 //! What a row says is asked by functions that ensure nothing, so that no proof of a test reads what a text parses as, and of which each
 //! holds one value with a destructor. They answer by a `bool` or an `Option`; where memory is refused that is `false` or `None`.
+use crate::rows::{Holds, all_hold};
 use pathkey::{
     Errno, Key, KeyRange, NoMemory, Path, SnapName, block_key, blocks_from, dec, enc, rekey,
     subtree,
@@ -19,10 +20,6 @@ fn refusal(alloc: Global, text: &[u8]) -> Option<Errno> {
 
 fn key(alloc: Global, bytes: &[u8]) -> Result<Key, NoMemory> {
     Key::from_bytes(alloc, bytes)
-}
-
-fn encoded(alloc: Global, path: &Path) -> Result<Key, NoMemory> {
-    enc(alloc, path)
 }
 
 fn decoded(alloc: Global, key: &Key) -> Result<Option<Path>, NoMemory> {
@@ -45,390 +42,55 @@ fn long_text(
     Ok(text)
 }
 
-/// Whether the path has this key.
-fn has_key(path: &Path, want: &[u8]) -> bool {
-    path.key().as_bytes() == want
-}
-
-/// Whether the key has these bytes, and is that of a path with them.
-fn is_key_of_path(alloc: Global, key: &Key, want: &[u8]) -> bool {
-    match decoded(alloc, key) {
-        Ok(Some(path)) => key.as_bytes() == want && has_key(&path, want),
+/// Whether the key has these bytes, or there is none of both.
+fn is_key(key: &Option<Key>, want: Option<&[u8]>) -> bool {
+    match (key, want) {
+        (Some(key), Some(want)) => key.as_bytes() == want,
+        (None, None) => true,
         _ => false,
     }
 }
 
-/// Whether the path has this key, by itself, encoded and back.
-fn is_encoded(alloc: Global, path: &Path, want: &[u8]) -> bool {
-    match encoded(alloc, path) {
-        Ok(key) => has_key(path, want) && is_key_of_path(alloc, &key, want),
-        Err(_) => false,
-    }
-}
-
-/// Whether the text is that of a path with this key.
-fn is_keyed(alloc: Global, text: &[u8], want: &[u8]) -> bool {
-    match path(alloc, text) {
-        Ok(path) => is_encoded(alloc, &path, want),
-        Err(_) => false,
-    }
-}
-
-const KEYS: &[(&[u8], &[u8])] = &[
-    (b"/", b""),
-    (b"/a", b"\x61\x00"),
-    (b"/a/x", b"\x61\x00\x78\x00"),
-    (b"/a-b", b"\x61\x2d\x62\x00"),
-];
-
-#[test]
-fn keys_of_paths(rt: HostRuntime) {
-    for (text, want) in KEYS {
-        assert!(rt; is_keyed(rt.alloc(), text, want), "{text:?}");
-    }
-}
-
-/// Whether no path has the key.
-fn is_of_no_path(alloc: Global, key: &Key) -> bool {
-    matches!(decoded(alloc, key), Ok(None))
-}
-
-/// Whether no path has the key of these bytes.
-fn are_of_no_path(alloc: Global, bytes: &[u8]) -> bool {
-    match key(alloc, bytes) {
-        Ok(key) => is_of_no_path(alloc, &key),
-        Err(_) => false,
-    }
-}
-
-const NO_KEYS: &[&[u8]] = &[
-    b"\x61",
-    b"\x00",
-    b"\x61\x01",
-    b"\x61\x00\x00\x00\x00\x00\x01",
-    b"\x2e\x00",
-    b"\x2e\x2e\x00",
-    b"\x61\x2f\x62\x00",
-];
-
-#[test]
-fn keys_of_no_path(rt: HostRuntime) {
-    for bytes in NO_KEYS {
-        assert!(rt; are_of_no_path(rt.alloc(), bytes), "{bytes:?}");
-    }
-}
-
-/// Whether the block of the path has this key; no block has that of the root.
-fn has_block(alloc: Global, path: &Path, index: u32, want: &[u8]) -> bool {
-    if path.is_root() {
-        return false;
-    }
-    match block_key(alloc, path, index) {
+/// Whether a key that was made has these bytes.
+fn is_made(made: Result<Key, NoMemory>, want: &[u8]) -> bool {
+    match made {
         Ok(key) => key.as_bytes() == want,
         Err(_) => false,
     }
 }
 
-/// Whether the text is that of a path whose block has this key.
-fn is_block(alloc: Global, text: &[u8], index: u32, want: &[u8]) -> bool {
-    match path(alloc, text) {
-        Ok(path) => has_block(alloc, &path, index, want),
+/// Whether the path of the key has this key itself; or the key has no path.
+fn leads_to(alloc: Global, key: &Key, want: Option<&[u8]>) -> bool {
+    match decoded(alloc, key) {
+        Ok(Some(path)) => want == Some(path.key().as_bytes()),
+        Ok(None) => want.is_none(),
         Err(_) => false,
     }
 }
 
-const BLOCKS: &[(u32, &[u8])] = &[
-    (1, b"\x61\x00\x00\x00\x00\x00\x01"),
-    (268_435_455, b"\x61\x00\x00\x0f\xff\xff\xff"),
-];
-
-#[test]
-fn keys_of_blocks(rt: HostRuntime) {
-    for (index, want) in BLOCKS {
-        assert!(rt; is_block(rt.alloc(), b"/a", *index, want), "{index}");
-    }
-}
-
-/// The keys of the path's subtree, or those of its blocks from one on.
-fn range_of(alloc: Global, path: &Path, from: Option<u32>) -> Option<KeyRange> {
-    match from {
-        None => subtree(alloc, path).ok(),
-        Some(_) if path.is_root() => None,
-        Some(from) => blocks_from(alloc, path, from).ok(),
-    }
-}
-
-/// Whether the range begins and ends so.
-fn has_ends(range: &KeyRange, lo: &[u8], hi: Option<&[u8]>) -> bool {
-    range.lo.as_bytes() == lo && range.hi.as_ref().map(|key| key.as_bytes()) == hi
-}
-
-/// Whether the keys of the path begin and end so.
-fn path_has_ends(
-    alloc: Global,
-    path: &Path,
-    from: Option<u32>,
-    lo: &[u8],
-    hi: Option<&[u8]>,
-) -> bool {
-    match range_of(alloc, path, from) {
-        Some(range) => has_ends(&range, lo, hi),
-        None => false,
-    }
-}
-
-/// A path's text, from which of its blocks on (none: the whole subtree), and the range's two ends.
-type Ends = (
-    &'static [u8],
-    Option<u32>,
-    &'static [u8],
-    Option<&'static [u8]>,
-);
-
-/// Whether the row's text is that of a path whose keys begin and end so.
-fn ends_so(alloc: Global, row: &Ends) -> bool {
-    match path(alloc, row.0) {
-        Ok(path) => path_has_ends(alloc, &path, row.1, row.2, row.3),
+/// The same of a key that was made.
+fn made_leads_to(alloc: Global, made: Result<Key, NoMemory>, want: Option<&[u8]>) -> bool {
+    match made {
+        Ok(key) => leads_to(alloc, &key, want),
         Err(_) => false,
     }
 }
 
-const ENDS: &[Ends] = &[
-    (b"/", None, b"", None),
-    (b"/a", None, b"\x61\x00", Some(b"\x61\x01")),
-    (
-        b"/a",
-        Some(1),
-        b"\x61\x00\x00\x00\x00\x00\x01",
-        Some(b"\x61\x00\x01"),
-    ),
-];
-
-#[test]
-fn ends_of_ranges(rt: HostRuntime) {
-    for row in ENDS {
-        assert!(rt; ends_so(rt.alloc(), row), "{row:?}");
-    }
-}
-
-const SHORT: &[(&[u8], Option<Errno>)] = &[
-    (b"", Some(Errno::ENOENT)),
-    (b"/", None),
-    (b"a", Some(Errno::EINVAL)),
-    (b"//", Some(Errno::EINVAL)),
-    (b"/a/", Some(Errno::EINVAL)),
-    (b"/a//b", Some(Errno::EINVAL)),
-    (b"/.", Some(Errno::EINVAL)),
-    (b"/a/..", Some(Errno::EINVAL)),
-    (b"/...", None),
-    (b"/.a/a.", None),
-    (b"/a\x00b", Some(Errno::EINVAL)),
-    (b"/\xff", None),
-];
-
-#[test]
-fn short_texts(rt: HostRuntime) {
-    for row in SHORT {
-        assert!(rt; refusal(rt.alloc(), row.0) == row.1, "{row:?}");
-    }
-}
-
-/// The parts of a long text, and why it is no path.
-type Long = (
-    &'static [u8],
-    &'static [u8],
-    usize,
-    &'static [u8],
-    Option<Errno>,
-);
-
-/// Whether the row's text is refused so.
-fn is_refused(alloc: Global, row: &Long) -> bool {
-    match long_text(alloc, row.0, row.1, row.2, row.3) {
-        Ok(text) => refusal(alloc, &text) == row.4,
+/// Whether a range that was made begins and ends so.
+fn has_ends(made: Result<KeyRange, NoMemory>, lo: &[u8], hi: Option<&[u8]>) -> bool {
+    match made {
+        Ok(range) => range.lo.as_bytes() == lo && is_key(&range.hi, hi),
         Err(_) => false,
     }
 }
 
-const LONG: &[Long] = &[
-    (b"/", b"n", 255, b"", None),
-    (b"/", b"n", 256, b"", Some(Errno::ENAMETOOLONG)),
-    (b"", b"/a", 510, b"/ab", None),
-    (b"", b"/a", 511, b"", None),
-    (b"", b"/a", 512, b"", Some(Errno::ENAMETOOLONG)),
-    (b"/", b"n", 256, b"/..", Some(Errno::EINVAL)),
-    (b"/a\x00/", b"n", 256, b"", Some(Errno::EINVAL)),
-    (b"", b"/a", 1000, b"/", Some(Errno::EINVAL)),
-    (b"", b"a/", 1000, b"a", Some(Errno::EINVAL)),
-    (b"", b"/a", 1000, b"", Some(Errno::ENAMETOOLONG)),
-];
-
-#[test]
-fn long_texts(rt: HostRuntime) {
-    for row in LONG {
-        assert!(rt; is_refused(rt.alloc(), row), "{row:?}");
-    }
-}
-
-/// How two paths stand to one another.
-type Place = (bool, Ordering);
-
-/// Whether a path lies under another, and in which order their keys stand.
-fn place_of(path: &Path, other: &Path) -> Place {
-    (path.is_under(other), path.key().cmp(other.key()))
-}
-
-/// The same of a path and a text.
-fn place_by(alloc: Global, first: &Path, other: &[u8]) -> Option<Place> {
-    match path(alloc, other) {
-        Ok(other) => Some(place_of(first, &other)),
-        Err(_) => None,
-    }
-}
-
-/// The same of two texts; none where one is no path.
-fn place(alloc: Global, text: &[u8], other: &[u8]) -> Option<Place> {
-    match path(alloc, text) {
-        Ok(path) => place_by(alloc, &path, other),
-        Err(_) => None,
-    }
-}
-
-fn lies_under(alloc: Global, text: &[u8], other: &[u8]) -> Option<bool> {
-    Some(place(alloc, text, other)?.0)
-}
-
-fn order(alloc: Global, text: &[u8], other: &[u8]) -> Option<Ordering> {
-    Some(place(alloc, text, other)?.1)
-}
-
-const BELOW: &[(&[u8], &[u8], bool)] = &[
-    (b"/a/x", b"/a", true),
-    (b"/a", b"/a", true),
-    (b"/a-b", b"/", true),
-    (b"/a", b"/a/x", false),
-    (b"/a-b", b"/a", false),
-    (b"/", b"/a", false),
-];
-
-#[test]
-fn paths_below_others(rt: HostRuntime) {
-    for row in BELOW {
-        assert!(rt;
-            lies_under(rt.alloc(), row.0, row.1) == Some(row.2),
-            "{row:?}"
-        );
-    }
-}
-
-const ORDER: &[(&[u8], &[u8], Ordering)] = &[
-    (b"/", b"/a", Ordering::Less),
-    (b"/a", b"/a/x", Ordering::Less),
-    (b"/a/x", b"/a-b", Ordering::Less),
-    (b"/ab", b"/a-b", Ordering::Greater),
-    (b"/a", b"/a", Ordering::Equal),
-];
-
-#[test]
-fn keys_in_order(rt: HostRuntime) {
-    for row in ORDER {
-        assert!(rt; order(rt.alloc(), row.0, row.1) == Some(row.2), "{row:?}");
-    }
-}
-
-/// In which order two keys stand; none where their equality says otherwise.
-fn order_of(key: &Key, other: &Key) -> Option<Ordering> {
-    let order = key.cmp(other);
-    let equal = *key == *other;
-    if equal == (order == Ordering::Equal) {
-        Some(order)
-    } else {
-        None
-    }
-}
-
-/// The same of a key and bytes.
-fn order_by(alloc: Global, first: &Key, other: &[u8]) -> Option<Ordering> {
-    match key(alloc, other) {
-        Ok(other) => order_of(first, &other),
-        Err(_) => None,
-    }
-}
-
-/// The same of the keys of bytes.
-fn order_of_bytes(alloc: Global, bytes: &[u8], other: &[u8]) -> Option<Ordering> {
-    match key(alloc, bytes) {
-        Ok(key) => order_by(alloc, &key, other),
-        Err(_) => None,
-    }
-}
-
-// Keys that differ within their first eight bytes, keys that differ behind them, and keys that go on with zeros.
-const BYTES: &[(&[u8], &[u8], Ordering)] = &[
-    (b"", b"", Ordering::Equal),
-    (b"", b"\x00", Ordering::Less),
-    (b"a", b"a\x00", Ordering::Less),
-    (b"a\x00\x00\x00\x00\x00\x00\x00", b"a", Ordering::Greater),
-    (
-        b"a\x00",
-        b"a\x00\x00\x00\x00\x00\x00\x00\x00",
-        Ordering::Less,
-    ),
-    (b"ab", b"b", Ordering::Less),
-    (b"b", b"ab", Ordering::Greater),
-    (b"\x7f", b"\x80", Ordering::Less),
-    (b"\xff", b"\x01\xff", Ordering::Greater),
-    (b"abcdefg\x80", b"abcdefg\x7f", Ordering::Greater),
-    (b"abcdefgh", b"abcdefgh", Ordering::Equal),
-    (b"abcdefgh", b"abcdefgh\x00", Ordering::Less),
-    (b"abcdefgha", b"abcdefghb", Ordering::Less),
-    (b"abcdefghij", b"abcdefghij", Ordering::Equal),
-    (b"abcdefgh\xff", b"abcdefgh\x7f\xff", Ordering::Greater),
-];
-
-#[test]
-fn keys_of_bytes_in_order(rt: HostRuntime) {
-    for row in BYTES {
-        assert!(rt;
-            order_of_bytes(rt.alloc(), row.0, row.1) == Some(row.2),
-            "{row:?}"
-        );
-    }
-}
-
-/// Whether the path above has this key; the root has none above.
-fn has_parent(alloc: Global, path: &Path, want: &[u8]) -> bool {
+/// Whether the path above has this key; without a key, there is none above.
+fn has_parent(alloc: Global, path: &Path, want: Option<&[u8]>) -> bool {
     match path.parent(alloc) {
-        Ok(Some(up)) => has_key(&up, want),
-        _ => false,
-    }
-}
-
-/// Whether the text is that of a path with this parent and this last name.
-fn ends_in(alloc: Global, text: &[u8], parent: &[u8], last: &[u8]) -> bool {
-    match path(alloc, text) {
-        Ok(path) => path.last() == Some(last) && has_parent(alloc, &path, parent),
+        Ok(Some(up)) => want == Some(up.key().as_bytes()),
+        Ok(None) => want.is_none(),
         Err(_) => false,
     }
-}
-
-/// Whether a path has neither a name nor a parent.
-fn is_top(alloc: Global, path: &Path) -> bool {
-    path.last().is_none() && matches!(path.parent(alloc), Ok(None))
-}
-
-const PARENTS: &[(&[u8], &[u8], &[u8])] = &[
-    (b"/a/x", b"a\x00", b"x"),
-    (b"/a", b"", b"a"),
-    (b"/a/b-c/de", b"a\x00b-c\x00", b"de"),
-];
-
-#[test]
-fn parents_and_last_names(rt: HostRuntime) {
-    for row in PARENTS {
-        assert!(rt; ends_in(rt.alloc(), row.0, row.1, row.2), "{row:?}");
-    }
-    assert!(rt; is_top(rt.alloc(), &Path::root(rt.alloc())));
 }
 
 /// Whether the names of the path, from the root on, are these.
@@ -443,24 +105,319 @@ fn has_names(path: &Path, want: &[&[u8]]) -> bool {
     left.split_first().is_none()
 }
 
-/// Whether the text is that of a path with these names.
-fn is_named(alloc: Global, text: &[u8], want: &[&[u8]]) -> bool {
-    match path(alloc, text) {
-        Ok(path) => has_names(&path, want),
+/// Whether a path lies under that of a text, and in which order their keys stand.
+fn place_by(alloc: Global, first: &Path, other: &[u8]) -> Option<(bool, Ordering)> {
+    match path(alloc, other) {
+        Ok(other) => Some((first.is_under(&other), first.key().cmp(other.key()))),
+        Err(_) => None,
+    }
+}
+
+/// What is asked of a path, with the answer.
+#[derive(Clone, Copy)]
+enum Asked {
+    /// Its key, by itself, encoded and back.
+    Key(&'static [u8]),
+    /// The key of this block; no block has that of the root.
+    Block(u32, &'static [u8]),
+    /// The two ends of its subtree.
+    Ends(&'static [u8], Option<&'static [u8]>),
+    /// The two ends of its blocks from this one on.
+    EndsFrom(u32, &'static [u8], Option<&'static [u8]>),
+    /// The key of its parent, and its last name.
+    Parent(&'static [u8], &'static [u8]),
+    /// Its names, from the root on.
+    Names(&'static [&'static [u8]]),
+    /// Whether it lies under the path of this text.
+    Under(&'static [u8], bool),
+    /// How its key stands to that of the path of this text.
+    Order(&'static [u8], Ordering),
+}
+
+/// Whether a path answers so.
+fn answers(alloc: Global, path: &Path, asked: Asked) -> bool {
+    match asked {
+        Asked::Key(want) => {
+            path.key().as_bytes() == want
+                && is_made(enc(alloc, path), want)
+                && made_leads_to(alloc, enc(alloc, path), Some(want))
+        }
+        Asked::Block(index, want) => {
+            !path.is_root() && is_made(block_key(alloc, path, index), want)
+        }
+        Asked::Ends(lo, hi) => has_ends(subtree(alloc, path), lo, hi),
+        Asked::EndsFrom(from, lo, hi) => {
+            !path.is_root() && has_ends(blocks_from(alloc, path, from), lo, hi)
+        }
+        Asked::Parent(parent, last) => {
+            path.last() == Some(last) && has_parent(alloc, path, Some(parent))
+        }
+        Asked::Names(want) => has_names(path, want),
+        Asked::Under(other, want) => {
+            matches!(place_by(alloc, path, other), Some((under, _)) if under == want)
+        }
+        Asked::Order(other, want) => {
+            matches!(place_by(alloc, path, other), Some((_, order)) if order == want)
+        }
+    }
+}
+
+/// A path's text, and what is asked of the path.
+struct Told(&'static [u8], Asked);
+
+impl Holds for Told {
+    fn holds(&self, alloc: Global) -> bool {
+        match path(alloc, self.0) {
+            Ok(path) => answers(alloc, &path, self.1),
+            Err(_) => false,
+        }
+    }
+}
+
+const KEYS: &[Told] = &[
+    Told(b"/", Asked::Key(b"")),
+    Told(b"/a", Asked::Key(b"\x61\x00")),
+    Told(b"/a/x", Asked::Key(b"\x61\x00\x78\x00")),
+    Told(b"/a-b", Asked::Key(b"\x61\x2d\x62\x00")),
+];
+
+#[test]
+fn keys_of_paths(rt: HostRuntime) -> Result<(), usize> {
+    all_hold(rt.alloc(), KEYS)
+}
+
+/// Bytes of a key that no path has.
+struct OfNone(&'static [u8]);
+
+impl Holds for OfNone {
+    fn holds(&self, alloc: Global) -> bool {
+        made_leads_to(alloc, key(alloc, self.0), None)
+    }
+}
+
+const NO_KEYS: &[OfNone] = &[
+    OfNone(b"\x61"),
+    OfNone(b"\x00"),
+    OfNone(b"\x61\x01"),
+    OfNone(b"\x61\x00\x00\x00\x00\x00\x01"),
+    OfNone(b"\x2e\x00"),
+    OfNone(b"\x2e\x2e\x00"),
+    OfNone(b"\x61\x2f\x62\x00"),
+];
+
+#[test]
+fn keys_of_no_path(rt: HostRuntime) -> Result<(), usize> {
+    all_hold(rt.alloc(), NO_KEYS)
+}
+
+const BLOCKS: &[Told] = &[
+    Told(b"/a", Asked::Block(1, b"\x61\x00\x00\x00\x00\x00\x01")),
+    Told(
+        b"/a",
+        Asked::Block(268_435_455, b"\x61\x00\x00\x0f\xff\xff\xff"),
+    ),
+];
+
+#[test]
+fn keys_of_blocks(rt: HostRuntime) -> Result<(), usize> {
+    all_hold(rt.alloc(), BLOCKS)
+}
+
+const ENDS: &[Told] = &[
+    Told(b"/", Asked::Ends(b"", None)),
+    Told(b"/a", Asked::Ends(b"\x61\x00", Some(b"\x61\x01"))),
+    Told(
+        b"/a",
+        Asked::EndsFrom(1, b"\x61\x00\x00\x00\x00\x00\x01", Some(b"\x61\x00\x01")),
+    ),
+];
+
+#[test]
+fn ends_of_ranges(rt: HostRuntime) -> Result<(), usize> {
+    all_hold(rt.alloc(), ENDS)
+}
+
+/// A text, and why it is no path; none where it is one.
+struct Short(&'static [u8], Option<Errno>);
+
+impl Holds for Short {
+    fn holds(&self, alloc: Global) -> bool {
+        refusal(alloc, self.0) == self.1
+    }
+}
+
+const SHORT: &[Short] = &[
+    Short(b"", Some(Errno::ENOENT)),
+    Short(b"/", None),
+    Short(b"a", Some(Errno::EINVAL)),
+    Short(b"//", Some(Errno::EINVAL)),
+    Short(b"/a/", Some(Errno::EINVAL)),
+    Short(b"/a//b", Some(Errno::EINVAL)),
+    Short(b"/.", Some(Errno::EINVAL)),
+    Short(b"/a/..", Some(Errno::EINVAL)),
+    Short(b"/...", None),
+    Short(b"/.a/a.", None),
+    Short(b"/a\x00b", Some(Errno::EINVAL)),
+    Short(b"/\xff", None),
+];
+
+#[test]
+fn short_texts(rt: HostRuntime) -> Result<(), usize> {
+    all_hold(rt.alloc(), SHORT)
+}
+
+/// The parts of a long text, and why it is no path, or no name of a snapshot; none where it is one.
+struct Long(
+    &'static [u8],
+    &'static [u8],
+    usize,
+    &'static [u8],
+    Option<Errno>,
+);
+
+/// Whether a text is refused as a path as the row says.
+fn is_refused(alloc: Global, row: &Long) -> bool {
+    match long_text(alloc, row.0, row.1, row.2, row.3) {
+        Ok(text) => refusal(alloc, &text) == row.4,
         Err(_) => false,
     }
 }
 
+impl Holds for Long {
+    fn holds(&self, alloc: Global) -> bool {
+        is_refused(alloc, self)
+    }
+}
+
+const LONG: &[Long] = &[
+    Long(b"/", b"n", 255, b"", None),
+    Long(b"/", b"n", 256, b"", Some(Errno::ENAMETOOLONG)),
+    Long(b"", b"/a", 510, b"/ab", None),
+    Long(b"", b"/a", 511, b"", None),
+    Long(b"", b"/a", 512, b"", Some(Errno::ENAMETOOLONG)),
+    Long(b"/", b"n", 256, b"/..", Some(Errno::EINVAL)),
+    Long(b"/a\x00/", b"n", 256, b"", Some(Errno::EINVAL)),
+    Long(b"", b"/a", 1000, b"/", Some(Errno::EINVAL)),
+    Long(b"", b"a/", 1000, b"a", Some(Errno::EINVAL)),
+    Long(b"", b"/a", 1000, b"", Some(Errno::ENAMETOOLONG)),
+];
+
 #[test]
-fn names_from_the_root(rt: HostRuntime) {
-    assert!(rt; is_named(rt.alloc(), b"/a/xy", &[b"a", b"xy"]));
-    assert!(rt; is_named(rt.alloc(), b"/", &[]));
+fn long_texts(rt: HostRuntime) -> Result<(), usize> {
+    all_hold(rt.alloc(), LONG)
+}
+
+const BELOW: &[Told] = &[
+    Told(b"/a/x", Asked::Under(b"/a", true)),
+    Told(b"/a", Asked::Under(b"/a", true)),
+    Told(b"/a-b", Asked::Under(b"/", true)),
+    Told(b"/a", Asked::Under(b"/a/x", false)),
+    Told(b"/a-b", Asked::Under(b"/a", false)),
+    Told(b"/", Asked::Under(b"/a", false)),
+];
+
+#[test]
+fn paths_below_others(rt: HostRuntime) -> Result<(), usize> {
+    all_hold(rt.alloc(), BELOW)
+}
+
+const ORDER: &[Told] = &[
+    Told(b"/", Asked::Order(b"/a", Ordering::Less)),
+    Told(b"/a", Asked::Order(b"/a/x", Ordering::Less)),
+    Told(b"/a/x", Asked::Order(b"/a-b", Ordering::Less)),
+    Told(b"/ab", Asked::Order(b"/a-b", Ordering::Greater)),
+    Told(b"/a", Asked::Order(b"/a", Ordering::Equal)),
+];
+
+#[test]
+fn keys_in_order(rt: HostRuntime) -> Result<(), usize> {
+    all_hold(rt.alloc(), ORDER)
+}
+
+/// Whether two keys stand in this order, and their equality says so too.
+fn are_ordered(key: &Key, other: &Key, want: Ordering) -> bool {
+    key.cmp(other) == want && (*key == *other) == (want == Ordering::Equal)
+}
+
+/// The same of a key and one that was made.
+fn is_ordered(key: &Key, made: Result<Key, NoMemory>, want: Ordering) -> bool {
+    match made {
+        Ok(other) => are_ordered(key, &other, want),
+        Err(_) => false,
+    }
+}
+
+/// The bytes of two keys, and how these stand.
+struct Bytes(&'static [u8], &'static [u8], Ordering);
+
+impl Holds for Bytes {
+    fn holds(&self, alloc: Global) -> bool {
+        match key(alloc, self.0) {
+            Ok(first) => is_ordered(&first, key(alloc, self.1), self.2),
+            Err(_) => false,
+        }
+    }
+}
+
+// Keys that differ within their first eight bytes, keys that differ behind them, and keys that go on with zeros.
+const BYTES: &[Bytes] = &[
+    Bytes(b"", b"", Ordering::Equal),
+    Bytes(b"", b"\x00", Ordering::Less),
+    Bytes(b"a", b"a\x00", Ordering::Less),
+    Bytes(b"a\x00\x00\x00\x00\x00\x00\x00", b"a", Ordering::Greater),
+    Bytes(
+        b"a\x00",
+        b"a\x00\x00\x00\x00\x00\x00\x00\x00",
+        Ordering::Less,
+    ),
+    Bytes(b"ab", b"b", Ordering::Less),
+    Bytes(b"b", b"ab", Ordering::Greater),
+    Bytes(b"\x7f", b"\x80", Ordering::Less),
+    Bytes(b"\xff", b"\x01\xff", Ordering::Greater),
+    Bytes(b"abcdefg\x80", b"abcdefg\x7f", Ordering::Greater),
+    Bytes(b"abcdefgh", b"abcdefgh", Ordering::Equal),
+    Bytes(b"abcdefgh", b"abcdefgh\x00", Ordering::Less),
+    Bytes(b"abcdefgha", b"abcdefghb", Ordering::Less),
+    Bytes(b"abcdefghij", b"abcdefghij", Ordering::Equal),
+    Bytes(b"abcdefgh\xff", b"abcdefgh\x7f\xff", Ordering::Greater),
+];
+
+#[test]
+fn keys_of_bytes_in_order(rt: HostRuntime) -> Result<(), usize> {
+    all_hold(rt.alloc(), BYTES)
+}
+
+const PARENTS: &[Told] = &[
+    Told(b"/a/x", Asked::Parent(b"a\x00", b"x")),
+    Told(b"/a", Asked::Parent(b"", b"a")),
+    Told(b"/a/b-c/de", Asked::Parent(b"a\x00b-c\x00", b"de")),
+];
+
+/// Whether a path has neither a name nor a parent.
+fn is_top(alloc: Global, path: &Path) -> bool {
+    path.last().is_none() && has_parent(alloc, path, None)
+}
+
+#[test]
+fn parents_and_last_names(rt: HostRuntime) -> Result<(), usize> {
+    assert!(rt; is_top(rt.alloc(), &Path::root(rt.alloc())));
+    all_hold(rt.alloc(), PARENTS)
+}
+
+const NAMES: &[Told] = &[
+    Told(b"/a/xy", Asked::Names(&[b"a", b"xy"])),
+    Told(b"/", Asked::Names(&[])),
+];
+
+#[test]
+fn names_from_the_root(rt: HostRuntime) -> Result<(), usize> {
+    all_hold(rt.alloc(), NAMES)
 }
 
 /// Whether a key becomes this one where one path becomes another; it stays where it does not lie under the first.
 fn is_rekeyed(alloc: Global, key: &Key, old: &Path, new: &Path, want: Option<&[u8]>) -> bool {
     match rekey(alloc, key, old, new) {
-        Ok(moved) => moved.as_ref().map(|key| key.as_bytes()) == want,
+        Ok(moved) => is_key(&moved, want),
         Err(_) => false,
     }
 }
@@ -474,9 +431,9 @@ fn is_rekeyed_to(alloc: Global, key: &Key, old: &Path, new: &[u8], want: Option<
 }
 
 /// An old and a new path, and the key that comes of one below the old path.
-type Moved = (&'static [u8], &'static [u8], Option<&'static [u8]>);
+struct Moved(&'static [u8], &'static [u8], Option<&'static [u8]>);
 
-/// Whether the key moves as the row says.
+/// Whether a key moves as the row says.
 fn moves_so(alloc: Global, key: &Key, row: &Moved) -> bool {
     match path(alloc, row.0) {
         Ok(old) => is_rekeyed_to(alloc, key, &old, row.1, row.2),
@@ -484,25 +441,24 @@ fn moves_so(alloc: Global, key: &Key, row: &Moved) -> bool {
     }
 }
 
-/// Whether the key of these bytes moves as the row says.
-fn bytes_move_so(alloc: Global, bytes: &[u8], row: &Moved) -> bool {
-    match key(alloc, bytes) {
-        Ok(key) => moves_so(alloc, &key, row),
-        Err(_) => false,
+impl Holds for Moved {
+    fn holds(&self, alloc: Global) -> bool {
+        match key(alloc, b"a\x00x\x00") {
+            Ok(key) => moves_so(alloc, &key, self),
+            Err(_) => false,
+        }
     }
 }
 
 const MOVED: &[Moved] = &[
-    (b"/a", b"/a-b", Some(b"a-b\x00x\x00")),
-    (b"/a/x", b"/y", Some(b"y\x00")),
-    (b"/b", b"/a", None),
+    Moved(b"/a", b"/a-b", Some(b"a-b\x00x\x00")),
+    Moved(b"/a/x", b"/y", Some(b"y\x00")),
+    Moved(b"/b", b"/a", None),
 ];
 
 #[test]
-fn keys_moved(rt: HostRuntime) {
-    for row in MOVED {
-        assert!(rt; bytes_move_so(rt.alloc(), b"a\x00x\x00", row), "{row:?}");
-    }
+fn keys_moved(rt: HostRuntime) -> Result<(), usize> {
+    all_hold(rt.alloc(), MOVED)
 }
 
 fn snap_refusal(alloc: Global, text: &[u8]) -> Option<Errno> {
@@ -513,26 +469,28 @@ fn snap(alloc: Global, text: &[u8]) -> Result<SnapName, Errno> {
     SnapName::parse(alloc, text)
 }
 
-/// Whether a name of so many letters is refused so.
-fn is_refused_at(alloc: Global, count: usize, want: Option<Errno>) -> bool {
-    match long_text(alloc, b"", b"s", count, b"") {
-        Ok(text) => snap_refusal(alloc, &text) == want,
-        Err(_) => false,
+/// How many letters a name has, and why it is none of a snapshot.
+struct Lettered(usize, Option<Errno>);
+
+impl Holds for Lettered {
+    fn holds(&self, alloc: Global) -> bool {
+        match long_text(alloc, b"", b"s", self.0, b"") {
+            Ok(text) => snap_refusal(alloc, &text) == self.1,
+            Err(_) => false,
+        }
     }
 }
 
-const SNAPSHOTS: &[(usize, Option<Errno>)] = &[
-    (0, Some(Errno::EINVAL)),
-    (1, None),
-    (64, None),
-    (65, Some(Errno::EINVAL)),
+const SNAPSHOTS: &[Lettered] = &[
+    Lettered(0, Some(Errno::EINVAL)),
+    Lettered(1, None),
+    Lettered(64, None),
+    Lettered(65, Some(Errno::EINVAL)),
 ];
 
 #[test]
-fn names_of_snapshots(rt: HostRuntime) {
-    for row in SNAPSHOTS {
-        assert!(rt; is_refused_at(rt.alloc(), row.0, row.1), "{row:?}");
-    }
+fn names_of_snapshots(rt: HostRuntime) -> Result<(), usize> {
+    all_hold(rt.alloc(), SNAPSHOTS)
 }
 
 /// How a name stands to a text; none where that is no name.
@@ -543,56 +501,84 @@ fn snap_order(alloc: Global, name: &SnapName, other: &[u8]) -> Option<Ordering> 
     }
 }
 
-/// Whether the text is that of a name which has its bytes and stands so to another.
-fn is_ordered(alloc: Global, text: &[u8], other: &[u8], want: Ordering) -> bool {
-    match snap(alloc, text) {
-        Ok(name) => name.as_bytes() == text && snap_order(alloc, &name, other) == Some(want),
-        Err(_) => false,
+/// Two names, of which the first has its bytes, and how they stand.
+struct Snaps(&'static [u8], &'static [u8], Ordering);
+
+impl Holds for Snaps {
+    fn holds(&self, alloc: Global) -> bool {
+        match snap(alloc, self.0) {
+            Ok(name) => {
+                name.as_bytes() == self.0 && snap_order(alloc, &name, self.1) == Some(self.2)
+            }
+            Err(_) => false,
+        }
     }
 }
 
-const SNAPSHOT_ORDER: &[(&[u8], &[u8], Ordering)] = &[
-    (b"Az.09_-Za", b"a", Ordering::Less),
-    (b"b", b"a", Ordering::Greater),
-    (b"a", b"a", Ordering::Equal),
+const SNAPSHOT_ORDER: &[Snaps] = &[
+    Snaps(b"Az.09_-Za", b"a", Ordering::Less),
+    Snaps(b"b", b"a", Ordering::Greater),
+    Snaps(b"a", b"a", Ordering::Equal),
 ];
 
 #[test]
-fn snapshot_names_in_order(rt: HostRuntime) {
-    for row in SNAPSHOT_ORDER {
-        assert!(rt; is_ordered(rt.alloc(), row.0, row.1, row.2), "{row:?}");
+fn snapshot_names_in_order(rt: HostRuntime) -> Result<(), usize> {
+    all_hold(rt.alloc(), SNAPSHOT_ORDER)
+}
+
+/// A byte that no name of a snapshot has.
+struct NoLetter(u8);
+
+impl Holds for NoLetter {
+    fn holds(&self, alloc: Global) -> bool {
+        snap_refusal(alloc, &[b'a', self.0]) == Some(Errno::EINVAL)
     }
 }
 
-#[test]
-fn bytes_of_no_snapshot(rt: HostRuntime) {
-    for byte in *b"`{@[/:, \0\x80\xff" {
-        let refused = snap_refusal(rt.alloc(), &[b'a', byte]);
-        assert!(rt; refused == Some(Errno::EINVAL), "with {byte}");
-    }
-}
-
-const REFUSALS: &[(Errno, u8, &str)] = &[
-    (Errno::ENOENT, 1, "ENOENT"),
-    (Errno::ENOTDIR, 2, "ENOTDIR"),
-    (Errno::EISDIR, 3, "EISDIR"),
-    (Errno::EEXIST, 4, "EEXIST"),
-    (Errno::ENOTEMPTY, 5, "ENOTEMPTY"),
-    (Errno::EPERM, 6, "EPERM"),
-    (Errno::EINVAL, 7, "EINVAL"),
-    (Errno::ENAMETOOLONG, 8, "ENAMETOOLONG"),
-    (Errno::EFBIG, 9, "EFBIG"),
-    (Errno::EBUSY, 10, "EBUSY"),
-    (Errno::ENOMEM, 11, "ENOMEM"),
-    (Errno::ENOSPC, 12, "ENOSPC"),
+const NO_LETTERS: &[NoLetter] = &[
+    NoLetter(b'`'),
+    NoLetter(b'{'),
+    NoLetter(b'@'),
+    NoLetter(b'['),
+    NoLetter(b'/'),
+    NoLetter(b':'),
+    NoLetter(b','),
+    NoLetter(b' '),
+    NoLetter(b'\0'),
+    NoLetter(b'\x80'),
+    NoLetter(b'\xff'),
 ];
 
 #[test]
-fn numbers_of_refusals(rt: HostRuntime) {
-    for (errno, number, name) in REFUSALS {
-        assert!(rt;
-            errno.number() == *number && errno.name() == *name,
-            "{name}"
-        );
+fn bytes_of_no_snapshot(rt: HostRuntime) -> Result<(), usize> {
+    all_hold(rt.alloc(), NO_LETTERS)
+}
+
+/// A refusal, its number and its name.
+struct Numbered(Errno, u8, &'static str);
+
+impl Holds for Numbered {
+    fn holds(&self, _alloc: Global) -> bool {
+        self.0.number() == self.1 && self.0.name() == self.2
     }
+}
+
+const REFUSALS: &[Numbered] = &[
+    Numbered(Errno::ENOENT, 1, "ENOENT"),
+    Numbered(Errno::ENOTDIR, 2, "ENOTDIR"),
+    Numbered(Errno::EISDIR, 3, "EISDIR"),
+    Numbered(Errno::EEXIST, 4, "EEXIST"),
+    Numbered(Errno::ENOTEMPTY, 5, "ENOTEMPTY"),
+    Numbered(Errno::EPERM, 6, "EPERM"),
+    Numbered(Errno::EINVAL, 7, "EINVAL"),
+    Numbered(Errno::ENAMETOOLONG, 8, "ENAMETOOLONG"),
+    Numbered(Errno::EFBIG, 9, "EFBIG"),
+    Numbered(Errno::EBUSY, 10, "EBUSY"),
+    Numbered(Errno::ENOMEM, 11, "ENOMEM"),
+    Numbered(Errno::ENOSPC, 12, "ENOSPC"),
+];
+
+#[test]
+fn numbers_of_refusals(rt: HostRuntime) -> Result<(), usize> {
+    all_hold(rt.alloc(), REFUSALS)
 }

@@ -1,5 +1,5 @@
 //! Flushes of several messages on numbers into a leaf, at keys of one byte.
-use crate::trees::append;
+use crate::trees::{Course, all_go, append};
 use flush::flush_leaf;
 use node::{Body, Node, Place, Shape, Slot, StepReply, Tree};
 use pathkey::Key;
@@ -85,11 +85,11 @@ const SIXTEEN: &[Plain] = &[
 ];
 
 /// Messages for the leaf, before the sixteen; how many of all go down; and the entries before the twelve then.
-type Row = (&'static [Plain], u32, &'static [(u8, u64)]);
+struct Row(&'static [Plain], u32, &'static [(u8, u64)]);
 
 const ROWS: &[Row] = &[
     // keys without entries: before the entries, between them and behind them
-    (
+    Row(
         &[
             Plain::Del(1),
             Plain::Put(3, 3),
@@ -99,18 +99,18 @@ const ROWS: &[Row] = &[
         20,
         &[(2, 20), (3, 3), (4, 40), (6, 60)],
     ),
-    (
+    Row(
         &[Plain::Put(1, 1), Plain::Del(9)],
         18,
         &[(1, 1), (2, 20), (4, 40), (6, 60)],
     ),
-    (
+    Row(
         &[Plain::Edit(2, 1), Plain::Put(9, 9)],
         18,
         &[(2, 201), (4, 40), (6, 60), (9, 9)],
     ),
     // entries that go make room for others
-    (
+    Row(
         &[
             Plain::Del(2),
             Plain::Del(4),
@@ -122,7 +122,7 @@ const ROWS: &[Row] = &[
         &[(5, 5), (6, 60), (7, 7), (8, 8)],
     ),
     // several updates of one key
-    (
+    Row(
         &[
             Plain::Edit(4, 1),
             Plain::Edit(4, 2),
@@ -132,13 +132,13 @@ const ROWS: &[Row] = &[
         20,
         &[(2, 20), (4, 12), (5, 34), (6, 60)],
     ),
-    (
+    Row(
         &[Plain::Edit(2, 9), Plain::Edit(2, 5), Plain::Del(6)],
         19,
         &[(2, 5), (4, 40)],
     ),
     // a range-delete goes before the messages of keys
-    (
+    Row(
         &[
             Plain::DelRange(2, Some(5)),
             Plain::Put(1, 1),
@@ -148,14 +148,14 @@ const ROWS: &[Row] = &[
         20,
         &[(1, 1), (3, 3), (6, 601)],
     ),
-    (&[Plain::Put(3, 3), Plain::DelRange(0, Some(99))], 17, &[]),
+    Row(&[Plain::Put(3, 3), Plain::DelRange(0, Some(99))], 17, &[]),
     // the leaf becomes full in the middle
-    (
+    Row(
         &[Plain::Put(1, 1), Plain::Put(3, 3), Plain::Put(6, 6)],
         1,
         &[(1, 1), (2, 20), (4, 40), (6, 60)],
     ),
-    (
+    Row(
         &[
             Plain::Put(3, 3),
             Plain::Edit(4, 1),
@@ -165,7 +165,7 @@ const ROWS: &[Row] = &[
         3,
         &[(2, 20), (3, 3), (4, 401), (6, 7)],
     ),
-    (
+    Row(
         &[
             Plain::Put(5, 5),
             Plain::Del(5),
@@ -177,30 +177,18 @@ const ROWS: &[Row] = &[
     ),
 ];
 
-/// Whether the row's messages go down before the sixteen.
-fn goes_down(alloc: Global, tree: &mut Tree<Digit>, row: &Row) -> bool {
-    append(alloc, tree, row.0) && go_down(alloc, tree, SIXTEEN, row.1)
-}
-
-/// Whether a tree's first leaf gets its entries, and then comes to what the row says.
-fn comes_to(alloc: Global, tree: &mut Tree<Digit>, row: &Row) -> bool {
-    go_down(alloc, tree, THREE, 3)
-        && go_down(alloc, tree, TWELVE, 12)
-        && goes_down(alloc, tree, row)
-        && is_numbered(tree.root(), row.2)
-}
-
-/// The same of a new tree.
-fn comes_to_anew(alloc: Global, row: &Row) -> bool {
-    match Tree::new(alloc, SHAPE) {
-        Ok(mut tree) => comes_to(alloc, &mut tree, row),
-        Err(_) => false,
+/// A tree's first leaf gets its entries, and then comes to what the row says.
+impl Course for Row {
+    fn goes(&self, alloc: Global, tree: &mut Tree<Digit>) -> bool {
+        go_down(alloc, tree, THREE, 3)
+            && go_down(alloc, tree, TWELVE, 12)
+            && append(alloc, tree, self.0)
+            && go_down(alloc, tree, SIXTEEN, self.1)
+            && is_numbered(tree.root(), self.2)
     }
 }
 
 #[test]
-fn takes_several_messages_at_once(rt: HostRuntime) {
-    for row in ROWS {
-        assert!(rt; comes_to_anew(rt.alloc(), row), "{row:?}");
-    }
+fn takes_several_messages_at_once(rt: HostRuntime) -> Result<(), usize> {
+    all_go(rt.alloc(), SHAPE, ROWS)
 }

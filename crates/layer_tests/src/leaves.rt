@@ -2,6 +2,7 @@
 ghost use Rattle.std.specs.Prelude.{None, [], IfOk};
 ghost use Rattle.node.specs.Lawful.{Rises};
 
+use crate::rows::{Holds, all_hold};
 use node::node::leaf::{applied, divide, position};
 use pathkey::{Key, NoMemory};
 use samples::{Digit, Plain, are_numbered, batch, key, number};
@@ -36,7 +37,7 @@ fn even(alloc: Global) -> Result<Vec<(Key, u64)>, NoMemory>
 }
 
 /// Two messages, and what the four entries are after them.
-type Row = ([Plain; 2], &'static [(u8, u64)]);
+struct Row([Plain; 2], &'static [(u8, u64)]);
 
 /// Whether the entries come to what the row says.
 fn comes_to(alloc: Global, entries: &[(Key, u64)], row: &Row) -> bool
@@ -48,52 +49,51 @@ fn comes_to(alloc: Global, entries: &[(Key, u64)], row: &Row) -> bool
     }
 }
 
-/// Whether the four entries come to what the row says.
-fn even_comes_to(alloc: Global, row: &Row) -> bool {
-    match even(alloc) {
-        Ok(entries) => comes_to(alloc, &entries, row),
-        Err(_) => false,
+impl Holds for Row {
+    fn holds(&self, alloc: Global) -> bool {
+        match even(alloc) {
+            Ok(entries) => comes_to(alloc, &entries, self),
+            Err(_) => false,
+        }
     }
 }
 
 const ROWS: &[Row] = &[
-    (
+    Row(
         [Plain::Put(4, 1), Plain::Put(5, 2)],
         &[(2, 20), (4, 1), (5, 2), (6, 60), (8, 80)],
     ),
-    (
+    Row(
         [Plain::Put(1, 1), Plain::Put(9, 2)],
         &[(1, 1), (2, 20), (4, 40), (6, 60), (8, 80), (9, 2)],
     ),
-    ([Plain::Del(2), Plain::Del(3)], &[(4, 40), (6, 60), (8, 80)]),
-    (
+    Row([Plain::Del(2), Plain::Del(3)], &[(4, 40), (6, 60), (8, 80)]),
+    Row(
         [Plain::DelRange(4, Some(8)), Plain::DelRange(9, Some(1))],
         &[(2, 20), (8, 80)],
     ),
-    (
+    Row(
         [Plain::DelRange(5, None), Plain::Edit(4, 3)],
         &[(2, 20), (4, 403)],
     ),
-    ([Plain::DelRange(0, None), Plain::Edit(6, 7)], &[(6, 7)]),
-    (
+    Row([Plain::DelRange(0, None), Plain::Edit(6, 7)], &[(6, 7)]),
+    Row(
         [Plain::Edit(2, 1), Plain::Edit(2, 2)],
         &[(2, 12), (4, 40), (6, 60), (8, 80)],
     ),
-    (
+    Row(
         [Plain::Edit(8, 9), Plain::Edit(3, 9)],
         &[(2, 20), (4, 40), (6, 60)],
     ),
-    (
+    Row(
         [Plain::Del(6), Plain::Put(6, 5)],
         &[(2, 20), (4, 40), (6, 5), (8, 80)],
     ),
 ];
 
 #[test]
-fn applies_each_form_of_message(rt: HostRuntime) {
-    for row in ROWS {
-        assert!(rt; even_comes_to(rt.alloc(), row), "{row:?}");
-    }
+fn applies_each_form_of_message(rt: HostRuntime) -> Result<(), usize> {
+    all_hold(rt.alloc(), ROWS)
 }
 
 /// Where a key's entry stands among the entries, or would stand; none where memory is refused.
@@ -106,32 +106,30 @@ fn place_of(alloc: Global, entries: &[(Key, u64)], at: u8) -> Option<Result<usiz
     }
 }
 
-/// The same among the four entries.
-fn place_in_even(alloc: Global, at: u8) -> Option<Result<usize, usize>> {
-    match even(alloc) {
-        Ok(entries) => place_of(alloc, &entries, at),
-        Err(_) => None,
+/// A key, and where it stands among the four entries.
+struct Stands(u8, Result<usize, usize>);
+
+impl Holds for Stands {
+    fn holds(&self, alloc: Global) -> bool {
+        match even(alloc) {
+            Ok(entries) => place_of(alloc, &entries, self.0) == Some(self.1),
+            Err(_) => false,
+        }
     }
 }
 
-const PLACES: &[(u8, Result<usize, usize>)] = &[
-    (1, Err(0)),
-    (2, Ok(0)),
-    (3, Err(1)),
-    (6, Ok(2)),
-    (8, Ok(3)),
-    (9, Err(4)),
+const PLACES: &[Stands] = &[
+    Stands(1, Err(0)),
+    Stands(2, Ok(0)),
+    Stands(3, Err(1)),
+    Stands(6, Ok(2)),
+    Stands(8, Ok(3)),
+    Stands(9, Err(4)),
 ];
 
 #[test]
-fn finds_entries_and_the_gaps_between(rt: HostRuntime) {
-    for row in PLACES {
-        assert!(rt;
-            place_in_even(rt.alloc(), row.0) == Some(row.1),
-            "at {}",
-            row.0
-        );
-    }
+fn finds_entries_and_the_gaps_between(rt: HostRuntime) -> Result<(), usize> {
+    all_hold(rt.alloc(), PLACES)
 }
 
 /// Whether five entries are divided at the key 4.

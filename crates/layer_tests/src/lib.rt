@@ -21,6 +21,8 @@ mod pair;
 #[cfg(test)]
 mod refused;
 #[cfg(test)]
+mod rows;
+#[cfg(test)]
 mod searches;
 #[cfg(test)]
 mod settling;

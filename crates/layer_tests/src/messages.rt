@@ -1,4 +1,5 @@
 //! Messages on numbers, at keys of one byte, beside the same messages told in plain numbers.
+use crate::rows::{Holds, all_hold};
 use message::{Msg, Pending, cut, touches};
 use pathkey::{Key, KeyRange, NoMemory};
 use samples::{Digit, Plain, are, batch, key, range, waits};
@@ -13,6 +14,17 @@ fn list_of(alloc: Global, msgs: &[Plain]) -> Result<Pending<Digit>, NoMemory> {
     Ok(list)
 }
 
+/// What is asked of a message, with the answer.
+#[derive(Clone, Copy)]
+enum Asked {
+    /// Whether it touches the key of a number.
+    Touches(u8, bool),
+    /// What it makes of a value at the key 3.
+    Lays(Option<u64>, Option<u64>),
+    /// Its piece in the range of these two ends.
+    Cut(u8, Option<u8>, Option<Plain>),
+}
+
 /// Whether a message touches the key of a number; none where memory is refused.
 fn touches_at(alloc: Global, msg: &Msg<Digit>, at: u8) -> Option<bool> {
     match key(alloc, at) {
@@ -21,81 +33,11 @@ fn touches_at(alloc: Global, msg: &Msg<Digit>, at: u8) -> Option<bool> {
     }
 }
 
-/// The same of a plain message.
-fn is_touched(alloc: Global, plain: Plain, at: u8) -> Option<bool> {
-    match plain.message(alloc) {
-        Ok(msg) => touches_at(alloc, &msg, at),
-        Err(_) => None,
-    }
-}
-
-const TOUCHED: &[(Plain, u8, bool)] = &[
-    (Plain::DelRange(3, Some(5)), 2, false),
-    (Plain::DelRange(3, Some(5)), 3, true),
-    (Plain::DelRange(3, Some(5)), 4, true),
-    (Plain::DelRange(3, Some(5)), 5, false),
-    (Plain::DelRange(3, None), 2, false),
-    (Plain::DelRange(3, None), 255, true),
-    (Plain::DelRange(3, Some(3)), 3, false),
-    (Plain::Put(3, 7), 3, true),
-    (Plain::Del(3), 4, false),
-    (Plain::Edit(3, 7), 2, false),
-];
-
-#[test]
-fn touches_from_the_low_end_up_to_the_high_end(rt: HostRuntime) {
-    for row in TOUCHED {
-        assert!(rt;
-            is_touched(rt.alloc(), row.0, row.1) == Some(row.2),
-            "{row:?}"
-        );
-    }
-}
-
-/// Whether a message makes this of a value at a key.
-fn lays(alloc: Global, msg: &Msg<Digit>, at: &Key, old: Option<u64>, wanted: Option<u64>) -> bool {
-    match msg.lay(alloc, at, old) {
-        Ok(new) => new == wanted,
-        Err(_) => false,
-    }
-}
-
-/// A message, a value at the key 3, and what becomes of it.
-type Laid = (Plain, Option<u64>, Option<u64>);
-
-/// Whether a message makes of the row's value at a key what the row says.
-fn lays_at(alloc: Global, at: &Key, row: &Laid) -> bool {
-    match row.0.message(alloc) {
-        Ok(msg) => lays(alloc, &msg, at, row.1, row.2),
-        Err(_) => false,
-    }
-}
-
-/// Whether the row's message makes of the value at the key 3 what the row says.
-fn lays_so(alloc: Global, row: &Laid) -> bool {
+/// Whether a message makes this of a value at the key 3.
+fn lays(alloc: Global, msg: &Msg<Digit>, old: Option<u64>, wanted: Option<u64>) -> bool {
     match key(alloc, 3) {
-        Ok(at) => lays_at(alloc, &at, row),
+        Ok(at) => msg.lay(alloc, &at, old) == Ok(wanted),
         Err(_) => false,
-    }
-}
-
-const LAID: &[Laid] = &[
-    (Plain::Put(3, 7), Some(12), Some(7)),
-    (Plain::Put(3, 7), None, Some(7)),
-    (Plain::Put(4, 7), Some(12), Some(12)),
-    (Plain::Del(3), Some(12), None),
-    (Plain::Del(3), None, None),
-    (Plain::DelRange(3, Some(5)), Some(12), None),
-    (Plain::DelRange(1, Some(3)), Some(12), Some(12)),
-    (Plain::Edit(3, 7), Some(12), Some(127)),
-    (Plain::Edit(3, 7), None, Some(7)),
-    (Plain::Edit(4, 7), None, None),
-];
-
-#[test]
-fn lays_each_message_on_a_value_and_on_none(rt: HostRuntime) {
-    for row in LAID {
-        assert!(rt; lays_so(rt.alloc(), row), "{row:?}");
     }
 }
 
@@ -115,93 +57,122 @@ fn is_cut(alloc: Global, msg: &Msg<Digit>, range: &KeyRange, wanted: Option<Plai
     }
 }
 
-/// A message, the two ends of a range, and the message's piece in it.
-type Cut = (Plain, u8, Option<u8>, Option<Plain>);
-
-/// Whether the piece of a message in the row's range is the row's.
-fn is_cut_to(alloc: Global, msg: &Msg<Digit>, row: &Cut) -> bool {
-    match range(alloc, row.1, row.2) {
-        Ok(range) => is_cut(alloc, msg, &range, row.3),
+/// The same of the range of two numbers.
+fn is_cut_to(
+    alloc: Global,
+    msg: &Msg<Digit>,
+    ends: (u8, Option<u8>),
+    wanted: Option<Plain>,
+) -> bool {
+    match range(alloc, ends.0, ends.1) {
+        Ok(range) => is_cut(alloc, msg, &range, wanted),
         Err(_) => false,
     }
 }
 
-/// Whether the row's message has the row's piece in the row's range.
-fn cuts_so(alloc: Global, row: &Cut) -> bool {
-    match row.0.message(alloc) {
-        Ok(msg) => is_cut_to(alloc, &msg, row),
-        Err(_) => false,
+/// Whether a message answers so.
+fn answers(alloc: Global, msg: &Msg<Digit>, asked: Asked) -> bool {
+    match asked {
+        Asked::Touches(at, wanted) => touches_at(alloc, msg, at) == Some(wanted),
+        Asked::Lays(old, wanted) => lays(alloc, msg, old, wanted),
+        Asked::Cut(lo, hi, wanted) => is_cut_to(alloc, msg, (lo, hi), wanted),
     }
 }
 
-const CUT: &[Cut] = &[
-    (
-        Plain::DelRange(4, Some(5)),
-        3,
-        Some(6),
-        Some(Plain::DelRange(4, Some(5))),
-    ),
-    (
-        Plain::DelRange(3, Some(6)),
-        3,
-        Some(6),
-        Some(Plain::DelRange(3, Some(6))),
-    ),
-    (
-        Plain::DelRange(2, Some(5)),
-        3,
-        Some(6),
-        Some(Plain::DelRange(3, Some(5))),
-    ),
-    (
-        Plain::DelRange(4, Some(9)),
-        3,
-        Some(6),
-        Some(Plain::DelRange(4, Some(6))),
-    ),
-    (
-        Plain::DelRange(0, None),
-        3,
-        Some(6),
-        Some(Plain::DelRange(3, Some(6))),
-    ),
-    (
-        Plain::DelRange(4, None),
-        3,
-        None,
-        Some(Plain::DelRange(4, None)),
-    ),
-    (Plain::DelRange(1, Some(3)), 3, Some(6), None),
-    (Plain::DelRange(6, Some(9)), 3, Some(6), None),
-    (Plain::Put(3, 7), 3, Some(6), Some(Plain::Put(3, 7))),
-    (Plain::Put(6, 7), 3, Some(6), None),
-    (Plain::Del(2), 3, None, None),
-    (Plain::Del(255), 3, None, Some(Plain::Del(255))),
-    (Plain::Edit(5, 7), 3, Some(6), Some(Plain::Edit(5, 7))),
+/// A message, and what is asked of it.
+struct Told(Plain, Asked);
+
+impl Holds for Told {
+    fn holds(&self, alloc: Global) -> bool {
+        match self.0.message(alloc) {
+            Ok(msg) => answers(alloc, &msg, self.1),
+            Err(_) => false,
+        }
+    }
+}
+
+const TOUCHED: &[Told] = &[
+    Told(Plain::DelRange(3, Some(5)), Asked::Touches(2, false)),
+    Told(Plain::DelRange(3, Some(5)), Asked::Touches(3, true)),
+    Told(Plain::DelRange(3, Some(5)), Asked::Touches(4, true)),
+    Told(Plain::DelRange(3, Some(5)), Asked::Touches(5, false)),
+    Told(Plain::DelRange(3, None), Asked::Touches(2, false)),
+    Told(Plain::DelRange(3, None), Asked::Touches(255, true)),
+    Told(Plain::DelRange(3, Some(3)), Asked::Touches(3, false)),
+    Told(Plain::Put(3, 7), Asked::Touches(3, true)),
+    Told(Plain::Del(3), Asked::Touches(4, false)),
+    Told(Plain::Edit(3, 7), Asked::Touches(2, false)),
 ];
 
 #[test]
-fn cuts_to_a_range(rt: HostRuntime) {
-    for row in CUT {
-        assert!(rt; cuts_so(rt.alloc(), row), "{row:?}");
-    }
+fn touches_from_the_low_end_up_to_the_high_end(rt: HostRuntime) -> Result<(), usize> {
+    all_hold(rt.alloc(), TOUCHED)
 }
 
-/// Whether a list makes this of a value at a key.
-fn applies(
-    alloc: Global,
-    list: &Pending<Digit>,
-    at: &Key,
-    old: Option<u64>,
-    wanted: Option<u64>,
-) -> bool {
-    match list.value_after(alloc, at, old) {
-        Ok(new) => new == wanted,
-        Err(_) => false,
-    }
+const LAID: &[Told] = &[
+    Told(Plain::Put(3, 7), Asked::Lays(Some(12), Some(7))),
+    Told(Plain::Put(3, 7), Asked::Lays(None, Some(7))),
+    Told(Plain::Put(4, 7), Asked::Lays(Some(12), Some(12))),
+    Told(Plain::Del(3), Asked::Lays(Some(12), None)),
+    Told(Plain::Del(3), Asked::Lays(None, None)),
+    Told(Plain::DelRange(3, Some(5)), Asked::Lays(Some(12), None)),
+    Told(Plain::DelRange(1, Some(3)), Asked::Lays(Some(12), Some(12))),
+    Told(Plain::Edit(3, 7), Asked::Lays(Some(12), Some(127))),
+    Told(Plain::Edit(3, 7), Asked::Lays(None, Some(7))),
+    Told(Plain::Edit(4, 7), Asked::Lays(None, None)),
+];
+
+#[test]
+fn lays_each_message_on_a_value_and_on_none(rt: HostRuntime) -> Result<(), usize> {
+    all_hold(rt.alloc(), LAID)
 }
 
-/// The same at the key of a number.
+const CUT: &[Told] = &[
+    Told(
+        Plain::DelRange(4, Some(5)),
+        Asked::Cut(3, Some(6), Some(Plain::DelRange(4, Some(5)))),
+    ),
+    Told(
+        Plain::DelRange(3, Some(6)),
+        Asked::Cut(3, Some(6), Some(Plain::DelRange(3, Some(6)))),
+    ),
+    Told(
+        Plain::DelRange(2, Some(5)),
+        Asked::Cut(3, Some(6), Some(Plain::DelRange(3, Some(5)))),
+    ),
+    Told(
+        Plain::DelRange(4, Some(9)),
+        Asked::Cut(3, Some(6), Some(Plain::DelRange(4, Some(6)))),
+    ),
+    Told(
+        Plain::DelRange(0, None),
+        Asked::Cut(3, Some(6), Some(Plain::DelRange(3, Some(6)))),
+    ),
+    Told(
+        Plain::DelRange(4, None),
+        Asked::Cut(3, None, Some(Plain::DelRange(4, None))),
+    ),
+    Told(Plain::DelRange(1, Some(3)), Asked::Cut(3, Some(6), None)),
+    Told(Plain::DelRange(6, Some(9)), Asked::Cut(3, Some(6), None)),
+    Told(
+        Plain::Put(3, 7),
+        Asked::Cut(3, Some(6), Some(Plain::Put(3, 7))),
+    ),
+    Told(Plain::Put(6, 7), Asked::Cut(3, Some(6), None)),
+    Told(Plain::Del(2), Asked::Cut(3, None, None)),
+    Told(Plain::Del(255), Asked::Cut(3, None, Some(Plain::Del(255)))),
+    Told(
+        Plain::Edit(5, 7),
+        Asked::Cut(3, Some(6), Some(Plain::Edit(5, 7))),
+    ),
+];
+
+#[test]
+fn cuts_to_a_range(rt: HostRuntime) -> Result<(), usize> {
+    all_hold(rt.alloc(), CUT)
+}
+
+/// Whether a list makes this of a value at the key of a number.
 fn applies_at(
     alloc: Global,
     list: &Pending<Digit>,
@@ -210,7 +181,7 @@ fn applies_at(
     wanted: Option<u64>,
 ) -> bool {
     match key(alloc, at) {
-        Ok(at) => applies(alloc, list, &at, old, wanted),
+        Ok(at) => list.value_after(alloc, &at, old) == Ok(wanted),
         Err(_) => false,
     }
 }
@@ -223,20 +194,27 @@ fn apply_at(alloc: Global, msgs: &[Plain], at: u8, old: Option<u64>, wanted: Opt
     }
 }
 
-const APPLIED: &[(&[Plain], Option<u64>)] = &[
-    (&[Plain::Put(3, 1), Plain::Edit(3, 2)], Some(12)),
-    (&[Plain::Edit(3, 2), Plain::Put(3, 1)], Some(1)),
-    (&[Plain::Edit(3, 2), Plain::Edit(3, 4)], Some(924)),
-    (&[Plain::Del(3), Plain::Edit(3, 4)], Some(4)),
-    (&[Plain::Edit(3, 4), Plain::DelRange(3, None)], None),
-    (&[Plain::Put(4, 1), Plain::Del(2)], Some(9)),
+/// Messages, and what they make of the value 9 at the key 3.
+struct Applied(&'static [Plain], Option<u64>);
+
+impl Holds for Applied {
+    fn holds(&self, alloc: Global) -> bool {
+        apply_at(alloc, self.0, 3, Some(9), self.1)
+    }
+}
+
+const APPLIED: &[Applied] = &[
+    Applied(&[Plain::Put(3, 1), Plain::Edit(3, 2)], Some(12)),
+    Applied(&[Plain::Edit(3, 2), Plain::Put(3, 1)], Some(1)),
+    Applied(&[Plain::Edit(3, 2), Plain::Edit(3, 4)], Some(924)),
+    Applied(&[Plain::Del(3), Plain::Edit(3, 4)], Some(4)),
+    Applied(&[Plain::Edit(3, 4), Plain::DelRange(3, None)], None),
+    Applied(&[Plain::Put(4, 1), Plain::Del(2)], Some(9)),
 ];
 
 #[test]
-fn applies_the_oldest_message_first(rt: HostRuntime) {
-    for row in APPLIED {
-        assert!(rt; apply_at(rt.alloc(), row.0, 3, Some(9), row.1), "{row:?}");
-    }
+fn applies_the_oldest_message_first(rt: HostRuntime) -> Result<(), usize> {
+    all_hold(rt.alloc(), APPLIED)
 }
 
 /// What the messages make of a value at the key of a number, one after the other.
@@ -261,17 +239,20 @@ const TEN: &[Plain] = &[
     Plain::Put(7, 1),
 ];
 
-#[test]
-fn applies_as_the_messages_do_one_by_one(rt: HostRuntime) {
+/// Whether the ten messages make of each of ten keys' value what they make of it one by one.
+fn apply_ten(alloc: Global, old: Option<u64>) -> bool {
     for at in 0..10 {
-        for old in [None, Some(23)] {
-            let wanted = after(TEN, at, old);
-            assert!(rt;
-                apply_at(rt.alloc(), TEN, at, old, wanted),
-                "at {at} on {old:?}"
-            );
+        if !apply_at(alloc, TEN, at, old, after(TEN, at, old)) {
+            return false;
         }
     }
+    true
+}
+
+#[test]
+fn applies_as_the_messages_do_one_by_one(rt: HostRuntime) {
+    assert!(rt; apply_ten(rt.alloc(), None));
+    assert!(rt; apply_ten(rt.alloc(), Some(23)));
 }
 
 /// Puts messages behind those of a list; whether the list takes all of them.

@@ -1,5 +1,6 @@
 //! Appends of messages on numbers, at keys of one byte, seen in the slots where they wait.
-use crate::trees::{SMALL, append, new_tree};
+use crate::rows::{Holds, all_hold};
+use crate::trees::{Course, SMALL, all_go, append, goes_anew, new_tree};
 use flush::flush_leaf;
 use message::Msg;
 use node::{Body, Node, Place, Shape, Slot, StepReply, Tree, append_both};
@@ -36,36 +37,35 @@ fn is_empty_leaf(node: &Node<Digit>) -> bool {
 }
 
 /// Three limits, and whether a shape may have them.
-type Limits = (u16, u16, u16, bool);
+struct Limits(u16, u16, u16, bool);
 
-/// Whether the shape of the limits is allowed as the row says.
-fn is_allowed_so(row: &Limits) -> bool {
-    let shape = Shape {
-        fanout: row.0,
-        pending: row.1,
-        leaf: row.2,
-    };
-    shape.ok() == row.3
+impl Holds for Limits {
+    fn holds(&self, _alloc: Global) -> bool {
+        let shape = Shape {
+            fanout: self.0,
+            pending: self.1,
+            leaf: self.2,
+        };
+        shape.ok() == self.3
+    }
 }
 
 const LIMITS: &[Limits] = &[
-    (3, 1024, 4, false),
-    (4, 1024, 4, true),
-    (64, 1024, 4, true),
-    (65, 1024, 4, false),
-    (8, 7, 4, false),
-    (8, 8, 4, true),
-    (8, 1025, 4, false),
-    (8, 1024, 3, false),
-    (8, 1024, 1024, true),
-    (8, 1024, 1025, false),
+    Limits(3, 1024, 4, false),
+    Limits(4, 1024, 4, true),
+    Limits(64, 1024, 4, true),
+    Limits(65, 1024, 4, false),
+    Limits(8, 7, 4, false),
+    Limits(8, 8, 4, true),
+    Limits(8, 1025, 4, false),
+    Limits(8, 1024, 3, false),
+    Limits(8, 1024, 1024, true),
+    Limits(8, 1024, 1025, false),
 ];
 
 #[test]
-fn allows_each_limit_and_nothing_past_it(rt: HostRuntime) {
-    for row in LIMITS {
-        assert!(rt; is_allowed_so(row), "{row:?}");
-    }
+fn allows_each_limit_and_nothing_past_it(rt: HostRuntime) -> Result<(), usize> {
+    all_hold(rt.alloc(), LIMITS)
 }
 
 /// Whether a slot of all keys stands over an empty leaf, and nothing waits in it.
@@ -78,35 +78,24 @@ fn has_first_alone(node: &Node<Digit>) -> bool {
     slot_count(node) == 1 && matches!(slot_at(node, 0), Some(slot) if is_first(slot))
 }
 
-/// Whether a new tree has its shape, and one slot over an empty leaf.
-fn begins_with_one_slot(alloc: Global) -> bool {
-    match new_tree(alloc, SMALL) {
-        Ok(tree) => tree.shape() == SMALL && has_first_alone(tree.root()),
-        Err(_) => false,
+/// A new tree has its shape, and one slot over an empty leaf.
+struct Beginning;
+
+impl Course for Beginning {
+    fn goes(&self, _alloc: Global, tree: &mut Tree<Digit>) -> bool {
+        tree.shape() == SMALL && has_first_alone(tree.root())
     }
 }
 
 #[test]
 fn begins_with_one_slot_over_an_empty_leaf(rt: HostRuntime) {
-    assert!(rt; begins_with_one_slot(rt.alloc()));
+    assert!(rt; goes_anew(rt.alloc(), SMALL, &Beginning));
 }
 
 /// Whether these messages wait in a node's first slot, over an empty leaf.
 fn wait_above_nothing(alloc: Global, node: &Node<Digit>, msgs: &[Plain]) -> bool {
     wait(alloc, node, 0, msgs)
         && matches!(slot_at(node, 0), Some(slot) if is_empty_leaf(&slot.child))
-}
-
-/// Messages that come, and those that then wait for them.
-type Kept = (&'static [Plain], &'static [Plain]);
-
-/// Whether a new tree keeps the messages of a batch in its root.
-fn keeps_batch(alloc: Global, row: &Kept) -> bool {
-    match new_tree(alloc, SMALL) {
-        Ok(mut tree) => append(alloc, &mut tree, row.0)
-            && wait_above_nothing(alloc, tree.root(), row.1),
-        Err(_) => false,
-    }
 }
 
 /// Appends messages one by one; `false` where memory is refused.
@@ -119,26 +108,38 @@ fn append_in_turn(alloc: Global, tree: &mut Tree<Digit>, msgs: &[Plain]) -> bool
     true
 }
 
-/// Whether a new tree keeps messages that come one by one in its root.
-fn keeps_in_turn(alloc: Global, row: &Kept) -> bool {
-    match new_tree(alloc, SMALL) {
-        Ok(mut tree) => append_in_turn(alloc, &mut tree, row.0)
-            && wait_above_nothing(alloc, tree.root(), row.1),
-        Err(_) => false,
+/// Messages that come one by one, and those that then wait for them.
+#[derive(Drop)]
+struct InTurn(&'static [Plain], &'static [Plain]);
+
+impl Course for InTurn {
+    fn goes(&self, alloc: Global, tree: &mut Tree<Digit>) -> bool {
+        append_in_turn(alloc, tree, self.0) && wait_above_nothing(alloc, tree.root(), self.1)
+    }
+}
+
+/// The same of messages that come in one batch, and then of a new tree to which they come one by one.
+struct Kept(&'static [Plain], &'static [Plain]);
+
+impl Course for Kept {
+    fn goes(&self, alloc: Global, tree: &mut Tree<Digit>) -> bool {
+        append(alloc, tree, self.0)
+            && wait_above_nothing(alloc, tree.root(), self.1)
+            && goes_anew(alloc, SMALL, &InTurn(self.0, self.1))
     }
 }
 
 const KEPT: &[Kept] = &[
     // what a message makes idle goes
-    (&[Plain::Put(3, 1), Plain::Edit(3, 2)], &[Plain::Put(3, 12)]),
-    (&[Plain::Edit(3, 2), Plain::Put(3, 1)], &[Plain::Put(3, 1)]),
-    (&[Plain::Put(3, 1), Plain::Del(3)], &[Plain::Del(3)]),
-    (&[Plain::Del(3), Plain::Edit(3, 2)], &[Plain::Put(3, 2)]),
-    (
+    Kept(&[Plain::Put(3, 1), Plain::Edit(3, 2)], &[Plain::Put(3, 12)]),
+    Kept(&[Plain::Edit(3, 2), Plain::Put(3, 1)], &[Plain::Put(3, 1)]),
+    Kept(&[Plain::Put(3, 1), Plain::Del(3)], &[Plain::Del(3)]),
+    Kept(&[Plain::Del(3), Plain::Edit(3, 2)], &[Plain::Put(3, 2)]),
+    Kept(
         &[Plain::Del(7), Plain::DelRange(0, Some(9))],
         &[Plain::DelRange(0, Some(9))],
     ),
-    (
+    Kept(
         &[
             Plain::DelRange(3, Some(5)),
             Plain::Put(1, 1),
@@ -147,36 +148,33 @@ const KEPT: &[Kept] = &[
         &[Plain::DelRange(2, Some(8)), Plain::Put(1, 1)],
     ),
     // a range-delete takes away nothing newer
-    (
+    Kept(
         &[Plain::DelRange(2, None), Plain::Put(200, 1)],
         &[Plain::DelRange(2, None), Plain::Put(200, 1)],
     ),
-    (
+    Kept(
         &[Plain::DelRange(2, None), Plain::Edit(3, 1)],
         &[Plain::DelRange(2, None), Plain::Edit(3, 1)],
     ),
     // edits that do not join keep their order, and keys stand in theirs
-    (
+    Kept(
         &[Plain::Put(9, 1), Plain::Edit(3, 2), Plain::Edit(3, 4)],
         &[Plain::Edit(3, 2), Plain::Edit(3, 4), Plain::Put(9, 1)],
     ),
     // range-deletes that reach into each other are one
-    (
+    Kept(
         &[Plain::DelRange(2, Some(5)), Plain::DelRange(4, Some(8))],
         &[Plain::DelRange(2, Some(8))],
     ),
-    (
+    Kept(
         &[Plain::DelRange(4, None), Plain::DelRange(2, Some(5))],
         &[Plain::DelRange(2, None)],
     ),
 ];
 
 #[test]
-fn keeps_in_the_root_what_messages_mean(rt: HostRuntime) {
-    for row in KEPT {
-        assert!(rt; keeps_batch(rt.alloc(), row), "{row:?}");
-        assert!(rt; keeps_in_turn(rt.alloc(), row), "{row:?}");
-    }
+fn keeps_in_the_root_what_messages_mean(rt: HostRuntime) -> Result<(), usize> {
+    all_go(rt.alloc(), SMALL, KEPT)
 }
 
 /// Whether two trees with the same message each keep the next one that comes to them alone.
@@ -195,18 +193,18 @@ fn parts_from_its_share(alloc: Global, tree: &mut Tree<Digit>) -> bool {
     }
 }
 
-/// The same of a new tree.
-fn parts(alloc: Global) -> bool {
-    match new_tree(alloc, SMALL) {
-        Ok(mut tree) => append(alloc, &mut tree, &[Plain::Put(3, 1)])
-            && parts_from_its_share(alloc, &mut tree),
-        Err(_) => false,
+/// The same behind the message.
+struct Parting;
+
+impl Course for Parting {
+    fn goes(&self, alloc: Global, tree: &mut Tree<Digit>) -> bool {
+        append(alloc, tree, &[Plain::Put(3, 1)]) && parts_from_its_share(alloc, tree)
     }
 }
 
 #[test]
 fn leaves_the_other_owner_of_a_shared_root_alone(rt: HostRuntime) {
-    assert!(rt; parts(rt.alloc()));
+    assert!(rt; goes_anew(rt.alloc(), SMALL, &Parting));
 }
 
 /// Appends a batch to one tree and messages to another, whole or not at all.
@@ -240,37 +238,29 @@ fn have_halves(
     appended && wait(alloc, first.root(), 0, one) && wait(alloc, second.root(), 0, two)
 }
 
-/// The same of one new tree and a second made here.
-fn has_half(alloc: Global, first: &mut Tree<Digit>, one: &[Plain], two: &[Plain]) -> bool {
-    match new_tree(alloc, SMALL) {
-        Ok(mut second) => have_halves(alloc, first, one, &mut second, two),
-        Err(_) => false,
-    }
-}
-
-/// The same of two trees made here.
-fn halve(alloc: Global, one: &[Plain], two: &[Plain]) -> bool {
-    match new_tree(alloc, SMALL) {
-        Ok(mut first) => has_half(alloc, &mut first, one, two),
-        Err(_) => false,
-    }
-}
-
 /// The two halves of a batch for two trees.
-type Halves = (&'static [Plain], &'static [Plain]);
+struct Halves(&'static [Plain], &'static [Plain]);
+
+/// Two new trees have each its own half of what is appended to both.
+impl Course for Halves {
+    fn goes(&self, alloc: Global, tree: &mut Tree<Digit>) -> bool {
+        match new_tree(alloc, SMALL) {
+            Ok(mut second) => have_halves(alloc, tree, self.0, &mut second, self.1),
+            Err(_) => false,
+        }
+    }
+}
 
 const HALVES: &[Halves] = &[
-    (&[Plain::Put(3, 1), Plain::Edit(4, 2)], &[Plain::Del(4)]),
-    (&[Plain::Put(3, 1), Plain::Edit(4, 2)], &[]),
-    (&[], &[Plain::Del(4)]),
-    (&[], &[]),
+    Halves(&[Plain::Put(3, 1), Plain::Edit(4, 2)], &[Plain::Del(4)]),
+    Halves(&[Plain::Put(3, 1), Plain::Edit(4, 2)], &[]),
+    Halves(&[], &[Plain::Del(4)]),
+    Halves(&[], &[]),
 ];
 
 #[test]
-fn gives_each_tree_its_half_of_a_batch(rt: HostRuntime) {
-    for row in HALVES {
-        assert!(rt; halve(rt.alloc(), row.0, row.1), "{row:?}");
-    }
+fn gives_each_tree_its_half_of_a_batch(rt: HostRuntime) -> Result<(), usize> {
+    all_go(rt.alloc(), SMALL, HALVES)
 }
 
 /// What a flush of the root's first slot answers.
@@ -306,23 +296,19 @@ const BEFORE_FIVE: &[Plain] = &[Plain::DelRange(2, Some(5))];
 /// The second range-delete holds the first, and it took the put away.
 const FROM_FIVE: &[Plain] = &[Plain::DelRange(5, None), Plain::Del(255)];
 
-/// Whether messages are cut at the pivot 5.
-fn cuts(alloc: Global, tree: &mut Tree<Digit>) -> bool {
-    has_two_slots(alloc, tree)
-        && append(alloc, tree, ACROSS)
-        && wait(alloc, tree.root(), 0, BEFORE_FIVE)
-        && wait(alloc, tree.root(), 1, FROM_FIVE)
-}
+/// Messages are cut at the pivot 5.
+struct Cutting;
 
-/// The same of a new tree.
-fn cuts_anew(alloc: Global) -> bool {
-    match new_tree(alloc, SMALL) {
-        Ok(mut tree) => cuts(alloc, &mut tree),
-        Err(_) => false,
+impl Course for Cutting {
+    fn goes(&self, alloc: Global, tree: &mut Tree<Digit>) -> bool {
+        has_two_slots(alloc, tree)
+            && append(alloc, tree, ACROSS)
+            && wait(alloc, tree.root(), 0, BEFORE_FIVE)
+            && wait(alloc, tree.root(), 1, FROM_FIVE)
     }
 }
 
 #[test]
 fn cuts_messages_at_the_pivots(rt: HostRuntime) {
-    assert!(rt; cuts_anew(rt.alloc()));
+    assert!(rt; goes_anew(rt.alloc(), SMALL, &Cutting));
 }

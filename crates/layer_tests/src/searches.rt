@@ -1,5 +1,5 @@
 //! First pairs through many messages, beside the same messages laid on a plain row of numbers.
-use crate::trees::{SMALL, append, new_tree};
+use crate::trees::{Course, SMALL, append, goes_anew, new_tree};
 use node::Tree;
 use pathkey::KeyRange;
 use samples::{Digit, Plain, Random, Row, are_numbered, number, range};
@@ -103,31 +103,32 @@ const PARTS: &[Part] = &[
     (255, None),
 ];
 
-/// In how many parts of the keys, before the first in which they differ, the tree agrees with the row after the messages.
-fn parts_alike(alloc: Global, tree: &mut Tree<Digit>, row: &mut Row) -> usize {
-    let mut count = 0usize;
-    if fill(alloc, tree, row) {
-        for part in PARTS {
-            if !agrees_on(alloc, tree, row, *part) {
-                return count;
-            }
-            count = count.saturating_add(1);
-        }
+/// Whether the tree agrees with the row in each part of the keys after the messages; the number of the first in which it does not.
+fn agrees_filled(alloc: Global, tree: &mut Tree<Digit>, row: &mut Row) -> Result<(), usize> {
+    if !fill(alloc, tree, row) {
+        return Err(usize::MAX);
     }
-    count
+    let mut number = 0usize;
+    for part in PARTS {
+        if !agrees_on(alloc, tree, row, *part) {
+            return Err(number);
+        }
+        number = number.saturating_add(1);
+    }
+    Ok(())
 }
 
 /// The same of a new tree and a new row.
-fn parts_of_new(alloc: Global) -> usize {
+fn agrees_anew(alloc: Global) -> Result<(), usize> {
     match new_tree(alloc, SMALL) {
-        Ok(mut tree) => parts_alike(alloc, &mut tree, &mut Row::new()),
-        Err(_) => 0,
+        Ok(mut tree) => agrees_filled(alloc, &mut tree, &mut Row::new()),
+        Err(_) => Err(usize::MAX),
     }
 }
 
 #[test]
-fn finds_the_pairs_that_all_messages_make(rt: HostRuntime) {
-    assert_eq!(rt; parts_of_new(rt.alloc()), PARTS.len());
+fn finds_the_pairs_that_all_messages_make(rt: HostRuntime) -> Result<(), usize> {
+    agrees_anew(rt.alloc())
 }
 
 /// Whether nothing is found in a range of a tree.
@@ -135,25 +136,21 @@ fn is_empty(alloc: Global, tree: &Tree<Digit>, range: &KeyRange) -> bool {
     begins_with(alloc, tree, range, None) && holds(alloc, tree, range, 9, &[])
 }
 
-/// Whether nothing is found in a tree.
-fn is_all_empty(alloc: Global, tree: &Tree<Digit>) -> bool {
-    match range(alloc, 0, None) {
-        Ok(all) => is_empty(alloc, tree, &all),
-        Err(_) => false,
-    }
-}
+/// Nothing is found in a tree.
+struct Nothing;
 
-/// Whether nothing is found in a new tree.
-fn is_empty_at_first(alloc: Global) -> bool {
-    match new_tree(alloc, SMALL) {
-        Ok(tree) => is_all_empty(alloc, &tree),
-        Err(_) => false,
+impl Course for Nothing {
+    fn goes(&self, alloc: Global, tree: &mut Tree<Digit>) -> bool {
+        match range(alloc, 0, None) {
+            Ok(all) => is_empty(alloc, tree, &all),
+            Err(_) => false,
+        }
     }
 }
 
 #[test]
 fn finds_nothing_in_a_new_tree(rt: HostRuntime) {
-    assert!(rt; is_empty_at_first(rt.alloc()));
+    assert!(rt; goes_anew(rt.alloc(), SMALL, &Nothing));
 }
 
 /// Puts 50 values, deletes those from 5 to 39 and edits 20; `false` where memory is refused.
@@ -178,16 +175,16 @@ fn has_four(alloc: Global, tree: &Tree<Digit>, wanted: &[(u8, u64)]) -> bool {
     }
 }
 
-/// Whether a search goes past what a range-delete covers.
-fn goes_past(alloc: Global) -> bool {
-    match new_tree(alloc, SMALL) {
-        Ok(mut tree) => cover(alloc, &mut tree)
-            && has_four(alloc, &tree, &[(3, 3), (4, 3), (20, 4), (40, 3)]),
-        Err(_) => false,
+/// A search goes past what a range-delete covers.
+struct Past;
+
+impl Course for Past {
+    fn goes(&self, alloc: Global, tree: &mut Tree<Digit>) -> bool {
+        cover(alloc, tree) && has_four(alloc, tree, &[(3, 3), (4, 3), (20, 4), (40, 3)])
     }
 }
 
 #[test]
 fn goes_past_what_a_range_delete_covers(rt: HostRuntime) {
-    assert!(rt; goes_past(rt.alloc()));
+    assert!(rt; goes_anew(rt.alloc(), SMALL, &Past));
 }

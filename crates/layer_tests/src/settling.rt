@@ -1,4 +1,5 @@
 //! Trees of several shapes, from which relief takes all that is pending.
+use crate::rows::{Holds, all_hold};
 use crate::some_steps::{Done, try_step};
 use crate::trees::new_tree;
 use message::Msg;
@@ -74,7 +75,7 @@ fn settle(alloc: Global, tree: &mut Tree<Digit>) -> bool {
 }
 
 /// How many slots, pending pieces and entries there may be, and how many of a hundred messages are range-deletes.
-type Course = ([u16; 3], u32);
+struct Course([u16; 3], u32);
 
 /// How many messages come to a tree.
 const COUNT: u32 = 3_000;
@@ -94,46 +95,43 @@ fn fill_and_settle(alloc: Global, tree: &mut Tree<Digit>, ranges: u32) -> bool {
     settle(alloc, tree)
 }
 
-/// The same of a new tree.
-fn fills_and_settles(alloc: Global, course: &Course) -> bool {
-    let [fanout, pending, leaf] = course.0;
-    let shape = Shape {
-        fanout,
-        pending,
-        leaf,
-    };
-    match new_tree(alloc, shape) {
-        Ok(mut tree) => fill_and_settle(alloc, &mut tree, course.1),
-        Err(_) => false,
+impl Holds for Course {
+    fn holds(&self, alloc: Global) -> bool {
+        let [fanout, pending, leaf] = self.0;
+        let shape = Shape {
+            fanout,
+            pending,
+            leaf,
+        };
+        match new_tree(alloc, shape) {
+            Ok(mut tree) => fill_and_settle(alloc, &mut tree, self.1),
+            Err(_) => false,
+        }
     }
 }
 
 const WITHOUT_RANGES: &[Course] = &[
-    ([4, 4, 4], 0),
-    ([64, 64, 4], 0),
-    ([4, 4, 1024], 0),
-    ([16, 256, 256], 0),
+    Course([4, 4, 4], 0),
+    Course([64, 64, 4], 0),
+    Course([4, 4, 1024], 0),
+    Course([16, 256, 256], 0),
 ];
 
 #[test]
-fn relief_ends_with_nothing_pending(rt: HostRuntime) {
-    for course in WITHOUT_RANGES {
-        assert!(rt; fills_and_settles(rt.alloc(), course), "{course:?}");
-    }
+fn relief_ends_with_nothing_pending(rt: HostRuntime) -> Result<(), usize> {
+    all_hold(rt.alloc(), WITHOUT_RANGES)
 }
 
 const WITH_RANGES: &[Course] = &[
-    ([4, 4, 1024], 1),
-    ([4, 4, 1024], 20),
-    ([4, 4, 1024], 60),
-    ([16, 256, 256], 1),
-    ([16, 256, 256], 20),
-    ([16, 256, 256], 60),
+    Course([4, 4, 1024], 1),
+    Course([4, 4, 1024], 20),
+    Course([4, 4, 1024], 60),
+    Course([16, 256, 256], 1),
+    Course([16, 256, 256], 20),
+    Course([16, 256, 256], 60),
 ];
 
 #[test]
-fn relief_ends_among_range_deletes(rt: HostRuntime) {
-    for course in WITH_RANGES {
-        assert!(rt; fills_and_settles(rt.alloc(), course), "{course:?}");
-    }
+fn relief_ends_among_range_deletes(rt: HostRuntime) -> Result<(), usize> {
+    all_hold(rt.alloc(), WITH_RANGES)
 }

@@ -5,7 +5,7 @@ use std::alloc::Global;
 use steps::{Turn, do_step, relieve};
 
 /// How many steps of each kind were done, in the order of the kinds.
-#[derive(Clone, Copy, Debug)]
+#[derive(Clone, Copy)]
 pub struct Done([u32; 8]);
 
 impl Done {
@@ -20,22 +20,15 @@ impl Done {
         *counter = counter.saturating_add(1);
     }
 
-    /// How many were done in all.
-    pub fn all(&self) -> u32 {
+    /// Whether so many were done in all, and so many of the rarest kind.
+    pub fn has(&self, all: u32, each: u32) -> bool {
         let mut sum = 0u32;
-        for count in self.0 {
-            sum = sum.saturating_add(count);
-        }
-        sum
-    }
-
-    /// How many of the rarest kind were done.
-    pub fn rarest(&self) -> u32 {
         let mut least = u32::MAX;
         for count in self.0 {
+            sum = sum.saturating_add(count);
             least = least.min(count);
         }
-        least
+        all <= sum && each <= least
     }
 }
 

@@ -39,7 +39,7 @@ struct Bench<U: Changes> {
 }
 
 /// What a taking is answered.
-#[derive(Clone, Copy, Debug, PartialEq, Eq)]
+#[derive(Clone, Copy, PartialEq, Eq)]
 enum Took {
     Taken(u64),
     NotThere,
@@ -48,7 +48,7 @@ enum Took {
 }
 
 /// What an installing is answered, or that no job was left.
-#[derive(Clone, Copy, Debug, PartialEq, Eq)]
+#[derive(Clone, Copy, PartialEq, Eq)]
 enum Ended {
     Installed,
     Stale,
@@ -57,7 +57,7 @@ enum Ended {
 }
 
 /// What a tree goes through.
-#[derive(Clone, Copy, Debug)]
+#[derive(Clone, Copy)]
 enum Turn {
     /// Messages are appended.
     Append(&'static [Plain]),
@@ -181,19 +181,19 @@ fn is_answered<U: Numbered>(alloc: Global, bench: &mut Bench<U>, turn: Turn) -> 
     }
 }
 
-/// Takes a tree through the rows; how many come out as they say, before the first that does not.
-fn follow_in<U: Numbered>(alloc: Global, bench: &mut Bench<U>, rows: &[Row]) -> usize
+/// Takes a tree through the rows; the number of the first that does not come out as it says.
+fn follow_in<U: Numbered>(alloc: Global, bench: &mut Bench<U>, rows: &[Row]) -> Result<(), usize>
     requires { AreHeld U.means bench.old.marked bench.old.jobs.items }
     ensures { AreHeld U.means bench.new.marked bench.new.jobs.items }
 {
-    let mut count = 0usize;
+    let mut number = 0usize;
     for (turn, wanted) in rows {
         if !is_answered(alloc, bench, *turn) || counts(bench.marked.tree()) != *wanted {
-            return count;
+            return Err(number);
         }
-        count = count.saturating_add(1);
+        number = number.saturating_add(1);
     }
-    count
+    Ok(())
 }
 
 /// A new tree without jobs.
@@ -237,25 +237,29 @@ const TWO_LEVELS: &[Row] = &[
 ];
 
 /// Takes a tree to these two levels and then through the rows.
-fn follow_behind<U: Numbered>(alloc: Global, bench: &mut Bench<U>, rows: &[Row]) -> usize
+fn follow_behind<U: Numbered>(
+    alloc: Global,
+    bench: &mut Bench<U>,
+    rows: &[Row],
+) -> Result<(), usize>
     requires { AreHeld U.means bench.old.marked bench.old.jobs.items }
 {
-    if follow_in(alloc, bench, TWO_LEVELS) != TWO_LEVELS.len() {
-        return 0;
+    if follow_in(alloc, bench, TWO_LEVELS).is_err() {
+        return Err(usize::MAX);
     }
     follow_in(alloc, bench, rows)
 }
 
 /// Takes a new tree to these two levels and then through the rows.
-fn follow_new<U: Numbered>(alloc: Global, rows: &[Row]) -> usize {
+fn follow_new<U: Numbered>(alloc: Global, rows: &[Row]) -> Result<(), usize> {
     match new_bench::<U>(alloc) {
         Ok(mut bench) => follow_behind(alloc, &mut bench, rows),
-        Err(_) => 0,
+        Err(_) => Err(usize::MAX),
     }
 }
 
 /// The same of a tree of numbers.
-fn follow_two_levels(alloc: Global, rows: &[Row]) -> usize {
+fn follow_two_levels(alloc: Global, rows: &[Row]) -> Result<(), usize> {
     follow_new::<Digit>(alloc, rows)
 }
 
@@ -275,8 +279,8 @@ const INSTALLED: &[Row] = &[
 ];
 
 #[test]
-fn what_came_after_the_taking_waits(rt: HostRuntime) {
-    assert_eq!(rt; follow_two_levels(rt.alloc(), INSTALLED), INSTALLED.len());
+fn what_came_after_the_taking_waits(rt: HostRuntime) -> Result<(), usize> {
+    follow_two_levels(rt.alloc(), INSTALLED)
 }
 
 /// A delete takes an older put of its key away, but not one that was taken: the put is installed, and the delete waits.
@@ -296,11 +300,8 @@ const NOT_CONDENSED: &[Row] = &[
 ];
 
 #[test]
-fn a_marked_list_does_not_condense(rt: HostRuntime) {
-    assert_eq!(rt;
-        follow_two_levels(rt.alloc(), NOT_CONDENSED),
-        NOT_CONDENSED.len()
-    );
+fn a_marked_list_does_not_condense(rt: HostRuntime) -> Result<(), usize> {
+    follow_two_levels(rt.alloc(), NOT_CONDENSED)
 }
 
 /// A step at the marked slot, a new root, a cancelled ticket and the end of all marks make a job stale. The last job is installed; of its
@@ -341,8 +342,8 @@ const STALE: &[Row] = &[
 ];
 
 #[test]
-fn a_job_without_its_mark_is_stale(rt: HostRuntime) {
-    assert_eq!(rt; follow_two_levels(rt.alloc(), STALE), STALE.len());
+fn a_job_without_its_mark_is_stale(rt: HostRuntime) -> Result<(), usize> {
+    follow_two_levels(rt.alloc(), STALE)
 }
 
 /// A step at another slot leaves the mark, and a merge with its slot does not.
@@ -371,8 +372,8 @@ const BESIDE: &[Row] = &[
 ];
 
 #[test]
-fn a_step_beside_the_mark_leaves_it(rt: HostRuntime) {
-    assert_eq!(rt; follow_two_levels(rt.alloc(), BESIDE), BESIDE.len());
+fn a_step_beside_the_mark_leaves_it(rt: HostRuntime) -> Result<(), usize> {
+    follow_two_levels(rt.alloc(), BESIDE)
 }
 
 /// The child has all that it may have, so no message of a job has room there.
@@ -395,6 +396,6 @@ const FULL: &[Row] = &[
 ];
 
 #[test]
-fn a_full_child_has_no_room_for_a_job(rt: HostRuntime) {
-    assert_eq!(rt; follow_two_levels(rt.alloc(), FULL), FULL.len());
+fn a_full_child_has_no_room_for_a_job(rt: HostRuntime) -> Result<(), usize> {
+    follow_two_levels(rt.alloc(), FULL)
 }

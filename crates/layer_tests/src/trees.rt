@@ -37,6 +37,32 @@ pub fn new_tree(alloc: Global, shape: Shape) -> Result<Tree<Digit>, NoMemory> {
     Tree::new(alloc, shape)
 }
 
+/// What a new tree goes through.
+pub trait Course {
+    /// Whether it goes as it should; `false` where memory is refused.
+    fn goes(&self, alloc: Global, tree: &mut Tree<Digit>) -> bool;
+}
+
+/// Whether a new tree of a shape goes through a course.
+pub fn goes_anew<C: Course>(alloc: Global, shape: Shape, course: &C) -> bool {
+    match new_tree(alloc, shape) {
+        Ok(mut tree) => course.goes(alloc, &mut tree),
+        Err(_) => false,
+    }
+}
+
+/// Whether a new tree goes through each course; the number of the first through which it does not.
+pub fn all_go<C: Course>(alloc: Global, shape: Shape, courses: &[C]) -> Result<(), usize> {
+    let mut number = 0usize;
+    for course in courses {
+        if !goes_anew(alloc, shape, course) {
+            return Err(number);
+        }
+        number = number.saturating_add(1);
+    }
+    Ok(())
+}
+
 /// Appends messages to a tree.
 pub fn append(alloc: Global, tree: &mut Tree<Digit>, msgs: &[Plain]) -> bool {
     match batch(alloc, msgs) {

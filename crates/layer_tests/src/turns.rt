@@ -1,5 +1,5 @@
 //! Steps on small trees, in tables of what goes in, what is done and what the tree then holds.
-use crate::trees::{SMALLEST, append, new_tree};
+use crate::trees::{Course, SMALLEST, append, goes_anew, new_tree};
 use flush::heaviest;
 use node::{Place, StepKind, StepReply, Tree, TreeStep};
 use samples::{Digit, Plain};
@@ -7,7 +7,7 @@ use std::alloc::Global;
 use steps::do_step;
 
 /// What a tree goes through.
-#[derive(Clone, Copy, Debug)]
+#[derive(Clone, Copy)]
 pub enum Turn {
     /// Messages are appended.
     Append(&'static [Plain]),
@@ -38,23 +38,36 @@ fn is_answered(alloc: Global, tree: &mut Tree<Digit>, turn: Turn) -> bool {
     }
 }
 
-/// Takes a tree through the rows; how many come out as they say, before the first that does not.
-fn follow_in(alloc: Global, tree: &mut Tree<Digit>, rows: &[Row]) -> usize {
-    let mut count = 0usize;
+/// Takes a tree through the rows; the number of the first that does not come out as it says.
+fn follow_in(alloc: Global, tree: &mut Tree<Digit>, rows: &[Row]) -> Result<(), usize> {
+    let mut number = 0usize;
     for (turn, wanted) in rows {
         if !is_answered(alloc, tree, *turn) || counts(tree) != *wanted {
-            return count;
+            return Err(number);
         }
-        count = count.saturating_add(1);
+        number = number.saturating_add(1);
     }
-    count
+    Ok(())
 }
 
-/// Takes a new tree through the rows.
-fn follow(alloc: Global, rows: &[Row]) -> usize {
+/// Takes a tree through the first rows, and then through the others; the number of the first of these that does not come out as it says.
+fn follow_both(
+    alloc: Global,
+    tree: &mut Tree<Digit>,
+    first: &[Row],
+    rows: &[Row],
+) -> Result<(), usize> {
+    if follow_in(alloc, tree, first).is_err() {
+        return Err(usize::MAX);
+    }
+    follow_in(alloc, tree, rows)
+}
+
+/// The same of a new tree.
+fn follow_behind(alloc: Global, first: &[Row], rows: &[Row]) -> Result<(), usize> {
     match new_tree(alloc, SMALLEST) {
-        Ok(mut tree) => follow_in(alloc, &mut tree, rows),
-        Err(_) => 0,
+        Ok(mut tree) => follow_both(alloc, &mut tree, first, rows),
+        Err(_) => Err(usize::MAX),
     }
 }
 
@@ -84,25 +97,9 @@ pub const TWO_LEAVES: &[Row] = &[
     ),
 ];
 
-/// Whether a new tree gets these two leaves.
-fn gets_two_leaves(alloc: Global, tree: &mut Tree<Digit>) -> bool {
-    follow_in(alloc, tree, TWO_LEAVES) == TWO_LEAVES.len()
-}
-
-/// Takes a tree with these two leaves through the rows.
-fn follow_from_two_leaves(alloc: Global, tree: &mut Tree<Digit>, rows: &[Row]) -> usize {
-    if !gets_two_leaves(alloc, tree) {
-        return 0;
-    }
-    follow_in(alloc, tree, rows)
-}
-
 /// Takes a new tree to these two leaves and then through the rows.
-fn follow_two_leaves(alloc: Global, rows: &[Row]) -> usize {
-    match new_tree(alloc, SMALLEST) {
-        Ok(mut tree) => follow_from_two_leaves(alloc, &mut tree, rows),
-        Err(_) => 0,
-    }
+fn follow_two_leaves(alloc: Global, rows: &[Row]) -> Result<(), usize> {
+    follow_behind(alloc, TWO_LEAVES, rows)
 }
 
 /// Messages for the first key, for all from it on, and for the last two. Three of them wait, since the second takes the first away.
@@ -138,8 +135,8 @@ const FULL_LEAF: &[Row] = &[
 ];
 
 #[test]
-fn a_full_leaf_takes_what_adds_nothing(rt: HostRuntime) {
-    assert_eq!(rt; follow(rt.alloc(), FULL_LEAF), FULL_LEAF.len());
+fn a_full_leaf_takes_what_adds_nothing(rt: HostRuntime) -> Result<(), usize> {
+    follow_behind(rt.alloc(), &[], FULL_LEAF)
 }
 
 const CUT_LEAF: &[Row] = &[
@@ -167,8 +164,8 @@ const CUT_LEAF: &[Row] = &[
 ];
 
 #[test]
-fn a_full_leaf_is_cut_for_the_oldest_message(rt: HostRuntime) {
-    assert_eq!(rt; follow(rt.alloc(), CUT_LEAF), CUT_LEAF.len());
+fn a_full_leaf_is_cut_for_the_oldest_message(rt: HostRuntime) -> Result<(), usize> {
+    follow_behind(rt.alloc(), &[], CUT_LEAF)
 }
 
 /// Puts a value and flushes the last slot; what the flush is answered, and none where memory is refused.
@@ -180,27 +177,23 @@ fn put_and_flush(alloc: Global, tree: &mut Tree<Digit>, at: u8) -> Option<StepRe
     Some(take(alloc, tree, StepKind::FlushLeaf, slot))
 }
 
-/// Whether each of ten keys sinks, and the eleventh finds no room.
-fn fills_up(alloc: Global, tree: &mut Tree<Digit>) -> bool {
-    for at in 1..11 {
-        if put_and_flush(alloc, tree, at) != Some(StepReply::Did(1)) {
-            return false;
-        }
-    }
-    put_and_flush(alloc, tree, 11) == Some(StepReply::NoRoom) && counts(tree) == [1, 4, 1, 10]
-}
+/// Each of ten keys sinks, and the eleventh finds no room.
+struct FillingUp;
 
-/// The same of a new tree.
-fn new_tree_fills_up(alloc: Global) -> bool {
-    match new_tree(alloc, SMALLEST) {
-        Ok(mut tree) => fills_up(alloc, &mut tree),
-        Err(_) => false,
+impl Course for FillingUp {
+    fn goes(&self, alloc: Global, tree: &mut Tree<Digit>) -> bool {
+        for at in 1..11 {
+            if put_and_flush(alloc, tree, at) != Some(StepReply::Did(1)) {
+                return false;
+            }
+        }
+        put_and_flush(alloc, tree, 11) == Some(StepReply::NoRoom) && counts(tree) == [1, 4, 1, 10]
     }
 }
 
 #[test]
 fn a_full_node_has_no_room_for_a_cut(rt: HostRuntime) {
-    assert!(rt; new_tree_fills_up(rt.alloc()));
+    assert!(rt; goes_anew(rt.alloc(), SMALLEST, &FillingUp));
 }
 
 const BOTH_SIDES: &[Row] = &[
@@ -229,8 +222,8 @@ const BOTH_SIDES: &[Row] = &[
 ];
 
 #[test]
-fn messages_go_to_both_sides_of_a_pivot(rt: HostRuntime) {
-    assert_eq!(rt; follow_two_leaves(rt.alloc(), BOTH_SIDES), BOTH_SIDES.len());
+fn messages_go_to_both_sides_of_a_pivot(rt: HostRuntime) -> Result<(), usize> {
+    follow_two_leaves(rt.alloc(), BOTH_SIDES)
 }
 
 const SPLIT: &[Row] = &[
@@ -267,8 +260,8 @@ const SPLIT: &[Row] = &[
 ];
 
 #[test]
-fn only_the_range_delete_stands_on_both_sides_of_a_split(rt: HostRuntime) {
-    assert_eq!(rt; follow_two_leaves(rt.alloc(), SPLIT), SPLIT.len());
+fn only_the_range_delete_stands_on_both_sides_of_a_split(rt: HostRuntime) -> Result<(), usize> {
+    follow_two_leaves(rt.alloc(), SPLIT)
 }
 
 const FIVE_MESSAGES: &[Row] = &[
@@ -301,11 +294,8 @@ const FIVE_MESSAGES: &[Row] = &[
 ];
 
 #[test]
-fn five_messages_are_too_many_for_one_node(rt: HostRuntime) {
-    assert_eq!(rt;
-        follow_two_leaves(rt.alloc(), FIVE_MESSAGES),
-        FIVE_MESSAGES.len()
-    );
+fn five_messages_are_too_many_for_one_node(rt: HostRuntime) -> Result<(), usize> {
+    follow_two_leaves(rt.alloc(), FIVE_MESSAGES)
 }
 
 /// Whether a new root and a split below it make so many levels.
@@ -325,17 +315,18 @@ fn grows_to_sixteen(alloc: Global, tree: &mut Tree<Digit>) -> bool {
     take(alloc, tree, StepKind::RootUp, 0) == StepReply::NoRoom
 }
 
-/// The same of a new tree that gets two leaves.
-fn two_leaves_grow(alloc: Global) -> bool {
-    match new_tree(alloc, SMALLEST) {
-        Ok(mut tree) => gets_two_leaves(alloc, &mut tree) && grows_to_sixteen(alloc, &mut tree),
-        Err(_) => false,
+/// The same of a tree that gets two leaves.
+struct Growing;
+
+impl Course for Growing {
+    fn goes(&self, alloc: Global, tree: &mut Tree<Digit>) -> bool {
+        follow_in(alloc, tree, TWO_LEAVES).is_ok() && grows_to_sixteen(alloc, tree)
     }
 }
 
 #[test]
 fn a_tree_has_at_most_sixteen_levels(rt: HostRuntime) {
-    assert!(rt; two_leaves_grow(rt.alloc()));
+    assert!(rt; goes_anew(rt.alloc(), SMALLEST, &Growing));
 }
 
 const FIVE_ENTRIES: &[Row] = &[
@@ -362,11 +353,8 @@ const FIVE_ENTRIES: &[Row] = &[
 ];
 
 #[test]
-fn five_entries_are_too_many_for_one_leaf_of_four(rt: HostRuntime) {
-    assert_eq!(rt;
-        follow_two_leaves(rt.alloc(), FIVE_ENTRIES),
-        FIVE_ENTRIES.len()
-    );
+fn five_entries_are_too_many_for_one_leaf_of_four(rt: HostRuntime) -> Result<(), usize> {
+    follow_two_leaves(rt.alloc(), FIVE_ENTRIES)
 }
 
 const COVERED: &[Row] = &[
@@ -394,8 +382,8 @@ const COVERED: &[Row] = &[
 ];
 
 #[test]
-fn a_covered_leaf_goes(rt: HostRuntime) {
-    assert_eq!(rt; follow_two_leaves(rt.alloc(), COVERED), COVERED.len());
+fn a_covered_leaf_goes(rt: HostRuntime) -> Result<(), usize> {
+    follow_two_leaves(rt.alloc(), COVERED)
 }
 
 /// The tables that a tree with these two leaves goes through.
@@ -434,29 +422,25 @@ fn sinks_from_first(alloc: Global, tree: &mut Tree<Digit>) -> bool {
     true
 }
 
-/// Whether no slot of a new tree is heaviest, and of two that are equally heavy later the first.
-fn names_first(alloc: Global, tree: &mut Tree<Digit>) -> bool {
-    heaviest(tree).is_none()
-        && sinks_from_first(alloc, tree)
-        && make_heaviest(alloc, tree, &[Plain::Put(7, 1), Plain::Put(1, 1)], 0)
-        && make_heaviest(alloc, tree, &[Plain::Put(6, 1), Plain::Put(5, 1)], 1)
-}
+/// No slot of a new tree is heaviest, and of two that are equally heavy later the first.
+struct Naming;
 
-/// The same of a new tree.
-fn new_tree_names_first(alloc: Global) -> bool {
-    match new_tree(alloc, SMALLEST) {
-        Ok(mut tree) => names_first(alloc, &mut tree),
-        Err(_) => false,
+impl Course for Naming {
+    fn goes(&self, alloc: Global, tree: &mut Tree<Digit>) -> bool {
+        heaviest(tree).is_none()
+            && sinks_from_first(alloc, tree)
+            && make_heaviest(alloc, tree, &[Plain::Put(7, 1), Plain::Put(1, 1)], 0)
+            && make_heaviest(alloc, tree, &[Plain::Put(6, 1), Plain::Put(5, 1)], 1)
     }
 }
 
 #[test]
 fn the_first_of_equally_heavy_slots_is_named(rt: HostRuntime) {
-    assert!(rt; new_tree_names_first(rt.alloc()));
+    assert!(rt; goes_anew(rt.alloc(), SMALLEST, &Naming));
 }
 
-#[test]
-fn places_have_at_most_fifteen_numbers(rt: HostRuntime) {
+/// The place that fifteen numbers lead to, if so many are allowed.
+fn deepest() -> Option<Place> {
     let mut place = Some(Place::root());
     for slot in 0..15 {
         place = match place {
@@ -464,9 +448,18 @@ fn places_have_at_most_fifteen_numbers(rt: HostRuntime) {
             Some(above) => above.under(slot),
         };
     }
-    let Some(deepest) = place else {
-        panic!(rt; "fifteen numbers are allowed");
-    };
-    assert_eq!(rt; deepest.numbers().len(), 15);
-    assert!(rt; deepest.under(15).is_none());
+    place
+}
+
+/// Whether a place has fifteen numbers, and none is below it.
+fn is_deepest(place: Option<Place>) -> bool {
+    match place {
+        Some(place) => place.numbers().len() == 15 && place.under(15).is_none(),
+        None => false,
+    }
+}
+
+#[test]
+fn places_have_at_most_fifteen_numbers(rt: HostRuntime) {
+    assert!(rt; is_deepest(deepest()));
 }

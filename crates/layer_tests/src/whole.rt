@@ -1,7 +1,7 @@
 //! Whole trees: steps of every kind work between messages, and each look-up is compared with a plain row of numbers.
 use crate::pair::Pair;
 use crate::some_steps::{Done, try_step};
-use crate::trees::{SMALLEST, append, has, new_tree};
+use crate::trees::{Course, SMALLEST, append, goes_anew, has};
 use crate::turns::{relieve_heaviest, take};
 use flush::heaviest;
 use node::{StepKind, StepReply, Tree};
@@ -39,18 +39,18 @@ const KINDS: &[StepKind] = &[
     StepKind::DropCovered,
 ];
 
-/// Whether a new tree has no step to do.
-fn has_no_step(alloc: Global) -> bool {
-    match new_tree(alloc, SMALLEST) {
-        Ok(mut tree) => are_answered(alloc, &mut tree, KINDS, StepReply::NotThere)
-            && heaviest(&tree).is_none(),
-        Err(_) => false,
+/// A new tree has no step to do.
+struct NoStep;
+
+impl Course for NoStep {
+    fn goes(&self, alloc: Global, tree: &mut Tree<Digit>) -> bool {
+        are_answered(alloc, tree, KINDS, StepReply::NotThere) && heaviest(tree).is_none()
     }
 }
 
 #[test]
 fn new_tree_has_no_step_to_do(rt: HostRuntime) {
-    assert!(rt; has_no_step(rt.alloc()));
+    assert!(rt; goes_anew(rt.alloc(), SMALLEST, &NoStep));
 }
 
 /// Whether a tree has at each of the five keys the key's number; or nothing at any.
@@ -64,10 +64,15 @@ fn has_five(alloc: Global, tree: &Tree<Digit>, are_there: bool) -> bool {
     true
 }
 
-/// Puts five keys of one byte, by a message each.
-fn put_five(alloc: Global, tree: &mut Tree<Digit>) -> bool {
+/// Puts five keys of one byte, or deletes them, by a message each.
+fn send_five(alloc: Global, tree: &mut Tree<Digit>, is_put: bool) -> bool {
     for name in *b"abcde" {
-        if !append(alloc, tree, &[Plain::Put(name, name as u64)]) {
+        let message = if is_put {
+            Plain::Put(name, name as u64)
+        } else {
+            Plain::Del(name)
+        };
+        if !append(alloc, tree, &[message]) {
             return false;
         }
     }
@@ -109,20 +114,21 @@ fn holds_five(tree: &Tree<Digit>) -> bool {
     report.entries == 5 && report.pending == 0 && report.slots >= 2
 }
 
-/// Whether five keys of a new tree sink into two leaves.
-fn five_sink(alloc: Global) -> bool {
-    match new_tree(alloc, SMALLEST) {
-        Ok(mut tree) => put_five(alloc, &mut tree)
-            && is_first_heaviest(&tree)
-            && sink_unseen(alloc, &mut tree)
-            && holds_five(&tree),
-        Err(_) => false,
+/// Five keys of a new tree sink into two leaves.
+struct Sinking;
+
+impl Course for Sinking {
+    fn goes(&self, alloc: Global, tree: &mut Tree<Digit>) -> bool {
+        send_five(alloc, tree, true)
+            && is_first_heaviest(tree)
+            && sink_unseen(alloc, tree)
+            && holds_five(tree)
     }
 }
 
 #[test]
 fn five_keys_sink_into_two_leaves(rt: HostRuntime) {
-    assert!(rt; five_sink(rt.alloc()));
+    assert!(rt; goes_anew(rt.alloc(), SMALLEST, &Sinking));
 }
 
 const UP_AND_DOWN: &[StepKind] = &[
@@ -142,29 +148,18 @@ fn goes_up_and_down(alloc: Global, tree: &mut Tree<Digit>) -> bool {
     true
 }
 
-/// The same of a new tree whose five keys have sunk.
-fn five_go_up_and_down(alloc: Global) -> bool {
-    match new_tree(alloc, SMALLEST) {
-        Ok(mut tree) => put_five(alloc, &mut tree)
-            && sink(alloc, &mut tree)
-            && goes_up_and_down(alloc, &mut tree),
-        Err(_) => false,
+/// The same of a tree whose five keys have sunk.
+struct UpAndDown;
+
+impl Course for UpAndDown {
+    fn goes(&self, alloc: Global, tree: &mut Tree<Digit>) -> bool {
+        send_five(alloc, tree, true) && sink(alloc, tree) && goes_up_and_down(alloc, tree)
     }
 }
 
 #[test]
 fn root_goes_up_and_down_again(rt: HostRuntime) {
-    assert!(rt; five_go_up_and_down(rt.alloc()));
-}
-
-/// Deletes the five keys, by a message each.
-fn delete_five(alloc: Global, tree: &mut Tree<Digit>) -> bool {
-    for name in *b"abcde" {
-        if !append(alloc, tree, &[Plain::Del(name)]) {
-            return false;
-        }
-    }
-    true
+    assert!(rt; goes_anew(rt.alloc(), SMALLEST, &UpAndDown));
 }
 
 /// Whether the leaves become one by as many merges as there are slots but one, and by no more.
@@ -178,22 +173,23 @@ fn merge_all(alloc: Global, tree: &mut Tree<Digit>) -> bool {
         && take_first(alloc, tree, StepKind::MergeLeaves) == StepReply::NotThere
 }
 
-/// Whether the leaves of a new tree whose five keys have sunk and gone become one.
-fn five_leave_one(alloc: Global) -> bool {
-    match new_tree(alloc, SMALLEST) {
-        Ok(mut tree) => put_five(alloc, &mut tree)
-            && sink(alloc, &mut tree)
-            && delete_five(alloc, &mut tree)
-            && sink(alloc, &mut tree)
-            && merge_all(alloc, &mut tree)
-            && has_five(alloc, &tree, false),
-        Err(_) => false,
+/// The leaves of a tree whose five keys have sunk and gone become one.
+struct Leaving;
+
+impl Course for Leaving {
+    fn goes(&self, alloc: Global, tree: &mut Tree<Digit>) -> bool {
+        send_five(alloc, tree, true)
+            && sink(alloc, tree)
+            && send_five(alloc, tree, false)
+            && sink(alloc, tree)
+            && merge_all(alloc, tree)
+            && has_five(alloc, tree, false)
     }
 }
 
 #[test]
 fn empty_leaves_become_one(rt: HostRuntime) {
-    assert!(rt; five_leave_one(rt.alloc()));
+    assert!(rt; goes_anew(rt.alloc(), SMALLEST, &Leaving));
 }
 
 /// How many changes, with a step after each, searches find what the row has after, before the first that they do not.
@@ -211,17 +207,34 @@ fn count_found(alloc: Global, pair: &mut Pair) -> u32 {
     10_000
 }
 
+/// What a tree beside a row is taken through.
+#[derive(Clone, Copy)]
+enum Way {
+    Found,
+    Alike,
+    Kept,
+}
+
+/// How many rounds of the way come out as they should, before the first that does not.
+fn count(alloc: Global, pair: &mut Pair, way: Way) -> u32 {
+    match way {
+        Way::Found => count_found(alloc, pair),
+        Way::Alike => count_alike(alloc, pair),
+        Way::Kept => count_kept(alloc, pair),
+    }
+}
+
 /// The same of a new tree and a new row.
-fn count_found_in_new(alloc: Global) -> u32 {
+fn count_anew(alloc: Global, way: Way) -> u32 {
     match Pair::new(alloc) {
-        Ok(mut pair) => count_found(alloc, &mut pair),
+        Ok(mut pair) => count(alloc, &mut pair, way),
         Err(_) => 0,
     }
 }
 
 #[test]
 fn searches_find_the_pairs_of_the_row(rt: HostRuntime) {
-    assert_eq!(rt; count_found_in_new(rt.alloc()), 10_000);
+    assert_eq!(rt; count_anew(rt.alloc(), Way::Found), 10_000);
 }
 
 /// Whether a tree and a row agree at some key after a change and three steps.
@@ -242,36 +255,26 @@ fn agrees_after_steps(
     pair.agrees_at(alloc, random.byte())
 }
 
-/// After how many rounds of changes and steps they agree, before the first after which they do not.
-fn count_alike(alloc: Global, pair: &mut Pair, done: &mut Done) -> u32 {
+/// After how many rounds of changes and steps they agree, before the first after which they do not; none where they do not agree at
+/// each key at the end, or too few steps of some kind were done.
+fn count_alike(alloc: Global, pair: &mut Pair) -> u32 {
     let mut random = Random(11);
+    let mut done = Done::new();
     for round in 0..20_000 {
-        if !agrees_after_steps(alloc, &mut random, pair, done) {
+        if !agrees_after_steps(alloc, &mut random, pair, &mut done) {
             return round;
         }
     }
-    20_000
-}
-
-/// What is seen of a tree and a row: how many rounds they agree, whether they agree at each key after them, and what steps were done.
-fn see(alloc: Global) -> Option<(u32, bool, Done)> {
-    let mut done = Done::new();
-    match Pair::new(alloc) {
-        Ok(mut pair) => {
-            let rounds = count_alike(alloc, &mut pair, &mut done);
-            Some((rounds, pair.agrees(alloc), done))
-        }
-        Err(_) => None,
+    if pair.agrees(alloc) && done.has(10_000, 5) {
+        20_000
+    } else {
+        0
     }
 }
 
 #[test]
 fn no_step_changes_a_value(rt: HostRuntime) {
-    let Some((rounds, agrees, done)) = see(rt.alloc()) else {
-        panic!(rt; "no memory");
-    };
-    assert!(rt; rounds == 20_000 && agrees, "{rounds} rounds");
-    assert!(rt; done.all() >= 10_000 && done.rarest() >= 5, "{done:?}");
+    assert_eq!(rt; count_anew(rt.alloc(), Way::Alike), 20_000);
 }
 
 /// Keeps a share of a tree beside the row that it means now.
@@ -298,8 +301,8 @@ fn change_and_keep(alloc: Global, pair: &mut Pair, kept: &mut Vec<Pair>) -> bool
 }
 
 /// How many of the shares mean what they meant.
-fn count_unchanged(alloc: Global, kept: &[Pair]) -> usize {
-    let mut count = 0usize;
+fn count_unchanged(alloc: Global, kept: &[Pair]) -> u32 {
+    let mut count = 0u32;
     for old in kept {
         if old.agrees(alloc) {
             count = count.saturating_add(1);
@@ -309,7 +312,7 @@ fn count_unchanged(alloc: Global, kept: &[Pair]) -> usize {
 }
 
 /// The same of the shares of a tree.
-fn count_kept(alloc: Global, pair: &mut Pair) -> usize {
+fn count_kept(alloc: Global, pair: &mut Pair) -> u32 {
     let mut kept = Vec::new(alloc);
     if !change_and_keep(alloc, pair, &mut kept) {
         return 0;
@@ -317,15 +320,7 @@ fn count_kept(alloc: Global, pair: &mut Pair) -> usize {
     count_unchanged(alloc, kept.as_slice())
 }
 
-/// The same of a new tree.
-fn count_kept_of_new(alloc: Global) -> usize {
-    match Pair::new(alloc) {
-        Ok(mut pair) => count_kept(alloc, &mut pair),
-        Err(_) => 0,
-    }
-}
-
 #[test]
 fn shared_trees_never_change(rt: HostRuntime) {
-    assert_eq!(rt; count_kept_of_new(rt.alloc()), 100);
+    assert_eq!(rt; count_anew(rt.alloc(), Way::Kept), 100);
 }

@@ -1,0 +1,20 @@
+//! Rows of a table, each asked by itself.
+use std::alloc::Global;
+
+/// What a row of a table says.
+pub trait Holds {
+    /// Whether it is so; `false` where memory is refused.
+    fn holds(&self, alloc: Global) -> bool;
+}
+
+/// Whether all rows hold; the number of the first that does not.
+pub fn all_hold<R: Holds>(alloc: Global, rows: &[R]) -> Result<(), usize> {
+    let mut number = 0usize;
+    for row in rows {
+        if !row.holds(alloc) {
+            return Err(number);
+        }
+        number = number.saturating_add(1);
+    }
+    Ok(())
+}
