@@ -1,6 +1,6 @@
 -- One line more of an image: what it makes of what was loaded.
 use Rattle.std.proofs.Common.{◌≡◌, ◌≢◌, ◌⊎◌, inl, inr, ⊎_elim, ℕ, ◌+◌, ◌*◌, ◌<◌, ◌≤◌, List, [], ◌∷◌, ◌++◌, length, false, refl, sym, ap, subst, ◌∙◌, arith, append_assoc, append-nil, Option, Some, None, Result, Ok, Err, codes}
-use Rattle.std.specs.Prelude.{IfSome}
+use Rattle.std.specs.Prelude.{IfOk, IfSome}
 use Rattle.std.specs.declared.cmp.Ordering.TheVariants.{Less}
 use Rattle.std.proofs.lemmas.Bool.{cases_lt, ltb-false, le-ltb}
 use Rattle.pathkey.specs.Enc.{enc}
@@ -25,10 +25,17 @@ use Rattle.reference.proofs.LinesMade.{Made, Ready, made, ready}
 use Rattle.reference.proofs.LinesRead.{NoFeed, IsNext, first_line, line_from_follows, line_injective, next_line}
 use Rattle.reference.proofs.Planting.{MayPlant, may_plant, no_fault_to_plant}
 use Rattle.reference.proofs.Standing.{parent_directory}
-use Rattle.volume.specs.Changes.{Called}
+use Rattle.block_index.specs.Updates.{means as block_means}
+use Rattle.block_index.specs.declared.index.BlockIndex.{BlockIndex}
+use Rattle.message.specs.declared.msg.Msg.{Msg}
+use Rattle.meta_index.specs.Updates.{means as meta_means}
+use Rattle.node.specs.Pure.{PTree}
+use Rattle.node.specs.declared.shape.Shape.{Shape}
+use Rattle.reference.specs.declared.call.Call.{Call}
+use Rattle.volume.specs.Changes.{Called, Receives}
 use Rattle.volume.specs.Plants.{Plants}
-use Rattle.volume.specs.Volumes.{PVolume, Means}
-use Rattle.shell.specs.Loads.{Counts, FitsAt, alone, text_so_far, lines_so_far, count_so_far, IsLoading, LoadsNext, LoadsLine, MayNotFollow, RefusesLine, HasRead, LoadsPiece, RefusesPiece, LoadsEnd, RefusesEnd, ReadsSoFar, Loaded, LoadsAll, IsBadIn, entry_line, len_of}
+use Rattle.volume.specs.Volumes.{PVolume, IsNew, Means}
+use Rattle.shell.specs.Loads.{Counts, FitsAt, alone, text_so_far, lines_so_far, count_so_far, IsLoading, LoadsNext, LoadsLine, MayNotFollow, RefusesLine, HasRead, LoadsPiece, RefusesPiece, LoadsEnd, RefusesEnd, ReadsSoFar, Loaded, LoadsAll, IsBadIn, entry_line, form_of, len_of, new_form}
 use Rattle.std.specs.Io.KnownBytes.{Consumes, IsAtEnd}
 use Rattle.std.proofs.KnownBytes.{Consumes-nil, Consumes-trans}
 use Rattle.shell.proofs.Known.{known_text, known_whole}
@@ -324,3 +331,28 @@ bad_number number n e = cc
 -- a fault is one whatever it stands in the place of
 pub same_fault : {A : Type 0} (fault : LoadFault) (n : ℕ) → ◌≡◌ {A = Result A LoadFault} (Err fault) (Err (Bad n)) → ◌≡◌ {A = Result (Unit {0}) LoadFault} (Err fault) (Err (Bad n))
 same_fault fault n e = cc
+
+-- ---- the form of the volume
+
+same_form : (v w : PVolume) → w.live.meta.tree.shape ≡ v.live.meta.tree.shape → w.live.block.tree.shape ≡ v.live.block.tree.shape → w.marks ≡ v.marks → form_of w ≡ form_of v
+same_form v w m b k = λ i. record { meta = m i; block = b i; marks = k i }
+
+-- messages that come to a tree leave its shape
+received_shape : {U V : Type 0} (means : U → Option V → Option V) (ms : List (Msg U V)) (a b : PTree U V) → Receives means ms a b → b.shape ≡ a.shape
+received_shape means [] a b h = ap (λ (t : PTree U V). t.shape) h
+received_shape means (m ∷ ms) a b h = h.shape_kept
+
+pub counted_form : (call : Call) (v w : PVolume) → Counts call v w → form_of w ≡ form_of v
+counted_form call v w h =
+    let batch = h.1.batch in
+    same_form v w
+    (received_shape meta_means batch.msgs.meta v.live.meta.tree w.live.meta.tree batch.meta)
+    (received_shape block_means batch.msgs.block v.live.block.tree w.live.block.tree batch.block)
+    h.1.marks
+
+pub planted_form : (v w : PVolume) (p : Path) (m : Meta) → Plants p m (Ok tt) v w → form_of w ≡ form_of v
+planted_form v w p m h = same_form v w h.message.shape_kept (ap (λ (i : BlockIndex). i.tree.shape) h.block) h.marks
+
+pub loaded_form : {E : Type 0} (r : Result PVolume E) (v : PVolume) (shape : Shape) → IsNew shape v → IfOk r (λ w. form_of w ≡ form_of v) → IfOk r (λ w. form_of w ≡ new_form shape)
+loaded_form (Ok w) v shape new h = h ∙ (λ i. record { meta = new.meta_shape i; block = new.block_shape i; marks = new.marks i })
+loaded_form (Err e) v shape new h = tt

@@ -13,12 +13,27 @@ use Rattle.reference.specs.declared.reply.Reply.TheVariants.{Count}
 use Rattle.reference.specs.Worlds.{World}
 use Rattle.shell.specs.Progress.{Holds, IsFree}
 use Rattle.shell.specs.declared.load.Loading.{Loading}
+use Rattle.node.specs.declared.shape.Shape.{Shape}
 use Rattle.volume.specs.Changes.{Called}
+use Rattle.volume.specs.Marked.{PMarks, no_marks}
 use Rattle.volume.specs.Volumes.{PVolume, Means}
 
 -- the world of a tree without snapshots
 abbrev pub alone : Tree → World
 alone t = record { live = t; snapshots = finite.empty }
+
+-- the form of a volume: the shapes of its trees, and its marks
+pub record Form : Type 0 where
+  pub meta : Shape
+  pub block : Shape
+  pub marks : PMarks
+
+abbrev pub form_of : PVolume → Form
+form_of v = record { meta = v.live.meta.tree.shape; block = v.live.block.tree.shape; marks = v.marks }
+
+-- that of a new volume of the shape
+abbrev pub new_form : Shape → Form
+new_form shape = record { meta = shape; block = shape; marks = no_marks 0 }
 
 -- ---- the lines so far: none, or the root's line and others behind it
 

@@ -10,7 +10,7 @@ ghost use Rattle.volume.specs.Volumes.{Means};
 ghost use Rattle.reference.specs.ImageLines.{IsBlock, IsLine, Line};
 ghost use Rattle.reference.specs.ImageLines.{BlockLine, DirectoryLine, FileLine};
 ghost use Rattle.shell.specs.ImageLines.{line_of};
-ghost use Rattle.shell.specs.Loads.{Counts, FitsAt, HasRead, IsBadIn, LoadsAll, LoadsEnd, LoadsLine, LoadsNext, LoadsPiece, LoadsRoot, MayNotFollow, RefusesEnd, RefusesLine, RefusesPiece, alone, entry_line, len_of};
+ghost use Rattle.shell.specs.Loads.{Counts, FitsAt, HasRead, IsBadIn, LoadsAll, LoadsEnd, LoadsLine, LoadsNext, LoadsPiece, LoadsRoot, MayNotFollow, RefusesEnd, RefusesLine, RefusesPiece, alone, entry_line, form_of, len_of, new_form};
 
 use crate::command::LONGEST_LINE;
 use crate::image_line::{ImageLine, read_image_line};
@@ -47,10 +47,11 @@ pub enum LoadFault {
     Bad(u64),
 }
 
-/// The volume whose tree has the image that the reader gives, without snapshots, in trees of this shape. It fails where the shape is not
+/// The volume whose tree has the image that the reader gives, without snapshots and marks, in trees of this shape. It fails where the shape is not
 /// ok, where memory or a read is refused, and where the text is no image: `Bad` has the number of the first line with which it is none.
 pub fn load_image<R: Read>(alloc: Global, shape: Shape, reader: &mut R) -> Result<Volume, LoadFault>
     ensures loaded { IfOk result (LoadsAll (R.remaining reader.old) (R.remaining reader.new)) }
+    ensures form { IfOk result (λ v. form_of v ≡ new_form shape) }
     ensures bad { (n : ℕ) → result ≡ Err (LoadFault.Bad n) → IsBadIn (R.remaining reader.old) n }
     ensures shape { (result ≡ Err LoadFault.Shape) ↔ (is_shape shape ≡ false) }
 {
@@ -67,6 +68,7 @@ pub fn load_image<R: Read>(alloc: Global, shape: Shape, reader: &mut R) -> Resul
 fn load_into<R: Read>(alloc: Global, volume: Volume, reader: &mut R) -> Result<Volume, LoadFault>
     requires { Means volume (alone (Dir nothing)) }
     ensures loaded { IfOk result (LoadsAll (R.remaining reader.old) (R.remaining reader.new)) }
+    ensures form { IfOk result (λ v. form_of v ≡ form_of volume) }
     ensures bad { (n : ℕ) → result ≡ Err (LoadFault.Bad n) → IsBadIn (R.remaining reader.old) n }
     ensures shape { result ≢ Err LoadFault.Shape }
 {
@@ -133,6 +135,7 @@ impl Loading {
         requires room { 65536 < vec_capacity held.old }
         requires start { HasRead [] held.old.items self.old }
         ensures ok { OnOk result (LoadsAll (R.remaining reader.old) (R.remaining reader.new) self.new.volume) }
+        ensures form { OnOk result (form_of self.new.volume ≡ form_of self.old.volume) }
         ensures bad { (n : ℕ) → result ≡ Err (LoadFault.Bad n) → IsBadIn (R.remaining reader.old) n }
         ensures shape { result ≢ Err LoadFault.Shape }
     {
@@ -160,6 +163,7 @@ impl Loading {
         requires room { 65536 < vec_capacity held.old }
         ensures room { 65536 < vec_capacity held.new }
         ensures ok { OnOk result (LoadsPiece held.old.items piece.now held.new.items self.old self.new) }
+        ensures form { OnOk result (form_of self.new.volume ≡ form_of self.old.volume) }
         ensures bad { (n : ℕ) → result ≡ Err (LoadFault.Bad n) → RefusesPiece held.old.items piece.now n self.old }
         ensures shape { result ≢ Err LoadFault.Shape }
     {
@@ -180,6 +184,7 @@ impl Loading {
         requires free { All (λ b. b ≢ 10) end.now }
         ensures room { 65536 < vec_capacity held.new }
         ensures ok { OnOk result (LoadsPiece held.old.items (end.now ++ 10 ∷ []) held.new.items self.old self.new) }
+        ensures form { OnOk result (form_of self.new.volume ≡ form_of self.old.volume) }
         ensures bad { (n : ℕ) → result ≡ Err (LoadFault.Bad n) → RefusesPiece held.old.items (end.now ++ 10 ∷ []) n self.old }
         ensures shape { result ≢ Err LoadFault.Shape }
     {
@@ -227,6 +232,7 @@ impl Loading {
         requires { number ≡ self.old.lines + 1 }
         ensures ok { OnOk result (LoadsLine line.now self.old self.new) }
         ensures short { OnOk result (length line.now ≤ 65536) }
+        ensures form { OnOk result (form_of self.new.volume ≡ form_of self.old.volume) }
         ensures bad { (n : ℕ) → result ≡ Err (LoadFault.Bad n) → (n ≡ number) × RefusesLine line.now self.old }
         ensures shape { result ≢ Err LoadFault.Shape }
     {
@@ -247,6 +253,7 @@ impl Loading {
     fn take_root(&mut self, line: &[u8], number: u64) -> Result<(), LoadFault>
         requires { number ≡ self.old.lines + 1 }
         ensures ok { OnOk result (LoadsRoot line.now self.old self.new) }
+        ensures form { OnOk result (form_of self.new.volume ≡ form_of self.old.volume) }
         ensures bad { (n : ℕ) → result ≡ Err (LoadFault.Bad n) → (n ≡ number) × (line.now ≢ codes "d /") }
         ensures kinds { (result ≢ Err LoadFault.Shape) × (result ≢ Err LoadFault.Memory) }
     {
@@ -262,6 +269,7 @@ impl Loading {
         requires line { IsLine (line_of line) }
         requires number { number ≡ self.old.lines + 1 }
         ensures ok { OnOk result (LoadsNext (line_of line) self.old self.new) }
+        ensures form { OnOk result (form_of self.new.volume ≡ form_of self.old.volume) }
         ensures bad { (n : ℕ) → result ≡ Err (LoadFault.Bad n) → (n ≡ number) × MayNotFollow (line_of line) self.old }
         ensures shape { result ≢ Err LoadFault.Shape }
     {
@@ -284,6 +292,7 @@ impl Loading {
     ) -> Result<(), LoadFault>
         requires { number ≡ self.old.lines + 1 }
         ensures ok { OnOk result (LoadsNext (entry_line path meta) self.old self.new) }
+        ensures form { OnOk result (form_of self.new.volume ≡ form_of self.old.volume) }
         ensures bad { (n : ℕ) → result ≡ Err (LoadFault.Bad n) → (n ≡ number) × MayNotFollow (entry_line path meta) self.old }
         ensures shape { result ≢ Err LoadFault.Shape }
     {
@@ -314,6 +323,7 @@ impl Loading {
         requires block { IsBlock bytes }
         requires number { number ≡ self.old.lines + 1 }
         ensures ok { OnOk result (LoadsNext (BlockLine index bytes) self.old self.new) }
+        ensures form { OnOk result (form_of self.new.volume ≡ form_of self.old.volume) }
         ensures bad { (n : ℕ) → result ≡ Err (LoadFault.Bad n) → (n ≡ number) × MayNotFollow (BlockLine index bytes) self.old }
         ensures shape { result ≢ Err LoadFault.Shape }
     {
@@ -381,6 +391,7 @@ fn counts(alloc: Global, volume: &mut Volume, call: &Call) -> bool
 
 /// Why an entry was not planted.
 fn entry_fault(fault: Errno, number: u64) -> LoadFault
+    ensures memory { (result ≡ LoadFault.Memory) ↔ (fault ≡ Errno.ENOMEM) }
     ensures bad { (n : ℕ) → result ≡ LoadFault.Bad n → (n ≡ number) × (fault ≢ Errno.ENOMEM) }
     ensures shape { result ≢ LoadFault.Shape }
 {

@@ -16,14 +16,15 @@ use Rattle.reference.specs.declared.reply.Reply.{Reply}
 use Rattle.reference.specs.declared.reply.Reply.TheVariants.{Fault}
 use Rattle.reference.proofs.NeverLacks.{no_lack}
 use Rattle.reference.proofs.Snapshots.{takes, takes_no_more, drops}
-use Rattle.jobs.specs.Marks.{PMarked, Each, KeepsContent}
+use Rattle.jobs.specs.Marks.{PMarked, Each, KeepsContent, kept_in}
 use Rattle.jobs.specs.declared.mark.Mark.{Mark}
+use Rattle.node.proofs.Grafting.{keeps_nothing}
 use Rattle.node.specs.Pure.{PTree}
 use Rattle.node.specs.Steps.{UnlessDid}
 use Rattle.node.specs.declared.place.TreeStep.{TreeStep}
 use Rattle.node.specs.declared.step.StepReply.TheVariants.{Did, NotThere as StepNotThere, NoRoom as StepNoRoom, NoMemory as StepNoMemory}
 use Rattle.volume.specs.Jobs.{AnswersTaking, SameValues, Takes}
-use Rattle.volume.specs.Marked.{PLive, Stands, Keeps, KeepsMarks, meta_marked, block_marked, marks_left, no_marks}
+use Rattle.volume.specs.Marked.{PLive, Stands, Keeps, KeepMarkedLists, KeepsMarks, meta_marked, block_marked, marks_left, no_marks}
 use Rattle.volume.specs.declared.job.Job.{Job}
 use Rattle.volume.specs.declared.job.Job.TheVariants.{Meta as MetaJob, Block as BlockJob}
 use Rattle.volume.specs.declared.job.TakeReply.{TakeReply}
@@ -71,11 +72,18 @@ called v c r l does_it w m =
     let there : Means (volume l v.snapshots) (outcome w (Ask c)).0 = record { live = d.1; snapshots = m.snapshots } in
     (inl (ap Replied d.0), subst (λ (b : Bool). Means (volume l v.snapshots) (cond b w (outcome w (Ask c)).0)) (sym given) there)
 
+-- where nothing changes and no message came, each list stays
+nothing_comes : (l m : PLive) → m ≡ l → KeepMarkedLists no_messages l m
+nothing_comes l m e = subst (λ (x : PLive). KeepMarkedLists no_messages l x) (sym e) (record {
+  meta = keeps_nothing l.indexes.meta.tree.shape 0 (kept_in l.marks.meta l.indexes.meta.tree.root) [] l.indexes.meta.tree l.indexes.meta.tree.root refl refl;
+  block = keeps_nothing l.indexes.block.tree.shape 0 (kept_in l.marks.block l.indexes.block.tree.root) [] l.indexes.block.tree l.indexes.block.tree.root refl refl;
+})
+
 pub lacks_call : (v : PVolume) (c : Call) (l : PLive) → l ≡ live_of v → Called c (Fault ENOMEM) v (volume l v.snapshots)
 lacks_call v c l e = record {
   leads = λ w m. (inr refl, subst (λ (k : PLive). Means (volume k v.snapshots) w) (sym e) m);
   refused = λ x h. ap (λ (k : PLive). volume k v.snapshots) e;
-  batch = record { msgs = no_messages; sends = nothing_sent v.live c; meta = ap (λ (k : PLive). k.indexes.meta.tree) e; block = ap (λ (k : PLive). k.indexes.block.tree) e };
+  batch = record { msgs = no_messages; sends = nothing_sent v.live c; meta = ap (λ (k : PLive). k.indexes.meta.tree) e; block = ap (λ (k : PLive). k.indexes.block.tree) e; lists = nothing_comes (live_of v) l e };
   snapshots = refl;
   marks = ap (λ (k : PLive). k.marks) e;
   kept = kept_same (live_of v) l e;
@@ -85,7 +93,7 @@ lacks_call v c l e = record {
 pub same_live : (a b : PLive) → b.indexes ≡ a.indexes → b.marks ≡ a.marks → b ≡ a
 same_live a b i m = λ k. record { indexes = i k; marks = m k }
 
-pub call_done : (v : PVolume) (c : Call) (r : Reply) (l : PLive) → Does c r v.live l.indexes → ((e : Errno) → r ≡ Fault e → l.indexes ≡ v.live) → Batched c v.live l.indexes → l.marks ≡ v.marks → KeepsMarks (live_of v) l → Called c r v (volume l v.snapshots)
+pub call_done : (v : PVolume) (c : Call) (r : Reply) (l : PLive) → Does c r v.live l.indexes → ((e : Errno) → r ≡ Fault e → l.indexes ≡ v.live) → Batched c (live_of v) l → l.marks ≡ v.marks → KeepsMarks (live_of v) l → Called c r v (volume l v.snapshots)
 call_done v c r l does_it refused batch marks kept = record {
   leads = called v c r l does_it;
   refused = λ e h. ap (λ (k : PLive). volume k v.snapshots) (same_live (live_of v) l (refused e h) marks);

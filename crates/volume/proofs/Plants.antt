@@ -1,30 +1,25 @@
 -- What an entry that is planted makes of indexes, and of a volume.
-use Rattle.std.proofs.Common.{◌≡◌, inl, [], ◌∷◌, sym, ap, subst, ◌∙◌, refl, Option, None, Ok, Err}
+use Rattle.std.proofs.Common.{◌≡◌, inl, sym, ap, subst, ◌∙◌, refl, Option, None, Ok, Err}
 use Rattle.call_compiler.specs.Compiled.{Messages, MeanTree}
 use Rattle.call_compiler.specs.declared.indexes.Indexes.{Indexes}
 use Rattle.call_compiler.proofs.Appending.{meant_after}
 use Rattle.call_compiler.proofs.Compiling.{meta_meant}
 use Rattle.block_index.specs.Means.{blocks}
-use Rattle.message.specs.declared.msg.Msg.TheVariants.{Put}
 use Rattle.meta_index.specs.Means.{metadata, IsMeantBy}
-use Rattle.pathkey.specs.Enc.{enc}
 use Rattle.pathkey.specs.Names.{Path, IsPath}
 use Rattle.pathkey.specs.declared.errno.Errno.{Errno}
+use Rattle.std.specs.Prelude.{IfOk}
 use Rattle.reference.specs.Calls.{first_fault}
 use Rattle.reference.specs.Plant.{faults_of_plant, fresh_entry, planted, planted_unless}
 use Rattle.reference.specs.Tree.{Tree, with_entry}
 use Rattle.reference.specs.Worlds.{Snapped}
 use Rattle.reference.specs.declared.reply.Meta.{Meta}
 use Rattle.reference.proofs.Planting.{plant_law}
-use Rattle.volume.specs.Plants.{PlantsIn, Plants}
-use Rattle.volume.specs.Marked.{PLive, Stands, KeepsMarks}
+use Rattle.volume.specs.Plants.{PlantsIn, Plants, one_put}
+use Rattle.volume.specs.Marked.{PLive, Stands, KeepMarkedLists, KeepsMarks}
 use Rattle.volume.specs.Volumes.{PVolume, IsVolume, live_of}
 use Rattle.volume.proofs.Leading.{volume, same_live}
 use Rattle.volume.proofs.Trees.{Appends}
-
--- the one message
-abbrev one_put : Path → Meta → Messages
-one_put p m = record { meta = Put (enc p) m ∷ []; block = [] }
 
 pub planted_in : (a b : Indexes) (p : Path) (m : Meta) (fault : Option Errno) (msgs : Messages) → IsPath p → fault ≡ None
     → ((t : Tree) → IsMeantBy t a.meta → fault ≡ first_fault (faults_of_plant t p m)) → msgs ≡ one_put p m → Appends msgs a b → PlantsIn p m (Ok tt) a b
@@ -45,6 +40,7 @@ planted_in a b p m fault msgs is_path none first is appends =
 -- live indexes in which an entry was planted, with the marks that stood
 pub record PlantsLive (p : Path) (m : Meta) (r : Snapped) (old new : PLive) : Type 0 where
   pub entry : PlantsIn p m r old.indexes new.indexes
+  pub lists : IfOk r (λ _. KeepMarkedLists (one_put p m) old new)
   pub marks : new.marks ≡ old.marks
   pub kept : KeepsMarks old new
 
@@ -54,6 +50,7 @@ planted_volume v l p m (Ok x) h = record {
   means = λ w means. record { live = h.entry.means w.live means.live; snapshots = means.snapshots };
   message = h.entry.message;
   block = h.entry.block;
+  lists = h.lists;
   refused = h.entry.refused;
   snapshots = refl;
   marks = h.marks;
@@ -64,6 +61,7 @@ planted_volume v l p m (Err e) h = record {
   means = h.entry.means;
   message = h.entry.message;
   block = h.entry.block;
+  lists = h.lists;
   refused = ap (λ (k : PLive). volume k v.snapshots) (same_live (live_of v) l h.entry.refused h.marks);
   snapshots = refl;
   marks = h.marks;

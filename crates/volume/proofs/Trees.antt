@@ -35,6 +35,7 @@ use Rattle.volume.specs.declared.event.Index.{Index}
 use Rattle.volume.specs.declared.event.Index.TheVariants.{Meta, Block}
 use Rattle.volume.specs.Jobs.{SameValues}
 use Rattle.volume.specs.Changes.{Does, Receives, Batched, StepsIn}
+use Rattle.volume.specs.Marked.{PLive, KeepMarkedLists}
 
 -- ---- calls
 
@@ -57,12 +58,13 @@ pub record Appends (msgs : Messages) (a b : Indexes) : Type 0 where
   pub no_meta : msgs.meta ≡ [] → b.meta ≡ a.meta
   pub no_block : msgs.block ≡ [] → b.block ≡ a.block
 
-pub compiled_batched : (a b : Indexes) (c : Call) (r : Reply) (msgs : Messages) → IsCompiled a c r msgs → Appends msgs a b → Batched c a b
-compiled_batched a b c r msgs compiled appends = record {
+pub compiled_batched : (a b : PLive) (c : Call) (r : Reply) (msgs : Messages) → IsCompiled a.indexes c r msgs → Appends msgs a.indexes b.indexes → KeepMarkedLists msgs a b → Batched c a b
+compiled_batched a b c r msgs compiled appends lists = record {
   msgs = msgs;
   sends = compiled.sends;
-  meta = receives meta_means msgs.meta a.meta.tree b.meta.tree appends.taken.meta (λ e. ap (λ (x : MetaIndex). x.tree) (appends.no_meta e));
-  block = receives block_means msgs.block a.block.tree b.block.tree appends.taken.block (λ e. ap (λ (x : BlockIndex). x.tree) (appends.no_block e));
+  meta = receives meta_means msgs.meta a.indexes.meta.tree b.indexes.meta.tree appends.taken.meta (λ e. ap (λ (x : MetaIndex). x.tree) (appends.no_meta e));
+  block = receives block_means msgs.block a.indexes.block.tree b.indexes.block.tree appends.taken.block (λ e. ap (λ (x : BlockIndex). x.tree) (appends.no_block e));
+  lists = lists;
 }
 
 -- a batch without messages leaves the indexes

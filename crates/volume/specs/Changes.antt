@@ -23,7 +23,7 @@ use Rattle.reference.specs.declared.reply.Reply.TheVariants.{Fault}
 use Rattle.volume.specs.declared.event.Index.{Index}
 use Rattle.volume.specs.declared.event.Index.TheVariants.{Meta, Block}
 use Rattle.volume.specs.declared.event.Step.{Step}
-use Rattle.volume.specs.Marked.{PLive, KeepsMarks, marks_left, no_marks}
+use Rattle.volume.specs.Marked.{PLive, KeepMarkedLists, KeepsMarks, marks_left, no_marks}
 use Rattle.volume.specs.Volumes.{PVolume, Means, live_of}
 
 -- the answer fits each world that the volume meant, and the volume now means the next one
@@ -37,12 +37,13 @@ abbrev pub Receives : {U V : Type 0} → (U → Option V → Option V) → List 
 Receives means [] old new = new ≡ old
 Receives means (m ∷ ms) old new = Appended means (m ∷ ms) old new
 
--- each index took its half of one batch, which has no more messages than the call may send
-pub record Batched (c : Call) (old new : Indexes) : Type 0 where
+-- each index took its half of one batch, which has no more messages than the call may send, and marked lists stay in front
+pub record Batched (c : Call) (old new : PLive) : Type 0 where
   pub msgs : Messages
-  pub sends : Sends old c msgs
-  pub meta : Receives meta_means msgs.meta old.meta.tree new.meta.tree
-  pub block : Receives block_means msgs.block old.block.tree new.block.tree
+  pub sends : Sends old.indexes c msgs
+  pub meta : Receives meta_means msgs.meta old.indexes.meta.tree new.indexes.meta.tree
+  pub block : Receives block_means msgs.block old.indexes.block.tree new.indexes.block.tree
+  pub lists : KeepMarkedLists msgs old new
 
 -- the reply is that of the table of calls for each tree that the indexes meant, and they now mean the tree that the table makes
 abbrev pub Does : Call → Reply → Indexes → Indexes → Type 0
@@ -53,7 +54,7 @@ Does c r old new = (t : Tree) → MeanTree old t → (r ≡ (does t c).1) × Mea
 pub record Called (c : Call) (r : Reply) (old new : PVolume) : Type 0 where
   pub leads : Leads (Ask c) (Replied r) old new
   pub refused : (e : Errno) → r ≡ Fault e → new ≡ old
-  pub batch : Batched c old.live new.live
+  pub batch : Batched c (live_of old) (live_of new)
   pub snapshots : new.snapshots ≡ old.snapshots
   pub marks : new.marks ≡ old.marks
   pub kept : KeepsMarks (live_of old) (live_of new)

@@ -2,13 +2,15 @@
 use Rattle.std.specs.Prelude.{ℕ, ◌+◌, ◌≤◌, ◌^◌, List, [], Option, length}
 use Rattle.block_index.specs.Updates.{means as block_means}
 use Rattle.block_index.specs.declared.update.BlockUpdate.{BlockUpdate}
+use Rattle.call_compiler.specs.Compiled.{Messages}
 use Rattle.call_compiler.specs.declared.indexes.Indexes.{Indexes}
-use Rattle.jobs.specs.Marks.{PMarked, AreMarks, Each, KeepsContent, without}
+use Rattle.jobs.specs.Marks.{PMarked, AreMarks, Each, KeepsContent, kept_in, without}
 use Rattle.jobs.specs.Replies.{KeepsFits}
 use Rattle.jobs.specs.Survive.{survives, left_by}
 use Rattle.jobs.specs.declared.mark.Mark.{Mark}
 use Rattle.meta_index.specs.Updates.{means as meta_means}
 use Rattle.meta_index.specs.declared.update.MetaUpdate.{MetaUpdate}
+use Rattle.node.specs.Grafts.{KeepsLists}
 use Rattle.node.specs.Lawful.{IsLawful}
 use Rattle.node.specs.Places.{way}
 use Rattle.node.specs.declared.place.TreeStep.{TreeStep}
@@ -67,6 +69,11 @@ pub record KeepsMarks (old new : PLive) : Type 0 where
   pub meta : Keeps meta_means (meta_marked old) (meta_marked new)
   pub block : Keeps block_means (block_marked old) (block_marked new)
   pub given : old.marks.given ≤ new.marks.given
+
+-- the list of each marked slot, of both indexes, stays as it was, and its part of the messages stands behind it
+pub record KeepMarkedLists (msgs : Messages) (old new : PLive) : Type 0 where
+  pub meta : KeepsLists (kept_in old.marks.meta old.indexes.meta.tree.root) msgs.meta old.indexes.meta.tree.root new.indexes.meta.tree.root
+  pub block : KeepsLists (kept_in old.marks.block old.indexes.block.tree.root) msgs.block old.indexes.block.tree.root new.indexes.block.tree.root
 
 -- the marks that a step leaves: in its own index those that outlive it
 abbrev pub marks_left : Index → TreeStep → StepReply → PLive → PMarks

@@ -1,6 +1,6 @@
 -- What an entry that is planted makes of a volume.
 use Rattle.std.specs.Prelude.{◌≡◌, ◌⊎◌, [], ◌∷◌, Err, IfOk, IfErr}
-use Rattle.call_compiler.specs.Compiled.{MeanTree}
+use Rattle.call_compiler.specs.Compiled.{Messages, MeanTree}
 use Rattle.call_compiler.specs.declared.indexes.Indexes.{Indexes}
 use Rattle.message.specs.declared.msg.Msg.TheVariants.{Put}
 use Rattle.meta_index.specs.Updates.{means as meta_means}
@@ -11,8 +11,12 @@ use Rattle.reference.specs.Plant.{planted}
 use Rattle.reference.specs.Tree.{Path, Tree}
 use Rattle.reference.specs.Worlds.{World, Snapped}
 use Rattle.reference.specs.declared.reply.Meta.{Meta}
-use Rattle.volume.specs.Marked.{KeepsMarks}
+use Rattle.volume.specs.Marked.{KeepMarkedLists, KeepsMarks}
 use Rattle.volume.specs.Volumes.{PVolume, Means, live_of}
+
+-- the one message that plants an entry
+abbrev pub one_put : Path → Meta → Messages
+one_put p m = record { meta = Put (enc p) m ∷ []; block = [] }
 
 -- an entry that is planted in indexes: the answer is the table's for each tree that they meant, or want of memory; they
 -- mean the tree with the entry, by one message in the metadata, or are as they were
@@ -23,12 +27,13 @@ pub record PlantsIn (p : Path) (m : Meta) (r : Snapped) (old new : Indexes) : Ty
   pub block : IfOk r (λ _. new.block ≡ old.block)
   pub refused : IfErr r (λ _. new ≡ old)
 
--- the same of a volume, whose snapshots and marks stay
+-- the same of a volume, whose snapshots and marks stay; marked lists stay in front of the message
 pub record Plants (p : Path) (m : Meta) (r : Snapped) (old new : PVolume) : Type 0 where
   pub answer : (w : World) → Means old w → (r ≡ (planted w.live p m).1) ⊎ (r ≡ Err ENOMEM)
   pub means : IfOk r (λ _. (w : World) → Means old w → Means new (record w { live = (planted w.live p m).0 }))
   pub message : IfOk r (λ _. Appended meta_means (Put (enc p) m ∷ []) old.live.meta.tree new.live.meta.tree)
   pub block : IfOk r (λ _. new.live.block ≡ old.live.block)
+  pub lists : IfOk r (λ _. KeepMarkedLists (one_put p m) (live_of old) (live_of new))
   pub refused : IfErr r (λ _. new ≡ old)
   pub snapshots : new.snapshots ≡ old.snapshots
   pub marks : new.marks ≡ old.marks

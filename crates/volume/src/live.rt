@@ -5,7 +5,7 @@ ghost use Rattle.call_compiler.specs.Laws.{HaveTaken};
 ghost use Rattle.pathkey.specs.declared.errno.Errno.{Errno as Refusal};
 ghost use Rattle.volume.specs.Changes.{Does, Batched, StepsLive};
 ghost use Rattle.volume.specs.Jobs.{AnswersTaking, AnswersInstalling, DoneFits, mark_count};
-ghost use Rattle.volume.specs.Marked.{KeepsMarks, Stands, no_marks, without_mark};
+ghost use Rattle.volume.specs.Marked.{KeepMarkedLists, KeepsMarks, Stands, no_marks, without_mark};
 ghost use Rattle.volume.specs.Told.{HeaviestIn, pending_in};
 
 use crate::event::{Index, Relief, Step};
@@ -89,6 +89,7 @@ impl Live {
     /// pieces behind it.
     pub fn append(&mut self, alloc: Global, batch: Batch) -> Result<(), NoMemory>
         ensures done { OnOk result (HaveTaken (messages batch) self.old.indexes self.new.indexes) }
+        ensures lists { OnOk result (KeepMarkedLists (messages batch) self.old self.new) }
         ensures no_meta { batch.meta.items ≡ [] → self.new.indexes.meta ≡ self.old.indexes.meta }
         ensures no_block { batch.block.items ≡ [] → self.new.indexes.block ≡ self.old.indexes.block }
         ensures err { OnErr result (self.new ≡ self.old) }
@@ -111,7 +112,7 @@ impl Live {
     pub fn call(&mut self, alloc: Global, call: &Call) -> Result<Reply, NoMemory>
         ensures done { IfOk result (λ r. Does call.now r self.old.indexes self.new.indexes) }
         ensures refused { IfOk result (λ r. (e : Refusal) → r ≡ Reply.Fault e → self.new.indexes ≡ self.old.indexes) }
-        ensures batch { IfOk result (λ r. Batched call.now self.old.indexes self.new.indexes) }
+        ensures batch { IfOk result (λ r. Batched call.now self.old self.new) }
         ensures err { OnErr result (self.new ≡ self.old) }
         ensures marks { self.new.marks ≡ self.old.marks }
         ensures kept { KeepsMarks self.old self.new }

@@ -1,30 +1,26 @@
 //! Entries that are planted whole: an empty directory, or a file of so many zeros, as an image tells them.
-ghost use Rattle.std.specs.Prelude.{◌≡◌, [], ◌∷◌, IfOk};
+ghost use Rattle.std.specs.Prelude.{◌≡◌, IfOk};
 ghost use Rattle.call_compiler.specs.Compiled.{messages};
-ghost use Rattle.message.specs.declared.msg.Msg.{Msg as Message};
 ghost use Rattle.meta_index.specs.Means.{IsMeantBy};
-ghost use Rattle.pathkey.specs.Enc.{enc};
 ghost use Rattle.pathkey.specs.Names.{IsPath};
 ghost use Rattle.reference.specs.Calls.{first_fault};
 ghost use Rattle.reference.specs.Plant.{faults_of_plant, is_too_long};
 ghost use Rattle.reference.specs.Tree.{Tree};
-ghost use Rattle.volume.specs.Marked.{KeepsMarks};
-ghost use Rattle.volume.specs.Plants.{PlantsIn};
+ghost use Rattle.volume.specs.Marked.{KeepMarkedLists, KeepsMarks};
+ghost use Rattle.volume.specs.Plants.{PlantsIn, one_put};
 
 use crate::live::Live;
 use call_compiler::Batch;
 use message::Msg;
 use meta_index::MetaIndex;
 use pathkey::{Errno, NoMemory, Path};
-use reference::Meta;
+use reference::{GREATEST_FILE, Meta};
 use std::alloc::Global;
-
-/// The most bytes of a file.
-const GREATEST_FILE: u64 = 1 << 40;
 
 /// Plants an entry, by one message. A refusal changes nothing.
 pub(crate) fn plant(alloc: Global, live: &mut Live, path: &Path, meta: Meta) -> Result<(), Errno>
     ensures entry { PlantsIn path.now meta result live.old.indexes live.new.indexes }
+    ensures lists { IfOk result (λ _. KeepMarkedLists (one_put path.now meta) live.old live.new) }
     ensures marks { live.new.marks ≡ live.old.marks }
     ensures kept { KeepsMarks live.old live.new }
 {
@@ -70,7 +66,7 @@ fn is_too_long(meta: Meta) -> bool
 /// The messages that plant an entry.
 fn one_put(alloc: Global, path: &Path, meta: Meta) -> Result<Batch, NoMemory>
     ensures valid { IsPath path.now }
-    ensures messages { IfOk result (λ batch. messages batch ≡ record { meta = Message.Put (enc path.now) meta ∷ []; block = [] }) }
+    ensures messages { IfOk result (λ batch. messages batch ≡ one_put path.now meta) }
 {
     let put = Msg::Put(path.key().copy(alloc)?, meta);
     let mut msgs = Vec::with_capacity(alloc, 1)?;

@@ -1,10 +1,8 @@
 //! The lines of the first page that embed a volume: a file is written, kept by a snapshot and unlinked, and its length is told.
 use crate::asked::{USUAL, new_volume};
 use bytes::Bytes;
-use pathkey::{Errno, Path, SnapName};
-use reference::{Call, Kind, Reply};
 use std::alloc::Global;
-use volume::Volume;
+use volume::{Call, Errno, Kind, Path, Reply, SnapName, Volume};
 
 fn create(alloc: Global, volume: &mut Volume) -> Result<Reply, Errno> {
     let path = Path::parse(alloc, b"/notes")?;

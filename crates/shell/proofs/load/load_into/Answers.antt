@@ -1,7 +1,7 @@
-use Rattle.std.proofs.Common.{sym, subst, ◌∙◌}
+use Rattle.std.proofs.Common.{ap, sym, subst, ◌∙◌}
 use Rattle.reference.specs.Tree.{Dir, nothing}
 use Rattle.volume.specs.Volumes.{Means}
-use Rattle.shell.specs.Loads.{alone}
+use Rattle.shell.specs.Loads.{alone, form_of}
 use Rattle.shell.proofs.LoadFacts.{nothing_read, same_fault}
 use Rattle.shell.proofs.load.load_into.Goals as goal
 
@@ -15,3 +15,6 @@ returns-in-Err-clause-bad g c = λ n e. c.take_all.ensures.bad n (c.in-Err.is �
 
 pub returns-clause-loaded : goal.returns-clause-loaded
 returns-clause-loaded g c = c.in_default-take_all.ensures.ok
+
+pub returns-clause-form : goal.returns-clause-form
+returns-clause-form g c = c.in_default-take_all.ensures.form ∙ ap form_of c.new-loading.ensures.volume

@@ -1,10 +1,11 @@
 use Rattle.std.proofs.Common.{◌≡◌, subst}
-use Rattle.call_compiler.specs.Compiled.{messages}
+use Rattle.call_compiler.specs.Compiled.{Messages, messages}
 use Rattle.meta_index.specs.Means.{IsMeantBy}
 use Rattle.reference.specs.Calls.{first_fault}
 use Rattle.reference.specs.Plant.{faults_of_plant}
 use Rattle.reference.specs.Tree.{Tree}
 use Rattle.call_compiler.specs.declared.indexes.Indexes.{Indexes}
+use Rattle.volume.specs.Marked.{KeepMarkedLists}
 use Rattle.volume.proofs.Plants.{planted_in}
 use Rattle.volume.proofs.plant.plant.Goals as goal
 
@@ -17,3 +18,6 @@ returns-clause-entry c =
       no_meta = c.append.ensures.no_meta;
       no_block = c.append.ensures.no_block;
     })
+
+pub returns-clause-lists : goal.returns-clause-lists
+returns-clause-lists c = subst (λ (m : Messages). KeepMarkedLists m c.args.live.now c.append.new.self) c.in_ok-batch.ensures.messages c.in_ok-append.ensures.lists

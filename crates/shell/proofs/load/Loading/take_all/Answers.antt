@@ -6,6 +6,7 @@ use Rattle.shell.proofs.load.Loading.take_all.Goals as goal
 pub loop-init : goal.loop-init
 loop-init g c = record {
   room = c.requires.room;
+  form = refl;
   size = refl;
   read = reads_nothing _ _ _ c.requires.start;
 }
@@ -28,6 +29,10 @@ returns-in-Err-clause-bad g c = λ k e. piece_refused _ _ _ _ _ k _ c.loop.invar
 pub loop-preserved : goal.loop-preserved
 loop-preserved g c = record {
   room = c.take_piece.ensures.room;
+  form = c.in_default-take_piece.ensures.form ∙ c.loop.invariant.form;
   size = search rules;
   read = reads_piece _ _ _ _ _ _ _ _ c.loop.invariant.read c.in-Ok.ensures.ok c.in_default-take_piece.ensures.ok;
 }
+
+pub returns-then-n-eq0-clause-form : goal.returns-then-n-eq0-clause-form
+returns-then-n-eq0-clause-form g c = on_ok_map _ _ _ (λ loads. c.loop.invariant.form) c.end.ensures.ok

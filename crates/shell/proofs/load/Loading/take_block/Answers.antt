@@ -1,6 +1,6 @@
 use Rattle.std.proofs.Common.{ℕ, arith, rules, subst, sym}
 use Rattle.shell.specs.Loads.{FitsAt}
-use Rattle.shell.proofs.LoadFacts.{bad_number, block_at}
+use Rattle.shell.proofs.LoadFacts.{bad_number, block_at, counted_form}
 use Rattle.shell.proofs.load.Loading.take_block.Goals as goal
 
 pub offset_of-requires : goal.offset_of-requires
@@ -14,3 +14,6 @@ returns-clause-ok c = block_at c.args.self.now c.write_bytes.new.volume c.args.i
     c.from.ensures c.requires.number c.requires.block
     (subst (λ (k : ℕ). FitsAt c.args.index k c.args.self.now c.in-Some.offset) c.len.ensures.value c.in-Some.ensures.fits)
     (c.write_bytes.ensures (search rules))
+
+pub returns-clause-form : goal.returns-clause-form
+returns-clause-form c = counted_form _ _ _ (c.write_bytes.ensures (search rules))

@@ -1,10 +1,12 @@
-use Rattle.std.proofs.Common.{◌<◌, length, vec_capacity}
+use Rattle.std.proofs.Common.{◌≡◌, ◌<◌, length, vec_capacity}
+use Rattle.shell.specs.Loads.{form_of}
 use Rattle.shell.proofs.LoadCutting.{LoadsFront}
 use Rattle.shell.proofs.load.Loading.take_piece.Given as goal
 
 abbrev pub invariant-loop-end : goal.invariant-loop-end
 invariant-loop-end l = record {
   room : 65536 < vec_capacity l.held;
+  form : form_of l.self.volume ≡ form_of l.initial.self.volume;
   loads : LoadsFront l.piece l.rest l.initial.held.items l.held.items l.initial.self l.self;
 }
 

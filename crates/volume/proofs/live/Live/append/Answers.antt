@@ -3,8 +3,8 @@ use Rattle.std.specs.Prelude.{OnOk}
 use Rattle.call_compiler.specs.Compiled.{messages}
 use Rattle.jobs.specs.Marks.{kept_in}
 use Rattle.node.specs.Grafts.{KeepsLists}
-use Rattle.volume.specs.Marked.{PLive, KeepsMarks}
-use Rattle.volume.proofs.Marking.{AppendsKept, appended_lasts, appended_keeps}
+use Rattle.volume.specs.Marked.{PLive, KeepMarkedLists, KeepsMarks}
+use Rattle.volume.proofs.Marking.{AppendsKept, appended_lasts, appended_keeps, lists_kept}
 use Rattle.volume.proofs.live.Live.append.Goals as goal
 use Rattle.volume.proofs.live.Live.append.Goals.{After-drop-meta_kept-2}
 
@@ -30,3 +30,8 @@ pub returns-clause-kept : goal.returns-clause-kept
 returns-clause-kept c =
     let l : PLive = record { indexes = c.self.inside.indexes; marks = record { meta = c.self.inside.meta_marks; block = c.self.inside.block_marks; given = c.self.inside.given } } in
     subst (λ (x : PLive). KeepsMarks x (record l { indexes = c.append_kept.new.self })) c.self.view_is (appended_keeps c.append_kept.result (messages c.args.batch) l c.append_kept.new.self c.self.invariant (all c))
+
+pub returns-clause-lists : goal.returns-clause-lists
+returns-clause-lists c =
+    let l : PLive = record { indexes = c.self.inside.indexes; marks = record { meta = c.self.inside.meta_marks; block = c.self.inside.block_marks; given = c.self.inside.given } } in
+    subst (λ (x : PLive). OnOk c.append_kept.result (KeepMarkedLists (messages c.args.batch) x (record l { indexes = c.append_kept.new.self }))) c.self.view_is (lists_kept c.append_kept.result (messages c.args.batch) l c.append_kept.new.self (all c))

@@ -22,8 +22,8 @@ returns-clause-refused c = λ e h.
 pub returns-clause-batch : goal.returns-clause-batch
 returns-clause-batch c =
     let compiled = subst (λ (i : Indexes). IsCompiled i c.args.call.now c.in_ok-reply.reply (messages c.in_ok-reply.batch)) (ap (λ (x : PLive). x.indexes) c.self.view_is) c.in_ok-reply.ensures in
-    compiled_batched c.args.self.now.indexes c.append.new.self.indexes c.args.call.now c.in_ok-reply.reply (messages c.in_ok-reply.batch) compiled (record {
+    compiled_batched c.args.self.now c.append.new.self c.args.call.now c.in_ok-reply.reply (messages c.in_ok-reply.batch) compiled (record {
       taken = c.in_ok-append.ensures.done;
       no_meta = c.append.ensures.no_meta;
       no_block = c.append.ensures.no_block;
-    })
+    }) c.in_ok-append.ensures.lists
