@@ -1,12 +1,12 @@
 -- Live indexes with their marks: what stays of the marks where one index changes, or both take messages.
-use Rattle.std.proofs.Common.{◌≡◌, ℕ, ◌+◌, ◌<◌, ◌≤◌, ◌^◌, List, [], ◌∷◌, ◌++◌, length, refl, ap, sym, subst, absurd, arith, Option, None}
+use Rattle.std.proofs.Common.{◌≡◌, ℕ, ◌+◌, ◌≤◌, ◌^◌, List, [], ◌∷◌, ◌++◌, length, refl, ap, sym, subst, arith, Option}
 use Rattle.std.specs.Prelude.{Result, Ok, Err, OnOk, OnErr}
 use Rattle.block_index.specs.Updates.{means as block_means}
 use Rattle.block_index.specs.declared.update.BlockUpdate.{BlockUpdate}
 use Rattle.call_compiler.specs.Compiled.{Messages}
 use Rattle.call_compiler.specs.Laws.{HaveTaken}
 use Rattle.call_compiler.specs.declared.indexes.Indexes.{Indexes}
-use Rattle.jobs.specs.Marks.{PMarked, AreMarks, AllKept, Each, KeepsContent, kept_in, kept_numbers, without}
+use Rattle.jobs.specs.Marks.{PMarked, AreMarks, AllKept, Each, KeepsContent, kept_in, without}
 use Rattle.jobs.specs.Survive.{survives, left_by}
 use Rattle.jobs.specs.declared.mark.Mark.{Mark}
 use Rattle.jobs.proofs.Fitting.{keeps_fits, keeps_fits-here, keeps_fits-more}
@@ -15,11 +15,9 @@ use Rattle.jobs.proofs.MarkFacts.{each_without, fewer_without, marks_given, mark
 use Rattle.jobs.proofs.Stepping.{each_left, fewer_left}
 use Rattle.meta_index.specs.Updates.{means as meta_means}
 use Rattle.meta_index.specs.declared.update.MetaUpdate.{MetaUpdate}
-use Rattle.message.specs.declared.msg.Msg.{Msg}
-use Rattle.node.specs.Appended.{parts}
-use Rattle.node.specs.Grafts.{KeepLists, KeepsLists}
+use Rattle.node.specs.Grafts.{KeepsLists}
 use Rattle.node.specs.Places.{way}
-use Rattle.node.specs.Pure.{PNode, leaf, inner, PSlots, none, more, PTree}
+use Rattle.node.specs.Pure.{PTree}
 use Rattle.node.specs.RootSteps.{StepAnswers}
 use Rattle.node.specs.declared.place.TreeStep.{TreeStep}
 use Rattle.node.specs.declared.step.StepReply.{StepReply}
@@ -180,24 +178,3 @@ appended_keeps r msgs l new is h = record {
 pub lists_kept : {T X : Type 0} (r : Result T X) (msgs : Messages) (l : PLive) (new : Indexes) → AppendsKept r msgs l new → OnOk r (KeepMarkedLists msgs l (record l { indexes = new }))
 lists_kept (Ok x) msgs l new h = record { meta = h.meta; block = h.block }
 lists_kept (Err x) msgs l new h = tt
-
--- where no slot is marked, no list has to stay
-module _ {U V : Type 0} where
-  no_slots_kept : (ps : List (List (Msg U V))) (ss new : PSlots U V) → KeepLists (kept_numbers [] ss) ps ss new
-  no_slots_kept ps none new = tt
-  no_slots_kept [] (more lo old n ss) new = tt
-  no_slots_kept (p ∷ ps) (more lo old n ss) none = tt
-  no_slots_kept (p ∷ ps) (more lo old n ss) (more lo' new n' ss') = (λ some. absurd (omega (arith, some)), no_slots_kept ps ss ss')
-
-  no_lists_kept : (msgs : List (Msg U V)) (ms : List Mark) (a b : PNode U V) → length ms ≡ 0 → KeepsLists (kept_in ms a) msgs a b
-  no_lists_kept msgs [] (leaf es) (leaf new) e = tt
-  no_lists_kept msgs [] (leaf es) (inner new) e = tt
-  no_lists_kept msgs [] (inner ss) (leaf new) e = tt
-  no_lists_kept msgs [] (inner ss) (inner new) e = no_slots_kept (parts None msgs ss) ss new
-  no_lists_kept msgs (m ∷ ms) a b e = absurd (omega (arith, e))
-
-pub unmarked : (msgs : Messages) (l new : PLive) → length l.marks.meta ≡ 0 → length l.marks.block ≡ 0 → KeepMarkedLists msgs l new
-unmarked msgs l new m b = record {
-  meta = no_lists_kept msgs.meta l.marks.meta l.indexes.meta.tree.root new.indexes.meta.tree.root m;
-  block = no_lists_kept msgs.block l.marks.block l.indexes.block.tree.root new.indexes.block.tree.root b;
-}

@@ -1,9 +1,11 @@
-use Rattle.std.proofs.Common.{ℕ, List, ap, ◌∙◌, subst}
+use Rattle.std.proofs.Common.{ℕ, List, ap, ◌∙◌, subst, sym}
 use Rattle.std.specs.Prelude.{OnOk}
 use Rattle.call_compiler.specs.Compiled.{messages}
 use Rattle.jobs.specs.Marks.{kept_in}
 use Rattle.node.specs.Grafts.{KeepsLists}
 use Rattle.volume.specs.Marked.{PLive, KeepMarkedLists, KeepsMarks}
+use Rattle.volume.proofs.Leading.{kept_all}
+use Rattle.volume.proofs.Unmarked.{unmarked}
 use Rattle.volume.proofs.Marking.{AppendsKept, appended_lasts, appended_keeps, lists_kept}
 use Rattle.volume.proofs.live.Live.append.Goals as goal
 use Rattle.volume.proofs.live.Live.append.Goals.{After-drop-meta_kept-2}
@@ -35,3 +37,15 @@ pub returns-clause-lists : goal.returns-clause-lists
 returns-clause-lists c =
     let l : PLive = record { indexes = c.self.inside.indexes; marks = record { meta = c.self.inside.meta_marks; block = c.self.inside.block_marks; given = c.self.inside.given } } in
     subst (λ (x : PLive). OnOk c.append_kept.result (KeepMarkedLists (messages c.args.batch) x (record l { indexes = c.append_kept.new.self }))) c.self.view_is (lists_kept c.append_kept.result (messages c.args.batch) l c.append_kept.new.self (all c))
+
+pub returns-then-len-eq0-2-clause-lists : goal.returns-then-len-eq0-2-clause-lists
+returns-then-len-eq0-2-clause-lists c =
+    let l : PLive = record { indexes = c.self.inside.indexes; marks = record { meta = c.self.inside.meta_marks; block = c.self.inside.block_marks; given = c.self.inside.given } } in
+    subst (λ (x : PLive). OnOk c.append.result (KeepMarkedLists (messages c.args.batch) x (record l { indexes = c.append.new.self }))) c.self.view_is
+    (unmarked c.append.result (messages c.args.batch) l (record l { indexes = c.append.new.self }) (sym c.len.ensures ∙ c.if-len-eq0.true) (sym c.len-then-len-eq0.ensures ∙ c.if-len-eq0-2.true))
+
+pub returns-in_err-meta_kept-clause-kept : goal.returns-in_err-meta_kept-clause-kept
+returns-in_err-meta_kept-clause-kept c = kept_all c.args.self.now
+
+pub returns-in_err-block_kept-clause-kept : goal.returns-in_err-block_kept-clause-kept
+returns-in_err-block_kept-clause-kept c = kept_all c.args.self.now
