@@ -10,13 +10,14 @@ use crate::trees::{self, Append, Entries, Pair, Share};
 use crate::values::{index_of, meta_of, path_of, slot_of, step_of, tree_step_of, word_at};
 use crate::{images, lines, small};
 use jobs::Ticket;
+use node::StepKind;
 use pathkey::{NoMemory, SnapName};
 use shell::{Request, read_request};
 use std::alloc::Global;
 use std::fs::Files;
 use std::sync::Wait;
 use std::thread::Threads;
-use volume::{Frozen, Index, Volume};
+use volume::{Frozen, Index, Step, Volume};
 
 /// Does what a line asks for.
 fn line<R: Print>(
@@ -218,6 +219,22 @@ fn on_tree_of<R: Print>(
     on_tree(rt, alloc, &mut pair, words, out)
 }
 
+/// Tries a step. A root is raised before it is to be lowered.
+fn step<R: Print>(
+    rt: &R,
+    alloc: Global,
+    volume: &mut Volume,
+    step: Step,
+    out: &mut Vec<u8>,
+) -> bool {
+    if step.step.kind == StepKind::RootDown {
+        let mut raised = step;
+        raised.step.kind = StepKind::RootUp;
+        volume.step(alloc, raised);
+    }
+    ask(rt, alloc, volume, &mut Try(step), out)
+}
+
 /// What is done with a volume.
 fn on_volume<R: Print>(
     rt: &R,
@@ -231,7 +248,7 @@ fn on_volume<R: Print>(
         "line" => Some(line(rt, alloc, volume, word_at(words, 0)?, out)),
         "marked" => Some(marked(rt, alloc, volume, word_at(words, 0)?, out)),
         "plant" => plant(rt, alloc, volume, words, out),
-        "step" => Some(ask(rt, alloc, volume, &mut Try(step_of(words)?), out)),
+        "step" => Some(step(rt, alloc, volume, step_of(words)?, out)),
         "relieve" => Some(ask(rt, alloc, volume, &mut Relieve, out)),
         "cancel" => Some(ask(rt, alloc, volume, &mut Cancel::One(Ticket::of(0)), out)),
         "cancel_all" => Some(ask(rt, alloc, volume, &mut Cancel::All, out)),
