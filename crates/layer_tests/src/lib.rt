@@ -19,6 +19,7 @@ mod nodes;
 #[cfg(test)]
 mod pair;
 #[cfg(test)]
+mod refused;
 #[cfg(test)]
 mod rows;
 #[cfg(test)]

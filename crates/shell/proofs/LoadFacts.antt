@@ -339,8 +339,8 @@ same_form v w m b k = λ i. record { meta = m i; block = b i; marks = k i }
 
 -- messages that come to a tree leave its shape
 received_shape : {U V : Type 0} (means : U → Option V → Option V) (ms : List (Msg U V)) (a b : PTree U V) → Receives means ms a b → b.shape ≡ a.shape
-received_shape means [] a b h = ap (λ (t : PTree U V). t.shape) h
-received_shape means (m ∷ ms) a b h = h.shape_kept
+received_shape {U} {V} means [] a b h = ap (λ (t : PTree U V). t.shape) h
+received_shape {U} {V} means (m ∷ ms) a b h = h.shape_kept
 
 pub counted_form : (call : Call) (v w : PVolume) → Counts call v w → form_of w ≡ form_of v
 counted_form call v w h =

@@ -23,6 +23,7 @@ mod paces;
 #[cfg(test)]
 mod pieces;
 #[cfg(test)]
+mod refused;
 #[cfg(test)]
 mod replies;
 #[cfg(test)]
