@@ -1,1 +1,1 @@
-pub mod Alone
+pub mod Jobs

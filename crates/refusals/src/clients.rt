@@ -145,30 +145,11 @@ impl<'a, J: Naming, R: Wait> Deed<Served<'a, J, R>> for Made {
     }
 }
 
-/// A client and a flusher of one engine.
+/// A client that may restore a snapshot between the two holds of a turn, outside the two lines of the call.
 #[derive(Drop)]
-pub struct Crew<'a, J: Naming, R: Wait> {
+struct Meanwhile<'a, J: Naming, R: Wait> {
     served: Served<'a, J, R>,
-    flusher: Flusher<J>,
-}
-
-impl<'a, J: Naming, R: Wait> Subject for Crew<'a, J, R> {
-    fn show(&mut self, alloc: Global, out: &mut Vec<u8>) {
-        show(alloc, &mut self.served, out);
-    }
-}
-
-/// A turn of the flusher. The client may restore a snapshot between its two holds of the lock.
-#[derive(Drop)]
-struct Turn {
     restored: Option<SnapName>,
-}
-
-/// What comes between the two holds of a turn, outside the two lines of the call.
-#[derive(Drop)]
-struct Meanwhile<'b, 'a, J: Naming, R: Wait> {
-    served: &'b mut Served<'a, J, R>,
-    restored: &'b Option<SnapName>,
 }
 
 /// The client restores a snapshot.
@@ -178,13 +159,30 @@ fn restore<J: Naming, R: Wait + Print>(served: &mut Served<'_, J, R>, name: &Sna
     window::open(served.rt);
 }
 
-impl<'b, 'a, J: Naming, R: Wait + Print> Between for Meanwhile<'b, 'a, J, R> {
+impl<'a, J: Naming, R: Wait + Print> Between for Meanwhile<'a, J, R> {
     fn between(&mut self) {
-        if let Some(name) = self.restored {
-            restore(self.served, name);
+        if let Some(name) = &self.restored {
+            restore(&mut self.served, name);
         }
     }
 }
+
+/// A client and a flusher of one engine.
+#[derive(Drop)]
+struct Crew<'a, J: Naming, R: Wait> {
+    meanwhile: Meanwhile<'a, J, R>,
+    flusher: Flusher<J>,
+}
+
+impl<'a, J: Naming, R: Wait> Subject for Crew<'a, J, R> {
+    fn show(&mut self, alloc: Global, out: &mut Vec<u8>) {
+        show(alloc, &mut self.meanwhile.served, out);
+    }
+}
+
+/// A turn of the flusher.
+#[derive(Drop)]
+struct Turn;
 
 impl<'a, J: Naming, R: Wait + Print> Deed<Crew<'a, J, R>> for Turn {
     type Told = TurnReply;
@@ -194,12 +192,8 @@ impl<'a, J: Naming, R: Wait + Print> Deed<Crew<'a, J, R>> for Turn {
     }
 
     fn does(&mut self, alloc: Global, crew: &mut Crew<'a, J, R>) -> TurnReply {
-        let rt = crew.served.rt;
-        let mut between = Meanwhile {
-            served: &mut crew.served,
-            restored: &self.restored,
-        };
-        crew.flusher.turn(rt, alloc, &mut between)
+        let rt = crew.meanwhile.served.rt;
+        crew.flusher.turn(rt, alloc, &mut crew.meanwhile)
     }
 
     fn tell(&mut self, _alloc: Global, told: &TurnReply, out: &mut Vec<u8>) -> bool {
@@ -234,10 +228,11 @@ pub fn make_turn<J: Naming, R: Wait + Print>(
     turns: u32,
     out: &mut Vec<u8>,
 ) -> bool {
+    let served = Served { rt, client };
     let mut crew = Crew {
-        served: Served { rt, client },
+        meanwhile: Meanwhile { served, restored },
         flusher,
     };
     settle(rt, alloc, &mut crew.flusher, turns);
-    ask(rt, alloc, &mut crew, &mut Turn { restored }, out)
+    ask(rt, alloc, &mut crew, &mut Turn, out)
 }

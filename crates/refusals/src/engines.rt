@@ -1,6 +1,7 @@
 //! Engines: how they are opened and closed, and what their clients and flushers do.
 ghost use Rattle.std.specs.Prelude.{◌≡◌, IfErr};
-ghost use Rattle.engine.specs.Ends.{NoneTwice, GivesBack};
+ghost use Rattle.engine.specs.Ends.{NoneTwice};
+ghost use Rattle.refusals.specs.Apart.{BacksApart};
 
 use crate::clients::{Made, Served, make_turn};
 use crate::frame::ask;
@@ -191,12 +192,22 @@ fn close_asked<J: Naming, R: Wait + Print>(
     clients: Vec<Client<J>>,
 ) -> Result<Report, CloseFault<J>>
     requires { NoneTwice clients.items }
-    ensures { IfErr result (λ f. GivesBack engine clients.items f) }
+    ensures { IfErr result BacksApart }
 {
     window::open(rt);
     let ended = engine.close(rt, clients);
     window::close(rt);
     ended
+}
+
+/// Why an engine was not closed: memory was refused, and then it is closed again.
+fn close_refused<J: Naming, R: Wait>(rt: &R, alloc: Global, fault: CloseFault<J>, out: &mut Vec<u8>)
+    requires { BacksApart fault }
+{
+    match fault {
+        CloseFault::NoMemory(engine, clients) => close_again(rt, alloc, engine, clients, out),
+        CloseFault::Missing(_engine, _clients) => put(out, "missing\n"),
+    }
 }
 
 /// The same, and again where it is refused memory.
@@ -213,8 +224,7 @@ fn close<J: Naming, R: Wait + Print>(
     put(out, "== answer\n");
     match ended {
         Ok(report) => put_report(alloc, &report, out),
-        Err(CloseFault::NoMemory(engine, clients)) => close_again(rt, alloc, engine, clients, out),
-        Err(CloseFault::Missing(_, _)) => put(out, "missing\n"),
+        Err(fault) => close_refused(rt, alloc, fault, out),
     }
     true
 }

@@ -1,4 +1,11 @@
 //! Jobs: a call on a volume from which jobs were taken, and the building and installing of one.
+ghost use Rattle.std.specs.Prelude.{◌≡◌, IfErr, IfOk, IfSome};
+ghost use Rattle.volume.specs.Held.{AreHeld, IsHeld};
+ghost use Rattle.volume.specs.Jobs.{Builds, IfGivenBack};
+ghost use Rattle.volume.specs.Marked.{KeepsMarks};
+ghost use Rattle.volume.specs.Volumes.{live_of};
+ghost use Rattle.volume.specs.declared.held.Held.TheVariants.{Built, Taken};
+
 use crate::live::act;
 use crate::standing::show_volume;
 use crate::told::{put, put_answer, put_no_memory, put_number};
@@ -10,7 +17,10 @@ use volume::held::Held;
 use volume::{Answer, Done, Index, InstallReply, Job, TakeReply, Volume};
 
 /// Takes a job of a slot, if one can be taken, and holds it.
-fn take_one(alloc: Global, volume: &mut Volume, held: &mut Vec<Held>, index: Index, slot: u8) {
+fn take_one(alloc: Global, volume: &mut Volume, held: &mut Vec<Held>, index: Index, slot: u8)
+    requires { AreHeld (live_of volume.old) held.old.items }
+    ensures { AreHeld (live_of volume.new) held.new.items }
+{
     match volume.take_job(alloc, index, slot) {
         TakeReply::Taken(job) => {
             let _ = held.push(Held::Taken(job));
@@ -19,18 +29,30 @@ fn take_one(alloc: Global, volume: &mut Volume, held: &mut Vec<Held>, index: Ind
     }
 }
 
-/// Takes a job of each slot of both roots of which one can be taken.
-fn take_all(alloc: Global, volume: &mut Volume, held: &mut Vec<Held>) {
+/// Takes a job of each slot of an index's root of which one can be taken.
+fn take_of(alloc: Global, volume: &mut Volume, held: &mut Vec<Held>, index: Index)
+    requires { AreHeld (live_of volume.old) held.old.items }
+    ensures { AreHeld (live_of volume.new) held.new.items }
+{
     for slot in 0..4 {
-        take_one(alloc, volume, held, Index::Meta, slot);
-    }
-    for slot in 0..4 {
-        take_one(alloc, volume, held, Index::Block, slot);
+        take_one(alloc, volume, held, index, slot);
     }
 }
 
+/// The same of both.
+fn take_all(alloc: Global, volume: &mut Volume, held: &mut Vec<Held>)
+    requires { AreHeld (live_of volume.old) held.old.items }
+    ensures { AreHeld (live_of volume.new) held.new.items }
+{
+    take_of(alloc, volume, held, Index::Meta);
+    take_of(alloc, volume, held, Index::Block);
+}
+
 /// Installs what was built, and prints how that ended.
-fn install(volume: &mut Volume, done: Done, out: &mut Vec<u8>) {
+fn install(volume: &mut Volume, done: Done, out: &mut Vec<u8>)
+    requires { IsHeld (live_of volume.old) (Built done) }
+    ensures { KeepsMarks (live_of volume.old) (live_of volume.new) }
+{
     match volume.install(done) {
         InstallReply::Installed => put(out, "job installed\n"),
         InstallReply::Stale => put(out, "job stale\n"),
@@ -39,7 +61,10 @@ fn install(volume: &mut Volume, done: Done, out: &mut Vec<u8>) {
 }
 
 /// Builds a job and installs it.
-fn finish_job(alloc: Global, volume: &mut Volume, job: Job, out: &mut Vec<u8>) {
+fn finish_job(alloc: Global, volume: &mut Volume, job: Job, out: &mut Vec<u8>)
+    requires { IsHeld (live_of volume.old) (Taken job) }
+    ensures { KeepsMarks (live_of volume.old) (live_of volume.new) }
+{
     match job.build(alloc) {
         Ok(done) => install(volume, done, out),
         Err(_) => put(out, "job without memory\n"),
@@ -47,25 +72,52 @@ fn finish_job(alloc: Global, volume: &mut Volume, job: Job, out: &mut Vec<u8>) {
 }
 
 /// The same of a job that is held.
-fn finish_one(alloc: Global, volume: &mut Volume, held: Held, out: &mut Vec<u8>) {
+fn finish_one(alloc: Global, volume: &mut Volume, held: Held, out: &mut Vec<u8>)
+    requires { IsHeld (live_of volume.old) held }
+    ensures { KeepsMarks (live_of volume.old) (live_of volume.new) }
+{
     match held {
         Held::Taken(job) => finish_job(alloc, volume, job, out),
         Held::Built(done) => install(volume, done, out),
     }
 }
 
-/// The same of all jobs.
-fn finish_all(alloc: Global, volume: &mut Volume, mut held: Vec<Held>, out: &mut Vec<u8>) {
+/// The same of the last of those that are held, if there is one.
+fn finish_last(alloc: Global, volume: &mut Volume, held: &mut Vec<Held>, out: &mut Vec<u8>)
+    requires { AreHeld (live_of volume.old) held.old.items }
+    ensures { AreHeld (live_of volume.new) held.new.items }
+{
+    match held.pop() {
+        Some(job) => finish_one(alloc, volume, job, out),
+        None => {}
+    }
+}
+
+/// How many jobs are held at most: one of each slot of both roots.
+const MOST: usize = 8;
+
+/// The same of all.
+fn finish_all(alloc: Global, volume: &mut Volume, mut held: Vec<Held>, out: &mut Vec<u8>)
+    requires { AreHeld (live_of volume.old) held.items }
+{
     put(out, "== jobs\n");
-    while let Some(job) = held.pop() {
-        finish_one(alloc, volume, job, out);
+    for _ in 0..MOST {
+        finish_last(alloc, volume, &mut held, out);
     }
     put(out, "== after jobs\n");
     show_volume(alloc, volume, out);
 }
 
+/// Prints what stands, under a title.
+fn show(alloc: Global, volume: &Volume, title: &str, out: &mut Vec<u8>) {
+    put(out, title);
+    show_volume(alloc, volume, out);
+}
+
 /// Does what a line asks for between the two lines.
-fn act_asked<R: Print>(rt: &R, alloc: Global, volume: &mut Volume, request: &Request) -> Answer {
+fn act_asked<R: Print>(rt: &R, alloc: Global, volume: &mut Volume, request: &Request) -> Answer
+    ensures { KeepsMarks (live_of volume.old) (live_of volume.new) }
+{
     window::open(rt);
     let answer = act(alloc, volume, request);
     window::close(rt);
@@ -79,7 +131,9 @@ fn ask_beside<R: Print>(
     volume: &mut Volume,
     request: &Request,
     out: &mut Vec<u8>,
-) {
+)
+    ensures { KeepsMarks (live_of volume.old) (live_of volume.new) }
+{
     show(alloc, volume, "== before\n", out);
     let answer = act_asked(rt, alloc, volume, request);
     put(out, "== answer\n");
@@ -102,14 +156,11 @@ pub fn ask_marked<R: Print>(
     true
 }
 
-/// Prints what stands, under a title.
-fn show(alloc: Global, volume: &Volume, title: &str, out: &mut Vec<u8>) {
-    put(out, title);
-    show_volume(alloc, volume, out);
-}
-
 /// Builds a job between the two lines.
-fn build_asked<R: Print>(rt: &R, alloc: Global, job: Job) -> Result<Done, Job> {
+fn build_asked<R: Print>(rt: &R, alloc: Global, job: Job) -> Result<Done, Job>
+    ensures ok { IfOk result (λ d. Builds job d) }
+    ensures err { IfErr result (λ j. j ≡ job) }
+{
     window::open(rt);
     let built = job.build(alloc);
     window::close(rt);
@@ -117,7 +168,9 @@ fn build_asked<R: Print>(rt: &R, alloc: Global, job: Job) -> Result<Done, Job> {
 }
 
 /// Prints that a job was built, and what stands; then it is installed.
-fn install_built(alloc: Global, volume: &mut Volume, done: Done, out: &mut Vec<u8>) {
+fn install_built(alloc: Global, volume: &mut Volume, done: Done, out: &mut Vec<u8>)
+    requires { IsHeld (live_of volume.old) (Built done) }
+{
     put(out, "built\n");
     show(alloc, volume, "== after\n", out);
     put(out, "== jobs\n");
@@ -125,7 +178,9 @@ fn install_built(alloc: Global, volume: &mut Volume, done: Done, out: &mut Vec<u
 }
 
 /// Prints that memory was refused, and what stands; then the job is built again and installed.
-fn build_again(alloc: Global, volume: &mut Volume, job: Job, out: &mut Vec<u8>) {
+fn build_again(alloc: Global, volume: &mut Volume, job: Job, out: &mut Vec<u8>)
+    requires { IsHeld (live_of volume.old) (Taken job) }
+{
     put_no_memory(out);
     show(alloc, volume, "== after\n", out);
     put(out, "== jobs\n");
@@ -133,7 +188,10 @@ fn build_again(alloc: Global, volume: &mut Volume, job: Job, out: &mut Vec<u8>) 
 }
 
 /// Prints how the building of a job ended, and goes on with it.
-fn tell_built(alloc: Global, volume: &mut Volume, built: Result<Done, Job>, out: &mut Vec<u8>) {
+fn tell_built(alloc: Global, volume: &mut Volume, built: Result<Done, Job>, out: &mut Vec<u8>)
+    requires ok { IfOk built (λ d. IsHeld (live_of volume.old) (Built d)) }
+    requires err { IfErr built (λ j. IsHeld (live_of volume.old) (Taken j)) }
+{
     put(out, "== answer\n");
     match built {
         Ok(done) => install_built(alloc, volume, done, out),
@@ -142,7 +200,9 @@ fn tell_built(alloc: Global, volume: &mut Volume, built: Result<Done, Job>, out:
 }
 
 /// Builds a job that was taken between the two lines, again where that is refused memory, and installs it.
-fn build_job<R: Print>(rt: &R, alloc: Global, volume: &mut Volume, job: Job, out: &mut Vec<u8>) {
+fn build_job<R: Print>(rt: &R, alloc: Global, volume: &mut Volume, job: Job, out: &mut Vec<u8>)
+    requires { IsHeld (live_of volume.old) (Taken job) }
+{
     show(alloc, volume, "== before\n", out);
     let built = build_asked(rt, alloc, job);
     tell_built(alloc, volume, built, out);
@@ -150,7 +210,9 @@ fn build_job<R: Print>(rt: &R, alloc: Global, volume: &mut Volume, job: Job, out
 }
 
 /// The job of a slot, if one can be taken.
-fn job_of(alloc: Global, volume: &mut Volume, index: Index, slot: u8) -> Option<Job> {
+fn job_of(alloc: Global, volume: &mut Volume, index: Index, slot: u8) -> Option<Job>
+    ensures { IfSome result (λ j. IsHeld (live_of volume.new) (Taken j)) }
+{
     match volume.take_job(alloc, index, slot) {
         TakeReply::Taken(job) => Some(job),
         TakeReply::NotThere | TakeReply::NoRoom | TakeReply::NoMemory => None,
@@ -176,15 +238,23 @@ pub fn build<R: Print>(
 }
 
 /// What is built of a slot's job, if one can be taken.
-fn done_of(alloc: Global, volume: &mut Volume, index: Index, slot: u8) -> Option<Done> {
+fn done_of(alloc: Global, volume: &mut Volume, index: Index, slot: u8) -> Option<Done>
+    ensures { IfSome result (λ d. IsHeld (live_of volume.new) (Built d)) }
+{
     match job_of(alloc, volume, index, slot) {
-        Some(job) => job.build(alloc).ok(),
+        Some(job) => match job.build(alloc) {
+            Ok(done) => Some(done),
+            Err(_) => None,
+        },
         None => None,
     }
 }
 
 /// Installs between the two lines.
-fn install_asked<R: Print>(rt: &R, volume: &mut Volume, done: Done) -> InstallReply {
+fn install_asked<R: Print>(rt: &R, volume: &mut Volume, done: Done) -> InstallReply
+    requires { IsHeld (live_of volume.old) (Built done) }
+    ensures { IfGivenBack result (λ d. IsHeld (live_of volume.new) (Built d)) }
+{
     window::open(rt);
     let reply = volume.install(done);
     window::close(rt);
@@ -198,7 +268,9 @@ fn tell_ended(alloc: Global, volume: &Volume, answer: &str, out: &mut Vec<u8>) {
 }
 
 /// Prints that memory was refused, and what stands; then what was built is installed again.
-fn install_again(alloc: Global, volume: &mut Volume, done: Done, out: &mut Vec<u8>) {
+fn install_again(alloc: Global, volume: &mut Volume, done: Done, out: &mut Vec<u8>)
+    requires { IsHeld (live_of volume.old) (Built done) }
+{
     put_no_memory(out);
     show(alloc, volume, "== after\n", out);
     put(out, "== jobs\n");
@@ -207,7 +279,9 @@ fn install_again(alloc: Global, volume: &mut Volume, done: Done, out: &mut Vec<u
 }
 
 /// Prints how an installing ended, and does it again where it was refused memory.
-fn tell_installed(alloc: Global, volume: &mut Volume, reply: InstallReply, out: &mut Vec<u8>) {
+fn tell_installed(alloc: Global, volume: &mut Volume, reply: InstallReply, out: &mut Vec<u8>)
+    requires { IfGivenBack reply (λ d. IsHeld (live_of volume.old) (Built d)) }
+{
     put(out, "== answer\n");
     match reply {
         InstallReply::Installed => tell_ended(alloc, volume, "installed\n", out),
@@ -217,16 +291,21 @@ fn tell_installed(alloc: Global, volume: &mut Volume, reply: InstallReply, out: 
 }
 
 /// Installs what was built between the two lines, and again where that is refused memory.
-fn install_done<R: Print>(
-    rt: &R,
-    alloc: Global,
-    volume: &mut Volume,
-    done: Done,
-    out: &mut Vec<u8>,
-) {
+fn install_done<R: Print>(rt: &R, alloc: Global, volume: &mut Volume, done: Done, out: &mut Vec<u8>)
+    requires { IsHeld (live_of volume.old) (Built done) }
+{
     show(alloc, volume, "== before\n", out);
     let reply = install_asked(rt, volume, done);
     tell_installed(alloc, volume, reply, out);
+}
+
+/// Cancels the mark of what was built of a job, on demand.
+fn cancel_if(volume: &mut Volume, done: &Done, cancelled: bool)
+    ensures { KeepsMarks (live_of volume.old) (live_of volume.new) }
+{
+    if cancelled {
+        volume.cancel(done.ticket());
+    }
 }
 
 /// Installs what was built of a slot's job between the two lines. The mark of the job may be cancelled before.
@@ -241,9 +320,7 @@ pub fn install_one<R: Print>(
 ) -> bool {
     match done_of(alloc, volume, index, slot) {
         Some(done) => {
-            if cancelled {
-                volume.cancel(done.ticket());
-            }
+            cancel_if(volume, &done, cancelled);
             install_done(rt, alloc, volume, done, out);
             true
         }

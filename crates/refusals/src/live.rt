@@ -1,4 +1,7 @@
 //! Calls on a volume.
+ghost use Rattle.volume.specs.Marked.{KeepsMarks};
+ghost use Rattle.volume.specs.Volumes.{live_of};
+
 use crate::frame::Deed;
 use crate::standing::{Measures, measures_of, put_measures};
 use crate::told::{put_answer, put_ok, put_relief, put_settled, put_step, put_taking, reply_of};
@@ -18,7 +21,9 @@ pub struct Line {
 }
 
 /// What a line asks for that changes a volume.
-pub fn act(alloc: Global, volume: &mut Volume, request: &Request) -> Answer {
+pub fn act(alloc: Global, volume: &mut Volume, request: &Request) -> Answer
+    ensures { KeepsMarks (live_of volume.old) (live_of volume.new) }
+{
     match request {
         Request::Wanted(call) => Answer::Call(volume.call(alloc, call)),
         Request::Snapshot(name) => Answer::Snap(volume.snapshot(alloc, name)),
