@@ -19,8 +19,6 @@ mod nodes;
 #[cfg(test)]
 mod pair;
 #[cfg(test)]
-mod refused;
-#[cfg(test)]
 mod rows;
 #[cfg(test)]
 mod searches;

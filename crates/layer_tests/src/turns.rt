@@ -72,7 +72,7 @@ fn follow_behind(alloc: Global, first: &[Row], rows: &[Row]) -> Result<(), usize
 }
 
 /// Rows to a tree with two slots over leaves, of 1, 2 and of 5, 6, 7: the fifth key has cut the full leaf.
-pub const TWO_LEAVES: &[Row] = &[
+const TWO_LEAVES: &[Row] = &[
     (
         Turn::Append(&[
             Plain::Put(7, 0),
@@ -385,9 +385,6 @@ const COVERED: &[Row] = &[
 fn a_covered_leaf_goes(rt: HostRuntime) -> Result<(), usize> {
     follow_two_leaves(rt.alloc(), COVERED)
 }
-
-/// The tables that a tree with these two leaves goes through.
-pub const AFTER_TWO_LEAVES: &[&[Row]] = &[BOTH_SIDES, SPLIT, FIVE_MESSAGES, FIVE_ENTRIES, COVERED];
 
 /// The slot of the root that is to be flushed into its leaf next, if one is.
 fn heaviest_slot(tree: &Tree<Digit>) -> Option<u8> {

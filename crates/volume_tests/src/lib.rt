@@ -23,8 +23,6 @@ mod paces;
 #[cfg(test)]
 mod pieces;
 #[cfg(test)]
-mod refused;
-#[cfg(test)]
 mod replies;
 #[cfg(test)]
 mod runs;
