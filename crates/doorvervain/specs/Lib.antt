@@ -1,0 +1,3 @@
+-- What the exports say.
+pub mod Held
+pub mod Follows
