@@ -1,0 +1,2 @@
+-- What was told of a look is its reply.
+use Rattle.std.proofs.Common.{◌≡◌}
