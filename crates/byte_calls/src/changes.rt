@@ -1,8 +1,9 @@
 //! Calls that change a volume.
+ghost use Rattle.pathkey.specs.declared.errno.Errno.TheVariants.{ENOMEM};
 ghost use Rattle.pathkey.specs.Texts.{parsed};
 ghost use Rattle.volume.specs.Changes.{Called};
-ghost use Rattle.std.specs.Prelude.{◌≡◌};
-ghost use Rattle.byte_calls.specs.Changes.{Asks, Changes, asked, call_at, done_of, moved, told};
+ghost use Rattle.std.specs.Prelude.{◌≡◌, ◌⊎◌};
+ghost use Rattle.byte_calls.specs.Changes.{Asks, Changes, Refuses, asked, call_at, done_of, moved, told};
 
 use crate::replies::settled;
 use bytes::Bytes;
@@ -34,9 +35,9 @@ pub fn on_path(alloc: Global, volume: &mut Volume, what: PathCall, path: &[u8]) 
     ask(alloc, volume, &call_at(what, path))
 }
 
-/// Moves what stands at the first path to the second.
+/// Moves what stands at the first path to the second. Where memory is refused for the first, the second is not read.
 pub fn rename(alloc: Global, volume: &mut Volume, old: &[u8], new: &[u8]) -> Result<(), Errno>
-    ensures { Asks (moved (parsed old.now) (parsed new.now)) result volume.old volume.new }
+    ensures { Asks (moved (parsed old.now) (parsed new.now)) result volume.old volume.new ⊎ Refuses ENOMEM result volume.old volume.new }
 {
     let old = Path::parse(alloc, old)?;
     let new = Path::parse(alloc, new)?;

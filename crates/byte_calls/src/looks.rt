@@ -7,7 +7,7 @@ ghost use Rattle.byte_calls.specs.Looks.{Fills, Lists, OnPath, laid, letter_of, 
 
 use crate::replies::{data_of, meta_of, names_of};
 use pathkey::{Errno, NoMemory, Path};
-use reference::{Kind, Meta};
+use reference::{Call, Kind, Meta};
 use std::alloc::Global;
 use volume::{Frozen, Volume};
 
