@@ -1,20 +1,13 @@
-//! Probe
+//! The file system as a C library: a handle is a pointer to a volume that C holds, and each call takes it with numbers, texts and buffers.
+//!
+//! The exports are thin over `byte_calls`: each says what becomes of the volume that the handle holds. `include/doorvervain.h` has
+//! what C programs call, with the words of each function.
 #![tactic(auto)]
+
+mod changes;
 mod frozen;
 mod handle;
+mod looks;
+mod numbers;
 mod parts;
-use std::alloc::Global;
-use crate::frozen::FrozenHandle;
-use crate::handle::Handle;
-
-/// Ends a handle, and frees its volume.
-#[unsafe(no_mangle)]
-pub extern "C" fn doorvervain_raw_close(alloc: Global, fs: Handle) {
-    let _volume = fs.into_box(alloc);
-}
-
-/// Ends a handle, and frees its tree.
-#[unsafe(no_mangle)]
-pub extern "C" fn doorvervain_raw_thaw(alloc: Global, tree: FrozenHandle) {
-    let _tree = tree.into_box(alloc);
-}
+mod upkeep;
