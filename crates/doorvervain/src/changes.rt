@@ -57,7 +57,12 @@ pub extern "C" fn doorvervain_raw_rmtree(alloc: Global, fs: &mut Handle, path: &
 
 /// Moves what stands at the first path to the second.
 #[unsafe(no_mangle)]
-pub extern "C" fn doorvervain_raw_rename(alloc: Global, fs: &mut Handle, old: &[u8], new: &[u8]) -> u8
+pub extern "C" fn doorvervain_raw_rename(
+    alloc: Global,
+    fs: &mut Handle,
+    old: &[u8],
+    new: &[u8],
+) -> u8
     ensures { Asks (moved (parsed old.now) (parsed new.now)) (told_by result tt) fs.old.volume fs.new.volume ⊎ Refuses ENOMEM (told_by result tt) fs.old.volume fs.new.volume }
 {
     number(byte_calls::rename(alloc, fs.volume(), old, new))
@@ -65,7 +70,12 @@ pub extern "C" fn doorvervain_raw_rename(alloc: Global, fs: &mut Handle, old: &[
 
 /// Cuts a file to so many bytes, or lengthens it to them by zeros.
 #[unsafe(no_mangle)]
-pub extern "C" fn doorvervain_raw_truncate(alloc: Global, fs: &mut Handle, path: &[u8], length: u64) -> u8
+pub extern "C" fn doorvervain_raw_truncate(
+    alloc: Global,
+    fs: &mut Handle,
+    path: &[u8],
+    length: u64,
+) -> u8
     ensures { Asks (asked (λ p. ask.Truncate p length) (parsed path.now)) (told_by result tt) fs.old.volume fs.new.volume }
 {
     number(byte_calls::truncate(alloc, fs.volume(), path, length))

@@ -40,7 +40,11 @@ pub extern "C" fn doorvervain_raw_stat(
     ensures reply { OnPath (parsed path.now) (told_by result (meta_told kind_of.new length_of.new)) (λ p. Tells (ask.Stat p) (stat_reply (told_by result (meta_told kind_of.new length_of.new))) fs.old.volume.live) }
     ensures kept { fs.new.volume ≡ fs.old.volume }
 {
-    kind(byte_calls::stat(alloc, fs.volume(), path), kind_of, length_of)
+    kind(
+        byte_calls::stat(alloc, fs.volume(), path),
+        kind_of,
+        length_of,
+    )
 }
 
 /// Lists a directory of the live tree: for each entry `d` or `f`, its name and a byte 0. How many bytes that takes goes to `size`; they are
@@ -74,7 +78,10 @@ pub extern "C" fn doorvervain_raw_frozen_read(
     ensures buffer { Fills (told_by result got.new) out.old out.new }
     ensures kept { tree.new.tree ≡ tree.old.tree }
 {
-    count(byte_calls::frozen_read(alloc, tree.tree(), path, offset, out), got)
+    count(
+        byte_calls::frozen_read(alloc, tree.tree(), path, offset, out),
+        got,
+    )
 }
 
 /// What stands at a path of a frozen tree: 1 to `kind` for a directory or 2 for a file, and its length to `length`.
@@ -89,7 +96,11 @@ pub extern "C" fn doorvervain_raw_frozen_stat(
     ensures reply { OnPath (parsed path.now) (told_by result (meta_told kind_of.new length_of.new)) (λ p. Tells (ask.Stat p) (stat_reply (told_by result (meta_told kind_of.new length_of.new))) tree.old.tree) }
     ensures kept { tree.new.tree ≡ tree.old.tree }
 {
-    kind(byte_calls::frozen_stat(alloc, tree.tree(), path), kind_of, length_of)
+    kind(
+        byte_calls::frozen_stat(alloc, tree.tree(), path),
+        kind_of,
+        length_of,
+    )
 }
 
 /// Lists a directory of a frozen tree: for each entry `d` or `f`, its name and a byte 0. How many bytes that takes goes to `size`; they are
@@ -106,5 +117,8 @@ pub extern "C" fn doorvervain_raw_frozen_readdir(
     ensures refused { IfErr (told_by result size.new) (λ _. out.new ≡ out.old) }
     ensures kept { tree.new.tree ≡ tree.old.tree }
 {
-    count(byte_calls::frozen_readdir(alloc, tree.tree(), path, out), size)
+    count(
+        byte_calls::frozen_readdir(alloc, tree.tree(), path, out),
+        size,
+    )
 }

@@ -82,7 +82,11 @@ fn open(alloc: Global, shape: Shape, out: &mut *mut u8) -> Result<(), Errno> {
 }
 
 // Hands a tree out that was found.
-fn hand_out_tree(alloc: Global, tree: Result<Frozen, Errno>, out: &mut *mut u8) -> Result<(), Errno> {
+fn hand_out_tree(
+    alloc: Global,
+    tree: Result<Frozen, Errno>,
+    out: &mut *mut u8,
+) -> Result<(), Errno> {
     hand_out(alloc, tree?, out)
 }
 
