@@ -14,6 +14,10 @@ abbrev pub told_by : {A : Type 0} → ℕ → A → Result A Errno
 told_by zero x = Ok x
 told_by (suc n) x = Err (slice_index_or refusals n ENOSPC)
 
+-- the same, of a call that gives nothing
+abbrev pub told : ℕ → Result (Unit {0}) Errno
+told n = told_by n tt
+
 -- what the two numbers of a stat tell: 1 and any length for a directory, 2 and its length for a file
 abbrev pub meta_told : ℕ → ℕ → Meta
 meta_told (suc (suc n)) len = File len

@@ -8,7 +8,7 @@ ghost use Rattle.std.specs.Prelude.{◌≡◌, ◌⊎◌};
 ghost use Rattle.volume.specs.Changes.{Dropped, KeptAs, Restored};
 ghost use Rattle.byte_calls.specs.Changes.{Asks, Refuses, asked, moved};
 ghost use Rattle.byte_calls.specs.Snapshots.{SettlesNamed};
-ghost use Rattle.doorvervain.specs.Numbers.{told_by};
+ghost use Rattle.doorvervain.specs.Numbers.{told};
 
 use crate::handle::Handle;
 use crate::numbers::number;
@@ -18,7 +18,7 @@ use std::alloc::Global;
 /// Makes an empty directory.
 #[unsafe(no_mangle)]
 pub extern "C" fn doorvervain_raw_mkdir(alloc: Global, fs: &mut Handle, path: &[u8]) -> u8
-    ensures { Asks (asked ask.Mkdir (parsed path.now)) (told_by result tt) fs.old.volume fs.new.volume }
+    ensures { Asks (asked ask.Mkdir (parsed path.now)) (told result) fs.old.volume fs.new.volume }
 {
     number(byte_calls::on_path(alloc, fs.volume(), PathCall::Mkdir, path))
 }
@@ -26,7 +26,7 @@ pub extern "C" fn doorvervain_raw_mkdir(alloc: Global, fs: &mut Handle, path: &[
 /// Makes an empty file where nothing stands.
 #[unsafe(no_mangle)]
 pub extern "C" fn doorvervain_raw_create(alloc: Global, fs: &mut Handle, path: &[u8]) -> u8
-    ensures { Asks (asked ask.Create (parsed path.now)) (told_by result tt) fs.old.volume fs.new.volume }
+    ensures { Asks (asked ask.Create (parsed path.now)) (told result) fs.old.volume fs.new.volume }
 {
     number(byte_calls::on_path(alloc, fs.volume(), PathCall::Create, path))
 }
@@ -34,7 +34,7 @@ pub extern "C" fn doorvervain_raw_create(alloc: Global, fs: &mut Handle, path: &
 /// Takes a file out.
 #[unsafe(no_mangle)]
 pub extern "C" fn doorvervain_raw_unlink(alloc: Global, fs: &mut Handle, path: &[u8]) -> u8
-    ensures { Asks (asked ask.Unlink (parsed path.now)) (told_by result tt) fs.old.volume fs.new.volume }
+    ensures { Asks (asked ask.Unlink (parsed path.now)) (told result) fs.old.volume fs.new.volume }
 {
     number(byte_calls::on_path(alloc, fs.volume(), PathCall::Unlink, path))
 }
@@ -42,7 +42,7 @@ pub extern "C" fn doorvervain_raw_unlink(alloc: Global, fs: &mut Handle, path: &
 /// Takes an empty directory out.
 #[unsafe(no_mangle)]
 pub extern "C" fn doorvervain_raw_rmdir(alloc: Global, fs: &mut Handle, path: &[u8]) -> u8
-    ensures { Asks (asked ask.Rmdir (parsed path.now)) (told_by result tt) fs.old.volume fs.new.volume }
+    ensures { Asks (asked ask.Rmdir (parsed path.now)) (told result) fs.old.volume fs.new.volume }
 {
     number(byte_calls::on_path(alloc, fs.volume(), PathCall::Rmdir, path))
 }
@@ -50,7 +50,7 @@ pub extern "C" fn doorvervain_raw_rmdir(alloc: Global, fs: &mut Handle, path: &[
 /// Takes a file out, or a directory with all below it.
 #[unsafe(no_mangle)]
 pub extern "C" fn doorvervain_raw_rmtree(alloc: Global, fs: &mut Handle, path: &[u8]) -> u8
-    ensures { Asks (asked ask.Rmtree (parsed path.now)) (told_by result tt) fs.old.volume fs.new.volume }
+    ensures { Asks (asked ask.Rmtree (parsed path.now)) (told result) fs.old.volume fs.new.volume }
 {
     number(byte_calls::on_path(alloc, fs.volume(), PathCall::Rmtree, path))
 }
@@ -63,7 +63,7 @@ pub extern "C" fn doorvervain_raw_rename(
     old: &[u8],
     new: &[u8],
 ) -> u8
-    ensures { Asks (moved (parsed old.now) (parsed new.now)) (told_by result tt) fs.old.volume fs.new.volume ⊎ Refuses ENOMEM (told_by result tt) fs.old.volume fs.new.volume }
+    ensures { Asks (moved (parsed old.now) (parsed new.now)) (told result) fs.old.volume fs.new.volume ⊎ Refuses ENOMEM (told result) fs.old.volume fs.new.volume }
 {
     number(byte_calls::rename(alloc, fs.volume(), old, new))
 }
@@ -76,7 +76,7 @@ pub extern "C" fn doorvervain_raw_truncate(
     path: &[u8],
     length: u64,
 ) -> u8
-    ensures { Asks (asked (λ p. ask.Truncate p length) (parsed path.now)) (told_by result tt) fs.old.volume fs.new.volume }
+    ensures { Asks (asked (λ p. ask.Truncate p length) (parsed path.now)) (told result) fs.old.volume fs.new.volume }
 {
     number(byte_calls::truncate(alloc, fs.volume(), path, length))
 }
@@ -90,7 +90,7 @@ pub extern "C" fn doorvervain_raw_write(
     offset: u64,
     bytes: &[u8],
 ) -> u8
-    ensures { Asks (asked (λ p. ask.Write p offset bytes.now) (parsed path.now)) (told_by result tt) fs.old.volume fs.new.volume }
+    ensures { Asks (asked (λ p. ask.Write p offset bytes.now) (parsed path.now)) (told result) fs.old.volume fs.new.volume }
 {
     number(byte_calls::write(alloc, fs.volume(), path, offset, bytes))
 }
@@ -98,7 +98,7 @@ pub extern "C" fn doorvervain_raw_write(
 /// Keeps the live tree under a name.
 #[unsafe(no_mangle)]
 pub extern "C" fn doorvervain_raw_snapshot(alloc: Global, fs: &mut Handle, name: &[u8]) -> u8
-    ensures { SettlesNamed (snap_parsed name.now) TakeSnapshot KeptAs (told_by result tt) fs.old.volume fs.new.volume }
+    ensures { SettlesNamed (snap_parsed name.now) TakeSnapshot KeptAs (told result) fs.old.volume fs.new.volume }
 {
     number(byte_calls::snapshot(alloc, fs.volume(), name))
 }
@@ -106,7 +106,7 @@ pub extern "C" fn doorvervain_raw_snapshot(alloc: Global, fs: &mut Handle, name:
 /// Removes the snapshot of that name.
 #[unsafe(no_mangle)]
 pub extern "C" fn doorvervain_raw_drop(alloc: Global, fs: &mut Handle, name: &[u8]) -> u8
-    ensures { SettlesNamed (snap_parsed name.now) DropSnapshot Dropped (told_by result tt) fs.old.volume fs.new.volume }
+    ensures { SettlesNamed (snap_parsed name.now) DropSnapshot Dropped (told result) fs.old.volume fs.new.volume }
 {
     number(byte_calls::drop_snapshot(alloc, fs.volume(), name))
 }
@@ -114,7 +114,7 @@ pub extern "C" fn doorvervain_raw_drop(alloc: Global, fs: &mut Handle, name: &[u
 /// The live tree becomes that of the snapshot, which stays.
 #[unsafe(no_mangle)]
 pub extern "C" fn doorvervain_raw_restore(alloc: Global, fs: &mut Handle, name: &[u8]) -> u8
-    ensures { SettlesNamed (snap_parsed name.now) RestoreSnapshot Restored (told_by result tt) fs.old.volume fs.new.volume }
+    ensures { SettlesNamed (snap_parsed name.now) RestoreSnapshot Restored (told result) fs.old.volume fs.new.volume }
 {
     number(byte_calls::restore(alloc, fs.volume(), name))
 }

@@ -1,6 +1,6 @@
 //! Outcomes as numbers that C takes.
 ghost use Rattle.std.specs.Prelude.{◌≡◌};
-ghost use Rattle.doorvervain.specs.Numbers.{meta_told, told_by};
+ghost use Rattle.doorvervain.specs.Numbers.{meta_told, told, told_by};
 
 use pathkey::Errno;
 use reference::Meta;
@@ -16,7 +16,7 @@ const FILE: u8 = 2;
 
 /// The number of an outcome: 0, or that of the refusal.
 pub(crate) fn number(outcome: Result<(), Errno>) -> u8
-    ensures { told_by result tt ≡ outcome }
+    ensures { told result ≡ outcome }
 {
     match outcome {
         Ok(()) => DONE,
