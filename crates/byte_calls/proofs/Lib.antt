@@ -1,0 +1,3 @@
+-- Lemmas of the calls of texts and bytes.
+pub mod Asking
+pub mod Looking

@@ -1,0 +1,24 @@
+use Rattle.std.proofs.Common.{◌≡◌, ℕ, ◌+◌, sym, subst, add-one, Option, Some, None, false, IfSome}
+use Rattle.std.specs.Prelude.{is_some, not}
+use Rattle.volume.specs.Changes.{Stepped}
+use Rattle.volume.specs.Told.{busier}
+use Rattle.volume.specs.Volumes.{PVolume}
+use Rattle.volume.specs.declared.event.Relief.{Relief}
+use Rattle.byte_calls.specs.Upkeep.{Relieved, Relieves}
+use Rattle.byte_calls.proofs.upkeep.relieve.Goals as goal
+
+-- a step that was picked was tried
+tried : (o : Option Relief) (old new : PVolume) → is_some o ≡ not false → IfSome o (λ r. r.step.index ≡ busier old.live) → IfSome o (λ r. Stepped r.step r.reply old new) → Relieved old new
+tried None old new e i s = absurd (cc)
+tried (Some r) old new e i s = record { relief = r; index = i; stepped = s }
+
+one_more : (n : ℕ) (old between new : PVolume) → Relieves n old between → Relieved between new → Relieves (n + 1) old new
+one_more n old between new h k = subst (λ m. Relieves m old new) (sym (add-one n)) (between, h, k)
+
+pub loop-done-preserved : goal.loop-done-preserved
+loop-done-preserved c =
+    record {
+      steps = one_more c.loop-done.done c.args.volume.now c.loop-done.volume c.relieve.new.self c.loop-done.invariant.steps
+          (tried c.relieve.result c.loop-done.volume c.relieve.new.self (subst (λ b. is_some c.relieve.result ≡ not b) c.if-is_none.false c.is_none.ensures) c.relieve.ensures.busier c.relieve.ensures.stepped);
+      means = λ w m. c.relieve.ensures.means w (c.loop-done.invariant.means w m);
+    }

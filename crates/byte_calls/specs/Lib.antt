@@ -1,0 +1,5 @@
+-- What the calls of texts and bytes promise.
+pub mod Changes
+pub mod Looks
+pub mod Snapshots
+pub mod Upkeep

@@ -1,0 +1,93 @@
+-- Calls asked in texts that only look, and what they write into a buffer.
+use Rattle.std.specs.Prelude.{◌≡◌, ℕ, ◌≤◌, List, [], ◌∷◌, ◌++◌, length, take, drop, flat_map, nat_le, if◌then◌else◌, Result, Ok, Err, MatchResult}
+use Rattle.call_compiler.specs.declared.indexes.Indexes.{Indexes}
+use Rattle.pathkey.specs.Names.{Name, Path}
+use Rattle.pathkey.specs.declared.errno.Errno.{Errno}
+use Rattle.pathkey.specs.declared.errno.Errno.TheVariants.{EINVAL}
+use Rattle.reference.specs.declared.call.Call.TheVariants.{Readdir}
+use Rattle.reference.specs.declared.reply.Kind.{Kind}
+use Rattle.reference.specs.declared.reply.Kind.TheVariants.{Dir as Directory, File as Plain}
+use Rattle.reference.specs.declared.reply.Meta.{Meta}
+use Rattle.reference.specs.declared.reply.Meta.TheVariants.{Dir, File}
+use Rattle.reference.specs.declared.reply.Reply.{Reply}
+use Rattle.reference.specs.declared.reply.Reply.TheVariants.{Data, Stat, Names, Fault}
+use Rattle.volume.specs.Told.{Tells}
+
+-- a text that is no path is refused; else this holds of the path
+abbrev pub OnPath : {A : Type 0} → Result Path Errno → Result A Errno → (Path → Type 0) → Type 0
+OnPath read result P = MatchResult read P (λ e. result ≡ Err e)
+
+-- ---- bytes that were read
+
+-- how many bytes of a buffer were written
+abbrev pub filled : Result ℕ Errno → ℕ
+filled (Ok n) = n
+filled (Err e) = 0
+
+-- so many bytes were written at the front of the buffer, no more than it has, and the rest is as it was
+pub record Fills (result : Result ℕ Errno) (old new : List ℕ) : Type 0 where
+  pub fits : filled result ≤ length old
+  pub rest : drop (filled result) new ≡ drop (filled result) old
+
+-- the reply that was told by the front of a buffer
+abbrev pub read_reply : Result ℕ Errno → List ℕ → Reply
+read_reply (Ok n) out = Data (take n out)
+read_reply (Err e) out = Fault e
+
+-- the bytes of a reply to a read, or its refusal; no read is replied to otherwise
+abbrev pub data_of : Reply → Result (List ℕ) Errno
+data_of (Data bytes) = Ok bytes
+data_of (Fault e) = Err e
+data_of _ = Err EINVAL
+
+-- ---- what stands at a path
+
+-- the reply that was told by what stands there
+abbrev pub stat_reply : Result Meta Errno → Reply
+stat_reply (Ok Dir) = Stat Directory 0
+stat_reply (Ok (File len)) = Stat Plain len
+stat_reply (Err e) = Fault e
+
+-- what a reply to a stat says, or its refusal; no stat is replied to otherwise
+abbrev pub meta_of : Reply → Result Meta Errno
+meta_of (Stat Directory n) = Ok Dir
+meta_of (Stat Plain n) = Ok (File n)
+meta_of (Fault e) = Err e
+meta_of _ = Err EINVAL
+
+-- ---- the entries of a directory
+
+-- `d` or `f`
+abbrev pub letter_of : Kind → ℕ
+letter_of Directory = 100
+letter_of Plain = 102
+
+-- an entry as bytes: its letter, its name and a byte 0
+abbrev pub entry_bytes : Kind × Name → List ℕ
+entry_bytes e = letter_of e.0 ∷ e.1 ++ 0 ∷ []
+
+-- all entries, in their order
+abbrev pub listing_bytes : List (Kind × Name) → List ℕ
+listing_bytes es = flat_map entry_bytes es
+
+-- the buffer with bytes at its front, where they fit, and else as it was
+abbrev pub laid : List ℕ → List ℕ → List ℕ
+laid bytes out = if nat_le (length bytes) (length out) then bytes ++ drop (length bytes) out else out
+
+-- the entries of a reply to a listing, or its refusal; no listing is replied to otherwise
+abbrev pub names_of : Reply → Result (List (Kind × Name)) Errno
+names_of (Names es) = Ok es
+names_of (Fault e) = Err e
+names_of _ = Err EINVAL
+
+-- the entries that the tree has at the path, and how many bytes they take, which are in the buffer where they fit
+pub record ListsAll (p : Path) (i : Indexes) (n : ℕ) (old new : List ℕ) : Type 0 where
+  pub entries : List (Kind × Name)
+  pub tells : Tells (Readdir p) (Names entries) i
+  pub size : n ≡ length (listing_bytes entries)
+  pub buffer : new ≡ laid (listing_bytes entries) old
+
+-- the same, or the refusal, and the buffer is as it was
+abbrev pub Lists : Path → Indexes → Result ℕ Errno → List ℕ → List ℕ → Type 0
+Lists p i (Ok n) old new = ListsAll p i n old new
+Lists p i (Err e) old new = Tells (Readdir p) (Fault e) i × (new ≡ old)

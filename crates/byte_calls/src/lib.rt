@@ -1,0 +1,16 @@
+//! The calls of a file system as C asks them: paths and names are texts, bytes go in and out by buffers of the caller.
+//!
+//! Each function reads its texts, asks the volume or a frozen tree, and tells the reply. A text that is no path or no name is
+//! refused first, in the order of the arguments, and changes nothing. Contracts say what the volume's own say, of the texts.
+#![tactic(auto)]
+
+pub mod changes;
+pub mod looks;
+mod replies;
+pub mod snapshots;
+pub mod upkeep;
+
+pub use changes::{PathCall, on_path, rename, truncate, write};
+pub use looks::{frozen_read, frozen_readdir, frozen_stat, read, readdir, stat};
+pub use snapshots::{drop_snapshot, freeze, frozen, restore, snapshot};
+pub use upkeep::relieve;

@@ -1,0 +1,51 @@
+//! What is told of a reply.
+ghost use Rattle.std.specs.Prelude.{◌≡◌};
+ghost use Rattle.byte_calls.specs.Changes.{settled};
+ghost use Rattle.byte_calls.specs.Looks.{data_of, meta_of, names_of};
+
+use pathkey::Errno;
+use reference::{FileBytes, Kind, Listing, Meta, Reply};
+
+// Of a reply of which only a refusal counts.
+pub(crate) fn settled(reply: Reply) -> Result<(), Errno>
+    ensures { result ≡ settled reply }
+{
+    match reply {
+        Reply::Fault(fault) => Err(fault),
+        _ => Ok(()),
+    }
+}
+
+// Of a reply to a read. No read is replied to otherwise than by bytes or a refusal.
+pub(crate) fn data_of(reply: Reply) -> Result<FileBytes, Errno>
+    ensures { result ≡ data_of reply }
+{
+    match reply {
+        Reply::Data(bytes) => Ok(bytes),
+        Reply::Fault(fault) => Err(fault),
+        _ => Err(Errno::EINVAL),
+    }
+}
+
+// Of a reply to a stat. No stat is replied to otherwise than by what stands there or a refusal.
+pub(crate) fn meta_of(reply: Reply) -> Result<Meta, Errno>
+    ensures { result ≡ meta_of reply }
+{
+    match reply {
+        Reply::Stat(Kind::Dir, _) => Ok(Meta::Dir),
+        Reply::Stat(Kind::File, len) => Ok(Meta::File { len }),
+        Reply::Fault(fault) => Err(fault),
+        _ => Err(Errno::EINVAL),
+    }
+}
+
+// Of a reply to a listing. No listing is replied to otherwise than by entries or a refusal.
+pub(crate) fn names_of(reply: Reply) -> Result<Listing, Errno>
+    ensures { result ≡ names_of reply }
+{
+    match reply {
+        Reply::Names(entries) => Ok(entries),
+        Reply::Fault(fault) => Err(fault),
+        _ => Err(Errno::EINVAL),
+    }
+}

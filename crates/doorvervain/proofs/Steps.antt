@@ -1,0 +1,36 @@
+-- The names that the walks of this crate use.
+pub use Rattle.std.proofs.Common.{◌≡◌, ℕ, List, [], ◌∷◌, ◌++◌, refl, sym, ap, ◌∙◌, subst}
+pub use Rattle.std.proofs.raw_atomic.Walks.{proved, proved_at}
+pub use Rattle.std.proofs.VecSteps.Shapes.{after}
+pub use base.Fraction.{full_share}
+pub use base.Logic.{SProp, ent, id⊢, never, fst∗, sep}
+pub use base.Fml.{Fml, Lft, Share, GName, ftrue, flft, fsep, fex}
+pub use mir.Syntax.{Fn, named}
+pub use mir.MapTy.{inst_fn}
+pub use mir.Val.{Val, vptr, vstruct, vcons, vnil, of_list, has_ty, WT}
+pub use mir.Raw.{raw as bare}
+pub use lib.Dec.{T}
+pub use prog.Wp.{WpFn}
+pub use contract.Monad.{fact}
+pub use contract.BorrowLft.{◌⊑◌}
+pub use contract.Running.{tables}
+pub use types.Logic.{Logic, sem}
+pub use types.Kit.{Goal, Item, Seq, ‵, raw, ◌⊛◌, some, later, at_ret, ◌$◌, ◌∵◌, !, qed, move, keep, drop, use1, split, split3, join, pick, fsplit, fsplit3, fjoin, fpick, fpack, feq_i, feq_l, await, rewrite, suffices, frame, group, done}
+pub use types.Part.{whole, sub, look_in, agg}
+pub use types.Run.{enter, of_opd, addr, load, stop, fld, no_more, and_then, first, blocks, exec, returns}
+pub use types.ByLocal.{alloc_all, pass_all, free_all, look_at, get, get_in, through, sets, sets_last, lands_last, env}
+pub use denote.Exit.{yes, no}
+pub use denote.Laws.{shows}
+pub use denote.Memory.{part_at, mem, cell_at}
+pub use denote.RattleType.{RattleType}
+pub use denote.RawPtr.{Ptr, block_ptr, null_ptr, ptr_val, in_a_block}
+pub use denote.Ref.{MutRef, mut_vals, mut_Tells}
+pub use denote.Signature.{plain, mut_ref_to, type_at}
+pub use denote.Steps.{nothing, opens, peeks, heard, only}
+pub use denote.Triple.Call.{calls_at_last}
+pub use denote.Triple.Spec.{triple_of}
+pub use denote.Triple.Table.{framed}
+pub use denote.Triple.Clauses.{Ended}
+pub use denote.Triple.Walked.{Stays, walk_of, says, stay_dropped, ends_at, Goes-dropped, Goes-spent_ref}
+pub use Rattle.std.proofs.alloc.Calls.{token, handle_tells, Goes-blank}
+pub use Rattle.std.specs.Box.Ownership.{box_owns}

@@ -1,0 +1,28 @@
+-- Borrows of what handles hold.
+use base.Fml.{Fml}
+use denote.Ref.{MutBor}
+use denote.Follow.{follows}
+use Rattle.call_compiler.specs.declared.indexes.Indexes.{Indexes}
+use Rattle.volume.specs.Volumes.{PVolume}
+use Rattle.volume.specs.contracts.volume.Volume.{the_row as volume_row}
+use Rattle.volume.specs.contracts.frozen.Frozen.{the_row as frozen_row}
+use Rattle.doorvervain.specs.declared.handle.Handle.{Handle}
+use Rattle.doorvervain.specs.declared.frozen.FrozenHandle.{FrozenHandle}
+use Rattle.doorvervain.specs.contracts.handle.Handle.{the_row as handle_row}
+use Rattle.doorvervain.specs.contracts.frozen.FrozenHandle.{the_row as frozen_handle_row}
+
+-- the handle once its volume is v
+abbrev pub with_volume : Handle → PVolume → Handle
+with_volume h v = record h { volume = v }
+
+-- once the borrow r ends, the handle behind b holds the last volume written through r
+abbrev pub handle_follows : MutBor Handle → MutBor PVolume → Fml
+handle_follows b r = follows handle_row volume_row b.ghost_name r.ghost_name (with_volume b.now)
+
+-- the handle once its tree is i
+abbrev pub with_tree : FrozenHandle → Indexes → FrozenHandle
+with_tree h i = record h { tree = i }
+
+-- once the borrow r ends, the handle behind b holds the last tree written through r
+abbrev pub frozen_follows : MutBor FrozenHandle → MutBor Indexes → Fml
+frozen_follows b r = follows frozen_handle_row frozen_row b.ghost_name r.ghost_name (with_tree b.now)

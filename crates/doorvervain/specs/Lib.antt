@@ -1,0 +1,4 @@
+-- What the exports say.
+pub mod Held
+pub mod Follows
+pub mod Numbers

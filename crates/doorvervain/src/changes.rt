@@ -1,0 +1,120 @@
+//! Exports of the calls that change a volume.
+ghost use Rattle.pathkey.specs.declared.errno.Errno.TheVariants.{ENOMEM};
+ghost use Rattle.pathkey.specs.SnapNames.{snap_parsed};
+ghost use Rattle.pathkey.specs.Texts.{parsed};
+ghost use Rattle.reference.specs.declared.call.Call.TheVariants as ask;
+ghost use Rattle.reference.specs.Worlds.{DropSnapshot, RestoreSnapshot, TakeSnapshot};
+ghost use Rattle.std.specs.Prelude.{◌≡◌, ◌⊎◌};
+ghost use Rattle.volume.specs.Changes.{Dropped, KeptAs, Restored};
+ghost use Rattle.byte_calls.specs.Changes.{Asks, Refuses, asked, moved};
+ghost use Rattle.byte_calls.specs.Snapshots.{SettlesNamed};
+ghost use Rattle.doorvervain.specs.Numbers.{told};
+
+use crate::handle::Handle;
+use crate::numbers::number;
+use byte_calls::PathCall;
+use std::alloc::Global;
+
+/// Makes an empty directory.
+#[unsafe(no_mangle)]
+pub extern "C" fn doorvervain_raw_mkdir(alloc: Global, fs: &mut Handle, path: &[u8]) -> u8
+    ensures { Asks (asked ask.Mkdir (parsed path.now)) (told result) fs.old.volume fs.new.volume }
+{
+    number(byte_calls::on_path(alloc, fs.volume(), PathCall::Mkdir, path))
+}
+
+/// Makes an empty file where nothing stands.
+#[unsafe(no_mangle)]
+pub extern "C" fn doorvervain_raw_create(alloc: Global, fs: &mut Handle, path: &[u8]) -> u8
+    ensures { Asks (asked ask.Create (parsed path.now)) (told result) fs.old.volume fs.new.volume }
+{
+    number(byte_calls::on_path(alloc, fs.volume(), PathCall::Create, path))
+}
+
+/// Takes a file out.
+#[unsafe(no_mangle)]
+pub extern "C" fn doorvervain_raw_unlink(alloc: Global, fs: &mut Handle, path: &[u8]) -> u8
+    ensures { Asks (asked ask.Unlink (parsed path.now)) (told result) fs.old.volume fs.new.volume }
+{
+    number(byte_calls::on_path(alloc, fs.volume(), PathCall::Unlink, path))
+}
+
+/// Takes an empty directory out.
+#[unsafe(no_mangle)]
+pub extern "C" fn doorvervain_raw_rmdir(alloc: Global, fs: &mut Handle, path: &[u8]) -> u8
+    ensures { Asks (asked ask.Rmdir (parsed path.now)) (told result) fs.old.volume fs.new.volume }
+{
+    number(byte_calls::on_path(alloc, fs.volume(), PathCall::Rmdir, path))
+}
+
+/// Takes a file out, or a directory with all below it.
+#[unsafe(no_mangle)]
+pub extern "C" fn doorvervain_raw_rmtree(alloc: Global, fs: &mut Handle, path: &[u8]) -> u8
+    ensures { Asks (asked ask.Rmtree (parsed path.now)) (told result) fs.old.volume fs.new.volume }
+{
+    number(byte_calls::on_path(alloc, fs.volume(), PathCall::Rmtree, path))
+}
+
+/// Moves what stands at the first path to the second.
+#[unsafe(no_mangle)]
+pub extern "C" fn doorvervain_raw_rename(
+    alloc: Global,
+    fs: &mut Handle,
+    old: &[u8],
+    new: &[u8],
+) -> u8
+    ensures { Asks (moved (parsed old.now) (parsed new.now)) (told result) fs.old.volume fs.new.volume ⊎ Refuses ENOMEM (told result) fs.old.volume fs.new.volume }
+{
+    number(byte_calls::rename(alloc, fs.volume(), old, new))
+}
+
+/// Cuts a file to so many bytes, or lengthens it to them by zeros.
+#[unsafe(no_mangle)]
+pub extern "C" fn doorvervain_raw_truncate(
+    alloc: Global,
+    fs: &mut Handle,
+    path: &[u8],
+    length: u64,
+) -> u8
+    ensures { Asks (asked (λ p. ask.Truncate p length) (parsed path.now)) (told result) fs.old.volume fs.new.volume }
+{
+    number(byte_calls::truncate(alloc, fs.volume(), path, length))
+}
+
+/// Lays the bytes over a file from the offset on: all of them, or none.
+#[unsafe(no_mangle)]
+pub extern "C" fn doorvervain_raw_write(
+    alloc: Global,
+    fs: &mut Handle,
+    path: &[u8],
+    offset: u64,
+    bytes: &[u8],
+) -> u8
+    ensures { Asks (asked (λ p. ask.Write p offset bytes.now) (parsed path.now)) (told result) fs.old.volume fs.new.volume }
+{
+    number(byte_calls::write(alloc, fs.volume(), path, offset, bytes))
+}
+
+/// Keeps the live tree under a name.
+#[unsafe(no_mangle)]
+pub extern "C" fn doorvervain_raw_snapshot(alloc: Global, fs: &mut Handle, name: &[u8]) -> u8
+    ensures { SettlesNamed (snap_parsed name.now) TakeSnapshot KeptAs (told result) fs.old.volume fs.new.volume }
+{
+    number(byte_calls::snapshot(alloc, fs.volume(), name))
+}
+
+/// Removes the snapshot of that name.
+#[unsafe(no_mangle)]
+pub extern "C" fn doorvervain_raw_drop(alloc: Global, fs: &mut Handle, name: &[u8]) -> u8
+    ensures { SettlesNamed (snap_parsed name.now) DropSnapshot Dropped (told result) fs.old.volume fs.new.volume }
+{
+    number(byte_calls::drop_snapshot(alloc, fs.volume(), name))
+}
+
+/// The live tree becomes that of the snapshot, which stays.
+#[unsafe(no_mangle)]
+pub extern "C" fn doorvervain_raw_restore(alloc: Global, fs: &mut Handle, name: &[u8]) -> u8
+    ensures { SettlesNamed (snap_parsed name.now) RestoreSnapshot Restored (told result) fs.old.volume fs.new.volume }
+{
+    number(byte_calls::restore(alloc, fs.volume(), name))
+}

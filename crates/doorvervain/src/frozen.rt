@@ -1,0 +1,20 @@
+//! A frozen tree as C holds it: a pointer, and with it the right to the tree there.
+ghost use Rattle.call_compiler.specs.declared.indexes.Indexes.{Indexes};
+ghost use Rattle.volume.specs.contracts.frozen.Frozen.{the_row as frozen_row};
+ghost use Rattle.doorvervain.specs.Held.{held_at};
+
+mod give;
+mod lend;
+
+use std::marker::Model;
+
+/// The right to a frozen tree, and to free it. In C a struct of one pointer.
+#[repr(C)]
+pub struct FrozenHandle {
+    at: *mut u8,
+    pub ghost tree: { Indexes } by { frozen_row.coded },
+}
+
+impl Model for FrozenHandle {
+    ghost also_owns = { λ h. held_at frozen_row h.at h.tree };
+}

@@ -1,0 +1,124 @@
+//! Exports of the calls that only look: the volume, or the tree, is as it was.
+ghost use Rattle.pathkey.specs.Texts.{parsed};
+ghost use Rattle.reference.specs.declared.call.Call.TheVariants as ask;
+ghost use Rattle.std.specs.Prelude.{◌≡◌, IfErr, length};
+ghost use Rattle.volume.specs.Told.{Tells};
+ghost use Rattle.byte_calls.specs.Looks.{Fills, Lists, OnPath, read_reply, stat_reply};
+ghost use Rattle.doorvervain.specs.Numbers.{meta_told, told_by};
+
+use crate::frozen::FrozenHandle;
+use crate::handle::Handle;
+use crate::numbers::{count, kind};
+use std::alloc::Global;
+
+/// Reads a file of the live tree from the offset on into the front of the buffer: how many bytes goes to `got`.
+#[unsafe(no_mangle)]
+pub extern "C" fn doorvervain_raw_read(
+    alloc: Global,
+    fs: &mut Handle,
+    path: &[u8],
+    offset: u64,
+    out: &mut [u8],
+    got: &mut usize,
+) -> u8
+    ensures reply { OnPath (parsed path.now) (told_by result got.new) (λ p. Tells (ask.Read p offset (length out.old)) (read_reply (told_by result got.new) out.new) fs.old.volume.live) }
+    ensures buffer { Fills (told_by result got.new) out.old out.new }
+    ensures kept { fs.new.volume ≡ fs.old.volume }
+{
+    count(byte_calls::read(alloc, fs.volume(), path, offset, out), got)
+}
+
+/// What stands at a path of the live tree: 1 to `kind` for a directory or 2 for a file, and its length to `length`.
+#[unsafe(no_mangle)]
+pub extern "C" fn doorvervain_raw_stat(
+    alloc: Global,
+    fs: &mut Handle,
+    path: &[u8],
+    kind_of: &mut u8,
+    length_of: &mut u64,
+) -> u8
+    ensures reply { OnPath (parsed path.now) (told_by result (meta_told kind_of.new length_of.new)) (λ p. Tells (ask.Stat p) (stat_reply (told_by result (meta_told kind_of.new length_of.new))) fs.old.volume.live) }
+    ensures kept { fs.new.volume ≡ fs.old.volume }
+{
+    kind(
+        byte_calls::stat(alloc, fs.volume(), path),
+        kind_of,
+        length_of,
+    )
+}
+
+/// Lists a directory of the live tree: for each entry `d` or `f`, its name and a byte 0. How many bytes that takes goes to `size`; they are
+/// written where the buffer has room for all of them.
+#[unsafe(no_mangle)]
+pub extern "C" fn doorvervain_raw_readdir(
+    alloc: Global,
+    fs: &mut Handle,
+    path: &[u8],
+    out: &mut [u8],
+    size: &mut usize,
+) -> u8
+    ensures reply { OnPath (parsed path.now) (told_by result size.new) (λ p. Lists p fs.old.volume.live (told_by result size.new) out.old out.new) }
+    ensures refused { IfErr (told_by result size.new) (λ _. out.new ≡ out.old) }
+    ensures kept { fs.new.volume ≡ fs.old.volume }
+{
+    count(byte_calls::readdir(alloc, fs.volume(), path, out), size)
+}
+
+/// Reads a file of a frozen tree from the offset on into the front of the buffer: how many bytes goes to `got`.
+#[unsafe(no_mangle)]
+pub extern "C" fn doorvervain_raw_frozen_read(
+    alloc: Global,
+    tree: &mut FrozenHandle,
+    path: &[u8],
+    offset: u64,
+    out: &mut [u8],
+    got: &mut usize,
+) -> u8
+    ensures reply { OnPath (parsed path.now) (told_by result got.new) (λ p. Tells (ask.Read p offset (length out.old)) (read_reply (told_by result got.new) out.new) tree.old.tree) }
+    ensures buffer { Fills (told_by result got.new) out.old out.new }
+    ensures kept { tree.new.tree ≡ tree.old.tree }
+{
+    count(
+        byte_calls::frozen_read(alloc, tree.tree(), path, offset, out),
+        got,
+    )
+}
+
+/// What stands at a path of a frozen tree: 1 to `kind` for a directory or 2 for a file, and its length to `length`.
+#[unsafe(no_mangle)]
+pub extern "C" fn doorvervain_raw_frozen_stat(
+    alloc: Global,
+    tree: &mut FrozenHandle,
+    path: &[u8],
+    kind_of: &mut u8,
+    length_of: &mut u64,
+) -> u8
+    ensures reply { OnPath (parsed path.now) (told_by result (meta_told kind_of.new length_of.new)) (λ p. Tells (ask.Stat p) (stat_reply (told_by result (meta_told kind_of.new length_of.new))) tree.old.tree) }
+    ensures kept { tree.new.tree ≡ tree.old.tree }
+{
+    kind(
+        byte_calls::frozen_stat(alloc, tree.tree(), path),
+        kind_of,
+        length_of,
+    )
+}
+
+/// Lists a directory of a frozen tree: for each entry `d` or `f`, its name and a byte 0. How many bytes that takes goes to `size`; they are
+/// written where the buffer has room for all of them.
+#[unsafe(no_mangle)]
+pub extern "C" fn doorvervain_raw_frozen_readdir(
+    alloc: Global,
+    tree: &mut FrozenHandle,
+    path: &[u8],
+    out: &mut [u8],
+    size: &mut usize,
+) -> u8
+    ensures reply { OnPath (parsed path.now) (told_by result size.new) (λ p. Lists p tree.old.tree (told_by result size.new) out.old out.new) }
+    ensures refused { IfErr (told_by result size.new) (λ _. out.new ≡ out.old) }
+    ensures kept { tree.new.tree ≡ tree.old.tree }
+{
+    count(
+        byte_calls::frozen_readdir(alloc, tree.tree(), path, out),
+        size,
+    )
+}

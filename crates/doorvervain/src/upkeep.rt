@@ -1,0 +1,100 @@
+//! Exports that make handles and end them, and tree steps.
+ghost use Rattle.std.specs.Prelude.{◌≡◌, ◌≤◌, ◌<◌, ◌↔◌, false};
+ghost use Rattle.node.specs.Shapes.{is_shape};
+ghost use Rattle.reference.specs.Worlds.{World};
+ghost use Rattle.volume.specs.Volumes.{Means};
+ghost use Rattle.byte_calls.specs.Upkeep.{IsIdle, Relieves};
+
+use crate::frozen::FrozenHandle;
+use crate::handle::Handle;
+use crate::numbers::number;
+use node::Shape;
+use pathkey::Errno;
+use std::alloc::Global;
+use volume::{Frozen, Volume};
+
+/// Makes a volume of the empty root directory in trees of this shape, and writes the pointer of its handle to `out`: 0, or EINVAL where
+/// the shape is not ok, or ENOMEM.
+#[unsafe(no_mangle)]
+pub extern "C" fn doorvervain_raw_open(
+    alloc: Global,
+    fanout: u16,
+    pending: u16,
+    leaf: u16,
+    out: &mut *mut u8,
+) -> u8 {
+    let shape = Shape {
+        fanout,
+        pending,
+        leaf,
+    };
+    number(open(alloc, shape, out))
+}
+
+/// Ends a handle, and frees its volume.
+#[unsafe(no_mangle)]
+pub extern "C" fn doorvervain_raw_close(alloc: Global, fs: Handle) {
+    let _volume = fs.into_box(alloc);
+}
+
+/// Freezes the live tree as it stands, and writes the pointer of its handle to `out`: 0, or ENOMEM.
+#[unsafe(no_mangle)]
+pub extern "C" fn doorvervain_raw_freeze(alloc: Global, fs: &mut Handle, out: &mut *mut u8) -> u8
+    ensures kept { fs.new.volume ≡ fs.old.volume }
+{
+    number(hand_out_tree(alloc, byte_calls::freeze(fs.volume()), out))
+}
+
+/// The tree of a snapshot, whose handle's pointer is written to `out`: 0, or why there is none.
+#[unsafe(no_mangle)]
+pub extern "C" fn doorvervain_raw_frozen(
+    alloc: Global,
+    fs: &mut Handle,
+    name: &[u8],
+    out: &mut *mut u8,
+) -> u8
+    ensures kept { fs.new.volume ≡ fs.old.volume }
+{
+    number(hand_out_tree(alloc, byte_calls::frozen(alloc, fs.volume(), name), out))
+}
+
+/// Ends a handle, and frees its tree.
+#[unsafe(no_mangle)]
+pub extern "C" fn doorvervain_raw_thaw(alloc: Global, tree: FrozenHandle) {
+    let _tree = tree.into_box(alloc);
+}
+
+/// Tries at most so many tree steps: how many. The volume means what it meant.
+#[unsafe(no_mangle)]
+pub extern "C" fn doorvervain_raw_relieve(alloc: Global, fs: &mut Handle, steps: u32) -> u32
+    ensures few { result ≤ steps }
+    ensures steps { Relieves result fs.old.volume fs.new.volume }
+    ensures means { (w : World) → Means fs.old.volume w → Means fs.new.volume w }
+    ensures rest { result < steps → IsIdle fs.new.volume }
+{
+    byte_calls::relieve(alloc, fs.volume(), steps)
+}
+
+// Makes a volume, and writes where it lies.
+fn open(alloc: Global, shape: Shape, out: &mut *mut u8) -> Result<(), Errno> {
+    let volume = Volume::new(alloc, shape)?;
+    hand_out(alloc, volume, out)
+}
+
+// Hands a tree out that was found.
+fn hand_out_tree(
+    alloc: Global,
+    tree: Result<Frozen, Errno>,
+    out: &mut *mut u8,
+) -> Result<(), Errno> {
+    hand_out(alloc, tree?, out)
+}
+
+// Puts a value on the heap, and writes where it lies.
+fn hand_out<T: Drop>(alloc: Global, value: T, out: &mut *mut u8) -> Result<(), Errno> {
+    let Ok(whole) = Box::new(alloc, value) else {
+        return Err(Errno::ENOMEM);
+    };
+    *out = Box::into_raw(whole) as *mut u8;
+    Ok(())
+}

@@ -1,0 +1,221 @@
+// A program in C over the library. It prints what each call answers; examples/run compares that with
+// hello.expected.
+//
+// Two volumes are open all the time, so that an answer from the other one shows. Each buffer has guard bytes behind
+// it. Built with -DREFUSE (examples/run does so), it also has each request for memory of a call refused in turn.
+#include "doorvervain.h"
+#include <stdio.h>
+#include <stdlib.h>
+#include <string.h>
+
+enum { ROOM = 64, GUARD = 0xa5 };
+
+// A buffer with guard bytes behind the room that a call is told of.
+static uint8_t buffer[2 * ROOM];
+
+static const uint8_t *bytes_of(const char *text) { return (const uint8_t *)text; }
+
+// Says what a call answered.
+static void say(const char *what, uint8_t number) { printf("%s: %d\n", what, number); }
+
+static uint8_t make(struct doorvervain *fs, const char *path) {
+    return doorvervain_create(fs, bytes_of(path), strlen(path));
+}
+
+static uint8_t put(struct doorvervain *fs, const char *path, uint64_t offset, const char *text) {
+    return doorvervain_write(fs, bytes_of(path), strlen(path), offset, bytes_of(text), strlen(text));
+}
+
+// Whether all bytes of the buffer from here on are guards.
+static int guarded(size_t from) {
+    while (from < sizeof buffer && buffer[from] == GUARD)
+        from++;
+    return from == sizeof buffer;
+}
+
+// Says what was written at the front of the buffer, a byte 0 as a space, and whether all behind it is as it was.
+static void say_bytes(const char *what, uint8_t number, size_t count, size_t written) {
+    printf("%s: %d, %zu bytes '", what, number, count);
+    for (size_t i = 0; i < written; i++)
+        putchar(buffer[i] ? buffer[i] : ' ');
+    printf("'%s\n", guarded(written) ? "" : ", and more was written");
+}
+
+static void say_read(const char *what, struct doorvervain *fs, const char *path, uint64_t offset, size_t room) {
+    size_t got = 99;
+    memset(buffer, GUARD, sizeof buffer);
+    uint8_t number = doorvervain_read(fs, bytes_of(path), strlen(path), offset, buffer, room, &got);
+    say_bytes(what, number, got, got);
+}
+
+static void say_frozen_read(const char *what, struct doorvervain_frozen *tree, const char *path) {
+    size_t got = 99;
+    memset(buffer, GUARD, sizeof buffer);
+    uint8_t number = doorvervain_frozen_read(tree, bytes_of(path), strlen(path), 0, buffer, ROOM, &got);
+    say_bytes(what, number, got, got);
+}
+
+static void say_entries(const char *what, struct doorvervain *fs, const char *path, size_t room) {
+    size_t size = 99;
+    memset(buffer, GUARD, sizeof buffer);
+    uint8_t number = doorvervain_readdir(fs, bytes_of(path), strlen(path), buffer, room, &size);
+    say_bytes(what, number, size, size <= room ? size : 0);
+}
+
+static void say_stat(const char *what, struct doorvervain *fs, const char *path) {
+    uint8_t kind = 99;
+    uint64_t size = 99;
+    uint8_t number = doorvervain_stat(fs, bytes_of(path), strlen(path), &kind, &size);
+    printf("%s: %d, kind %d, %llu bytes\n", what, number, kind, (unsigned long long)size);
+}
+
+// The eleven calls, on one volume while the other stays empty.
+static void calls(struct doorvervain *one, struct doorvervain *other) {
+    say("mkdir /d", doorvervain_mkdir(one, bytes_of("/d"), 2));
+    say("mkdir /d again", doorvervain_mkdir(one, bytes_of("/d"), 2));
+    say("create /d/x", make(one, "/d/x"));
+    say("write /d/x", put(one, "/d/x", 0, "hello, world"));
+    say_stat("stat /d/x", one, "/d/x");
+    say_stat("stat /d/x of the other", other, "/d/x");
+    say_entries("readdir / of the other", other, "/", ROOM);
+    say("rename /d/x /y", doorvervain_rename(one, bytes_of("/d/x"), 4, bytes_of("/y"), 2));
+    say("truncate /y", doorvervain_truncate(one, bytes_of("/y"), 2, 5));
+    say_read("read /y", one, "/y", 0, ROOM);
+    say("unlink /d", doorvervain_unlink(one, bytes_of("/d"), 2));
+    say("unlink /y", doorvervain_unlink(one, bytes_of("/y"), 2));
+    say("rmdir /d", doorvervain_rmdir(one, bytes_of("/d"), 2));
+    say("rmtree /d", doorvervain_rmtree(one, bytes_of("/d"), 2));
+    say_entries("readdir /", one, "/", ROOM);
+}
+
+// What a read or a listing writes, and that it writes no more.
+static void buffers(struct doorvervain *one, struct doorvervain *other) {
+    say("create /long in both", make(one, "/long") + make(other, "/long"));
+    say("write one", put(one, "/long", 0, "the first volume has these bytes"));
+    say("write the other", put(other, "/long", 0, "and the other has those"));
+    say_read("read 9 of one", one, "/long", 4, 9);
+    say_read("read 9 of the other", other, "/long", 4, 9);
+    say_read("read past the end", one, "/long", 32, ROOM);
+    say_read("read over the end", one, "/long", 27, ROOM);
+    say_read("read into no room", one, "/long", 0, 0);
+    say_entries("readdir without room", one, "/", 5);
+    say_entries("readdir with room", one, "/", 6);
+}
+
+// What is answered to null pointers, closed volumes, and texts that are no path.
+static void refusals(struct doorvervain *one) {
+    struct doorvervain closed = {0};
+    struct doorvervain_frozen thawed = {0};
+    size_t got = 99;
+    say("a null path", doorvervain_mkdir(one, NULL, 3));
+    say("a null path of no bytes", doorvervain_mkdir(one, NULL, 0));
+    say("a null buffer", doorvervain_read(one, bytes_of("/long"), 5, 0, NULL, 9, &got));
+    say("a null buffer without room", doorvervain_read(one, bytes_of("/long"), 5, 0, NULL, 0, &got));
+    say("a null count", doorvervain_read(one, bytes_of("/long"), 5, 0, buffer, 9, NULL));
+    say("no volume", doorvervain_mkdir(NULL, bytes_of("/d"), 2));
+    say("a closed volume", doorvervain_mkdir(&closed, bytes_of("/d"), 2));
+    say("a thawed tree", doorvervain_frozen_read(&thawed, bytes_of("/long"), 5, 0, buffer, 9, &got));
+    say("no path", doorvervain_mkdir(one, bytes_of("d"), 1));
+    say("no name", doorvervain_snapshot(one, bytes_of("a/b"), 3));
+    say("no shape", doorvervain_open(&closed, 1, 256, 64));
+    say("as errno", (uint8_t)(doorvervain_errno(DOORVERVAIN_NULL) == EFAULT && doorvervain_errno(11) == ENOMEM));
+    doorvervain_close(&closed);
+    doorvervain_thaw(&thawed);
+}
+
+// A snapshot and a frozen tree stay as they were while the volume goes on.
+static void moments(struct doorvervain *one, struct doorvervain *other) {
+    struct doorvervain_frozen live = {0}, kept = {0};
+    say("snapshot s", doorvervain_snapshot(one, bytes_of("s"), 1));
+    say("snapshot s again", doorvervain_snapshot(one, bytes_of("s"), 1));
+    say("write", put(one, "/long", 0, "THE FIRST"));
+    say("freeze", doorvervain_freeze(one, &live));
+    say("unlink", doorvervain_unlink(one, bytes_of("/long"), 5));
+    say("frozen s", doorvervain_frozen(one, bytes_of("s"), 1, &kept));
+    say("frozen s of the other", doorvervain_frozen(other, bytes_of("s"), 1, &(struct doorvervain_frozen){0}));
+    say_frozen_read("read of s", &kept, "/long");
+    say_frozen_read("read of what was frozen", &live, "/long");
+    say_stat("stat", one, "/long");
+    say("restore s", doorvervain_restore(one, bytes_of("s"), 1));
+    say_read("read", one, "/long", 0, ROOM);
+    say("drop s", doorvervain_drop(one, bytes_of("s"), 1));
+    say("restore s again", doorvervain_restore(one, bytes_of("s"), 1));
+    say_frozen_read("read of s that was dropped", &kept, "/long");
+    doorvervain_thaw(&kept);
+    doorvervain_thaw(&live);
+}
+
+// Many files, so that trees grow and are freed; steps between the calls change no answer.
+static void many(struct doorvervain *one) {
+    char path[16];
+    int refused = 0, found = 0;
+    for (int i = 0; i < 2000; i++) {
+        refused += make(one, (snprintf(path, sizeof path, "/f%d", i), path)) != 0;
+        refused += put(one, path, 0, path) != 0;
+        if (i % 10 == 0) doorvervain_relieve(one, 4);
+    }
+    for (int i = 0; i < 2000; i++) {
+        size_t got = 0, length = (size_t)snprintf(path, sizeof path, "/f%d", i);
+        uint8_t number = doorvervain_read(one, bytes_of(path), length, 0, buffer, ROOM, &got);
+        found += !number && got == length && !memcmp(buffer, path, length);
+    }
+    printf("many: %d refused, %d found\n", refused, found);
+    while (doorvervain_relieve(one, 100) == 100)
+        continue;
+    printf("relieved: %u\n", doorvervain_relieve(one, 1));
+}
+
+#ifdef REFUSE
+// Which request for memory from now on is refused; none where it is 0.
+static long refused_request;
+
+void *__real_malloc(size_t size);
+void *__real_realloc(void *old, size_t size);
+
+static int refuses(void) { return refused_request > 0 && --refused_request == 0; }
+
+void *__wrap_malloc(size_t size) { return refuses() ? NULL : __real_malloc(size); }
+
+void *__wrap_realloc(void *old, size_t size) { return refuses() ? NULL : __real_realloc(old, size); }
+
+// Has each request of a write refused in turn: it answers ENOMEM, and the volume is there and as it was.
+static void refused_memory(struct doorvervain *one) {
+    int refusals = 0, changed = 0;
+    uint8_t number = DOORVERVAIN_ENOMEM;
+    for (long request = 1; number == DOORVERVAIN_ENOMEM; request++) {
+        size_t got = 0;
+        refused_request = request;
+        number = put(one, "/long", 0, "WITHOUT MEMORY");
+        refused_request = 0;
+        uint8_t read = doorvervain_read(one, bytes_of("/long"), 5, 0, buffer, ROOM, &got);
+        if (number == DOORVERVAIN_ENOMEM)
+            refusals++, changed += read || got != 32 || memcmp(buffer, "the first", 9);
+    }
+    printf(
+        "a write without memory: %s, %d changed, then %d\n", refusals ? "refused" : "not refused", changed, number);
+    say_read("read", one, "/long", 0, 14);
+}
+#else
+static void refused_memory(struct doorvervain *one) {
+    printf("a write without memory: not tried\n");
+    say_read("read", one, "/long", 0, 14);
+}
+#endif
+
+int main(void) {
+    struct doorvervain one = {0}, other = {0};
+    say("open one", doorvervain_open(&one, 16, 256, 64));
+    say("open the other", doorvervain_open(&other, 4, 16, 4));
+    calls(&one, &other);
+    buffers(&one, &other);
+    refusals(&one);
+    moments(&one, &other);
+    refused_memory(&one);
+    many(&other);
+    doorvervain_close(&one);
+    say_read("read of the other, alone", &other, "/long", 0, ROOM);
+    say("mkdir in one that is closed", doorvervain_mkdir(&one, bytes_of("/d"), 2));
+    doorvervain_close(&other);
+    doorvervain_close(&other);
+    return 0;
+}

@@ -1,0 +1,371 @@
+// The file system as a C library: volumes in memory, by calls of bytes.
+//
+// Link crates/doorvervain/out/libdoorvervain.a and the toolchain's liblibc_c.a, which asks malloc for memory.
+//
+// A path is bytes with a length, as "/a/b" with 4. It begins with a slash, and needs no byte 0 behind it. A name of
+// a snapshot is bytes with a length too. No call keeps a pointer of its caller.
+//
+// Most calls answer a number. DOORVERVAIN_DONE (0) says that the call was done. Any other number is a refusal: the
+// call changed nothing, and wrote nothing into a buffer. A call that looks and is refused gives 0 as its other
+// results.
+//
+// A null pointer is answered by DOORVERVAIN_NULL. Only a pointer with the length 0 beside it may be null. A volume
+// or tree that is closed is answered by DOORVERVAIN_CLOSED. A call writes at most as many bytes into a buffer as
+// the caller says that it has.
+//
+// What no check can see, and a caller has to keep:
+//   - Set `at` to null before the first use (`struct doorvervain fs = {0};`), and do not change it.
+//   - A copy of a struct is the same volume. Use no copy after a close: that is a use of freed memory.
+//   - One thread at a time is in a volume and in the trees frozen of it, which share its nodes: put one lock round
+//     them, or keep them on one thread. Two volumes that were opened have nothing in common.
+//   - A pointer with a length points to at least so many bytes. Bytes that a call writes overlap no bytes that it
+//     reads, and no other result.
+//   - No call is made from a signal handler, nor in the forked child of a process with threads.
+#ifndef DOORVERVAIN_H
+#define DOORVERVAIN_H
+
+#include <errno.h>
+#include <stddef.h>
+#include <stdint.h>
+
+#ifdef __cplusplus
+extern "C" {
+#endif
+
+// A volume: a tree of directories and files, with snapshots. It is closed where `at` is null.
+struct doorvervain {
+    void *at;
+};
+
+// A tree that stands still: later changes of the volume do not touch it. It is closed where `at` is null.
+struct doorvervain_frozen {
+    void *at;
+};
+
+// What a call answers. The numbers are this library's own; doorvervain_errno gives those of <errno.h>.
+enum {
+    DOORVERVAIN_DONE = 0,
+    DOORVERVAIN_ENOENT = 1,       // no such file, directory or snapshot
+    DOORVERVAIN_ENOTDIR = 2,      // not a directory
+    DOORVERVAIN_EISDIR = 3,       // a directory
+    DOORVERVAIN_EEXIST = 4,       // it stands there already
+    DOORVERVAIN_ENOTEMPTY = 5,    // the directory is not empty
+    DOORVERVAIN_EPERM = 6,        // not permitted: to unlink a directory
+    DOORVERVAIN_EINVAL = 7,       // no path, name or shape; too many bytes; a move below itself
+    DOORVERVAIN_ENAMETOOLONG = 8, // a name or path too long
+    DOORVERVAIN_EFBIG = 9,        // a file too large
+    DOORVERVAIN_EBUSY = 10,       // the root, which stays
+    DOORVERVAIN_ENOMEM = 11,      // memory was refused
+    DOORVERVAIN_ENOSPC = 12,      // all 64 names of snapshots are taken
+    DOORVERVAIN_NULL = 254,       // a pointer is null
+    DOORVERVAIN_CLOSED = 255      // the volume or tree is closed
+};
+
+// What stands at a path.
+enum { DOORVERVAIN_DIRECTORY = 1, DOORVERVAIN_FILE = 2 };
+
+// ---- the symbols of the archive. They take no null pointer; call the functions below them.
+
+uint8_t doorvervain_raw_open(uint16_t fanout, uint16_t pending, uint16_t leaf, void **out);
+void doorvervain_raw_close(struct doorvervain fs);
+uint8_t doorvervain_raw_mkdir(struct doorvervain *fs, const uint8_t *path, size_t length);
+uint8_t doorvervain_raw_create(struct doorvervain *fs, const uint8_t *path, size_t length);
+uint8_t doorvervain_raw_unlink(struct doorvervain *fs, const uint8_t *path, size_t length);
+uint8_t doorvervain_raw_rmdir(struct doorvervain *fs, const uint8_t *path, size_t length);
+uint8_t doorvervain_raw_rmtree(struct doorvervain *fs, const uint8_t *path, size_t length);
+uint8_t doorvervain_raw_rename(
+    struct doorvervain *fs, const uint8_t *from, size_t from_length, const uint8_t *to, size_t to_length);
+uint8_t doorvervain_raw_truncate(struct doorvervain *fs, const uint8_t *path, size_t length, uint64_t size);
+uint8_t doorvervain_raw_write(struct doorvervain *fs, const uint8_t *path, size_t length, uint64_t offset,
+    const uint8_t *bytes, size_t count);
+uint8_t doorvervain_raw_read(struct doorvervain *fs, const uint8_t *path, size_t length, uint64_t offset,
+    uint8_t *out, size_t room, size_t *got);
+uint8_t doorvervain_raw_stat(
+    struct doorvervain *fs, const uint8_t *path, size_t length, uint8_t *kind, uint64_t *size);
+uint8_t doorvervain_raw_readdir(
+    struct doorvervain *fs, const uint8_t *path, size_t length, uint8_t *out, size_t room, size_t *size);
+uint8_t doorvervain_raw_snapshot(struct doorvervain *fs, const uint8_t *name, size_t length);
+uint8_t doorvervain_raw_drop(struct doorvervain *fs, const uint8_t *name, size_t length);
+uint8_t doorvervain_raw_restore(struct doorvervain *fs, const uint8_t *name, size_t length);
+uint8_t doorvervain_raw_freeze(struct doorvervain *fs, void **out);
+uint8_t doorvervain_raw_frozen(struct doorvervain *fs, const uint8_t *name, size_t length, void **out);
+uint8_t doorvervain_raw_frozen_read(struct doorvervain_frozen *tree, const uint8_t *path, size_t length,
+    uint64_t offset, uint8_t *out, size_t room, size_t *got);
+uint8_t doorvervain_raw_frozen_stat(
+    struct doorvervain_frozen *tree, const uint8_t *path, size_t length, uint8_t *kind, uint64_t *size);
+uint8_t doorvervain_raw_frozen_readdir(
+    struct doorvervain_frozen *tree, const uint8_t *path, size_t length, uint8_t *out, size_t room, size_t *size);
+void doorvervain_raw_thaw(struct doorvervain_frozen tree);
+uint32_t doorvervain_raw_relieve(struct doorvervain *fs, uint32_t steps);
+
+// ---- what the functions below answer by themselves
+
+// The refusal of a volume, or of a pointer to bytes; 0 where both are there.
+static inline uint8_t doorvervain_lacks(const struct doorvervain *fs, const uint8_t *bytes, size_t length) {
+    if (!fs || !fs->at) return DOORVERVAIN_CLOSED;
+    return !bytes && length ? DOORVERVAIN_NULL : DOORVERVAIN_DONE;
+}
+
+// The refusal of a frozen tree, or of a pointer to bytes; 0 where both are there.
+static inline uint8_t doorvervain_frozen_lacks(
+    const struct doorvervain_frozen *tree, const uint8_t *bytes, size_t length) {
+    if (!tree || !tree->at) return DOORVERVAIN_CLOSED;
+    return !bytes && length ? DOORVERVAIN_NULL : DOORVERVAIN_DONE;
+}
+
+// Where no bytes lie, an address all the same.
+static inline const uint8_t *doorvervain_from(const uint8_t *bytes) { return bytes ? bytes : (const uint8_t *)""; }
+
+// Where a buffer has no room, an address all the same.
+static inline uint8_t *doorvervain_into(uint8_t *out) {
+    static uint8_t spare;
+    return out ? out : &spare;
+}
+
+// The number of <errno.h> for what a call answered. 0 for DOORVERVAIN_DONE.
+static inline int doorvervain_errno(uint8_t number) {
+    switch (number) {
+    case DOORVERVAIN_DONE: return 0;
+    case DOORVERVAIN_ENOENT: return ENOENT;
+    case DOORVERVAIN_ENOTDIR: return ENOTDIR;
+    case DOORVERVAIN_EISDIR: return EISDIR;
+    case DOORVERVAIN_EEXIST: return EEXIST;
+    case DOORVERVAIN_ENOTEMPTY: return ENOTEMPTY;
+    case DOORVERVAIN_EPERM: return EPERM;
+    case DOORVERVAIN_ENAMETOOLONG: return ENAMETOOLONG;
+    case DOORVERVAIN_EFBIG: return EFBIG;
+    case DOORVERVAIN_EBUSY: return EBUSY;
+    case DOORVERVAIN_ENOMEM: return ENOMEM;
+    case DOORVERVAIN_ENOSPC: return ENOSPC;
+    case DOORVERVAIN_NULL: return EFAULT;
+    case DOORVERVAIN_CLOSED: return EBADF;
+    default: return EINVAL;
+    }
+}
+
+// ---- volumes
+
+// Makes a volume: the empty root directory, without snapshots. What `fs` held before is not freed. `fanout` is how
+// many children an inner node may have, from 4 to 64; `pending` how many messages may wait in it, from `fanout` to
+// 1,024; `leaf` how many entries a leaf may have, from 4 to 1,024. The shape changes no answer, only time: take 16,
+// 256 and 64 where you know no better. EINVAL: no such shape. ENOMEM. Where it is refused, the volume is closed.
+static inline uint8_t doorvervain_open(struct doorvervain *fs, uint16_t fanout, uint16_t pending, uint16_t leaf) {
+    if (!fs) return DOORVERVAIN_NULL;
+    void *at = NULL;
+    uint8_t number = doorvervain_raw_open(fanout, pending, leaf, &at);
+    fs->at = number ? NULL : at;
+    return number;
+}
+
+// Frees the volume with its snapshots, and closes it. Frozen trees stay. It does nothing to a volume that is
+// closed.
+static inline void doorvervain_close(struct doorvervain *fs) {
+    if (!fs || !fs->at) return;
+    doorvervain_raw_close(*fs);
+    fs->at = NULL;
+}
+
+// ---- calls that change a volume. Each may answer ENOMEM where memory is refused; then nothing has changed.
+// A text that is no path is refused before anything else: ENOENT (empty), EINVAL or ENAMETOOLONG.
+
+// Makes an empty directory. ENOENT, ENOTDIR: what is above the path; EEXIST.
+static inline uint8_t doorvervain_mkdir(struct doorvervain *fs, const uint8_t *path, size_t length) {
+    uint8_t lacks = doorvervain_lacks(fs, path, length);
+    return lacks ? lacks : doorvervain_raw_mkdir(fs, doorvervain_from(path), length);
+}
+
+// Makes an empty file where nothing stands. ENOENT, ENOTDIR: what is above the path; EEXIST.
+static inline uint8_t doorvervain_create(struct doorvervain *fs, const uint8_t *path, size_t length) {
+    uint8_t lacks = doorvervain_lacks(fs, path, length);
+    return lacks ? lacks : doorvervain_raw_create(fs, doorvervain_from(path), length);
+}
+
+// Takes a file out. ENOENT, ENOTDIR; EPERM: a directory.
+static inline uint8_t doorvervain_unlink(struct doorvervain *fs, const uint8_t *path, size_t length) {
+    uint8_t lacks = doorvervain_lacks(fs, path, length);
+    return lacks ? lacks : doorvervain_raw_unlink(fs, doorvervain_from(path), length);
+}
+
+// Takes an empty directory out. ENOENT, ENOTDIR, ENOTEMPTY; EBUSY: the root.
+static inline uint8_t doorvervain_rmdir(struct doorvervain *fs, const uint8_t *path, size_t length) {
+    uint8_t lacks = doorvervain_lacks(fs, path, length);
+    return lacks ? lacks : doorvervain_raw_rmdir(fs, doorvervain_from(path), length);
+}
+
+// Takes a file out, or a directory with all below it. ENOENT, ENOTDIR; EBUSY: the root.
+static inline uint8_t doorvervain_rmtree(struct doorvervain *fs, const uint8_t *path, size_t length) {
+    uint8_t lacks = doorvervain_lacks(fs, path, length);
+    return lacks ? lacks : doorvervain_raw_rmtree(fs, doorvervain_from(path), length);
+}
+
+// Moves what stands at the first path, with all below it, to the second, where it replaces a file by a file, or an
+// empty directory by a directory. ENOENT, ENOTDIR, EISDIR, ENOTEMPTY, ENAMETOOLONG; EINVAL: to below itself; EBUSY:
+// the root.
+static inline uint8_t doorvervain_rename(
+    struct doorvervain *fs, const uint8_t *from, size_t from_length, const uint8_t *to, size_t to_length) {
+    uint8_t lacks = doorvervain_lacks(fs, from, from_length);
+    if (!lacks) lacks = doorvervain_lacks(fs, to, to_length);
+    return lacks ? lacks
+                 : doorvervain_raw_rename(fs, doorvervain_from(from), from_length, doorvervain_from(to), to_length);
+}
+
+// Cuts a file to `size` bytes, or lengthens it to them by zeros. ENOENT, ENOTDIR, EISDIR; EFBIG: more than 2^40.
+static inline uint8_t doorvervain_truncate(
+    struct doorvervain *fs, const uint8_t *path, size_t length, uint64_t size) {
+    uint8_t lacks = doorvervain_lacks(fs, path, length);
+    return lacks ? lacks : doorvervain_raw_truncate(fs, doorvervain_from(path), length, size);
+}
+
+// Lays `count` bytes over a file from the byte `offset` on, and lengthens it where they reach past its end: all of
+// them, or none. ENOENT, ENOTDIR, EISDIR; EFBIG: past 2^40 bytes.
+static inline uint8_t doorvervain_write(struct doorvervain *fs, const uint8_t *path, size_t length, uint64_t offset,
+    const uint8_t *bytes, size_t count) {
+    uint8_t lacks = doorvervain_lacks(fs, path, length);
+    if (!lacks) lacks = doorvervain_lacks(fs, bytes, count);
+    return lacks
+               ? lacks
+               : doorvervain_raw_write(fs, doorvervain_from(path), length, offset, doorvervain_from(bytes), count);
+}
+
+// ---- calls that look
+
+// Reads a file from the byte `offset` on into the front of `out`, at most `room` bytes and none past the file's
+// end. `*got` is how many it wrote; the rest of `out` stays as it was. ENOENT, ENOTDIR, EISDIR; EINVAL for a room
+// of more than 1,048,576 bytes.
+static inline uint8_t doorvervain_read(struct doorvervain *fs, const uint8_t *path, size_t length, uint64_t offset,
+    uint8_t *out, size_t room, size_t *got) {
+    if (!got) return DOORVERVAIN_NULL;
+    *got = 0;
+    uint8_t lacks = doorvervain_lacks(fs, path, length);
+    if (!lacks) lacks = doorvervain_lacks(fs, out, room);
+    return lacks
+               ? lacks
+               : doorvervain_raw_read(fs, doorvervain_from(path), length, offset, doorvervain_into(out), room, got);
+}
+
+// What stands at a path: DOORVERVAIN_DIRECTORY, or DOORVERVAIN_FILE with its size in bytes (0 for a directory).
+// ENOENT, ENOTDIR.
+static inline uint8_t doorvervain_stat(
+    struct doorvervain *fs, const uint8_t *path, size_t length, uint8_t *kind, uint64_t *size) {
+    if (!kind || !size) return DOORVERVAIN_NULL;
+    *kind = 0;
+    *size = 0;
+    uint8_t lacks = doorvervain_lacks(fs, path, length);
+    return lacks ? lacks : doorvervain_raw_stat(fs, doorvervain_from(path), length, kind, size);
+}
+
+// Lists a directory, in byte order of the names: for each entry `d` or `f`, its name and a byte 0. `*size` is how
+// many bytes that takes. It is written where `room` is enough for all of it; else `out` stays as it was, so ask
+// again with more room. ENOENT, ENOTDIR.
+static inline uint8_t doorvervain_readdir(
+    struct doorvervain *fs, const uint8_t *path, size_t length, uint8_t *out, size_t room, size_t *size) {
+    if (!size) return DOORVERVAIN_NULL;
+    *size = 0;
+    uint8_t lacks = doorvervain_lacks(fs, path, length);
+    if (!lacks) lacks = doorvervain_lacks(fs, out, room);
+    return lacks ? lacks
+                 : doorvervain_raw_readdir(fs, doorvervain_from(path), length, doorvervain_into(out), room, size);
+}
+
+// ---- snapshots. A name has 1 to 64 bytes of ASCII letters, digits, `.`, `_` and `-`; any other text is EINVAL.
+
+// Keeps the tree as it stands under a name. EEXIST; ENOSPC: all 64 names are taken.
+static inline uint8_t doorvervain_snapshot(struct doorvervain *fs, const uint8_t *name, size_t length) {
+    uint8_t lacks = doorvervain_lacks(fs, name, length);
+    return lacks ? lacks : doorvervain_raw_snapshot(fs, doorvervain_from(name), length);
+}
+
+// Removes the snapshot of that name. ENOENT.
+static inline uint8_t doorvervain_drop(struct doorvervain *fs, const uint8_t *name, size_t length) {
+    uint8_t lacks = doorvervain_lacks(fs, name, length);
+    return lacks ? lacks : doorvervain_raw_drop(fs, doorvervain_from(name), length);
+}
+
+// The volume's tree becomes that of the snapshot, which stays. ENOENT.
+static inline uint8_t doorvervain_restore(struct doorvervain *fs, const uint8_t *name, size_t length) {
+    uint8_t lacks = doorvervain_lacks(fs, name, length);
+    return lacks ? lacks : doorvervain_raw_restore(fs, doorvervain_from(name), length);
+}
+
+// ---- frozen trees
+
+// The tree as it stands, at any size at once. What `out` held before is not freed. ENOMEM. Where it is refused,
+// `out` is closed.
+static inline uint8_t doorvervain_freeze(struct doorvervain *fs, struct doorvervain_frozen *out) {
+    if (!out) return DOORVERVAIN_NULL;
+    out->at = NULL;
+    uint8_t lacks = doorvervain_lacks(fs, NULL, 0);
+    if (lacks) return lacks;
+    void *at = NULL;
+    uint8_t number = doorvervain_raw_freeze(fs, &at);
+    out->at = number ? NULL : at;
+    return number;
+}
+
+// The tree of the snapshot of that name. ENOENT, ENOMEM. Where it is refused, `out` is closed.
+static inline uint8_t doorvervain_frozen(
+    struct doorvervain *fs, const uint8_t *name, size_t length, struct doorvervain_frozen *out) {
+    if (!out) return DOORVERVAIN_NULL;
+    out->at = NULL;
+    uint8_t lacks = doorvervain_lacks(fs, name, length);
+    if (lacks) return lacks;
+    void *at = NULL;
+    uint8_t number = doorvervain_raw_frozen(fs, doorvervain_from(name), length, &at);
+    out->at = number ? NULL : at;
+    return number;
+}
+
+// Reads a file of a frozen tree, as doorvervain_read does of a volume.
+static inline uint8_t doorvervain_frozen_read(struct doorvervain_frozen *tree, const uint8_t *path, size_t length,
+    uint64_t offset, uint8_t *out, size_t room, size_t *got) {
+    if (!got) return DOORVERVAIN_NULL;
+    *got = 0;
+    uint8_t lacks = doorvervain_frozen_lacks(tree, path, length);
+    if (!lacks) lacks = doorvervain_frozen_lacks(tree, out, room);
+    return lacks ? lacks
+                 : doorvervain_raw_frozen_read(
+                       tree, doorvervain_from(path), length, offset, doorvervain_into(out), room, got);
+}
+
+// What stands at a path of a frozen tree, as doorvervain_stat says it of a volume.
+static inline uint8_t doorvervain_frozen_stat(
+    struct doorvervain_frozen *tree, const uint8_t *path, size_t length, uint8_t *kind, uint64_t *size) {
+    if (!kind || !size) return DOORVERVAIN_NULL;
+    *kind = 0;
+    *size = 0;
+    uint8_t lacks = doorvervain_frozen_lacks(tree, path, length);
+    return lacks ? lacks : doorvervain_raw_frozen_stat(tree, doorvervain_from(path), length, kind, size);
+}
+
+// Lists a directory of a frozen tree, as doorvervain_readdir does of a volume.
+static inline uint8_t doorvervain_frozen_readdir(
+    struct doorvervain_frozen *tree, const uint8_t *path, size_t length, uint8_t *out, size_t room, size_t *size) {
+    if (!size) return DOORVERVAIN_NULL;
+    *size = 0;
+    uint8_t lacks = doorvervain_frozen_lacks(tree, path, length);
+    if (!lacks) lacks = doorvervain_frozen_lacks(tree, out, room);
+    return lacks ? lacks
+                 : doorvervain_raw_frozen_readdir(
+                       tree, doorvervain_from(path), length, doorvervain_into(out), room, size);
+}
+
+// Frees the frozen tree, and closes it. It does nothing to a tree that is closed.
+static inline void doorvervain_thaw(struct doorvervain_frozen *tree) {
+    if (!tree || !tree->at) return;
+    doorvervain_raw_thaw(*tree);
+    tree->at = NULL;
+}
+
+// ---- upkeep
+
+// Does at most `steps` steps that move waiting changes down, where most wait: how many it tried, fewer only where
+// nothing waits. No answer of any call changes by it. Call it now and then, or never. A closed volume: 0.
+static inline uint32_t doorvervain_relieve(struct doorvervain *fs, uint32_t steps) {
+    return doorvervain_lacks(fs, NULL, 0) ? 0 : doorvervain_raw_relieve(fs, steps);
+}
+
+#ifdef __cplusplus
+}
+#endif
+
+#endif
