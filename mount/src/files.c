@@ -326,8 +326,18 @@ int files_list(struct mount *mount, struct entry *entry, struct bytes *out) {
     return fault;
 }
 
+// Access control lists, which are names of `system.`, would have to change the mode: there are none.
+int files_find_extended(const struct entry *entry, const char *name, const struct attribute **out) {
+    if (!strncmp(name, "system.", 7)) return EOPNOTSUPP;
+    *out = attribute_find(entry, name);
+    return *out ? 0 : ENODATA;
+}
+
 int files_set_extended(struct entry *entry, const char *name, const char *value, size_t length, int flags) {
-    bool stands = attribute_find(entry, name) != 0;
+    const struct attribute *known;
+    int fault = files_find_extended(entry, name, &known);
+    bool stands = !fault;
+    if (fault == EOPNOTSUPP) return fault;
     if (files_may_change(entry)) return EROFS;
     if (stands && flags & XATTR_CREATE) return EEXIST;
     if (!stands && flags & XATTR_REPLACE) return ENODATA;

@@ -48,6 +48,8 @@ int files_allocate(struct mount *mount, struct entry *entry, uint64_t offset, ui
 // The names of a directory, as `struct way` tells them; those of the mount's own are left out.
 int files_list(struct mount *mount, struct entry *entry, struct bytes *out);
 
+// Extended attributes: EOPNOTSUPP for those of the kernel's own.
+int files_find_extended(const struct entry *entry, const char *name, const struct attribute **out);
 int files_set_extended(struct entry *entry, const char *name, const char *value, size_t length, int flags);
 int files_remove_extended(struct entry *entry, const char *name);
 

@@ -354,8 +354,9 @@ static void answer_sized(fuse_req_t req, int fault, const struct bytes *bytes, s
 static void on_getxattr(fuse_req_t req, fuse_ino_t number, const char *name, size_t room) {
     struct bytes value = {0};
     pthread_mutex_lock(&lock);
-    const struct attribute *attribute = attribute_find(entry_of(req, number), name);
-    int fault = attribute ? bytes_append(&value, attribute->value, attribute->length) : ENODATA;
+    const struct attribute *attribute;
+    int fault = files_find_extended(entry_of(req, number), name, &attribute);
+    if (!fault) fault = bytes_append(&value, attribute->value, attribute->length);
     pthread_mutex_unlock(&lock);
     answer_sized(req, fault, &value, room);
     bytes_free(&value);
