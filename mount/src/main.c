@@ -73,6 +73,7 @@ static int mount_and_serve(const struct options *options, struct mount *mount, i
     char *words[] = {"doorvervain-mount", "-o", (char *)how, 0};
     struct fuse_args args = FUSE_ARGS_INIT(3, words);
     struct fuse_session *session = fuse_session_new(&args, &requests, sizeof requests, mount);
+    fuse_opt_free_args(&args);
     if (!session) return 1;
     requests_use(session);
     int status = fuse_set_signal_handlers(session) || fuse_session_mount(session, options->mount_point);
