@@ -1,12 +1,10 @@
 // The file system as the static library in this very process.
-#include "way.h"
 #include "doorvervain.h"
+#include "image.h"
 #include <errno.h>
-#include <fcntl.h>
 #include <stdio.h>
 #include <stdlib.h>
 #include <string.h>
-#include <unistd.h>
 
 enum { FANOUT = 16, PENDING = 256, LEAF = 256 };
 
@@ -119,32 +117,12 @@ static int library_keep(void *self, enum keeping what, const char *snapshot) {
     return done(library, calls[what](&library->volume, text(snapshot), strlen(snapshot)));
 }
 
-static int save(const char *file, const struct bytes *image) {
-    FILE *out = fopen(file, "we");
-    if (!out) return errno;
-    size_t count = fwrite(image->at, 1, image->length, out);
-    return fclose(out) || count != image->length ? EIO : 0;
-}
-
-static int save_image(struct library *library, const char *file) {
-    struct bytes image = {0};
-    size_t size = 1 << 20;
-    int fault = 0;
-    while (!fault) {
-        fault = bytes_reserve(&image, size);
-        if (!fault) fault = doorvervain_errno(doorvervain_image(&library->volume, (uint8_t *)image.at, image.room, &size));
-        if (fault || size <= image.room) break;
-    }
-    image.length = fault ? 0 : size;
-    if (!fault) fault = save(file, &image);
-    bytes_free(&image);
-    return fault;
-}
+static const struct way library_way;
 
 static int library_close(void *self, const char *image) {
     struct library *library = self;
+    int fault = image ? image_save(&(struct volume){&library_way, self}, image) : 0;
     forget_tree(library);
-    int fault = image ? save_image(library, image) : 0;
     doorvervain_close(&library->volume);
     free(library);
     return fault;
@@ -155,23 +133,12 @@ static const struct way library_way = {
     library_stat,   library_list,   library_keep,     library_close,
 };
 
-static int load(struct library *library, const char *file) {
-    struct bytes image = {0};
-    size_t line = 0;
-    int fault = bytes_read_file(&image, file);
-    if (!fault)
-        fault = doorvervain_errno(doorvervain_load(&library->volume, FANOUT, PENDING, LEAF, text(image.at), image.length, &line));
-    if (fault && line) fprintf(stderr, "doorvervain-mount: %s: bad image at line %zu\n", file, line);
-    else if (fault) fprintf(stderr, "doorvervain-mount: %s: %s\n", file, strerror(fault));
-    bytes_free(&image);
-    return fault;
-}
-
 int open_library(const struct making *making, struct volume *out) {
     struct library *library = calloc(1, sizeof *library);
     if (!library) return ENOMEM;
     library->steps = making->steps;
     *out = (struct volume){&library_way, library};
-    if (making->image) return load(library, making->image);
-    return doorvervain_errno(doorvervain_open(&library->volume, FANOUT, PENDING, LEAF));
+    int fault = doorvervain_errno(doorvervain_open(&library->volume, FANOUT, PENDING, LEAF));
+    if (fault) fprintf(stderr, "doorvervain-mount: no volume: %s\n", strerror(fault));
+    return fault || !making->image ? fault : image_load(out, making->image);
 }

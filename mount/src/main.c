@@ -1,5 +1,6 @@
 // Mounts the file system: the command line, the volume, and the loop of requests.
 #include "options.h"
+#include "readahead.h"
 #include "requests.h"
 #include <errno.h>
 #include <fcntl.h>
@@ -36,6 +37,12 @@ static const char *full_name(const char *file) {
     sprintf(name, "%s/%s", folder, file);
     free(folder);
     return name;
+}
+
+// The folder to mount on, without links and dots on its way.
+static const char *full_path(const char *folder) {
+    char *path = realpath(folder, 0);
+    return path ? path : folder;
 }
 
 static int open_volume(const struct options *options, struct mount *mount) {
@@ -78,6 +85,7 @@ static int mount_and_serve(const struct options *options, struct mount *mount, i
     requests_use(session);
     int status = fuse_set_signal_handlers(session) || fuse_session_mount(session, options->mount_point);
     if (!status) {
+        raise_readahead(options->mount_point);
         status = serve(session, parent) != 0;
         fuse_session_unmount(session);
     }
@@ -119,7 +127,7 @@ static int run_in_background(const struct options *options) {
 }
 
 int main(int count, char **words) {
-    struct options options;
+    static struct options options;
     int status = read_options(count, words, &options);
     if (status) return status;
     if (options.helps) {
@@ -127,6 +135,7 @@ int main(int count, char **words) {
         return 0;
     }
     if (options.restore) return ask_to_restore(options.mount_point, options.restore);
+    options.mount_point = full_path(options.mount_point);
     options.image = full_name(options.image);
     options.making.image = full_name(options.making.image);
     options.making.log = full_name(options.making.log);

@@ -43,6 +43,11 @@ static void answer_entry(fuse_req_t req, int fault, const struct found *found) {
     else fuse_reply_entry(req, &param);
 }
 
+static void on_init(void *mount, struct fuse_conn_info *connection) {
+    (void)mount;
+    connection->max_readahead = LARGEST_READ;
+}
+
 static void on_lookup(fuse_req_t req, fuse_ino_t parent, const char *name) {
     struct found found;
     pthread_mutex_lock(&lock);
@@ -408,6 +413,7 @@ static void on_ioctl(fuse_req_t req, fuse_ino_t number, unsigned what, void *arg
 }
 
 const struct fuse_lowlevel_ops requests = {
+    .init = on_init,
     .lookup = on_lookup,
     .forget = on_forget,
     .forget_multi = on_forget_many,

@@ -1,4 +1,5 @@
 #include "script.h"
+#include "text.h"
 #include <errno.h>
 #include <inttypes.h>
 #include <stdio.h>
@@ -18,46 +19,15 @@ enum { FAULTS = sizeof faults / sizeof *faults };
 static const char *const change_words[] = {"mkdir", "create", "unlink", "rmdir", "rmtree"};
 static const char *const keeping_words[] = {"snapshot", "drop", "restore"};
 
-// Text in percent form.
-static int append_escaped(struct bytes *out, const char *text) {
-    static const char digits[] = "0123456789ABCDEF";
-    if (bytes_reserve(out, 3 * strlen(text))) return ENOMEM;
-    for (; *text; text++) {
-        unsigned char c = (unsigned char)*text;
-        if (c > 32 && c < 127 && c != '%') {
-            out->at[out->length++] = (char)c;
-            continue;
-        }
-        out->at[out->length++] = '%';
-        out->at[out->length++] = digits[c / 16];
-        out->at[out->length++] = digits[c % 16];
-    }
-    return 0;
-}
-
-static int append_hex(struct bytes *out, const char *bytes, size_t count) {
-    static const char digits[] = "0123456789abcdef";
-    if (count == 0) return bytes_append(out, "-", 1);
-    if (bytes_reserve(out, 2 * count)) return ENOMEM;
-    char *to = out->at + out->length;
-    for (size_t i = 0; i < count; i++) {
-        unsigned char c = (unsigned char)bytes[i];
-        *to++ = digits[c / 16];
-        *to++ = digits[c % 16];
-    }
-    out->length += 2 * count;
-    return 0;
-}
-
 // A word, a space, and a path in percent form.
 static int append_call(struct bytes *line, const char *word, const char *path) {
     int fault = bytes_print(line, "%s ", word);
-    return fault ? fault : append_escaped(line, path);
+    return fault ? fault : text_escape(line, path);
 }
 
 static int append_look(struct bytes *line, const char *word, struct place at) {
     int fault = at.snapshot ? bytes_print(line, "%s@%s ", word, at.snapshot) : bytes_print(line, "%s ", word);
-    return fault ? fault : append_escaped(line, at.path);
+    return fault ? fault : text_escape(line, at.path);
 }
 
 static int end_line(struct bytes *line, int fault) { return fault ? fault : bytes_append(line, "\n", 1); }
@@ -69,7 +39,7 @@ int script_change(struct bytes *line, enum change what, const char *path) {
 int script_rename(struct bytes *line, const char *from, const char *to) {
     int fault = append_call(line, "rename", from);
     if (!fault) fault = bytes_append(line, " ", 1);
-    return end_line(line, fault ? fault : append_escaped(line, to));
+    return end_line(line, fault ? fault : text_escape(line, to));
 }
 
 int script_truncate(struct bytes *line, const char *path, uint64_t length) {
@@ -80,7 +50,7 @@ int script_truncate(struct bytes *line, const char *path, uint64_t length) {
 int script_write(struct bytes *line, const char *path, uint64_t offset, const char *bytes, size_t count) {
     int fault = append_call(line, "write", path);
     if (!fault) fault = bytes_print(line, " %" PRIu64 " ", offset);
-    return end_line(line, fault ? fault : append_hex(line, bytes, count));
+    return end_line(line, fault ? fault : text_hex(line, bytes, count));
 }
 
 int script_read(struct bytes *line, struct place at, uint64_t offset, size_t count) {
@@ -104,7 +74,7 @@ int reply_fault(struct bytes *reply, int number) {
 
 int reply_read(struct bytes *reply, const char *bytes, size_t count) {
     int fault = bytes_append(reply, "bytes ", 6);
-    return end_line(reply, fault ? fault : append_hex(reply, bytes, count));
+    return end_line(reply, fault ? fault : text_hex(reply, bytes, count));
 }
 
 int reply_stat(struct bytes *reply, struct standing standing) {
@@ -122,16 +92,9 @@ int reply_list(struct bytes *reply, const char *listing, size_t length) {
     int fault = bytes_print(reply, "names %zu\n", names_of(listing, length));
     for (size_t at = 0; !fault && at < length; at += strlen(listing + at) + 1) {
         fault = bytes_print(reply, "%c ", listing[at]);
-        fault = end_line(reply, fault ? fault : append_escaped(reply, listing + at + 1));
+        fault = end_line(reply, fault ? fault : text_escape(reply, listing + at + 1));
     }
     return fault;
-}
-
-static int value_of(char digit) {
-    if (digit >= '0' && digit <= '9') return digit - '0';
-    if (digit >= 'a' && digit <= 'f') return digit - 'a' + 10;
-    if (digit >= 'A' && digit <= 'F') return digit - 'A' + 10;
-    return -1;
 }
 
 static bool begins(const struct bytes *reply, const char *word) {
@@ -140,15 +103,9 @@ static bool begins(const struct bytes *reply, const char *word) {
 }
 
 int read_reply_bytes(const struct bytes *reply, char *out, size_t room, size_t *got) {
-    *got = 0;
-    if (!begins(reply, "bytes ")) return EIO;
-    const char *hex = reply->at + 6;
-    if (*hex == '-') return 0;
-    size_t count = (reply->length - 7) / 2;
-    if (count > room) return EIO;
-    for (size_t i = 0; i < count; i++) out[i] = (char)(value_of(hex[2 * i]) * 16 + value_of(hex[2 * i + 1]));
-    *got = count;
-    return 0;
+    long count = begins(reply, "bytes ") ? text_read_hex(reply->at + 6, reply->length - 7, out, room) : -1;
+    *got = count < 0 ? 0 : (size_t)count;
+    return count < 0 ? EIO : 0;
 }
 
 int read_reply_stat(const struct bytes *reply, struct standing *out) {
@@ -161,15 +118,10 @@ int read_reply_stat(const struct bytes *reply, struct standing *out) {
 
 // Appends one line of a listing, its name in plain bytes, and a byte 0.
 static int append_name(struct bytes *out, const char *line, size_t length) {
-    if (length < 3 || bytes_reserve(out, length + 1)) return length < 3 ? EIO : ENOMEM;
-    out->at[out->length++] = line[0];
-    for (size_t i = 2; i < length; i++) {
-        bool escaped = line[i] == '%' && i + 2 < length;
-        out->at[out->length++] = escaped ? (char)(value_of(line[i + 1]) * 16 + value_of(line[i + 2])) : line[i];
-        if (escaped) i += 2;
-    }
-    out->at[out->length++] = 0;
-    return 0;
+    if (length < 3) return EIO;
+    int fault = bytes_append(out, line, 1);
+    if (!fault) fault = text_unescape(out, line + 2, length - 2);
+    return fault ? fault : bytes_append(out, "", 1);
 }
 
 int read_reply_list(const struct bytes *reply, struct bytes *out) {
