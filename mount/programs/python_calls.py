@@ -1,4 +1,4 @@
-"""Functions of Python's `os` in the folder that it is started in. Each case is a function; what fails is printed, and counts."""
+"""Functions of Python's `os` in the folder that it is started in. What fails is printed, and is the status."""
 import errno
 import fcntl
 import mmap

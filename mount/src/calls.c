@@ -1,4 +1,5 @@
-// Times calls of a way to the file system, without FUSE: out/calls [BETR]. A row has the name of a call and its microseconds.
+// Times calls of a way to the file system, without FUSE: out/calls [BETR]. A row has the name of a call and its
+// microseconds.
 #include "way.h"
 #include <stdio.h>
 #include <stdlib.h>
@@ -38,7 +39,8 @@ static int write_small(int i) {
 
 static int read_small(int i) {
     size_t got;
-    return volume.way->read(volume.self, (struct place){0, file(i * 7919 % MANY)}, 0, into, SMALL, &got) || got != SMALL;
+    return volume.way->read(volume.self, (struct place){0, file(i * 7919 % MANY)}, 0, into, SMALL, &got) ||
+           got != SMALL;
 }
 
 static int write_large(int i) {
@@ -48,7 +50,8 @@ static int write_large(int i) {
 
 static int read_large(int i) {
     size_t got;
-    return volume.way->read(volume.self, (struct place){0, "/large"}, (uint64_t)i * LARGE, into, LARGE, &got) || got != LARGE;
+    return volume.way->read(volume.self, (struct place){0, "/large"}, (uint64_t)i * LARGE, into, LARGE, &got) ||
+           got != LARGE;
 }
 
 static void time_calls(const char *name, int (*call)(int), int count) {

@@ -65,9 +65,12 @@ static void link_out(struct entry *entry) {
 }
 
 static struct attributes default_attributes(bool is_directory) {
-    return (struct attributes){
-        .mode = is_directory ? 0755 : 0644, .user = getuid(), .group = getgid(),
-        .access = began, .modify = began, .change = began};
+    return (struct attributes){.mode = is_directory ? 0755 : 0644,
+                               .user = getuid(),
+                               .group = getgid(),
+                               .access = began,
+                               .modify = began,
+                               .change = began};
 }
 
 static struct entry *new_entry(char *name, bool is_directory) {

@@ -1,5 +1,5 @@
-// The names that the mount has seen, as a tree, and beside each name what the proved file system does not keep: mode, owner,
-// times and extended attributes. An entry stands for one inode of the kernel. No proof covers any of this.
+// The names that the mount has seen, as a tree, and beside each name what the proved file system does not keep: mode,
+// owner, times and extended attributes. An entry stands for one inode of the kernel. No proof covers any of this.
 #ifndef ENTRIES_H
 #define ENTRIES_H
 #include "way.h"
@@ -34,15 +34,15 @@ struct attributes {
 };
 
 struct entry {
-    struct entry *parent; // null: the root, or taken out
-    struct entry *first;  // of those below it
+    struct entry *parent;         // null: the root, or taken out
+    struct entry *first;          // of those below it
     struct entry *before, *after; // beside it
     struct entry *same_slot;      // in the table of names
     char *name;
     enum role role;
     bool is_directory;
-    bool is_unlinked;  // an open file whose name is gone
-    uint64_t lookups;  // what the kernel holds
+    bool is_unlinked; // an open file whose name is gone
+    uint64_t lookups; // what the kernel holds
     uint64_t opens;
     struct attributes attributes;
 };

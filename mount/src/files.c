@@ -274,7 +274,8 @@ int files_read(struct mount *mount, struct entry *entry, uint64_t offset, char *
     return fault;
 }
 
-int files_write(struct mount *mount, struct entry *entry, uint64_t offset, const char *bytes, size_t count, size_t *done) {
+int files_write(struct mount *mount, struct entry *entry, uint64_t offset, const char *bytes, size_t count,
+                size_t *done) {
     struct spot spot;
     *done = 0;
     int fault = entry_spot(entry, 0, &spot);
@@ -299,7 +300,8 @@ static int append_child(struct bytes *out, const struct entry *child) {
 
 static int list_snapshots(const struct entry *folder, struct bytes *out) {
     int fault = 0;
-    for (const struct entry *child = folder->first; child && !fault; child = child->after) fault = append_child(out, child);
+    for (const struct entry *child = folder->first; child && !fault; child = child->after)
+        fault = append_child(out, child);
     return fault;
 }
 

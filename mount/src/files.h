@@ -1,5 +1,5 @@
-// What each request does: to the file system by its way, and to the names and attributes beside it. Each function is called
-// under the mount's lock, and answers 0 or a number of <errno.h>; one that is refused changes nothing.
+// What each request does: to the file system by its way, and to the names and attributes beside it. Each function is
+// called under the mount's lock, and answers 0 or a number of <errno.h>; one that is refused changes nothing.
 #ifndef FILES_H
 #define FILES_H
 #include "entries.h"
@@ -42,7 +42,8 @@ int files_rename(struct mount *mount, struct entry *parent, const char *name, st
 int files_open(struct mount *mount, struct entry *entry, int flags);
 int files_close(struct mount *mount, struct entry *entry);
 int files_read(struct mount *mount, struct entry *entry, uint64_t offset, char *out, size_t room, size_t *got);
-int files_write(struct mount *mount, struct entry *entry, uint64_t offset, const char *bytes, size_t count, size_t *done);
+int files_write(struct mount *mount, struct entry *entry, uint64_t offset, const char *bytes, size_t count,
+                size_t *done);
 int files_allocate(struct mount *mount, struct entry *entry, uint64_t offset, uint64_t count);
 
 // The names of a directory, as `struct way` tells them; those of the mount's own are left out.

@@ -39,7 +39,8 @@ static int put_bytes(struct saving *saving, uint64_t length) {
         size_t got;
         fault = volume->way->read(volume->self, (struct place){0, saving->path}, at, saving->bytes, LARGEST_READ, &got);
         for (size_t from = 0; from < got && !fault; from += BLOCK)
-            fault = put_block(saving, (at + from) / BLOCK, saving->bytes + from, got - from < BLOCK ? got - from : BLOCK);
+            fault =
+                put_block(saving, (at + from) / BLOCK, saving->bytes + from, got - from < BLOCK ? got - from : BLOCK);
     }
     return fault;
 }

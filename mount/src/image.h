@@ -1,5 +1,5 @@
-// Images of trees, by the calls of a way: a line for each entry, and for each block of a file (docs/FORMATS.md). The program
-// `betr` reads and prints them by itself.
+// Images of trees, by the calls of a way: a line for each entry, and for each block of a file (docs/FORMATS.md). The
+// program `betr` reads and prints them by itself.
 #ifndef IMAGE_H
 #define IMAGE_H
 #include "way.h"

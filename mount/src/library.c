@@ -42,9 +42,11 @@ static int library_truncate(void *self, const char *path, uint64_t length) {
     return done(library, doorvervain_truncate(&library->volume, text(path), strlen(path), length));
 }
 
-static int library_write(void *self, const char *path, uint64_t offset, const char *bytes, size_t count, size_t *written) {
+static int library_write(void *self, const char *path, uint64_t offset, const char *bytes, size_t count,
+                         size_t *written) {
     struct library *library = self;
-    int fault = done(library, doorvervain_write(&library->volume, text(path), strlen(path), offset, text(bytes), count));
+    int fault =
+        done(library, doorvervain_write(&library->volume, text(path), strlen(path), offset, text(bytes), count));
     *written = fault ? 0 : count;
     return fault;
 }
@@ -73,7 +75,8 @@ static int library_read(void *self, struct place at, uint64_t offset, char *out,
     if (at.snapshot)
         return doorvervain_errno(
             doorvervain_frozen_read(&library->tree, text(at.path), length, offset, (uint8_t *)out, room, got));
-    return doorvervain_errno(doorvervain_read(&library->volume, text(at.path), length, offset, (uint8_t *)out, room, got));
+    return doorvervain_errno(
+        doorvervain_read(&library->volume, text(at.path), length, offset, (uint8_t *)out, room, got));
 }
 
 static int library_stat(void *self, struct place at, struct standing *out) {
@@ -110,8 +113,8 @@ static int library_list(void *self, struct place at, struct bytes *out) {
 }
 
 static int library_keep(void *self, enum keeping what, const char *snapshot) {
-    static uint8_t (*const calls[])(struct doorvervain *, const uint8_t *, size_t) = {
-        doorvervain_snapshot, doorvervain_drop, doorvervain_restore};
+    static uint8_t (*const calls[])(struct doorvervain *, const uint8_t *,
+                                    size_t) = {doorvervain_snapshot, doorvervain_drop, doorvervain_restore};
     struct library *library = self;
     if (what == DROP_SNAPSHOT && !strcmp(library->snapshot, snapshot)) forget_tree(library);
     return done(library, calls[what](&library->volume, text(snapshot), strlen(snapshot)));

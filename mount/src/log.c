@@ -1,5 +1,6 @@
-// A log between a volume and its caller: every call as a line of a script, and every reply. Any program of the language answers
-// the script alike. A write that is longer than a line can be stands as several lines; one that is refused stands as a note.
+// A log between a volume and its caller: every call as a line of a script, and every reply. Any program of the language
+// answers the script alike. A write that is longer than a line can be stands as several lines; one that is refused
+// stands as a note.
 #include "script.h"
 #include <errno.h>
 #include <stdio.h>
@@ -58,7 +59,8 @@ static int log_write(void *self, const char *path, uint64_t offset, const char *
     struct log *log = self;
     int fault = log->over.way->write(log->over.self, path, offset, bytes, count, done);
     for (size_t at = 0; at < *done; at += LARGEST_LINE_WRITE)
-        tell_write(log, path, offset + at, bytes + at, *done - at < LARGEST_LINE_WRITE ? *done - at : LARGEST_LINE_WRITE);
+        tell_write(log, path, offset + at, bytes + at,
+                   *done - at < LARGEST_LINE_WRITE ? *done - at : LARGEST_LINE_WRITE);
     if (!fault) return 0;
     if (count - *done <= LARGEST_LINE_WRITE) {
         script_write(fresh(&log->line), path, offset + *done, bytes + *done, count - *done);
@@ -116,7 +118,8 @@ static const struct way log_way = {
 static FILE *open_part(const char *name, const char *ending) {
     struct bytes file = {0};
     FILE *out = 0;
-    if (!bytes_append(&file, name, strlen(name)) && !bytes_append(&file, ending, strlen(ending) + 1)) out = fopen(file.at, "we");
+    if (!bytes_append(&file, name, strlen(name)) && !bytes_append(&file, ending, strlen(ending) + 1))
+        out = fopen(file.at, "we");
     bytes_free(&file);
     return out;
 }

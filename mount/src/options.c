@@ -20,17 +20,19 @@ static const char help[] =
     "  --foreground    does not go into the background\n"
     "  --help          prints this\n"
     "\n"
-    "mkdir MNT/.snapshots/NAME takes a snapshot, and rmdir of that folder drops it. What is below it is read-only. No listing\n"
-    "of MNT shows .snapshots. Links, symbolic links, fifos, sockets and devices are refused. The tree lives in memory: what\n"
-    "no image keeps is gone with the mount, and modes, owners, times and extended attributes are in no image.\n";
+    "mkdir MNT/.snapshots/NAME takes a snapshot, and rmdir of that folder drops it. What is below it is read-only.\n"
+    "No listing of MNT shows .snapshots. Links, symbolic links, fifos, sockets and devices are refused.\n"
+    "The tree lives in memory: what no image keeps is gone with the mount, and modes, owners, times and extended\n"
+    "attributes are in no image.\n";
 
 void print_help(void) { fputs(help, stdout); }
 
 static const struct option known[] = {
-    {"pipe", required_argument, 0, 'p'},    {"load", required_argument, 0, 'l'},  {"image", required_argument, 0, 'i'},
-    {"log", required_argument, 0, 'g'},     {"steps", required_argument, 0, 's'}, {"restore", required_argument, 0, 'r'},
-    {"allow-other", no_argument, 0, 'a'},   {"foreground", no_argument, 0, 'f'},  {"help", no_argument, 0, 'h'},
-    {0},
+    {"pipe", required_argument, 0, 'p'},  {"load", required_argument, 0, 'l'},
+    {"image", required_argument, 0, 'i'}, {"log", required_argument, 0, 'g'},
+    {"steps", required_argument, 0, 's'}, {"restore", required_argument, 0, 'r'},
+    {"allow-other", no_argument, 0, 'a'}, {"foreground", no_argument, 0, 'f'},
+    {"help", no_argument, 0, 'h'},        {0},
 };
 
 static int refuse(const char *text, const char *word) {
@@ -50,7 +52,10 @@ static int read_option(int letter, struct options *out) {
     switch (letter) {
     case 'p': out->making.betr = optarg; return 0;
     case 'l': out->making.image = optarg; return 0;
-    case 'i': out->image = optarg; out->making.prints_image = true; return 0;
+    case 'i':
+        out->image = optarg;
+        out->making.prints_image = true;
+        return 0;
     case 'g': out->making.log = optarg; return 0;
     case 's': return read_steps(optarg, &out->making.steps);
     case 'r': out->restore = optarg; return 0;

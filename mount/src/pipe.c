@@ -11,9 +11,9 @@
 #include <unistd.h>
 
 struct pipe {
-    int end;             // our end of the pair
+    int end; // our end of the pair
     pid_t child;
-    bool is_broken;      // what is left of a reply would be taken for the next one
+    bool is_broken; // what is left of a reply would be taken for the next one
     struct bytes line, reply;
 };
 

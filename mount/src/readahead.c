@@ -4,7 +4,8 @@
 #include <stdlib.h>
 #include <string.h>
 
-// The device of the newest mount on a folder, as `MAJOR:MINOR`, which a stat of it would have to ask this very process for.
+// The device of the newest mount on a folder, as `MAJOR:MINOR`, which a stat of it would have to ask this very process
+// for.
 static bool find_device(const char *folder, char device[32]) {
     char line[4096], number[32], point[2048];
     FILE *mounts = fopen("/proc/self/mountinfo", "re");

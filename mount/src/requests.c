@@ -1,7 +1,8 @@
 // Each request takes the lock, does what files.h has for it, leaves the lock, and answers.
 //
-// All changes of the tree come by the kernel, so what it knows of names and attributes stays right for as long as it keeps
-// them; where a snapshot is restored, it is told to forget. The bytes of a file are asked for anew when it is opened.
+// All changes of the tree come by the kernel, so what it knows of names and attributes stays right for as long as it
+// keeps them; where a snapshot is restored, it is told to forget. The bytes of a file are asked for anew when it is
+// opened.
 #include "requests.h"
 #include "snapshots.h"
 #include <errno.h>
@@ -25,9 +26,10 @@ static struct entry *entry_of(fuse_req_t req, fuse_ino_t number) {
 }
 
 static struct fuse_entry_param told(const struct found *found) {
-    return (struct fuse_entry_param){
-        .ino = (fuse_ino_t)(uintptr_t)found->entry, .attr = found->stat,
-        .attr_timeout = SECONDS_KNOWN, .entry_timeout = SECONDS_KNOWN};
+    return (struct fuse_entry_param){.ino = (fuse_ino_t)(uintptr_t)found->entry,
+                                     .attr = found->stat,
+                                     .attr_timeout = SECONDS_KNOWN,
+                                     .entry_timeout = SECONDS_KNOWN};
 }
 
 // Under the lock: an answer that names an entry is one more that the kernel holds.
@@ -93,8 +95,12 @@ static void on_setattr(fuse_req_t req, fuse_ino_t number, struct stat *wanted, i
         .user = which & FUSE_SET_ATTR_UID ? &wanted->st_uid : 0,
         .group = which & FUSE_SET_ATTR_GID ? &wanted->st_gid : 0,
         .length = which & FUSE_SET_ATTR_SIZE ? &length : 0,
-        .access = which & FUSE_SET_ATTR_ATIME_NOW ? &time : which & FUSE_SET_ATTR_ATIME ? &wanted->st_atim : 0,
-        .modify = which & FUSE_SET_ATTR_MTIME_NOW ? &time : which & FUSE_SET_ATTR_MTIME ? &wanted->st_mtim : 0,
+        .access = which & FUSE_SET_ATTR_ATIME_NOW ? &time
+                  : which & FUSE_SET_ATTR_ATIME   ? &wanted->st_atim
+                                                  : 0,
+        .modify = which & FUSE_SET_ATTR_MTIME_NOW ? &time
+                  : which & FUSE_SET_ATTR_MTIME   ? &wanted->st_mtim
+                                                  : 0,
     };
     struct stat stat;
     (void)info;
@@ -225,7 +231,8 @@ static void on_write(fuse_req_t req, fuse_ino_t number, const char *bytes, size_
     else fuse_reply_write(req, done);
 }
 
-static void on_fallocate(fuse_req_t req, fuse_ino_t number, int mode, off_t offset, off_t count, struct fuse_file_info *info) {
+static void on_fallocate(fuse_req_t req, fuse_ino_t number, int mode, off_t offset, off_t count,
+                         struct fuse_file_info *info) {
     int fault = mode ? EOPNOTSUPP : 0;
     (void)info;
     pthread_mutex_lock(&lock);
@@ -306,7 +313,8 @@ static int fill_page(struct page *page, struct bytes *names, off_t at) {
     return fault;
 }
 
-static void answer_page(fuse_req_t req, fuse_ino_t number, size_t size, off_t at, struct fuse_file_info *info, bool more) {
+static void answer_page(fuse_req_t req, fuse_ino_t number, size_t size, off_t at, struct fuse_file_info *info,
+                        bool more) {
     struct page page = {req, entry_of(req, number), more, malloc(size), size, 0};
     int fault = page.out ? 0 : ENOMEM;
     pthread_mutex_lock(&lock);
@@ -327,14 +335,19 @@ static void on_readdirplus(fuse_req_t req, fuse_ino_t number, size_t size, off_t
 
 static void on_statfs(fuse_req_t req, fuse_ino_t number) {
     (void)number;
-    struct statvfs stat = {
-        .f_bsize = 4096, .f_frsize = 4096, .f_files = 1u << 30, .f_ffree = 1u << 30, .f_favail = 1u << 30,
-        .f_blocks = (fsblkcnt_t)sysconf(_SC_PHYS_PAGES), .f_namemax = LONGEST_NAME};
+    struct statvfs stat = {.f_bsize = 4096,
+                           .f_frsize = 4096,
+                           .f_files = 1u << 30,
+                           .f_ffree = 1u << 30,
+                           .f_favail = 1u << 30,
+                           .f_blocks = (fsblkcnt_t)sysconf(_SC_PHYS_PAGES),
+                           .f_namemax = LONGEST_NAME};
     stat.f_bfree = stat.f_bavail = (fsblkcnt_t)sysconf(_SC_AVPHYS_PAGES);
     fuse_reply_statfs(req, &stat);
 }
 
-static void on_setxattr(fuse_req_t req, fuse_ino_t number, const char *name, const char *value, size_t size, int flags) {
+static void on_setxattr(fuse_req_t req, fuse_ino_t number, const char *name, const char *value, size_t size,
+                        int flags) {
     pthread_mutex_lock(&lock);
     int fault = files_set_extended(entry_of(req, number), name, value, size, flags);
     pthread_mutex_unlock(&lock);

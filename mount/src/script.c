@@ -10,9 +10,9 @@ static const struct {
     const char *word;
     int number;
 } faults[] = {
-    {"ENOENT", ENOENT}, {"ENOTDIR", ENOTDIR}, {"EISDIR", EISDIR}, {"EEXIST", EEXIST},
-    {"ENOTEMPTY", ENOTEMPTY}, {"EPERM", EPERM}, {"EINVAL", EINVAL}, {"ENAMETOOLONG", ENAMETOOLONG},
-    {"EFBIG", EFBIG}, {"EBUSY", EBUSY}, {"ENOMEM", ENOMEM}, {"ENOSPC", ENOSPC},
+    {"ENOENT", ENOENT},       {"ENOTDIR", ENOTDIR}, {"EISDIR", EISDIR}, {"EEXIST", EEXIST},
+    {"ENOTEMPTY", ENOTEMPTY}, {"EPERM", EPERM},     {"EINVAL", EINVAL}, {"ENAMETOOLONG", ENAMETOOLONG},
+    {"EFBIG", EFBIG},         {"EBUSY", EBUSY},     {"ENOMEM", ENOMEM}, {"ENOSPC", ENOSPC},
 };
 enum { FAULTS = sizeof faults / sizeof *faults };
 
@@ -147,6 +147,4 @@ int fault_of_reply(const struct bytes *reply) {
     return EIO;
 }
 
-size_t lines_of_reply(const char *reply) {
-    return strncmp(reply, "names ", 6) ? 1 : 1 + strtoull(reply + 6, 0, 10);
-}
+size_t lines_of_reply(const char *reply) { return strncmp(reply, "names ", 6) ? 1 : 1 + strtoull(reply + 6, 0, 10); }

@@ -13,7 +13,7 @@ struct stale {
     char *name;
 };
 
-// Makes the live tree that of a snapshot. Open files stay open where their path has a file still; unlinked ones are gone. What
-// the kernel has to forget goes to `out`, a list of `struct stale`, whose names the caller frees.
+// Makes the live tree that of a snapshot. Open files stay open where their path has a file still; unlinked ones are
+// gone. What the kernel has to forget goes to `out`, a list of `struct stale`, whose names the caller frees.
 int snapshot_restore(struct mount *mount, const char *name, struct bytes *out);
 #endif

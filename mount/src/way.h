@@ -1,7 +1,7 @@
 // A way to the file system: the library in this very process, or the program `betr` in a process of its own.
 //
-// Every function answers 0 or a number of <errno.h>, and a call that is refused changes nothing. One call is under way at
-// a time: who calls holds a lock.
+// Every function answers 0 or a number of <errno.h>, and a call that is refused changes nothing. One call is under way
+// at a time: who calls holds a lock.
 #ifndef WAY_H
 #define WAY_H
 #include "bytes.h"
