@@ -4,6 +4,7 @@
 #include "requests.h"
 #include <errno.h>
 #include <fcntl.h>
+#include <malloc.h>
 #include <signal.h>
 #include <stdio.h>
 #include <stdlib.h>
@@ -94,9 +95,16 @@ static int mount_and_serve(const struct options *options, struct mount *mount, i
     return close_volume(mount, options->image) || status;
 }
 
+// Room for the bytes of a large read is used again, and not asked from the kernel for each.
+static void keep_memory(void) {
+    mallopt(M_MMAP_THRESHOLD, 8 * LARGEST_READ);
+    mallopt(M_TRIM_THRESHOLD, 64 * LARGEST_READ);
+}
+
 static int run(const struct options *options, int parent) {
     struct mount mount = {0};
     umask(0);
+    keep_memory();
     if (open_volume(options, &mount)) return 1;
     return mount_and_serve(options, &mount, parent);
 }
