@@ -1,0 +1,332 @@
+"""Functions of Python's `os` in the folder that it is started in. What fails is printed, and is the status."""
+import errno
+import fcntl
+import mmap
+import os
+import random
+import shutil
+import stat
+import sys
+import tempfile
+import threading
+import traceback
+from collections.abc import Callable
+
+CASES: list[Callable[[], None]] = []
+
+
+def case(run: Callable[[], None]) -> Callable[[], None]:
+    CASES.append(run)
+    return run
+
+
+def put(path, data: bytes) -> None:
+    with open(path, "wb") as file:
+        file.write(data)
+
+
+def get(path) -> bytes:
+    with open(path, "rb") as file:
+        return file.read()
+
+
+def refused(number: int, call, *words, **named) -> None:
+    try:
+        call(*words, **named)
+    except OSError as fault:
+        assert fault.errno == number, f"{errno.errorcode[fault.errno]}, not {errno.errorcode[number]}"
+    else:
+        raise AssertionError(f"not refused: {words}")
+
+
+@case
+def folders_are_made_and_taken_away():
+    os.mkdir("one")
+    os.makedirs("a/b/c")
+    refused(errno.EEXIST, os.mkdir, "a")
+    refused(errno.ENOENT, os.mkdir, "none/x")
+    os.removedirs("a/b/c")
+    os.rmdir("one")
+    refused(errno.ENOENT, os.rmdir, "one")
+
+
+@case
+def bytes_are_written_and_read():
+    put("file", b"0123456789")
+    with open("file", "ab") as file:
+        file.write(b"AB")
+    with open("file", "r+b") as file:
+        file.seek(3)
+        file.write(b"xyz")
+        file.seek(20)
+        file.write(b"!")
+        file.truncate(25)
+    assert get("file") == b"012xyz6789AB" + bytes(8) + b"!" + bytes(4)
+    os.truncate("file", 2)
+    assert get("file") == b"01"
+
+
+@case
+def ways_to_open():
+    os.close(os.open("file", os.O_CREAT | os.O_EXCL | os.O_WRONLY))
+    refused(errno.EEXIST, os.open, "file", os.O_CREAT | os.O_EXCL | os.O_WRONLY)
+    put("file", b"abc")
+    os.close(os.open("file", os.O_WRONLY | os.O_TRUNC))
+    assert get("file") == b""
+    refused(errno.ENOTDIR, os.open, "file", os.O_RDONLY | os.O_DIRECTORY)
+    refused(errno.EISDIR, os.open, ".", os.O_WRONLY)
+
+
+@case
+def renames():
+    put("x", b"x")
+    put("y", b"y")
+    os.rename("x", "y")
+    assert get("y") == b"x"
+    os.makedirs("folder/below")
+    put("folder/below/file", b"f")
+    refused(errno.EINVAL, os.rename, "folder", "folder/below/g")
+    refused(errno.EISDIR, os.rename, "y", "folder")
+    refused(errno.ENOTDIR, os.rename, "folder", "y")
+    refused(errno.ENOENT, os.rename, "none", "z")
+    os.mkdir("empty")
+    os.rename("folder", "empty")
+    assert get("empty/below/file") == b"f"
+    os.mkdir("other")
+    refused(errno.ENOTEMPTY, os.rename, "other", "empty")
+
+
+@case
+def kinds_that_do_not_fit():
+    os.mkdir("folder")
+    put("folder/file", b"")
+    refused(errno.EISDIR, os.unlink, "folder")
+    refused(errno.ENOTDIR, os.rmdir, "folder/file")
+    refused(errno.ENOTEMPTY, os.rmdir, "folder")
+    refused(errno.ENOTDIR, os.stat, "folder/file/x")
+
+
+@case
+def an_unlinked_file_lives_while_it_is_open():
+    os.mkdir("folder")
+    with open("folder/file", "w+b") as file:
+        file.write(b"abc")
+        file.flush()
+        os.unlink("folder/file")
+        refused(errno.ENOENT, os.stat, "folder/file")
+        os.rmdir("folder")
+        file.write(b"def")
+        file.seek(0)
+        assert file.read() == b"abcdef"
+        told = os.fstat(file.fileno())
+        assert (told.st_nlink, told.st_size) == (0, 6), told
+        assert os.listdir(".") == []
+
+
+@case
+def a_replaced_file_lives_while_it_is_open():
+    put("old", b"old")
+    put("new", b"new")
+    with open("old", "rb") as file:
+        os.rename("new", "old")
+        assert file.read() == b"old"
+        assert get("old") == b"new"
+
+
+@case
+def a_file_is_open_while_its_folder_is_renamed():
+    os.makedirs("one/two")
+    with open("one/two/file", "wb", buffering=0) as file:
+        file.write(b"abc")
+        os.rename("one", "three")
+        file.write(b"def")
+    assert get("three/two/file") == b"abcdef"
+
+
+@case
+def attributes_are_kept():
+    put("file", b"")
+    os.chmod("file", 0o640)
+    os.utime("file", ns=(5_000_000_001, 7_000_000_002))
+    if os.getuid() == 0:
+        os.chown("file", 1, 2)
+    os.rename("file", "moved")
+    told = os.stat("moved")
+    assert stat.S_IMODE(told.st_mode) == 0o640
+    assert (told.st_atime_ns, told.st_mtime_ns) == (5_000_000_001, 7_000_000_002)
+    assert os.getuid() or (told.st_uid, told.st_gid) == (1, 2)
+    put("moved", b"b")
+    assert os.stat("moved").st_mtime > 1e9
+
+
+@case
+def a_folder_changes_with_its_names():
+    os.mkdir("folder")
+    os.utime("folder", (5, 7))
+    put("folder/file", b"")
+    assert os.stat("folder").st_mtime > 1e9
+    os.utime("folder", (5, 7))
+    os.remove("folder/file")
+    assert os.stat("folder").st_mtime > 1e9
+
+
+@case
+def extended_attributes():
+    put("file", b"")
+    os.setxattr("file", "user.one", b"1")
+    os.setxattr("file", "user.two", bytes(1000))
+    refused(errno.EEXIST, os.setxattr, "file", "user.one", b"2", os.XATTR_CREATE)
+    assert sorted(os.listxattr("file")) == ["user.one", "user.two"]
+    assert os.getxattr("file", "user.two") == bytes(1000)
+    os.removexattr("file", "user.two")
+    refused(errno.ENODATA, os.getxattr, "file", "user.two")
+    os.rename("file", "moved")
+    assert os.getxattr("moved", "user.one") == b"1"
+
+
+@case
+def a_thousand_names():
+    for i in range(1000):
+        put(f"{i:04}", b"")
+    assert sorted(os.listdir(".")) == [f"{i:04}" for i in range(1000)]
+    assert all(entry.is_file() and entry.stat().st_size == 0 for entry in os.scandir("."))
+
+
+@case
+def bytes_in_names():
+    for name in (b"a b", b"%41", b"\xff\xfe", b"tab\tline\n", b"-", b"#", b"@", b"q" * 255):
+        put(name, name)
+        assert get(name) == name
+        assert os.listdir(b".") == [name]
+        os.remove(name)
+    refused(errno.ENAMETOOLONG, put, b"q" * 256, b"")
+
+
+@case
+def long_paths():
+    name = "d" * 200
+    os.makedirs("/".join([name] * 4))
+    os.chdir("/".join([name] * 4))
+    refused(errno.ENAMETOOLONG, os.mkdir, "e" * 250)
+    os.chdir("../../../..")
+
+
+@case
+def locks():
+    with open("file", "w") as one, open("file", "w") as two:
+        fcntl.flock(one, fcntl.LOCK_EX)
+        refused(errno.EAGAIN, fcntl.flock, two, fcntl.LOCK_EX | fcntl.LOCK_NB)
+        fcntl.flock(one, fcntl.LOCK_UN)
+        fcntl.flock(two, fcntl.LOCK_EX)
+        fcntl.lockf(one, fcntl.LOCK_EX)
+
+
+@case
+def mapped_memory():
+    put("file", bytes(10000))
+    with open("file", "r+b") as file, mmap.mmap(file.fileno(), 0) as memory:
+        memory[4090:4100] = b"0123456789"
+        memory.flush()
+    assert get("file")[4085:4105] == bytes(5) + b"0123456789" + bytes(5)
+
+
+@case
+def calls_of_linux():
+    with open("one", "w+b") as one, open("two", "w+b") as two:
+        one.write(b"abc" * 1000)
+        one.flush()
+        os.fsync(one.fileno())
+        os.fdatasync(one.fileno())
+        os.posix_fallocate(one.fileno(), 0, 5000)
+        assert os.stat("one").st_size == 5000
+        assert os.copy_file_range(one.fileno(), two.fileno(), 3000, 0) == 3000
+    assert get("two") == b"abc" * 1000
+    shutil.copyfile("two", "three")
+    assert get("three") == get("two")
+    assert os.statvfs(".").f_namemax == 255
+
+
+@case
+def the_greatest_file():
+    put("file", b"")
+    os.truncate("file", 2**40)
+    refused(errno.EFBIG, os.truncate, "file", 2**40 + 1)
+    with open("file", "r+b", buffering=0) as file:
+        os.pwrite(file.fileno(), b"z", 2**40 - 1)
+        assert os.pread(file.fileno(), 5, 2**40 - 2) == b"\0z"
+        refused(errno.EFBIG, os.pwrite, file.fileno(), b"z", 2**40)
+
+
+@case
+def temporary_files():
+    with tempfile.TemporaryDirectory(dir=".") as folder:
+        with tempfile.NamedTemporaryFile(dir=folder) as file:
+            file.write(b"a")
+            file.flush()
+            assert get(file.name) == b"a"
+        with tempfile.TemporaryFile(dir=folder) as file:
+            file.write(b"a")
+            file.seek(0)
+            assert file.read() == b"a"
+
+
+def write_at_random(seed: int, faults: list[str]) -> None:
+    chance, shadow = random.Random(seed), bytearray()
+    file = os.open(f"random{seed}", os.O_CREAT | os.O_RDWR)
+    try:
+        for _ in range(300):
+            offset, count, what = chance.randrange(60000), chance.randrange(1, 9000), chance.randrange(4)
+            if what == 0:
+                os.ftruncate(file, offset)
+                shadow = shadow[:offset] + bytes(max(0, offset - len(shadow)))
+            elif what == 1:
+                data = chance.randbytes(count)
+                os.pwrite(file, data, offset)
+                shadow += bytes(max(0, offset + count - len(shadow)))
+                shadow[offset : offset + count] = data
+            else:
+                assert os.pread(file, count, offset) == shadow[offset : offset + count]
+        assert get(f"random{seed}") == shadow
+    except BaseException:
+        faults.append(traceback.format_exc())
+    finally:
+        os.close(file)
+
+
+@case
+def four_threads_beside_a_shadow():
+    faults: list[str] = []
+    threads = [threading.Thread(target=write_at_random, args=(seed, faults)) for seed in range(4)]
+    for thread in threads:
+        thread.start()
+    for thread in threads:
+        thread.join()
+    assert not faults, faults[0]
+
+
+def failed(run: Callable[[], None], top: str) -> bool:
+    folder = os.path.join(top, run.__name__)
+    os.mkdir(folder)
+    os.chdir(folder)
+    try:
+        run()
+        os.chdir(top)
+        shutil.rmtree(folder)
+    except BaseException:
+        print("failed:", run.__name__)
+        traceback.print_exc(file=sys.stdout)
+        os.chdir(top)
+        return True
+    return False
+
+
+def main() -> int:
+    top = os.getcwd()
+    wrong = sum(failed(run, top) for run in CASES)
+    if os.listdir(top):
+        print("left:", os.listdir(top))
+    print(f"{len(CASES) - wrong} of {len(CASES)} cases work")
+    return 1 if wrong else 0
+
+
+sys.exit(main())

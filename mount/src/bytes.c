@@ -1,0 +1,58 @@
+#include "bytes.h"
+#include <errno.h>
+#include <fcntl.h>
+#include <stdarg.h>
+#include <stdio.h>
+#include <stdlib.h>
+#include <string.h>
+#include <unistd.h>
+
+int bytes_reserve(struct bytes *bytes, size_t more) {
+    if (bytes->room - bytes->length >= more) return 0;
+    size_t room = bytes->room * 2 > bytes->length + more ? bytes->room * 2 : bytes->length + more;
+    char *at = realloc(bytes->at, room);
+    if (!at) return ENOMEM;
+    bytes->at = at;
+    bytes->room = room;
+    return 0;
+}
+
+int bytes_append(struct bytes *bytes, const void *more, size_t count) {
+    if (bytes_reserve(bytes, count)) return ENOMEM;
+    if (count) memcpy(bytes->at + bytes->length, more, count);
+    bytes->length += count;
+    return 0;
+}
+
+int bytes_print(struct bytes *bytes, const char *form, ...) {
+    char text[256];
+    va_list words;
+    va_start(words, form);
+    int length = vsnprintf(text, sizeof text, form, words);
+    va_end(words);
+    return length < 0 || (size_t)length >= sizeof text ? ENOMEM : bytes_append(bytes, text, (size_t)length);
+}
+
+static int read_all(struct bytes *bytes, int file) {
+    for (;;) {
+        if (bytes_reserve(bytes, 1 << 16)) return ENOMEM;
+        ssize_t got = read(file, bytes->at + bytes->length, bytes->room - bytes->length);
+        if (got < 0 && errno == EINTR) continue;
+        if (got < 0) return errno;
+        if (got == 0) return 0;
+        bytes->length += (size_t)got;
+    }
+}
+
+int bytes_read_file(struct bytes *bytes, const char *name) {
+    int file = open(name, O_RDONLY | O_CLOEXEC);
+    if (file < 0) return errno;
+    int fault = read_all(bytes, file);
+    close(file);
+    return fault;
+}
+
+void bytes_free(struct bytes *bytes) {
+    free(bytes->at);
+    *bytes = (struct bytes){0};
+}

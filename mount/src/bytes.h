@@ -1,0 +1,21 @@
+// Bytes that grow.
+#ifndef BYTES_H
+#define BYTES_H
+#include <stddef.h>
+
+struct bytes {
+    char *at;
+    size_t length, room;
+};
+
+// Makes room for so many more bytes behind those that are there: 0 or ENOMEM.
+int bytes_reserve(struct bytes *bytes, size_t more);
+// Puts bytes behind those that are there: 0 or ENOMEM.
+int bytes_append(struct bytes *bytes, const void *more, size_t count);
+// Puts formatted text behind those that are there, without a byte 0: 0 or ENOMEM.
+int bytes_print(struct bytes *bytes, const char *form, ...) __attribute__((format(printf, 2, 3)));
+// Appends a whole file: 0, or a number of <errno.h>.
+int bytes_read_file(struct bytes *bytes, const char *file);
+// Frees them, and leaves none.
+void bytes_free(struct bytes *bytes);
+#endif

@@ -1,0 +1,59 @@
+// What each request does: to the file system by its way, and to the names and attributes beside it. Each function is
+// called under the mount's lock, and answers 0 or a number of <errno.h>; one that is refused changes nothing.
+#ifndef FILES_H
+#define FILES_H
+#include "entries.h"
+#include <sys/statvfs.h>
+
+struct mount {
+    struct volume volume;
+    struct entry *root;
+    uint64_t unlinked; // how many files were set aside
+};
+
+// What an entry is told with.
+struct found {
+    struct entry *entry;
+    struct stat stat;
+};
+
+// What is to be set of an entry. What is not named stays.
+struct setting {
+    const mode_t *mode;
+    const uid_t *user;
+    const gid_t *group;
+    const uint64_t *length;
+    const struct timespec *access, *modify;
+};
+
+int files_start(struct mount *mount);
+int files_find(struct mount *mount, struct entry *parent, const char *name, struct found *out);
+int files_stat(struct mount *mount, struct entry *entry, struct stat *out);
+int files_set(struct mount *mount, struct entry *entry, const struct setting *setting);
+
+// A file or a directory of a new name.
+int files_make(struct mount *mount, struct entry *parent, const char *name, const struct attributes *attributes,
+               bool is_directory, struct found *out);
+int files_remove(struct mount *mount, struct entry *parent, const char *name, bool is_directory);
+int files_rename(struct mount *mount, struct entry *parent, const char *name, struct entry *new_parent,
+                 const char *new_name, unsigned flags);
+
+// A file is opened, with flags as of open(2), and closed.
+int files_open(struct mount *mount, struct entry *entry, int flags);
+int files_close(struct mount *mount, struct entry *entry);
+int files_read(struct mount *mount, struct entry *entry, uint64_t offset, char *out, size_t room, size_t *got);
+int files_write(struct mount *mount, struct entry *entry, uint64_t offset, const char *bytes, size_t count,
+                size_t *done);
+int files_allocate(struct mount *mount, struct entry *entry, uint64_t offset, uint64_t count);
+
+// The names of a directory, as `struct way` tells them; those of the mount's own are left out.
+int files_list(struct mount *mount, struct entry *entry, struct bytes *out);
+
+// Extended attributes: EOPNOTSUPP for those of the kernel's own.
+int files_find_extended(const struct entry *entry, const char *name, const struct attribute **out);
+int files_set_extended(struct entry *entry, const char *name, const char *value, size_t length, int flags);
+int files_remove_extended(struct entry *entry, const char *name);
+
+// Whether an entry may be changed: 0 or EROFS.
+int files_may_change(const struct entry *entry);
+#endif

@@ -1,0 +1,147 @@
+// The file system as the static library in this very process.
+#include "doorvervain.h"
+#include "image.h"
+#include <errno.h>
+#include <stdio.h>
+#include <stdlib.h>
+#include <string.h>
+
+enum { FANOUT = 16, PENDING = 256, LEAF = 256 };
+
+struct library {
+    struct doorvervain volume;
+    unsigned steps;
+    // The tree of the snapshot that was looked into last; its name is empty where there is none.
+    struct doorvervain_frozen tree;
+    char snapshot[LONGEST_SNAPSHOT + 1];
+};
+
+static const uint8_t *text(const char *word) { return (const uint8_t *)word; }
+
+// What a call's number says in <errno.h>. The tree may do some steps behind a call that changed something.
+static int done(struct library *library, uint8_t number) {
+    if (number) return doorvervain_errno(number);
+    if (library->steps) doorvervain_relieve(&library->volume, library->steps);
+    return 0;
+}
+
+static int library_change(void *self, enum change what, const char *path) {
+    static uint8_t (*const calls[])(struct doorvervain *, const uint8_t *, size_t) = {
+        doorvervain_mkdir, doorvervain_create, doorvervain_unlink, doorvervain_rmdir, doorvervain_rmtree};
+    struct library *library = self;
+    return done(library, calls[what](&library->volume, text(path), strlen(path)));
+}
+
+static int library_rename(void *self, const char *from, const char *to) {
+    struct library *library = self;
+    return done(library, doorvervain_rename(&library->volume, text(from), strlen(from), text(to), strlen(to)));
+}
+
+static int library_truncate(void *self, const char *path, uint64_t length) {
+    struct library *library = self;
+    return done(library, doorvervain_truncate(&library->volume, text(path), strlen(path), length));
+}
+
+static int library_write(void *self, const char *path, uint64_t offset, const char *bytes, size_t count,
+                         size_t *written) {
+    struct library *library = self;
+    int fault =
+        done(library, doorvervain_write(&library->volume, text(path), strlen(path), offset, text(bytes), count));
+    *written = fault ? 0 : count;
+    return fault;
+}
+
+static void forget_tree(struct library *library) {
+    if (library->snapshot[0]) doorvervain_thaw(&library->tree);
+    library->snapshot[0] = 0;
+}
+
+// The tree of a snapshot, which is kept for the next look into it.
+static int look_into(struct library *library, const char *snapshot) {
+    if (!strcmp(library->snapshot, snapshot)) return 0;
+    if (strlen(snapshot) > LONGEST_SNAPSHOT) return ENOENT;
+    forget_tree(library);
+    uint8_t number = doorvervain_frozen(&library->volume, text(snapshot), strlen(snapshot), &library->tree);
+    if (number) return doorvervain_errno(number);
+    strcpy(library->snapshot, snapshot);
+    return 0;
+}
+
+static int library_read(void *self, struct place at, uint64_t offset, char *out, size_t room, size_t *got) {
+    struct library *library = self;
+    size_t length = strlen(at.path);
+    int fault = at.snapshot ? look_into(library, at.snapshot) : 0;
+    if (fault) return fault;
+    if (at.snapshot)
+        return doorvervain_errno(
+            doorvervain_frozen_read(&library->tree, text(at.path), length, offset, (uint8_t *)out, room, got));
+    return doorvervain_errno(
+        doorvervain_read(&library->volume, text(at.path), length, offset, (uint8_t *)out, room, got));
+}
+
+static int library_stat(void *self, struct place at, struct standing *out) {
+    struct library *library = self;
+    size_t length = strlen(at.path);
+    uint8_t kind = 0, number;
+    int fault = at.snapshot ? look_into(library, at.snapshot) : 0;
+    if (fault) return fault;
+    if (at.snapshot) number = doorvervain_frozen_stat(&library->tree, text(at.path), length, &kind, &out->length);
+    else number = doorvervain_stat(&library->volume, text(at.path), length, &kind, &out->length);
+    out->is_directory = kind == 1;
+    return doorvervain_errno(number);
+}
+
+// One listing into the room that is there; `size` is what it takes.
+static uint8_t list_once(struct library *library, struct place at, struct bytes *out, size_t *size) {
+    uint8_t *to = (uint8_t *)out->at + out->length;
+    size_t length = strlen(at.path), room = out->room - out->length;
+    if (at.snapshot) return doorvervain_frozen_readdir(&library->tree, text(at.path), length, to, room, size);
+    return doorvervain_readdir(&library->volume, text(at.path), length, to, room, size);
+}
+
+static int library_list(void *self, struct place at, struct bytes *out) {
+    struct library *library = self;
+    size_t size = 4096;
+    int fault = at.snapshot ? look_into(library, at.snapshot) : 0;
+    while (!fault) {
+        fault = bytes_reserve(out, size);
+        if (!fault) fault = doorvervain_errno(list_once(library, at, out, &size));
+        if (fault || size <= out->room - out->length) break;
+    }
+    if (!fault) out->length += size;
+    return fault;
+}
+
+static int library_keep(void *self, enum keeping what, const char *snapshot) {
+    static uint8_t (*const calls[])(struct doorvervain *, const uint8_t *,
+                                    size_t) = {doorvervain_snapshot, doorvervain_drop, doorvervain_restore};
+    struct library *library = self;
+    if (what == DROP_SNAPSHOT && !strcmp(library->snapshot, snapshot)) forget_tree(library);
+    return done(library, calls[what](&library->volume, text(snapshot), strlen(snapshot)));
+}
+
+static const struct way library_way;
+
+static int library_close(void *self, const char *image) {
+    struct library *library = self;
+    int fault = image ? image_save(&(struct volume){&library_way, self}, image) : 0;
+    forget_tree(library);
+    doorvervain_close(&library->volume);
+    free(library);
+    return fault;
+}
+
+static const struct way library_way = {
+    library_change, library_rename, library_truncate, library_write, library_read,
+    library_stat,   library_list,   library_keep,     library_close,
+};
+
+int open_library(const struct making *making, struct volume *out) {
+    struct library *library = calloc(1, sizeof *library);
+    if (!library) return ENOMEM;
+    library->steps = making->steps;
+    *out = (struct volume){&library_way, library};
+    int fault = doorvervain_errno(doorvervain_open(&library->volume, FANOUT, PENDING, LEAF));
+    if (fault) fprintf(stderr, "doorvervain-mount: no volume: %s\n", strerror(fault));
+    return fault || !making->image ? fault : image_load(out, making->image);
+}

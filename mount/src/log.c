@@ -1,0 +1,137 @@
+// A log between a volume and its caller: every call as a line of a script, and every reply. Any program of the language
+// answers the script alike. A write that is longer than a line can be stands as several lines; one that is refused
+// stands as a note.
+#include "script.h"
+#include <errno.h>
+#include <stdio.h>
+#include <stdlib.h>
+#include <string.h>
+
+struct log {
+    struct volume over;
+    FILE *calls, *replies;
+    struct bytes line, reply;
+};
+
+static struct bytes *fresh(struct bytes *bytes) {
+    bytes->length = 0;
+    return bytes;
+}
+
+// Writes the line that stands ready and the reply to it: a refusal, or what stands ready as a reply.
+static int tell(struct log *log, int fault) {
+    if (fault) reply_fault(fresh(&log->reply), fault);
+    fwrite(log->line.at, 1, log->line.length, log->calls);
+    fwrite(log->reply.at, 1, log->reply.length, log->replies);
+    return fault;
+}
+
+static int tell_done(struct log *log, int fault) {
+    bytes_append(fresh(&log->reply), "ok\n", 3);
+    return tell(log, fault);
+}
+
+static int log_change(void *self, enum change what, const char *path) {
+    struct log *log = self;
+    script_change(fresh(&log->line), what, path);
+    return tell_done(log, log->over.way->change(log->over.self, what, path));
+}
+
+static int log_rename(void *self, const char *from, const char *to) {
+    struct log *log = self;
+    script_rename(fresh(&log->line), from, to);
+    return tell_done(log, log->over.way->rename(log->over.self, from, to));
+}
+
+static int log_truncate(void *self, const char *path, uint64_t length) {
+    struct log *log = self;
+    script_truncate(fresh(&log->line), path, length);
+    return tell_done(log, log->over.way->truncate(log->over.self, path, length));
+}
+
+static void tell_write(struct log *log, const char *path, uint64_t offset, const char *bytes, size_t count) {
+    script_write(fresh(&log->line), path, offset, bytes, count);
+    bytes_print(fresh(&log->reply), "count %zu\n", count);
+    tell(log, 0);
+}
+
+static int log_write(void *self, const char *path, uint64_t offset, const char *bytes, size_t count, size_t *done) {
+    struct log *log = self;
+    int fault = log->over.way->write(log->over.self, path, offset, bytes, count, done);
+    for (size_t at = 0; at < *done; at += LARGEST_LINE_WRITE)
+        tell_write(log, path, offset + at, bytes + at,
+                   *done - at < LARGEST_LINE_WRITE ? *done - at : LARGEST_LINE_WRITE);
+    if (!fault) return 0;
+    if (count - *done <= LARGEST_LINE_WRITE) {
+        script_write(fresh(&log->line), path, offset + *done, bytes + *done, count - *done);
+        return tell(log, fault);
+    }
+    fprintf(log->calls, "# a write of %zu bytes was refused\n", count - *done);
+    return fault;
+}
+
+static int log_read(void *self, struct place at, uint64_t offset, char *out, size_t room, size_t *got) {
+    struct log *log = self;
+    int fault = log->over.way->read(log->over.self, at, offset, out, room, got);
+    script_read(fresh(&log->line), at, offset, room);
+    if (!fault) reply_read(fresh(&log->reply), out, *got);
+    return tell(log, fault);
+}
+
+static int log_stat(void *self, struct place at, struct standing *out) {
+    struct log *log = self;
+    int fault = log->over.way->stat(log->over.self, at, out);
+    script_stat(fresh(&log->line), at);
+    if (!fault) reply_stat(fresh(&log->reply), *out);
+    return tell(log, fault);
+}
+
+static int log_list(void *self, struct place at, struct bytes *out) {
+    struct log *log = self;
+    size_t before = out->length;
+    int fault = log->over.way->list(log->over.self, at, out);
+    script_list(fresh(&log->line), at);
+    if (!fault) reply_list(fresh(&log->reply), out->at + before, out->length - before);
+    return tell(log, fault);
+}
+
+static int log_keep(void *self, enum keeping what, const char *snapshot) {
+    struct log *log = self;
+    script_keep(fresh(&log->line), what, snapshot);
+    return tell_done(log, log->over.way->keep(log->over.self, what, snapshot));
+}
+
+static int log_close(void *self, const char *image) {
+    struct log *log = self;
+    int fault = log->over.way->close(log->over.self, image);
+    if (fclose(log->calls) || fclose(log->replies)) fault = EIO;
+    bytes_free(&log->line);
+    bytes_free(&log->reply);
+    free(log);
+    return fault;
+}
+
+static const struct way log_way = {
+    log_change, log_rename, log_truncate, log_write, log_read, log_stat, log_list, log_keep, log_close,
+};
+
+static FILE *open_part(const char *name, const char *ending) {
+    struct bytes file = {0};
+    FILE *out = 0;
+    if (!bytes_append(&file, name, strlen(name)) && !bytes_append(&file, ending, strlen(ending) + 1))
+        out = fopen(file.at, "we");
+    bytes_free(&file);
+    return out;
+}
+
+int open_log(const struct making *making, struct volume *volume) {
+    struct log *log = calloc(1, sizeof *log);
+    if (!log) return ENOMEM;
+    log->over = *volume;
+    log->calls = open_part(making->log, ".in");
+    log->replies = open_part(making->log, ".out");
+    *volume = (struct volume){&log_way, log};
+    if (log->calls && log->replies) return 0;
+    fprintf(stderr, "doorvervain-mount: %s.in and %s.out cannot be written\n", making->log, making->log);
+    return EIO;
+}

@@ -1,0 +1,77 @@
+#include "options.h"
+#include <getopt.h>
+#include <stdio.h>
+#include <stdlib.h>
+#include <string.h>
+
+static const char help[] =
+    "Mounts a file system in memory, whose calls are those of Doorvervain.\n"
+    "\n"
+    "  doorvervain-mount [OPTION..] MNT      mounts it on the folder MNT\n"
+    "  doorvervain-mount --restore NAME MNT  makes the tree that is mounted on MNT that of its snapshot NAME\n"
+    "  fusermount3 -u MNT                    takes it away\n"
+    "\n"
+    "  --pipe BETR     speaks to the program BETR, in a process of its own, instead of the library\n"
+    "  --load FILE     begins with the tree whose image is in FILE\n"
+    "  --image FILE    writes the image of the tree to FILE when the mount is taken away\n"
+    "  --log NAME      puts every call in NAME.in, as a script, and every reply in NAME.out\n"
+    "  --steps N       does N tree steps after each call that changes something, 0 to 1000 (4)\n"
+    "  --allow-other   lets other users in, by the modes of files\n"
+    "  --foreground    does not go into the background\n"
+    "  --help          prints this\n"
+    "\n"
+    "mkdir MNT/.snapshots/NAME takes a snapshot, and rmdir of that folder drops it. What is below it is read-only.\n"
+    "No listing of MNT shows .snapshots. Links, symbolic links, fifos, sockets and devices are refused.\n"
+    "The tree lives in memory: what no image keeps is gone with the mount, and modes, owners, times and extended\n"
+    "attributes are in no image.\n";
+
+void print_help(void) { fputs(help, stdout); }
+
+static const struct option known[] = {
+    {"pipe", required_argument, 0, 'p'},  {"load", required_argument, 0, 'l'},
+    {"image", required_argument, 0, 'i'}, {"log", required_argument, 0, 'g'},
+    {"steps", required_argument, 0, 's'}, {"restore", required_argument, 0, 'r'},
+    {"allow-other", no_argument, 0, 'a'}, {"foreground", no_argument, 0, 'f'},
+    {"help", no_argument, 0, 'h'},        {0},
+};
+
+static int refuse(const char *text, const char *word) {
+    fprintf(stderr, "doorvervain-mount: %s%s; see --help\n", text, word);
+    return 2;
+}
+
+static int read_steps(const char *word, unsigned *out) {
+    char *end;
+    unsigned long steps = strtoul(word, &end, 10);
+    if (!*word || *end || *word == '-' || steps > 1000) return refuse("--steps takes 0 to 1000, not ", word);
+    *out = (unsigned)steps;
+    return 0;
+}
+
+static int read_option(int letter, struct options *out) {
+    switch (letter) {
+    case 'p': out->making.betr = optarg; return 0;
+    case 'l': out->making.image = optarg; return 0;
+    case 'i':
+        out->image = optarg;
+        out->making.prints_image = true;
+        return 0;
+    case 'g': out->making.log = optarg; return 0;
+    case 's': return read_steps(optarg, &out->making.steps);
+    case 'r': out->restore = optarg; return 0;
+    case 'a': out->allows_other = true; return 0;
+    case 'f': out->stays = true; return 0;
+    case 'h': out->helps = true; return 0;
+    default: return 2;
+    }
+}
+
+int read_options(int count, char **words, struct options *out) {
+    int letter, fault = 0;
+    *out = (struct options){.making.steps = 4};
+    while (!fault && (letter = getopt_long(count, words, "h", known, 0)) != -1) fault = read_option(letter, out);
+    if (fault || out->helps) return fault;
+    if (optind + 1 != count) return refuse("one folder to mount on is wanted", "");
+    out->mount_point = words[optind];
+    return 0;
+}

@@ -1,0 +1,19 @@
+// The command line.
+#ifndef OPTIONS_H
+#define OPTIONS_H
+#include "way.h"
+
+struct options {
+    struct making making;
+    const char *mount_point;
+    const char *image;   // where the image goes at the end
+    const char *restore; // the snapshot to restore in a mount that stands
+    bool stays;          // in the foreground
+    bool allows_other;   // users may go in
+    bool helps;
+};
+
+// 0, or 2 where the command line is refused, which is said on standard error.
+int read_options(int count, char **words, struct options *out);
+void print_help(void);
+#endif

@@ -1,0 +1,8 @@
+// How far the kernel reads ahead in a file of the mount.
+#ifndef READAHEAD_H
+#define READAHEAD_H
+
+// Lets it ask for LARGEST_READ bytes at a time, where this process may say so. To be called when the mount stands,
+// before its first request.
+void raise_readahead(const char *mount_point);
+#endif

@@ -1,0 +1,460 @@
+// Each request takes the lock, does what files.h has for it, leaves the lock, and answers.
+//
+// All changes of the tree come by the kernel, so what it knows of names and attributes stays right for as long as it
+// keeps them; where a snapshot is restored, it is told to forget. The bytes of a file are asked for anew when it is
+// opened.
+#include "requests.h"
+#include "snapshots.h"
+#include <errno.h>
+#include <fcntl.h>
+#include <pthread.h>
+#include <stdlib.h>
+#include <string.h>
+#include <unistd.h>
+
+#define SECONDS_KNOWN 86400.0
+
+static pthread_mutex_t lock = PTHREAD_MUTEX_INITIALIZER;
+static struct fuse_session *session;
+
+void requests_use(struct fuse_session *used) { session = used; }
+
+static struct mount *mount_of(fuse_req_t req) { return fuse_req_userdata(req); }
+
+static struct entry *entry_of(fuse_req_t req, fuse_ino_t number) {
+    return number == FUSE_ROOT_ID ? mount_of(req)->root : (struct entry *)(uintptr_t)number;
+}
+
+static struct fuse_entry_param told(const struct found *found) {
+    return (struct fuse_entry_param){.ino = (fuse_ino_t)(uintptr_t)found->entry,
+                                     .attr = found->stat,
+                                     .attr_timeout = SECONDS_KNOWN,
+                                     .entry_timeout = SECONDS_KNOWN};
+}
+
+// Under the lock: an answer that names an entry is one more that the kernel holds.
+static int hold(int fault, const struct found *found) {
+    if (!fault) found->entry->lookups++;
+    return fault;
+}
+
+static void answer_entry(fuse_req_t req, int fault, const struct found *found) {
+    struct fuse_entry_param param = {.entry_timeout = SECONDS_KNOWN};
+    if (!fault) param = told(found);
+    if (fault && fault != ENOENT) fuse_reply_err(req, fault);
+    else fuse_reply_entry(req, &param);
+}
+
+static void on_init(void *mount, struct fuse_conn_info *connection) {
+    (void)mount;
+    connection->max_readahead = LARGEST_READ;
+}
+
+static void on_lookup(fuse_req_t req, fuse_ino_t parent, const char *name) {
+    struct found found;
+    pthread_mutex_lock(&lock);
+    int fault = hold(files_find(mount_of(req), entry_of(req, parent), name, &found), &found);
+    pthread_mutex_unlock(&lock);
+    answer_entry(req, fault, &found);
+}
+
+static void on_forget(fuse_req_t req, fuse_ino_t number, uint64_t lookups) {
+    pthread_mutex_lock(&lock);
+    if (number != FUSE_ROOT_ID) entry_forget(entry_of(req, number), lookups);
+    pthread_mutex_unlock(&lock);
+    fuse_reply_none(req);
+}
+
+static void on_forget_many(fuse_req_t req, size_t count, struct fuse_forget_data *forgets) {
+    pthread_mutex_lock(&lock);
+    for (size_t i = 0; i < count; i++)
+        if (forgets[i].ino != FUSE_ROOT_ID) entry_forget(entry_of(req, forgets[i].ino), forgets[i].nlookup);
+    pthread_mutex_unlock(&lock);
+    fuse_reply_none(req);
+}
+
+static void answer_stat(fuse_req_t req, int fault, const struct stat *stat) {
+    if (fault) fuse_reply_err(req, fault);
+    else fuse_reply_attr(req, stat, SECONDS_KNOWN);
+}
+
+static void on_getattr(fuse_req_t req, fuse_ino_t number, struct fuse_file_info *info) {
+    struct stat stat;
+    (void)info;
+    pthread_mutex_lock(&lock);
+    int fault = files_stat(mount_of(req), entry_of(req, number), &stat);
+    pthread_mutex_unlock(&lock);
+    answer_stat(req, fault, &stat);
+}
+
+static void on_setattr(fuse_req_t req, fuse_ino_t number, struct stat *wanted, int which, struct fuse_file_info *info) {
+    uint64_t length = (uint64_t)wanted->st_size;
+    struct timespec time = now();
+    struct setting setting = {
+        .mode = which & FUSE_SET_ATTR_MODE ? &wanted->st_mode : 0,
+        .user = which & FUSE_SET_ATTR_UID ? &wanted->st_uid : 0,
+        .group = which & FUSE_SET_ATTR_GID ? &wanted->st_gid : 0,
+        .length = which & FUSE_SET_ATTR_SIZE ? &length : 0,
+        .access = which & FUSE_SET_ATTR_ATIME_NOW ? &time
+                  : which & FUSE_SET_ATTR_ATIME   ? &wanted->st_atim
+                                                  : 0,
+        .modify = which & FUSE_SET_ATTR_MTIME_NOW ? &time
+                  : which & FUSE_SET_ATTR_MTIME   ? &wanted->st_mtim
+                                                  : 0,
+    };
+    struct stat stat;
+    (void)info;
+    pthread_mutex_lock(&lock);
+    int fault = files_set(mount_of(req), entry_of(req, number), &setting);
+    if (!fault) fault = files_stat(mount_of(req), entry_of(req, number), &stat);
+    pthread_mutex_unlock(&lock);
+    answer_stat(req, fault, &stat);
+}
+
+static struct attributes fresh_attributes(fuse_req_t req, mode_t mode) {
+    const struct fuse_ctx *asks = fuse_req_ctx(req);
+    struct timespec time = now();
+    return (struct attributes){
+        .mode = mode & 07777, .user = asks->uid, .group = asks->gid, .access = time, .modify = time, .change = time};
+}
+
+static void make(fuse_req_t req, fuse_ino_t parent, const char *name, mode_t mode, bool is_directory) {
+    struct attributes attributes = fresh_attributes(req, mode);
+    struct found found;
+    pthread_mutex_lock(&lock);
+    int fault = hold(files_make(mount_of(req), entry_of(req, parent), name, &attributes, is_directory, &found), &found);
+    pthread_mutex_unlock(&lock);
+    if (fault) fuse_reply_err(req, fault);
+    else answer_entry(req, 0, &found);
+}
+
+static void on_mkdir(fuse_req_t req, fuse_ino_t parent, const char *name, mode_t mode) {
+    make(req, parent, name, mode, true);
+}
+
+// There are no fifos, sockets and devices.
+static void on_mknod(fuse_req_t req, fuse_ino_t parent, const char *name, mode_t mode, dev_t device) {
+    (void)device;
+    if (S_ISREG(mode)) make(req, parent, name, mode, false);
+    else fuse_reply_err(req, EPERM);
+}
+
+static void on_symlink(fuse_req_t req, const char *text, fuse_ino_t parent, const char *name) {
+    (void)text, (void)parent, (void)name;
+    fuse_reply_err(req, EPERM);
+}
+
+static void on_link(fuse_req_t req, fuse_ino_t number, fuse_ino_t parent, const char *name) {
+    (void)number, (void)parent, (void)name;
+    fuse_reply_err(req, EPERM);
+}
+
+static void take_name(fuse_req_t req, fuse_ino_t parent, const char *name, bool is_directory) {
+    pthread_mutex_lock(&lock);
+    int fault = files_remove(mount_of(req), entry_of(req, parent), name, is_directory);
+    pthread_mutex_unlock(&lock);
+    fuse_reply_err(req, fault);
+}
+
+static void on_unlink(fuse_req_t req, fuse_ino_t parent, const char *name) { take_name(req, parent, name, false); }
+
+static void on_rmdir(fuse_req_t req, fuse_ino_t parent, const char *name) { take_name(req, parent, name, true); }
+
+static void on_rename(fuse_req_t req, fuse_ino_t parent, const char *name, fuse_ino_t new_parent, const char *new_name,
+                      unsigned flags) {
+    pthread_mutex_lock(&lock);
+    int fault = files_rename(mount_of(req), entry_of(req, parent), name, entry_of(req, new_parent), new_name, flags);
+    pthread_mutex_unlock(&lock);
+    fuse_reply_err(req, fault);
+}
+
+static void on_open(fuse_req_t req, fuse_ino_t number, struct fuse_file_info *info) {
+    pthread_mutex_lock(&lock);
+    int fault = files_open(mount_of(req), entry_of(req, number), info->flags);
+    pthread_mutex_unlock(&lock);
+    if (fault) fuse_reply_err(req, fault);
+    else fuse_reply_open(req, info);
+}
+
+static int create(fuse_req_t req, fuse_ino_t parent, const char *name, mode_t mode, int flags, struct found *found) {
+    struct attributes attributes = fresh_attributes(req, mode);
+    struct mount *mount = mount_of(req);
+    struct entry *folder = entry_of(req, parent);
+    int fault = files_make(mount, folder, name, &attributes, false, found);
+    if (fault == EEXIST && !(flags & O_EXCL)) fault = files_find(mount, folder, name, found);
+    if (!fault) fault = files_open(mount, found->entry, flags);
+    return hold(fault, found);
+}
+
+static void on_create(fuse_req_t req, fuse_ino_t parent, const char *name, mode_t mode, struct fuse_file_info *info) {
+    struct found found;
+    pthread_mutex_lock(&lock);
+    int fault = create(req, parent, name, mode, info->flags, &found);
+    pthread_mutex_unlock(&lock);
+    if (fault) {
+        fuse_reply_err(req, fault);
+        return;
+    }
+    struct fuse_entry_param param = told(&found);
+    fuse_reply_create(req, &param, info);
+}
+
+static void on_release(fuse_req_t req, fuse_ino_t number, struct fuse_file_info *info) {
+    (void)info;
+    pthread_mutex_lock(&lock);
+    int fault = files_close(mount_of(req), entry_of(req, number));
+    pthread_mutex_unlock(&lock);
+    fuse_reply_err(req, fault);
+}
+
+static void on_read(fuse_req_t req, fuse_ino_t number, size_t size, off_t offset, struct fuse_file_info *info) {
+    size_t got = 0;
+    char *bytes = malloc(size ? size : 1);
+    int fault = bytes ? 0 : ENOMEM;
+    (void)info;
+    pthread_mutex_lock(&lock);
+    if (!fault) fault = files_read(mount_of(req), entry_of(req, number), (uint64_t)offset, bytes, size, &got);
+    pthread_mutex_unlock(&lock);
+    if (fault) fuse_reply_err(req, fault);
+    else fuse_reply_buf(req, bytes, got);
+    free(bytes);
+}
+
+static void on_write(fuse_req_t req, fuse_ino_t number, const char *bytes, size_t size, off_t offset,
+                     struct fuse_file_info *info) {
+    size_t done = 0;
+    (void)info;
+    pthread_mutex_lock(&lock);
+    int fault = files_write(mount_of(req), entry_of(req, number), (uint64_t)offset, bytes, size, &done);
+    pthread_mutex_unlock(&lock);
+    if (fault) fuse_reply_err(req, fault);
+    else fuse_reply_write(req, done);
+}
+
+static void on_fallocate(fuse_req_t req, fuse_ino_t number, int mode, off_t offset, off_t count,
+                         struct fuse_file_info *info) {
+    int fault = mode ? EOPNOTSUPP : 0;
+    (void)info;
+    pthread_mutex_lock(&lock);
+    if (!fault) fault = files_allocate(mount_of(req), entry_of(req, number), (uint64_t)offset, (uint64_t)count);
+    pthread_mutex_unlock(&lock);
+    fuse_reply_err(req, fault);
+}
+
+// All is in memory.
+static void on_fsync(fuse_req_t req, fuse_ino_t number, int data_only, struct fuse_file_info *info) {
+    (void)number, (void)data_only, (void)info;
+    fuse_reply_err(req, 0);
+}
+
+// The names of an open directory, as they were when it was read from its beginning.
+static struct bytes *listing_of(struct fuse_file_info *info) { return (struct bytes *)(uintptr_t)info->fh; }
+
+static void on_opendir(fuse_req_t req, fuse_ino_t number, struct fuse_file_info *info) {
+    (void)number;
+    info->fh = (uint64_t)(uintptr_t)calloc(1, sizeof(struct bytes));
+    if (info->fh) fuse_reply_open(req, info);
+    else fuse_reply_err(req, ENOMEM);
+}
+
+static void on_releasedir(fuse_req_t req, fuse_ino_t number, struct fuse_file_info *info) {
+    (void)number;
+    bytes_free(listing_of(info));
+    free(listing_of(info));
+    fuse_reply_err(req, 0);
+}
+
+// A page of a listing that is put together.
+struct page {
+    fuse_req_t req;
+    struct entry *directory;
+    bool tells_more; // what stands at each name is told with it
+    char *out;
+    size_t room, length;
+};
+
+// Puts a name in: false where there is no room left. `next` is the place behind it.
+static bool put_name(struct page *page, const char *name, bool is_directory, off_t next) {
+    char *to = page->out + page->length;
+    size_t room = page->room - page->length, size;
+    struct stat kind = {.st_mode = is_directory ? S_IFDIR : S_IFREG, .st_ino = (ino_t)-1};
+    struct fuse_entry_param param = {.attr = kind};
+    struct found found;
+    bool is_dot = name[0] == '.' && (!name[1] || (name[1] == '.' && !name[2]));
+    bool is_told = page->tells_more && !is_dot && !files_find(mount_of(page->req), page->directory, name, &found);
+    if (is_told) param = told(&found);
+    if (page->tells_more) size = fuse_add_direntry_plus(page->req, to, room, name, &param, next);
+    else size = fuse_add_direntry(page->req, to, room, name, &kind, next);
+    if (size > room) return false;
+    if (is_told) found.entry->lookups++;
+    page->length += size;
+    return true;
+}
+
+// Place 0 is before `.`, 1 before `..`, and 2 and so many bytes of the listing before each name.
+static void put_names(struct page *page, const struct bytes *names, off_t at) {
+    if (at == 0 && !put_name(page, ".", true, ++at)) return;
+    if (at == 1 && !put_name(page, "..", true, ++at)) return;
+    for (size_t from = (size_t)at - 2; from < names->length;) {
+        const char *name = names->at + from;
+        from += strlen(name) + 1;
+        if (!put_name(page, name + 1, name[0] == 'd', (off_t)from + 2)) return;
+    }
+}
+
+static int fill_page(struct page *page, struct bytes *names, off_t at) {
+    int fault = 0;
+    if (at == 0) {
+        names->length = 0;
+        fault = files_list(mount_of(page->req), page->directory, names);
+    }
+    if (fault == ENOENT) fault = 0; // A directory that is gone has no names.
+    if (!fault && at >= 0) put_names(page, names, at);
+    return fault;
+}
+
+static void answer_page(fuse_req_t req, fuse_ino_t number, size_t size, off_t at, struct fuse_file_info *info,
+                        bool more) {
+    struct page page = {req, entry_of(req, number), more, malloc(size), size, 0};
+    int fault = page.out ? 0 : ENOMEM;
+    pthread_mutex_lock(&lock);
+    if (!fault) fault = fill_page(&page, listing_of(info), at);
+    pthread_mutex_unlock(&lock);
+    if (fault) fuse_reply_err(req, fault);
+    else fuse_reply_buf(req, page.out, page.length);
+    free(page.out);
+}
+
+static void on_readdir(fuse_req_t req, fuse_ino_t number, size_t size, off_t at, struct fuse_file_info *info) {
+    answer_page(req, number, size, at, info, false);
+}
+
+static void on_readdirplus(fuse_req_t req, fuse_ino_t number, size_t size, off_t at, struct fuse_file_info *info) {
+    answer_page(req, number, size, at, info, true);
+}
+
+static void on_statfs(fuse_req_t req, fuse_ino_t number) {
+    (void)number;
+    struct statvfs stat = {.f_bsize = 4096,
+                           .f_frsize = 4096,
+                           .f_files = 1u << 30,
+                           .f_ffree = 1u << 30,
+                           .f_favail = 1u << 30,
+                           .f_blocks = (fsblkcnt_t)sysconf(_SC_PHYS_PAGES),
+                           .f_namemax = LONGEST_NAME};
+    stat.f_bfree = stat.f_bavail = (fsblkcnt_t)sysconf(_SC_AVPHYS_PAGES);
+    fuse_reply_statfs(req, &stat);
+}
+
+static void on_setxattr(fuse_req_t req, fuse_ino_t number, const char *name, const char *value, size_t size,
+                        int flags) {
+    pthread_mutex_lock(&lock);
+    int fault = files_set_extended(entry_of(req, number), name, value, size, flags);
+    pthread_mutex_unlock(&lock);
+    fuse_reply_err(req, fault);
+}
+
+static void on_removexattr(fuse_req_t req, fuse_ino_t number, const char *name) {
+    pthread_mutex_lock(&lock);
+    int fault = files_remove_extended(entry_of(req, number), name);
+    pthread_mutex_unlock(&lock);
+    fuse_reply_err(req, fault);
+}
+
+// Bytes that were asked for, or how many they are where no room was given.
+static void answer_sized(fuse_req_t req, int fault, const struct bytes *bytes, size_t room) {
+    if (!fault && room && bytes->length > room) fault = ERANGE;
+    if (fault) fuse_reply_err(req, fault);
+    else if (room) fuse_reply_buf(req, bytes->at, bytes->length);
+    else fuse_reply_xattr(req, bytes->length);
+}
+
+static void on_getxattr(fuse_req_t req, fuse_ino_t number, const char *name, size_t room) {
+    struct bytes value = {0};
+    pthread_mutex_lock(&lock);
+    const struct attribute *attribute;
+    int fault = files_find_extended(entry_of(req, number), name, &attribute);
+    if (!fault) fault = bytes_append(&value, attribute->value, attribute->length);
+    pthread_mutex_unlock(&lock);
+    answer_sized(req, fault, &value, room);
+    bytes_free(&value);
+}
+
+static void on_listxattr(fuse_req_t req, fuse_ino_t number, size_t room) {
+    struct bytes names = {0};
+    int fault = 0;
+    pthread_mutex_lock(&lock);
+    const struct attribute *attribute = entry_of(req, number)->attributes.extended;
+    for (; attribute && !fault; attribute = attribute->next)
+        fault = bytes_append(&names, attribute->name, strlen(attribute->name) + 1);
+    pthread_mutex_unlock(&lock);
+    answer_sized(req, fault, &names, room);
+    bytes_free(&names);
+}
+
+// Tells the kernel to forget what it knows. It may wait for other requests, so no lock is held.
+static void tell_stale(struct bytes *list) {
+    struct stale *stale = (struct stale *)list->at;
+    for (size_t i = 0; i < list->length / sizeof *stale; i++) {
+        fuse_lowlevel_notify_inval_entry(session, stale[i].parent, stale[i].name, strlen(stale[i].name));
+        if (stale[i].entry) fuse_lowlevel_notify_inval_inode(session, stale[i].entry, 0, 0);
+        free(stale[i].name);
+    }
+    fuse_lowlevel_notify_inval_inode(session, FUSE_ROOT_ID, -1, 0);
+    bytes_free(list);
+}
+
+static int restore(fuse_req_t req, const struct restore_request *wanted) {
+    struct bytes stale = {0};
+    uid_t asks = fuse_req_ctx(req)->uid;
+    if (asks && asks != getuid()) return EPERM;
+    if (!memchr(wanted->name, 0, sizeof wanted->name)) return EINVAL;
+    pthread_mutex_lock(&lock);
+    int fault = snapshot_restore(mount_of(req), wanted->name, &stale);
+    pthread_mutex_unlock(&lock);
+    tell_stale(&stale);
+    return fault;
+}
+
+static void on_ioctl(fuse_req_t req, fuse_ino_t number, unsigned what, void *argument, struct fuse_file_info *info,
+                     unsigned flags, const void *in, size_t in_size, size_t out_size) {
+    (void)argument, (void)info, (void)flags, (void)out_size;
+    bool is_restore = what == RESTORE_REQUEST && number == FUSE_ROOT_ID && in_size == sizeof(struct restore_request);
+    int fault = is_restore ? restore(req, in) : ENOTTY;
+    if (fault) fuse_reply_err(req, fault);
+    else fuse_reply_ioctl(req, 0, 0, 0);
+}
+
+const struct fuse_lowlevel_ops requests = {
+    .init = on_init,
+    .lookup = on_lookup,
+    .forget = on_forget,
+    .forget_multi = on_forget_many,
+    .getattr = on_getattr,
+    .setattr = on_setattr,
+    .mkdir = on_mkdir,
+    .mknod = on_mknod,
+    .symlink = on_symlink,
+    .link = on_link,
+    .unlink = on_unlink,
+    .rmdir = on_rmdir,
+    .rename = on_rename,
+    .open = on_open,
+    .create = on_create,
+    .release = on_release,
+    .read = on_read,
+    .write = on_write,
+    .fallocate = on_fallocate,
+    .fsync = on_fsync,
+    .fsyncdir = on_fsync,
+    .opendir = on_opendir,
+    .releasedir = on_releasedir,
+    .readdir = on_readdir,
+    .readdirplus = on_readdirplus,
+    .statfs = on_statfs,
+    .setxattr = on_setxattr,
+    .getxattr = on_getxattr,
+    .listxattr = on_listxattr,
+    .removexattr = on_removexattr,
+    .ioctl = on_ioctl,
+};

@@ -1,0 +1,18 @@
+// The requests of the kernel, by the low-level interface of libfuse3.
+#ifndef REQUESTS_H
+#define REQUESTS_H
+#define FUSE_USE_VERSION 35
+#include "files.h"
+#include <fuse3/fuse_lowlevel.h>
+#include <sys/ioctl.h>
+
+// Asks a mount to restore a snapshot, by ioctl(2) on its root.
+struct restore_request {
+    char name[LONGEST_SNAPSHOT + 1];
+};
+#define RESTORE_REQUEST _IOW('D', 1, struct restore_request)
+
+extern const struct fuse_lowlevel_ops requests;
+// The session that requests come by.
+void requests_use(struct fuse_session *session);
+#endif

@@ -1,0 +1,14 @@
+// Bytes as text: percent form for paths and names, hexadecimal digits for the bytes of files.
+#ifndef TEXT_H
+#define TEXT_H
+#include "bytes.h"
+
+// Each puts something behind what `out` has: 0 or ENOMEM.
+int text_escape(struct bytes *out, const char *path);
+// `-` stands for no bytes.
+int text_hex(struct bytes *out, const char *bytes, size_t count);
+// Percent form read back.
+int text_unescape(struct bytes *out, const char *text, size_t length);
+// Hexadecimal digits read back into so much room: how many bytes they are, or -1 where they are none or too many.
+long text_read_hex(const char *digits, size_t length, char *out, size_t room);
+#endif

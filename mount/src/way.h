@@ -1,0 +1,72 @@
+// A way to the file system: the library in this very process, or the program `betr` in a process of its own.
+//
+// Every function answers 0 or a number of <errno.h>, and a call that is refused changes nothing. One call is under way
+// at a time: who calls holds a lock.
+#ifndef WAY_H
+#define WAY_H
+#include "bytes.h"
+#include <stdbool.h>
+#include <stdint.h>
+
+enum {
+    LARGEST_READ = 1 << 20, // bytes of one read
+    LONGEST_PATH = 1023,
+    LONGEST_NAME = 255,
+    LONGEST_SNAPSHOT = 64,
+};
+
+// Calls that have a path alone, and are done or refused.
+enum change { MAKE_DIRECTORY, CREATE, UNLINK, REMOVE_DIRECTORY, REMOVE_TREE };
+
+// What becomes of the snapshot of a name.
+enum keeping { TAKE_SNAPSHOT, DROP_SNAPSHOT, RESTORE_SNAPSHOT };
+
+// A path of the live tree, or of a snapshot's.
+struct place {
+    const char *snapshot; // null: the live tree
+    const char *path;
+};
+
+// What stands at a path.
+struct standing {
+    bool is_directory;
+    uint64_t length; // of a file, in bytes
+};
+
+struct way {
+    int (*change)(void *self, enum change what, const char *path);
+    int (*rename)(void *self, const char *from, const char *to);
+    int (*truncate)(void *self, const char *path, uint64_t length);
+    // All is written, or the first `done` bytes are and the rest was refused.
+    int (*write)(void *self, const char *path, uint64_t offset, const char *bytes, size_t count, size_t *done);
+    // At most LARGEST_READ bytes, and fewer at the end of the file.
+    int (*read)(void *self, struct place at, uint64_t offset, char *out, size_t room, size_t *got);
+    int (*stat)(void *self, struct place at, struct standing *out);
+    // Each name as `d` or `f`, the name and a byte 0, behind what `out` has.
+    int (*list)(void *self, struct place at, struct bytes *out);
+    int (*keep)(void *self, enum keeping what, const char *snapshot);
+    // Ends the file system and frees `self`. Where a file is named, the image of the live tree is put there first.
+    int (*close)(void *self, const char *image);
+};
+
+// A file system that stands.
+struct volume {
+    const struct way *way;
+    void *self;
+};
+
+// What a file system is made with.
+struct making {
+    const char *betr;  // the program to speak to; null: the library
+    const char *image; // a file with the tree to begin with; null: the empty tree
+    bool prints_image; // the image is asked for at the end
+    const char *log;   // the name in front of `.in` and `.out`, where all calls and replies go; null: nowhere
+    unsigned steps;    // tree steps after each call that changes something
+};
+
+// Each says on standard error what failed.
+int open_library(const struct making *making, struct volume *out);
+int open_pipe(const struct making *making, struct volume *out);
+// Puts a log between a volume and its caller.
+int open_log(const struct making *making, struct volume *volume);
+#endif
