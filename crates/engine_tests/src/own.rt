@@ -91,9 +91,12 @@ struct Known {
 }
 
 impl Known {
-    /// Whether a read may find the mark of this number, where so many restores had ended before it, and so many had begun when it
-    /// was answered. Where no restore came between it is the mark that was written last. Where a restore of the first snapshot
-    /// surely came it is the first mark, and stays so; and it is one of both where a restore may have come.
+    /// Whether a read may find the mark of this number, where so many restores had ended before the read, and so many had
+    /// begun when it was answered.
+    ///
+    /// Where no restore came since the last mark was written, it is that mark. Where a restore of the first snapshot surely
+    /// came, it is the first mark, and stays so. Where one may have come, it is either. Where a later snapshot may have come
+    /// back, it is any mark that was written.
     fn may_be(self, number: u64, course: Course, ended: u64, begun: u64) -> bool {
         if self.ended == begun {
             return number == self.written;
@@ -158,7 +161,8 @@ impl Own {
         self.last = file;
     }
 
-    /// Notes what a read found in a file, where so many restores had ended before, and so many have begun. Whether it may be so.
+    /// Notes what a read found in a file, where so many restores had ended before, and so many have begun. Whether it may
+    /// be so.
     fn note_read(
         &mut self,
         file: usize,
@@ -313,8 +317,8 @@ fn next<J: Naming, R: Wait>(
     }
 }
 
-/// Calls, the last on one of the client's own files, as long as the flushers want more of them. Whether each was answered as it
-/// may be, and recorded once.
+/// Calls, the last on one of the client's own files, as long as the flushers want more of them. Whether each was answered
+/// as it may be, and recorded once.
 pub fn work<J: Naming, R: Wait>(
     rt: &R,
     alloc: Global,

@@ -22,8 +22,8 @@ const TURNS: u32 = 64;
 /// How many turns a flusher makes at most once the clients are done.
 const LEFT: u32 = 10_000;
 
-/// A flusher's client, which restores a snapshot where its turn has taken a job and the next restore may come: that job is stale. It
-/// rests where it does not, so that clients come between.
+/// A flusher's client. Where the flusher's turn has taken a job and the next restore may come, it restores a snapshot, so
+/// that the job is stale. Else it rests, so that clients come between.
 #[derive(Drop)]
 struct Restorer<'a, J: Naming, R: Wait> {
     rt: &'a R,
@@ -170,8 +170,8 @@ fn work_all<J: Naming + Send + Sync, R: Threads + Wait + Sync>(
     );
 }
 
-/// The clients work while flushers make turns. Whether each client was answered as it may be, and each of its calls was recorded
-/// once; and enough jobs were installed and stale.
+/// The clients work while flushers make turns. Whether each client was answered as it may be, each of its calls was
+/// recorded once, and enough jobs were installed and stale.
 fn beside<J: Naming + Send + Sync, R: Threads + Wait + Sync>(
     rt: &R,
     alloc: Global,

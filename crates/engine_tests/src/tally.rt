@@ -2,10 +2,13 @@
 use engine::TurnReply;
 use std::sync::atomic::{AtomicBool, AtomicU64, Ordering};
 
-/// How many calls a client makes, the last on a file of its own.
+/// How many calls a client makes where nothing is restored.
+const MANY: u64 = 30_000;
+
+/// How many calls it makes beside restores.
 const CALLS: u64 = 5_000;
 
-/// How many calls it makes where flushers still want some beside them.
+/// How many calls it makes beside restores until enough jobs were installed and stale.
 const MOST: u64 = 20_000;
 
 /// How many jobs are installed at least.
@@ -133,10 +136,15 @@ impl Tally {
 
     /// Whether a client that made so many calls is to make more.
     pub fn wants(&self, made: u64) -> bool {
-        made < CALLS || (made < MOST && !self.is_enough())
+        if self.has_restores() {
+            made < CALLS || (made < MOST && !self.is_enough())
+        } else {
+            made < MANY
+        }
     }
 
-    /// Whether so many clients were answered as they may be, each restore was done, and enough jobs were installed and stale.
+    /// Whether so many clients were answered as they may be, each restore was done, and enough jobs were installed and
+    /// stale.
     pub fn is_right(&self, clients: u64) -> bool {
         self.right.load(Ordering::SeqCst) == clients
             && self.begun() == self.ended()
