@@ -11,6 +11,8 @@ use reference::{Call, Reply};
 use samples::Ask;
 use std::alloc::Global;
 use std::sync::Wait;
+use std::thread::Parker;
+use std::time::Duration;
 
 /// How many clients there are.
 pub const CLIENTS: usize = 8;
@@ -77,6 +79,11 @@ impl Found {
     }
 }
 
+/// Rests for so short a time that others get the lock.
+pub fn rest<R: Wait>(rt: &R) {
+    Parker::new().park_timeout(rt, Duration::from_micros(20));
+}
+
 /// What a client knows of one of its files. At first it has the mark of number 0, and the first snapshot keeps that.
 #[derive(Clone, Copy)]
 struct Known {
@@ -91,12 +98,12 @@ struct Known {
 }
 
 impl Known {
-    /// Whether a read may find the mark of this number, where so many restores had ended before the read, and so many had
-    /// begun when it was answered.
+    /// Whether a read may find the mark of this number, where so many restores had ended before the read, and so many
+    /// had begun when it was answered.
     ///
-    /// Where no restore came since the last mark was written, it is that mark. Where a restore of the first snapshot surely
-    /// came, it is the first mark, and stays so. Where one may have come, it is either. Where a later snapshot may have come
-    /// back, it is any mark that was written.
+    /// Where no restore came since the last mark was written, it is that mark. Where a restore of the first snapshot
+    /// surely came, it is the first mark, and stays so. Where one may have come, it is either. Where a later snapshot
+    /// may have come back, it is any mark that was written.
     fn may_be(self, number: u64, course: Course, ended: u64, begun: u64) -> bool {
         if self.ended == begun {
             return number == self.written;
@@ -161,8 +168,8 @@ impl Own {
         self.last = file;
     }
 
-    /// Notes what a read found in a file, where so many restores had ended before, and so many have begun. Whether it may
-    /// be so.
+    /// Notes what a read found in a file, where so many restores had ended before, and so many have begun. Whether it
+    /// may be so.
     fn note_read(
         &mut self,
         file: usize,
@@ -317,8 +324,8 @@ fn next<J: Naming, R: Wait>(
     }
 }
 
-/// Calls, the last on one of the client's own files, as long as the flushers want more of them. Whether each was answered
-/// as it may be, and recorded once.
+/// Calls, the last on one of the client's own files, as long as the flushers want more of them. Whether each was
+/// answered as it may be, and recorded once.
 pub fn work<J: Naming, R: Wait>(
     rt: &R,
     alloc: Global,
@@ -334,6 +341,9 @@ pub fn work<J: Naming, R: Wait>(
         }
         is_right &= next(rt, alloc, client, &mut own, tally);
         made = made.saturating_add(1);
+        if tally.wants_rest(made) {
+            rest(rt);
+        }
     }
     is_right &= reads(rt, alloc, client, &mut own, tally, 0);
     is_right && client.made() == made

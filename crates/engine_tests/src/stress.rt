@@ -1,16 +1,16 @@
-//! Eight clients and four flushers at once, in a tree that is deep enough for jobs, with snapshots and restores between.
+//! Eight clients and four flushers at once, in a tree that is deep enough for jobs, with snapshots and restores
+//! between.
 ghost use Rattle.std.specs.Prelude.{◌≡◌};
 
 use crate::ends::{Snap, fault_of};
 use crate::filled::{FIRST, kept_room};
-use crate::own::{CLIENTS, LATER, Own, work};
+use crate::own::{CLIENTS, LATER, Own, rest, work};
 use crate::tally::{Course, Tally};
 use engine::{Between, Client, Engine, Flusher, Naming, Room, TurnReply};
 use std::alloc::Global;
 use std::marker::Brand;
 use std::sync::Wait;
-use std::thread::{Parker, Scope, Threads, for_each_mut, scope, scope_env};
-use std::time::Duration;
+use std::thread::{Scope, Threads, for_each_mut, scope, scope_env};
 use volume::{Done, Job};
 
 /// How many flushers there are, each with a client of its own, which restores.
@@ -22,8 +22,8 @@ const TURNS: u32 = 64;
 /// How many turns a flusher makes at most once the clients are done.
 const LEFT: u32 = 10_000;
 
-/// A flusher's client. Where the flusher's turn has taken a job and the next restore may come, it restores a snapshot, so
-/// that the job is stale. Else it rests, so that clients come between.
+/// A flusher's client. Where the flusher's turn has taken a job and the next restore may come, it restores a snapshot,
+/// so that the job is stale. Else it rests, so that clients come between.
 #[derive(Drop)]
 struct Restorer<'a, J: Naming, R: Wait> {
     rt: &'a R,
@@ -43,7 +43,7 @@ impl<'a, J: Naming, R: Wait> Between for Restorer<'a, J, R> {
         if self.is_taken && self.tally.wants_restore() {
             restores(self.rt, self.alloc, &mut self.client, self.tally);
         } else {
-            Parker::new().park_timeout(self.rt, Duration::from_micros(20));
+            rest(self.rt);
         }
     }
 }

@@ -3,13 +3,13 @@ use engine::TurnReply;
 use std::sync::atomic::{AtomicBool, AtomicU64, Ordering};
 
 /// How many calls a client makes where nothing is restored.
-const MANY: u64 = 30_000;
+const MANY: u64 = 10_000;
 
 /// How many calls it makes beside restores.
-const CALLS: u64 = 5_000;
+const CALLS: u64 = 3_000;
 
 /// How many calls it makes beside restores until enough jobs were installed and stale.
-const MOST: u64 = 20_000;
+const MOST: u64 = 10_000;
 
 /// How many jobs are installed at least.
 const INSTALLED: u64 = 1_000;
@@ -141,6 +141,11 @@ impl Tally {
         } else {
             made < MANY
         }
+    }
+
+    /// Whether a client that made so many calls rests, so that flushers get the lock.
+    pub fn wants_rest(&self, made: u64) -> bool {
+        self.has_restores() && made % 4 == 0
     }
 
     /// Whether so many clients were answered as they may be, each restore was done, and enough jobs were installed and
