@@ -13,8 +13,8 @@ use pathkey::Errno;
 use std::alloc::Global;
 use volume::{Frozen, Volume};
 
-/// Makes a volume of the empty root directory in trees of this shape, and writes the pointer of its handle to `out`: 0, or EINVAL where
-/// the shape is not ok, or ENOMEM.
+/// Makes a volume of the empty root directory in trees of this shape, and writes the pointer of its handle to `out`:
+/// 0, or EINVAL where the shape is not ok, or ENOMEM.
 #[unsafe(no_mangle)]
 pub extern "C" fn doorvervain_raw_open(
     alloc: Global,
