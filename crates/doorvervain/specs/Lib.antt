@@ -4,3 +4,4 @@ pub mod Follows
 pub mod Numbers
 pub mod Looks
 pub mod Changes
+pub mod Handed

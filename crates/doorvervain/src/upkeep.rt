@@ -1,9 +1,13 @@
 //! Exports that make handles and end them, and tree steps.
-ghost use Rattle.std.specs.Prelude.{◌≡◌, ◌≤◌, ◌<◌, ◌↔◌, false};
+ghost use Rattle.pathkey.specs.SnapNames.{snap_parsed};
+ghost use Rattle.pathkey.specs.declared.errno.Errno.TheVariants.{EINVAL, ENOMEM};
+ghost use Rattle.std.specs.Prelude.{◌≡◌, ◌≤◌, ◌<◌, ◌↔◌, ◌⊎◌, false, Err, IfErr};
 ghost use Rattle.node.specs.Shapes.{is_shape};
 ghost use Rattle.reference.specs.Worlds.{World};
 ghost use Rattle.volume.specs.Volumes.{Means};
 ghost use Rattle.byte_calls.specs.Upkeep.{IsIdle, Relieves};
+ghost use Rattle.doorvervain.specs.Handed.{FindsHanded, HandsOut};
+ghost use Rattle.doorvervain.specs.Numbers.{told};
 
 use crate::frozen::FrozenHandle;
 use crate::handle::Handle;
@@ -22,7 +26,10 @@ pub extern "C" fn doorvervain_raw_open(
     pending: u16,
     leaf: u16,
     out: &mut *mut u8,
-) -> u8 {
+) -> u8
+    ensures shape { (told result ≡ Err EINVAL) ↔ (is_shape (record { fanout = fanout; pending = pending; leaf = leaf }) ≡ false) }
+    ensures refused { IfErr (told result) (λ e. (e ≡ EINVAL) ⊎ (e ≡ ENOMEM)) }
+{
     let shape = Shape {
         fanout,
         pending,
@@ -40,6 +47,7 @@ pub extern "C" fn doorvervain_raw_close(alloc: Global, fs: Handle) {
 /// Freezes the live tree as it stands, and writes the pointer of its handle to `out`: 0, or ENOMEM.
 #[unsafe(no_mangle)]
 pub extern "C" fn doorvervain_raw_freeze(alloc: Global, fs: &mut Handle, out: &mut *mut u8) -> u8
+    ensures refused { IfErr (told result) (λ e. e ≡ ENOMEM) }
     ensures kept { fs.new.volume ≡ fs.old.volume }
 {
     number(hand_out_tree(alloc, byte_calls::freeze(fs.volume()), out))
@@ -76,22 +84,25 @@ pub extern "C" fn doorvervain_raw_relieve(alloc: Global, fs: &mut Handle, steps:
 }
 
 // Makes a volume, and writes where it lies.
-fn open(alloc: Global, shape: Shape, out: &mut *mut u8) -> Result<(), Errno> {
+fn open(alloc: Global, shape: Shape, out: &mut *mut u8) -> Result<(), Errno>
+    ensures shape { (result ≡ Err EINVAL) ↔ (is_shape shape ≡ false) }
+    ensures refused { IfErr result (λ e. (e ≡ EINVAL) ⊎ (e ≡ ENOMEM)) }
+{
     let volume = Volume::new(alloc, shape)?;
     hand_out(alloc, volume, out)
 }
 
 // Hands a tree out that was found.
-fn hand_out_tree(
-    alloc: Global,
-    tree: Result<Frozen, Errno>,
-    out: &mut *mut u8,
-) -> Result<(), Errno> {
+fn hand_out_tree(alloc: Global, tree: Result<Frozen, Errno>, out: &mut *mut u8) -> Result<(), Errno>
+    ensures { HandsOut tree result }
+{
     hand_out(alloc, tree?, out)
 }
 
 // Puts a value on the heap, and writes where it lies.
-fn hand_out<T: Drop>(alloc: Global, value: T, out: &mut *mut u8) -> Result<(), Errno> {
+fn hand_out<T: Drop>(alloc: Global, value: T, out: &mut *mut u8) -> Result<(), Errno>
+    ensures { IfErr result (λ e. e ≡ ENOMEM) }
+{
     let Ok(whole) = Box::new(alloc, value) else {
         return Err(Errno::ENOMEM);
     };

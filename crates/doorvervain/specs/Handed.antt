@@ -1,0 +1,17 @@
+-- What the exports that hand a tree out tell.
+use Rattle.std.specs.Prelude.{◌≡◌, List, ℕ, Result, Err, IfErr, MatchResult}
+use Rattle.call_compiler.specs.declared.indexes.Indexes.{Indexes}
+use Rattle.pathkey.specs.declared.errno.Errno.{Errno}
+use Rattle.pathkey.specs.declared.errno.Errno.TheVariants.{ENOMEM}
+use Rattle.volume.specs.Volumes.{PVolume}
+use Rattle.byte_calls.specs.Snapshots.{FindsNamed}
+
+-- a tree that was found is handed out, or memory is refused; a refusal is told as it is
+abbrev pub HandsOut : Result Indexes Errno → Result (Unit {0}) Errno → Type 0
+HandsOut found outcome = MatchResult found (λ _. IfErr outcome (λ e. e ≡ ENOMEM)) (λ e. outcome ≡ Err e)
+
+-- the tree of the snapshot of that name was looked for, and so handed out
+pub record FindsHanded (name : Result (List ℕ) Errno) (v : PVolume) (outcome : Result (Unit {0}) Errno) : Type 0 where
+  pub found : Result Indexes Errno
+  pub finds : FindsNamed name v found
+  pub hands : HandsOut found outcome
