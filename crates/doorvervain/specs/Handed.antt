@@ -1,10 +1,15 @@
--- What the exports that hand a tree out tell.
-use Rattle.std.specs.Prelude.{◌≡◌, List, ℕ, Result, Err, IfErr, MatchResult}
+-- What the exports that hand a volume or a tree out tell.
+use Rattle.std.specs.Prelude.{◌≡◌, ℕ, false, List, Result, Err, IfErr, MatchResult}
 use Rattle.call_compiler.specs.declared.indexes.Indexes.{Indexes}
+use Rattle.node.specs.Shapes.{is_shape}
 use Rattle.pathkey.specs.declared.errno.Errno.{Errno}
 use Rattle.pathkey.specs.declared.errno.Errno.TheVariants.{ENOMEM}
 use Rattle.volume.specs.Volumes.{PVolume}
 use Rattle.byte_calls.specs.Snapshots.{FindsNamed}
+
+-- the three numbers are no shape of trees
+abbrev pub NoShape : ℕ → ℕ → ℕ → Type 0
+NoShape fanout pending leaf = is_shape (record { fanout = fanout; pending = pending; leaf = leaf }) ≡ false
 
 -- a tree that was found is handed out, or memory is refused; a refusal is told as it is
 abbrev pub HandsOut : Result Indexes Errno → Result (Unit {0}) Errno → Type 0

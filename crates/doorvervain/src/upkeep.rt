@@ -6,7 +6,7 @@ ghost use Rattle.node.specs.Shapes.{is_shape};
 ghost use Rattle.reference.specs.Worlds.{World};
 ghost use Rattle.volume.specs.Volumes.{Means};
 ghost use Rattle.byte_calls.specs.Upkeep.{IsIdle, Relieves};
-ghost use Rattle.doorvervain.specs.Handed.{FindsHanded, HandsOut};
+ghost use Rattle.doorvervain.specs.Handed.{FindsHanded, HandsOut, NoShape};
 ghost use Rattle.doorvervain.specs.Numbers.{told};
 
 use crate::frozen::FrozenHandle;
@@ -27,7 +27,7 @@ pub extern "C" fn doorvervain_raw_open(
     leaf: u16,
     out: &mut *mut u8,
 ) -> u8
-    ensures shape { (told result ≡ Err EINVAL) ↔ (is_shape (record { fanout = fanout; pending = pending; leaf = leaf }) ≡ false) }
+    ensures shape { (told result ≡ Err EINVAL) ↔ NoShape fanout pending leaf }
     ensures refused { IfErr (told result) (λ e. (e ≡ EINVAL) ⊎ (e ≡ ENOMEM)) }
 {
     let shape = Shape {
@@ -61,6 +61,7 @@ pub extern "C" fn doorvervain_raw_frozen(
     name: &[u8],
     out: &mut *mut u8,
 ) -> u8
+    ensures named { FindsHanded (snap_parsed name.now) fs.old.volume (told result) }
     ensures kept { fs.new.volume ≡ fs.old.volume }
 {
     number(hand_out_tree(alloc, byte_calls::frozen(alloc, fs.volume(), name), out))
