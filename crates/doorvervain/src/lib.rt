@@ -7,8 +7,10 @@
 
 mod changes;
 mod frozen;
+mod frozen_place;
 mod handle;
 mod looks;
 mod numbers;
 mod parts;
+mod place;
 mod upkeep;
