@@ -1,14 +1,14 @@
 -- `fill` writes the pointer of the parts, and the place owns from then on what they owned.
-use Rattle.std.proofs.Common.{◌≡◌, List, [], ◌∷◌, ◌++◌, refl, sym, ap, subst, ◌∙◌}
+use Rattle.std.proofs.Common.{◌≡◌, List, [], ◌∷◌, ◌++◌, refl, sym, subst}
 use base.Fraction.{full_share}
 use base.Logic.{SProp, ent, id⊢, never, fst∗}
-use base.Fml.{ftrue, fsep, fex, flft}
+use base.Fml.{ftrue, fsep, flft}
 use mir.Syntax.{named}
 use mir.Raw.{raw as bare}
 use mir.Val.{Val, vptr, vunit, vstruct, of_list}
 use prog.Wp.{WpFn}
 use types.Logic.{sem}
-use types.Kit.{‵, raw, ◌⊛◌, ◌$◌, ◌∵◌, !, qed, move, keep, drop, split, join, fsplit, fsplit3, fjoin, fjoin3, feq_i, feq_l, fpick, fpack, frame, group, rewrite, suffices, use1, done}
+use types.Kit.{‵, ◌⊛◌, ◌$◌, ◌∵◌, !, qed, move, keep, drop, split, join, fsplit, fsplit3, fjoin, fjoin3, feq_i, feq_l, fpick, fpack, rewrite, suffices, use1, done}
 use types.Part.{whole, sub, store_in}
 use types.Run.{enter, stop, fld, of_opd, assigns, unit_lit, returns}
 use types.ByLocal.{alloc_all, pass_all, free_all, look_at, get, get_in, through, sets}
@@ -20,11 +20,10 @@ use denote.RattleType.{Valss}
 use denote.Struct.Owning.{shape}
 use denote.Struct.Struct.{within}
 use denote.RawPtr.{Ptr, RawPtr, block_ptr, null_ptr, ptr_val, in_a_block}
-use denote.Ref.{MutRef, mut_vals}
+use denote.Ref.{MutRef}
 use denote.Signature.{Slot, plain}
 use denote.Steps.{nothing, opens, closes, peeks}
 use denote.Triple.Walked.{says, Stays, stay_ref, stay_dropped, walk_of, ends_at, Goes-ref, Goes-dropped}
-use Rattle.std.proofs.alloc.Calls.{handle_tells}
 use Rattle.std.proofs.raw_atomic.Walks.{proved_at}
 use Rattle.std.specs.Prelude.{Some}
 use Rattle.std.specs.Box.Ownership.{box_owns}
