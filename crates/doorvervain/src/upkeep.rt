@@ -50,7 +50,11 @@ pub extern "C" fn doorvervain_raw_close(alloc: Global, fs: Handle) {
 
 /// Freezes the live tree as it stands, and puts its handle at `out`: 0, or ENOMEM.
 #[unsafe(no_mangle)]
-pub extern "C" fn doorvervain_raw_freeze(alloc: Global, fs: &mut Handle, out: &mut FrozenPlace) -> u8
+pub extern "C" fn doorvervain_raw_freeze(
+    alloc: Global,
+    fs: &mut Handle,
+    out: &mut FrozenPlace,
+) -> u8
     ensures given { IfOk (told result) (λ _. out.new.given ≡ Some fs.old.volume.live) }
     ensures refused { IfErr (told result) (λ e. e ≡ ENOMEM) }
     ensures kept { fs.new.volume ≡ fs.old.volume }
@@ -111,7 +115,11 @@ fn hand_out(alloc: Global, volume: Volume, out: &mut Place) -> Result<(), Errno>
 }
 
 // Puts a tree that was found on the heap, and its handle at `out`.
-fn hand_out_tree(alloc: Global, tree: Result<Frozen, Errno>, out: &mut FrozenPlace) -> Result<(), Errno>
+fn hand_out_tree(
+    alloc: Global,
+    tree: Result<Frozen, Errno>,
+    out: &mut FrozenPlace,
+) -> Result<(), Errno>
     ensures { HandsOut tree result out.new.given }
 {
     let Ok(whole) = Box::new(alloc, tree?) else {

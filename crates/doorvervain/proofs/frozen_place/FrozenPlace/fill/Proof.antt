@@ -66,7 +66,7 @@ fill_spec 𝓤 𝓛 𝓜 𝓡 wired =
     -- [what lies at the pointer; the name's value; the borrow; the token]
     let w : Val = vstruct (of_list (vptr b' o' ∷ heap.lowers.lowered p.alloc ∷ [])) in
     let spelled : vs ≡ w ∷ [] = subst (λ (at : Ptr). vs ≡ vstruct (of_list (ptr_val at ∷ heap.lowers.lowered p.alloc ∷ [])) ∷ []) e
-      (subst (λ (ws : List Val). vs ≡ vstruct (of_list (ptr_val p.ptr ∷ (ws ++ []))) ∷ []) eh (subst (λ (ps : List Val). vs ≡ vstruct (of_list (ps ++ (vss.1.0 ++ []))) ∷ []) ep ev)) in
+    (subst (λ (ws : List Val). vs ≡ vstruct (of_list (ptr_val p.ptr ∷ (ws ++ []))) ∷ []) eh (subst (λ (ps : List Val). vs ≡ vstruct (of_list (ps ++ (vss.1.0 ++ []))) ∷ []) ep ev)) in
     suffices ! (Run (vptr b o ∷ w ∷ [])) (subst (λ (ws : List Val). ent 𝓤 (Run (vptr b o ∷ w ∷ [])) (Run ws)) (sym (λ i. at_place i ++ (spelled i ++ []))) (id⊢ 𝓤 (Run (vptr b o ∷ w ∷ [])))) $
     enter ! 𝓣.C 𝓣.Λ code.function (vptr b o ∷ w ∷ []) Post $ alloc_all ! (λ l. pass_all ! refl ((tt, tt), ((tt, (tt, (((tt, tt), tt), tt))), tt)) $
     move ! (1 ∷ 2 ∷ 3 ∷ []) $ opens ! tt R b o (λ ws.

@@ -66,7 +66,7 @@ of_spec 𝓤 𝓛 𝓜 𝓡 wired X A LX LA g d dd td allocator md mt =
     -- [the value; the right to free it; the tokens; the pair]
     move ! (3 ∷ []) $ fpick ! (λ vss. fsplit ! $ feq_l ! (λ ev. fsplit ! $ feq_l ! (λ ep. fsplit ! $ handle_tells E.al ! r.1 vss.1.0 (λ hv' ea fits'.
     let is : u ≡ word E hv' b' o' = ap only (subst (λ (p : Ptr). u ∷ [] ≡ vstruct (of_list (ptr_val p ∷ hv' ∷ [])) ∷ []) at_block'
-      (subst (λ (ws : List Val). u ∷ [] ≡ vstruct (of_list (ptr_val r.0 ∷ (ws ++ []))) ∷ []) ea (subst (λ (ps : List Val). u ∷ [] ≡ vstruct (of_list (ps ++ (vss.1.0 ++ []))) ∷ []) ep ev))) in
+    (subst (λ (ws : List Val). u ∷ [] ≡ vstruct (of_list (ptr_val r.0 ∷ (ws ++ []))) ∷ []) ea (subst (λ (ps : List Val). u ∷ [] ≡ vstruct (of_list (ps ++ (vss.1.0 ++ []))) ∷ []) ep ev))) in
     lands_as ! is refl (box_typed E hv' b' o' fits') $
     sets ! (of_opd ! (get_in ! (fld ! refl (stop !)) (sub ! 0 refl (whole !)))) refl (tt, tt) $ sets ! (of_opd ! (get_in ! (fld ! refl (stop !)) (sub ! 1 refl (whole !)))) refl fits' $
     sets ! (of_opd ! (get ! refl)) refl fits' $
