@@ -1,5 +1,5 @@
 -- What the exports that only look tell.
-use Rattle.std.specs.Prelude.{◌≡◌, ℕ, List, length, Result, IfErr}
+use Rattle.std.specs.Prelude.{ℕ, List, length, Result}
 use Rattle.call_compiler.specs.declared.indexes.Indexes.{Indexes}
 use Rattle.pathkey.specs.declared.errno.Errno.{Errno}
 use Rattle.pathkey.specs.Texts.{parsed}
