@@ -66,7 +66,7 @@ enum { DOORVERVAIN_DIRECTORY = 1, DOORVERVAIN_FILE = 2 };
 
 // ---- the symbols of the archive. They take no null pointer; call the functions below them.
 
-uint8_t doorvervain_raw_open(uint16_t fanout, uint16_t pending, uint16_t leaf, void **out);
+uint8_t doorvervain_raw_open(uint16_t fanout, uint16_t pending, uint16_t leaf, struct doorvervain *out);
 void doorvervain_raw_close(struct doorvervain fs);
 uint8_t doorvervain_raw_mkdir(struct doorvervain *fs, const uint8_t *path, size_t length);
 uint8_t doorvervain_raw_create(struct doorvervain *fs, const uint8_t *path, size_t length);
@@ -87,8 +87,9 @@ uint8_t doorvervain_raw_readdir(
 uint8_t doorvervain_raw_snapshot(struct doorvervain *fs, const uint8_t *name, size_t length);
 uint8_t doorvervain_raw_drop(struct doorvervain *fs, const uint8_t *name, size_t length);
 uint8_t doorvervain_raw_restore(struct doorvervain *fs, const uint8_t *name, size_t length);
-uint8_t doorvervain_raw_freeze(struct doorvervain *fs, void **out);
-uint8_t doorvervain_raw_frozen(struct doorvervain *fs, const uint8_t *name, size_t length, void **out);
+uint8_t doorvervain_raw_freeze(struct doorvervain *fs, struct doorvervain_frozen *out);
+uint8_t doorvervain_raw_frozen(
+    struct doorvervain *fs, const uint8_t *name, size_t length, struct doorvervain_frozen *out);
 uint8_t doorvervain_raw_frozen_read(struct doorvervain_frozen *tree, const uint8_t *path, size_t length,
     uint64_t offset, uint8_t *out, size_t room, size_t *got);
 uint8_t doorvervain_raw_frozen_stat(
@@ -151,10 +152,8 @@ static inline int doorvervain_errno(uint8_t number) {
 // 256 and 64 where you know no better. EINVAL: no such shape. ENOMEM. Where it is refused, the volume is closed.
 static inline uint8_t doorvervain_open(struct doorvervain *fs, uint16_t fanout, uint16_t pending, uint16_t leaf) {
     if (!fs) return DOORVERVAIN_NULL;
-    void *at = NULL;
-    uint8_t number = doorvervain_raw_open(fanout, pending, leaf, &at);
-    fs->at = number ? NULL : at;
-    return number;
+    fs->at = NULL;
+    return doorvervain_raw_open(fanout, pending, leaf, fs);
 }
 
 // Frees the volume with its snapshots, and closes it. Frozen trees stay. It does nothing to a volume that is
@@ -295,11 +294,7 @@ static inline uint8_t doorvervain_freeze(struct doorvervain *fs, struct doorverv
     if (!out) return DOORVERVAIN_NULL;
     out->at = NULL;
     uint8_t lacks = doorvervain_lacks(fs, NULL, 0);
-    if (lacks) return lacks;
-    void *at = NULL;
-    uint8_t number = doorvervain_raw_freeze(fs, &at);
-    out->at = number ? NULL : at;
-    return number;
+    return lacks ? lacks : doorvervain_raw_freeze(fs, out);
 }
 
 // The tree of the snapshot of that name. ENOENT, ENOMEM. Where it is refused, `out` is closed.
@@ -308,11 +303,7 @@ static inline uint8_t doorvervain_frozen(
     if (!out) return DOORVERVAIN_NULL;
     out->at = NULL;
     uint8_t lacks = doorvervain_lacks(fs, name, length);
-    if (lacks) return lacks;
-    void *at = NULL;
-    uint8_t number = doorvervain_raw_frozen(fs, doorvervain_from(name), length, &at);
-    out->at = number ? NULL : at;
-    return number;
+    return lacks ? lacks : doorvervain_raw_frozen(fs, doorvervain_from(name), length, out);
 }
 
 // Reads a file of a frozen tree, as doorvervain_read does of a volume.

@@ -11,7 +11,7 @@ struct Handle {
 
 // The names are those of include/doorvervain.h. A slice is passed as a pointer and a length, and is never null.
 unsafe extern "C" {
-    fn doorvervain_raw_open(fanout: u16, pending: u16, leaf: u16, out: &mut *mut c_void) -> u8;
+    fn doorvervain_raw_open(fanout: u16, pending: u16, leaf: u16, out: &mut Handle) -> u8;
     fn doorvervain_raw_close(fs: Handle);
     fn doorvervain_raw_mkdir(fs: &mut Handle, path: *const u8, length: usize) -> u8;
     fn doorvervain_raw_create(fs: &mut Handle, path: *const u8, length: usize) -> u8;
@@ -67,9 +67,9 @@ struct Volume(Handle);
 
 impl Volume {
     fn open() -> Result<Volume, Refusal> {
-        let mut at = null_mut();
-        done(unsafe { doorvervain_raw_open(16, 256, 64, &mut at) })?;
-        Ok(Volume(Handle { at }))
+        let mut handle = Handle { at: null_mut() };
+        done(unsafe { doorvervain_raw_open(16, 256, 64, &mut handle) })?;
+        Ok(Volume(handle))
     }
 
     fn mkdir(&mut self, path: &str) -> Result<(), Refusal> {

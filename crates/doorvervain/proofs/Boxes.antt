@@ -1,6 +1,6 @@
 -- What is owned as a box.
 use seplogic.Ra.Ura.{Ura}
-use Rattle.doorvervain.proofs.Steps.{◌≡◌, List, [], ◌∷◌, refl, sym, ap, subst, Val, T, has_ty, WT, Logic, Goal, Item, Seq, ‵, ◌$◌, rewrite, only}
+use Rattle.doorvervain.proofs.Steps.{List, [], ◌∷◌, refl, sym, ap, subst, Val, T, has_ty, WT, Logic, Goal, Item, Seq, ‵, ◌$◌, rewrite, only}
 use Rattle.std.proofs.BoxSteps.Form.{Bx, D, B, box_ty, box_typed}
 use Rattle.std.proofs.BoxSteps.Steps.{box_out, box_in}
 

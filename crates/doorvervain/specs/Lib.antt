@@ -2,3 +2,6 @@
 pub mod Held
 pub mod Follows
 pub mod Numbers
+pub mod Looks
+pub mod Changes
+pub mod Handed

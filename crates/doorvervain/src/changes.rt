@@ -1,13 +1,10 @@
 //! Exports of the calls that change a volume.
-ghost use Rattle.pathkey.specs.declared.errno.Errno.TheVariants.{ENOMEM};
 ghost use Rattle.pathkey.specs.SnapNames.{snap_parsed};
-ghost use Rattle.pathkey.specs.Texts.{parsed};
 ghost use Rattle.reference.specs.declared.call.Call.TheVariants as ask;
 ghost use Rattle.reference.specs.Worlds.{DropSnapshot, RestoreSnapshot, TakeSnapshot};
-ghost use Rattle.std.specs.Prelude.{◌≡◌, ◌⊎◌};
 ghost use Rattle.volume.specs.Changes.{Dropped, KeptAs, Restored};
-ghost use Rattle.byte_calls.specs.Changes.{Asks, Refuses, asked, moved};
 ghost use Rattle.byte_calls.specs.Snapshots.{SettlesNamed};
+ghost use Rattle.doorvervain.specs.Changes.{AsksAt, Moves};
 ghost use Rattle.doorvervain.specs.Numbers.{told};
 
 use crate::handle::Handle;
@@ -18,7 +15,7 @@ use std::alloc::Global;
 /// Makes an empty directory.
 #[unsafe(no_mangle)]
 pub extern "C" fn doorvervain_raw_mkdir(alloc: Global, fs: &mut Handle, path: &[u8]) -> u8
-    ensures { Asks (asked ask.Mkdir (parsed path.now)) (told result) fs.old.volume fs.new.volume }
+    ensures { AsksAt ask.Mkdir path.now result fs.old.volume fs.new.volume }
 {
     number(byte_calls::on_path(alloc, fs.volume(), PathCall::Mkdir, path))
 }
@@ -26,7 +23,7 @@ pub extern "C" fn doorvervain_raw_mkdir(alloc: Global, fs: &mut Handle, path: &[
 /// Makes an empty file where nothing stands.
 #[unsafe(no_mangle)]
 pub extern "C" fn doorvervain_raw_create(alloc: Global, fs: &mut Handle, path: &[u8]) -> u8
-    ensures { Asks (asked ask.Create (parsed path.now)) (told result) fs.old.volume fs.new.volume }
+    ensures { AsksAt ask.Create path.now result fs.old.volume fs.new.volume }
 {
     number(byte_calls::on_path(alloc, fs.volume(), PathCall::Create, path))
 }
@@ -34,7 +31,7 @@ pub extern "C" fn doorvervain_raw_create(alloc: Global, fs: &mut Handle, path: &
 /// Takes a file out.
 #[unsafe(no_mangle)]
 pub extern "C" fn doorvervain_raw_unlink(alloc: Global, fs: &mut Handle, path: &[u8]) -> u8
-    ensures { Asks (asked ask.Unlink (parsed path.now)) (told result) fs.old.volume fs.new.volume }
+    ensures { AsksAt ask.Unlink path.now result fs.old.volume fs.new.volume }
 {
     number(byte_calls::on_path(alloc, fs.volume(), PathCall::Unlink, path))
 }
@@ -42,7 +39,7 @@ pub extern "C" fn doorvervain_raw_unlink(alloc: Global, fs: &mut Handle, path: &
 /// Takes an empty directory out.
 #[unsafe(no_mangle)]
 pub extern "C" fn doorvervain_raw_rmdir(alloc: Global, fs: &mut Handle, path: &[u8]) -> u8
-    ensures { Asks (asked ask.Rmdir (parsed path.now)) (told result) fs.old.volume fs.new.volume }
+    ensures { AsksAt ask.Rmdir path.now result fs.old.volume fs.new.volume }
 {
     number(byte_calls::on_path(alloc, fs.volume(), PathCall::Rmdir, path))
 }
@@ -50,7 +47,7 @@ pub extern "C" fn doorvervain_raw_rmdir(alloc: Global, fs: &mut Handle, path: &[
 /// Takes a file out, or a directory with all below it.
 #[unsafe(no_mangle)]
 pub extern "C" fn doorvervain_raw_rmtree(alloc: Global, fs: &mut Handle, path: &[u8]) -> u8
-    ensures { Asks (asked ask.Rmtree (parsed path.now)) (told result) fs.old.volume fs.new.volume }
+    ensures { AsksAt ask.Rmtree path.now result fs.old.volume fs.new.volume }
 {
     number(byte_calls::on_path(alloc, fs.volume(), PathCall::Rmtree, path))
 }
@@ -63,7 +60,7 @@ pub extern "C" fn doorvervain_raw_rename(
     old: &[u8],
     new: &[u8],
 ) -> u8
-    ensures { Asks (moved (parsed old.now) (parsed new.now)) (told result) fs.old.volume fs.new.volume ⊎ Refuses ENOMEM (told result) fs.old.volume fs.new.volume }
+    ensures { Moves old.now new.now result fs.old.volume fs.new.volume }
 {
     number(byte_calls::rename(alloc, fs.volume(), old, new))
 }
@@ -76,7 +73,7 @@ pub extern "C" fn doorvervain_raw_truncate(
     path: &[u8],
     length: u64,
 ) -> u8
-    ensures { Asks (asked (λ p. ask.Truncate p length) (parsed path.now)) (told result) fs.old.volume fs.new.volume }
+    ensures { AsksAt (λ p. ask.Truncate p length) path.now result fs.old.volume fs.new.volume }
 {
     number(byte_calls::truncate(alloc, fs.volume(), path, length))
 }
@@ -90,7 +87,7 @@ pub extern "C" fn doorvervain_raw_write(
     offset: u64,
     bytes: &[u8],
 ) -> u8
-    ensures { Asks (asked (λ p. ask.Write p offset bytes.now) (parsed path.now)) (told result) fs.old.volume fs.new.volume }
+    ensures { AsksAt (λ p. ask.Write p offset bytes.now) path.now result fs.old.volume fs.new.volume }
 {
     number(byte_calls::write(alloc, fs.volume(), path, offset, bytes))
 }

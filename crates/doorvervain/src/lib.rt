@@ -1,13 +1,16 @@
-//! The file system as a C library: a handle is a pointer to a volume that C holds, and each call takes it with numbers, texts and buffers.
+//! The file system as a C library: a handle is a pointer to a volume that C holds, and each call takes it with
+//! numbers, texts and buffers.
 //!
-//! The exports are thin over `byte_calls`: each says what becomes of the volume that the handle holds. `include/doorvervain.h` has
-//! what C programs call, with the words of each function.
+//! The exports are thin over `byte_calls`: each says what becomes of the volume that the handle holds.
+//! `include/doorvervain.h` has what C programs call, with the words of each function.
 #![tactic(auto)]
 
 mod changes;
 mod frozen;
+mod frozen_place;
 mod handle;
 mod looks;
 mod numbers;
 mod parts;
+mod place;
 mod upkeep;

@@ -1,9 +1,7 @@
 //! Exports of the calls that only look: the volume, or the tree, is as it was.
-ghost use Rattle.pathkey.specs.Texts.{parsed};
-ghost use Rattle.reference.specs.declared.call.Call.TheVariants as ask;
-ghost use Rattle.std.specs.Prelude.{◌≡◌, IfErr, length};
-ghost use Rattle.volume.specs.Told.{Tells};
-ghost use Rattle.byte_calls.specs.Looks.{Fills, Lists, OnPath, read_reply, stat_reply};
+ghost use Rattle.std.specs.Prelude.{◌≡◌, IfErr};
+ghost use Rattle.byte_calls.specs.Looks.{Fills};
+ghost use Rattle.doorvervain.specs.Looks.{ListsAt, ReadsAt, StatsAt};
 ghost use Rattle.doorvervain.specs.Numbers.{meta_told, told_by};
 
 use crate::frozen::FrozenHandle;
@@ -21,7 +19,7 @@ pub extern "C" fn doorvervain_raw_read(
     out: &mut [u8],
     got: &mut usize,
 ) -> u8
-    ensures reply { OnPath (parsed path.now) (told_by result got.new) (λ p. Tells (ask.Read p offset (length out.old)) (read_reply (told_by result got.new) out.new) fs.old.volume.live) }
+    ensures reply { ReadsAt path.now offset fs.old.volume.live (told_by result got.new) out.old out.new }
     ensures buffer { Fills (told_by result got.new) out.old out.new }
     ensures kept { fs.new.volume ≡ fs.old.volume }
 {
@@ -37,7 +35,7 @@ pub extern "C" fn doorvervain_raw_stat(
     kind_of: &mut u8,
     length_of: &mut u64,
 ) -> u8
-    ensures reply { OnPath (parsed path.now) (told_by result (meta_told kind_of.new length_of.new)) (λ p. Tells (ask.Stat p) (stat_reply (told_by result (meta_told kind_of.new length_of.new))) fs.old.volume.live) }
+    ensures reply { StatsAt path.now fs.old.volume.live (told_by result (meta_told kind_of.new length_of.new)) }
     ensures kept { fs.new.volume ≡ fs.old.volume }
 {
     kind(
@@ -47,8 +45,8 @@ pub extern "C" fn doorvervain_raw_stat(
     )
 }
 
-/// Lists a directory of the live tree: for each entry `d` or `f`, its name and a byte 0. How many bytes that takes goes to `size`; they are
-/// written where the buffer has room for all of them.
+/// Lists a directory of the live tree: for each entry `d` or `f`, its name and a byte 0. How many bytes that takes
+/// goes to `size`; they are written where the buffer has room for all of them.
 #[unsafe(no_mangle)]
 pub extern "C" fn doorvervain_raw_readdir(
     alloc: Global,
@@ -57,7 +55,7 @@ pub extern "C" fn doorvervain_raw_readdir(
     out: &mut [u8],
     size: &mut usize,
 ) -> u8
-    ensures reply { OnPath (parsed path.now) (told_by result size.new) (λ p. Lists p fs.old.volume.live (told_by result size.new) out.old out.new) }
+    ensures reply { ListsAt path.now fs.old.volume.live (told_by result size.new) out.old out.new }
     ensures refused { IfErr (told_by result size.new) (λ _. out.new ≡ out.old) }
     ensures kept { fs.new.volume ≡ fs.old.volume }
 {
@@ -74,7 +72,7 @@ pub extern "C" fn doorvervain_raw_frozen_read(
     out: &mut [u8],
     got: &mut usize,
 ) -> u8
-    ensures reply { OnPath (parsed path.now) (told_by result got.new) (λ p. Tells (ask.Read p offset (length out.old)) (read_reply (told_by result got.new) out.new) tree.old.tree) }
+    ensures reply { ReadsAt path.now offset tree.old.tree (told_by result got.new) out.old out.new }
     ensures buffer { Fills (told_by result got.new) out.old out.new }
     ensures kept { tree.new.tree ≡ tree.old.tree }
 {
@@ -93,7 +91,7 @@ pub extern "C" fn doorvervain_raw_frozen_stat(
     kind_of: &mut u8,
     length_of: &mut u64,
 ) -> u8
-    ensures reply { OnPath (parsed path.now) (told_by result (meta_told kind_of.new length_of.new)) (λ p. Tells (ask.Stat p) (stat_reply (told_by result (meta_told kind_of.new length_of.new))) tree.old.tree) }
+    ensures reply { StatsAt path.now tree.old.tree (told_by result (meta_told kind_of.new length_of.new)) }
     ensures kept { tree.new.tree ≡ tree.old.tree }
 {
     kind(
@@ -103,8 +101,8 @@ pub extern "C" fn doorvervain_raw_frozen_stat(
     )
 }
 
-/// Lists a directory of a frozen tree: for each entry `d` or `f`, its name and a byte 0. How many bytes that takes goes to `size`; they are
-/// written where the buffer has room for all of them.
+/// Lists a directory of a frozen tree: for each entry `d` or `f`, its name and a byte 0. How many bytes that takes
+/// goes to `size`; they are written where the buffer has room for all of them.
 #[unsafe(no_mangle)]
 pub extern "C" fn doorvervain_raw_frozen_readdir(
     alloc: Global,
@@ -113,7 +111,7 @@ pub extern "C" fn doorvervain_raw_frozen_readdir(
     out: &mut [u8],
     size: &mut usize,
 ) -> u8
-    ensures reply { OnPath (parsed path.now) (told_by result size.new) (λ p. Lists p tree.old.tree (told_by result size.new) out.old out.new) }
+    ensures reply { ListsAt path.now tree.old.tree (told_by result size.new) out.old out.new }
     ensures refused { IfErr (told_by result size.new) (λ _. out.new ≡ out.old) }
     ensures kept { tree.new.tree ≡ tree.old.tree }
 {

@@ -17,6 +17,16 @@ impl<T, A: Allocator> Model for Parts<T, A> {
 }
 
 impl<T, A: Allocator> Parts<T, A> {
+    /// What the box is made of.
+    pub(crate) fn of(whole: Box<T, A>) -> Parts<T, A>
+    where
+        T: Drop,
+        ensures { result.value ≡ whole.value }
+    {
+        let (ptr, alloc) = Box::into_raw_with_allocator(whole);
+        Parts { ptr, alloc }
+    }
+
     /// The box that these are the parts of.
     pub(crate) fn into_box(self) -> Box<T, A>
         ensures { result.value ≡ self.value }

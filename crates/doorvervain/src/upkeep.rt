@@ -1,28 +1,39 @@
 //! Exports that make handles and end them, and tree steps.
-ghost use Rattle.std.specs.Prelude.{◌≡◌, ◌≤◌, ◌<◌, ◌↔◌, false};
+ghost use Rattle.pathkey.specs.SnapNames.{snap_parsed};
+ghost use Rattle.pathkey.specs.declared.errno.Errno.TheVariants.{EINVAL, ENOMEM};
+ghost use Rattle.std.specs.Prelude.{◌≡◌, ◌≤◌, ◌<◌, ◌↔◌, ◌⊎◌, false, Err, IfErr, IfOk, Some};
 ghost use Rattle.node.specs.Shapes.{is_shape};
 ghost use Rattle.reference.specs.Worlds.{World};
-ghost use Rattle.volume.specs.Volumes.{Means};
+ghost use Rattle.volume.specs.Volumes.{IsNew, Means};
 ghost use Rattle.byte_calls.specs.Upkeep.{IsIdle, Relieves};
+ghost use Rattle.doorvervain.specs.Handed.{FindsHanded, Given, Hands, HandsOut, NoShape};
+ghost use Rattle.doorvervain.specs.Numbers.{told};
 
 use crate::frozen::FrozenHandle;
+use crate::frozen_place::FrozenPlace;
 use crate::handle::Handle;
 use crate::numbers::number;
+use crate::parts::Parts;
+use crate::place::Place;
 use node::Shape;
 use pathkey::Errno;
 use std::alloc::Global;
 use volume::{Frozen, Volume};
 
-/// Makes a volume of the empty root directory in trees of this shape, and writes the pointer of its handle to `out`: 0, or EINVAL where
-/// the shape is not ok, or ENOMEM.
+/// Makes a volume of the empty root directory in trees of this shape, and puts its handle at `out`:
+/// 0, or EINVAL where the shape is not ok, or ENOMEM.
 #[unsafe(no_mangle)]
 pub extern "C" fn doorvervain_raw_open(
     alloc: Global,
     fanout: u16,
     pending: u16,
     leaf: u16,
-    out: &mut *mut u8,
-) -> u8 {
+    out: &mut Place,
+) -> u8
+    ensures new { IfOk (told result) (λ _. Given (IsNew (record { fanout = fanout; pending = pending; leaf = leaf })) out.new.given) }
+    ensures shape { (told result ≡ Err EINVAL) ↔ NoShape fanout pending leaf }
+    ensures refused { IfErr (told result) (λ e. (e ≡ EINVAL) ⊎ (e ≡ ENOMEM)) }
+{
     let shape = Shape {
         fanout,
         pending,
@@ -37,22 +48,29 @@ pub extern "C" fn doorvervain_raw_close(alloc: Global, fs: Handle) {
     let _volume = fs.into_box(alloc);
 }
 
-/// Freezes the live tree as it stands, and writes the pointer of its handle to `out`: 0, or ENOMEM.
+/// Freezes the live tree as it stands, and puts its handle at `out`: 0, or ENOMEM.
 #[unsafe(no_mangle)]
-pub extern "C" fn doorvervain_raw_freeze(alloc: Global, fs: &mut Handle, out: &mut *mut u8) -> u8
+pub extern "C" fn doorvervain_raw_freeze(
+    alloc: Global,
+    fs: &mut Handle,
+    out: &mut FrozenPlace,
+) -> u8
+    ensures given { IfOk (told result) (λ _. out.new.given ≡ Some fs.old.volume.live) }
+    ensures refused { IfErr (told result) (λ e. e ≡ ENOMEM) }
     ensures kept { fs.new.volume ≡ fs.old.volume }
 {
     number(hand_out_tree(alloc, byte_calls::freeze(fs.volume()), out))
 }
 
-/// The tree of a snapshot, whose handle's pointer is written to `out`: 0, or why there is none.
+/// The tree of a snapshot, whose handle is put at `out`: 0, or why there is none.
 #[unsafe(no_mangle)]
 pub extern "C" fn doorvervain_raw_frozen(
     alloc: Global,
     fs: &mut Handle,
     name: &[u8],
-    out: &mut *mut u8,
+    out: &mut FrozenPlace,
 ) -> u8
+    ensures named { FindsHanded (snap_parsed name.now) fs.old.volume (told result) out.new.given }
     ensures kept { fs.new.volume ≡ fs.old.volume }
 {
     number(hand_out_tree(alloc, byte_calls::frozen(alloc, fs.volume(), name), out))
@@ -75,26 +93,38 @@ pub extern "C" fn doorvervain_raw_relieve(alloc: Global, fs: &mut Handle, steps:
     byte_calls::relieve(alloc, fs.volume(), steps)
 }
 
-// Makes a volume, and writes where it lies.
-fn open(alloc: Global, shape: Shape, out: &mut *mut u8) -> Result<(), Errno> {
+// Makes a volume, and puts its handle at `out`.
+fn open(alloc: Global, shape: Shape, out: &mut Place) -> Result<(), Errno>
+    ensures new { IfOk result (λ _. Given (IsNew shape) out.new.given) }
+    ensures shape { (result ≡ Err EINVAL) ↔ (is_shape shape ≡ false) }
+    ensures refused { IfErr result (λ e. (e ≡ EINVAL) ⊎ (e ≡ ENOMEM)) }
+{
     let volume = Volume::new(alloc, shape)?;
     hand_out(alloc, volume, out)
 }
 
-// Hands a tree out that was found.
+// Puts a volume on the heap, and its handle at `out`.
+fn hand_out(alloc: Global, volume: Volume, out: &mut Place) -> Result<(), Errno>
+    ensures { Hands volume result out.new.given }
+{
+    let Ok(whole) = Box::new(alloc, volume) else {
+        return Err(Errno::ENOMEM);
+    };
+    out.fill(Parts::of(whole));
+    Ok(())
+}
+
+// Puts a tree that was found on the heap, and its handle at `out`.
 fn hand_out_tree(
     alloc: Global,
     tree: Result<Frozen, Errno>,
-    out: &mut *mut u8,
-) -> Result<(), Errno> {
-    hand_out(alloc, tree?, out)
-}
-
-// Puts a value on the heap, and writes where it lies.
-fn hand_out<T: Drop>(alloc: Global, value: T, out: &mut *mut u8) -> Result<(), Errno> {
-    let Ok(whole) = Box::new(alloc, value) else {
+    out: &mut FrozenPlace,
+) -> Result<(), Errno>
+    ensures { HandsOut tree result out.new.given }
+{
+    let Ok(whole) = Box::new(alloc, tree?) else {
         return Err(Errno::ENOMEM);
     };
-    *out = Box::into_raw(whole) as *mut u8;
+    out.fill(Parts::of(whole));
     Ok(())
 }

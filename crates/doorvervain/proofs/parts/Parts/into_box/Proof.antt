@@ -1,5 +1,4 @@
 -- `into_box` gives `Box::from_raw` what the parts have, and returns its box.
-use seplogic.Ra.Ura.{Ura}
 use Rattle.doorvervain.proofs.Steps.{◌≡◌, List, [], ◌∷◌, ◌++◌, refl, sym, subst, proved_at, after, SProp, ent, id⊢, ftrue, flft, fsep, Fn, inst_fn, Val, vptr, WpFn, fact, ◌⊑◌, tables, ‵, raw, ◌⊛◌, some, later, at_ret, ◌$◌, ◌∵◌, !, qed, move, drop, use1, split, split3, join, pick, fsplit, fjoin, feq_i, await, suffices, done, whole, sub, enter, of_opd, stop, fld, no_more, and_then, first, blocks, exec, returns, alloc_all, pass_all, free_all, look_at, get, get_in, sets, lands_last, env, no, RattleType, block_ptr, plain, nothing, heard, calls_at_last, triple_of, framed, Ended, Stays, walk_of, says, stay_dropped, ends_at, Goes-blank}
 use Rattle.std.proofs.BoxSteps.Form.{Bx, D, B, R, P, args, word, box_typed}
 use Rattle.std.proofs.BoxSteps.Steps.{box_out}

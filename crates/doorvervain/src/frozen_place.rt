@@ -1,0 +1,32 @@
+//! Where C takes the handle of a frozen tree: a struct of one pointer that an export writes.
+ghost use Rattle.std.specs.Prelude.{◌≡◌, Some, Option};
+ghost use Rattle.std.specs.Coded.{coded_option};
+ghost use Rattle.call_compiler.specs.declared.indexes.Indexes.{Indexes};
+ghost use Rattle.volume.specs.contracts.frozen.Frozen.{the_row as frozen_row};
+ghost use Rattle.doorvervain.specs.Held.{given_at};
+
+use crate::parts::Parts;
+use std::alloc::Global;
+use std::marker::Model;
+use volume::Frozen;
+
+/// Room for the handle of a frozen tree. Where a tree was given, it is its handle.
+#[repr(C)]
+pub struct FrozenPlace {
+    at: *mut u8,
+    pub ghost given: { Option Indexes } by { coded_option frozen_row.coded },
+}
+
+impl Model for FrozenPlace {
+    ghost also_owns = { λ p. given_at frozen_row p.at p.given };
+}
+
+impl FrozenPlace {
+    /// Puts the handle of a frozen tree here.
+    pub(crate) fn fill(&mut self, parts: Parts<Frozen, Global>)
+        ensures { self.new.given ≡ Some parts.value }
+    {
+        let Parts { ptr, alloc: _ } = parts;
+        self.at = ptr as *mut u8;
+    }
+}

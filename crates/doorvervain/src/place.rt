@@ -1,0 +1,32 @@
+//! Where C takes the handle of a volume: a struct of one pointer that an export writes.
+ghost use Rattle.std.specs.Prelude.{◌≡◌, Some, Option};
+ghost use Rattle.std.specs.Coded.{coded_option};
+ghost use Rattle.volume.specs.Volumes.{PVolume};
+ghost use Rattle.volume.specs.contracts.volume.Volume.{the_row as volume_row};
+ghost use Rattle.doorvervain.specs.Held.{given_at};
+
+use crate::parts::Parts;
+use std::alloc::Global;
+use std::marker::Model;
+use volume::Volume;
+
+/// Room for the handle of a volume. Where a volume was given, it is its handle.
+#[repr(C)]
+pub struct Place {
+    at: *mut u8,
+    pub ghost given: { Option PVolume } by { coded_option volume_row.coded },
+}
+
+impl Model for Place {
+    ghost also_owns = { λ p. given_at volume_row p.at p.given };
+}
+
+impl Place {
+    /// Puts the handle of a volume here.
+    pub(crate) fn fill(&mut self, parts: Parts<Volume, Global>)
+        ensures { self.new.given ≡ Some parts.value }
+    {
+        let Parts { ptr, alloc: _ } = parts;
+        self.at = ptr as *mut u8;
+    }
+}
