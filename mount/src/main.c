@@ -64,9 +64,8 @@ static void say_it_stands(int parent) {
 }
 
 static int serve(struct fuse_session *session, int parent) {
-    struct fuse_loop_config config = {.clone_fd = 0, .max_idle_threads = 4};
     say_it_stands(parent);
-    return fuse_session_loop_mt(session, &config);
+    return fuse_session_loop(session);
 }
 
 // Nothing unlinked is open any more, so nothing of it goes into the image.
