@@ -102,7 +102,6 @@ static void keep_memory(void) {
 
 static int run(const struct options *options, int parent) {
     struct mount mount = {0};
-    umask(0);
     keep_memory();
     if (open_volume(options, &mount)) return 1;
     return mount_and_serve(options, &mount, parent);
