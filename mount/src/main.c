@@ -64,9 +64,8 @@ static void say_it_stands(int parent) {
 }
 
 static int serve(struct fuse_session *session, int parent) {
-    struct fuse_loop_config config = {.clone_fd = 0, .max_idle_threads = 4};
     say_it_stands(parent);
-    return fuse_session_loop_mt(session, &config);
+    return fuse_session_loop(session);
 }
 
 // Nothing unlinked is open any more, so nothing of it goes into the image.
@@ -103,7 +102,6 @@ static void keep_memory(void) {
 
 static int run(const struct options *options, int parent) {
     struct mount mount = {0};
-    umask(0);
     keep_memory();
     if (open_volume(options, &mount)) return 1;
     return mount_and_serve(options, &mount, parent);

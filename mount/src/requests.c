@@ -1,4 +1,5 @@
-// Each request takes the lock, does what files.h has for it, leaves the lock, and answers.
+// Each request takes the lock, does what files.h has for it, leaves the lock, and answers. One thread serves them all:
+// most take less time than to wake another. A snapshot is restored by a thread of its own.
 //
 // All changes of the tree come by the kernel, so what it knows of names and attributes stays right for as long as it
 // keeps them; where a snapshot is restored, it is told to forget. The bytes of a file are asked for anew when it is
@@ -404,15 +405,36 @@ static void tell_stale(struct bytes *list) {
     bytes_free(list);
 }
 
-static int restore(fuse_req_t req, const struct restore_request *wanted) {
+struct restoring {
+    fuse_req_t req;
+    struct restore_request wanted;
+};
+
+// Runs in a thread of its own: the other requests are served while the kernel forgets.
+static void *restore(void *argument) {
+    struct restoring *restoring = argument;
     struct bytes stale = {0};
-    uid_t asks = fuse_req_ctx(req)->uid;
-    if (asks && asks != getuid()) return EPERM;
-    if (!memchr(wanted->name, 0, sizeof wanted->name)) return EINVAL;
     pthread_mutex_lock(&lock);
-    int fault = snapshot_restore(mount_of(req), wanted->name, &stale);
+    int fault = snapshot_restore(mount_of(restoring->req), restoring->wanted.name, &stale);
     pthread_mutex_unlock(&lock);
     tell_stale(&stale);
+    if (fault) fuse_reply_err(restoring->req, fault);
+    else fuse_reply_ioctl(restoring->req, 0, 0, 0);
+    free(restoring);
+    return 0;
+}
+
+static int start_restoring(fuse_req_t req, const struct restore_request *wanted) {
+    uid_t asks = fuse_req_ctx(req)->uid;
+    pthread_t thread;
+    if (asks && asks != getuid()) return EPERM;
+    if (!memchr(wanted->name, 0, sizeof wanted->name)) return EINVAL;
+    struct restoring *restoring = malloc(sizeof *restoring);
+    if (!restoring) return ENOMEM;
+    *restoring = (struct restoring){req, *wanted};
+    int fault = pthread_create(&thread, 0, restore, restoring);
+    if (fault) free(restoring);
+    else pthread_detach(thread);
     return fault;
 }
 
@@ -420,9 +442,8 @@ static void on_ioctl(fuse_req_t req, fuse_ino_t number, unsigned what, void *arg
                      unsigned flags, const void *in, size_t in_size, size_t out_size) {
     (void)argument, (void)info, (void)flags, (void)out_size;
     bool is_restore = what == RESTORE_REQUEST && number == FUSE_ROOT_ID && in_size == sizeof(struct restore_request);
-    int fault = is_restore ? restore(req, in) : ENOTTY;
+    int fault = is_restore ? start_restoring(req, in) : ENOTTY;
     if (fault) fuse_reply_err(req, fault);
-    else fuse_reply_ioctl(req, 0, 0, 0);
 }
 
 const struct fuse_lowlevel_ops requests = {
