@@ -1,5 +1,5 @@
 -- What the searches of a range of keys find. f is any function from keys to values, as what a tree means at each key.
-use Rattle.std.specs.Prelude.{◌≡◌, ℕ, ◌≤◌, ◌⊎◌, true, List, [], ◌∷◌, ◌++◌, Option, Some, None, length, All, AllPairs, Contains}
+use Rattle.std.specs.Prelude.{◌≡◌, ℕ, ◌-◌, ◌≤◌, ◌⊎◌, true, List, [], ◌∷◌, ◌++◌, Option, Some, None, length, All, AllPairs, Contains}
 use Rattle.message.specs.Ranges.{within, before}
 
 module _ {V : Type 0} where
@@ -23,6 +23,10 @@ module _ {V : Type 0} where
     pub sound : All (λ p. (within lo hi p.0 ≡ true) × (f p.0 ≡ Some p.1)) ps
     pub rising : IsRising ps
     pub complete : (k : List ℕ) (v : V) → within lo hi k ≡ true → f k ≡ Some v → Contains ps (k, v) ⊎ ((length ps ≡ limit) × All (λ p. before p.0 k ≡ true) ps)
+
+  -- a list has become a longer one: behind its pairs stands a scan for as many as it lacked of `limit`
+  abbrev pub AddsScan : (List ℕ → Option V) → List ℕ → Option (List ℕ) → ℕ → List (List ℕ × V) → List (List ℕ × V) → Type 0
+  AddsScan f lo hi limit old new = (ps : List (List ℕ × V)) × (new ≡ old ++ ps) × IsScan f lo hi (limit - length old) ps
 
   -- the last of the pairs has the key k
   abbrev pub EndsAt : List (List ℕ × V) → List ℕ → Type 0

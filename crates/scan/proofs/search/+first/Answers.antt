@@ -56,8 +56,8 @@ first-returns-in-Some g t c =
     let i = c.slot_of-i.result in
     let s = c.index-slot.result.now in
     let stop = c.in_ok-stop.stop in
-    let at = stands_at means items c.as_slice-in-stretches.result.now c.as_slice-in-stretches-2.result.now n lo hi from i s (option_copied c.slot_end-end.result) stop c.as_slice-in-stretches.ensures.value c.as_slice-in-stretches-2.ensures.value (ap see (sym c.in-Inner.is) ∙ c.body.ensures) c.slot_of-i.ensures.bound c.slot_of-i.ensures.number c.index-slot.ensures c.stretches.invariant c.slot_end-end.ensures c.in_ok-stop.ensures in
-    found means items n lo hi from i s stop at c.in-Some.pair (as_called (slot_value means s) from (option_copied c.as_ref.result) stop c.in_ok-pair.field-0 (Some c.in-Some.pair) c.as_ref.ensures.value c.in-Some.is c.in_ok-pair.ensures)
+    let at = stands_at means items c.as_slice-in-stretches.result.now c.as_slice-in-stretches-2.result.now n hi from i s (option_copied c.slot_end-end.result) stop c.as_slice-in-stretches.ensures.value c.as_slice-in-stretches-2.ensures.value (ap see (sym c.in-Inner.is) ∙ c.body.ensures) c.slot_of-i.ensures.bound c.slot_of-i.ensures.number c.index-slot.ensures c.slot_end-end.ensures c.in_ok-stop.ensures in
+    found means items n hi from i s stop at lo c.stretches.invariant c.in-Some.pair (as_called (slot_value means s) from (option_copied c.as_ref.result) stop c.in_ok-pair.field-0 (Some c.in-Some.pair) c.as_ref.ensures.value c.in-Some.is c.in_ok-pair.ensures)
 
 pub first-returns-in_default-stop : goal.first-returns-in_default-stop
 first-returns-in_default-stop g t c =
@@ -70,8 +70,8 @@ first-returns-in_default-stop g t c =
     let i = c.slot_of-i.result in
     let s = c.index-slot.result.now in
     let stop = c.in_ok-stop.stop in
-    let at = stands_at means items c.as_slice-in-stretches.result.now c.as_slice-in-stretches-2.result.now n lo hi from i s (option_copied c.slot_end-end.result) stop c.as_slice-in-stretches.ensures.value c.as_slice-in-stretches-2.ensures.value (ap see (sym c.in-Inner.is) ∙ c.body.ensures) c.slot_of-i.ensures.bound c.slot_of-i.ensures.number c.index-slot.ensures c.stretches.invariant c.slot_end-end.ensures c.in_ok-stop.ensures in
-    no_more means items n lo hi from i s stop at c.in_default-stop.is (as_called (slot_value means s) from (option_copied c.as_ref.result) stop c.in_ok-pair.field-0 None c.as_ref.ensures.value c.in_default.is c.in_ok-pair.ensures)
+    let at = stands_at means items c.as_slice-in-stretches.result.now c.as_slice-in-stretches-2.result.now n hi from i s (option_copied c.slot_end-end.result) stop c.as_slice-in-stretches.ensures.value c.as_slice-in-stretches-2.ensures.value (ap see (sym c.in-Inner.is) ∙ c.body.ensures) c.slot_of-i.ensures.bound c.slot_of-i.ensures.number c.index-slot.ensures c.slot_end-end.ensures c.in_ok-stop.ensures in
+    no_more means items n hi from i s stop at lo c.stretches.invariant c.in_default-stop.is (as_called (slot_value means s) from (option_copied c.as_ref.result) stop c.in_ok-pair.field-0 None c.as_ref.ensures.value c.in_default.is c.in_ok-pair.ensures)
 
 pub first-stretches-smaller : goal.first-stretches-smaller
 first-stretches-smaller g t c =
@@ -84,8 +84,8 @@ first-stretches-smaller g t c =
     let i = c.slot_of-i.result in
     let s = c.index-slot.result.now in
     let stop = c.in_ok-stop.stop in
-    let at = stands_at means items c.as_slice-in-stretches.result.now c.as_slice-in-stretches-2.result.now n lo hi from i s (option_copied c.slot_end-end.result) stop c.as_slice-in-stretches.ensures.value c.as_slice-in-stretches-2.ensures.value (ap see (sym c.in-Inner.is) ∙ c.body.ensures) c.slot_of-i.ensures.bound c.slot_of-i.ensures.number c.index-slot.ensures c.stretches.invariant c.slot_end-end.ensures c.in_ok-stop.ensures in
-    fewer_ahead means items n lo hi from i s stop at c.in-Some-stop.next c.in-Some-stop.is
+    let at = stands_at means items c.as_slice-in-stretches.result.now c.as_slice-in-stretches-2.result.now n hi from i s (option_copied c.slot_end-end.result) stop c.as_slice-in-stretches.ensures.value c.as_slice-in-stretches-2.ensures.value (ap see (sym c.in-Inner.is) ∙ c.body.ensures) c.slot_of-i.ensures.bound c.slot_of-i.ensures.number c.index-slot.ensures c.slot_end-end.ensures c.in_ok-stop.ensures in
+    fewer_ahead means items n hi from i s stop at c.in-Some-stop.next c.in-Some-stop.is
 
 pub first-stretches-preserved : goal.first-stretches-preserved
 first-stretches-preserved g t c =
@@ -98,8 +98,8 @@ first-stretches-preserved g t c =
     let i = c.slot_of-i.result in
     let s = c.index-slot.result.now in
     let stop = c.in_ok-stop.stop in
-    let at = stands_at means items c.as_slice-in-stretches.result.now c.as_slice-in-stretches-2.result.now n lo hi from i s (option_copied c.slot_end-end.result) stop c.as_slice-in-stretches.ensures.value c.as_slice-in-stretches-2.ensures.value (ap see (sym c.in-Inner.is) ∙ c.body.ensures) c.slot_of-i.ensures.bound c.slot_of-i.ensures.number c.index-slot.ensures c.stretches.invariant c.slot_end-end.ensures c.in_ok-stop.ensures in
-    goes_on means items n lo hi from i s stop at c.in-Some-stop.next c.in-Some-stop.is (as_called (slot_value means s) from (option_copied c.as_ref.result) stop c.in_ok-pair.field-0 None c.as_ref.ensures.value c.in_default.is c.in_ok-pair.ensures)
+    let at = stands_at means items c.as_slice-in-stretches.result.now c.as_slice-in-stretches-2.result.now n hi from i s (option_copied c.slot_end-end.result) stop c.as_slice-in-stretches.ensures.value c.as_slice-in-stretches-2.ensures.value (ap see (sym c.in-Inner.is) ∙ c.body.ensures) c.slot_of-i.ensures.bound c.slot_of-i.ensures.number c.index-slot.ensures c.slot_end-end.ensures c.in_ok-stop.ensures in
+    goes_on means items n hi from i s stop at lo c.stretches.invariant c.in-Some-stop.next c.in-Some-stop.is (as_called (slot_value means s) from (option_copied c.as_ref.result) stop c.in_ok-pair.field-0 None c.as_ref.ensures.value c.in_default.is c.in_ok-pair.ensures)
 
 pub first-returns : goal.first-returns
 first-returns g t c = none_past (value g.U.Update.means c.args.node.now) c.args.lo.now c.stretches.from (option_copied c.args.hi) c.stretches.invariant.none (sym c.is_before_end.ensures ∙ c.stretches-test.false)
