@@ -1,5 +1,5 @@
 -- Scans of two parts of a range that meet, and what a list has grown by.
-use Rattle.std.proofs.Common.{◌≡◌, ℕ, ◌+◌, ◌-◌, ◌<◌, ◌≤◌, ◌++◌, true, false, List, [], ◌∷◌, length, length-append, append_assoc, append-nil, refl, ap, sym, ◌∙◌, subst, Option, Some, None, arith, ◌⊎◌, inl, inr}
+use Rattle.std.proofs.Common.{◌≡◌, ℕ, ◌+◌, ◌-◌, ◌<◌, ◌≤◌, ◌++◌, true, false, List, [], ◌∷◌, length, length-append, append_assoc, append-nil, refl, ap, sym, ◌∙◌, subst, Option, Some, arith, ◌⊎◌, inl, inr}
 use Rattle.std.specs.Prelude.{All, Contains}
 use Rattle.std.proofs.lemmas.Option.{none-some, same_Some}
 use Rattle.std.proofs.lemmas.List.Elements.{All-append, All-push, All-weaker, All-nil, Contains-append_left, Contains-append_right, Contains-push}
@@ -7,7 +7,7 @@ use Rattle.pathkey.specs.Keys.{is_below, next_key}
 use Rattle.message.specs.Ranges.{reaches, before, within}
 use Rattle.message.proofs.KeyOrder.{both, le_le, lt_le, reaches-refl, reaches-from_before, reaches-from_not_before, not_before_from_reaches, begins_before_end}
 use Rattle.message.proofs.NextKey.{by_bool, in_range, one_key, before-next, reaches-from_before_next}
-use Rattle.scan.specs.Pairs.{HasNone, IsFirst, IsRising, IsScan, AddsScan}
+use Rattle.scan.specs.Pairs.{HasNone, IsFirst, IsScan, AddsScan}
 use Rattle.scan.proofs.Firsts.{none_start}
 use Rattle.scan.proofs.Pieces.{pairs_append}
 

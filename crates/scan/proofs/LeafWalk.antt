@@ -1,8 +1,8 @@
 -- A walk of a leaf, entry by entry.
-use Rattle.std.proofs.Common.{◌≡◌, ℕ, ◌+◌, ◌<◌, ◌≤◌, ◌++◌, true, false, List, [], ◌∷◌, length, get_or, refl, ap, sym, ◌∙◌, subst, Option, Some, None, arith, ⊎_elim}
+use Rattle.std.proofs.Common.{◌≡◌, ℕ, ◌+◌, ◌<◌, ◌≤◌, ◌++◌, true, false, List, [], ◌∷◌, length, get_or, refl, ap, ◌∙◌, Option, Some, None, arith, ⊎_elim}
 use Rattle.std.proofs.lemmas.Bool.{cases_order}
 use Rattle.pathkey.specs.Keys.{is_below, next_key}
-use Rattle.message.specs.Ranges.{reaches, before}
+use Rattle.message.specs.Ranges.{before}
 use Rattle.message.proofs.KeyOrder.{lt_le, reaches-from_before, not_before_from_reaches}
 use Rattle.message.proofs.NextKey.{before-next, reaches-next}
 use Rattle.node.specs.Lawful.{Rises}

@@ -1,6 +1,6 @@
 -- On a stretch the messages change a value in the same way at each key, and the first pair of what is below decides.
-use Rattle.std.proofs.Common.{◌≡◌, ℕ, suc, ◌⊎◌, inl, inr, ⊎_elim, Bool, true, false, List, [], ◌∷◌, take, drop, take-append-drop, refl, ap, sym, ◌∙◌, subst, Option, Some, None, cond, arith}
-use Rattle.std.specs.Prelude.{All, IfOk, Result, Ok, Err}
+use Rattle.std.proofs.Common.{◌≡◌, ℕ, suc, ◌⊎◌, inl, inr, ⊎_elim, true, false, List, [], ◌∷◌, refl, ap, sym, ◌∙◌, Option, Some, None, cond, arith}
+use Rattle.std.specs.Prelude.{All}
 use Rattle.std.proofs.lemmas.Option.{none-some}
 use Rattle.pathkey.specs.Order.{same}
 use Rattle.pathkey.specs.Keys.{is_below, next_key}
@@ -9,11 +9,7 @@ use Rattle.message.specs.declared.msg.Msg.{Msg}
 use Rattle.message.specs.declared.msg.Msg.TheVariants.{Put, Del, DelRange, Edit}
 use Rattle.message.specs.Ranges.{reaches, before, within}
 use Rattle.message.specs.Effects.{touches, made_of, effect, effects}
-use Rattle.message.proofs.Lists.{effects-append}
 use Rattle.message.proofs.KeyOrder.{both, le_lt, reaches-refl, reaches-from_not_before, not_before_from_reaches, below_next}
-use Rattle.node.specs.declared.node.Slot.{Slot}
-use Rattle.node.specs.Pure.{PNode}
-use Rattle.node.specs.Meaning.{value}
 use Rattle.scan.specs.Pairs.{HasNone, IsFirst}
 use Rattle.message.specs.Stretches.{ActAlike}
 use Rattle.scan.specs.Stretches.{changed, pair_of}

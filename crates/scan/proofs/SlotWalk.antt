@@ -1,5 +1,5 @@
 -- A walk of a slot on one stretch of its messages.
-use Rattle.std.proofs.Common.{◌≡◌, ℕ, ◌<◌, ◌++◌, true, false, List, [], ◌∷◌, length, append-nil, refl, ap, sym, ◌∙◌, subst, Option, Some, None}
+use Rattle.std.proofs.Common.{◌≡◌, ℕ, ◌<◌, ◌++◌, true, false, List, [], ◌∷◌, length, append-nil, refl, sym, ◌∙◌, Option, Some, None}
 use Rattle.std.specs.Option.{option_to_list}
 use Rattle.pathkey.specs.Keys.{is_below, next_key}
 use Rattle.message.specs.declared.msg.Msg.{Msg}
@@ -8,7 +8,7 @@ use Rattle.message.specs.Ranges.{reaches, before, within}
 use Rattle.message.specs.Stretches.{ActAlike}
 use Rattle.message.proofs.KeyOrder.{both, le_le}
 use Rattle.message.proofs.NextKey.{in_range, reaches-next}
-use Rattle.scan.specs.Pairs.{HasNone, IsFirst, AddsScan}
+use Rattle.scan.specs.Pairs.{IsFirst, AddsScan}
 use Rattle.scan.specs.Stretches.{pair_of}
 use Rattle.scan.proofs.Firsts.{past_end}
 use Rattle.scan.proofs.Joins.{adds_none, adds_one, adds_join, adds_moved, next_inside, next_reached}

@@ -50,12 +50,12 @@ pub fn push_entries<U: Update>(
         if pairs.len() >= limit {
             return Ok(());
         }
-        let entry = &entries[i];
-        if !is_before_end(&entry.0, hi) {
+        let pair = &entries[i];
+        if !is_before_end(&pair.0, hi) {
             return Ok(());
         }
-        let key = entry.0.copy(alloc)?;
-        pairs.push((key, U::copy_value(alloc, &entry.1)?))?;
+        let key = pair.0.copy(alloc)?;
+        pairs.push((key, U::copy_value(alloc, &pair.1)?))?;
     }
     Ok(())
 }

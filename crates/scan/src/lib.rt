@@ -44,6 +44,13 @@ pub fn scan<U: Update>(
     ensures { IfOk result (λ v. IsScan (value_at U.means tree.now.root) range.now.lo range.now.hi limit v.items) }
 {
     let mut pairs = Vec::new(alloc);
-    walk(alloc, tree.root(), &range.lo, range.hi.as_ref(), limit, &mut pairs)?;
+    walk(
+        alloc,
+        tree.root(),
+        &range.lo,
+        range.hi.as_ref(),
+        limit,
+        &mut pairs,
+    )?;
     Ok(pairs)
 }

@@ -1,5 +1,5 @@
 use Rattle.scan.proofs.search.+first.Goals.{first_of_slot-in-Nothing, first_of_slot-in_default-matches}
-use Rattle.std.proofs.Common.{true≢false, arith, ap, sym, subst, ◌∙◌, ◌≡◌, ◌<◌, ◌+◌, ◌*◌, length, List, true, Some, None}
+use Rattle.std.proofs.Common.{true≢false, arith, ap, sym, subst, ◌∙◌, ◌≡◌, ◌<◌, ◌+◌, ◌*◌, length, true, Some, None}
 use Rattle.std.specs.Option.{option_copied}
 use Rattle.message.proofs.KeyOrder.{reaches-refl}
 use Rattle.node.specs.Meaning.{value}
@@ -10,7 +10,7 @@ use Rattle.node.specs.declared.node.Slot.{Slot}
 use Rattle.node.proofs.Placing.{searchable_child, depth_child}
 use Rattle.pathkey.specs.Keys.{is_below}
 use Rattle.message.specs.Stretches.{ActAlike}
-use Rattle.scan.specs.Stretches.{changed, slot_value}
+use Rattle.scan.specs.Stretches.{slot_value}
 use Rattle.scan.specs.Pairs.{IsFirst}
 use Rattle.scan.proofs.OnStretches.{first_of_told, first_untouched, first_changed}
 use Rattle.std.proofs.lemmas.Result.{IfOk-weaker}
