@@ -32,7 +32,7 @@ module _ {V : Type 0} (f : List ℕ → Option V) where
   }
 
   -- where no pair is wanted
-  scan_zero : (lo : List ℕ) (hi : Option (List ℕ)) → IsScan f lo hi 0 []
+  pub scan_zero : (lo : List ℕ) (hi : Option (List ℕ)) → IsScan f lo hi 0 []
   scan_zero lo hi = record {
     few = omega arith;
     sound = All-nil _;

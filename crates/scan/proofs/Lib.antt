@@ -4,6 +4,8 @@ pub mod Ahead
 pub mod SlotRange
 pub mod Pieces
 pub mod Joins
+pub mod Parts
+pub mod AtHand
 pub mod Searching
 pub mod LeafFirst
 pub mod LeafWalk

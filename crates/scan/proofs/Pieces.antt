@@ -20,7 +20,7 @@ pairs_append R (x ∷ xs) ys a b c = AllPairs-cons R x (xs ++ ys)
     (pairs_append R xs ys (λ i j d l m. a (suc i) (suc j) d (omega arith) (omega arith)) b (λ i d l. c (suc i) d (omega arith)))
 
 -- what holds of all elements holds of one of them
-of_one : {X : Type 0} (P : X → Type 0) (xs : List X) (x : X) → All P xs → Contains xs x → P x
+pub of_one : {X : Type 0} (P : X → Type 0) (xs : List X) (x : X) → All P xs → Contains xs x → P x
 of_one P xs x h c = subst P c.2 (h c.0 x c.1)
 
 module _ {V : Type 0} where

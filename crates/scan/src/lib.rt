@@ -19,6 +19,7 @@ use std::alloc::Global;
 
 pub mod laws;
 mod leaf;
+pub mod piecewise;
 mod search;
 mod slot;
 mod walk;

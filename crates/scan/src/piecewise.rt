@@ -1,0 +1,72 @@
+//! The pairs of a range one after the other, taken from the tree piece by piece.
+ghost use Rattle.std.specs.Prelude.{◌≡◌, ℕ, [], List, Option, Some, IfOk, IfSome};
+ghost use Rattle.node.specs.Meaning.{value as value_at};
+ghost use Rattle.scan.specs.Pairs.{AreAhead, IsGiven};
+
+use crate::scan;
+use message::Update;
+use node::Tree;
+use pathkey::{Key, KeyRange, NoMemory};
+use std::alloc::Global;
+use std::collections::VecDeque;
+
+/// The most pairs of a piece.
+const MOST: usize = 256;
+
+/// Pairs that were taken from a tree and are not asked for yet.
+///
+/// Each piece has twice as many pairs as the one before. Where pairs are passed, the next piece has one pair: who jumps over
+/// most pairs is not to have them all copied.
+#[derive(Drop)]
+pub struct Pieces<U: Update> {
+    /// They stand in key order.
+    pub pairs: VecDeque<(Key, U::Value)>,
+    /// How many pairs the next piece may have, at least one.
+    most: usize,
+}
+
+impl<U: Update> Pieces<U> {
+    /// No pair yet.
+    pub fn new(alloc: Global) -> Pieces<U>
+        ensures { result.pairs.items ≡ [] }
+    {
+        Pieces {
+            pairs: VecDeque::new(alloc),
+            most: 1,
+        }
+    }
+
+    /// The first pair of the range; none where the range has no value.
+    ///
+    /// It is `first_in` for ranges with one end, each of which begins behind the pair that was given before.
+    pub fn first(
+        &mut self,
+        alloc: Global,
+        tree: &Tree<U>,
+        range: &KeyRange,
+    ) -> Result<Option<(Key, U::Value)>, NoMemory>
+        requires { AreAhead (value_at U.means tree.now.root) range.now.lo range.now.hi self.old.pairs.items }
+        ensures { IfOk result (λ r. IsGiven (value_at U.means tree.now.root) range.now.lo range.now.hi r self.new.pairs.items) }
+    {
+        if let Some(pair) = self.take_from(&range.lo) {
+            return Ok(Some(pair));
+        }
+        let most = self.most.max(1);
+        self.most = most.saturating_add(most).min(MOST);
+        self.pairs = VecDeque::from_vec(scan(alloc, tree, range, most)?);
+        Ok(self.pairs.pop_front())
+    }
+
+    /// Takes out the first pair that does not stand before the key, and those before it.
+    fn take_from(&mut self, lo: &Key) -> Option<(Key, U::Value)>
+        ensures { IfSome result (λ p. (f : List ℕ → Option U.Value) (hi : Option (List ℕ)) → AreAhead f lo.now hi self.old.pairs.items → IsGiven f lo.now hi (Some p) self.new.pairs.items) }
+    {
+        'passed: while let Some(pair) = self.pairs.pop_front() {
+            if !pair.0.cmp(lo).is_lt() {
+                return Some(pair);
+            }
+            self.most = 1;
+        }
+        None
+    }
+}
