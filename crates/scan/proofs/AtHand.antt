@@ -1,5 +1,5 @@
 -- The pairs of a scan, one after the other.
-use Rattle.std.proofs.Common.{◌≡◌, ℕ, zero, suc, ◌+◌, ◌-◌, ◌<◌, ◌≤◌, true, false, List, [], ◌∷◌, ◌++◌, length, get_or, refl, ap, sym, ◌∙◌, subst, Option, Some, None, arith, ◌⊎◌, inl, inr}
+use Rattle.std.proofs.Common.{◌≡◌, ℕ, zero, suc, ◌+◌, ◌-◌, ◌<◌, ◌≤◌, true, false, List, [], ◌∷◌, ◌++◌, length, get_or, refl, ap, sym, ◌∙◌, subst, Bool, Option, Some, None, arith, ◌⊎◌, inl, inr}
 use Rattle.std.specs.Prelude.{All, Contains}
 use Rattle.std.specs.Option.{option_to_list}
 use Rattle.pathkey.specs.Keys.{is_below, next_key}
@@ -9,6 +9,11 @@ use Rattle.message.proofs.NextKey.{in_range, before-next, reaches-next}
 use Rattle.scan.specs.Pairs.{HasNone, IsFirst, IsRising, IsScan, AreAhead, IsGiven}
 use Rattle.scan.proofs.Joins.{scan_zero}
 use Rattle.scan.proofs.Pieces.{of_one}
+
+-- a list without elements
+pub no_items : {X : Type 0} (xs : List X) → length xs ≡ 0 → xs ≡ []
+no_items [] e = refl
+no_items (x ∷ xs) e = absurd (omega (arith, e))
 
 -- no value can be the one
 none_of : {V : Type 0} (o : Option V) → ((v : V) → o ≡ Some v → ⊥) → o ≡ None
@@ -70,40 +75,51 @@ module _ {V : Type 0} (f : List ℕ → Option V) where
     }
 
   -- none is taken yet
-  pub ahead_none : (lo : List ℕ) (hi : Option (List ℕ)) (ps : List (List ℕ × V)) → ps ≡ [] → AreAhead f lo hi ps
-  ahead_none lo hi ps e = (lo, 0, reaches-refl lo, subst (λ (xs : List (List ℕ × V)). IsScan f lo hi 0 xs) (sym e) (scan_zero f lo hi))
+  pub ahead_none : (lo : List ℕ) (hi : Option (List ℕ)) (all : Bool) (ps : List (List ℕ × V)) → all ≡ false → ps ≡ [] → AreAhead f lo hi all ps
+  ahead_none lo hi all ps a e = (lo, 0, reaches-refl lo, subst (λ (xs : List (List ℕ × V)). IsScan f lo hi 0 xs) (sym e) (scan_zero f lo hi), λ t. absurd (let g : all ≡ false = a in cc))
 
   -- and they are ahead of a later key too
-  pub ahead_later : (lo later : List ℕ) (hi : Option (List ℕ)) (ps : List (List ℕ × V)) → reaches lo later ≡ true → AreAhead f lo hi ps → AreAhead f later hi ps
-  ahead_later lo later hi ps h a = (a.0, a.1, le_le a.0 lo later a.2 h, a.3)
+  pub ahead_later : (lo later : List ℕ) (hi : Option (List ℕ)) (all : Bool) (ps : List (List ℕ × V)) → reaches lo later ≡ true → AreAhead f lo hi all ps → AreAhead f later hi all ps
+  ahead_later lo later hi all ps h (from, n, low, s, short) = (from, n, le_le from lo later low h, s, short)
 
   -- the first of them stands before the range
-  pub ahead_passed : (lo : List ℕ) (hi : Option (List ℕ)) (p : List ℕ × V) (ps : List (List ℕ × V)) → before p.0 lo ≡ true → AreAhead f lo hi (p ∷ ps) → AreAhead f lo hi ps
-  ahead_passed lo hi p ps b a = (next_key p.0, a.1 - 1, reaches-next p.0 lo ∙ b, tail_scan a.0 hi a.1 p ps a.3)
+  pub ahead_passed : (lo : List ℕ) (hi : Option (List ℕ)) (all : Bool) (p : List ℕ × V) (ps : List (List ℕ × V)) → before p.0 lo ≡ true → AreAhead f lo hi all (p ∷ ps) → AreAhead f lo hi all ps
+  ahead_passed lo hi all p ps b (from, n, low, s, short) = (next_key p.0, n - 1, reaches-next p.0 lo ∙ b, tail_scan from hi n p ps s, λ t. omega (arith, short t))
 
   -- or is given
-  pub ahead_given : (lo : List ℕ) (hi : Option (List ℕ)) (p : List ℕ × V) (ps : List (List ℕ × V)) → before p.0 lo ≡ false → AreAhead f lo hi (p ∷ ps) → IsGiven f lo hi (Some p) ps
-  ahead_given lo hi p ps b a = (head_first a.0 hi a.1 p ps a.3 lo a.2 b, (next_key p.0, a.1 - 1, reaches-refl (next_key p.0), tail_scan a.0 hi a.1 p ps a.3))
+  pub ahead_given : (lo : List ℕ) (hi : Option (List ℕ)) (all : Bool) (p : List ℕ × V) (ps : List (List ℕ × V)) → before p.0 lo ≡ false → AreAhead f lo hi all (p ∷ ps) → IsGiven f lo hi (Some p) all ps
+  ahead_given lo hi all p ps b (from, n, low, s, short) = (head_first from hi n p ps s lo low b, (next_key p.0, n - 1, reaches-refl (next_key p.0), tail_scan from hi n p ps s, λ t. omega (arith, short t)))
+
+  -- a scan that had room for a pair and found none
+  found_none : (lo : List ℕ) (hi : Option (List ℕ)) (n : ℕ) → 0 < n → IsScan f lo hi n [] → HasNone f lo hi
+  found_none lo hi n some s = λ k w. none_of (f k) (λ v h.
+      elim (s.complete k v w h) [
+        | inl c ↦ (let l = c.1 in omega (arith, l))
+        | inr x ↦ omega (arith, x.0, some)
+      ])
+
+  -- none is left
+  pub ahead_over : (lo : List ℕ) (hi : Option (List ℕ)) (all : Bool) (ps : List (List ℕ × V)) → all ≡ true → ps ≡ [] → AreAhead f lo hi all ps → HasNone f lo hi
+  ahead_over lo hi all ps t e (from, n, low, s, short) k w =
+      let q = both (reaches lo k) (is_below k hi) w in
+      let none : length ps ≡ 0 = ap length e in
+      found_none from hi n (omega (arith, short t)) (subst (λ (xs : List (List ℕ × V)). IsScan f from hi n xs) e s) k (in_range from k hi (le_le from lo k low q.0) q.1)
 
   -- what a new piece gives
-  pub scan_given : (lo : List ℕ) (hi : Option (List ℕ)) (n : ℕ) (r : Option (List ℕ × V)) (all ps : List (List ℕ × V)) → 0 < n → IsScan f lo hi n all → all ≡ option_to_list r ++ ps → (r ≡ None → ps ≡ []) → IsGiven f lo hi r ps
-  scan_given lo hi n None all ps some s e nil = λ k w. none_of (f k) (λ v h.
-      elim (s.complete k v w h) [
-        | inl c ↦ (let none : length all ≡ 0 = ap length (e ∙ nil refl) in let l = c.1 in omega (arith, none, l))
-        | inr x ↦ (let none : length all ≡ 0 = ap length (e ∙ nil refl) in omega (arith, none, x.0, some))
-      ])
-  scan_given lo hi n (Some p) all ps some s e nil =
+  pub piece_given : (lo : List ℕ) (hi : Option (List ℕ)) (n : ℕ) (r : Option (List ℕ × V)) (all : Bool) (piece ps : List (List ℕ × V)) → 0 < n → IsScan f lo hi n piece → (all ≡ true → length piece < n) → piece ≡ option_to_list r ++ ps → (r ≡ None → ps ≡ []) → IsGiven f lo hi r all ps
+  piece_given lo hi n None all piece ps some s short e nil = found_none lo hi n some (subst (λ (xs : List (List ℕ × V)). IsScan f lo hi n xs) (e ∙ nil refl) s)
+  piece_given lo hi n (Some p) all piece ps some s short e nil =
       let t : IsScan f lo hi n (p ∷ ps) = subst (λ (xs : List (List ℕ × V)). IsScan f lo hi n xs) e s in
       let h : (within lo hi p.0 ≡ true) × (f p.0 ≡ Some p.1) = t.sound 0 p (omega arith) in
-      ahead_given lo hi p ps (not_before_from_reaches lo p.0 (both (reaches lo p.0) (is_below p.0 hi) h.0).0) (lo, n, reaches-refl lo, t)
+      ahead_given lo hi all p ps (not_before_from_reaches lo p.0 (both (reaches lo p.0) (is_below p.0 hi) h.0).0) (lo, n, reaches-refl lo, t, λ x. subst (λ (xs : List (List ℕ × V)). length xs < n) e (short x))
 
   -- what is given is the first pair
-  pub given_first : (lo : List ℕ) (hi : Option (List ℕ)) (r : Option (List ℕ × V)) (ps : List (List ℕ × V)) → IsGiven f lo hi r ps → IsFirst f lo hi r
-  given_first lo hi None ps g = g
-  given_first lo hi (Some p) ps g = g.0
+  pub given_first : (lo : List ℕ) (hi : Option (List ℕ)) (r : Option (List ℕ × V)) (all : Bool) (ps : List (List ℕ × V)) → IsGiven f lo hi r all ps → IsFirst f lo hi r
+  given_first lo hi None all ps g = g
+  given_first lo hi (Some p) all ps g = g.0
 
   -- and the others are ahead of the key where the caller goes on
-  pub given_ahead : (lo : List ℕ) (hi : Option (List ℕ)) (r : Option (List ℕ × V)) (p : List ℕ × V) (ps : List (List ℕ × V)) → r ≡ Some p → IsGiven f lo hi r ps → (next : List ℕ) → reaches (next_key p.0) next ≡ true → AreAhead f next hi ps
-  given_ahead lo hi r p ps e g next h =
-      let given : IsGiven f lo hi (Some p) ps = subst (λ x. IsGiven f lo hi x ps) e g in
-      ahead_later (next_key p.0) next hi ps h given.1
+  pub given_ahead : (lo : List ℕ) (hi : Option (List ℕ)) (r : Option (List ℕ × V)) (p : List ℕ × V) (all : Bool) (ps : List (List ℕ × V)) → r ≡ Some p → IsGiven f lo hi r all ps → (next : List ℕ) → reaches (next_key p.0) next ≡ true → AreAhead f next hi all ps
+  given_ahead lo hi r p all ps e g next h =
+      let given : IsGiven f lo hi (Some p) all ps = subst (λ x. IsGiven f lo hi x all ps) e g in
+      ahead_later (next_key p.0) next hi all ps h given.1
