@@ -12,6 +12,7 @@ use std::collections::VecDeque;
 
 /// The most pairs of the first piece, and of any.
 const FIRST: usize = 8;
+
 const MOST: usize = 256;
 
 /// Pairs that were taken from a tree and are not asked for yet.
@@ -68,7 +69,7 @@ impl<U: Update> Pieces<U> {
 
     /// Takes out the first pair that does not stand before the key, and those before it.
     fn take_from(&mut self, lo: &Key) -> Option<(Key, U::Value)>
-        ensures { (f : List ℕ → Option U.Value) (hi : Option (List ℕ)) → AreAhead f lo.now hi self.old.all self.old.pairs.items → MatchOption result (AreAhead f lo.now hi self.new.all [] × (self.new.all ≡ self.old.all)) (λ p. IsGiven f lo.now hi (Some p) self.new.all self.new.pairs.items) }
+        ensures { (f : List ℕ → Option U.Value) (hi : Option (List ℕ)) → AreAhead f lo.now hi self.old.all self.old.pairs.items → MatchOption result (AreAhead f lo.now hi self.new.all []) (λ p. IsGiven f lo.now hi (Some p) self.new.all self.new.pairs.items) }
     {
         'passed: while let Some(pair) = self.pairs.pop_front() {
             if !pair.0.cmp(lo).is_lt() {

@@ -11,18 +11,17 @@ returns-then-not-is_lt g c = λ f hi a.
     let lo = c.args.lo.now in
     let all = c.passed.self.all in
     let b : before p.0 lo ≡ false = ap is_lt (sym c.cmp.ensures) ∙ sym c.is_lt.ensures ∙ c.if-not-is_lt.true in
-    ahead_given f lo hi all p c.pop_front.new.self.items b (subst (AreAhead f lo hi all) c.in-Some.ensures.items (c.passed.invariant.ahead f hi a))
+    ahead_given f lo hi all p c.pop_front.new.self.items b (subst (AreAhead f lo hi all) c.in-Some.ensures.items (c.passed.invariant f hi a))
 
 pub passed-preserved : goal.passed-preserved
-passed-preserved g c = record {
-  same = c.passed.invariant.same;
-  ahead = λ f hi a.
-      let p = c.in-Some.pair in
-      let lo = c.args.lo.now in
-      let all = c.passed.self.all in
-      let b : before p.0 lo ≡ true = ap is_lt (sym c.cmp.ensures) ∙ sym c.is_lt.ensures ∙ c.if-not-is_lt.false in
-      ahead_passed f lo hi all p c.pop_front.new.self.items b (subst (AreAhead f lo hi all) c.in-Some.ensures.items (c.passed.invariant.ahead f hi a));
-}
+passed-preserved g c = λ f hi a.
+    let p = c.in-Some.pair in
+    let lo = c.args.lo.now in
+    let all = c.passed.self.all in
+    let b : before p.0 lo ≡ true = ap is_lt (sym c.cmp.ensures) ∙ sym c.is_lt.ensures ∙ c.if-not-is_lt.false in
+    ahead_passed f lo hi all p c.pop_front.new.self.items b (subst (AreAhead f lo hi all) c.in-Some.ensures.items (c.passed.invariant f hi a))
 
 pub returns : goal.returns
-returns g c = λ f hi a. ?
+returns g c = λ f hi a.
+    let none = no_items c.passed.self.pairs.items (omega (arith, c.in_default.ensures.cases.0, c.passed.self.pairs.ok.0)) in
+    subst (AreAhead f c.args.lo.now hi c.passed.self.all) none (c.passed.invariant f hi a)
