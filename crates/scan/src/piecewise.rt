@@ -10,9 +10,10 @@ use pathkey::{Key, KeyRange, NoMemory};
 use std::alloc::Global;
 use std::collections::VecDeque;
 
-/// The most pairs of the first piece, and of any.
+/// The most pairs of the first piece.
 const FIRST: usize = 8;
 
+/// The most pairs of a piece.
 const MOST: usize = 256;
 
 /// Pairs that were taken from a tree and are not asked for yet.

@@ -7,7 +7,7 @@ use Rattle.call_compiler.proofs.subtrees.put_moved.Given as goal
 abbrev pub invariant-pairs : goal.invariant-pairs
 invariant-pairs g l = record {
   walked : Walked (value g.U.Update.means l.tree.root) l.old l.new l.fn.first.items l.rest l.msgs.items;
-  ahead : AreAhead (value g.U.Update.means l.tree.root) l.rest.lo l.rest.hi l.pieces.pairs.items;
+  ahead : AreAhead (value g.U.Update.means l.tree.root) l.rest.lo l.rest.hi l.pieces.all l.pieces.pairs.items;
 }
 
 abbrev pub decreases-pairs : goal.decreases-pairs
