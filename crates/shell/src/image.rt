@@ -1,6 +1,6 @@
 //! Prints the image of a tree that stands still: one line for each entry in key order, and for a file one for each block
 //! that holds a byte other than zero.
-ghost use Rattle.std.specs.Prelude.{◌≡◌, ◌≢◌, ◌<◌, ◌≤◌, ◌^◌, ◌++◌, ◌∷◌, ◌+◌, ◌/◌, [], ℕ, List, Some, None, IfOk, IfSome, codes, decimal, flat_map, length, take, OnOk, OnErr};
+ghost use Rattle.std.specs.Prelude.{◌≡◌, ◌≢◌, ◌<◌, ◌≤◌, ◌^◌, ◌++◌, ◌∷◌, ◌+◌, ◌/◌, [], ℕ, List, Some, None, false, IfOk, IfSome, codes, decimal, flat_map, length, take, OnOk, OnErr};
 ghost use Rattle.std.specs.Io.KnownBytes.{Appends};
 ghost use Rattle.block_index.specs.Means.{blocks};
 ghost use Rattle.call_compiler.specs.Compiled.{MeanTree};
@@ -11,7 +11,7 @@ ghost use Rattle.reference.specs.Indexes.{BlocksMean, meta_of, most_blocks};
 ghost use Rattle.reference.specs.Looks.{seen};
 ghost use Rattle.reference.specs.Shape.{IsTree};
 ghost use Rattle.reference.specs.Tree.{File, Found, Tree, entry_at};
-ghost use Rattle.scan.specs.Pairs.{IsFirst};
+ghost use Rattle.scan.specs.Pairs.{AreAhead, IsFirst};
 ghost use Rattle.shell.specs.Image.{IsNextBlock, entry_lines};
 ghost use Rattle.shell.specs.Parts.{AppendsPart};
 ghost use Rattle.shell.specs.Replies.{number_line};
@@ -21,9 +21,11 @@ use crate::reply::{put_hex, put_number_line, put_percent};
 use block_index::{Block, BlockIndex};
 use call_compiler::Indexes;
 use itoa::Buffer;
+use meta_index::MetaUpdate;
 use pathkey::{Key, KeyRange, NoMemory, Path, blocks_from, dec};
 use reference::Meta;
 use scan::first_in;
+use scan::piecewise::Pieces;
 use std::alloc::Global;
 use std::io::Write;
 use thiserror::Error;
@@ -54,7 +56,7 @@ impl From<WriteFailed> for ImageFault {
 
 /// Prints the image of a tree that stands still; where it fails, what was printed is a beginning of it.
 ///
-/// It goes from entry to entry, and in each file from block to block, and holds one of them at a time.
+/// It goes from entry to entry, and in each file from block to block. It holds a piece of the entries and one block.
 pub fn print_image<W: Write>(
     alloc: Global,
     frozen: &Frozen,
@@ -64,26 +66,30 @@ pub fn print_image<W: Write>(
     ensures err { (t : Tree) → MeanTree frozen.now t → OnErr result (AppendsPart (W.contents writer.old) (W.contents writer.new) (image t)) }
 {
     let mut rest = below_root(alloc)?;
-    let told = print_all(alloc, frozen.indexes(), &mut rest, writer);
+    let mut pieces = Pieces::new(alloc);
+    let told = print_all(alloc, frozen.indexes(), &mut rest, &mut pieces, writer);
+    drop(pieces);
     drop(rest);
     told
 }
 
-/// Writes the image of a tree, or a beginning of it: the range that is left lies behind the root at first.
+/// Writes the image of a tree, or a beginning of it: the range that is left lies behind the root at first, and no entry is
+/// taken yet.
 fn print_all<W: Write>(
     alloc: Global,
     indexes: &Indexes,
     rest: &mut KeyRange,
+    pieces: &mut Pieces<MetaUpdate>,
     writer: &mut W,
 ) -> Result<(), ImageFault>
-    requires { (rest.old.lo ≡ next_key []) × (rest.old.hi ≡ None) }
+    requires { (rest.old.lo ≡ next_key []) × (rest.old.hi ≡ None) × (pieces.old.pairs.items ≡ []) × (pieces.old.all ≡ false) }
     ensures ok { (t : Tree) → MeanTree indexes.now t → OnOk result (Appends (W.contents writer.old) (W.contents writer.new) (image t)) }
     ensures err { (t : Tree) → MeanTree indexes.now t → OnErr result (AppendsPart (W.contents writer.old) (W.contents writer.new) (image t)) }
 {
     put(writer, b"d /\n")?;
     // No tree has more entries.
     for _ in 0..u64::MAX {
-        let Some((key, meta)) = next_entry(alloc, indexes, rest)? else {
+        let Some((key, meta)) = next_entry(alloc, indexes, rest, pieces)? else {
             return Ok(());
         };
         print_entry(alloc, indexes, key, meta, writer)?;
@@ -104,12 +110,15 @@ fn next_entry(
     alloc: Global,
     indexes: &Indexes,
     rest: &mut KeyRange,
+    pieces: &mut Pieces<MetaUpdate>,
 ) -> Result<Option<(Key, Meta)>, NoMemory>
+    requires { AreAhead (metadata indexes.now.meta) rest.old.lo rest.old.hi pieces.old.all pieces.old.pairs.items }
     ensures first { IfOk result (IsFirst (metadata indexes.now.meta) rest.old.lo rest.old.hi) }
     ensures behind { IfOk result (λ first. IfSome first (λ e. rest.new.lo ≡ next_key e.0)) }
     ensures end { rest.new.hi ≡ rest.old.hi }
+    ensures ahead { IfOk result (λ first. IfSome first (λ _. AreAhead (metadata indexes.now.meta) rest.new.lo rest.new.hi pieces.new.all pieces.new.pairs.items)) }
 {
-    match first_in(alloc, &indexes.meta.tree, rest)? {
+    match pieces.first(alloc, &indexes.meta.tree, rest)? {
         Some((key, meta)) => {
             rest.lo = key.next(alloc)?;
             Ok(Some((key, meta)))
