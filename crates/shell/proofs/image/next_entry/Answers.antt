@@ -13,7 +13,7 @@ returns-in_ok-rest-in-Some-clause-first c = subst (λ (o : Option (Key × Meta))
 
 pub returns-in_ok-rest-in-Some-clause-ahead : goal.returns-in_ok-rest-in-Some-clause-ahead
 returns-in_ok-rest-in-Some-clause-ahead c = given_ahead (metadata c.args.indexes.now.meta) c.args.rest.now.lo c.args.rest.now.hi c.in_ok-key.field-0 (c.in-Some.key, c.in-Some.meta) c.first.new.self.all c.first.new.self.pairs.items c.in-Some.is c.in_ok-key.ensures
-    c.in_ok-rest.field-0 (ap (reaches (next_key c.in-Some.key)) c.in_ok-rest.ensures ∙ reaches-refl (next_key c.in-Some.key))
+    c.in_ok-rest-in-Some.field-0 (ap (reaches (next_key c.in-Some.key)) c.in_ok-rest-in-Some.ensures ∙ reaches-refl (next_key c.in-Some.key))
 
 pub returns-in-None-clause-first : goal.returns-in-None-clause-first
 returns-in-None-clause-first c = subst (λ (o : Option (Key × Meta)). IsFirst (metadata c.args.indexes.now.meta) c.args.rest.now.lo c.args.rest.now.hi o) c.in-None.is (given_first (metadata c.args.indexes.now.meta) c.args.rest.now.lo c.args.rest.now.hi c.in_ok-key.field-0 c.first.new.self.all c.first.new.self.pairs.items c.in_ok-key.ensures)

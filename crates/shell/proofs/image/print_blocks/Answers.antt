@@ -12,10 +12,10 @@ returns-in_err-rest-clause-err g c = λ t b is means there. on_err _ _ (lines_pa
 
 pub returns-clause-ok : goal.returns-clause-ok
 returns-clause-ok g c = λ t b is means there.
-    c.print_rest.ensures.ok t c.args.path.now b is means there
+    c.print_rest-told.ensures.ok t c.args.path.now b is means there
     (subst (λ (r : KeyRange). BeginsAt (blocks c.args.index.now) c.args.path.now 0 r) (sym c.in_ok-rest.ensures) (refl, λ r h. h))
 
 pub returns-clause-err : goal.returns-clause-err
 returns-clause-err g c = λ t b is means there.
-    c.print_rest.ensures.err t c.args.path.now b is means there
+    c.print_rest-told.ensures.err t c.args.path.now b is means there
     (subst (λ (r : KeyRange). BeginsAt (blocks c.args.index.now) c.args.path.now 0 r) (sym c.in_ok-rest.ensures) (refl, λ r h. h))
