@@ -1,6 +1,7 @@
 //! Volumes of many files, from whose roots jobs can be taken.
-use crate::asked::{SMALL, call_of, is};
+use crate::asked::{SMALL, call_of, is, name_of};
 use crate::depth::{FILES, TURNS, file_name};
+use crate::own::{OWNED, PLACE, mark_of};
 use engine::Room;
 use samples::{Ask, Told};
 use std::alloc::Global;
@@ -50,6 +51,52 @@ pub fn filled_volume(alloc: Global) -> Option<Volume> {
     } else {
         None
     }
+}
+
+/// The name of the snapshot that keeps the first marks.
+pub const FIRST: &str = "s";
+
+/// Writes the first mark to the file of a number.
+fn writes_first(alloc: Global, volume: &mut Volume, number: u32) -> bool {
+    let bytes = mark_of(u64::from(number), 0);
+    match file_name(alloc, number) {
+        Some(text) => {
+            answers(
+                alloc,
+                volume,
+                Ask::Write(text.as_str(), PLACE, &bytes),
+                Told::Count(8),
+            )
+        }
+        None => false,
+    }
+}
+
+/// Keeps the snapshot.
+fn keeps(alloc: Global, volume: &mut Volume) -> bool {
+    match name_of(alloc, FIRST) {
+        Some(name) => volume.snapshot(alloc, &name).is_ok(),
+        None => false,
+    }
+}
+
+/// A volume of many files with the first marks, which all wait in the roots, and a snapshot of that.
+fn kept_volume(alloc: Global) -> Option<Volume> {
+    let mut volume = filled_volume(alloc)?;
+    let mut is_right = true;
+    for number in 0..OWNED {
+        is_right &= writes_first(alloc, &mut volume, number);
+    }
+    if is_right && keeps(alloc, &mut volume) {
+        Some(volume)
+    } else {
+        None
+    }
+}
+
+/// A room with such a volume.
+pub fn kept_room(alloc: Global) -> Option<Room> {
+    room_of(alloc, kept_volume(alloc))
 }
 
 /// A room with a volume, if there is one.

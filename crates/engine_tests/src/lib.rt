@@ -1,5 +1,5 @@
-//! Tests of engines: threads with a client each and flushers beside them, how an engine ends, and a long run over names that all
-//! clients share.
+//! Tests of engines: threads with a client each and flushers beside them, how an engine ends, and long runs over names
+//! that all clients share.
 #![tactic(auto)]
 
 #[cfg(test)]

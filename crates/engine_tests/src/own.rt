@@ -1,9 +1,10 @@
-//! A client among others: a file that it alone writes, and calls on names that all share.
+//! A client among others: files that it alone writes, and calls on names that all share.
 ghost use Rattle.std.specs.Prelude.{◌≡◌};
 
 use crate::asked::call_of;
+use crate::depth::file_name;
 use crate::ends::{Snap, fault_of};
-use crate::tally::{MOST, Tally};
+use crate::tally::{Course, Tally};
 use engine::{Client, Naming};
 use pathkey::Errno;
 use reference::{Call, Reply};
@@ -11,14 +12,23 @@ use samples::Ask;
 use std::alloc::Global;
 use std::sync::Wait;
 
-/// The files that one client alone writes.
-const FILES: &[&str] = &["/o0", "/o1", "/o2", "/o3", "/o4", "/o5", "/o6", "/o7"];
+/// How many clients there are.
+pub const CLIENTS: usize = 8;
+
+/// How many files each client alone writes.
+const FILES: usize = 16;
+
+/// How many files there are that one client alone writes.
+pub const OWNED: u32 = 128;
 
 /// Where a mark stands: over the end of a block, so that it lies in two.
-const PLACE: u64 = 4_092;
+pub const PLACE: u64 = 4_092;
 
-/// Above this is the number of the client in a mark.
-const TAG: u64 = 1 << 56;
+/// Above this is the number of the file in a mark.
+const TAG: u64 = 1 << 32;
+
+/// The name of a snapshot that clients keep and drop.
+pub const LATER: &str = "t";
 
 /// What all clients ask for, over names that they share.
 const SHARED: &[Ask] = &[
@@ -40,13 +50,14 @@ const SHARED: &[Ask] = &[
     Ask::Rmtree("/d"),
 ];
 
-/// The names of snapshots.
-const NAMES: &[&str] = &["s", "t", "u"];
+/// The eight bytes of a file's mark: the number of the file, and how many marks came before, none at the first.
+pub fn mark_of(file: u64, count: u64) -> [u8; 8] {
+    file.wrapping_mul(TAG).wrapping_add(count).to_be_bytes()
+}
 
 /// What a client was answered.
-#[derive(Clone, Copy, PartialEq, Eq)]
+#[derive(Clone, Copy)]
 enum Found {
-    Done,
     Count(u64),
     /// So many bytes, which stand for this number.
     Mark(usize, u64),
@@ -54,28 +65,75 @@ enum Found {
     Other,
 }
 
-/// What a client knows of its own file.
+impl Found {
+    /// Whether a whole mark was written.
+    fn is_written(self) -> bool {
+        matches!(self, Found::Count(8))
+    }
+
+    /// Whether memory was refused.
+    fn is_refused(self) -> bool {
+        matches!(self, Found::Fault(Errno::ENOMEM))
+    }
+}
+
+/// What a client knows of one of its files. At first it has the mark of number 0, and the first snapshot keeps that.
+#[derive(Clone, Copy)]
+struct Known {
+    /// The number of the mark that the client wrote last.
+    written: u64,
+    /// How many restores had ended before that was written.
+    ended: u64,
+    /// How many restores had begun when that was answered.
+    begun: u64,
+    /// Whether the client has read since that it is gone.
+    is_gone: bool,
+}
+
+impl Known {
+    /// Whether a read may find the mark of this number, where so many restores had ended before the read, and so many had
+    /// begun when it was answered.
+    ///
+    /// Where no restore came since the last mark was written, it is that mark. Where a restore of the first snapshot surely
+    /// came, it is the first mark, and stays so. Where one may have come, it is either. Where a later snapshot may have come
+    /// back, it is any mark that was written.
+    fn may_be(self, number: u64, course: Course, ended: u64, begun: u64) -> bool {
+        if self.ended == begun {
+            return number == self.written;
+        }
+        match course {
+            Course::Later => number <= self.written,
+            Course::First | Course::Rests => {
+                number == 0 || (number == self.written && !self.is_gone && ended <= self.begun)
+            }
+        }
+    }
+}
+
+/// What a client knows of its own files.
 #[derive(Drop)]
 pub struct Own {
-    file: &'static str,
-    tag: u64,
+    client: usize,
     seed: u64,
-    /// How many marks it has written, the numbers from 1 on.
-    written: u64,
-    /// Whether there are restores, by which the file may be as it was before, or be gone.
-    has_restores: bool,
+    /// The file that it wrote last.
+    last: usize,
+    files: [Known; FILES],
 }
 
 impl Own {
     /// What a client knows at first, by its number.
-    pub fn new(number: usize, has_restores: bool) -> Own {
-        let tag = (number % FILES.len()) as u64;
-        Own {
-            file: FILES[number % FILES.len()],
-            tag,
-            seed: tag.wrapping_add(1),
+    pub fn new(client: usize) -> Own {
+        let first = Known {
             written: 0,
-            has_restores,
+            ended: 0,
+            begun: 0,
+            is_gone: false,
+        };
+        Own {
+            client: client % CLIENTS,
+            seed: (client as u64).wrapping_add(1),
+            last: 0,
+            files: [first; FILES],
         }
     }
 
@@ -88,28 +146,39 @@ impl Own {
         ((self.seed >> 40) % 4_096) as usize
     }
 
-    /// Whether the file may be gone.
-    fn may_be_gone(&self) -> bool {
-        self.has_restores
+    /// The number of a file among all: files that lie beside one another are of different clients.
+    fn number(&self, file: usize) -> u32 {
+        ((file % FILES) * CLIENTS + self.client % CLIENTS) as u32
     }
 
-    /// Whether the file may hold the mark of this number.
-    fn may_hold(&self, mark: u64) -> bool {
-        let number = mark % TAG;
-        mark / TAG == self.tag
-            && number > 0
-            && number <= self.written
-            && (self.has_restores || number == self.written)
+    /// Notes that the next mark was written to a file, where so many restores had ended before, and so many have begun.
+    fn note_write(&mut self, file: usize, ended: u64, begun: u64) {
+        let known = &mut self.files[file % FILES];
+        known.written = known.written.wrapping_add(1);
+        known.ended = ended;
+        known.begun = begun;
+        known.is_gone = false;
+        self.last = file;
     }
 
-    /// Whether the client may read this of its file.
-    fn may_read(&self, found: Found) -> bool {
-        match found {
-            Found::Fault(Errno::ENOENT) => self.may_be_gone(),
-            Found::Mark(0, _) => self.has_restores || self.written == 0,
-            Found::Mark(8, mark) => self.may_hold(mark),
-            _ => false,
-        }
+    /// Notes what a read found in a file, where so many restores had ended before, and so many have begun. Whether it may
+    /// be so.
+    fn note_read(
+        &mut self,
+        file: usize,
+        course: Course,
+        ended: u64,
+        begun: u64,
+        found: Found,
+    ) -> bool {
+        let Found::Mark(8, mark) = found else {
+            return false;
+        };
+        let is_of_file = mark / TAG == u64::from(self.number(file));
+        let known = &mut self.files[file % FILES];
+        let is_right = known.may_be(mark % TAG, course, ended, begun);
+        known.is_gone = mark % TAG != known.written;
+        is_of_file && is_right
     }
 }
 
@@ -125,7 +194,6 @@ fn number_of(bytes: &[u8]) -> u64 {
 /// What a reply says.
 fn found_in(reply: &Reply) -> Found {
     match reply {
-        Reply::Done => Found::Done,
         Reply::Count(count) => Found::Count(*count),
         Reply::Data(bytes) => Found::Mark(bytes.as_slice().len(), number_of(bytes.as_slice())),
         Reply::Fault(fault) => Found::Fault(*fault),
@@ -152,49 +220,67 @@ fn asks<J: Naming, R: Wait>(rt: &R, alloc: Global, client: &mut Client<J>, ask: 
     }
 }
 
-/// Makes the client's file, where it is not there.
-fn creates<J: Naming, R: Wait>(rt: &R, alloc: Global, client: &mut Client<J>, own: &Own) -> bool {
-    match asks(rt, alloc, client, Ask::Create(own.file)) {
-        Found::Done => own.has_restores || own.written == 0,
-        Found::Fault(Errno::EEXIST) => true,
-        _ => false,
+/// What the client is answered where it writes a mark to the file of a number.
+fn writes_mark<J: Naming, R: Wait>(
+    rt: &R,
+    alloc: Global,
+    client: &mut Client<J>,
+    file: u32,
+    count: u64,
+) -> Found {
+    let bytes = mark_of(u64::from(file), count);
+    match file_name(alloc, file) {
+        Some(text) => asks(rt, alloc, client, Ask::Write(text.as_str(), PLACE, &bytes)),
+        None => Found::Other,
     }
 }
 
-/// Writes the next mark.
+/// What the client is answered where it reads the mark of the file of a number.
+fn reads_mark<J: Naming, R: Wait>(
+    rt: &R,
+    alloc: Global,
+    client: &mut Client<J>,
+    file: u32,
+) -> Found {
+    match file_name(alloc, file) {
+        Some(text) => asks(rt, alloc, client, Ask::Read(text.as_str(), PLACE, 9)),
+        None => Found::Other,
+    }
+}
+
+/// Writes the next mark to one of its files.
 fn writes<J: Naming, R: Wait>(
     rt: &R,
     alloc: Global,
     client: &mut Client<J>,
     own: &mut Own,
+    tally: &Tally,
+    file: usize,
 ) -> bool {
-    let number = own.written.wrapping_add(1);
-    let bytes = own.tag.wrapping_mul(TAG).wrapping_add(number).to_be_bytes();
-    match asks(rt, alloc, client, Ask::Write(own.file, PLACE, &bytes)) {
-        Found::Count(8) => {
-            own.written = number;
-            true
-        }
-        Found::Fault(Errno::ENOENT) => own.may_be_gone(),
-        _ => false,
-    }
+    let ended = tally.ended();
+    let count = own.files[file % FILES].written.wrapping_add(1);
+    let found = writes_mark(rt, alloc, client, own.number(file), count);
+    own.note_write(file, ended, tally.begun());
+    found.is_written()
 }
 
-/// Reads what it wrote.
-fn reads<J: Naming, R: Wait>(rt: &R, alloc: Global, client: &mut Client<J>, own: &Own) -> bool {
-    let found = asks(rt, alloc, client, Ask::Read(own.file, PLACE, 9));
-    own.may_read(found)
-}
-
-/// Keeps, drops or restores a snapshot.
-fn snaps<J: Naming, R: Wait>(
+/// Reads what one of its files holds.
+fn reads<J: Naming, R: Wait>(
     rt: &R,
     alloc: Global,
     client: &mut Client<J>,
-    snap: Snap,
-    number: usize,
+    own: &mut Own,
+    tally: &Tally,
+    file: usize,
 ) -> bool {
-    match fault_of(rt, alloc, client, snap, NAMES[number % NAMES.len()]) {
+    let ended = tally.ended();
+    let found = reads_mark(rt, alloc, client, own.number(file));
+    own.note_read(file, tally.course, ended, tally.begun(), found)
+}
+
+/// Keeps or drops the later snapshot.
+fn snaps<J: Naming, R: Wait>(rt: &R, alloc: Global, client: &mut Client<J>, snap: Snap) -> bool {
+    match fault_of(rt, alloc, client, snap, LATER) {
         Some(fault) => fault == Errno::EEXIST || fault == Errno::ENOENT,
         None => true,
     }
@@ -208,24 +294,30 @@ fn shares<J: Naming, R: Wait>(
     number: usize,
 ) -> bool {
     let found = asks(rt, alloc, client, SHARED[number % SHARED.len()]);
-    found != Found::Fault(Errno::ENOMEM)
+    !found.is_refused()
 }
 
 /// The next call.
-fn next<J: Naming, R: Wait>(rt: &R, alloc: Global, client: &mut Client<J>, own: &mut Own) -> bool {
+fn next<J: Naming, R: Wait>(
+    rt: &R,
+    alloc: Global,
+    client: &mut Client<J>,
+    own: &mut Own,
+    tally: &Tally,
+) -> bool {
     let drawn = own.draw();
+    let last = own.last;
     match drawn / 128 {
-        0..=9 => writes(rt, alloc, client, own),
-        10..=15 => reads(rt, alloc, client, own),
-        16 => creates(rt, alloc, client, own),
-        17 => snaps(rt, alloc, client, Snap::Keep, drawn),
-        18 => snaps(rt, alloc, client, Snap::Drop, drawn),
-        19 if own.has_restores && drawn % 16 == 0 => snaps(rt, alloc, client, Snap::Restore, drawn),
+        0..=9 => writes(rt, alloc, client, own, tally, drawn),
+        10..=14 => reads(rt, alloc, client, own, tally, drawn),
+        15..=19 => reads(rt, alloc, client, own, tally, last),
+        20 => snaps(rt, alloc, client, Snap::Keep),
+        21 => snaps(rt, alloc, client, Snap::Drop),
         _ => shares(rt, alloc, client, drawn),
     }
 }
 
-/// Calls, the first on the client's own file and the last, as long as the flushers want more of them. Whether each was answered
+/// Calls, the last on one of the client's own files, as long as the flushers want more of them. Whether each was answered
 /// as it may be, and recorded once.
 pub fn work<J: Naming, R: Wait>(
     rt: &R,
@@ -234,15 +326,15 @@ pub fn work<J: Naming, R: Wait>(
     mut own: Own,
     tally: &Tally,
 ) -> bool {
-    let mut is_right = creates(rt, alloc, client, &own);
-    let mut made: u64 = 2;
-    for _ in 0..MOST {
+    let mut is_right = true;
+    let mut made: u64 = 1;
+    for _ in 0..u32::MAX {
         if !tally.wants(made) {
             break;
         }
-        is_right &= next(rt, alloc, client, &mut own);
+        is_right &= next(rt, alloc, client, &mut own, tally);
         made = made.saturating_add(1);
     }
-    is_right &= reads(rt, alloc, client, &own);
+    is_right &= reads(rt, alloc, client, &mut own, tally, 0);
     is_right && client.made() == made
 }
