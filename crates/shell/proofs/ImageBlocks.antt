@@ -250,13 +250,13 @@ module _ (t : Tree) (d : Blocks) (p : Path) (is_path : IsPath p) (means : Blocks
       let at : (of.path ≡ p) × (n ≤ of.index) = block_in_blocks p of.path n of.index is_path.names of.is_path.names (omega arith) (omega arith) (subst (λ (j : Key). within (blocks_from p n).lo (blocks_from p n).hi j ≡ true) of.key (in_range (blocks_from p n).lo k (blocks_from p n).hi low q.1)) in
       let key : k ≡ block_key p of.index = of.key ∙ ap (λ (q : Path). block_key q of.index) at.0 in
       let later : n + 1 ≤ of.index = ⊎_elim
-          (λ (h : n < of.index). (let g : n < of.index = h in omega arith))
-          (λ (h : of.index ≤ n). absurd (
-          let same : of.index ≡ n = omega (arith, h, at.1) in
-          let is : k ≡ block_key p n = key ∙ ap (block_key p) same in
-          let not : before (block_key p n) k ≡ false = ap (before (block_key p n)) is ∙ not_before_from_reaches (block_key p n) (block_key p n) (reaches-refl (block_key p n)) in
-          cc))
-          (cases_lt n of.index) in
+      (λ (h : n < of.index). (let g : n < of.index = h in omega arith))
+      (λ (h : of.index ≤ n). absurd (
+      let same : of.index ≡ n = omega (arith, h, at.1) in
+      let is : k ≡ block_key p n = key ∙ ap (block_key p) same in
+      let not : before (block_key p n) k ≡ false = ap (before (block_key p n)) is ∙ not_before_from_reaches (block_key p n) (block_key p n) (reaches-refl (block_key p n)) in
+      cc))
+      (cases_lt n of.index) in
       subst (λ (j : Key). within (blocks_from p (n + 1)).lo (blocks_from p (n + 1)).hi j ≡ true) (sym key) (block_in_blocks_from p p (n + 1) of.index (omega arith) (omega arith) (refl, later))
 
   -- the range behind the block begins with the next one
