@@ -18,8 +18,8 @@ const MOST: usize = 256;
 
 /// Pairs that were taken from a tree and are not asked for yet.
 ///
-/// Each piece has twice as many pairs as the one before. Where pairs are passed, the next piece has one: of who jumps over
-/// most pairs, few are to be copied for nothing. Behind a piece that is short the tree is asked no more.
+/// Each piece has twice as many pairs as the one before. Where pairs are passed, the next piece has one: a caller that jumps
+/// over most pairs has few of them copied for nothing. Behind a short piece the tree is asked no more.
 #[derive(Drop)]
 pub struct Pieces<U: Update> {
     /// They stand in key order.
