@@ -28,7 +28,7 @@ below_first n y rest d long = record {
 }
 
 -- below another
-below_others : (n : Name) (y : Tree) (rest : Entries) → RisingEntries (entry n y rest) → (p : Path) (l : Look) → look (Dir rest) p ≡ Some l → text_len p ≡ deepest_of rest → 0 < deepest_of rest → deepest_of (entry n y rest) ≡ deepest_of rest → Deepest (Dir (entry n y rest))
+below_others : (n : Name) (y : Tree) (rest : Entries) → RisingEntries (entry n y rest) → (p : Path) (l : Look) → look (Dir date rest) p ≡ Some l → text_len p ≡ deepest_of rest → 0 < deepest_of rest → deepest_of (entry n y rest) ≡ deepest_of rest → Deepest (Dir (entry n y rest))
 below_others n y rest v [] l there long some is = absurd (omega arith)
 below_others n y rest v (k ∷ r) l there long some is = record {
   path = k ∷ r;
@@ -46,14 +46,14 @@ below_others n y rest v (k ∷ r) l there long some is = record {
 
 mutual
   pub deepest_there : (x : Tree) → Rising x → Deepest x
-  deepest_there (File b) v = record { path = []; there = Bytes b; seen = refl; long = refl }
-  deepest_there (Dir es) v = deepest_among es v
+  deepest_there (File date b) v = record { path = []; there = Bytes b; seen = refl; long = refl }
+  deepest_there (Dir date es) v = deepest_among es v
 
-  deepest_among : (es : Entries) → RisingEntries es → Deepest (Dir es)
+  deepest_among : (es : Entries) → RisingEntries es → Deepest (Dir date es)
   deepest_among nothing v = record { path = []; there = Directory; seen = refl; long = refl }
   deepest_among (entry n y rest) v =
       let first : Deepest y = deepest_there y v.1 in
-      let others : Deepest (Dir rest) = deepest_among rest v.2 in
+      let others : Deepest (Dir date rest) = deepest_among rest v.2 in
       elim (nat_le (deepest_of rest) (1 + length n + deepest y)) as (λ b. nat_le (deepest_of rest) (1 + length n + deepest y) ≡ b → Deepest (Dir (entry n y rest))) [
         | true ↦ λ e. below_first n y rest first (omega (arith, leb-true (deepest_of rest) (1 + length n + deepest y) e))
         | false ↦ λ e. below_others n y rest v others.path others.there others.seen others.long (omega (arith, leb-false (deepest_of rest) (1 + length n + deepest y) e)) (omega (arith, leb-false (deepest_of rest) (1 + length n + deepest y) e))

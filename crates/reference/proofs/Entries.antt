@@ -36,7 +36,7 @@ made_becomes t t' p x bare = made_cases (Gives t' Done (Became t t' p None (seen
 empty_from : (a : At) → path_fault a ≡ None → is_file a ≡ false → is_full a ≡ false → a ≡ Found (Dir nothing)
 empty_from (Found (Dir nothing)) h g f = refl
 empty_from (Found (Dir (entry n x es))) h g f = absurd (cc)
-empty_from (Found (File b)) h g f = absurd (cc)
+empty_from (Found (File date b)) h g f = absurd (cc)
 empty_from Missing h g f = absurd (cc)
 empty_from Blocked h g f = absurd (cc)
 
@@ -57,7 +57,7 @@ rmdir_becomes t t' p = directory_removed_cases (Gives t' Done (Became t t' p (So
 unlink_becomes : (t t' : Tree) (p : Path) → IsTree t → ◌≡◌ {A = Outcome} (does t (Unlink p)) (t', Done) → (b : List ℕ) × Became t t' p (Some (Bytes b)) None
 unfolding does
 unlink_becomes t t' p is = unlinked_cases (Gives t' Done ((b : List ℕ) × Became t t' p (Some (Bytes b)) None)) t p (not_done t t' ((b : List ℕ) × Became t t' p (Some (Bytes b)) None)) (λ there file e.
-    let f : (b : List ℕ) × (entry_at t p ≡ Found (File b)) = file_from (entry_at t p) there file in
+    let f : (b : List ℕ) × (entry_at t p ≡ Found (File date b)) = file_from (entry_at t p) there file in
     (f.0, out_becomes t t' p (Found (File f.0)) (not_root_there t p is file) there f.1 (bare_file f.0) (ap (λ (o : Outcome). o.0) e)))
 
 -- ---- the metadata index

@@ -23,7 +23,7 @@ read_back off =
 
 -- a tree with the one file `/f`
 abbrev file_tree : List ℕ → Tree
-file_tree b = Dir (entry (codes "f") (File b) nothing)
+file_tree b = Dir (entry (codes "f") (File date b) nothing)
 
 abbrev answers_from : Outcome → List Call → List Reply
 answers_from o rest = o.1 ∷ (does_all o.0 rest).1

@@ -76,26 +76,26 @@ grown_end base n y z (entry m w rest) more v e h g = ⊎_elim
     h.0
 
 -- P holds of each name that a directory has
-each_name : (P : Name → Type 0) (es : Entries) → RisingEntries es → ((n : Name) (x : Tree) → entry_at (Dir es) (n ∷ []) ≡ Found x → P n) → EachOf P es
+each_name : (P : Name → Type 0) (es : Entries) → RisingEntries es → ((n : Name) (x : Tree) → entry_at (Dir date es) (n ∷ []) ≡ Found x → P n) → EachOf P es
 each_name P nothing v h = tt
 each_name P (entry n x rest) v h = (h n x (first_at n x rest []), each_name P rest v.2 (λ k y e. h k y (later_at n x rest k [] y v.0 e)))
 
 -- what is seen of a tree
 abbrev shape : Tree → Look
-shape (Dir es) = Directory
-shape (File b) = Bytes b
+shape (Dir date es) = Directory
+shape (File date b) = Bytes b
 
 seen_shape : (y : Tree) → seen (Found y) ≡ Some (shape y)
-seen_shape (Dir es) = refl
-seen_shape (File b) = refl
+seen_shape (Dir date es) = refl
+seen_shape (File date b) = refl
 
 -- ---- the way to the entry
 
-dir_line : (base : Path) (es : Entries) → lines base (Dir es) ≡ 100 ∷ 32 ∷ (path_text base ++ 10 ∷ lines_of base es)
+dir_line : (base : Path) (es : Entries) → lines base (Dir date es) ≡ 100 ∷ 32 ∷ (path_text base ++ 10 ∷ lines_of base es)
 dir_line base es = simp append_assoc
 
 -- a directory with more lines
-dir_more : (base : Path) (es fs : Entries) (more : Text) → lines_of base fs ≡ lines_of base es ++ more → lines base (Dir fs) ≡ lines base (Dir es) ++ more
+dir_more : (base : Path) (es fs : Entries) (more : Text) → lines_of base fs ≡ lines_of base es ++ more → lines base (Dir stamp fs) ≡ lines base (Dir date es) ++ more
 dir_more base es fs more h =
     dir_line base fs
     ∙ ap (λ (s : Text). 100 ∷ 32 ∷ (path_text base ++ 10 ∷ s)) h
@@ -108,7 +108,7 @@ record Ends (t : Tree) (base : Path) (before : Text) : Type 0 where
   is : t ≡ Dir entries
   shows : lines_of base entries ≡ before
 
-no_file_on_the_way : (b : List ℕ) (p : Path) → parent_fault (File b) p ≡ None → p ≢ [] → ⊥
+no_file_on_the_way : (b : List ℕ) (p : Path) → parent_fault (File date b) p ≡ None → p ≢ [] → ⊥
 no_file_on_the_way b [] h ne = ne refl
 no_file_on_the_way b (n ∷ []) h ne = cc
 no_file_on_the_way b (n ∷ m ∷ p) h ne =
@@ -118,7 +118,7 @@ no_gap_on_the_way : (p : Path) → no_directory_fault (fold onward Missing p) �
 no_gap_on_the_way p h = let f : no_directory_fault Missing ≡ None = subst (λ (a : At). no_directory_fault a ≡ None) (fold-Missing p) h in cc
 
 -- what is seen below a name of a directory
-below_name : (n : Name) (es : Entries) (y : Tree) (q : Path) → named n es ≡ Some y → look y q ≡ look (Dir es) (n ∷ q)
+below_name : (n : Name) (es : Entries) (y : Tree) (q : Path) → named n es ≡ Some y → look y q ≡ look (Dir date es) (n ∷ q)
 below_name n es y q e = ap (λ (o : Option Tree). seen (fold onward (found o) q)) (sym e)
 
 -- what an entry behind all others asks
@@ -126,28 +126,28 @@ record IsLast (es : Entries) (p : Path) : Type 0 where
   some : p ≢ []
   names : AreNames p
   rising : RisingEntries es
-  named_all : AllNamed (Dir es)
-  parent_there : parent_fault (Dir es) p ≡ None
-  before : AllBefore (Dir es) p
+  named_all : AllNamed (Dir date es)
+  parent_there : parent_fault (Dir date es) p ≡ None
+  before : AllBefore (Dir date es) p
 
 -- the same one name further
-last_below : (n m : Name) (p : Path) (es fs : Entries) → named n es ≡ Some (Dir fs) → IsLast es (n ∷ m ∷ p) → IsLast fs (m ∷ p)
+last_below : (n m : Name) (p : Path) (es fs : Entries) → named n es ≡ Some (Dir stamp fs) → IsLast es (n ∷ m ∷ p) → IsLast fs (m ∷ p)
 last_below n m p es fs e h = record {
   some = λ z. cc;
   names = h.names.1;
-  rising = rising-found (n ∷ []) (Dir es) (Dir fs) (ap found e) h.rising;
-  named_all = λ q l f. (h.named_all (n ∷ q) l (sym (below_name n es (Dir fs) q e) ∙ f)).1;
+  rising = rising-found (n ∷ []) (Dir date es) (Dir stamp fs) (ap found e) h.rising;
+  named_all = λ q l f. (h.named_all (n ∷ q) l (sym (below_name n es (Dir stamp fs) q e) ∙ f)).1;
   parent_there = subst (λ (o : Option Tree). no_directory_fault (fold onward (found o) (parent (m ∷ p))) ≡ None) e h.parent_there;
   before = λ q l ns f. ⊎_elim
       (λ (s : by_bytes n n ≡ Less). absurd (not_below_itself n s))
       (λ (s : (n ≡ n) × (by_bytes (enc q) (enc (m ∷ p)) ≡ Less)). s.1)
-      (by_first_name n n (enc q) (enc (m ∷ p)) h.names.0.bytes h.names.0.bytes (h.before (n ∷ q) l (λ z. cc) (sym (below_name n es (Dir fs) q e) ∙ f)));
+      (by_first_name n n (enc q) (enc (m ∷ p)) h.names.0.bytes h.names.0.bytes (h.before (n ∷ q) l (λ z. cc) (sym (below_name n es (Dir stamp fs) q e) ∙ f)));
 }
 
 -- the first name of each entry comes before the path's, or is it
 first_names : (n : Name) (p : Path) (es : Entries) → IsLast es (n ∷ p) → EachOf (λ k. (by_bytes k n ≡ Less) ⊎ ((k ≡ n) × (by_bytes [] (enc p) ≡ Less))) es
 first_names n p es h = each_name (λ k. (by_bytes k n ≡ Less) ⊎ ((k ≡ n) × (by_bytes [] (enc p) ≡ Less))) es h.rising (λ k y f.
-    let there : look (Dir es) (k ∷ []) ≡ Some (shape y) = ap seen f ∙ seen_shape y in
+    let there : look (Dir date es) (k ∷ []) ≡ Some (shape y) = ap seen f ∙ seen_shape y in
     by_first_name k n [] (enc p) (h.named_all (k ∷ []) (shape y) there).0.bytes h.names.0.bytes (h.before (k ∷ []) (shape y) (λ z. cc) there))
 
 each_weaker : (P Q : Name → Type 0) (es : Entries) → ((k : Name) → P k → Q k) → EachOf P es → EachOf Q es
@@ -155,20 +155,20 @@ each_weaker P Q nothing f h = tt
 each_weaker P Q (entry n x rest) f h = (f n h.0, each_weaker P Q rest f h.1)
 
 -- the entry put one name below the directory or deeper
-put_deeper : (n m : Name) (p base : Path) (es fs : Entries) (x : Tree) → named n es ≡ Some (Dir fs) → IsLast es (n ∷ m ∷ p)
-    → Ends (edited (Dir fs) (m ∷ p) (Some x)) (base ++ n ∷ []) (lines_of (base ++ n ∷ []) fs ++ lines ((base ++ n ∷ []) ++ m ∷ p) x)
-    → Ends (edited (Dir es) (n ∷ m ∷ p) (Some x)) base (lines_of base es ++ lines (base ++ n ∷ m ∷ p) x)
+put_deeper : (n m : Name) (p base : Path) (es fs : Entries) (x : Tree) → named n es ≡ Some (Dir stamp fs) → IsLast es (n ∷ m ∷ p)
+    → Ends (edited (Dir stamp fs) (m ∷ p) (Some x)) (base ++ n ∷ []) (lines_of (base ++ n ∷ []) fs ++ lines ((base ++ n ∷ []) ++ m ∷ p) x)
+    → Ends (edited (Dir date es) (n ∷ m ∷ p) (Some x)) base (lines_of base es ++ lines (base ++ n ∷ m ∷ p) x)
 put_deeper n m p base es fs x e h deeper = record {
   entries = put n (Dir deeper.entries) es;
   is = ap (λ (o : Option Tree). Dir (set_entry n (option_map (λ y. edited y (m ∷ p) (Some x)) o) es)) e ∙ ap (λ (y : Tree). Dir (put n y es)) deeper.is;
-  shows = grown_end base n (Dir fs) (Dir deeper.entries) es (lines (base ++ n ∷ m ∷ p) x) h.rising e
+  shows = grown_end base n (Dir stamp fs) (Dir deeper.entries) es (lines (base ++ n ∷ m ∷ p) x) h.rising e
       (each_weaker (λ k. (by_bytes k n ≡ Less) ⊎ ((k ≡ n) × (by_bytes [] (enc (m ∷ p)) ≡ Less))) (λ k. (by_bytes k n ≡ Less) ⊎ (k ≡ n)) es
       (λ k c. ⊎_elim (λ (l : by_bytes k n ≡ Less). inl l) (λ (s : (k ≡ n) × (by_bytes [] (enc (m ∷ p)) ≡ Less)). inr s.0) c)
       (first_names n (m ∷ p) es h))
       (dir_more (base ++ n ∷ []) fs deeper.entries (lines (base ++ n ∷ m ∷ p) x) (deeper.shows ∙ ap (λ (q : Path). lines_of (base ++ n ∷ []) fs ++ lines q x) (append_assoc base (n ∷ []) (m ∷ p))));
 }
 
-entries_end : (p base : Path) (es : Entries) (x : Tree) → IsLast es p → Ends (edited (Dir es) p (Some x)) base (lines_of base es ++ lines (base ++ p) x)
+entries_end : (p base : Path) (es : Entries) (x : Tree) → IsLast es p → Ends (edited (Dir date es) p (Some x)) base (lines_of base es ++ lines (base ++ p) x)
 entries_end [] base es x h = absurd (h.some refl)
 entries_end (n ∷ []) base es x h = record {
   entries = put n x es;
@@ -178,23 +178,23 @@ entries_end (n ∷ []) base es x h = record {
       (first_names n [] es h));
 }
 entries_end (n ∷ m ∷ p) base es x h =
-    elim (named n es) as (λ o. named n es ≡ o → Ends (edited (Dir es) (n ∷ m ∷ p) (Some x)) base (lines_of base es ++ lines (base ++ n ∷ m ∷ p) x)) [
+    elim (named n es) as (λ o. named n es ≡ o → Ends (edited (Dir date es) (n ∷ m ∷ p) (Some x)) base (lines_of base es ++ lines (base ++ n ∷ m ∷ p) x)) [
       | None ↦ λ e. absurd (no_gap_on_the_way (parent (m ∷ p)) (subst (λ (o : Option Tree). no_directory_fault (fold onward (found o) (parent (m ∷ p))) ≡ None) e h.parent_there))
-      | Some y ↦ λ e. elim y as (λ z. named n es ≡ Some z → Ends (edited (Dir es) (n ∷ m ∷ p) (Some x)) base (lines_of base es ++ lines (base ++ n ∷ m ∷ p) x)) [
-        | File b ↦ λ f. absurd (no_file_on_the_way b (m ∷ p) (subst (λ (o : Option Tree). no_directory_fault (fold onward (found o) (parent (m ∷ p))) ≡ None) f h.parent_there) (λ z. cc))
-        | Dir fs ↦ λ f. put_deeper n m p base es fs x f h (entries_end (m ∷ p) (base ++ n ∷ []) fs x (last_below n m p es fs f h))
+      | Some y ↦ λ e. elim y as (λ z. named n es ≡ Some z → Ends (edited (Dir date es) (n ∷ m ∷ p) (Some x)) base (lines_of base es ++ lines (base ++ n ∷ m ∷ p) x)) [
+        | File date b ↦ λ f. absurd (no_file_on_the_way b (m ∷ p) (subst (λ (o : Option Tree). no_directory_fault (fold onward (found o) (parent (m ∷ p))) ≡ None) f h.parent_there) (λ z. cc))
+        | Dir stamp fs ↦ λ f. put_deeper n m p base es fs x f h (entries_end (m ∷ p) (base ++ n ∷ []) fs x (last_below n m p es fs f h))
       ] e
     ] refl
 
 -- the image of a tree with an entry behind all others
 pub image_end : (t : Tree) (p : Path) (x : Tree) → IsTree t → IsPath p → p ≢ [] → parent_fault t p ≡ None → AllBefore t p → image (edited t p (Some x)) ≡ image t ++ lines p x
-image_end (File b) p x h u ne g before = absurd h.root
-image_end (Dir es) p x h u ne g before =
-    let ends : Ends (edited (Dir es) p (Some x)) [] (lines_of [] es ++ lines p x) = entries_end p [] es x (record {
+image_end (File date b) p x h u ne g before = absurd h.root
+image_end (Dir date es) p x h u ne g before =
+    let ends : Ends (edited (Dir date es) p (Some x)) [] (lines_of [] es ++ lines p x) = entries_end p [] es x (record {
       some = ne;
       names = u.names;
       rising = h.rising;
-      named_all = λ q l f. (looks_may (Dir es) q l h f).path.names;
+      named_all = λ q l f. (looks_may (Dir date es) q l h f).path.names;
       parent_there = g;
       before = before;
     }) in

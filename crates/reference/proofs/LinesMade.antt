@@ -25,7 +25,7 @@ use Rattle.reference.proofs.TreeEdits.{put_directory, put_file}
 
 -- ---- texts of lines
 
-file_text : (p : Path) (b : List ℕ) → lines p (File b) ≡ 102 ∷ 32 ∷ (path_text p ++ 32 ∷ (decimal (length b) ++ 10 ∷ block_lines b (length b / 4096 + 1)))
+file_text : (p : Path) (b : List ℕ) → lines p (File date b) ≡ 102 ∷ 32 ∷ (path_text p ++ 32 ∷ (decimal (length b) ++ 10 ∷ block_lines b (length b / 4096 + 1)))
 file_text p b = simp append_assoc
 
 directory_spelled : (p : Path) → lines p (Dir nothing) ≡ spelled (DirectoryLine p) ++ 10 ∷ []
@@ -59,7 +59,7 @@ zeros_spelled p n =
     ∙ sym (file_spelled p n)
 
 -- a file with one block more
-block_shown : (p : Path) (b : List ℕ) (i : ℕ) (v : List ℕ) → LastBlock b i v → lines p (File (over b (4096 * i) v)) ≡ lines p (File b) ++ (spelled (BlockLine i v) ++ 10 ∷ [])
+block_shown : (p : Path) (b : List ℕ) (i : ℕ) (v : List ℕ) → LastBlock b i v → lines p (File (over b (4096 * i) v)) ≡ lines p (File date b) ++ (spelled (BlockLine i v) ++ 10 ∷ [])
 block_shown p b i v h =
     let c : List ℕ = over b (4096 * i) v in
     let before : Text = decimal (length b) ++ 10 ∷ [] in
@@ -69,7 +69,7 @@ block_shown p b i v h =
     ∙ ap (λ (t : Text). 102 ∷ 32 ∷ (path_text p ++ 32 ∷ t)) (sym (append_assoc (decimal (length b)) (10 ∷ block_lines b (length b / 4096 + 1)) (block_line i v)))
     ∙ ap (λ (t : Text). 102 ∷ 32 ∷ t) (sym (append_assoc (path_text p) (32 ∷ (decimal (length b) ++ 10 ∷ block_lines b (length b / 4096 + 1))) (block_line i v)))
     ∙ ap (λ (t : Text). t ++ block_line i v) (sym (file_text p b))
-    ∙ ap (λ (t : Text). lines p (File b) ++ t) (block_spelled i v h.some)
+    ∙ ap (λ (t : Text). lines p (File date b) ++ t) (block_spelled i v h.some)
 
 -- ---- paths
 
@@ -96,7 +96,7 @@ pub record LastFile (ls : Lines) (n : ℕ) : Type 0 where
   pub some : last_path ls ≢ []
   pub front : Text
   pub now : image_of_lines ls ≡ front ++ lines (last_path ls) (File bytes)
-  pub shown : (c : List ℕ) → image (edited (tree_of_lines ls) (last_path ls) (Some (File c))) ≡ front ++ lines (last_path ls) (File c)
+  pub shown : (c : List ℕ) → image (edited (tree_of_lines ls) (last_path ls) (Some (File stamp c))) ≡ front ++ lines (last_path ls) (File stamp c)
 
 pub record Made (ls : Lines) : Type 0 where
   pub tree : IsTree (tree_of_lines ls)
@@ -116,8 +116,8 @@ pub record Ready (p : Path) (ls : Lines) : Type 0 where
   pub before : (q : Path) (l : Look) → look (tree_of_lines ls) q ≡ Some l → by_bytes (enc q) (enc p) ≡ Less
 
 free_from : (a : At) → ((l : Look) → seen a ≡ Some l → ⊥) → is_found a ≡ false
-free_from (Found (Dir es)) h = absurd (h Directory refl)
-free_from (Found (File b)) h = absurd (h (Bytes b) refl)
+free_from (Found (Dir date es)) h = absurd (h Directory refl)
+free_from (Found (File date b)) h = absurd (h (Bytes b) refl)
 free_from Missing h = refl
 free_from Blocked h = refl
 
@@ -173,12 +173,12 @@ file_made : (p : Path) (n : ℕ) (ls : Lines) → Made ls → IsNewEntry p ls �
 file_made p n ls m h few =
     let r : Ready p ls = ready p ls m h in
     let b : List ℕ = replicate n 0 in
-    let t : Tree = edited (tree_of_lines ls) p (Some (File b)) in
-    let at : IsPoint (tree_of_lines ls) t p (Some (Bytes b)) = point p ls (File b) r (bare_file b) in
+    let t : Tree = edited (tree_of_lines ls) p (Some (File date b)) in
+    let at : IsPoint (tree_of_lines ls) t p (Some (Bytes b)) = point p ls (File date b) r (bare_file b) in
     let len : length b ≡ n = length-replicate n 0 in
     record {
       tree = put_file (tree_of_lines ls) p b m.tree h.path (record { few = omega arith; bytes = are_zeros n }) r.some r.parent_there;
-      image_is = entry_image p ls (File b) m h.path r ∙ ap (λ (s : Text). image_of_lines ls ++ s) (zeros_spelled p n);
+      image_is = entry_image p ls (File date b) m h.path r ∙ ap (λ (s : Text). image_of_lines ls ++ s) (zeros_spelled p n);
       directory = λ q d. let old : look (tree_of_lines ls) q ≡ Some Directory = m.directory q d in
           at.other q (λ e. not_below_itself (enc p) (subst (λ (k : Path). by_bytes (enc k) (enc p) ≡ Less) e (r.before q Directory old))) ∙ old;
       has = λ q e. ⊎_elim
@@ -194,16 +194,16 @@ file_made p n ls m h few =
         some = r.some;
         front = image_of_lines ls;
         now = ap (λ (s : Text). image_of_lines ls ++ s) (sym (zeros_spelled p n));
-        shown = λ c. ap image (put_twice (tree_of_lines ls) p (File b) (File c)) ∙ entry_image p ls (File c) m h.path r;
+        shown = λ c. ap image (put_twice (tree_of_lines ls) p (File date b) (File stamp c)) ∙ entry_image p ls (File stamp c) m h.path r;
       };
     }
 
 -- ---- a block more
 
-line_more : (text front : Text) (p : Path) (b : List ℕ) (i : ℕ) (v : List ℕ) → text ≡ front ++ lines p (File b) → LastBlock b i v → front ++ lines p (File (over b (4096 * i) v)) ≡ text ++ (spelled (BlockLine i v) ++ 10 ∷ [])
+line_more : (text front : Text) (p : Path) (b : List ℕ) (i : ℕ) (v : List ℕ) → text ≡ front ++ lines p (File date b) → LastBlock b i v → front ++ lines p (File (over b (4096 * i) v)) ≡ text ++ (spelled (BlockLine i v) ++ 10 ∷ [])
 line_more text front p b i v e h =
     ap (λ (s : Text). front ++ s) (block_shown p b i v h)
-    ∙ sym (append_assoc front (lines p (File b)) (spelled (BlockLine i v) ++ 10 ∷ []))
+    ∙ sym (append_assoc front (lines p (File date b)) (spelled (BlockLine i v) ++ 10 ∷ []))
     ∙ ap (λ (s : Text). s ++ (spelled (BlockLine i v) ++ 10 ∷ [])) (sym e)
 
 some_number : (n k : ℕ) → ◌≡◌ {A = Option ℕ} (Some n) (Some k) → n ≡ k
@@ -224,7 +224,7 @@ block_made i v ls m h =
     let old : Tree = tree_of_lines ls in
     let b : List ℕ = f.bytes in
     let c : List ℕ = over b (4096 * i) v in
-    let t : Tree = edited old p (Some (File c)) in
+    let t : Tree = edited old p (Some (File stamp c)) in
     let long : length b ≡ h.len = f.long in
     let inside : 4096 * i + length v ≤ h.len = h.inside in
     let rises : next_block ls ≤ i = h.rises in
@@ -237,12 +237,12 @@ block_made i v ls m h =
     } in
     let same : tree_of_lines (BlockLine i v ∷ ls) ≡ t = ap (λ (a : At). edited old p (Some (File (over (bytes_of a) (4096 * i) v)))) f.there in
     let parent_there : parent_fault old p ≡ None = parent_from_found p old f.some (ap path_fault f.there) in
-    let at : IsPoint old t p (Some (Bytes c)) = point_from_edit old t p (Some (File c)) f.some parent_there (subst Bare (sym f.there) (bare_file b)) (bare_file c) refl in
+    let at : IsPoint old t p (Some (Bytes c)) = point_from_edit old t p (Some (File stamp c)) f.some parent_there (subst Bare (sym f.there) (bare_file b)) (bare_file c) refl in
     let was : look old p ≡ Some (Bytes b) = ap seen f.there in
     let content : IsContent b = m.tree.files p b f.there in
     let few : length b ≤ 2 ^ 40 = content.few in
     record {
-      tree = subst IsTree (sym same) (put_file old p c m.tree (m.tree.paths p (File b) f.there) (content-over b (4096 * i) v content h.block.bytes (omega arith)) f.some parent_there);
+      tree = subst IsTree (sym same) (put_file old p c m.tree (m.tree.paths p (File date b) f.there) (content-over b (4096 * i) v content h.block.bytes (omega arith)) f.some parent_there);
       image_is = ap image same ∙ f.shown c ∙ line_more (image_of_lines ls) f.front p b i v f.now is_last;
       directory = λ q d. let was_there : look old q ≡ Some Directory = m.directory q d in
           ap (λ (u : Tree). look u q) same ∙ at.other q (λ e. let g : ◌≡◌ {A = Option Look} (Some (Bytes b)) (Some Directory) = sym was ∙ ap (look old) (sym e) ∙ was_there in cc) ∙ was_there;
@@ -260,7 +260,7 @@ block_made i v ls m h =
         some = f.some;
         front = f.front;
         now = sym (line_more (image_of_lines ls) f.front p b i v f.now is_last);
-        shown = λ d. ap (λ (u : Tree). image (edited u p (Some (File d)))) same ∙ ap image (put_twice old p (File c) (File d)) ∙ f.shown d;
+        shown = λ d. ap (λ (u : Tree). image (edited u p (Some (File d)))) same ∙ ap image (put_twice old p (File stamp c) (File d)) ∙ f.shown d;
       };
     }
 

@@ -13,28 +13,28 @@ use Rattle.reference.proofs.ShownTrees.{Shown, ShownEntries, name_below, name_wi
 -- ---- the line of an entry
 
 abbrev kind_byte : Tree → ℕ
-kind_byte (Dir es) = 100
-kind_byte (File b) = 102
+kind_byte (Dir date es) = 100
+kind_byte (File date b) = 102
 
 abbrev stop_byte : Tree → ℕ
-stop_byte (Dir es) = 10
-stop_byte (File b) = 32
+stop_byte (Dir date es) = 10
+stop_byte (File date b) = 32
 
 abbrev after_path : Path → Tree → Text
-after_path p (Dir es) = lines_of p es
-after_path p (File b) = decimal (length b) ++ 10 ∷ block_lines b (length b / 4096 + 1)
+after_path p (Dir date es) = lines_of p es
+after_path p (File date b) = decimal (length b) ++ 10 ∷ block_lines b (length b / 4096 + 1)
 
 lines_start : (p : Path) (x : Tree) (r : Text) → lines p x ++ r ≡ kind_byte x ∷ 32 ∷ (path_text p ++ stop_byte x ∷ (after_path p x ++ r))
-lines_start p (Dir es) r = simp append_assoc
-lines_start p (File b) r = simp append_assoc
+lines_start p (Dir date es) r = simp append_assoc
+lines_start p (File date b) r = simp append_assoc
 
 stop_low : (x : Tree) → stop_byte x < 33
-stop_low (Dir es) = omega arith
-stop_low (File b) = omega arith
+stop_low (Dir date es) = omega arith
+stop_low (File date b) = omega arith
 
 no_block_kind : (x : Tree) → kind_byte x ≢ 98
-no_block_kind (Dir es) = omega arith
-no_block_kind (File b) = omega arith
+no_block_kind (Dir date es) = omega arith
+no_block_kind (File date b) = omega arith
 
 -- one text begins with the lines of two trees: their paths are written alike
 same_path_text : (p q : Path) (x y : Tree) (r s : Text) → lines p x ++ r ≡ lines q y ++ s → (kind_byte x ≡ kind_byte y) × (path_text p ≡ path_text q) × (after_path p x ++ r ≡ after_path q y ++ s)
@@ -143,13 +143,13 @@ same_file b c r s few_b few_c after_b after_c e =
 
 mutual
   same_subtree : (p : Path) (x y : Tree) (r s : Text) → Shown p x → Shown p y → Behind p r → Behind p s → lines p x ++ r ≡ lines p y ++ s → (x ≡ y) × (r ≡ s)
-  same_subtree p (Dir es) (Dir fs) r s v w h g e =
-      let inner : (es ≡ fs) × (r ≡ s) = same_entries p es fs r s v w h g (same_path_text p p (Dir es) (Dir fs) r s e).2 in
+  same_subtree p (Dir date es) (Dir stamp fs) r s v w h g e =
+      let inner : (es ≡ fs) × (r ≡ s) = same_entries p es fs r s v w h g (same_path_text p p (Dir date es) (Dir stamp fs) r s e).2 in
       (ap Dir inner.0, inner.1)
-  same_subtree p (Dir es) (File c) r s v w h g e = absurd (let kinds : 100 ≡ 102 = (same_path_text p p (Dir es) (File c) r s e).0 in omega arith)
-  same_subtree p (File b) (Dir fs) r s v w h g e = absurd (let kinds : 102 ≡ 100 = (same_path_text p p (File b) (Dir fs) r s e).0 in omega arith)
-  same_subtree p (File b) (File c) r s v w h g e =
-      let inner : (b ≡ c) × (r ≡ s) = same_file b c r s v.few w.few (behind_blocks p r h) (behind_blocks p s g) (same_path_text p p (File b) (File c) r s e).2 in
+  same_subtree p (Dir date es) (File stamp c) r s v w h g e = absurd (let kinds : 100 ≡ 102 = (same_path_text p p (Dir date es) (File stamp c) r s e).0 in omega arith)
+  same_subtree p (File date b) (Dir stamp fs) r s v w h g e = absurd (let kinds : 102 ≡ 100 = (same_path_text p p (File date b) (Dir stamp fs) r s e).0 in omega arith)
+  same_subtree p (File date b) (File stamp c) r s v w h g e =
+      let inner : (b ≡ c) × (r ≡ s) = same_file b c r s v.few w.few (behind_blocks p r h) (behind_blocks p s g) (same_path_text p p (File date b) (File stamp c) r s e).2 in
       (ap File inner.0, inner.1)
 
   same_entries : (p : Path) (es fs : Entries) (r s : Text) → ShownEntries p es → ShownEntries p fs → Behind p r → Behind p s → lines_of p es ++ r ≡ lines_of p fs ++ s → (es ≡ fs) × (r ≡ s)
@@ -167,9 +167,9 @@ mutual
       (cc (name, first.0, others.0), others.1)
 
 pub one_image : (t u : Tree) → IsTree t → IsTree u → image t ≡ image u → t ≡ u
-one_image (File b) u is_t is_u e = absurd is_t.root
-one_image (Dir es) (File c) is_t is_u e = absurd is_u.root
-one_image (Dir es) (Dir fs) is_t is_u e =
+one_image (File date b) u is_t is_u e = absurd is_t.root
+one_image (Dir date es) (File stamp c) is_t is_u e = absurd is_u.root
+one_image (Dir date es) (Dir stamp fs) is_t is_u e =
     let both : lines_of [] es ≡ lines_of [] fs = cc in
     let one : (es ≡ fs) × ([] ≡ []) = same_entries [] es fs [] [] (tree_shown es is_t) (tree_shown fs is_u) (inl refl) (inl refl) (ap (λ (t : Text). t ++ []) both) in
     ap Dir one.0

@@ -36,7 +36,7 @@ unfolding Bare
 bare_empty k r = ap seen (fold-Missing r)
 
 -- nor below a file
-pub bare_file : (b : List ℕ) → Bare (Found (File b))
+pub bare_file : (b : List ℕ) → Bare (Found (File date b))
 unfolding Bare
 bare_file b k r = ap seen (fold-Blocked r)
 
@@ -66,8 +66,8 @@ pub record Became (t t' : Tree) (p : Path) (old new : Option Look) : Type 0 wher
   pub point : IsPoint t t' p new
 
 -- what stands without a fault and is no directory is a file
-pub file_from : (a : At) → path_fault a ≡ None → is_directory a ≡ false → (b : List ℕ) × (a ≡ Found (File b))
-file_from (Found (Dir es)) h g = absurd (cc)
-file_from (Found (File b)) h g = (b, refl)
+pub file_from : (a : At) → path_fault a ≡ None → is_directory a ≡ false → (b : List ℕ) × (a ≡ Found (File date b))
+file_from (Found (Dir date es)) h g = absurd (cc)
+file_from (Found (File date b)) h g = (b, refl)
 file_from Missing h g = absurd (cc)
 file_from Blocked h g = absurd (cc)

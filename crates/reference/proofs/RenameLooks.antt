@@ -47,7 +47,7 @@ parent-append (a ∷ b ∷ o) k r = ap (λ (p : Path). a ∷ p) (parent-append (
 pub none_below : (a : At) (k : Name) (r : Path) → is_full a ≡ false → path_fault (fold onward a (k ∷ r)) ≡ None → ⊥
 none_below (Found (Dir nothing)) k r h g = let f : path_fault Missing ≡ None = subst (λ (x : At). path_fault x ≡ None) (fold-Missing r) g in cc
 none_below (Found (Dir (entry m y es))) k r h g = cc
-none_below (Found (File b)) k r h g = let f : path_fault Blocked ≡ None = subst (λ (x : At). path_fault x ≡ None) (fold-Blocked r) g in cc
+none_below (Found (File date b)) k r h g = let f : path_fault Blocked ≡ None = subst (λ (x : At). path_fault x ≡ None) (fold-Blocked r) g in cc
 none_below Missing k r h g = let f : path_fault Missing ≡ None = subst (λ (x : At). path_fault x ≡ None) (fold-Missing r) g in cc
 none_below Blocked k r h g = let f : path_fault Blocked ≡ None = subst (λ (x : At). path_fault x ≡ None) (fold-Blocked r) g in cc
 

@@ -28,7 +28,7 @@ Rewritten t t' p f = (b : List ℕ) × Became t t' p (Some (Bytes b)) (Some (Byt
 -- a file that is put where a file stood
 rewritten : (t t' : Tree) (p : Path) (f : List ℕ → List ℕ) → IsTree t → path_fault (entry_at t p) ≡ None → is_directory (entry_at t p) ≡ false → edited t p (Some (File (f (bytes_of (entry_at t p))))) ≡ t' → Rewritten t t' p f
 rewritten t t' p f is there file e =
-    let a : (b : List ℕ) × (entry_at t p ≡ Found (File b)) = file_from (entry_at t p) there file in
+    let a : (b : List ℕ) × (entry_at t p ≡ Found (File date b)) = file_from (entry_at t p) there file in
     let ne : p ≢ [] = not_root_there t p is file in (
       a.0,
       record {

@@ -12,8 +12,8 @@ use Rattle.reference.proofs.ImageTexts.{Slashless}
 -- a tree at a path p: the paths of what it holds are paths, and its files hold what files may hold
 abbrev mutual
   pub Shown : Path → Tree → Type 0
-  Shown p (Dir es) = ShownEntries p es
-  Shown p (File b) = IsContent b
+  Shown p (Dir date es) = ShownEntries p es
+  Shown p (File date b) = IsContent b
 
   pub ShownEntries : Path → Entries → Type 0
   ShownEntries p nothing = Unit {0}
@@ -31,7 +31,7 @@ pub first_at : (n : Name) (x : Tree) (rest : Entries) (r : Path) → entry_at (D
 first_at n x rest r = ap (λ (b : Bool). fold onward (found (cond b (Some x) (named n rest))) r) (same_itself n)
 
 -- what stands in later entries has another name than the first
-pub later_at : (n : Name) (x : Tree) (rest : Entries) (k : Name) (r : Path) (y : Tree) → AllAbove n rest → entry_at (Dir rest) (k ∷ r) ≡ Found y → entry_at (Dir (entry n x rest)) (k ∷ r) ≡ Found y
+pub later_at : (n : Name) (x : Tree) (rest : Entries) (k : Name) (r : Path) (y : Tree) → AllAbove n rest → entry_at (Dir date rest) (k ∷ r) ≡ Found y → entry_at (Dir (entry n x rest)) (k ∷ r) ≡ Found y
 later_at n x rest k r y h e = elim (same k n) as (λ b. same k n ≡ b → fold onward (found (cond b (Some x) (named k rest))) r ≡ Found y) [
   | true ↦ λ f. absurd (
       let absent : named k rest ≡ None = ap (λ (j : Name). named j rest) (same_true k n f) ∙ none_above n rest h in
@@ -41,18 +41,18 @@ later_at n x rest k r y h e = elim (same k n) as (λ b. same k n ≡ b → fold 
 ] refl
 
 mutual
-  pub shown : (p : Path) (x : Tree) → Rising x → ((r : Path) (y : Tree) → entry_at x r ≡ Found y → IsPath (p ++ r)) → ((r : Path) (b : List ℕ) → entry_at x r ≡ Found (File b) → IsContent b) → Shown p x
-  shown p (Dir es) v paths files = shown_entries p es v (λ n r y e. paths (n ∷ r) y e) (λ n r b e. files (n ∷ r) b e)
-  shown p (File b) v paths files = files [] b refl
+  pub shown : (p : Path) (x : Tree) → Rising x → ((r : Path) (y : Tree) → entry_at x r ≡ Found y → IsPath (p ++ r)) → ((r : Path) (b : List ℕ) → entry_at x r ≡ Found (File date b) → IsContent b) → Shown p x
+  shown p (Dir date es) v paths files = shown_entries p es v (λ n r y e. paths (n ∷ r) y e) (λ n r b e. files (n ∷ r) b e)
+  shown p (File date b) v paths files = files [] b refl
 
-  shown_entries : (p : Path) (es : Entries) → RisingEntries es → ((n : Name) (r : Path) (y : Tree) → entry_at (Dir es) (n ∷ r) ≡ Found y → IsPath (p ++ n ∷ r)) → ((n : Name) (r : Path) (b : List ℕ) → entry_at (Dir es) (n ∷ r) ≡ Found (File b) → IsContent b) → ShownEntries p es
+  shown_entries : (p : Path) (es : Entries) → RisingEntries es → ((n : Name) (r : Path) (y : Tree) → entry_at (Dir date es) (n ∷ r) ≡ Found y → IsPath (p ++ n ∷ r)) → ((n : Name) (r : Path) (b : List ℕ) → entry_at (Dir date es) (n ∷ r) ≡ Found (File date b) → IsContent b) → ShownEntries p es
   shown_entries p nothing v paths files = tt
   shown_entries p (entry n x rest) v paths files = (
     paths n [] x (first_at n x rest []),
     shown (p ++ n ∷ []) x v.1 (λ r y e. subst IsPath (sym (append_assoc p (n ∷ []) r)) (paths n r y (first_at n x rest r ∙ e))) (λ r b e. files n r b (first_at n x rest r ∙ e)),
-    shown_entries p rest v.2 (λ k r y e. paths k r y (later_at n x rest k r y v.0 e)) (λ k r b e. files k r b (later_at n x rest k r (File b) v.0 e)),
+    shown_entries p rest v.2 (λ k r y e. paths k r y (later_at n x rest k r y v.0 e)) (λ k r b e. files k r b (later_at n x rest k r (File date b) v.0 e)),
   )
 
 -- every entry of a directory tree is so
-pub tree_shown : (es : Entries) → IsTree (Dir es) → ShownEntries [] es
-tree_shown es h = shown [] (Dir es) h.rising h.paths h.files
+pub tree_shown : (es : Entries) → IsTree (Dir date es) → ShownEntries [] es
+tree_shown es h = shown [] (Dir date es) h.rising h.paths h.files

@@ -30,8 +30,8 @@ with_blocks b (suc i) ls = with_block i (block b i) (with_blocks b i ls)
 -- those of a tree that stands at the path p, and of the entries of a directory there
 abbrev mutual
   with_lines : Path → Tree → Lines → Lines
-  with_lines p (Dir es) ls = with_entries p es (DirectoryLine p ∷ ls)
-  with_lines p (File b) ls = with_blocks b (length b / 4096 + 1) (FileLine p (length b) ∷ ls)
+  with_lines p (Dir date es) ls = with_entries p es (DirectoryLine p ∷ ls)
+  with_lines p (File date b) ls = with_blocks b (length b / 4096 + 1) (FileLine p (length b) ∷ ls)
 
   with_entries : Path → Entries → Lines → Lines
   with_entries p nothing ls = ls
@@ -50,19 +50,19 @@ blocks_shown b (suc i) ls =
     ∙ ap (λ (t : Text). t ++ block_line i (block b i)) (blocks_shown b i ls)
     ∙ append_assoc (image_of_lines ls) (block_lines b i) (block_line i (block b i))
 
-directory_text : (p : Path) (es : Entries) → (spelled (DirectoryLine p) ++ 10 ∷ []) ++ lines_of p es ≡ lines p (Dir es)
+directory_text : (p : Path) (es : Entries) → (spelled (DirectoryLine p) ++ 10 ∷ []) ++ lines_of p es ≡ lines p (Dir date es)
 directory_text p es = simp append_assoc
 
-file_text : (p : Path) (b : List ℕ) → (spelled (FileLine p (length b)) ++ 10 ∷ []) ++ block_lines b (length b / 4096 + 1) ≡ lines p (File b)
+file_text : (p : Path) (b : List ℕ) → (spelled (FileLine p (length b)) ++ 10 ∷ []) ++ block_lines b (length b / 4096 + 1) ≡ lines p (File date b)
 file_text p b = simp append_assoc
 
 mutual
   lines_shown : (p : Path) (x : Tree) (ls : Lines) → image_of_lines (with_lines p x ls) ≡ image_of_lines ls ++ lines p x
-  lines_shown p (Dir es) ls =
+  lines_shown p (Dir date es) ls =
       entries_shown p es (DirectoryLine p ∷ ls)
       ∙ append_assoc (image_of_lines ls) (spelled (DirectoryLine p) ++ 10 ∷ []) (lines_of p es)
       ∙ ap (λ (t : Text). image_of_lines ls ++ t) (directory_text p es)
-  lines_shown p (File b) ls =
+  lines_shown p (File date b) ls =
       blocks_shown b (length b / 4096 + 1) (FileLine p (length b) ∷ ls)
       ∙ append_assoc (image_of_lines ls) (spelled (FileLine p (length b)) ++ 10 ∷ []) (block_lines b (length b / 4096 + 1))
       ∙ ap (λ (t : Text). image_of_lines ls ++ t) (file_text p b)
@@ -210,11 +210,11 @@ next_above p n r q (entry m x rest) e h v =
 
 mutual
   lines_go_on : (p : Path) (x : Tree) (ls : Lines) → AreLines ls → IsNewEntry p ls → Shown p x → Rising x → GoOn p ls (with_lines p x ls)
-  lines_go_on p (Dir es) ls are new v u =
+  lines_go_on p (Dir date es) ls are new v u =
       let more : GoOn p (DirectoryLine p ∷ ls) (with_entries p es (DirectoryLine p ∷ ls)) = entries_go_on p es (DirectoryLine p ∷ ls) (new, are) (inl refl) [] (sym (append-nil p)) (first_above p es) v u in
       record { are = more.are; below = more.below; last = more.last; keeps = λ q h. more.keeps q (inr h) }
-  lines_go_on p (File b) ls are new v u =
-      let more : GoOnWith b (length b / 4096 + 1) (FileLine p (length b) ∷ ls) (with_lines p (File b) ls) = blocks_go_on b (length b / 4096 + 1) (FileLine p (length b) ∷ ls) v.bytes ((new, v.few), are) refl refl in
+  lines_go_on p (File date b) ls are new v u =
+      let more : GoOnWith b (length b / 4096 + 1) (FileLine p (length b) ∷ ls) (with_lines p (File date b) ls) = blocks_go_on b (length b / 4096 + 1) (FileLine p (length b) ∷ ls) v.bytes ((new, v.few), are) refl refl in
       record { are = more.are; below = []; last = more.last ∙ sym (append-nil p); keeps = more.keeps }
 
   entries_go_on : (p : Path) (es : Entries) (ls : Lines) → AreLines ls → HasDirectory ls p → (below : Path) → last_path ls ≡ p ++ below → IsBelowFirst (last_path ls) p es → ShownEntries p es → RisingEntries es → GoOn p ls (with_entries p es ls)
@@ -231,8 +231,8 @@ mutual
 -- ---- images
 
 tree_image : (t : Tree) → IsTree t → IsImage (image t)
-tree_image (File b) h = absurd h.root
-tree_image (Dir es) h =
+tree_image (File date b) h = absurd h.root
+tree_image (Dir date es) h =
     let go : GoOn [] [] (with_entries [] es []) = entries_go_on [] es [] tt refl [] refl (first_above [] es) (tree_shown es h) h.rising in
     record { lines = with_entries [] es []; are = go.are; is = sym (entries_shown [] es []) }
 
