@@ -101,6 +101,15 @@ seen_sighted Blocked = refl
 pub look_sighted : (t : Tree) (p : Path) → look t p ≡ option_map look_of (sight t p)
 look_sighted t p = seen_sighted (entry_at t p)
 
+pub look_from : (t : Tree) (p : Path) (s : Sight) → sight t p ≡ Some s → look t p ≡ Some (look_of s)
+look_from t p s e = look_sighted t p ∙ ap (option_map look_of) e
+
+pub unseen : (t : Tree) (p : Path) → sight t p ≡ None → look t p ≡ None
+unseen t p e = look_sighted t p ∙ ap (option_map look_of) e
+
+pub alike : (t u : Tree) (p q : Path) → sight t p ≡ sight u q → look t p ≡ look u q
+alike t u p q e = look_sighted t p ∙ ap (option_map look_of) e ∙ sym (look_sighted u q)
+
 looks_after : (c : Option Path) (o : Option Tree) (old : Option Sight) → option_map look_of (sight_after c o old) ≡ look_after c o (option_map look_of old)
 looks_after None o old = refl
 looks_after (Some r) o old = sym (seen_sighted (fold onward (found o) r))
