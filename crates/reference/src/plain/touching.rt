@@ -3,6 +3,7 @@ ghost use Rattle.std.specs.Prelude.{◌≡◌, IfOk};
 ghost use Rattle.reference.specs.Tree.{Tree as Trees, dated, touched};
 ghost use Rattle.reference.specs.Calls.{Outcome, parent, parents_of, is_done as done, touching, all_touching};
 ghost use Rattle.reference.specs.Plain.{tree_of, effect_of, HasEffect};
+ghost use Rattle.reference.specs.declared.call.Call.TheVariants.{Rename};
 
 use super::effect::Effect;
 use super::entries::{entry_named, put_entry};
@@ -99,7 +100,7 @@ pub fn touch_parents(
     new: &Path,
     at: u64,
 ) -> Result<Effect, NoMemory>
-    ensures { HasEffect result (tree_of tree.now) (all_touching at (parents_of (Call.Rename old.now new.now)) (effect_of (tree_of tree.now) effect)) }
+    ensures { HasEffect result (tree_of tree.now) (all_touching at (parents_of (Rename old.now new.now)) (effect_of (tree_of tree.now) effect)) }
 {
     if are_same(old, new) {
         return Ok(effect);
