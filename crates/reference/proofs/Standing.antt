@@ -4,7 +4,7 @@ use Rattle.std.specs.Prelude.{fold}
 use Rattle.pathkey.proofs.OrderFacts.{same_true}
 use Rattle.reference.specs.Tree.{same, Name, Path, Tree, Dir, File, Entries, nothing, entry, named, At, Found, Missing, Blocked, found, onward, entry_at}
 use Rattle.reference.specs.Calls.{is_directory, is_file, deepest, deepest_of, path_fault, parent, no_directory_fault, parent_fault, text_len}
-use Rattle.reference.specs.Looks.{Look, Directory, Bytes, seen, look}
+use Rattle.reference.specs.Looks.{Look, Directory, Bytes, seen, look, Seen, sighted}
 use Rattle.reference.specs.Shape.{Rising, RisingEntries}
 use Rattle.reference.proofs.Edits.{fold-Missing, fold-Blocked}
 
@@ -24,6 +24,12 @@ file_seen (Found (Dir date es)) b h = absurd (cc)
 file_seen (Found (File date c)) b h = let e : c ≡ b = cc in (date, ap (λ (z : List ℕ). Found (File date z)) e)
 file_seen Missing b h = absurd (cc)
 file_seen Blocked b h = absurd (cc)
+
+pub file_sighted : (a : At) (b : List ℕ) (date : ℕ) → sighted a ≡ Some (Seen (Bytes b) date) → a ≡ Found (File date b)
+file_sighted (Found (Dir stamp es)) b date h = absurd (cc)
+file_sighted (Found (File stamp c)) b date h = let e : c ≡ b = cc in let when : stamp ≡ date = cc in cc (e, when)
+file_sighted Missing b date h = absurd (cc)
+file_sighted Blocked b date h = absurd (cc)
 
 pub directory_from : (a : At) → no_directory_fault a ≡ None → seen a ≡ Some Directory
 directory_from (Found (Dir date es)) h = refl
