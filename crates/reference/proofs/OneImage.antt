@@ -46,7 +46,7 @@ no_block_kind First (File date b) = omega arith
 no_block_kind Second (File date b) = omega arith
 
 -- a directory's letter is not a file's
-letters_differ : (v : Version) → directory_letter v ≡ file_letter v → ⊥
+pub letters_differ : (v : Version) → directory_letter v ≡ file_letter v → ⊥
 letters_differ First e = omega arith
 letters_differ Second e = omega arith
 

@@ -66,7 +66,7 @@ directory_text : (v : Version) (p : Path) (date : ℕ) (es : Entries) → (spell
 directory_text v p date es = ap (λ (m : Text). ((directory_letter v ∷ 32 ∷ path_text p ++ m) ++ 10 ∷ []) ++ lines_of v p es) (told_text v date)
 
 file_text : (v : Version) (p : Path) (date : ℕ) (b : List ℕ) → (spelled v (FileLine p (length b) (told_moment v date)) ++ 10 ∷ []) ++ block_lines b (length b / 4096 + 1) ≡ lines v p (File date b)
-file_text v p date b = ap (λ (m : Text). ((file_letter v ∷ 32 ∷ path_text p ++ 32 ∷ decimal (length b) ++ m) ++ 10 ∷ []) ++ block_lines b (length b / 4096 + 1)) (told_text v date)
+file_text v p date b = ap (λ (m : Text). ((file_letter v ∷ 32 ∷ path_text p ++ (32 ∷ decimal (length b) ++ m)) ++ 10 ∷ []) ++ block_lines b (length b / 4096 + 1)) (told_text v date)
 
 mutual
   lines_shown : (v : Version) (root : ℕ) (p : Path) (x : Tree) (ls : Lines) → image_of_lines v root (with_lines v p x ls) ≡ image_of_lines v root ls ++ lines v p x

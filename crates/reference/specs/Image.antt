@@ -80,7 +80,7 @@ abbrev pub directory_line : Version → Text → ℕ → Text
 directory_line v text date = directory_letter v ∷ 32 ∷ text ++ moment_text v date
 
 abbrev pub file_line : Version → Text → ℕ → ℕ → Text
-file_line v text n date = file_letter v ∷ 32 ∷ text ++ 32 ∷ decimal n ++ moment_text v date
+file_line v text n date = file_letter v ∷ 32 ∷ text ++ (32 ∷ decimal n ++ moment_text v date)
 
 -- the lines of a tree that stands at the path p, and of the entries of a directory there
 abbrev mutual
