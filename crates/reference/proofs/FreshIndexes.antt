@@ -1,5 +1,5 @@
 -- The two indexes of an empty tree: the root's metadata, and no block.
-use Rattle.std.proofs.Common.{◌≡◌, ℕ, List, [], ◌∷◌, ◌++◌, sym, ap, refl, ◌∙◌, subst, arith, Option, Some, None}
+use Rattle.std.proofs.Common.{◌≡◌, ℕ, List, [], ◌∷◌, ◌++◌, sym, ap, refl, ◌∙◌, subst, arith, Some, None}
 use Rattle.pathkey.specs.Names.{Name, Path, IsPath}
 use Rattle.pathkey.specs.Keys.{Key, enc}
 use Rattle.reference.specs.Tree.{Dir, nothing}

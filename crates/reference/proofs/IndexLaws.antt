@@ -1,5 +1,5 @@
 -- Which changes of two indexes mean which call: both halves, and the tree after the call.
-use Rattle.std.proofs.Common.{◌≡◌, ◌≤◌, ℕ, List, [], ◌∷◌, length, Bool, true, false, cond, sym, ap, refl, subst, arith, Option, Some, None}
+use Rattle.std.proofs.Common.{◌≡◌, ◌≤◌, ℕ, List, [], ◌∷◌, length, true, false, cond, sym, ap, refl, subst, arith, Option, Some, None}
 use Rattle.pathkey.specs.Names.{EachName, IsPath, text_len}
 use Rattle.pathkey.specs.Keys.{enc, subtree, blocks_from}
 use Rattle.reference.specs.Tree.{Path, Tree, touched, all_touched}

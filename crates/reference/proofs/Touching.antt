@@ -1,5 +1,5 @@
 -- What the moments of directories add to the outcome of a call.
-use Rattle.std.proofs.Common.{◌≡◌, ℕ, List, [], ◌∷◌, true, false, cond, Bool, sym, ap, refl, ◌∙◌, subst}
+use Rattle.std.proofs.Common.{◌≡◌, ℕ, List, [], ◌∷◌, true, false, cond, Bool, sym, ap, refl, ◌∙◌}
 use Rattle.pathkey.specs.declared.errno.Errno.{Errno}
 use Rattle.reference.specs.Tree.{Path, Tree, touched, all_touched}
 use Rattle.reference.specs.Calls.{Outcome, is_done, touching, all_touching, changed, parents_of, does}

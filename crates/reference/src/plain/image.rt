@@ -80,12 +80,7 @@ fn put_file(
 }
 
 /// The line of a directory.
-fn put_directory(
-    alloc: Global,
-    out: &mut Vec<u8>,
-    text: &[u8],
-    date: u64,
-) -> Result<(), NoMemory>
+fn put_directory(alloc: Global, out: &mut Vec<u8>, text: &[u8], date: u64) -> Result<(), NoMemory>
     ensures { OnOk result (out.new.items ≡ out.old.items ++ (directory_line Second text.now date ++ 10 ∷ [])) }
 {
     out.extend_from_slice(b"D ")?;

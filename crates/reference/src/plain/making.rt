@@ -56,12 +56,7 @@ fn make(alloc: Global, tree: &Tree, path: &Path, new: Tree) -> Result<Effect, No
 }
 
 /// `mkdir` at a moment: a new empty directory.
-pub fn make_directory(
-    alloc: Global,
-    tree: &Tree,
-    path: &Path,
-    at: u64,
-) -> Result<Effect, NoMemory>
+pub fn make_directory(alloc: Global, tree: &Tree, path: &Path, at: u64) -> Result<Effect, NoMemory>
     ensures { HasEffect result (tree_of tree.now) (made (tree_of tree.now) path.now (Dir at nothing)) }
 {
     let new = Tree::directory(alloc, at, Entries::Nothing)?;
