@@ -40,7 +40,9 @@ pub fn compile(
     match call {
         Call::Mkdir(path) => making::mkdir(alloc, indexes, path, at),
         Call::Create(path) => making::create(alloc, indexes, path, at),
-        Call::Write(path, offset, bytes) => writing::write(alloc, indexes, path, *offset, bytes, at),
+        Call::Write(path, offset, bytes) => writing::write(
+            alloc, indexes, path, *offset, bytes, at,
+        ),
         Call::Truncate(path, len) => writing::truncate(alloc, indexes, path, *len, at),
         Call::Unlink(path) => removing::unlink(alloc, indexes, path, at),
         Call::Rmdir(path) => removing::rmdir(alloc, indexes, path, at),

@@ -43,10 +43,13 @@ pub(crate) fn create(
     if let Some(fault) = fault_of_new(alloc, indexes, path)? {
         return Ok(refused(alloc, fault));
     }
-    let put = Msg::Put(key.copy(alloc)?, Meta::File {
-        len: 0,
-        modified: at,
-    });
+    let put = Msg::Put(
+        key.copy(alloc)?,
+        Meta::File {
+            len: 0,
+            modified: at,
+        },
+    );
     done_in_directory(alloc, path, at, put, Vec::new(alloc))
 }
 

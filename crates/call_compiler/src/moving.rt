@@ -97,7 +97,9 @@ fn fault_of_replacing(from: At, to: At, empty: bool) -> Option<Errno>
     match (from, to) {
         (At::Found(Meta::File { .. }), At::Found(Meta::Dir { .. })) => Some(Errno::EISDIR),
         (At::Found(Meta::Dir { .. }), At::Found(Meta::File { .. })) => Some(Errno::ENOTDIR),
-        (At::Found(Meta::Dir { .. }), At::Found(Meta::Dir { .. })) if !empty => Some(Errno::ENOTEMPTY),
+        (At::Found(Meta::Dir { .. }), At::Found(Meta::Dir { .. })) if !empty => Some(
+            Errno::ENOTEMPTY,
+        ),
         _ => None,
     }
 }
