@@ -1,4 +1,4 @@
-use Rattle.std.proofs.Common.{[], ◌∷◌, ap, ◌∙◌}
+use Rattle.std.proofs.Common.{arith, [], ◌∷◌, ap, ◌∙◌}
 use Rattle.message.specs.declared.msg.Msg.TheVariants.{Put}
 use Rattle.pathkey.specs.Keys.{Key}
 use Rattle.reference.specs.declared.reply.Meta.TheVariants.{File as FileMeta}

@@ -1,4 +1,4 @@
-use Rattle.std.proofs.Common.{[], ◌∷◌, ap, ◌∙◌}
+use Rattle.std.proofs.Common.{arith, [], ◌∷◌, ap, ◌∙◌}
 use Rattle.message.specs.declared.msg.Msg.TheVariants.{Del}
 use Rattle.pathkey.specs.Keys.{Key}
 use Rattle.call_compiler.specs.Compiled.{messages, touches}

@@ -1,4 +1,4 @@
-use Rattle.std.proofs.Common.{List, ℕ, [], ◌∷◌, ◌++◌, ap, ◌∙◌}
+use Rattle.std.proofs.Common.{arith, List, ℕ, [], ◌∷◌, ◌++◌, ap, ◌∙◌}
 use Rattle.block_index.specs.declared.update.BlockUpdate.{BlockUpdate}
 use Rattle.message.specs.declared.msg.Msg.{Msg}
 use Rattle.message.specs.declared.msg.Msg.TheVariants.{DelRange}

@@ -1,4 +1,4 @@
-use Rattle.std.proofs.Common.{[], ◌∷◌, refl, ap, ◌∙◌}
+use Rattle.std.proofs.Common.{arith, [], ◌∷◌, refl, ap, ◌∙◌}
 use Rattle.message.specs.declared.msg.Msg.TheVariants.{Edit}
 use Rattle.meta_index.specs.declared.update.MetaUpdate.TheVariants.{SetLen}
 use Rattle.pathkey.specs.Keys.{Key}

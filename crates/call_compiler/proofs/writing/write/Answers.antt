@@ -1,4 +1,4 @@
-use Rattle.std.proofs.Common.{◌≡◌, List, ℕ, ◌+◌, [], ◌∷◌, length, subst, sym, ap, ◌∙◌}
+use Rattle.std.proofs.Common.{arith, ◌≡◌, List, ℕ, ◌+◌, [], ◌∷◌, length, subst, sym, ap, ◌∙◌}
 use Rattle.std.specs.Prelude.{nat_le}
 use Rattle.block_index.specs.Changed.{Changes}
 use Rattle.block_index.specs.declared.update.BlockUpdate.{BlockUpdate}
