@@ -318,13 +318,13 @@ module _ (i : Indexes) (o n : Path) (at : ℕ) (reply : Reply) (msgs : Messages)
             where
               counted : length ((map (put_under {U = MetaUpdate} o n) es ++ DelRange (subtree o) ∷ []) ++ touches at (parents_of (Rename o n))) + length (gone ++ map (put_under {U = BlockUpdate} {V = List ℕ} o n) bs ++ DelRange (subtree o) ∷ []) ≤ length es + length bs + 3 + length (parents_of (Rename o n))
               counted = omega (
-                  arith,
-                  length-append (map (put_under {U = MetaUpdate} {V = Meta} o n) es ++ DelRange (subtree o) ∷ []) (touches at (parents_of (Rename o n))),
-                  length-touches at (parents_of (Rename o n)),
-                  length-append (map (put_under {U = MetaUpdate} {V = Meta} o n) es) (DelRange (subtree o) ∷ []),
-                  length-append (gone ++ map (put_under o n) bs) (DelRange (subtree o) ∷ []),
-                  length-append gone (map (put_under o n) bs),
-                  length-map es (put_under {U = MetaUpdate} {V = Meta} o n),
-                  length-map bs (put_under {U = BlockUpdate} {V = List ℕ} o n),
-                  few,
+                arith,
+                length-append (map (put_under {U = MetaUpdate} {V = Meta} o n) es ++ DelRange (subtree o) ∷ []) (touches at (parents_of (Rename o n))),
+                length-touches at (parents_of (Rename o n)),
+                length-append (map (put_under {U = MetaUpdate} {V = Meta} o n) es) (DelRange (subtree o) ∷ []),
+                length-append (gone ++ map (put_under o n) bs) (DelRange (subtree o) ∷ []),
+                length-append gone (map (put_under o n) bs),
+                length-map es (put_under {U = MetaUpdate} {V = Meta} o n),
+                length-map bs (put_under {U = BlockUpdate} {V = List ℕ} o n),
+                few,
               )
