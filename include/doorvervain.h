@@ -94,6 +94,9 @@ uint8_t doorvervain_raw_frozen_read(struct doorvervain_frozen *tree, const uint8
     uint64_t offset, uint8_t *out, size_t room, size_t *got);
 uint8_t doorvervain_raw_frozen_stat(
     struct doorvervain_frozen *tree, const uint8_t *path, size_t length, uint8_t *kind, uint64_t *size);
+uint8_t doorvervain_raw_load(uint16_t fanout, uint16_t pending, uint16_t leaf, const uint8_t *text, size_t length,
+    uint64_t *line, struct doorvervain *out);
+uint8_t doorvervain_raw_image(struct doorvervain_frozen *tree, uint8_t *out, size_t room, size_t *size);
 uint8_t doorvervain_raw_frozen_readdir(
     struct doorvervain_frozen *tree, const uint8_t *path, size_t length, uint8_t *out, size_t room, size_t *size);
 void doorvervain_raw_thaw(struct doorvervain_frozen tree);
@@ -154,6 +157,17 @@ static inline uint8_t doorvervain_open(struct doorvervain *fs, uint16_t fanout, 
     if (!fs) return DOORVERVAIN_NULL;
     fs->at = NULL;
     return doorvervain_raw_open(fanout, pending, leaf, fs);
+}
+
+// Makes a volume of an image: text that doorvervain_image or `betr --image` wrote. The shape is as doorvervain_open has it.
+// EINVAL: no such shape, and `line` is 0; or no image, and `line` is the first line with which it is none. ENOMEM. Where it
+// is refused, the volume is closed. What `fs` held before is not freed.
+static inline uint8_t doorvervain_load(struct doorvervain *fs, uint16_t fanout, uint16_t pending, uint16_t leaf,
+    const uint8_t *text, size_t length, uint64_t *line) {
+    if (!fs || !line || (!text && length)) return DOORVERVAIN_NULL;
+    fs->at = NULL;
+    *line = 0;
+    return doorvervain_raw_load(fanout, pending, leaf, doorvervain_from(text), length, line, fs);
 }
 
 // Frees the volume with its snapshots, and closes it. Frozen trees stay. It does nothing to a volume that is
@@ -338,6 +352,15 @@ static inline uint8_t doorvervain_frozen_readdir(
     return lacks ? lacks
                  : doorvervain_raw_frozen_readdir(
                        tree, doorvervain_from(path), length, doorvervain_into(out), room, size);
+}
+
+// Writes the image of a frozen tree: text that doorvervain_load takes. `size` is how many bytes it has. They are written
+// where the buffer has room for all of them, and else it stays as it was: ask with no room first. ENOMEM.
+static inline uint8_t doorvervain_image(struct doorvervain_frozen *tree, uint8_t *out, size_t room, size_t *size) {
+    if (!size) return DOORVERVAIN_NULL;
+    *size = 0;
+    uint8_t lacks = doorvervain_frozen_lacks(tree, out, room);
+    return lacks ? lacks : doorvervain_raw_image(tree, doorvervain_into(out), room, size);
 }
 
 // Frees the frozen tree, and closes it. It does nothing to a tree that is closed.

@@ -202,6 +202,25 @@ static void refused_memory(struct doorvervain *one) {
 }
 #endif
 
+// An image is loaded, and the volume then has that image. A text that is none is told by its line.
+static void images(void) {
+    static const char text[] = "d /\nd /a\nf /a/f 3\nb 0 616263\n";
+    struct doorvervain fs = {0};
+    struct doorvervain_frozen tree = {0};
+    uint64_t line = 0;
+    size_t size = 0;
+    say("load", doorvervain_load(&fs, 16, 256, 64, bytes_of(text), strlen(text), &line));
+    say_read("read", &fs, "/a/f", 0, ROOM);
+    say("freeze", doorvervain_freeze(&fs, &tree));
+    uint8_t number = doorvervain_image(&tree, buffer, ROOM, &size);
+    int is_same = size == strlen(text) && memcmp(buffer, text, size) == 0;
+    printf("image: %d, %s\n", number, is_same ? "the same" : "another one");
+    doorvervain_thaw(&tree);
+    doorvervain_close(&fs);
+    say("load of no image", doorvervain_load(&fs, 16, 256, 64, bytes_of("d /\nx\n"), 6, &line));
+    printf("at line %d\n", (int)line);
+}
+
 int main(void) {
     struct doorvervain one = {0}, other = {0};
     say("open one", doorvervain_open(&one, 16, 256, 64));
@@ -211,6 +230,7 @@ int main(void) {
     refusals(&one);
     moments(&one, &other);
     refused_memory(&one);
+    images();
     many(&other);
     doorvervain_close(&one);
     say_read("read of the other, alone", &other, "/long", 0, ROOM);

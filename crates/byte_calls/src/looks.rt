@@ -125,7 +125,7 @@ fn readdir_at(alloc: Global, tree: &Frozen, path: &Path, out: &mut [u8]) -> Resu
 }
 
 // Lays bytes over the front of a buffer.
-fn lay(bytes: &[u8], out: &mut [u8])
+pub(crate) fn lay(bytes: &[u8], out: &mut [u8])
     requires { length bytes.now ≤ length out.old }
     ensures { out.new ≡ bytes.now ++ drop (length bytes.now) out.old }
 {

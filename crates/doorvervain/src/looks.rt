@@ -1,6 +1,10 @@
 //! Exports of the calls that only look: the volume, or the tree, is as it was.
 ghost use Rattle.std.specs.Prelude.{◌≡◌, IfErr};
+ghost use Rattle.byte_calls.specs.Images.{Prints};
 ghost use Rattle.byte_calls.specs.Looks.{Fills};
+ghost use Rattle.call_compiler.specs.Compiled.{MeanTree};
+ghost use Rattle.reference.specs.Image.{image};
+ghost use Rattle.reference.specs.Tree.{Tree};
 ghost use Rattle.doorvervain.specs.Looks.{ListsAt, ReadsAt, StatsAt};
 ghost use Rattle.doorvervain.specs.Numbers.{meta_told, told_by};
 
@@ -119,4 +123,19 @@ pub extern "C" fn doorvervain_raw_frozen_readdir(
         byte_calls::frozen_readdir(alloc, tree.tree(), path, out),
         size,
     )
+}
+
+/// The image of a frozen tree. How many bytes it has goes to `size`; they are written where the buffer has room for all of
+/// them.
+#[unsafe(no_mangle)]
+pub extern "C" fn doorvervain_raw_image(
+    alloc: Global,
+    tree: &mut FrozenHandle,
+    out: &mut [u8],
+    size: &mut usize,
+) -> u8
+    ensures image { (t : Tree) → MeanTree tree.old.tree t → Prints (image t) (told_by result size.new) out.old out.new }
+    ensures kept { tree.new.tree ≡ tree.old.tree }
+{
+    count(byte_calls::print(alloc, tree.tree(), out), size)
 }

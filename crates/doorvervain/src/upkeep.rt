@@ -4,6 +4,7 @@ ghost use Rattle.pathkey.specs.declared.errno.Errno.TheVariants.{EINVAL, ENOMEM}
 ghost use Rattle.std.specs.Prelude.{◌≡◌, ◌≤◌, ◌<◌, ◌↔◌, ◌⊎◌, false, Err, IfErr, IfOk, Some};
 ghost use Rattle.node.specs.Shapes.{is_shape};
 ghost use Rattle.reference.specs.Worlds.{World};
+ghost use Rattle.shell.specs.Loads.{Loaded};
 ghost use Rattle.volume.specs.Volumes.{IsNew, Means};
 ghost use Rattle.byte_calls.specs.Upkeep.{IsIdle, Relieves};
 ghost use Rattle.doorvervain.specs.Handed.{FindsHanded, Given, Hands, HandsOut, NoShape};
@@ -17,6 +18,7 @@ use crate::parts::Parts;
 use crate::place::Place;
 use node::Shape;
 use pathkey::Errno;
+use shell::LoadFault;
 use std::alloc::Global;
 use volume::{Frozen, Volume};
 
@@ -40,6 +42,30 @@ pub extern "C" fn doorvervain_raw_open(
         leaf,
     };
     number(open(alloc, shape, out))
+}
+
+/// Makes a volume with the tree whose image the text is, without snapshots, in trees of this shape, and puts its handle at
+/// `out`: 0, or EINVAL, or ENOMEM. The number of the first line with which the text is no image goes to `line`; 0 where
+/// it is the shape that is not ok.
+#[unsafe(no_mangle)]
+pub extern "C" fn doorvervain_raw_load(
+    alloc: Global,
+    fanout: u16,
+    pending: u16,
+    leaf: u16,
+    text: &[u8],
+    line: &mut u64,
+    out: &mut Place,
+) -> u8
+    ensures loaded { IfOk (told result) (λ _. Given (Loaded text.now) out.new.given) }
+    ensures refused { IfErr (told result) (λ e. (e ≡ EINVAL) ⊎ (e ≡ ENOMEM)) }
+{
+    let shape = Shape {
+        fanout,
+        pending,
+        leaf,
+    };
+    number(load(alloc, shape, text, line, out))
 }
 
 /// Ends a handle, and frees its volume.
@@ -101,6 +127,40 @@ fn open(alloc: Global, shape: Shape, out: &mut Place) -> Result<(), Errno>
 {
     let volume = Volume::new(alloc, shape)?;
     hand_out(alloc, volume, out)
+}
+
+// Loads an image, and puts the handle of its volume at `out`.
+fn load(
+    alloc: Global,
+    shape: Shape,
+    text: &[u8],
+    line: &mut u64,
+    out: &mut Place,
+) -> Result<(), Errno>
+    ensures loaded { IfOk result (λ _. Given (Loaded text.now) out.new.given) }
+    ensures refused { IfErr result (λ e. (e ≡ EINVAL) ⊎ (e ≡ ENOMEM)) }
+{
+    match byte_calls::load(alloc, shape, text) {
+        Ok(volume) => hand_out(alloc, volume, out),
+        Err(fault) => Err(load_fault(fault, line)),
+    }
+}
+
+// Why an image was not loaded, and the number of the line with which it is none.
+fn load_fault(fault: LoadFault, line: &mut u64) -> Errno
+    ensures { (result ≡ EINVAL) ⊎ (result ≡ ENOMEM) }
+{
+    match fault {
+        LoadFault::Memory => Errno::ENOMEM,
+        LoadFault::Shape | LoadFault::Read => {
+            *line = 0;
+            Errno::EINVAL
+        }
+        LoadFault::Bad(number) => {
+            *line = number;
+            Errno::EINVAL
+        }
+    }
 }
 
 // Puts a volume on the heap, and its handle at `out`.
