@@ -7,7 +7,7 @@ ghost use Rattle.std.specs.List.{list_any};
 use message::{Msg, Update};
 use node::Tree;
 use pathkey::{NoMemory, Path, rekey, subtree};
-use scan::first_in;
+use scan::piecewise::Pieces;
 use std::alloc::Global;
 
 /// The greatest length of a path's text, in bytes, and of its key.
@@ -16,7 +16,7 @@ const LONGEST_TEXT: usize = 1_023;
 /// The messages, and behind them one `Put` for each pair at or below `old`, in key order, under the key that it has when `old` is
 /// moved to `new`.
 ///
-/// It takes one pair after the other from the tree, and holds no list of them beside the messages. A value is shared where its
+/// It takes the pairs from the tree piece by piece, and holds no list of all of them beside the messages. A value is shared where its
 /// copies share (`Update::copy_value`), so that a block's bytes are not copied.
 pub(crate) fn put_moved<U: Update>(
     alloc: Global,
@@ -29,7 +29,8 @@ pub(crate) fn put_moved<U: Update>(
 {
     let mut msgs = first;
     let mut rest = subtree(alloc, old)?;
-    'pairs: while let Some((key, value)) = first_in(alloc, tree, &rest)? {
+    let mut pieces = Pieces::new(alloc);
+    'pairs: while let Some((key, value)) = pieces.first(alloc, tree, &rest)? {
         let Some(moved) = rekey(alloc, &key, old, new)? else {
             return Ok(msgs);
         };

@@ -1,5 +1,6 @@
 //! What lies below a path: the range of its keys, and the entry of a directory that a key names.
-ghost use Rattle.std.specs.Prelude.{◌≡◌, IfOk};
+ghost use Rattle.std.specs.Prelude.{◌≡◌, IfOk, IfSome, true};
+ghost use Rattle.message.specs.Ranges.{before};
 ghost use Rattle.meta_index.specs.Below.{below, kind_told};
 ghost use Rattle.meta_index.specs.Children.{IsChildAt};
 ghost use Rattle.pathkey.specs.Names.{IsPath};
@@ -29,7 +30,8 @@ pub(crate) struct Child {
 
 /// The entry whose path has this key; none for the root. Of a key that no path has nothing is promised.
 pub(crate) fn child_at(alloc: Global, key: &Key) -> Result<Option<Child>, NoMemory>
-    ensures { IfOk result (λ r. IsChildAt key.now r) }
+    ensures entry { IfOk result (λ r. IsChildAt key.now r) }
+    ensures behind { IfOk result (λ r. IfSome r (λ child. before key.now child.end ≡ true)) }
 {
     let Some(path) = dec(alloc, key)? else {
         return Ok(None);

@@ -17,6 +17,7 @@ use message::Msg;
 use node::{Shape, Tree};
 use pathkey::{Errno, Key, NoMemory, Path, subtree};
 use reference::{Kind, Meta};
+use scan::piecewise::Pieces;
 use scan::{first_in, scan};
 use std::alloc::Global;
 
@@ -120,7 +121,8 @@ impl MetaIndex {
         self.children_counted(alloc, path, &mut steps)
     }
 
-    /// Likewise, and leaves in `steps` how often it asked the tree for a first pair: once for each entry, and once more.
+    /// Likewise, and leaves in `steps` how often it asked for a first pair: once for each entry, and once more. The tree itself
+    /// it asks no more often, since the pairs come from it in pieces.
     pub fn children_counted(
         &self,
         alloc: Global,
@@ -132,8 +134,9 @@ impl MetaIndex {
     {
         let mut entries = Vec::new(alloc);
         let mut rest = keys_below(alloc, path)?;
+        let mut pieces = Pieces::new(alloc);
         *steps = 1;
-        'entries: while let Some((key, meta)) = first_in(alloc, &self.tree, &rest)? {
+        'entries: while let Some((key, meta)) = pieces.first(alloc, &self.tree, &rest)? {
             let Some(child) = child_at(alloc, &key)? else {
                 return Ok(entries);
             };

@@ -23,7 +23,7 @@ module _ {V : Type 0} (es : List (List ℕ × V)) (lo : List ℕ) (i : ℕ) (c :
       lookup-drop k es 0 (λ j d a b. unlike_earlier (get_or es j d).0 k (lt_le (get_or es j d).0 lo k (c.earlier j d (omega (arith, l, b))) p.0))
 
   module _ (e : List ℕ × V) (rises : Rises [] None es) (bound : i < length es) (at : e ≡ get_or es i e) where
-    key_at : (d : List ℕ × V) → (get_or es i d).0 ≡ e.0
+    pub key_at : (d : List ℕ × V) → (get_or es i d).0 ≡ e.0
     key_at d = ap (λ (x : List ℕ × V). x.0) (get_or_default es i d e bound ∙ sym at)
 
     -- the entry and those behind it stand at its key or behind it
@@ -51,7 +51,7 @@ module _ {V : Type 0} (es : List (List ℕ × V)) (lo : List ℕ) (i : ℕ) (c :
         t)
         (cases_order j i))
 
-    its_count : IsCount es (Some e.0) i
+    pub its_count : IsCount es (Some e.0) i
     its_count = record {
       bound = c.bound;
       earlier = λ j d h. lt_le (get_or es j d).0 lo e.0 (c.earlier j d h) reached;

@@ -2,7 +2,11 @@ pub mod Firsts
 pub mod OnStretches
 pub mod Ahead
 pub mod SlotRange
+pub mod Pieces
+pub mod Joins
+pub mod Parts
+pub mod AtHand
 pub mod Searching
 pub mod LeafFirst
-pub mod Parts
-pub mod Pieces
+pub mod LeafWalk
+pub mod SlotWalk

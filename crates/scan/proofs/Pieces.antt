@@ -13,14 +13,14 @@ use Rattle.scan.specs.Pairs.{IsRising, IsScan, EndsAt, HasAll}
 use Rattle.message.proofs.NextKey.{in_range, before-next, reaches-next}
 
 -- two lists, where each element of the one is as R says to each of the other
-pairs_append : {X : Type 0} (R : X → X → Type 0) (xs ys : List X) → AllPairs R xs → AllPairs R ys → All (λ x. All (R x) ys) xs → AllPairs R (xs ++ ys)
+pub pairs_append : {X : Type 0} (R : X → X → Type 0) (xs ys : List X) → AllPairs R xs → AllPairs R ys → All (λ x. All (R x) ys) xs → AllPairs R (xs ++ ys)
 pairs_append R [] ys a b c = b
 pairs_append R (x ∷ xs) ys a b c = AllPairs-cons R x (xs ++ ys)
     (All-append (R x) xs ys (λ j d l. a 0 (suc j) d (omega arith) (omega arith)) (c 0 x (omega arith)))
     (pairs_append R xs ys (λ i j d l m. a (suc i) (suc j) d (omega arith) (omega arith)) b (λ i d l. c (suc i) d (omega arith)))
 
 -- what holds of all elements holds of one of them
-of_one : {X : Type 0} (P : X → Type 0) (xs : List X) (x : X) → All P xs → Contains xs x → P x
+pub of_one : {X : Type 0} (P : X → Type 0) (xs : List X) (x : X) → All P xs → Contains xs x → P x
 of_one P xs x h c = subst P c.2 (h c.0 x c.1)
 
 module _ {V : Type 0} where

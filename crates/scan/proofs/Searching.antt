@@ -1,20 +1,20 @@
 -- A search of an inner node, stretch by stretch.
-use Rattle.std.proofs.Common.{◌≡◌, ℕ, ◌<◌, ◌⊎◌, ⊎_elim, Bool, true, List, [], ◌∷◌, length, get_or, refl, ap, sym, ◌∙◌, subst, Option, Some, None, arith}
+use Rattle.std.proofs.Common.{◌≡◌, ℕ, ◌<◌, ◌⊎◌, ⊎_elim, true, List, [], ◌∷◌, length, get_or, refl, ap, sym, ◌∙◌, subst, Option, Some, None, arith}
 use Rattle.std.specs.Prelude.{Contains, IfSome}
 use Rattle.pathkey.specs.Keys.{is_below}
-use Rattle.message.specs.Ranges.{reaches, earlier_end}
+use Rattle.message.specs.Ranges.{reaches, within, earlier_end}
 use Rattle.message.proofs.KeyOrder.{both, le_le, reaches-from_before}
-use Rattle.message.specs.declared.msg.Msg.{Msg}
 use Rattle.node.specs.declared.node.Slot.{Slot}
 use Rattle.node.specs.See.{seen_slots}
 use Rattle.node.specs.Pure.{PNode, inner}
 use Rattle.node.specs.Meaning.{slot_number, value}
 use Rattle.node.specs.Site.{end_of}
-use Rattle.scan.specs.Pairs.{HasNone, IsFirst}
+use Rattle.scan.specs.Pairs.{HasNone, IsFirst, AddsScan}
 use Rattle.message.specs.Stretches.{all_ends, IsStretch}
 use Rattle.scan.specs.Stretches.{slot_value}
 use Rattle.message.proofs.NextKey.{in_range}
 use Rattle.scan.proofs.Firsts.{none_start, none_join, first_join, first_along}
+use Rattle.scan.proofs.Joins.{HasWalked, walk_on, walk_end, adds_moved}
 use Rattle.message.proofs.StretchEnds.{below_both, below_earlier}
 use Rattle.scan.proofs.Ahead.{ahead, ahead_falls, search_ends, range_end_is, slot_end_is, message_end, pivot_end, earlier_is}
 use Rattle.scan.proofs.SlotRange.{number_inside, value_in_slot}
@@ -30,19 +30,18 @@ module _ {U V : Type 0} (means : U → Option V → Option V) where
   at_start n lo from e r = subst (λ (k : List ℕ). HasPassed n lo k) (sym e) (record { reached = r; none = none_start (value means n) lo })
 
   -- the search stands at `from` in slot i, which is s, and its stretch goes up to `stop`
-  pub record IsAt (items : List (Slot U V)) (n : PNode U V) (lo : List ℕ) (hi : Option (List ℕ)) (from : List ℕ) (i : ℕ) (s : Slot U V) (stop : Option (List ℕ)) : Type 0 where
+  pub record IsAt (items : List (Slot U V)) (n : PNode U V) (hi : Option (List ℕ)) (from : List ℕ) (i : ℕ) (s : Slot U V) (stop : Option (List ℕ)) : Type 0 where
     pub seen : inner (seen_slots items) ≡ n
     pub bound : i < length items
     pub number : i ≡ slot_number (seen_slots items) from
     pub slot : s ≡ get_or items i s
-    pub passed : HasPassed n lo from
     pub after : is_below from stop ≡ true
     pub inside : (k : List ℕ) → is_below k stop ≡ true → is_below k (earlier_end hi (end_of None (seen_slots items) i)) ≡ true
     pub an_end : IfSome stop (λ d. (earlier_end hi (end_of None (seen_slots items) i) ≡ Some d) ⊎ Contains (all_ends s.pending.0) d)
 
   -- the same in the words of the code: xs and ys are the slots, and `end` is where its stretches end
-  pub stands_at : (items xs ys : List (Slot U V)) (n : PNode U V) (lo : List ℕ) (hi : Option (List ℕ)) (from : List ℕ) (i : ℕ) (s : Slot U V) (end stop : Option (List ℕ)) → xs ≡ items → ys ≡ items → inner (seen_slots items) ≡ n → i < length xs → i ≡ slot_number (seen_slots xs) from → s ≡ get_or items i s → HasPassed n lo from → end ≡ earlier_end hi (end_of None (seen_slots ys) i) → IsStretch s.pending.0 from end stop → IsAt items n lo hi from i s stop
-  stands_at items xs ys n lo hi from i s end stop ex ey seen b number slot passed ee h =
+  pub stands_at : (items xs ys : List (Slot U V)) (n : PNode U V) (hi : Option (List ℕ)) (from : List ℕ) (i : ℕ) (s : Slot U V) (end stop : Option (List ℕ)) → xs ≡ items → ys ≡ items → inner (seen_slots items) ≡ n → i < length xs → i ≡ slot_number (seen_slots xs) from → s ≡ get_or items i s → end ≡ earlier_end hi (end_of None (seen_slots ys) i) → IsStretch s.pending.0 from end stop → IsAt items n hi from i s stop
+  stands_at items xs ys n hi from i s end stop ex ey seen b number slot ee h =
       let ends : Option (List ℕ) = earlier_end hi (end_of None (seen_slots items) i) in
       let same : end ≡ ends = ee ∙ ap (λ (zs : List (Slot U V)). earlier_end hi (end_of None (seen_slots zs) i)) ey in
       let stretch : IsStretch s.pending.0 from ends stop = subst (λ e. IsStretch s.pending.0 from e stop) same h in
@@ -51,7 +50,6 @@ module _ {U V : Type 0} (means : U → Option V → Option V) where
         bound = subst (λ (zs : List (Slot U V)). i < length zs) ex b;
         number = number ∙ ap (λ (zs : List (Slot U V)). slot_number (seen_slots zs) from) ex;
         slot = slot;
-        passed = passed;
         after = stretch.after;
         inside = stretch.inside;
         an_end = stretch.an_end;
@@ -63,34 +61,54 @@ module _ {U V : Type 0} (means : U → Option V → Option V) where
       let e : i ≡ slot_number (seen_slots items) from = number ∙ ap (λ (zs : List (Slot U V)). slot_number (seen_slots zs) from) ex in
       ap (is_below from) (ee ∙ ap (λ (zs : List (Slot U V)). earlier_end hi (end_of None (seen_slots zs) i)) ey) ∙ below_earlier hi (end_of None (seen_slots items) i) from h (subst (λ j. is_below from (end_of None (seen_slots items) j) ≡ true) (sym e) (number_inside (seen_slots items) from))
 
-  module _ (items : List (Slot U V)) (n : PNode U V) (lo : List ℕ) (hi : Option (List ℕ)) (from : List ℕ) (i : ℕ) (s : Slot U V) (stop : Option (List ℕ)) (x : IsAt items n lo hi from i s stop) where
-    below_ends : (k : List ℕ) → is_below k stop ≡ true → (is_below k hi ≡ true) × (is_below k (end_of None (seen_slots items) i) ≡ true)
+  module _ (items : List (Slot U V)) (n : PNode U V) (hi : Option (List ℕ)) (from : List ℕ) (i : ℕ) (s : Slot U V) (stop : Option (List ℕ)) (x : IsAt items n hi from i s stop) where
+    pub below_ends : (k : List ℕ) → is_below k stop ≡ true → (is_below k hi ≡ true) × (is_below k (end_of None (seen_slots items) i) ≡ true)
     below_ends k h = below_both hi (end_of None (seen_slots items) i) k (x.inside k h)
 
-    -- the first pair of the slot on the stretch is that of the node
-    first_of_node : (r : Option (List ℕ × V)) → IsFirst (slot_value means s) from stop r → IsFirst (value means n) from stop r
-    first_of_node r h = first_along (value means n) (slot_value means s) from stop r (λ k w.
+    -- the node's value on the stretch is the slot's
+    pub value_there : (k : List ℕ) → within from stop k ≡ true → value means n k ≡ slot_value means s k
+    value_there k w =
         let p = both (reaches from k) (is_below k stop) w in
-        ap (λ (m : PNode U V). value means m k) (sym x.seen) ∙ value_in_slot means items i s from k (let b = x.bound in omega (arith, b)) x.number x.slot p.0 (below_ends k p.1).1) h
+        ap (λ (m : PNode U V). value means m k) (sym x.seen) ∙ value_in_slot means items i s from k (let b = x.bound in omega (arith, b)) x.number x.slot p.0 (below_ends k p.1).1
+
+    -- and so is the first pair
+    first_of_node : (r : Option (List ℕ × V)) → IsFirst (slot_value means s) from stop r → IsFirst (value means n) from stop r
+    first_of_node r h = first_along (value means n) (slot_value means s) from stop r value_there h
 
     -- it has a pair there
-    pub found : (p : List ℕ × V) → IsFirst (slot_value means s) from stop (Some p) → IsFirst (value means n) lo hi (Some p)
-    found p h = first_join (value means n) lo from hi stop p x.passed.none x.passed.reached (λ k b. (below_ends k b).0) (first_of_node (Some p) h)
+    pub found : (lo : List ℕ) → HasPassed n lo from → (p : List ℕ × V) → IsFirst (slot_value means s) from stop (Some p) → IsFirst (value means n) lo hi (Some p)
+    found lo passed p h = first_join (value means n) lo from hi stop p passed.none passed.reached (λ k b. (below_ends k b).0) (first_of_node (Some p) h)
 
     -- it has none, and the stretch has no end
-    pub no_more : stop ≡ None → IsFirst (slot_value means s) from stop None → HasNone (value means n) lo hi
-    no_more e h k w =
+    pub no_more : (lo : List ℕ) → HasPassed n lo from → stop ≡ None → IsFirst (slot_value means s) from stop None → HasNone (value means n) lo hi
+    no_more lo passed e h k w =
         let p = both (reaches lo k) (is_below k hi) w in
-        none_join (value means n) lo from None x.passed.none (subst (λ o. HasNone (value means n) from o) e (first_of_node None h)) k (in_range lo k None p.0 refl)
+        none_join (value means n) lo from None passed.none (subst (λ o. HasNone (value means n) from o) e (first_of_node None h)) k (in_range lo k None p.0 refl)
 
     -- it has none, and the search goes on where the stretch ends
-    pub goes_on : (next : List ℕ) → stop ≡ Some next → IsFirst (slot_value means s) from stop None → HasPassed n lo next
-    goes_on next e h =
+    pub goes_on : (lo : List ℕ) → HasPassed n lo from → (next : List ℕ) → stop ≡ Some next → IsFirst (slot_value means s) from stop None → HasPassed n lo next
+    goes_on lo passed next e h =
         let after : is_below from (Some next) ≡ true = subst (λ o. is_below from o ≡ true) e x.after in
         record {
-          reached = le_le lo from next x.passed.reached (reaches-from_before from next after);
-          none = none_join (value means n) lo from (Some next) x.passed.none (subst (λ o. HasNone (value means n) from o) e (first_of_node None h));
+          reached = le_le lo from next passed.reached (reaches-from_before from next after);
+          none = none_join (value means n) lo from (Some next) passed.none (subst (λ o. HasNone (value means n) from o) e (first_of_node None h));
         }
+
+    -- a walk of the slot is one of the node, and goes on where the stretch ends
+    pub walked_on : (lo : List ℕ) (limit : ℕ) (old new newer : List (List ℕ × V)) → HasWalked (value means n) lo hi limit from old new → AddsScan (slot_value means s) from stop limit new newer → (next : List ℕ) → stop ≡ Some next → HasWalked (value means n) lo hi limit next old newer
+    walked_on lo limit old new newer walked a next e =
+        let after : is_below from (Some next) ≡ true = subst (λ o. is_below from o ≡ true) e x.after in
+        walk_on (value means n) lo hi limit from old new walked next newer (reaches-from_before from next after)
+        (λ k w. (below_ends k (subst (λ o. is_below k o ≡ true) (sym e) (both (reaches from k) (is_below k (Some next)) w).1)).0)
+        (subst (λ o. AddsScan (value means n) from o limit new newer) e (adds_moved (value means n) (slot_value means s) from stop stop limit new newer (λ k w. w) (λ k w. w) value_there a))
+
+    -- or is the rest of the range, where the stretch has no end
+    pub walked_out : (lo : List ℕ) (limit : ℕ) (old new newer : List (List ℕ × V)) → HasWalked (value means n) lo hi limit from old new → AddsScan (slot_value means s) from stop limit new newer → stop ≡ None → AddsScan (value means n) lo hi limit old newer
+    walked_out lo limit old new newer walked a e =
+        walk_end (value means n) lo hi limit from old new walked newer (adds_moved (value means n) (slot_value means s) from stop hi limit new newer
+        (λ k w. let q = both (reaches from k) (is_below k stop) w in in_range from k hi q.0 (below_ends k q.1).0)
+        (λ k w. in_range from k stop (both (reaches from k) (is_below k hi) w).0 (ap (is_below k) e))
+        value_there a)
 
     -- with fewer ends ahead
     pub fewer_ahead : (next : List ℕ) → stop ≡ Some next → ahead next (search_ends hi items) < ahead from (search_ends hi items)

@@ -1,6 +1,7 @@
 -- What the searches of a range of keys find. f is any function from keys to values, as what a tree means at each key.
-use Rattle.std.specs.Prelude.{◌≡◌, ℕ, ◌≤◌, ◌⊎◌, true, List, [], ◌∷◌, ◌++◌, Option, Some, None, length, All, AllPairs, Contains}
-use Rattle.message.specs.Ranges.{within, before}
+use Rattle.std.specs.Prelude.{◌≡◌, ℕ, ◌-◌, ◌<◌, ◌≤◌, ◌⊎◌, Bool, true, List, [], ◌∷◌, ◌++◌, Option, Some, None, length, All, AllPairs, Contains}
+use Rattle.pathkey.specs.Keys.{next_key}
+use Rattle.message.specs.Ranges.{reaches, within, before}
 
 module _ {V : Type 0} where
   -- f has no value from lo up to and without hi
@@ -24,6 +25,10 @@ module _ {V : Type 0} where
     pub rising : IsRising ps
     pub complete : (k : List ℕ) (v : V) → within lo hi k ≡ true → f k ≡ Some v → Contains ps (k, v) ⊎ ((length ps ≡ limit) × All (λ p. before p.0 k ≡ true) ps)
 
+  -- a list has become a longer one: behind its pairs stands a scan for as many as it lacked of `limit`
+  abbrev pub AddsScan : (List ℕ → Option V) → List ℕ → Option (List ℕ) → ℕ → List (List ℕ × V) → List (List ℕ × V) → Type 0
+  AddsScan f lo hi limit old new = (ps : List (List ℕ × V)) × (new ≡ old ++ ps) × IsScan f lo hi (limit - length old) ps
+
   -- the last of the pairs has the key k
   abbrev pub EndsAt : List (List ℕ × V) → List ℕ → Type 0
   EndsAt ps k = (front : List (List ℕ × V)) × (v : V) × (ps ≡ front ++ (k, v) ∷ [])
@@ -31,3 +36,12 @@ module _ {V : Type 0} where
   -- no pair that f has from lo up to and without hi is missing
   abbrev pub HasAll : (List ℕ → Option V) → List ℕ → Option (List ℕ) → List (List ℕ × V) → Type 0
   HasAll f lo hi ps = (k : List ℕ) (v : V) → within lo hi k ≡ true → f k ≡ Some v → Contains ps (k, v)
+
+  -- the pairs are a scan, up to hi, from a key on that stands at lo or before it, and where it is said of all, no pair is missing
+  abbrev pub AreAhead : (List ℕ → Option V) → List ℕ → Option (List ℕ) → Bool → List (List ℕ × V) → Type 0
+  AreAhead f lo hi all ps = (from : List ℕ) × (n : ℕ) × (reaches from lo ≡ true) × IsScan f from hi n ps × (all ≡ true → length ps < n)
+
+  -- this is the first pair from lo up to hi, if there is one, and the pairs are ahead of it
+  abbrev pub IsGiven : (List ℕ → Option V) → List ℕ → Option (List ℕ) → Option (List ℕ × V) → Bool → List (List ℕ × V) → Type 0
+  IsGiven f lo hi None all ps = HasNone f lo hi
+  IsGiven f lo hi (Some p) all ps = IsFirst f lo hi (Some p) × AreAhead f (next_key p.0) hi all ps

@@ -1,9 +1,9 @@
-//! The first entry of a range in a leaf.
-ghost use Rattle.std.specs.Prelude.{IfOk, [], None};
+//! The entries of a range in a leaf: the first, or as many as are wanted.
+ghost use Rattle.std.specs.Prelude.{IfOk, OnOk, [], None};
 ghost use Rattle.std.specs.Option.{option_copied};
 ghost use Rattle.node.specs.Lawful.{Rises};
 ghost use Rattle.node.specs.Meaning.{lookup};
-ghost use Rattle.scan.specs.Pairs.{IsFirst};
+ghost use Rattle.scan.specs.Pairs.{AddsScan, IsFirst};
 
 use message::Update;
 use message::ends::is_before_end;
@@ -31,4 +31,31 @@ pub fn first_entry<U: Update>(
     }
     let key = entry.0.copy(alloc)?;
     Ok(Some((key, U::copy_value(alloc, &entry.1)?)))
+}
+
+/// Pushes the entries from `lo` up to and without `hi`, until there are `limit` pairs.
+pub fn push_entries<U: Update>(
+    alloc: Global,
+    entries: &[(Key, U::Value)],
+    lo: &Key,
+    hi: Option<&Key>,
+    limit: usize,
+    pairs: &mut Vec<(Key, U::Value)>,
+) -> Result<(), NoMemory>
+    requires { Rises [] None entries.now }
+    ensures { OnOk result (AddsScan (lookup entries.now) lo.now (option_copied hi.entry) limit pairs.old.items pairs.new.items) }
+{
+    let start = count_before(entries, lo);
+    'entries: for i in start..entries.len() {
+        if pairs.len() >= limit {
+            return Ok(());
+        }
+        let pair = &entries[i];
+        if !is_before_end(&pair.0, hi) {
+            return Ok(());
+        }
+        let key = pair.0.copy(alloc)?;
+        pairs.push((key, U::copy_value(alloc, &pair.1)?))?;
+    }
+    Ok(())
 }

@@ -2,7 +2,8 @@
 //!
 //! A search goes from one stretch of keys to the next: up to where the next pivot stands, or the next message begins or
 //! ends, each message touches all keys or none. A stretch under a range-delete is passed at once, with all older messages
-//! for its keys, and on any other the first pair of the child decides.
+//! for its keys, and on any other the first pair of the child decides. A scan of more pairs is one walk: it descends once
+//! for all pairs of a stretch that the messages leave as they are.
 #![tactic(auto)]
 
 ghost use Rattle.std.specs.Prelude.{IfOk};
@@ -10,6 +11,7 @@ ghost use Rattle.node.specs.Meaning.{value as value_at};
 ghost use Rattle.scan.specs.Pairs.{IsFirst, IsScan};
 
 use crate::search::first;
+use crate::walk::walk;
 use message::Update;
 use node::Tree;
 use pathkey::{Key, KeyRange, NoMemory};
@@ -17,8 +19,10 @@ use std::alloc::Global;
 
 pub mod laws;
 mod leaf;
+pub mod piecewise;
 mod search;
 mod slot;
+mod walk;
 
 /// The first pair of the range; none where the range has no value.
 pub fn first_in<U: Update>(
@@ -41,13 +45,13 @@ pub fn scan<U: Update>(
     ensures { IfOk result (λ v. IsScan (value_at U.means tree.now.root) range.now.lo range.now.hi limit v.items) }
 {
     let mut pairs = Vec::new(alloc);
-    let mut from = range.lo.copy(alloc)?;
-    'pairs: while pairs.len() < limit {
-        let Some(pair) = first(alloc, tree.root(), &from, range.hi.as_ref())? else {
-            return Ok(pairs);
-        };
-        from = pair.0.next(alloc)?;
-        pairs.push(pair)?;
-    }
+    walk(
+        alloc,
+        tree.root(),
+        &range.lo,
+        range.hi.as_ref(),
+        limit,
+        &mut pairs,
+    )?;
     Ok(pairs)
 }

@@ -4,12 +4,12 @@ use Rattle.std.proofs.lemmas.List.{take_more, get_or-take, get_or-drop, get_or-a
 use Rattle.std.proofs.lemmas.Bool.{cases_lt, and_parts}
 use Rattle.pathkey.specs.Names.{Path, IsPath}
 use Rattle.std.specs.Int.{w32, to_be_bytes}
-use Rattle.pathkey.specs.Keys.{Key, block_key, blocks_from, enc}
+use Rattle.pathkey.specs.Keys.{Key, block_key, blocks_from, enc, is_below, next_key}
 use Rattle.pathkey.proofs.KeyFacts.{block_in_blocks, block_in_blocks_from, block_key_injective}
 use Rattle.message.specs.Ranges.{before, reaches, within}
-use Rattle.message.proofs.KeyOrder.{reaches-from_not_before}
+use Rattle.message.proofs.KeyOrder.{le_le, reaches-refl, reaches-from_before, reaches-from_not_before, not_before_from_reaches}
 use Rattle.scan.specs.Pairs.{HasNone, IsFirst}
-use Rattle.message.proofs.NextKey.{by_bool, in_range, one_key}
+use Rattle.message.proofs.NextKey.{by_bool, in_range, one_key, reaches-next}
 use Rattle.pathkey.specs.declared.range.KeyRange.{KeyRange}
 use Rattle.reference.specs.Tree.{Tree, File, Found, entry_at}
 use Rattle.reference.specs.Shape.{IsTree}
@@ -19,6 +19,7 @@ use Rattle.reference.specs.Image.{block_line, block_lines, trimmed}
 use Rattle.reference.proofs.FileBlocks.{byte-held}
 use Rattle.reference.proofs.ImageBytes.{keep, trimmed_is}
 use Rattle.std.specs.Io.KnownBytes.{Appends}
+use Rattle.shell.specs.Image.{BeginsAt}
 use Rattle.shell.specs.Parts.{AppendsPart}
 use Rattle.shell.specs.Replies.{hex_text}
 use Rattle.std.specs.Prelude.{◌==◌, codes, decimal}
@@ -217,6 +218,60 @@ module _ (t : Tree) (d : Blocks) (p : Path) (b : List ℕ) (is_path : IsPath p) 
           omega arith)) in
           h.2 (block_key p l) (in_range (blocks_from p i).lo (block_key p l) (Some k) low less)
 
+-- ---- behind a block
+
+high_key : (p : Path) (i j : ℕ) → (blocks_from p i).hi ≡ (blocks_from p j).hi
+unfolding blocks_from
+high_key p i j = refl
+
+module _ (t : Tree) (d : Blocks) (p : Path) (is_path : IsPath p) (means : BlocksMean t d) (n : ℕ) (few : n < most_blocks) where
+  -- the next block's key stands behind
+  rises : before (block_key p n) (block_key p (n + 1)) ≡ true
+  rises =
+      let near : reaches (block_key p n) (block_key p (n + 1)) ≡ true = subst (λ (z : Key). reaches z (block_key p (n + 1)) ≡ true) (low_key p n) (and_parts _ _ (block_in_blocks_from p p n (n + 1) (omega arith) (omega arith) (refl, omega arith))).0 in
+      by_bool (before (block_key p n) (block_key p (n + 1))) (before (block_key p n) (block_key p (n + 1)) ≡ true) (λ s. s) (λ s. absurd (
+      let back : reaches (block_key p (n + 1)) (block_key p n) ≡ true = reaches-from_not_before (block_key p n) (block_key p (n + 1)) s in
+      let one : (p ≡ p) × (n ≡ n + 1) = block_key_injective p p n (n + 1) is_path.names is_path.names (omega arith) (omega arith) (one_key (block_key p n) (block_key p (n + 1)) near back) in
+      let same : n ≡ n + 1 = one.1 in
+      omega arith))
+
+  -- so that the key right behind the block's stands at it or before it
+  passes : reaches (next_key (block_key p n)) (blocks_from p (n + 1)).lo ≡ true
+  passes = subst (λ (z : Key). reaches (next_key (block_key p n)) z ≡ true) (sym (low_key p (n + 1))) (reaches-next (block_key p n) (block_key p (n + 1)) ∙ rises)
+
+  -- and no block stands between
+  lands : (k : Key) (v : List ℕ) → within (next_key (block_key p n)) (blocks_from p n).hi k ≡ true → d k ≡ Some v → within (blocks_from p (n + 1)).lo (blocks_from p (n + 1)).hi k ≡ true
+  lands k v w e =
+      let of : BlockOf t k = means.only_blocks k v e in
+      let lf : of.index < most_blocks = of.few in
+      let q : (reaches (next_key (block_key p n)) k ≡ true) × (is_below k (blocks_from p n).hi ≡ true) = and_parts _ _ w in
+      let after : before (block_key p n) k ≡ true = sym (reaches-next (block_key p n) k) ∙ q.0 in
+      let low : reaches (blocks_from p n).lo k ≡ true = subst (λ (z : Key). reaches z k ≡ true) (sym (low_key p n)) (reaches-from_before (block_key p n) k after) in
+      let at : (of.path ≡ p) × (n ≤ of.index) = block_in_blocks p of.path n of.index is_path.names of.is_path.names (omega arith) (omega arith) (subst (λ (j : Key). within (blocks_from p n).lo (blocks_from p n).hi j ≡ true) of.key (in_range (blocks_from p n).lo k (blocks_from p n).hi low q.1)) in
+      let key : k ≡ block_key p of.index = of.key ∙ ap (λ (q : Path). block_key q of.index) at.0 in
+      let later : n + 1 ≤ of.index = ⊎_elim
+      (λ (h : n < of.index). (let g : n < of.index = h in omega arith))
+      (λ (h : of.index ≤ n). absurd (
+      let same : of.index ≡ n = omega (arith, h, at.1) in
+      let is : k ≡ block_key p n = key ∙ ap (block_key p) same in
+      let not : before (block_key p n) k ≡ false = ap (before (block_key p n)) is ∙ not_before_from_reaches (block_key p n) (block_key p n) (reaches-refl (block_key p n)) in
+      cc))
+      (cases_lt n of.index) in
+      subst (λ (j : Key). within (blocks_from p (n + 1)).lo (blocks_from p (n + 1)).hi j ≡ true) (sym key) (block_in_blocks_from p p (n + 1) of.index (omega arith) (omega arith) (refl, later))
+
+  -- the range behind the block begins with the next one
+  pub begins_behind : (rest : KeyRange) → rest.lo ≡ next_key (block_key p n) → rest.hi ≡ (blocks_from p n).hi → BeginsAt d p (n + 1) rest
+  begins_behind rest low high = (high ∙ high_key p n (n + 1), λ r h. moved r (subst (λ (l : Key). IsFirst d l (blocks_from p n).hi r) low (subst (λ (o : Option Key). IsFirst d rest.lo o r) high h)))
+    where
+      none : (end : Option Key) → HasNone d (next_key (block_key p n)) end → HasNone d (blocks_from p (n + 1)).lo end
+      none end h k w =
+          let q : (reaches (blocks_from p (n + 1)).lo k ≡ true) × (is_below k end ≡ true) = and_parts _ _ w in
+          h k (in_range (next_key (block_key p n)) k end (le_le (next_key (block_key p n)) (blocks_from p (n + 1)).lo k passes q.0) q.1)
+
+      moved : (r : Option (Key × List ℕ)) → IsFirst d (next_key (block_key p n)) (blocks_from p n).hi r → IsFirst d (blocks_from p (n + 1)).lo (blocks_from p (n + 1)).hi r
+      moved None h = subst (λ (o : Option Key). HasNone d (blocks_from p (n + 1)).lo o) (high_key p n (n + 1)) (none (blocks_from p n).hi h)
+      moved (Some x) h = (lands x.0 x.1 h.0 h.1, h.1, none (Some x.0) h.2)
+
 -- ---- the steps of a walk from block to block
 
 -- the lines of the first blocks, as a part of all
@@ -231,9 +286,9 @@ line_part a m c b i j v e w part =
     let whole : block_lines b (count b) ≡ (block_lines b i ++ block_line j (trimmed v)) ++ rest = (begins b (j + 1)).1 ∙ ap (λ (l : List ℕ). l ++ rest) e in
     subst (AppendsPart a c) (sym whole) (part_before a c _ rest (part_after a m c (block_lines b i) (block_line j (trimmed v)) w part))
 
-module _ (t : Tree) (d : Blocks) (p : Path) (b : List ℕ) (is : IsTree t) (means : BlocksMean t d) (there : entry_at t p ≡ Found (File b)) (i : ℕ) (few : i ≤ most_blocks) (r : KeyRange) (range : r ≡ blocks_from p i) (first : Option (Key × List ℕ)) (h : IsFirst d r.lo r.hi first) where
+module _ (t : Tree) (d : Blocks) (p : Path) (b : List ℕ) (is : IsTree t) (means : BlocksMean t d) (there : entry_at t p ≡ Found (File b)) (i : ℕ) (few : i ≤ most_blocks) (r : KeyRange) (range : BeginsAt d p i r) (first : Option (Key × List ℕ)) (h : IsFirst d r.lo r.hi first) where
   first_at : IsFirst d (blocks_from p i).lo (blocks_from p i).hi first
-  first_at = subst (λ (z : KeyRange). IsFirst d z.lo z.hi first) range h
+  first_at = range.1 first h
 
   -- no block is left
   pub blocks_end : first ≡ None → block_lines b i ≡ block_lines b (count b)
@@ -242,6 +297,10 @@ module _ (t : Tree) (d : Blocks) (p : Path) (b : List ℕ) (is : IsTree t) (mean
   -- or this one is the next
   pub blocks_next : (k : Key) (v : List ℕ) → first ≡ Some (k, v) → FirstBlock d p b i k v
   blocks_next k v e = next_printed t d p b (is.paths p (File b) there) means (ap seen there) i few k v (subst (λ (o : Option (Key × List ℕ)). IsFirst d (blocks_from p i).lo (blocks_from p i).hi o) e first_at)
+
+  -- and the range behind it begins with the one after it
+  pub blocks_behind : (k : Key) (n : ℕ) → n < most_blocks → k ≡ block_key p n → (rest : KeyRange) → rest.lo ≡ next_key k → rest.hi ≡ r.hi → BeginsAt d p (n + 1) rest
+  blocks_behind k n lt key rest low high = begins_behind t d p (is.paths p (File b) there) means n lt rest (low ∙ ap next_key key) (high ∙ range.0 ∙ high_key p i n)
 
 -- ---- the number in a block's key
 

@@ -1,5 +1,8 @@
 -- The lines of one entry of an image.
 use Rattle.std.specs.Prelude.{◌≡◌, ℕ, List, Option, Some, None, ◌+◌, ◌/◌, ◌<◌, ◌++◌, length, codes}
+use Rattle.pathkey.specs.Keys.{Key, blocks_from}
+use Rattle.pathkey.specs.declared.range.KeyRange.{KeyRange}
+use Rattle.scan.specs.Pairs.{IsFirst}
 use Rattle.reference.specs.Image.{Text, block_line, block_lines, path_text, trimmed}
 use Rattle.reference.specs.Indexes.{most_blocks}
 use Rattle.reference.specs.Tree.{Path, Tree, Dir, File}
@@ -18,3 +21,7 @@ entry_lines p (File b) = file_line p (length b) ++ block_lines b (length b / 409
 abbrev pub IsNextBlock : List ℕ → ℕ → Option (ℕ × List ℕ) → Type 0
 IsNextBlock b i None = block_lines b i ≡ block_lines b (length b / 4096 + 1)
 IsNextBlock b i (Some (n, v)) = (n < most_blocks) × (block_lines b (n + 1) ≡ block_lines b i ++ block_line n (trimmed v))
+
+-- the first pair of the range is the first block of the path p from number i on
+abbrev pub BeginsAt : (Key → Option (List ℕ)) → Path → ℕ → KeyRange → Type 0
+BeginsAt d p i rest = (rest.hi ≡ (blocks_from p i).hi) × ((r : Option (Key × List ℕ)) → IsFirst d rest.lo rest.hi r → IsFirst d (blocks_from p i).lo (blocks_from p i).hi r)

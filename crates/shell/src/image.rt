@@ -1,6 +1,6 @@
 //! Prints the image of a tree that stands still: one line for each entry in key order, and for a file one for each block
 //! that holds a byte other than zero.
-ghost use Rattle.std.specs.Prelude.{◌≡◌, ◌≢◌, ◌<◌, ◌≤◌, ◌^◌, ◌++◌, ◌∷◌, ◌+◌, ◌/◌, [], ℕ, List, Some, None, IfOk, IfSome, codes, decimal, flat_map, length, take, OnOk, OnErr};
+ghost use Rattle.std.specs.Prelude.{◌≡◌, ◌≢◌, ◌<◌, ◌≤◌, ◌^◌, ◌++◌, ◌∷◌, ◌+◌, ◌/◌, [], ℕ, List, Some, None, false, IfOk, IfSome, codes, decimal, flat_map, length, take, OnOk, OnErr};
 ghost use Rattle.std.specs.Io.KnownBytes.{Appends};
 ghost use Rattle.block_index.specs.Means.{blocks};
 ghost use Rattle.call_compiler.specs.Compiled.{MeanTree};
@@ -11,19 +11,20 @@ ghost use Rattle.reference.specs.Indexes.{BlocksMean, meta_of, most_blocks};
 ghost use Rattle.reference.specs.Looks.{seen};
 ghost use Rattle.reference.specs.Shape.{IsTree};
 ghost use Rattle.reference.specs.Tree.{File, Found, Tree, entry_at};
-ghost use Rattle.scan.specs.Pairs.{IsFirst};
-ghost use Rattle.shell.specs.Image.{IsNextBlock, entry_lines};
+ghost use Rattle.scan.specs.Pairs.{AreAhead, IsFirst};
+ghost use Rattle.shell.specs.Image.{BeginsAt, IsNextBlock, entry_lines};
 ghost use Rattle.shell.specs.Parts.{AppendsPart};
 ghost use Rattle.shell.specs.Replies.{number_line};
 
 use crate::output::{WriteFailed, put};
 use crate::reply::{put_hex, put_number_line, put_percent};
-use block_index::{Block, BlockIndex};
+use block_index::{Block, BlockIndex, BlockUpdate};
 use call_compiler::Indexes;
 use itoa::Buffer;
+use meta_index::MetaUpdate;
 use pathkey::{Key, KeyRange, NoMemory, Path, blocks_from, dec};
 use reference::Meta;
-use scan::first_in;
+use scan::piecewise::Pieces;
 use std::alloc::Global;
 use std::io::Write;
 use thiserror::Error;
@@ -54,7 +55,7 @@ impl From<WriteFailed> for ImageFault {
 
 /// Prints the image of a tree that stands still; where it fails, what was printed is a beginning of it.
 ///
-/// It goes from entry to entry, and in each file from block to block, and holds one of them at a time.
+/// It goes from entry to entry, and in each file from block to block. It holds a piece of the entries and one block.
 pub fn print_image<W: Write>(
     alloc: Global,
     frozen: &Frozen,
@@ -64,26 +65,30 @@ pub fn print_image<W: Write>(
     ensures err { (t : Tree) → MeanTree frozen.now t → OnErr result (AppendsPart (W.contents writer.old) (W.contents writer.new) (image t)) }
 {
     let mut rest = below_root(alloc)?;
-    let told = print_all(alloc, frozen.indexes(), &mut rest, writer);
+    let mut pieces = Pieces::new(alloc);
+    let told = print_all(alloc, frozen.indexes(), &mut rest, &mut pieces, writer);
+    drop(pieces);
     drop(rest);
     told
 }
 
-/// Writes the image of a tree, or a beginning of it: the range that is left lies behind the root at first.
+/// Writes the image of a tree, or a beginning of it: the range that is left lies behind the root at first, and no entry is
+/// taken yet.
 fn print_all<W: Write>(
     alloc: Global,
     indexes: &Indexes,
     rest: &mut KeyRange,
+    pieces: &mut Pieces<MetaUpdate>,
     writer: &mut W,
 ) -> Result<(), ImageFault>
-    requires { (rest.old.lo ≡ next_key []) × (rest.old.hi ≡ None) }
+    requires { (rest.old.lo ≡ next_key []) × (rest.old.hi ≡ None) × (pieces.old.pairs.items ≡ []) × (pieces.old.all ≡ false) }
     ensures ok { (t : Tree) → MeanTree indexes.now t → OnOk result (Appends (W.contents writer.old) (W.contents writer.new) (image t)) }
     ensures err { (t : Tree) → MeanTree indexes.now t → OnErr result (AppendsPart (W.contents writer.old) (W.contents writer.new) (image t)) }
 {
     put(writer, b"d /\n")?;
     // No tree has more entries.
     for _ in 0..u64::MAX {
-        let Some((key, meta)) = next_entry(alloc, indexes, rest)? else {
+        let Some((key, meta)) = next_entry(alloc, indexes, rest, pieces)? else {
             return Ok(());
         };
         print_entry(alloc, indexes, key, meta, writer)?;
@@ -104,12 +109,15 @@ fn next_entry(
     alloc: Global,
     indexes: &Indexes,
     rest: &mut KeyRange,
+    pieces: &mut Pieces<MetaUpdate>,
 ) -> Result<Option<(Key, Meta)>, NoMemory>
+    requires { AreAhead (metadata indexes.now.meta) rest.old.lo rest.old.hi pieces.old.all pieces.old.pairs.items }
     ensures first { IfOk result (IsFirst (metadata indexes.now.meta) rest.old.lo rest.old.hi) }
     ensures behind { IfOk result (λ first. IfSome first (λ e. rest.new.lo ≡ next_key e.0)) }
     ensures end { rest.new.hi ≡ rest.old.hi }
+    ensures ahead { IfOk result (λ first. IfSome first (λ _. AreAhead (metadata indexes.now.meta) rest.new.lo rest.new.hi pieces.new.all pieces.new.pairs.items)) }
 {
-    match first_in(alloc, &indexes.meta.tree, rest)? {
+    match pieces.first(alloc, &indexes.meta.tree, rest)? {
         Some((key, meta)) => {
             rest.lo = key.next(alloc)?;
             Ok(Some((key, meta)))
@@ -187,14 +195,32 @@ fn print_blocks<W: Write>(
     ensures ok { (t : Tree) (b : List ℕ) → IsTree t → BlocksMean t (blocks index.now) → entry_at t path.now ≡ Found (File b) → OnOk result (Appends (W.contents writer.old) (W.contents writer.new) (block_lines b (length b / 4096 + 1))) }
     ensures err { (t : Tree) (b : List ℕ) → IsTree t → BlocksMean t (blocks index.now) → entry_at t path.now ≡ Found (File b) → OnErr result (AppendsPart (W.contents writer.old) (W.contents writer.new) (block_lines b (length b / 4096 + 1))) }
 {
-    let mut next = 0u32;
+    let mut rest = blocks_from(alloc, path, 0)?;
+    let mut pieces = Pieces::new(alloc);
+    let told = print_rest(alloc, index, &mut rest, &mut pieces, writer);
+    drop(pieces);
+    drop(rest);
+    told
+}
+
+/// Writes the lines of the blocks in a range, which begins with a file's first, or a beginning of them.
+fn print_rest<W: Write>(
+    alloc: Global,
+    index: &BlockIndex,
+    rest: &mut KeyRange,
+    pieces: &mut Pieces<BlockUpdate>,
+    writer: &mut W,
+) -> Result<(), ImageFault>
+    requires { (pieces.old.pairs.items ≡ []) × (pieces.old.all ≡ false) }
+    ensures ok { (t : Tree) (p : List (List ℕ)) (b : List ℕ) → IsTree t → BlocksMean t (blocks index.now) → entry_at t p ≡ Found (File b) → BeginsAt (blocks index.now) p 0 rest.old → OnOk result (Appends (W.contents writer.old) (W.contents writer.new) (block_lines b (length b / 4096 + 1))) }
+    ensures err { (t : Tree) (p : List (List ℕ)) (b : List ℕ) → IsTree t → BlocksMean t (blocks index.now) → entry_at t p ≡ Found (File b) → BeginsAt (blocks index.now) p 0 rest.old → OnErr result (AppendsPart (W.contents writer.old) (W.contents writer.new) (block_lines b (length b / 4096 + 1))) }
+{
     // No file has more blocks.
     for _ in 0..u64::MAX {
-        let Some((number, block)) = first_block(alloc, index, path, next)? else {
+        let Some((number, block)) = next_block(alloc, index, rest, pieces)? else {
             return Ok(());
         };
         print_block(writer, number, block)?;
-        next = number.saturating_add(1);
     }
     Err(ImageFault::Memory)
 }
@@ -209,28 +235,25 @@ fn print_block<W: Write>(writer: &mut W, number: u32, block: Block) -> Result<()
     told
 }
 
-/// The first block of a file from a number on, with its number; none where none is left.
-fn first_block(
+/// The first block of a range, with its number, where the range then begins behind it; none where none is left.
+fn next_block(
     alloc: Global,
     index: &BlockIndex,
-    path: &Path,
-    from: u32,
+    rest: &mut KeyRange,
+    pieces: &mut Pieces<BlockUpdate>,
 ) -> Result<Option<(u32, Block)>, NoMemory>
-    requires { path.now ≢ [] }
-    ensures { (t : Tree) (b : List ℕ) → IsTree t → BlocksMean t (blocks index.now) → entry_at t path.now ≡ Found (File b) → from ≤ most_blocks → IfOk result (IsNextBlock b from) }
+    requires { AreAhead (blocks index.now) rest.old.lo rest.old.hi pieces.old.all pieces.old.pairs.items }
+    ensures next { (t : Tree) (p : List (List ℕ)) (b : List ℕ) (i : ℕ) → IsTree t → BlocksMean t (blocks index.now) → entry_at t p ≡ Found (File b) → i ≤ most_blocks → BeginsAt (blocks index.now) p i rest.old → IfOk result (λ r. IsNextBlock b i r × IfSome r (λ x. BeginsAt (blocks index.now) p (x.0 + 1) rest.new)) }
+    ensures ahead { IfOk result (λ r. IfSome r (λ _. AreAhead (blocks index.now) rest.new.lo rest.new.hi pieces.new.all pieces.new.pairs.items)) }
 {
-    let rest = blocks_from(alloc, path, from)?;
-    match first_in(alloc, &index.tree, &rest)? {
+    match pieces.first(alloc, &index.tree, rest)? {
         Some((key, block)) => {
+            rest.lo = key.next(alloc)?;
             let number = number_of(&key);
             drop(key);
-            drop(rest);
             Ok(Some((number, block)))
         }
-        None => {
-            drop(rest);
-            Ok(None)
-        }
+        None => Ok(None),
     }
 }
 

@@ -1,5 +1,5 @@
 use Rattle.scan.proofs.search.+first.Goals.{first_of_slot-in-Nothing, first_of_slot-in_default-matches}
-use Rattle.std.proofs.Common.{true≢false, arith, ap, sym, subst, ◌∙◌, ◌≡◌, ◌<◌, ◌+◌, ◌*◌, length, List, true, Some, None}
+use Rattle.std.proofs.Common.{true≢false, arith, ap, sym, subst, ◌∙◌, ◌≡◌, ◌<◌, ◌+◌, ◌*◌, length, true, Some, None}
 use Rattle.std.specs.Option.{option_copied}
 use Rattle.message.proofs.KeyOrder.{reaches-refl}
 use Rattle.node.specs.Meaning.{value}
@@ -10,7 +10,7 @@ use Rattle.node.specs.declared.node.Slot.{Slot}
 use Rattle.node.proofs.Placing.{searchable_child, depth_child}
 use Rattle.pathkey.specs.Keys.{is_below}
 use Rattle.message.specs.Stretches.{ActAlike}
-use Rattle.scan.specs.Stretches.{changed, slot_value}
+use Rattle.scan.specs.Stretches.{slot_value}
 use Rattle.scan.specs.Pairs.{IsFirst}
 use Rattle.scan.proofs.OnStretches.{first_of_told, first_untouched, first_changed}
 use Rattle.std.proofs.lemmas.Result.{IfOk-weaker}
@@ -56,8 +56,8 @@ first-returns-in-Some g t c =
     let i = c.slot_of-i.result in
     let s = c.index-slot.result.now in
     let stop = c.in_ok-stop.stop in
-    let at = stands_at means items c.as_slice-in-stretches.result.now c.as_slice-in-stretches-2.result.now n lo hi from i s (option_copied c.slot_end-end.result) stop c.as_slice-in-stretches.ensures.value c.as_slice-in-stretches-2.ensures.value (ap see (sym c.in-Inner.is) ∙ c.body.ensures) c.slot_of-i.ensures.bound c.slot_of-i.ensures.number c.index-slot.ensures c.stretches.invariant c.slot_end-end.ensures c.in_ok-stop.ensures in
-    found means items n lo hi from i s stop at c.in-Some.pair (as_called (slot_value means s) from (option_copied c.as_ref.result) stop c.in_ok-pair.field-0 (Some c.in-Some.pair) c.as_ref.ensures.value c.in-Some.is c.in_ok-pair.ensures)
+    let at = stands_at means items c.as_slice-in-stretches.result.now c.as_slice-in-stretches-2.result.now n hi from i s (option_copied c.slot_end-end.result) stop c.as_slice-in-stretches.ensures.value c.as_slice-in-stretches-2.ensures.value (ap see (sym c.in-Inner.is) ∙ c.body.ensures) c.slot_of-i.ensures.bound c.slot_of-i.ensures.number c.index-slot.ensures c.slot_end-end.ensures c.in_ok-stop.ensures in
+    found means items n hi from i s stop at lo c.stretches.invariant c.in-Some.pair (as_called (slot_value means s) from (option_copied c.as_ref.result) stop c.in_ok-pair.field-0 (Some c.in-Some.pair) c.as_ref.ensures.value c.in-Some.is c.in_ok-pair.ensures)
 
 pub first-returns-in_default-stop : goal.first-returns-in_default-stop
 first-returns-in_default-stop g t c =
@@ -70,8 +70,8 @@ first-returns-in_default-stop g t c =
     let i = c.slot_of-i.result in
     let s = c.index-slot.result.now in
     let stop = c.in_ok-stop.stop in
-    let at = stands_at means items c.as_slice-in-stretches.result.now c.as_slice-in-stretches-2.result.now n lo hi from i s (option_copied c.slot_end-end.result) stop c.as_slice-in-stretches.ensures.value c.as_slice-in-stretches-2.ensures.value (ap see (sym c.in-Inner.is) ∙ c.body.ensures) c.slot_of-i.ensures.bound c.slot_of-i.ensures.number c.index-slot.ensures c.stretches.invariant c.slot_end-end.ensures c.in_ok-stop.ensures in
-    no_more means items n lo hi from i s stop at c.in_default-stop.is (as_called (slot_value means s) from (option_copied c.as_ref.result) stop c.in_ok-pair.field-0 None c.as_ref.ensures.value c.in_default.is c.in_ok-pair.ensures)
+    let at = stands_at means items c.as_slice-in-stretches.result.now c.as_slice-in-stretches-2.result.now n hi from i s (option_copied c.slot_end-end.result) stop c.as_slice-in-stretches.ensures.value c.as_slice-in-stretches-2.ensures.value (ap see (sym c.in-Inner.is) ∙ c.body.ensures) c.slot_of-i.ensures.bound c.slot_of-i.ensures.number c.index-slot.ensures c.slot_end-end.ensures c.in_ok-stop.ensures in
+    no_more means items n hi from i s stop at lo c.stretches.invariant c.in_default-stop.is (as_called (slot_value means s) from (option_copied c.as_ref.result) stop c.in_ok-pair.field-0 None c.as_ref.ensures.value c.in_default.is c.in_ok-pair.ensures)
 
 pub first-stretches-smaller : goal.first-stretches-smaller
 first-stretches-smaller g t c =
@@ -84,8 +84,8 @@ first-stretches-smaller g t c =
     let i = c.slot_of-i.result in
     let s = c.index-slot.result.now in
     let stop = c.in_ok-stop.stop in
-    let at = stands_at means items c.as_slice-in-stretches.result.now c.as_slice-in-stretches-2.result.now n lo hi from i s (option_copied c.slot_end-end.result) stop c.as_slice-in-stretches.ensures.value c.as_slice-in-stretches-2.ensures.value (ap see (sym c.in-Inner.is) ∙ c.body.ensures) c.slot_of-i.ensures.bound c.slot_of-i.ensures.number c.index-slot.ensures c.stretches.invariant c.slot_end-end.ensures c.in_ok-stop.ensures in
-    fewer_ahead means items n lo hi from i s stop at c.in-Some-stop.next c.in-Some-stop.is
+    let at = stands_at means items c.as_slice-in-stretches.result.now c.as_slice-in-stretches-2.result.now n hi from i s (option_copied c.slot_end-end.result) stop c.as_slice-in-stretches.ensures.value c.as_slice-in-stretches-2.ensures.value (ap see (sym c.in-Inner.is) ∙ c.body.ensures) c.slot_of-i.ensures.bound c.slot_of-i.ensures.number c.index-slot.ensures c.slot_end-end.ensures c.in_ok-stop.ensures in
+    fewer_ahead means items n hi from i s stop at c.in-Some-stop.next c.in-Some-stop.is
 
 pub first-stretches-preserved : goal.first-stretches-preserved
 first-stretches-preserved g t c =
@@ -98,8 +98,8 @@ first-stretches-preserved g t c =
     let i = c.slot_of-i.result in
     let s = c.index-slot.result.now in
     let stop = c.in_ok-stop.stop in
-    let at = stands_at means items c.as_slice-in-stretches.result.now c.as_slice-in-stretches-2.result.now n lo hi from i s (option_copied c.slot_end-end.result) stop c.as_slice-in-stretches.ensures.value c.as_slice-in-stretches-2.ensures.value (ap see (sym c.in-Inner.is) ∙ c.body.ensures) c.slot_of-i.ensures.bound c.slot_of-i.ensures.number c.index-slot.ensures c.stretches.invariant c.slot_end-end.ensures c.in_ok-stop.ensures in
-    goes_on means items n lo hi from i s stop at c.in-Some-stop.next c.in-Some-stop.is (as_called (slot_value means s) from (option_copied c.as_ref.result) stop c.in_ok-pair.field-0 None c.as_ref.ensures.value c.in_default.is c.in_ok-pair.ensures)
+    let at = stands_at means items c.as_slice-in-stretches.result.now c.as_slice-in-stretches-2.result.now n hi from i s (option_copied c.slot_end-end.result) stop c.as_slice-in-stretches.ensures.value c.as_slice-in-stretches-2.ensures.value (ap see (sym c.in-Inner.is) ∙ c.body.ensures) c.slot_of-i.ensures.bound c.slot_of-i.ensures.number c.index-slot.ensures c.slot_end-end.ensures c.in_ok-stop.ensures in
+    goes_on means items n hi from i s stop at lo c.stretches.invariant c.in-Some-stop.next c.in-Some-stop.is (as_called (slot_value means s) from (option_copied c.as_ref.result) stop c.in_ok-pair.field-0 None c.as_ref.ensures.value c.in_default.is c.in_ok-pair.ensures)
 
 pub first-returns : goal.first-returns
 first-returns g t c = none_past (value g.U.Update.means c.args.node.now) c.args.lo.now c.stretches.from (option_copied c.args.hi) c.stretches.invariant.none (sym c.is_before_end.ensures ∙ c.stretches-test.false)

@@ -4,7 +4,10 @@ use Rattle.std.specs.Io.KnownBytes.{Appends}
 use Rattle.std.proofs.KnownBytes.{Appends-trans}
 use Rattle.message.specs.Ranges.{reaches}
 use Rattle.pathkey.specs.Keys.{next_key}
+use Rattle.meta_index.specs.Means.{metadata}
 use Rattle.reference.specs.Image.{image}
+use Rattle.scan.specs.Pairs.{AreAhead}
+use Rattle.scan.proofs.AtHand.{ahead_none}
 use Rattle.shell.specs.Image.{entry_lines}
 use Rattle.shell.specs.Parts.{AppendsPart}
 use Rattle.shell.proofs.Known.{on_err, part_after, part_before}
@@ -21,6 +24,7 @@ loop-init g c =
       c.requires.1,
       subst (λ (k : List ℕ). reaches k [] ≡ false) (sym low) (behind_root []),
       λ t mean. (codes "d /\n", image_starts t mean.tree ∙ ap (λ (k : List ℕ). codes "d /\n" ++ image_from k t) (sym low), c.in_ok-put.ensures.ok),
+      ahead_none (metadata c.args.indexes.now.meta) c.args.rest.now.lo c.args.rest.now.hi c.args.pieces.now.all c.args.pieces.now.pairs.items c.requires.3 c.requires.2,
     )
 
 pub returns-in_err-key-clause-err : goal.returns-in_err-key-clause-err
@@ -67,6 +71,7 @@ loop-preserved g c =
                 ∙ ap (λ (k : List ℕ). (done ++ lines) ++ image_from k t) (sym behind),
             Appends-trans _ _ _ done lines written more,
           ),
+      subst (λ o. IfSome o (λ _. AreAhead (metadata c.args.indexes.now.meta) c.next_entry.new.rest.lo c.next_entry.new.rest.hi c.next_entry.new.pieces.all c.next_entry.new.pieces.pairs.items)) c.in-Some.is c.in_ok-key.ensures.ahead,
     )
 
 pub returns-clause-err : goal.returns-clause-err

@@ -2,7 +2,9 @@ use Rattle.std.proofs.Common.{◌≡◌, ℕ, List, [], ◌++◌, false, None}
 use Rattle.std.specs.Io.KnownBytes.{Appends}
 use Rattle.call_compiler.specs.Compiled.{MeanTree}
 use Rattle.message.specs.Ranges.{reaches}
+use Rattle.meta_index.specs.Means.{metadata}
 use Rattle.reference.specs.Image.{image}
+use Rattle.scan.specs.Pairs.{AreAhead}
 use Rattle.reference.specs.Tree.{Tree}
 use Rattle.shell.proofs.ImageEntries.{image_from}
 use Rattle.shell.proofs.image.print_all.Given as goal
@@ -13,3 +15,4 @@ invariant-loop g l =
     (l.rest.hi ≡ None)
     × (reaches l.rest.lo [] ≡ false)
     × ((t : Tree) → MeanTree l.indexes t → (done : List ℕ) × (image t ≡ done ++ image_from l.rest.lo t) × Appends (g.W.Write.contents l.fn.writer) (g.W.Write.contents l.writer) done)
+    × AreAhead (metadata l.indexes.meta) l.rest.lo l.rest.hi l.pieces.all l.pieces.pairs.items

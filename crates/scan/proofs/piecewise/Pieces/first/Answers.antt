@@ -1,0 +1,27 @@
+use Rattle.std.proofs.Common.{◌≡◌, ◌<◌, arith, ap, sym, subst, length, nat_lt, true, [], refl}
+use Rattle.std.proofs.lemmas.Bool.Decides.{nat_tests}
+use Rattle.node.specs.Meaning.{value}
+use Rattle.scan.specs.Pairs.{IsScan}
+use Rattle.scan.proofs.AtHand.{piece_given, ahead_over, no_items}
+use Rattle.scan.proofs.piecewise.Pieces.first.Goals as goal
+
+pub returns-in-Some : goal.returns-in-Some
+returns-in-Some g c = c.in-Some.ensures (value g.U.Update.means c.args.tree.now.root) c.args.range.now.hi c.requires
+
+pub returns-then-self : goal.returns-then-self
+returns-then-self g c =
+    let f = value g.U.Update.means c.args.tree.now.root in
+    let hi = c.args.range.now.hi in
+    ahead_over f c.args.range.now.lo hi c.take_from.new.self.all [] c.if-self.true refl (c.in_default.ensures f hi c.requires)
+
+pub returns : goal.returns
+returns g c =
+    let f = value g.U.Update.means c.args.tree.now.root in
+    let lo = c.args.range.now.lo in
+    let hi = c.args.range.now.hi in
+    let some : 0 < c.max-most.result = omega (arith, c.max-most.ensures) in
+    piece_given f lo hi c.max-most.result c.pop_front.result (nat_lt c.len.result c.max-most.result) c.from_vec.result.items c.pop_front.new.self.items some
+    (subst (IsScan f lo hi c.max-most.result) (sym c.from_vec.ensures.items) c.in_ok-piece.ensures)
+    (λ t. let same = ap length c.from_vec.ensures.items in let few : c.len.result < c.max-most.result = grind (arith, nat_tests, t) in omega (arith, same, few, c.len.ensures, c.in_ok-piece.piece.ok.0))
+    c.pop_front.ensures.items
+    (λ none. let z = rw none at c.pop_front.ensures.cases in no_items c.pop_front.new.self.items (omega (arith, z.1, c.pop_front.new.self.ok.0)))
