@@ -27,6 +27,13 @@ pub struct Shape {
 impl Shape {
     ghost use Rattle.node.specs.Shapes.{is_shape};
 
+    /// The shape for usual work: 16 slots, 256 pending pieces, 256 entries.
+    pub const USUAL: Shape = Shape {
+        fanout: 16,
+        pending: 256,
+        leaf: 256,
+    };
+
     /// Whether a tree may have the shape.
     pub fn ok(&self) -> bool
         ensures { result ≡ is_shape self.now }
