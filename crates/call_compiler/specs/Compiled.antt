@@ -1,5 +1,6 @@
 -- What a file call is compiled to, by the directory tree that the indexes mean.
-use Rattle.std.specs.Prelude.{◌≡◌, ◌≤◌, ◌+◌, ◌⊎◌, ℕ, length, List, [], ◌∷◌}
+use Rattle.std.specs.Prelude.{◌≡◌, ◌≤◌, ◌+◌, ◌⊎◌, ◌&&◌, ℕ, Bool, length, List, [], ◌∷◌}
+use Rattle.std.specs.List.{list_any}
 use Rattle.block_index.specs.Changed.{patches}
 use Rattle.block_index.specs.Means.{blocks}
 use Rattle.block_index.specs.Updates.{means as block_means}
@@ -12,11 +13,11 @@ use Rattle.meta_index.specs.declared.update.MetaUpdate.TheVariants.{Grow, Touch}
 use Rattle.meta_index.specs.Means.{metadata}
 use Rattle.meta_index.specs.Updates.{means as meta_means}
 use Rattle.pathkey.specs.Keys.{Key, enc}
-use Rattle.pathkey.specs.Names.{Path}
+use Rattle.pathkey.specs.Names.{Path, is_root}
 use Rattle.pathkey.specs.declared.errno.Errno.{Errno}
 use Rattle.pathkey.specs.declared.errno.Errno.TheVariants.{ENOENT, ENOTDIR}
 use Rattle.reference.specs.Tree.{Tree, At, Found, Missing, Blocked, entry_at}
-use Rattle.reference.specs.Calls.{bytes_of, stat_of, parents_of, does}
+use Rattle.reference.specs.Calls.{bytes_of, stat_of, is_done, parents_of, does}
 use Rattle.reference.specs.Indexes.{Metadata, Blocks, IndexesMean}
 use Rattle.reference.specs.declared.call.Call.{Call}
 use Rattle.reference.specs.declared.call.Call.TheVariants.{Mkdir, Create, Write, Truncate, Unlink, Rmdir, Rename, Rmtree, Read, Stat as AskStat, Readdir}
@@ -63,6 +64,10 @@ MeanTree i t = IndexesMean t (metadata i.meta) (blocks i.block)
 abbrev pub touches : ℕ → List Path → List (Msg MetaUpdate Meta)
 touches at [] = []
 touches at (p ∷ ps) = Edit (enc p) (Touch at) ∷ touches at ps
+
+-- whether the call, so answered, gives the root its moment
+abbrev pub touches_root : Call → Reply → Bool
+touches_root c r = is_done r && list_any is_root (parents_of c)
 
 -- the messages of a write of w at off: the length is raised and the moment set, and each block that the bytes touch gets
 -- its slice of them

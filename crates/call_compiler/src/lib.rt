@@ -26,6 +26,7 @@ mod writing;
 pub use batch::Batch;
 pub use indexes::Indexes;
 pub use reference::{Call, Reply};
+pub use touching::touches_root;
 
 /// The reply to a file call at a moment, and the messages that do it. It changes nothing, and fails only for want of
 /// memory.

@@ -1,11 +1,13 @@
-//! The messages that set the moments of directories.
+//! The moments of directories: the messages that set them, and whether the root gets one.
 ghost use Rattle.std.specs.Prelude.{◌≡◌, ◌∷◌, [], ◌++◌, IfOk, OnOk};
-ghost use Rattle.call_compiler.specs.Compiled.{touches};
-ghost use Rattle.reference.specs.Calls.{once, parent, same_path};
+ghost use Rattle.std.specs.List.{list_any};
+ghost use Rattle.call_compiler.specs.Compiled.{touches, touches_root};
+ghost use Rattle.reference.specs.Calls.{is_done, is_root, once, parent, parents_of, same_path};
 
 use message::Msg;
 use meta_index::MetaUpdate;
 use pathkey::{NoMemory, Path};
+use reference::{Call, Reply};
 use std::alloc::Global;
 
 /// Whether the two paths are one.
@@ -69,4 +71,49 @@ pub(crate) fn touch_directories(
         return Ok(());
     }
     touch(alloc, msgs, &to, at)
+}
+
+/// Whether the call, so answered, gives the root its moment. It takes no memory.
+pub fn touches_root(call: &Call, reply: &Reply) -> bool
+    ensures { result ≡ touches_root call.now reply.now }
+{
+    is_done(reply) && is_in_root(call)
+}
+
+/// Whether the reply is that of a call that was done and has nothing to tell.
+fn is_done(reply: &Reply) -> bool
+    ensures { result ≡ is_done reply.now }
+{
+    matches!(reply, Reply::Done)
+}
+
+/// Whether the call puts or takes out an entry of the root.
+fn is_in_root(call: &Call) -> bool
+    ensures { result ≡ list_any is_root (parents_of call.now) }
+{
+    match call {
+        Call::Mkdir(path)
+        | Call::Create(path)
+        | Call::Unlink(path)
+        | Call::Rmdir(path)
+        | Call::Rmtree(path) => stands_in_root(path),
+        Call::Rename(old, new) => {
+            !are_same(old, new) && (stands_in_root(old) || stands_in_root(new))
+        }
+        Call::Write(_, _, _)
+        | Call::Truncate(_, _)
+        | Call::Read(_, _, _)
+        | Call::Stat(_)
+        | Call::Readdir(_) => false,
+    }
+}
+
+/// Whether the path's directory is the root.
+fn stands_in_root(path: &Path) -> bool
+    ensures { result ≡ is_root (parent path.now) }
+{
+    let Some((_, rest)) = path.names().split_first() else {
+        return true;
+    };
+    rest.split_first().is_none()
 }

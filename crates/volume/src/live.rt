@@ -107,17 +107,17 @@ impl Live {
             .append_kept(alloc, batch, meta_kept.as_slice(), block_kept.as_slice())
     }
 
-    /// Does a file call: asks the indexes what it comes to, and appends its messages. It fails only for want of memory, and
+    /// Does a file call at a moment: asks the indexes what it comes to, and appends its messages. It fails only for want of memory, and
     /// then changes nothing.
-    pub fn call(&mut self, alloc: Global, call: &Call) -> Result<Reply, NoMemory>
-        ensures done { IfOk result (λ r. Does call.now r self.old.indexes self.new.indexes) }
+    pub fn call(&mut self, alloc: Global, call: &Call, at: u64) -> Result<Reply, NoMemory>
+        ensures done { IfOk result (λ r. Does call.now at r self.old.indexes self.new.indexes) }
         ensures refused { IfOk result (λ r. (e : Refusal) → r ≡ Reply.Fault e → self.new.indexes ≡ self.old.indexes) }
-        ensures batch { IfOk result (λ r. Batched call.now self.old self.new) }
+        ensures batch { IfOk result (λ r. Batched call.now at self.old self.new) }
         ensures err { OnErr result (self.new ≡ self.old) }
         ensures marks { self.new.marks ≡ self.old.marks }
         ensures kept { KeepsMarks self.old self.new }
     {
-        let (reply, batch) = compile(alloc, &self.indexes, call)?;
+        let (reply, batch) = compile(alloc, &self.indexes, call, at)?;
         self.append(alloc, batch)?;
         Ok(reply)
     }

@@ -19,7 +19,7 @@ of-requires c =
 pub returns-clause-means : goal.returns-clause-means
 returns-clause-means c = λ w m.
     let there : finite.get c.self.inside.snapshots c.args.name.now ≡ Some c.in-Some.kept.now = sym c.get.ensures ∙ ap option_copied c.in-Some.is in
-    let means : Means (volume c.self.inside.live c.self.inside.snapshots) w = subst (λ (v : PVolume). Means v w) (sym c.self.view_is) m in
+    let means : Means (volume c.self.inside.live c.self.inside.modified c.self.inside.snapshots) w = subst (λ (v : PVolume). Means v w) (sym c.self.view_is) m in
     let f : (t : Tree) × (finite.get w.snapshots c.args.name.now ≡ Some t) × MeanTree c.in-Some.kept.now t =
     found_alike MeanTree c.self.inside.snapshots w.snapshots c.args.name.now c.in-Some.kept.now means.snapshots there in
     record {

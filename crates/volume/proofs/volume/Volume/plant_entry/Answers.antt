@@ -8,10 +8,10 @@ use Rattle.volume.proofs.volume.Volume.plant_entry.Goals as goal
 pub invariant_of-self : goal.invariant_of-self
 invariant_of-self c =
     let e = c.plant-answer.ensures in
-    lasts_planted (volume c.self.inside.live c.self.inside.snapshots) c.plant-answer.new.live c.args.path.now c.args.meta c.plant-answer.result c.self.invariant (record { entry = e.entry; lists = e.lists; marks = e.marks; kept = e.kept }) c.stands.ensures
+    lasts_planted (volume c.self.inside.live c.self.inside.modified c.self.inside.snapshots) c.plant-answer.new.live c.args.path.now c.args.meta c.plant-answer.result c.self.invariant (record { entry = e.entry; lists = e.lists; marks = e.marks; kept = e.kept }) c.stands.ensures
 
 pub returns : goal.returns
 returns c =
     let e = c.plant-answer.ensures in
-    let old : PVolume = volume c.self.inside.live c.self.inside.snapshots in
-    subst (λ (v : PVolume). Plants c.args.path.now c.args.meta c.plant-answer.result v (volume c.plant-answer.new.live c.self.inside.snapshots)) c.self.view_is (planted_volume old c.plant-answer.new.live c.args.path.now c.args.meta c.plant-answer.result (record { entry = e.entry; lists = e.lists; marks = e.marks; kept = e.kept }))
+    let old : PVolume = volume c.self.inside.live c.self.inside.modified c.self.inside.snapshots in
+    subst (λ (v : PVolume). Plants c.args.path.now c.args.meta c.plant-answer.result v (volume c.plant-answer.new.live c.self.inside.modified c.self.inside.snapshots)) c.self.view_is (planted_volume old c.plant-answer.new.live c.args.path.now c.args.meta c.plant-answer.result (record { entry = e.entry; lists = e.lists; marks = e.marks; kept = e.kept }))
