@@ -1,6 +1,6 @@
 -- What the end of an engine says.
 use Rattle.std.specs.Prelude.{◌≡◌, List, [], ◌∷◌, ℕ, ◌+◌, ◌%◌, ◌^◌, ◌<◌, ◌≤◌, ◌==◌, if◌then◌else◌, length}
-use Rattle.call_compiler.specs.declared.indexes.Indexes.{Indexes}
+use Rattle.volume.specs.declared.rooted.Rooted.{Rooted}
 use Rattle.volume.specs.Volumes.{PVolume}
 use Rattle.engine.specs.declared.engine.CloseFault.{CloseFault}
 use Rattle.engine.specs.declared.engine.CloseFault.TheVariants.{Missing, NoMemory}
@@ -51,7 +51,7 @@ made_by_all (k ∷ ks) = own k.client k.seen + made_by_all ks
 
 -- one legal history begins with all that the clients have seen, and has their calls and no others; the tree is the live
 -- one of the world that it leaves
-pub record Ends (o : PVolume) (clients : List Known) (count : ℕ) (tree : Indexes) : Type 0 where
+pub record Ends (o : PVolume) (clients : List Known) (count : ℕ) (tree : Rooted) : Type 0 where
   pub history : List Entry
   pub legal : LegalFrom o history
   pub agree : AllAgree history clients

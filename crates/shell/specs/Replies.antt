@@ -13,7 +13,7 @@ abbrev pub hex_text : List ℕ → List ℕ
 hex_text [] = codes "-"
 hex_text (b ∷ bytes) = flat_map (two_digits 87) (b ∷ bytes)
 
--- what stands before the length that `stat` tells
+-- what stands before the length and the moment that `stat` tells
 abbrev pub stat_word : Kind → List ℕ
 stat_word Dir = codes "dir "
 stat_word File = codes "file "
@@ -36,6 +36,6 @@ abbrev pub reply_text : Reply → List ℕ
 reply_text Done = codes "ok\n"
 reply_text (Count n) = number_line (codes "count ") n
 reply_text (Data bytes) = codes "bytes " ++ hex_text bytes ++ codes "\n"
-reply_text (Stat kind n) = number_line (stat_word kind) n
+reply_text (Stat kind n at) = stat_word kind ++ decimal n ++ number_line (codes " ") at
 reply_text (Names entries) = number_line (codes "names ") (length entries) ++ flat_map entry_line entries
 reply_text (Fault e) = codes "fault " ++ word_of e ++ codes "\n"

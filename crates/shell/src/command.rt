@@ -3,7 +3,8 @@ ghost use Rattle.std.specs.Prelude.{◌≡◌, ◌⊎◌, ℕ, List, Err, MatchO
 ghost use Rattle.pathkey.specs.declared.errno.Errno.TheVariants.{ENOMEM};
 ghost use Rattle.shell.specs.Lines.{words_of};
 ghost use Rattle.pathkey.specs.SnapNames.{snap_parsed};
-ghost use Rattle.shell.specs.Requests.{IsReadAs, call_at, command_of, looking, named_command, offset_command, on_path, past, past_path_command, past_read_command, path_command, path_of, read_command, rename_of, request_of, third_command, truncate_command, write_command};
+ghost use Rattle.shell.specs.Requests.{IsReadAs, call_at, command_of, looking, named_command, offset_command, on_path, past, past_path_command, past_read_command, path_command, path_of, read_command, rename_of, request_of, third_command, truncate_command, with_value, write_command};
+ghost use Rattle.shell.specs.Values.{number_of};
 
 use crate::request::{Look, Request};
 use crate::values::{read_bytes, read_number, writes_bytes};
@@ -124,7 +125,8 @@ fn call_at(call: PathCall, path: Path) -> Call
     }
 }
 
-// What a command of two words asks for with a snapshot's name: it is the second word, or stands behind an `@` in the first.
+// What a command of two words asks for with a snapshot's name or a moment: it is the second word, or a name stands behind an `@` in
+// the first.
 fn read_named_command(alloc: Global, name: &[u8], word: &[u8]) -> Request
     ensures { IsReadAs (named_command name.now word.now) result }
 {
@@ -137,8 +139,21 @@ fn read_named_command(alloc: Global, name: &[u8], word: &[u8]) -> Request
     if name == b"restore".as_slice() {
         return with_named(SnapName::parse(alloc, word).map(Request::Restore));
     }
+    if name == b"at".as_slice() {
+        return read_moment(word);
+    }
     match cut_at_sign(name) {
         Some((call, snapshot)) => read_past_path_command(alloc, call, snapshot, word),
+        None => Request::Malformed,
+    }
+}
+
+// The moment that a word writes.
+fn read_moment(word: &[u8]) -> Request
+    ensures { result ≡ with_value Request.Moment (number_of word.now) }
+{
+    match read_number(word) {
+        Some(at) => Request::Moment(at),
         None => Request::Malformed,
     }
 }

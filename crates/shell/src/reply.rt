@@ -5,8 +5,8 @@ ghost use Rattle.pathkey.specs.Numbers.{word_of};
 ghost use Rattle.reference.specs.Image.{percent};
 ghost use Rattle.reference.specs.Pairs.{pairs_of};
 ghost use Rattle.shell.specs.Parts.{AppendsPart};
-ghost use Rattle.reference.specs.declared.reply.Reply.TheVariants.{Names};
-ghost use Rattle.shell.specs.Replies.{entry_line, hex_text, number_line, reply_text, name_word};
+ghost use Rattle.reference.specs.declared.reply.Reply.TheVariants.{Names, Stat};
+ghost use Rattle.shell.specs.Replies.{entry_line, hex_text, number_line, reply_text, name_word, stat_word};
 
 use crate::output::{WriteFailed, put};
 use itoa::Buffer;
@@ -24,8 +24,7 @@ pub fn write_reply<W: Write>(writer: &mut W, reply: &Reply) -> Result<(), WriteF
         Reply::Done => put(writer, b"ok\n"),
         Reply::Count(n) => put_number_line(writer, b"count ", *n),
         Reply::Data(bytes) => put_data(writer, bytes.as_slice()),
-        Reply::Stat(Kind::Dir, n) => put_number_line(writer, b"dir ", *n),
-        Reply::Stat(Kind::File, n) => put_number_line(writer, b"file ", *n),
+        Reply::Stat(kind, len, modified) => put_stat(writer, *kind, *len, *modified),
         Reply::Names(entries) => put_names(writer, entries.as_slice()),
         Reply::Fault(fault) => put_fault(writer, *fault),
     }
@@ -56,6 +55,33 @@ pub(crate) fn put_number_line<W: Write>(
     put(writer, digits.format(n).as_bytes())?;
     put(writer, b"\n")?;
     Ok(())
+}
+
+// Writes the line of what stands at a path, or a beginning of it.
+fn put_stat<W: Write>(
+    writer: &mut W,
+    kind: Kind,
+    len: u64,
+    modified: u64,
+) -> Result<(), WriteFailed>
+    ensures ok { OnOk result (Appends (W.contents writer.old) (W.contents writer.new) (reply_text (Stat kind len modified))) }
+    ensures err { OnErr result (AppendsPart (W.contents writer.old) (W.contents writer.new) (reply_text (Stat kind len modified))) }
+{
+    let mut digits = Buffer::new();
+    put(writer, stat_word(kind))?;
+    put(writer, digits.format(len).as_bytes())?;
+    put_number_line(writer, b" ", modified)?;
+    Ok(())
+}
+
+// What stands before the length of what stands at a path.
+fn stat_word(kind: Kind) -> &'static [u8]
+    ensures { result.now ≡ stat_word kind }
+{
+    match kind {
+        Kind::Dir => b"dir ",
+        Kind::File => b"file ",
+    }
 }
 
 // Writes the line of bytes that were read, or a beginning of it.

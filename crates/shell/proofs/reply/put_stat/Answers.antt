@@ -1,0 +1,29 @@
+use Rattle.std.proofs.Common.{◌≡◌, ◌++◌, ◌∙◌, codes, decimal, subst}
+use Rattle.std.specs.Io.KnownBytes.{Appends}
+use Rattle.std.proofs.KnownBytes.{Appends-trans}
+use Rattle.shell.specs.Parts.{AppendsPart}
+use Rattle.shell.specs.Replies.{number_line, stat_word}
+use Rattle.shell.proofs.Known.{on_err, part_after, part_before}
+use Rattle.shell.proofs.reply.put_stat.Goals as goal
+
+pub returns-in_err-put-clause-err : goal.returns-in_err-put-clause-err
+returns-in_err-put-clause-err g c =
+    let part = subst (AppendsPart _ _) c.stat_word.ensures c.in_err-put.ensures.err in
+    on_err _ _ (part_before _ _ (stat_word c.args.kind ++ decimal c.args.len) (number_line (codes " ") c.args.modified)
+    (part_before _ _ (stat_word c.args.kind) (decimal c.args.len) part))
+
+pub returns-in_err-put-2-clause-err : goal.returns-in_err-put-2-clause-err
+returns-in_err-put-2-clause-err g c =
+    let word = subst (Appends _ _) c.stat_word.ensures c.in_ok-put.ensures.ok in
+    let is : c.as_bytes.result.now ≡ decimal c.args.len = c.as_bytes.ensures.value ∙ c.format.ensures.text in
+    let part = rw is at c.in_err-put-2.ensures.err in
+    on_err _ _ (part_before _ _ (stat_word c.args.kind ++ decimal c.args.len) (number_line (codes " ") c.args.modified)
+    (part_after _ _ _ (stat_word c.args.kind) (decimal c.args.len) word part))
+
+pub returns-in_err-put_number_line-clause-err : goal.returns-in_err-put_number_line-clause-err
+returns-in_err-put_number_line-clause-err g c =
+    let word = subst (Appends _ _) c.stat_word.ensures c.in_ok-put.ensures.ok in
+    let is : c.as_bytes.result.now ≡ decimal c.args.len = c.as_bytes.ensures.value ∙ c.format.ensures.text in
+    let digits = rw is at c.in_ok-put-2.ensures.ok in
+    on_err _ _ (part_after _ _ _ (stat_word c.args.kind ++ decimal c.args.len) (number_line (codes " ") c.args.modified)
+    (Appends-trans _ _ _ (stat_word c.args.kind) (decimal c.args.len) word digits) c.in_err-put_number_line.ensures.err)
