@@ -26,10 +26,6 @@ pub record State : Type 0 where
 abbrev pub in_world : State → World → State
 in_world s w = record s { world = w }
 
--- before its first line the moment is 0
-abbrev pub begun : World → State
-begun w = record { world = w; at = 0 }
-
 -- the reply to a snapshot call
 abbrev pub settled_reply : Snapped → Reply
 settled_reply (Ok done) = Done

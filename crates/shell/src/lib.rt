@@ -24,6 +24,7 @@ mod script;
 pub mod session;
 mod tidy;
 pub mod values;
+pub mod version;
 mod words;
 
 pub use client::run_client;
@@ -39,3 +40,4 @@ pub use request::{Look, Request};
 pub use script::{ScriptFault, run_script};
 pub use session::Session;
 pub use tidy::Tidy;
+pub use version::ImageVersion;
