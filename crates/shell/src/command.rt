@@ -152,10 +152,10 @@ fn read_named_command(alloc: Global, name: &[u8], word: &[u8]) -> Request
 fn read_moment(word: &[u8]) -> Request
     ensures { result ≡ with_value Request.Moment (number_of word.now) }
 {
-    match read_number(word) {
-        Some(at) => Request::Moment(at),
-        None => Request::Malformed,
-    }
+    let Some(at) = read_number(word) else {
+        return Request::Malformed;
+    };
+    Request::Moment(at)
 }
 
 // What a look of two words into a snapshot asks for.

@@ -78,7 +78,7 @@ impl Frozen {
         ensures root { path.now ≡ [] → result ≡ Reply.Stat Kind.Dir 0 self.now.modified }
     {
         if path.is_root() {
-            return Reply::Stat(Kind::Dir, 0, self.rooted.modified);
+            return Reply::Stat(Kind::Dir, 0, self.modified());
         }
         match stat(alloc, &self.rooted.indexes, path) {
             Ok((reply, _)) => reply,

@@ -12,6 +12,7 @@ ghost use Rattle.volume.specs.Marked.{KeepMarkedLists, KeepsMarks};
 ghost use Rattle.volume.specs.Plants.{PlantsIn, is_directory, one_put};
 
 use crate::live::Live;
+use crate::rooted::moment_of;
 use call_compiler::Batch;
 use message::Msg;
 use meta_index::MetaIndex;
@@ -29,6 +30,7 @@ pub(crate) fn plant(alloc: Global, live: &mut Live, path: &Path, meta: Meta) -> 
     if let Some(fault) = fault_of_plant(alloc, &live.indexes().meta, path, meta)? {
         return Err(fault);
     }
+    let _early = moment_of(meta);
     let batch = one_put(alloc, path, meta)?;
     live.append(alloc, batch)?;
     Ok(())

@@ -3,6 +3,7 @@ ghost use Rattle.std.specs.Prelude.{◌≡◌, IfOk, true, IfOk, IfErr};
 ghost use Rattle.call_compiler.specs.Compiled.{touches_root};
 ghost use Rattle.pathkey.specs.Names.{is_root};
 ghost use Rattle.reference.specs.Plant.{modified_of};
+ghost use Rattle.reference.specs.Shape.{IsMoment};
 ghost use Rattle.volume.specs.Rooted.{after_call, after_planting};
 
 use call_compiler::{Call, Indexes, Reply, touches_root};
@@ -63,8 +64,9 @@ pub(crate) fn after_planting(
 }
 
 /// The moment of metadata.
-fn moment_of(meta: Meta) -> u64
-    ensures { result ≡ modified_of meta }
+pub(crate) fn moment_of(meta: Meta) -> u64
+    ensures value { result ≡ modified_of meta }
+    ensures early { IsMoment (modified_of meta) }
 {
     match meta {
         Meta::Dir { modified } => modified,
