@@ -218,14 +218,14 @@ def frozen():
     yield Scene("trees that stand still", ("frozen", "v"), WITH_FILES, free=True, wanted="fault ENOENT")
     for line in LOOKS:
         yield Scene("trees that stand still", ("look", line), WITH_FILES)
-    yield Scene("trees that stand still", ("look", "stat@s /"), WITH_FILES, free=True, wanted="dir 0")
+    yield Scene("trees that stand still", ("look", "stat@s /"), WITH_FILES, free=True, wanted="dir 0 0")
     yield Scene("trees that stand still", ("image",), WITH_FILES, judged="text")
 
 
 def planting():
-    for words in (("/x", "d"), ("/x", "5000"), ("/e/x", "d")):
+    for words in (("/x", "d"), ("/x", "5000"), ("/e/x", "d"), ("/", "d")):
         yield Scene("planting", ("plant", *words), WITH_FILES, wanted="ok")
-    for words, fault in ((("/", "d"), "EEXIST"), (("/d", "d"), "EEXIST"), (("/v/x", "d"), "ENOENT"), (("/f/x", "d"), "ENOTDIR"), (("/x", "1099511627777"), "EFBIG")):
+    for words, fault in ((("/", "5000"), "EEXIST"), (("/d", "d"), "EEXIST"), (("/v/x", "d"), "ENOENT"), (("/f/x", "d"), "ENOTDIR"), (("/x", "1099511627777"), "EFBIG")):
         yield Scene("planting", ("plant", *words), WITH_FILES, wanted=f"fault {fault}")
 
 

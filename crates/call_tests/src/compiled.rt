@@ -33,7 +33,7 @@ fn are_sent(alloc: Global, indexes: &mut Indexes, batch: Batch, counts: Counts) 
 
 /// What a call is compiled to. It ensures nothing, so that no proof of a test reads what a call means.
 fn compiled(alloc: Global, indexes: &Indexes, call: &Call) -> Option<(Reply, Batch)> {
-    compile(alloc, indexes, call).ok()
+    compile(alloc, indexes, call, 0).ok()
 }
 
 /// Whether a call is answered as its row says. What it sends is appended.

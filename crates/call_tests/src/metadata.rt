@@ -53,14 +53,14 @@ fn edit(alloc: Global, index: &mut MetaIndex, text: &str, update: MetaUpdate) ->
 
 /// The root with a file `/f`, an empty directory `/b`, and a directory `/a` with a file and a directory of one file.
 const ENTRIES: &[(&str, Meta)] = &[
-    ("/", Meta::Dir),
-    ("/f", Meta::File { len: 5 }),
-    ("/b", Meta::Dir),
-    ("/a", Meta::Dir),
-    ("/a/x", Meta::File { len: 0 }),
-    ("/a/d", Meta::Dir),
-    ("/a/d/y", Meta::File { len: 9 }),
-    ("/a-b", Meta::File { len: 1 }),
+    ("/", Meta::Dir { modified: 0 }),
+    ("/f", Meta::File { len: 5, modified: 0 }),
+    ("/b", Meta::Dir { modified: 0 }),
+    ("/a", Meta::Dir { modified: 0 }),
+    ("/a/x", Meta::File { len: 0, modified: 0 }),
+    ("/a/d", Meta::Dir { modified: 0 }),
+    ("/a/d/y", Meta::File { len: 9, modified: 0 }),
+    ("/a-b", Meta::File { len: 1, modified: 0 }),
 ];
 
 /// Puts these entries into an index.
@@ -98,16 +98,16 @@ fn has_fault(alloc: Global, index: &MetaIndex, path: &Path, wanted: Option<Errno
 
 /// A path, an update of the entry there, and what then stands there.
 const UPDATES: &[(&str, MetaUpdate, At)] = &[
-    ("/f", MetaUpdate::Grow(3), At::Found(Meta::File { len: 5 })),
-    ("/f", MetaUpdate::Grow(7), At::Found(Meta::File { len: 7 })),
+    ("/f", MetaUpdate::Grow(3, 0), At::Found(Meta::File { len: 5, modified: 0 })),
+    ("/f", MetaUpdate::Grow(7, 0), At::Found(Meta::File { len: 7, modified: 0 })),
     (
         "/f",
-        MetaUpdate::SetLen(2),
-        At::Found(Meta::File { len: 2 }),
+        MetaUpdate::SetLen(2, 0),
+        At::Found(Meta::File { len: 2, modified: 0 }),
     ),
-    ("/f", MetaUpdate::Grow(4), At::Found(Meta::File { len: 4 })),
-    ("/b", MetaUpdate::SetLen(2), At::Found(Meta::Dir)),
-    ("/c", MetaUpdate::Grow(2), At::Missing),
+    ("/f", MetaUpdate::Grow(4, 0), At::Found(Meta::File { len: 4, modified: 0 })),
+    ("/b", MetaUpdate::SetLen(2, 0), At::Found(Meta::Dir { modified: 0 })),
+    ("/c", MetaUpdate::Grow(2, 0), At::Missing),
 ];
 
 /// Whether all updates come to what their rows say; the number of the first that does not.
@@ -146,24 +146,24 @@ impl Holds for Joined {
 
 const JOINED: &[Joined] = &[
     Joined(
-        MetaUpdate::SetLen(3),
-        MetaUpdate::SetLen(2),
-        MetaUpdate::SetLen(2),
+        MetaUpdate::SetLen(3, 0),
+        MetaUpdate::SetLen(2, 0),
+        MetaUpdate::SetLen(2, 0),
     ),
     Joined(
-        MetaUpdate::Grow(3),
-        MetaUpdate::Grow(2),
-        MetaUpdate::Grow(3),
+        MetaUpdate::Grow(3, 0),
+        MetaUpdate::Grow(2, 0),
+        MetaUpdate::Grow(3, 0),
     ),
     Joined(
-        MetaUpdate::SetLen(3),
-        MetaUpdate::Grow(5),
-        MetaUpdate::SetLen(5),
+        MetaUpdate::SetLen(3, 0),
+        MetaUpdate::Grow(5, 0),
+        MetaUpdate::SetLen(5, 0),
     ),
     Joined(
-        MetaUpdate::Grow(3),
-        MetaUpdate::SetLen(2),
-        MetaUpdate::SetLen(2),
+        MetaUpdate::Grow(3, 0),
+        MetaUpdate::SetLen(2, 0),
+        MetaUpdate::SetLen(2, 0),
     ),
 ];
 
@@ -297,10 +297,10 @@ pub enum Asked {
 
 /// An entry is found, missing or blocked.
 const FOUND: &[(&str, Asked)] = &[
-    ("/", Asked::Find(At::Found(Meta::Dir))),
-    ("/f", Asked::Find(At::Found(Meta::File { len: 5 }))),
-    ("/a/d", Asked::Find(At::Found(Meta::Dir))),
-    ("/a/d/y", Asked::Find(At::Found(Meta::File { len: 9 }))),
+    ("/", Asked::Find(At::Found(Meta::Dir { modified: 0 }))),
+    ("/f", Asked::Find(At::Found(Meta::File { len: 5, modified: 0 }))),
+    ("/a/d", Asked::Find(At::Found(Meta::Dir { modified: 0 }))),
+    ("/a/d/y", Asked::Find(At::Found(Meta::File { len: 9, modified: 0 }))),
     ("/c", Asked::Find(At::Missing)),
     ("/c/d/e", Asked::Find(At::Missing)),
     ("/a/d/z", Asked::Find(At::Missing)),

@@ -82,7 +82,7 @@ fn lists_frozen(alloc: Global, world: &World, name: &str, text: &str, told: Told
 
 /// The reply to a call. It ensures nothing, so that no proof of a test reads what a call means.
 fn reply_to(alloc: Global, world: &mut World, call: &Call) -> Result<Reply, Errno> {
-    match world.call(alloc, call) {
+    match world.call(alloc, call, 0) {
         Ok(reply) => Ok(reply),
         Err(_) => Err(Errno::ENOMEM),
     }

@@ -33,7 +33,7 @@ fn replies<J: Naming, R: Wait>(
 ) -> bool
     ensures { client.new.client ≡ client.old.client }
 {
-    let reply = client.call(rt, alloc, call);
+    let reply = client.call(rt, alloc, call, 0);
     is(told, &reply)
 }
 

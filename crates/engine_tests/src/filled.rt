@@ -10,7 +10,7 @@ use volume::{Index, TakeReply, Volume};
 /// Whether a call of the volume is answered so.
 pub fn answers(alloc: Global, volume: &mut Volume, ask: Ask<'_>, told: Told<'_>) -> bool {
     match call_of(alloc, ask) {
-        Some(call) => is(told, &volume.call(alloc, &call)),
+        Some(call) => is(told, &volume.call(alloc, &call, 0)),
         None => false,
     }
 }

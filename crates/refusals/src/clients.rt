@@ -68,7 +68,7 @@ fn act<J: Naming, R: Wait>(
     request: &Request,
 ) -> Answer {
     match request {
-        Request::Wanted(call) => Answer::Call(served.client.call(served.rt, alloc, call)),
+        Request::Wanted(call) => Answer::Call(served.client.call(served.rt, alloc, call, 0)),
         Request::Snapshot(name) => Answer::Snap(served.client.snapshot(served.rt, alloc, name)),
         Request::DropSnapshot(name) => Answer::Snap(served.client.drop_snapshot(served.rt, name)),
         Request::Restore(name) => Answer::Snap(served.client.restore(served.rt, name)),

@@ -25,7 +25,7 @@ pub fn act(alloc: Global, volume: &mut Volume, request: &Request) -> Answer
     ensures { KeepsMarks (live_of volume.old) (live_of volume.new) }
 {
     match request {
-        Request::Wanted(call) => Answer::Call(volume.call(alloc, call)),
+        Request::Wanted(call) => Answer::Call(volume.call(alloc, call, 0)),
         Request::Snapshot(name) => Answer::Snap(volume.snapshot(alloc, name)),
         Request::DropSnapshot(name) => Answer::Snap(volume.drop_snapshot(name)),
         Request::Restore(name) => Answer::Snap(volume.restore(name)),

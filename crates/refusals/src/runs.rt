@@ -37,7 +37,7 @@ const ACTS: [Act; 10] = [
 /// The event of a file call.
 fn call_event(alloc: Global, ask: Ask<'static>) -> Option<Event> {
     match ask.call(alloc) {
-        Ok(call) => Some(Event::Call(call)),
+        Ok(call) => Some(Event::Call(call, 0)),
         Err(_) => None,
     }
 }

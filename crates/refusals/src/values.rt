@@ -82,9 +82,10 @@ pub fn path_of(alloc: Global, word: &str) -> Option<Path> {
 /// What an entry is that two words plant: `d`, or `f` and its length.
 pub fn meta_of(word: &str) -> Option<Meta> {
     if word == "d" {
-        return Some(Meta::Dir);
+        return Some(Meta::Dir { modified: 0 });
     }
     Some(Meta::File {
         len: word.parse::<u64>().ok()?,
+        modified: 0,
     })
 }

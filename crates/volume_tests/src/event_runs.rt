@@ -170,8 +170,8 @@ fn add_all(alloc: Global, events: &mut Vec<Event>, random: &mut Random, first: u
 
 /// What the plain program replies to a call; none where memory is refused. It ensures nothing, so that no proof of a test reads what a
 /// call means; nor do the next ones.
-fn plain_call(alloc: Global, plain: &mut World, call: &Call) -> Option<Reply> {
-    plain.call(alloc, call).ok()
+fn plain_call(alloc: Global, plain: &mut World, call: &Call, at: u64) -> Option<Reply> {
+    plain.call(alloc, call, at).ok()
 }
 
 /// What it replies to a snapshot.
@@ -190,8 +190,8 @@ fn plain_restore(alloc: Global, plain: &mut World, name: &SnapName) -> Result<()
 }
 
 /// Whether the plain program replies so to a call.
-fn replies(alloc: Global, plain: &mut World, call: &Call, reply: &Reply) -> bool {
-    match plain_call(alloc, plain, call) {
+fn replies(alloc: Global, plain: &mut World, call: &Call, at: u64, reply: &Reply) -> bool {
+    match plain_call(alloc, plain, call, at) {
         Some(wanted) => is_reply(reply, &wanted),
         None => false,
     }
@@ -206,7 +206,7 @@ fn is_answer(
     answer: &Answer,
 ) -> bool {
     match (event, answer) {
-        (Event::Call(call), Answer::Call(reply)) => replies(alloc, plain, call, reply),
+        (Event::Call(call, at), Answer::Call(reply)) => replies(alloc, plain, call, *at, reply),
         (Event::Snapshot(name), Answer::Snap(told)) => plain_snapshot(alloc, plain, name) == *told,
         (Event::DropSnapshot(name), Answer::Snap(told)) => plain_drop(plain, name) == *told,
         (Event::Restore(name), Answer::Snap(told)) => plain_restore(alloc, plain, name) == *told,

@@ -52,7 +52,7 @@ fn snap_event(snap: Snap<'_>, name: SnapName) -> Event {
 /// The event of a file call.
 fn call_event(alloc: Global, ask: Ask<'_>) -> Option<Event> {
     match ask.call(alloc) {
-        Ok(call) => Some(Event::Call(call)),
+        Ok(call) => Some(Event::Call(call, 0)),
         Err(_) => None,
     }
 }
