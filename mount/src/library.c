@@ -18,6 +18,9 @@ struct library {
 
 static const uint8_t *text(const char *word) { return (const uint8_t *)word; }
 
+// The mount keeps times beside the tree, and hands in none.
+enum { NO_MOMENT = 0 };
+
 // What a call's number says in <errno.h>. The tree may do some steps behind a call that changed something.
 static int done(struct library *library, uint8_t number) {
     if (number) return doorvervain_errno(number);
@@ -26,27 +29,29 @@ static int done(struct library *library, uint8_t number) {
 }
 
 static int library_change(void *self, enum change what, const char *path) {
-    static uint8_t (*const calls[])(struct doorvervain *, const uint8_t *, size_t) = {
+    static uint8_t (*const calls[])(struct doorvervain *, const uint8_t *, size_t, uint64_t) = {
         doorvervain_mkdir, doorvervain_create, doorvervain_unlink, doorvervain_rmdir, doorvervain_rmtree};
     struct library *library = self;
-    return done(library, calls[what](&library->volume, text(path), strlen(path)));
+    return done(library, calls[what](&library->volume, text(path), strlen(path), NO_MOMENT));
 }
 
 static int library_rename(void *self, const char *from, const char *to) {
     struct library *library = self;
-    return done(library, doorvervain_rename(&library->volume, text(from), strlen(from), text(to), strlen(to)));
+    return done(library, doorvervain_rename(
+                             &library->volume, text(from), strlen(from), text(to), strlen(to), NO_MOMENT));
 }
 
 static int library_truncate(void *self, const char *path, uint64_t length) {
     struct library *library = self;
-    return done(library, doorvervain_truncate(&library->volume, text(path), strlen(path), length));
+    return done(library, doorvervain_truncate(&library->volume, text(path), strlen(path), length, NO_MOMENT));
 }
 
 static int library_write(void *self, const char *path, uint64_t offset, const char *bytes, size_t count,
                          size_t *written) {
     struct library *library = self;
     int fault =
-        done(library, doorvervain_write(&library->volume, text(path), strlen(path), offset, text(bytes), count));
+        done(library, doorvervain_write(
+                          &library->volume, text(path), strlen(path), offset, text(bytes), count, NO_MOMENT));
     *written = fault ? 0 : count;
     return fault;
 }
@@ -82,11 +87,13 @@ static int library_read(void *self, struct place at, uint64_t offset, char *out,
 static int library_stat(void *self, struct place at, struct standing *out) {
     struct library *library = self;
     size_t length = strlen(at.path);
+    uint64_t modified;
     uint8_t kind = 0, number;
     int fault = at.snapshot ? look_into(library, at.snapshot) : 0;
     if (fault) return fault;
-    if (at.snapshot) number = doorvervain_frozen_stat(&library->tree, text(at.path), length, &kind, &out->length);
-    else number = doorvervain_stat(&library->volume, text(at.path), length, &kind, &out->length);
+    if (at.snapshot)
+        number = doorvervain_frozen_stat(&library->tree, text(at.path), length, &kind, &out->length, &modified);
+    else number = doorvervain_stat(&library->volume, text(at.path), length, &kind, &out->length, &modified);
     out->is_directory = kind == 1;
     return doorvervain_errno(number);
 }
