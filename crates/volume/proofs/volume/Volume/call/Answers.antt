@@ -13,7 +13,7 @@ invariant_of-self c =
     let l : PLive = c.call-answer.new.self in
     let e = c.call-answer.ensures in
     let lasts = answered_lasts old c.args.call.now c.args.at c.call-answer.result l c.self.invariant (record { done = e.done; refused = e.refused; batch = e.batch; err = e.err; marks = e.marks; kept = e.kept }) c.stands.ensures in
-    subst (λ n. IsVolume (volume l n c.self.inside.snapshots)) (sym c.after_call.ensures)
+    subst (λ n. IsVolume (volume l n c.self.inside.snapshots)) (sym c.after_call-self-inside.ensures)
     (subst (λ (r : Reply). IsVolume (volume l (after_call c.args.call.now r c.args.at c.self.inside.modified) c.self.inside.snapshots)) (sym c.reply_to-reply.ensures) lasts)
 
 pub returns : goal.returns
@@ -22,6 +22,6 @@ returns c =
     let l : PLive = c.call-answer.new.self in
     let e = c.call-answer.ensures in
     let done = answered old c.args.call.now c.args.at c.call-answer.result l (record { done = e.done; refused = e.refused; batch = e.batch; err = e.err; marks = e.marks; kept = e.kept }) in
-    subst (λ (v : PVolume). Called c.args.call.now c.args.at c.reply_to-reply.result v (volume l c.after_call.result c.self.inside.snapshots)) c.self.view_is
-    (subst (λ n. Called c.args.call.now c.args.at c.reply_to-reply.result old (volume l n c.self.inside.snapshots)) (sym c.after_call.ensures)
+    subst (λ (v : PVolume). Called c.args.call.now c.args.at c.reply_to-reply.result v (volume l c.after_call-self-inside.result c.self.inside.snapshots)) c.self.view_is
+    (subst (λ n. Called c.args.call.now c.args.at c.reply_to-reply.result old (volume l n c.self.inside.snapshots)) (sym c.after_call-self-inside.ensures)
     (subst (λ (r : Reply). Called c.args.call.now c.args.at r old (volume l (after_call c.args.call.now r c.args.at c.self.inside.modified) c.self.inside.snapshots)) (sym c.reply_to-reply.ensures) done))
