@@ -24,7 +24,7 @@ use Rattle.reference.specs.ImageLines.{Line, DirectoryLine, FileLine, BlockLine,
 use Rattle.reference.specs.Shape.{AreBytes}
 use Rattle.reference.proofs.ImageTexts.{Visible, path_visible, decimal_visible, percent_cases}
 use Rattle.reference.proofs.OneImage.{letters_differ}
-use Rattle.shell.specs.ImageLines.{Guesses}
+use Rattle.shell.specs.ImageLines.{CutsMoment, Guesses}
 use Rattle.shell.specs.Requests.{path_of}
 use Rattle.shell.specs.Values.{is_decimal, number_of}
 use Rattle.shell.proofs.ValueFacts.{own}
@@ -339,3 +339,25 @@ no_block_of bytes b both none is = let yes : b ≡ true = both.1 is in cc
 pub some_block : (guess : Option (List ℕ)) (b : List ℕ) → IfSome guess IsBlock → guess ≡ Some b → IsBlock b
 some_block None b h e = absurd (cc)
 some_block (Some c) b h e = let same : c ≡ b = cc in subst IsBlock same h
+
+-- ---- the moment that ends a line
+
+some_pair : (x y : Text × ℕ) → ◌≡◌ {A = Option (Text × ℕ)} (Some x) (Some y) → x ≡ y
+some_pair x y e = cc
+
+-- what was cut off is what was spelled
+pub moment_cut : (v : Version) (words : Text) (cut : Option (Text × ℕ)) → CutsMoment v words cut → (front : Text) (a : ℕ) → cut ≡ Some (front, a) → (last : Text) (at : ℕ) → All (λ b. b ≢ 32) last → IsTold v at
+    → words ≡ last ++ moment_text v at → (front ≡ last) × (a ≡ at)
+moment_cut v words cut h front a is last at free told e =
+    let same : (front, a) ≡ (last, at) = some_pair (front, a) (last, at) (sym is ∙ h.complete last at free told e) in
+    (ap (λ (p : Text × ℕ). p.0) same, ap (λ (p : Text × ℕ). p.1) same)
+
+-- and something was, where something is spelled
+pub no_moment_cut : (v : Version) (words : Text) (cut : Option (Text × ℕ)) → CutsMoment v words cut → cut ≡ None → (last : Text) (at : ℕ) → All (λ b. b ≢ 32) last → IsTold v at → words ≡ last ++ moment_text v at → ⊥
+no_moment_cut v words cut h none last at free told e = let clash : ◌≡◌ {A = Option (Text × ℕ)} None (Some (last, at)) = sym none ∙ h.complete last at free told e in cc
+
+pub moment_told : (v : Version) (words : Text) (cut : Option (Text × ℕ)) → CutsMoment v words cut → (front : Text) (a : ℕ) → cut ≡ Some (front, a) → IsTold v a
+moment_told v words cut h front a is = go (subst (λ (o : Option (Text × ℕ)). IfSome o (λ c. IsTold v c.1)) is h.valid)
+  where
+    go : IfSome (Some (front, a)) (λ (c : Text × ℕ). IsTold v c.1) → IsTold v a
+    go t = t
