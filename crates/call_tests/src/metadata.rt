@@ -54,13 +54,37 @@ fn edit(alloc: Global, index: &mut MetaIndex, text: &str, update: MetaUpdate) ->
 /// The root with a file `/f`, an empty directory `/b`, and a directory `/a` with a file and a directory of one file.
 const ENTRIES: &[(&str, Meta)] = &[
     ("/", Meta::Dir { modified: 0 }),
-    ("/f", Meta::File { len: 5, modified: 0 }),
+    (
+        "/f",
+        Meta::File {
+            len: 5,
+            modified: 0,
+        },
+    ),
     ("/b", Meta::Dir { modified: 0 }),
     ("/a", Meta::Dir { modified: 0 }),
-    ("/a/x", Meta::File { len: 0, modified: 0 }),
+    (
+        "/a/x",
+        Meta::File {
+            len: 0,
+            modified: 0,
+        },
+    ),
     ("/a/d", Meta::Dir { modified: 0 }),
-    ("/a/d/y", Meta::File { len: 9, modified: 0 }),
-    ("/a-b", Meta::File { len: 1, modified: 0 }),
+    (
+        "/a/d/y",
+        Meta::File {
+            len: 9,
+            modified: 0,
+        },
+    ),
+    (
+        "/a-b",
+        Meta::File {
+            len: 1,
+            modified: 0,
+        },
+    ),
 ];
 
 /// Puts these entries into an index.
@@ -98,15 +122,43 @@ fn has_fault(alloc: Global, index: &MetaIndex, path: &Path, wanted: Option<Errno
 
 /// A path, an update of the entry there, and what then stands there.
 const UPDATES: &[(&str, MetaUpdate, At)] = &[
-    ("/f", MetaUpdate::Grow(3, 0), At::Found(Meta::File { len: 5, modified: 0 })),
-    ("/f", MetaUpdate::Grow(7, 0), At::Found(Meta::File { len: 7, modified: 0 })),
+    (
+        "/f",
+        MetaUpdate::Grow(3, 0),
+        At::Found(Meta::File {
+            len: 5,
+            modified: 0,
+        }),
+    ),
+    (
+        "/f",
+        MetaUpdate::Grow(7, 0),
+        At::Found(Meta::File {
+            len: 7,
+            modified: 0,
+        }),
+    ),
     (
         "/f",
         MetaUpdate::SetLen(2, 0),
-        At::Found(Meta::File { len: 2, modified: 0 }),
+        At::Found(Meta::File {
+            len: 2,
+            modified: 0,
+        }),
     ),
-    ("/f", MetaUpdate::Grow(4, 0), At::Found(Meta::File { len: 4, modified: 0 })),
-    ("/b", MetaUpdate::SetLen(2, 0), At::Found(Meta::Dir { modified: 0 })),
+    (
+        "/f",
+        MetaUpdate::Grow(4, 0),
+        At::Found(Meta::File {
+            len: 4,
+            modified: 0,
+        }),
+    ),
+    (
+        "/b",
+        MetaUpdate::SetLen(2, 0),
+        At::Found(Meta::Dir { modified: 0 }),
+    ),
     ("/c", MetaUpdate::Grow(2, 0), At::Missing),
 ];
 
@@ -298,9 +350,21 @@ pub enum Asked {
 /// An entry is found, missing or blocked.
 const FOUND: &[(&str, Asked)] = &[
     ("/", Asked::Find(At::Found(Meta::Dir { modified: 0 }))),
-    ("/f", Asked::Find(At::Found(Meta::File { len: 5, modified: 0 }))),
+    (
+        "/f",
+        Asked::Find(At::Found(Meta::File {
+            len: 5,
+            modified: 0,
+        })),
+    ),
     ("/a/d", Asked::Find(At::Found(Meta::Dir { modified: 0 }))),
-    ("/a/d/y", Asked::Find(At::Found(Meta::File { len: 9, modified: 0 }))),
+    (
+        "/a/d/y",
+        Asked::Find(At::Found(Meta::File {
+            len: 9,
+            modified: 0,
+        })),
+    ),
     ("/c", Asked::Find(At::Missing)),
     ("/c/d/e", Asked::Find(At::Missing)),
     ("/a/d/z", Asked::Find(At::Missing)),

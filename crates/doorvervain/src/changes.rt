@@ -14,12 +14,7 @@ use std::alloc::Global;
 
 /// Makes an empty directory.
 #[unsafe(no_mangle)]
-pub extern "C" fn doorvervain_raw_mkdir(
-    alloc: Global,
-    fs: &mut Handle,
-    path: &[u8],
-    at: u64,
-) -> u8
+pub extern "C" fn doorvervain_raw_mkdir(alloc: Global, fs: &mut Handle, path: &[u8], at: u64) -> u8
     ensures { AsksAt ask.Mkdir path.now at result fs.old.volume fs.new.volume }
 {
     number(byte_calls::on_path(alloc, fs.volume(), PathCall::Mkdir, path, at))
@@ -27,12 +22,7 @@ pub extern "C" fn doorvervain_raw_mkdir(
 
 /// Makes an empty file where nothing stands.
 #[unsafe(no_mangle)]
-pub extern "C" fn doorvervain_raw_create(
-    alloc: Global,
-    fs: &mut Handle,
-    path: &[u8],
-    at: u64,
-) -> u8
+pub extern "C" fn doorvervain_raw_create(alloc: Global, fs: &mut Handle, path: &[u8], at: u64) -> u8
     ensures { AsksAt ask.Create path.now at result fs.old.volume fs.new.volume }
 {
     number(byte_calls::on_path(alloc, fs.volume(), PathCall::Create, path, at))
@@ -40,12 +30,7 @@ pub extern "C" fn doorvervain_raw_create(
 
 /// Takes a file out.
 #[unsafe(no_mangle)]
-pub extern "C" fn doorvervain_raw_unlink(
-    alloc: Global,
-    fs: &mut Handle,
-    path: &[u8],
-    at: u64,
-) -> u8
+pub extern "C" fn doorvervain_raw_unlink(alloc: Global, fs: &mut Handle, path: &[u8], at: u64) -> u8
     ensures { AsksAt ask.Unlink path.now at result fs.old.volume fs.new.volume }
 {
     number(byte_calls::on_path(alloc, fs.volume(), PathCall::Unlink, path, at))
@@ -53,12 +38,7 @@ pub extern "C" fn doorvervain_raw_unlink(
 
 /// Takes an empty directory out.
 #[unsafe(no_mangle)]
-pub extern "C" fn doorvervain_raw_rmdir(
-    alloc: Global,
-    fs: &mut Handle,
-    path: &[u8],
-    at: u64,
-) -> u8
+pub extern "C" fn doorvervain_raw_rmdir(alloc: Global, fs: &mut Handle, path: &[u8], at: u64) -> u8
     ensures { AsksAt ask.Rmdir path.now at result fs.old.volume fs.new.volume }
 {
     number(byte_calls::on_path(alloc, fs.volume(), PathCall::Rmdir, path, at))
@@ -66,12 +46,7 @@ pub extern "C" fn doorvervain_raw_rmdir(
 
 /// Takes a file out, or a directory with all below it.
 #[unsafe(no_mangle)]
-pub extern "C" fn doorvervain_raw_rmtree(
-    alloc: Global,
-    fs: &mut Handle,
-    path: &[u8],
-    at: u64,
-) -> u8
+pub extern "C" fn doorvervain_raw_rmtree(alloc: Global, fs: &mut Handle, path: &[u8], at: u64) -> u8
     ensures { AsksAt ask.Rmtree path.now at result fs.old.volume fs.new.volume }
 {
     number(byte_calls::on_path(alloc, fs.volume(), PathCall::Rmtree, path, at))

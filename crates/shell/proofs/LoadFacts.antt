@@ -161,17 +161,21 @@ order_refused old p m below = λ b is follows. below (subst (λ (q : Path). by_b
 pub root_done : (old : Loading) (v : PVolume) (version : ImageVersion) (root number : ℕ) (line : Text) → number ≡ old.lines + 1 → old.last ≡ [] → old.len ≡ None → old.next ≡ 0 → IsTold (version_of version) root → line ≡ root_line (version_of version) root
     → Plants [] (DirMeta root) (Ok tt) old.volume v → LoadsRoot line old (record { volume = v; version = version; lines = number; last = old.last; modified = root; len = old.len; next = old.next })
 root_done old v version root number line count last len next told line_is h = λ is.
-    let t : Tree = Dir 0 nothing in
-    (record { version = version_of version; root = root; lines = [] }, record {
-      are = (told, tt);
-      means = h.means (alone t) is.means;
-      version = refl;
-      count = let c : old.lines ≡ 0 = is.count in omega arith;
-      last = last;
-      moment = refl;
-      len = len;
-      next = next;
-    }, refl, line_is)
+    let t : Tree = Dir 0 nothing in (
+      record { version = version_of version; root = root; lines = [] },
+      record {
+        are = (told, tt);
+        means = h.means (alone t) is.means;
+        version = refl;
+        count = let c : old.lines ≡ 0 = is.count in omega arith;
+        last = last;
+        moment = refl;
+        len = len;
+        next = next;
+      },
+      refl,
+      line_is,
+    )
 
 -- ---- blocks
 

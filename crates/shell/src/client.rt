@@ -63,5 +63,12 @@ pub fn run_client<J: Naming, H: Wait, R: Read, W: Write>(
     writer: &mut W,
 ) -> Result<(), ScriptFault> {
     let mut served = Served { rt, client };
-    run_lines(alloc, &mut served, &mut 0, reader, writer, &mut Tidy::new(0))
+    run_lines(
+        alloc,
+        &mut served,
+        &mut 0,
+        reader,
+        writer,
+        &mut Tidy::new(0),
+    )
 }

@@ -62,11 +62,7 @@ pub fn read_image_line(
 }
 
 /// The one spelling of a line in a version, without its line feed.
-fn write_line(
-    alloc: Global,
-    version: ImageVersion,
-    line: &ImageLine,
-) -> Result<Vec<u8>, NoMemory>
+fn write_line(alloc: Global, version: ImageVersion, line: &ImageLine) -> Result<Vec<u8>, NoMemory>
     requires { IsLine (version_of version) (line_of line.now) }
     ensures { IfOk result (λ text. text.items ≡ spelled (version_of version) (line_of line.now)) }
 {
@@ -81,11 +77,7 @@ fn write_line(
 }
 
 /// Appends a line with its line feed to a text.
-fn put_line(
-    text: &mut Vec<u8>,
-    version: ImageVersion,
-    line: &ImageLine,
-) -> Result<(), WriteFailed>
+fn put_line(text: &mut Vec<u8>, version: ImageVersion, line: &ImageLine) -> Result<(), WriteFailed>
     requires { IsLine (version_of version) (line_of line.now) }
     ensures { IfOk result (λ _. text.new.items ≡ text.old.items ++ (spelled (version_of version) (line_of line.now) ++ 10 ∷ [])) }
 {
