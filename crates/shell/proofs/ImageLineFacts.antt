@@ -19,12 +19,13 @@ use Rattle.pathkey.specs.declared.errno.Errno.{Errno}
 use Rattle.pathkey.specs.declared.errno.Errno.TheVariants.{ENOMEM}
 use Rattle.pathkey.specs.Texts.{parsed, slashed}
 use Rattle.pathkey.proofs.TextFacts.{read_back}
-use Rattle.reference.specs.Image.{Text, Version, First, Second, directory_letter, file_letter, moment_text, digit, two_digits, percent, path_text}
+use Rattle.reference.specs.Image.{Text, Version, First, Second, directory_letter, file_letter, moment_text, root_line, digit, two_digits, percent, path_text}
 use Rattle.reference.specs.ImageLines.{Line, DirectoryLine, FileLine, BlockLine, spelled, IsLine, IsBlock, IsTold}
 use Rattle.reference.specs.Shape.{AreBytes}
 use Rattle.reference.proofs.ImageTexts.{Visible, path_visible, decimal_visible, percent_cases}
 use Rattle.reference.proofs.OneImage.{letters_differ}
-use Rattle.shell.specs.ImageLines.{CutsMoment, Guesses}
+use Rattle.shell.specs.Image.{directory_text, file_text}
+use Rattle.shell.specs.ImageLines.{CutsMoment, Guesses, IsRoot}
 use Rattle.shell.specs.Requests.{path_of}
 use Rattle.shell.specs.Values.{is_decimal, number_of}
 use Rattle.shell.proofs.ValueFacts.{own}
@@ -361,3 +362,24 @@ moment_told v words cut h front a is = go (subst (λ (o : Option (Text × ℕ)).
   where
     go : IfSome (Some (front, a)) (λ (c : Text × ℕ). IsTold v c.1) → IsTold v a
     go t = t
+
+-- ---- lines as they are written
+
+pub directory_spelled : (v : Version) (p : Path) (at : ℕ) → directory_text v p at ≡ spelled v (DirectoryLine p at) ++ 10 ∷ []
+directory_spelled v p at = ap (λ (t : Text). directory_letter v ∷ 32 ∷ t) (sym (append_assoc (path_text p) (moment_text v at) (10 ∷ [])))
+
+pub file_spelled : (v : Version) (p : Path) (n at : ℕ) → file_text v p n at ≡ spelled v (FileLine p n at) ++ 10 ∷ []
+file_spelled v p n at =
+    ap (λ (t : Text). file_letter v ∷ 32 ∷ (path_text p ++ (32 ∷ t))) (sym (append_assoc (decimal n) (moment_text v at) (10 ∷ [])))
+    ∙ ap (λ (t : Text). file_letter v ∷ 32 ∷ t) (sym (append_assoc (path_text p) (32 ∷ (decimal n ++ moment_text v at)) (10 ∷ [])))
+
+-- ---- the line of a root
+
+pub root_read : (line : Text) (read : Option (Version × ℕ)) → IsRoot line read → (v : Version) (a : ℕ) → read ≡ Some (v, a) → IsTold v a × (line ≡ root_line v a)
+root_read line read h v a is = go (subst (IsRoot line) is h)
+  where
+    go : IsRoot line (Some (v, a)) → IsTold v a × (line ≡ root_line v a)
+    go t = t
+
+pub root_unread : (line : Text) (read : Option (Version × ℕ)) → IsRoot line read → read ≡ None → (v : Version) (at : ℕ) → IsTold v at → line ≢ root_line v at
+root_unread line read h none = subst (IsRoot line) none h

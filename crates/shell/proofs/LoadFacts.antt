@@ -1,6 +1,7 @@
 -- One line more of an image: what it makes of what was loaded.
-use Rattle.std.proofs.Common.{◌≡◌, ◌≢◌, ◌⊎◌, inl, inr, ⊎_elim, ℕ, ◌+◌, ◌*◌, ◌<◌, ◌≤◌, List, [], ◌∷◌, ◌++◌, length, false, refl, sym, ap, subst, ◌∙◌, arith, append_assoc, append-nil, Option, Some, None, Result, Ok, Err, codes}
+use Rattle.std.proofs.Common.{◌≡◌, ◌≢◌, ◌⊎◌, inl, inr, ⊎_elim, ℕ, ◌+◌, ◌*◌, ◌<◌, ◌≤◌, List, [], ◌∷◌, ◌++◌, length, true, false, refl, sym, ap, subst, ◌∙◌, arith, append_assoc, append-nil, Option, Some, None, Result, Ok, Err, codes}
 use Rattle.std.specs.Prelude.{IfOk, IfSome}
+use Rattle.std.specs.Result.{is_ok}
 use Rattle.std.specs.declared.cmp.Ordering.TheVariants.{Less}
 use Rattle.std.proofs.lemmas.Bool.{cases_lt, ltb-false, le-ltb}
 use Rattle.pathkey.specs.Enc.{enc}
@@ -158,9 +159,9 @@ order_refused old p m below = λ b is follows. below (subst (λ (q : Path). by_b
 
 -- ---- the root
 
-pub root_done : (old : Loading) (v : PVolume) (version : ImageVersion) (root number : ℕ) (line : Text) → number ≡ old.lines + 1 → old.last ≡ [] → old.len ≡ None → old.next ≡ 0 → IsTold (version_of version) root → line ≡ root_line (version_of version) root
+pub root_done : (old : Loading) (v : PVolume) (version : ImageVersion) (root number : ℕ) (line : Text) → number ≡ old.lines + 1 → IsTold (version_of version) root → line ≡ root_line (version_of version) root
     → Plants [] (DirMeta root) (Ok tt) old.volume v → LoadsRoot line old (record { volume = v; version = version; lines = number; last = old.last; modified = root; len = old.len; next = old.next })
-root_done old v version root number line count last len next told line_is h = λ is.
+root_done old v version root number line count told line_is h = λ is.
     let t : Tree = Dir 0 nothing in (
       record { version = version_of version; root = root; lines = [] },
       record {
@@ -406,6 +407,11 @@ piece_refused had has now items piece n l (text, read, h) more refuses =
 
 pub bad_number : (number n : ℕ) → ◌≡◌ {A = Result (Unit {0}) LoadFault} (Err (Bad number)) (Err (Bad n)) → number ≡ n
 bad_number number n e = cc
+
+-- an entry that was planted
+pub planted_ok : (r : Snapped) (p : Path) (m : Meta) (old new : PVolume) → is_ok r ≡ true → Plants p m r old new → Plants p m (Ok tt) old new
+planted_ok (Ok x) p m old new e h = h
+planted_ok (Err f) p m old new e h = absurd (cc)
 
 -- a fault is one whatever it stands in the place of
 pub same_fault : {A : Type 0} (fault : LoadFault) (n : ℕ) → ◌≡◌ {A = Result A LoadFault} (Err fault) (Err (Bad n)) → ◌≡◌ {A = Result (Unit {0}) LoadFault} (Err fault) (Err (Bad n))

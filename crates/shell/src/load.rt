@@ -391,7 +391,7 @@ impl Loading {
 
 /// Gives the root of the volume a moment; `false` where memory is refused.
 fn plant_root(alloc: Global, volume: &mut Volume, modified: u64) -> bool
-    ensures planted { result ≡ true → Plants [] (MetaValue.Dir modified) (Ok tt) volume.old volume.new }
+    ensures { result ≡ true → Plants [] (MetaValue.Dir modified) (Ok tt) volume.old volume.new }
 {
     volume
         .plant_entry(alloc, &Path::root(alloc), Meta::Dir { modified })
