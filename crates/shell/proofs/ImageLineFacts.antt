@@ -1,5 +1,5 @@
 -- What is guessed of a line of an image is the line that it spells.
-use Rattle.std.proofs.Common.{◌≡◌, ◌≢◌, ◌⊎◌, ⊎_elim, ◌↔◌, ℕ, zero, suc, ◌/◌, ◌%◌, ◌^◌, ◌<◌, ◌≤◌, List, [], ◌∷◌, ◌++◌, length, get_or, true, false, Bool, cond, ◌==◌, nat_lt, refl, sym, ap, subst, ◌∙◌, arith, append_assoc, Option, Some, None, Result, Ok, Err, decimal, flat_map, codes, All}
+use Rattle.std.proofs.Common.{◌≡◌, ◌≢◌, ◌⊎◌, ⊎_elim, ◌↔◌, ℕ, zero, suc, ◌/◌, ◌%◌, ◌^◌, ◌<◌, ◌≤◌, List, [], ◌∷◌, ◌++◌, length, get_or, true, false, Bool, cond, ◌==◌, nat_lt, refl, sym, ap, subst, ◌∙◌, arith, append_assoc, append-nil, Option, Some, None, Result, Ok, Err, decimal, flat_map, codes, All}
 use Rattle.std.specs.Prelude.{slice_index, IfSome}
 use Rattle.std.specs.List.{list_all}
 use Rattle.std.specs.Char.{is_ascii_digit}
@@ -383,3 +383,44 @@ root_read line read h v a is = go (subst (IsRoot line) is h)
 
 pub root_unread : (line : Text) (read : Option (Version × ℕ)) → IsRoot line read → read ≡ None → (v : Version) (at : ℕ) → IsTold v at → line ≢ root_line v at
 root_unread line read h none = subst (IsRoot line) none h
+
+-- ---- how a moment is cut off
+
+-- version 1 has none
+pub cuts_nothing : (words : Text) → CutsMoment First words (Some (words, 0))
+cuts_nothing words = record {
+  valid = refl;
+  complete = λ front at free told e.
+      let same : words ≡ front = e ∙ append-nil front in
+      ap (λ (w : Text). Some (w, 0)) same ∙ ap (λ (n : ℕ). Some (front, n)) (sym told);
+}
+
+-- version 2 has a space before it
+pub cuts_no_space : (words : Text) → All (λ b. b ≢ 32) words → CutsMoment Second words None
+cuts_no_space words h = record { valid = tt; complete = λ front at free told e. absurd (never_ends words front at h e) }
+
+-- and a number behind that
+pub cuts_no_number : (words front back : Text) → IsCut words front back → number_of back ≡ None → CutsMoment Second words None
+cuts_no_number words front back h none = record {
+  valid = tt;
+  complete = λ last at free told e.
+      let parts = moment_words words front back last at h free e in
+      let clash : ◌≡◌ {A = Option ℕ} None (Some at) = sym none ∙ number_spelled back at told parts.1 in absurd (cc);
+}
+
+pub cuts_last : (words front back : Text) (n : ℕ) → IsCut words front back → number_of back ≡ Some n → n < 2 ^ 64 → CutsMoment Second words (Some (front, n))
+cuts_last words front back n h number few = record {
+  valid = few;
+  complete = λ last at free told e.
+      let parts = moment_words words front back last at h free e in
+      let same : n ≡ at = some_is n at (sym number ∙ number_spelled back at told parts.1) in
+      ap (λ (w : Text). Some (w, n)) parts.0 ∙ ap (λ (k : ℕ). Some (last, k)) same;
+}
+
+-- the length and the moment that end the line of a file
+pub len_spelled : (v : Version) (numbers number : Text) (cut : Option (Text × ℕ)) → CutsMoment v numbers cut → (a : ℕ) → cut ≡ Some (number, a) → (n at : ℕ) → n ≤ 2 ^ 40 → IsTold v at → numbers ≡ decimal n ++ moment_text v at
+    → (number_of number ≡ Some n) × (a ≡ at)
+len_spelled v numbers number cut h a is n at few told e =
+    let small : n < 2 ^ 64 = omega arith in
+    let parts = moment_cut v numbers cut h number a is (decimal n) at (decimal_free n small) told e in
+    (number_spelled number n small parts.0, parts.1)
