@@ -23,6 +23,7 @@ mod request;
 mod script;
 pub mod session;
 mod tidy;
+mod trees;
 pub mod values;
 mod words;
 
@@ -39,3 +40,4 @@ pub use request::{Look, Request};
 pub use script::{ScriptFault, run_script};
 pub use session::Session;
 pub use tidy::Tidy;
+pub use trees::{draw_alone, draw_volume};
