@@ -49,6 +49,12 @@ impl Snapshots {
         self.named.get(name)
     }
 
+    /// The snapshots' name with this number, in the order of names; none past the last. It takes no memory, and no claim
+    /// rests on it.
+    pub fn name(&self, number: usize) -> Option<&SnapName> {
+        self.named.keys().nth(number)
+    }
+
     /// Whether there is a snapshot of that name. It takes no memory.
     pub fn has(&self, name: &SnapName) -> bool
         ensures { result ≡ finite.contains_key self.now name.now }

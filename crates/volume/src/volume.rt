@@ -3,6 +3,7 @@ ghost use Rattle.std.specs.Prelude.{◌≡◌, ◌⊎◌, ◌↔◌, false, Matc
 ghost use Rattle.call_compiler.specs.Compiled.{MeanTree};
 ghost use Rattle.node.specs.Shapes.{is_shape};
 ghost use Rattle.std.specs.FinMap as finite;
+ghost use Rattle.std.specs.Option.{option_copied};
 ghost use Rattle.reference.specs.Worlds.{World, TakeSnapshot, DropSnapshot, RestoreSnapshot};
 ghost use Rattle.volume.specs.Changes.{Called, Settles, KeptAs, Dropped, Restored, Stepped};
 ghost use Rattle.volume.specs.Plants.{Plants};
@@ -167,6 +168,26 @@ impl Volume {
             return Err(Errno::ENOENT);
         };
         Ok(Frozen::of(kept)?)
+    }
+
+    /// Its live indexes, to go through all of the live tree.
+    pub fn indexes(&self) -> &Indexes
+        ensures { result.now ≡ self.now.live }
+    {
+        self.live.indexes()
+    }
+
+    /// The indexes of the snapshot of that name, to go through all of its tree; none where there is none of that name.
+    pub fn kept(&self, name: &SnapName) -> Option<&Indexes>
+        ensures { option_copied result ≡ finite.get self.now.snapshots name.now }
+    {
+        self.snapshots.get(name)
+    }
+
+    /// The snapshots' name with this number, in the order of names; none past the last. It takes no memory, and no claim
+    /// rests on it.
+    pub fn snapshot_name(&self, number: usize) -> Option<&SnapName> {
+        self.snapshots.name(number)
     }
 
     /// The flush of the slot of a live index than which none has more pending messages; none where nothing is pending.
