@@ -61,6 +61,7 @@ fn fault_of_rmdir(alloc: Global, indexes: &Indexes, path: &Path) -> Result<Optio
 pub fn rmtree(alloc: Global, indexes: &Indexes, path: &Path) -> Result<(Reply, Batch), NoMemory>
     ensures { IfOk result (λ c. IsCompiled indexes.now (Call.Rmtree path.now) c.0 (messages c.1)) }
 {
+    // What `key` promises says that the path is one.
     let _key = path.key();
     if let Some(fault) = fault_of_rmtree(alloc, indexes, path)? {
         return Ok(refused(alloc, fault));
