@@ -11,11 +11,7 @@ use steps::relieve;
 use steps::room::slots_of;
 
 /// The shape of the trees.
-const SHAPE: Shape = Shape {
-    fanout: 16,
-    pending: 256,
-    leaf: 256,
-};
+const SHAPE: Shape = Shape::USUAL;
 
 /// The numbers of keys, in turn.
 #[derive(Clone, Copy)]
