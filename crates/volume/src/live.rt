@@ -113,12 +113,10 @@ impl Live {
         alloc: Global,
         compiled: Result<(Reply, Batch), NoMemory>,
     ) -> Result<Reply, NoMemory>
-        ghost call: { FileCall }
-        requires { Compiles self.old.indexes call compiled }
-        ensures done { IfOk result (λ r. Does call r self.old.indexes self.new.indexes) }
-        ensures kind { (t : Tree) → MeanTree self.old.indexes t → IfOk result (λ r. IsOfKind call r) }
-        ensures refused { IfOk result (λ r. (e : Refusal) → r ≡ Reply.Fault e → self.new.indexes ≡ self.old.indexes) }
-        ensures batch { IfOk result (λ r. Batched call self.old self.new) }
+        ensures done { (c : FileCall) → Compiles self.old.indexes c compiled → IfOk result (λ r. Does c r self.old.indexes self.new.indexes) }
+        ensures kind { (c : FileCall) → Compiles self.old.indexes c compiled → (t : Tree) → MeanTree self.old.indexes t → IfOk result (λ r. IsOfKind c r) }
+        ensures refused { (c : FileCall) → Compiles self.old.indexes c compiled → IfOk result (λ r. (e : Refusal) → r ≡ Reply.Fault e → self.new.indexes ≡ self.old.indexes) }
+        ensures batch { (c : FileCall) → Compiles self.old.indexes c compiled → IfOk result (λ r. Batched c self.old self.new) }
         ensures err { OnErr result (self.new ≡ self.old) }
         ensures marks { self.new.marks ≡ self.old.marks }
         ensures kept { KeepsMarks self.old self.new }

@@ -120,11 +120,8 @@ impl Volume {
 
     /// The reply of a call that only looks, which was compiled.
     fn look(&self, compiled: Result<(Reply, Batch), NoMemory>) -> Reply
-        ghost call: { FileCall }
-        requires looks { Looks call }
-        requires compiled { Compiles self.now.live call compiled }
-        ensures called { Called call result self.now self.now }
-        ensures kind { IsOfKind call result }
+        ensures called { (c : FileCall) → Looks c → Compiles self.now.live c compiled → Called c result self.now self.now }
+        ensures kind { (c : FileCall) → Compiles self.now.live c compiled → IsOfKind c result }
     {
         self.means_a_world();
         match compiled {
@@ -176,8 +173,8 @@ fn compile_write(
 ) -> Result<(Reply, Batch), NoMemory>
     ensures { Compiles indexes.now (Call.Write path.now offset bytes.now) result }
 {
-    let bytes = Bytes::copy_from_slice(alloc, bytes)?;
-    writing::write(alloc, indexes, path, offset, &bytes)
+    let own = Bytes::copy_from_slice(alloc, bytes)?;
+    writing::write(alloc, indexes, path, offset, &own)
 }
 
 // The answer that tells a reply of which only a refusal counts.

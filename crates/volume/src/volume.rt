@@ -90,10 +90,9 @@ impl Volume {
         alloc: Global,
         compiled: Result<(Reply, Batch), NoMemory>,
     ) -> Reply
-        ghost call: { FileCall }
-        requires { Compiles self.old.live call compiled }
-        ensures called { Called call result self.old self.new }
-        ensures kind { IsOfKind call result }
+        requires { (c : FileCall) × Compiles self.old.live c compiled }
+        ensures called { (c : FileCall) → Compiles self.old.live c compiled → Called c result self.old self.new }
+        ensures kind { (c : FileCall) → Compiles self.old.live c compiled → IsOfKind c result }
     {
         let answer = self.live.send(alloc, compiled);
         self.live.stands();
