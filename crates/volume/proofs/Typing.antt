@@ -7,17 +7,16 @@ use Rattle.pathkey.specs.declared.errno.Errno.{Errno}
 use Rattle.pathkey.specs.declared.errno.Errno.TheVariants.{ENOMEM}
 use Rattle.reference.specs.Calls.{Outcome, does, unless, faults_of_new, faults_of_write, faults_of_truncate, faults_of_unlink, faults_of_rmdir, faults_of_rmtree, faults_of_rename_from, faults_of_rename, faults_of_read, faults_of_stat, faults_of_readdir, placed, is_empty, bytes_of, names_of, stat_of}
 use Rattle.reference.specs.Tree.{At, Found, Missing, Blocked, Tree, Dir, File, nothing, with_entry, without, entry_at, over, sized}
-use Rattle.reference.specs.Worlds.{World}
 use Rattle.reference.specs.declared.call.Call.{Call}
 use Rattle.reference.specs.declared.call.Call.TheVariants.{Mkdir, Create, Write, Truncate, Unlink, Rmdir, Rename, Rmtree, Read, Stat as AskStat, Readdir}
 use Rattle.reference.specs.declared.reply.Reply.{Reply}
-use Rattle.reference.specs.declared.reply.Reply.TheVariants.{Done, Count, Data, Fault, Names}
-use Rattle.volume.specs.Changes.{Called, Does, Batched, Receives}
+use Rattle.reference.specs.declared.reply.Reply.TheVariants.{Done, Count, Fault, Names}
+use Rattle.volume.specs.Changes.{Called, Does}
 use Rattle.volume.specs.Marked.{PLive}
 use Rattle.volume.specs.Told.{Tells}
 use Rattle.volume.specs.Typed.{IsCount, IsData, IsNames, IsOfKind, IsSettled, IsStat, Looks}
-use Rattle.volume.specs.Volumes.{PVolume, IsVolume, MeanSome, live_of}
-use Rattle.volume.proofs.Leading.{volume, call_done, kept_all, nothing_comes}
+use Rattle.volume.specs.Volumes.{PVolume, MeanSome, live_of}
+use Rattle.volume.proofs.Leading.{call_done, kept_all, nothing_comes}
 
 -- ---- kinds of replies
 
