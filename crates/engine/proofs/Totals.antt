@@ -1,5 +1,5 @@
 -- The calls of all clients are all calls, and a list of no more clients than the engine has, in which each is there, has each once.
-use Rattle.std.proofs.Common.{◌≡◌, ◌≢◌, ◌⊎◌, ℕ, ◌+◌, ◌<◌, ◌≤◌, List, [], ◌∷◌, ◌++◌, length, zero, suc, Bool, ◌==◌, if◌then◌else◌, refl, sym, ap, ◌∙◌, arith, inl, inr, ⊎_elim, eq-eqb, ne_eqb}
+use Rattle.std.proofs.Common.{◌≡◌, ◌≢◌, ◌⊎◌, ℕ, ◌+◌, ◌<◌, ◌≤◌, List, [], ◌∷◌, ◌++◌, length, zero, suc, Bool, ◌==◌, if◌then◌else◌, refl, sym, ap, ◌∙◌, subst, arith, inl, inr, ⊎_elim, eq-eqb, ne_eqb}
 use Rattle.engine.specs.Histories.{Entry, own, AllBelow}
 use Rattle.engine.specs.Clients.{Known}
 use Rattle.engine.specs.Ends.{Agrees, AllAgree, times_in, HasEach, EachOnce, LacksOne, Within, made_by_all}
@@ -103,6 +103,16 @@ total-least : (n : ℕ) (ks : List Known) → HasEach n ks → n ≤ total n ks
 total-least zero ks has = omega arith
 total-least (suc n) ks has = omega (arith, has n (omega arith), total-least n ks (λ c lt. has c (omega (arith, lt))))
 
+-- a number below the next one is this one or below it
+top-or : (n c : ℕ) → c < suc n → (c ≡ n) ⊎ (c < n)
+top-or zero zero lt = inl refl
+top-or zero (suc c) lt = absurd (omega (arith, lt))
+top-or (suc n) zero lt = inr (omega arith)
+top-or (suc n) (suc c) lt = ⊎_elim (λ (e : c ≡ n). inl (ap suc e)) (λ (l : c < n). inr (omega (arith, l))) (top-or n c (omega (arith, lt)))
+
+pub has-more : (n : ℕ) (ks : List Known) → HasEach n ks → 1 ≤ times_in n ks → HasEach (n + 1) ks
+has-more n ks has top c lt = ⊎_elim (λ (same : c ≡ n). subst (λ x. 1 ≤ times_in x ks) (sym same) top) (λ (less : c < n). has c less) (top-or n c (omega (arith, lt)))
+
 -- no more than there are numbers, each of which stands there: each stands there once
 all_there : (n : ℕ) (ks : List Known) → HasEach n ks → total n ks ≤ n → EachOnce n ks
 all_there zero ks has few c lt = absurd (omega (arith, lt))
@@ -115,12 +125,6 @@ all_there (suc n) ks has few c lt =
     (λ (same : c ≡ n). ap (λ x. times_in x ks) same ∙ top)
     (λ (less : c < n). all_there n ks below rest c less)
     (top-or n c lt)
-  where
-    top-or : (n c : ℕ) → c < suc n → (c ≡ n) ⊎ (c < n)
-    top-or zero zero lt = inl refl
-    top-or zero (suc c) lt = absurd (omega (arith, lt))
-    top-or (suc n) zero lt = inr (omega arith)
-    top-or (suc n) (suc c) lt = ⊎_elim (λ (e : c ≡ n). inl (ap suc e)) (λ (l : c < n). inr (omega (arith, l))) (top-or n c (omega (arith, lt)))
 
 pub each_once : (n : ℕ) (ks : List Known) → Within n ks → HasEach n ks → length ks ≤ n → EachOnce n ks
 each_once n ks within has few = all_there n ks has (omega (arith, total-length n ks within, few))

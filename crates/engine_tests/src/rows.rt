@@ -24,7 +24,12 @@ fn written(alloc: Global) -> Option<Vec<u8>> {
 }
 
 /// Writes a byte for each call but the first and the last, each behind the one before.
-fn write_all<J: Naming, R: Wait>(rt: &R, alloc: Global, client: &mut Client<J>, text: &str) -> bool {
+fn write_all<J: Naming, R: Wait>(
+    rt: &R,
+    alloc: Global,
+    client: &mut Client<J>,
+    text: &str,
+) -> bool {
     let mut is_right = true;
     for k in 2..CALLS {
         let byte = [(k % 256) as u8];

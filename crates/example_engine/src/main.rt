@@ -18,13 +18,23 @@ const SHAPE: Shape = Shape {
 struct Notes;
 
 impl Work for Notes {
-    fn work<J: Naming, R: Wait>(&self, rt: &R, alloc: Global, number: usize, client: &mut Client<J>) {
+    fn work<J: Naming, R: Wait>(
+        &self,
+        rt: &R,
+        alloc: Global,
+        number: usize,
+        client: &mut Client<J>,
+    ) {
         let name = if number == 0 { "/one" } else { "/two" };
         if let Ok(path) = Path::parse(alloc, name.as_bytes()) {
             client.call(rt, alloc, &Call::Create(path));
         }
         if let Ok(path) = Path::parse(alloc, name.as_bytes()) {
-            client.call(rt, alloc, &Call::Write(path, 0, Bytes::from_static(b"hello")));
+            client.call(
+                rt,
+                alloc,
+                &Call::Write(path, 0, Bytes::from_static(b"hello")),
+            );
         }
     }
 }

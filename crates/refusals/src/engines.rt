@@ -194,7 +194,12 @@ fn close_asked<J: Naming, R: Wait + Print>(
 }
 
 /// Why an engine was not closed: memory was refused, and then it is closed again.
-fn close_refused<J: Naming, R: Wait>(rt: &R, alloc: Global, fault: CloseFault<J>, out: &mut Vec<u8>) {
+fn close_refused<J: Naming, R: Wait>(
+    rt: &R,
+    alloc: Global,
+    fault: CloseFault<J>,
+    out: &mut Vec<u8>,
+) {
     match fault {
         CloseFault::NoMemory(engine, clients) => close_again(rt, alloc, engine, clients, out),
         CloseFault::Missing(_engine, _clients) => put(out, "missing\n"),
