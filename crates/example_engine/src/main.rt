@@ -7,13 +7,6 @@ use std::alloc::Global;
 use std::sync::Wait;
 use std::thread::Threads;
 
-/// The shape of the trees.
-const SHAPE: Shape = Shape {
-    fanout: 16,
-    pending: 256,
-    leaf: 256,
-};
-
 /// Each client writes a file of its own.
 struct Notes;
 
@@ -41,7 +34,15 @@ impl Work for Notes {
 
 /// The report of an engine over a new volume.
 fn served<R: Threads + Wait + Sync>(rt: &R, alloc: Global) -> Option<Report> {
-    let volume = Volume::new(alloc, SHAPE).ok()?;
+    let volume = Volume::new(
+        alloc,
+        Shape {
+            fanout: 16,
+            pending: 256,
+            leaf: 256,
+        },
+    )
+    .ok()?;
     let room = Room::new(alloc, volume).ok()?;
     room.serve(rt, alloc, 2, 1, &Notes).ok()
 }
