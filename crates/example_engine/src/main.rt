@@ -1,16 +1,24 @@
 //! `example_engine`: two clients of an engine, each in a thread of its own, beside a flusher.
 #![tactic(auto)]
 
-use bytes::Bytes;
 use engine::{Call, Client, Naming, Path, Reply, Report, Room, Shape, Volume, Work};
 use std::alloc::Global;
+use std::io;
 use std::sync::Wait;
 use std::thread::Threads;
 
-/// Each client writes a file of its own.
-struct Notes;
+/// The shape of the trees.
+const SHAPE: Shape = Shape {
+    fanout: 16,
+    pending: 256,
+    leaf: 256,
+};
 
-impl Work for Notes {
+/// Each client makes two directories.
+#[derive(Drop)]
+struct Makers;
+
+impl Work for Makers {
     fn work<J: Naming, R: Wait>(
         &self,
         rt: &R,
@@ -18,49 +26,41 @@ impl Work for Notes {
         number: usize,
         client: &mut Client<J>,
     ) {
-        let name = if number == 0 { "/one" } else { "/two" };
-        if let Ok(path) = Path::parse(alloc, name.as_bytes()) {
-            client.call(rt, alloc, &Call::Create(path));
-        }
-        if let Ok(path) = Path::parse(alloc, name.as_bytes()) {
-            client.call(
-                rt,
-                alloc,
-                &Call::Write(path, 0, Bytes::from_static(b"hello")),
-            );
+        let names = if number == 0 {
+            ["/one", "/one/a"]
+        } else {
+            ["/two", "/two/a"]
+        };
+        for name in names {
+            if let Ok(path) = Path::parse(alloc, name.as_bytes()) {
+                client.call(rt, alloc, &Call::Mkdir(path));
+            }
         }
     }
 }
 
-/// The report of an engine over a new volume.
+/// What is left of an engine over a new volume.
 fn served<R: Threads + Wait + Sync>(rt: &R, alloc: Global) -> Option<Report> {
-    let volume = Volume::new(
-        alloc,
-        Shape {
-            fanout: 16,
-            pending: 256,
-            leaf: 256,
-        },
-    )
-    .ok()?;
+    let volume = Volume::new(alloc, SHAPE).ok()?;
     let room = Room::new(alloc, volume).ok()?;
-    room.serve(rt, alloc, 2, 1, &Notes).ok()
+    room.serve(rt, alloc, 2, 1, &Makers).ok()
 }
 
-/// How long a file of the tree is at the end.
-fn length_of(alloc: Global, report: &Report, name: &str) -> Option<u64> {
-    let path = Path::parse(alloc, name.as_bytes()).ok()?;
-    match report.tree.stat(alloc, &path) {
-        Reply::Stat(_, length) => Some(length),
-        _ => None,
+/// Whether a path stands in the tree at the end.
+fn stands(alloc: Global, report: &Report, name: &str) -> bool {
+    match Path::parse(alloc, name.as_bytes()) {
+        Ok(path) => matches!(report.tree.stat(alloc, &path), Reply::Stat(_, _)),
+        Err(_) => false,
     }
 }
 
-fn main(rt: HostRuntime) -> std::io::Result<()> {
-    let Some(report) = served(&rt, rt.alloc()) else {
-        return println!(rt; "no memory");
-    };
-    let calls = report.calls;
-    let length = length_of(rt.alloc(), &report, "/two").unwrap_or(0);
-    println!(rt; "{calls} calls, and /two has {length} bytes")
+fn main(rt: HostRuntime) -> io::Result<()> {
+    match served(&rt, rt.alloc()) {
+        Some(report) => {
+            let is_there = stands(rt.alloc(), &report, "/two/a");
+            let calls = report.calls;
+            println!(rt; "{calls} calls; /two/a is there: {is_there}")
+        }
+        None => println!(rt; "no memory"),
+    }
 }
