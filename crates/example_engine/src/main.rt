@@ -3,7 +3,6 @@
 
 use engine::{Call, Client, Naming, Path, Reply, Report, Room, Shape, Volume, Work};
 use std::alloc::Global;
-use std::io;
 use std::sync::Wait;
 use std::thread::Threads;
 
@@ -14,7 +13,7 @@ const SHAPE: Shape = Shape {
     leaf: 256,
 };
 
-/// Each client makes two directories.
+/// Each client makes a directory of its own, and both one that both want.
 #[derive(Drop)]
 struct Makers;
 
@@ -26,12 +25,8 @@ impl Work for Makers {
         number: usize,
         client: &mut Client<J>,
     ) {
-        let names = if number == 0 {
-            ["/one", "/one/a"]
-        } else {
-            ["/two", "/two/a"]
-        };
-        for name in names {
+        let name = if number == 0 { "/one" } else { "/two" };
+        for name in [name, "/both"] {
             if let Ok(path) = Path::parse(alloc, name.as_bytes()) {
                 client.call(rt, alloc, &Call::Mkdir(path));
             }
@@ -54,13 +49,11 @@ fn stands(alloc: Global, report: &Report, name: &str) -> bool {
     }
 }
 
-fn main(rt: HostRuntime) -> io::Result<()> {
-    match served(&rt, rt.alloc()) {
-        Some(report) => {
-            let is_there = stands(rt.alloc(), &report, "/two/a");
-            let calls = report.calls;
-            println!(rt; "{calls} calls; /two/a is there: {is_there}")
-        }
-        None => println!(rt; "no memory"),
-    }
+fn main(rt: HostRuntime) -> std::io::Result<()> {
+    let Some(report) = served(&rt, rt.alloc()) else {
+        return println!(rt; "no memory");
+    };
+    let is_there = stands(rt.alloc(), &report, "/both");
+    let calls = report.calls;
+    println!(rt; "{calls} calls; /both is there: {is_there}")
 }
