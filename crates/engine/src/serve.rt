@@ -121,13 +121,12 @@ fn work_beside<J: Naming + Send + Sync, W: Work + Sync, R: Threads + Wait + Sync
     work: &W,
 ) {
     let is_done = AtomicBool::new(false);
-    let told = &is_done;
     scope(scope_env(), rt, |scope| {
         for flusher in staff {
-            start(scope, rt, alloc, flusher, told);
+            start(scope, rt, alloc, flusher, &is_done);
         }
         work_all(rt, alloc, clients, work);
-        told.store(true, Ordering::SeqCst);
+        is_done.store(true, Ordering::SeqCst);
     });
 }
 

@@ -1,6 +1,6 @@
 use Rattle.std.proofs.Common.{sym, ap, ◌∙◌}
 use Rattle.engine.specs.Rule.{Seated}
-use Rattle.engine.proofs.Clients.{sees-after, greets-still, numbered-still}
+use Rattle.engine.proofs.Callers.{sees-after, greets-still, numbered-still}
 use Rattle.engine.proofs.client.Client.frozen.Goals as goal
 
 pub into_seat-place-requires : goal.into_seat-place-requires

@@ -1,6 +1,6 @@
 use Rattle.std.proofs.Common.{sym, ap, ◌∙◌}
 use Rattle.engine.specs.Rule.{Seated}
-use Rattle.engine.proofs.Clients.{calls-after, greets-after, numbered-still}
+use Rattle.engine.proofs.Callers.{calls-after, greets-after, numbered-still}
 use Rattle.engine.proofs.client.Client.make.Goals as goal
 
 pub into_seat-place-requires : goal.into_seat-place-requires
