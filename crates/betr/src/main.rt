@@ -1,4 +1,4 @@
-//! `betr`: runs a script of file calls over a new, empty file system held in memory, and prints the replies.
+//! `betr`: runs a script of file calls over a file system held in memory, and prints the replies.
 #![tactic(auto)]
 
 use shell::run_words;

@@ -3,7 +3,7 @@ ghost use Rattle.std.specs.Prelude.{◌≡◌, ◌≢◌, ◌+◌, ◌-◌, ◌*
 ghost use Rattle.block_index.specs.Changed.{Changes, CutsWhereMeant, cuts, patch_of, patches};
 ghost use Rattle.block_index.specs.Read.{block_count};
 ghost use Rattle.node.specs.Shapes.{is_shape};
-ghost use Rattle.pathkey.specs.Keys.{Key as KeyBytes, next_key, subtree};
+ghost use Rattle.pathkey.specs.Keys.{Key as KeyBytes, subtree};
 ghost use Rattle.reference.specs.Indexes.{BlocksMean, held, patched};
 ghost use Rattle.reference.specs.Looks.{look, Bytes as Contents};
 ghost use Rattle.reference.specs.Tree.{Tree as DirectoryTree};
@@ -56,11 +56,11 @@ impl BlockIndex {
         requires short { len ≤ 2 ^ 40 }
         ensures { IfOk result (λ v. (t : DirectoryTree) (b : List ℕ) → BlocksMean t (blocks self.now) → look t path.now ≡ Some (Contents b) → length b ≡ len → v.items ≡ take n (drop off b)) }
     {
-        let mut steps = 0;
-        self.read_counted(alloc, path, off, n, len, &mut steps)
+        let mut searches = 0;
+        self.read_counted(alloc, path, off, n, len, &mut searches)
     }
 
-    /// Likewise, and leaves in `steps` how many look-ups it made: one for each block that holds bytes of the answer, so at most 257
+    /// Likewise, and leaves in `searches` how many look-ups it made: one for each block that holds bytes of the answer, so at most 257
     /// where `n` is at most 1,048,576.
     pub fn read_counted(
         &self,
@@ -69,16 +69,17 @@ impl BlockIndex {
         off: u64,
         n: u64,
         len: u64,
-        steps: &mut u64,
+        searches: &mut u64,
     ) -> Result<Vec<u8>, NoMemory>
         requires file { path.now ≢ [] }
         requires short { len ≤ 2 ^ 40 }
         ensures read { IfOk result (λ v. (t : DirectoryTree) (b : List ℕ) → BlocksMean t (blocks self.now) → look t path.now ≡ Some (Contents b) → length b ≡ len → v.items ≡ take n (drop off b)) }
-        ensures counted { OnOk result (steps.new ≡ block_count off (min (off + n) len)) }
-        ensures few { n ≤ 1048576 → OnOk result (steps.new ≤ 257) }
+        ensures counted { OnOk result (searches.new ≡ block_count off (min (off + n) len)) }
+        ensures few { n ≤ 1048576 → OnOk result (searches.new ≤ 257) }
     {
+        // What `key` promises says that the path is one.
         let _key = path.key();
-        *steps = 0;
+        *searches = 0;
         let end = off.saturating_add(n).min(len);
         if end <= off {
             return Ok(Vec::new(alloc));
@@ -91,7 +92,7 @@ impl BlockIndex {
             let to = (end - start).min(BLOCK);
             let key = block_key(alloc, path, index)?;
             let block = get(alloc, &self.tree, &key)?;
-            *steps += 1;
+            *searches += 1;
             append(&mut bytes, bytes_of(&block), from as usize, to as usize)?;
         }
         Ok(bytes)
@@ -112,6 +113,7 @@ impl BlockIndex {
         ensures messages { IfOk result (λ msgs. msgs.items ≡ patches path.now off bytes.now) }
         ensures meaning { IfOk result (λ msgs. Changes (patched off bytes.now) path.now msgs.items) }
     {
+        // What `key` promises says that the path is one.
         let _key = path.key();
         let first = off / BLOCK;
         let last = (off + bytes.len() as u64 - 1) / BLOCK;
@@ -135,6 +137,7 @@ impl BlockIndex {
         ensures messages { IfOk result (λ msgs. msgs.items ≡ cuts path.now len) }
         ensures meaning { IfOk result (λ msgs. CutsWhereMeant len path.now msgs.items) }
     {
+        // What `key` promises says that the path is one.
         let _key = path.key();
         let index = (len / BLOCK) as u32;
         let rest = len % BLOCK;
@@ -160,24 +163,6 @@ impl BlockIndex {
         ensures { IfOk result (λ v. IsScan (blocks self.now) (subtree path.now).lo (subtree path.now).hi limit v.items) }
     {
         scan(alloc, &self.tree, &subtree(alloc, path)?, limit)
-    }
-
-    /// The first `limit` pairs behind a key, up to the end of the path's subtree, in key order, or all where there are
-    /// fewer. It fails only for want of memory.
-    ///
-    /// Behind the last key of `below`, or of such a piece, stands the subtree's next piece.
-    pub fn below_behind(
-        &self,
-        alloc: Global,
-        path: &Path,
-        key: &Key,
-        limit: usize,
-    ) -> Result<Vec<(Key, Block)>, NoMemory>
-        ensures { IfOk result (λ v. IsScan (blocks self.now) (next_key key.now) (subtree path.now).hi limit v.items) }
-    {
-        let mut rest = subtree(alloc, path)?;
-        rest.lo = key.next(alloc)?;
-        scan(alloc, &self.tree, &rest, limit)
     }
 }
 

@@ -9,7 +9,7 @@ ghost use Rattle.reference.specs.Tree.{Dir, nothing};
 use crate::batch::Batch;
 use block_index::BlockIndex;
 use meta_index::MetaIndex;
-use node::{Shape, append_both, append_both_kept};
+use node::{Shape, append_both_kept};
 use pathkey::NoMemory;
 use std::alloc::Global;
 
@@ -55,13 +55,7 @@ impl Indexes {
         ensures no_block { batch.block.items ≡ [] → self.new.block ≡ self.old.block }
         ensures err { OnErr result (self.new ≡ self.old) }
     {
-        append_both(
-            alloc,
-            &mut self.meta.tree,
-            batch.meta,
-            &mut self.block.tree,
-            batch.block,
-        )
+        self.append_kept(alloc, batch, &[], &[])
     }
 
     /// Does what `append` does. The list of the slot with number `i` of an index's root stays as it was if that index's

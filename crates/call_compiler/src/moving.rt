@@ -33,6 +33,7 @@ pub(crate) fn rename(
 ) -> Result<(Reply, Batch), NoMemory>
     ensures { IfOk result (λ c. IsCompiled indexes.now (Call.Rename old.now new.now) c.0 (messages c.1)) }
 {
+    // What `key` promises says that both paths are paths.
     let _old_key = old.key();
     let _new_key = new.key();
     if let Some(fault) = fault_of_rmtree(alloc, indexes, old)? {
@@ -50,7 +51,7 @@ pub(crate) fn rename(
     }
     let replaced = replaced_blocks(alloc, indexes, new)?;
     let blocks = put_moved(alloc, &indexes.block.tree, old, new, replaced)?;
-    let batch = without_old(alloc, old, entries, blocks)?;
+    let batch = with_old_cleared(alloc, old, entries, blocks)?;
     Ok((Reply::Done, batch))
 }
 
@@ -123,7 +124,7 @@ fn replaced_blocks(
 }
 
 /// The batch of a rename: behind the messages, a range-delete in each index over what lies at or below the path.
-fn without_old(
+fn with_old_cleared(
     alloc: Global,
     old: &Path,
     entries: Vec<Msg<MetaUpdate>>,

@@ -73,6 +73,7 @@ pub(crate) fn rmtree(
 ) -> Result<(Reply, Batch), NoMemory>
     ensures { IfOk result (λ c. IsCompiled indexes.now (Call.Rmtree path.now) c.0 (messages c.1)) }
 {
+    // What `key` promises says that the path is one.
     let _key = path.key();
     if let Some(fault) = fault_of_rmtree(alloc, indexes, path)? {
         return Ok(refused(alloc, fault));

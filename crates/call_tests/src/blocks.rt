@@ -5,8 +5,9 @@ use block_index::{Block, BlockIndex, BlockUpdate, Patch};
 use bytes::Bytes;
 use message::{Msg, Update};
 use node::Shape;
-use pathkey::{Key, NoMemory, Path, block_key};
+use pathkey::{Key, NoMemory, Path, block_key, subtree};
 use samples::ask::path;
+use scan::scan;
 use std::alloc::Global;
 
 const SHAPE: Shape = Shape {
@@ -482,7 +483,11 @@ fn pairs_of(
 ) -> Option<Pairs> {
     match behind {
         None => index.below(alloc, above, limit).ok(),
-        Some(key) => index.below_behind(alloc, above, key, limit).ok(),
+        Some(key) => {
+            let mut rest = subtree(alloc, above).ok()?;
+            rest.lo = key.next(alloc).ok()?;
+            scan(alloc, &index.tree, &rest, limit).ok()
+        }
     }
 }
 

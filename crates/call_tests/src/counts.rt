@@ -78,9 +78,9 @@ fn reads_in(alloc: Global, index: &BlockIndex, file: &Path, wanted: u64) -> bool
     if file.is_root() {
         return false;
     }
-    let mut steps = 0;
-    match index.read_counted(alloc, file, 1, 1_048_576, 1_048_577, &mut steps) {
-        Ok(bytes) => end_with_one(&bytes, 1_048_575) && steps == wanted,
+    let mut searches = 0;
+    match index.read_counted(alloc, file, 1, 1_048_576, 1_048_577, &mut searches) {
+        Ok(bytes) => end_with_one(&bytes, 1_048_575) && searches == wanted,
         Err(_) => false,
     }
 }

@@ -4,8 +4,9 @@ use crate::rows::{Holds, all_hold};
 use message::Msg;
 use meta_index::{At, Kind, Meta, MetaIndex, MetaUpdate};
 use node::{Shape, Tree};
-use pathkey::{Errno, Key, NoMemory, Path};
+use pathkey::{Errno, Key, NoMemory, Path, subtree};
 use samples::ask::path;
+use scan::scan;
 use std::alloc::Global;
 
 const SHAPE: Shape = Shape {
@@ -208,18 +209,18 @@ fn has_names(alloc: Global, index: &MetaIndex, path: &Path, wanted: &[Name]) -> 
 
 /// Whether so many searches list these entries of the directory at a path.
 fn is_listed(alloc: Global, index: &MetaIndex, path: &Path, names: &[Name], wanted: u64) -> bool {
-    let mut steps = 0;
-    match index.children_counted(alloc, path, &mut steps) {
-        Ok(entries) => are_named(&entries, names) && steps == wanted,
+    let mut searches = 0;
+    match index.children_counted(alloc, path, &mut searches) {
+        Ok(entries) => are_named(&entries, names) && searches == wanted,
         Err(_) => false,
     }
 }
 
 /// Whether so many searches tell that nothing lies below a path, or that something does.
 fn is_told(alloc: Global, index: &MetaIndex, path: &Path, empty: bool, wanted: u64) -> bool {
-    let mut steps = 0;
-    match index.is_empty_dir_counted(alloc, path, &mut steps) {
-        Ok(told) => told == empty && steps == wanted,
+    let mut searches = 0;
+    match index.is_empty_dir_counted(alloc, path, &mut searches) {
+        Ok(told) => told == empty && searches == wanted,
         Err(_) => false,
     }
 }
@@ -255,7 +256,11 @@ fn pairs_of(
 ) -> Option<Vec<(Key, Meta)>> {
     match behind {
         None => index.below(alloc, above, limit).ok(),
-        Some(key) => index.below_behind(alloc, above, key, limit).ok(),
+        Some(key) => {
+            let mut rest = subtree(alloc, above).ok()?;
+            rest.lo = key.next(alloc).ok()?;
+            scan(alloc, &index.tree, &rest, limit).ok()
+        }
     }
 }
 

@@ -10,7 +10,7 @@ ghost use Rattle.node.specs.declared.report.Quantity.TheVariants.{Pending};
 ghost use Rattle.node.specs.declared.step.StepKind.TheVariants.{FlushInner, FlushLeaf};
 
 use message::Update;
-use node::node::count::height;
+use node::count::height;
 use node::{Body, Node, Place, Slot, StepKind, Tree, TreeStep};
 
 /// Whether a node that stands so many levels above the leaves has leaves below it.

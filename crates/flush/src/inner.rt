@@ -16,9 +16,9 @@ ghost use Rattle.node.specs.declared.step.StepReply.TheVariants.{Did};
 ghost use Rattle.flush.specs.Sunk.{Moved, MovedInto, Sunk, left, spare};
 
 use message::{Msg, Pending, Update};
-use node::node::append::append_copies;
-use node::node::count::{held, pieces_in, pieces_of_oldest};
-use node::node::search::holder;
+use node::append::append_copies;
+use node::count::{held, pieces_in, pieces_of_oldest};
+use node::search::holder;
 use node::{Body, Change, Node, Place, Shape, Slot, StepReply, Tree};
 use pathkey::{Key, NoMemory};
 use std::alloc::Global;

@@ -8,7 +8,7 @@ ghost use Rattle.node.specs.Leaves.{Applied};
 ghost use Rattle.flush.specs.Leaf.{AddsNone};
 
 use message::{Msg, Update};
-use node::node::leaf::{apply, position};
+use node::leaf::{apply, position};
 use pathkey::Key;
 use std::alloc::Global;
 

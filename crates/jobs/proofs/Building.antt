@@ -79,14 +79,17 @@ module _ {U V : Type 0} where
 
   -- ---- flushes one after the other
 
+  -- what stays a subtree of the same meaning ends lawfully still
   pub stays_lawful : (means : U → Option V → Option V) (S : Shape) (hi : Option (List ℕ)) (a b : PNode U V) → EndsLawfully S hi a → StaysSubtree means S hi a b → EndsLawfully S hi b
   stays_lawful means S hi a b l s = (l.0, l.1, (s l.0 l.1 l.2).lawful)
 
+  -- two changes that keep a subtree keep it together
   pub stays_then : (means : U → Option V → Option V) (S : Shape) (hi : Option (List ℕ)) (a b c : PNode U V) → StaysSubtree means S hi a b → StaysSubtree means S hi b c → StaysSubtree means S hi a c
   stays_then means S hi a b c s t h lo l =
       let p = s h lo l in
       let q = t h lo p.lawful in
       record { lawful = q.lawful; same = λ k w. q.same k w ∙ p.same k w }
 
+  -- a subtree stays one where nothing changes
   pub stays_itself : (means : U → Option V → Option V) (S : Shape) (hi : Option (List ℕ)) (a : PNode U V) → StaysSubtree means S hi a a
   stays_itself means S hi a h lo l = record { lawful = l; same = λ k w. refl }

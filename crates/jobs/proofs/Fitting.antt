@@ -34,18 +34,23 @@ module _ {U V : Type 0} (means : U → Option V → Option V) where
     );
   }
 
+  -- what was built of a job fits where the job did
   pub built_fits : BuiltLaw means
   built_fits job done t ms b h = each_map (λ m. m.ticket ≡ job.ticket → MarkHas means m (job_content means job) t) (λ m. m.ticket ≡ done.ticket → MarkHas means m (done_content means done) t) ms (λ m f e. has_same m (job_content means job) (done_content means done) t b.content (f (e ∙ b.ticket))) h
 
+  -- a job fits still where each mark keeps its content
   pub kept_fits : KeptLaw means
   kept_fits ticket c a b ms f k = each_two (λ m. m.ticket ≡ ticket → MarkHas means m c a) (KeepsContent means a b) (λ m. m.ticket ≡ ticket → MarkHas means m c b) ms (λ m g h e. h c (g e)) f k
 
+  -- and where marks are taken away
   pub fewer_fit : FewerLaw means
   fewer_fit ticket c t f ms h = each_those (λ m. m.ticket ≡ ticket → MarkHas means m c t) f ms h
 
+  -- and where the mark of one ticket is taken away
   pub others_fit : WithoutLaw means
   others_fit ticket c t gone ms h = each_without (λ m. m.ticket ≡ ticket → MarkHas means m c t) gone ms h
 
+  -- and where the mark of another ticket comes
   pub more_fit : MoreLaw means
   more_fit ticket c t m [] apart h = ((λ e. absurd (apart e)), tt)
   more_fit ticket c t m (n ∷ ms) apart h = (h.0, more_fit ticket c t m ms apart h.1)

@@ -18,7 +18,7 @@ pub mod ticket;
 pub use job::{Done, Job};
 pub use mark::Mark;
 pub use marked::Marked;
-pub use marks::Marks;
 pub use marks::load::Load;
+pub use marks::{MOST_MARKS, Marks};
 pub use reply::{InstallReply, TakeReply};
 pub use ticket::Ticket;

@@ -9,7 +9,7 @@ ghost use Rattle.node.specs.See.{seen_slots};
 use crate::mark::Mark;
 use crate::ticket::Ticket;
 use message::Update;
-use node::node::search::slot_of;
+use node::search::slot_of;
 use node::{Body, Node, Slot};
 use pathkey::{Key, NoMemory};
 use std::alloc::Global;
@@ -19,6 +19,9 @@ pub mod install;
 pub mod load;
 pub mod step;
 pub mod take;
+
+/// How many marks stand at most, over all lists that have one count.
+pub const MOST_MARKS: usize = 64;
 
 /// The marks of a tree, in the order of their tickets.
 #[derive(Drop)]

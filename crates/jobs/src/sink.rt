@@ -10,13 +10,11 @@ ghost use Rattle.jobs.specs.Job.{EndsLawfully};
 use flush::inner::InnerFlush;
 use flush::leaf::LeafFlush;
 use message::Update;
+use node::shape::GREATEST_FANOUT;
 use node::{Node, Place, Shape, StepReply, step_subtree};
 use pathkey::Key;
 use std::alloc::Global;
 use std::sync::Arc;
-
-/// The most slots that a node has, whatever its tree's shape.
-const MOST_SLOTS: u8 = 64;
 
 /// Flushes a slot of the node at a place, and says whether an inner node is below it, into which messages may have come.
 fn flush_slot<U: Update>(
@@ -55,7 +53,7 @@ pub fn sink_below<U: Update>(
     requires lawful { EndsLawfully shape (option_copied hi) top.old.value }
     ensures { StaysSubtree U.means shape (option_copied hi.entry) top.old.value top.new.value }
 {
-    for slot in 0..MOST_SLOTS {
+    for slot in 0..GREATEST_FANOUT as u8 {
         if !flush_slot(alloc, shape, top, hi, at, slot) || levels == 0 {
             continue;
         }

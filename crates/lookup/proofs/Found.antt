@@ -10,6 +10,7 @@ use Rattle.node.specs.See.{seen_slots}
 use Rattle.node.proofs.SlotFacts.{slots_value_is}
 
 module _ {U V : Type 0} (means : U → Option V → Option V) where
+  -- the value at a key is that of the slot that holds it, under its messages
   pub value-below : (k : List ℕ) (xs : List (Slot U V)) (i : ℕ) (slot : Slot U V) (n child : PNode U V) (below : Option V) → inner (seen_slots xs) ≡ n → 0 < length xs → i ≡ slot_number (seen_slots xs) k → slot ≡ get_or xs i slot → child ≡ slot.child.value → below ≡ value means child k
       → effects means slot.pending.0 k below ≡ value means n k
   value-below k xs i slot n child below is some number at child_is below_is =

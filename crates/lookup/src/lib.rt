@@ -7,8 +7,8 @@ ghost use Rattle.node.specs.Meaning.{lookup, value as value_at};
 ghost use Rattle.node.specs.Searchable.{IsSearchable};
 
 use message::{Told, Update};
-use node::node::leaf::position;
-use node::node::search::slot_of;
+use node::leaf::position;
+use node::search::slot_of;
 use node::{Body, Node, Tree};
 use pathkey::{Key, NoMemory};
 use std::alloc::Global;

@@ -279,20 +279,6 @@ impl<U: Update> Pending<U> {
         self.fresh.drop_oldest(count - sorted);
     }
 
-    /// Moves the `count` oldest messages out, whole or not at all.
-    pub fn split_front(&mut self, count: usize) -> Result<Taken<U>, NoMemory>
-        requires { count ≤ length self.old.0 }
-        ensures ok { OnOk result (self.new.0 ≡ drop count self.old.0) }
-        ensures taken { IfOk result (λ t. t ≡ take count self.old.0) }
-        ensures err { OnErr result (self.new.0 ≡ self.old.0) }
-    {
-        let sorted = count.min(self.sorted.len());
-        let mut taken = Vec::with_capacity(self.fresh.allocator(), count)?;
-        self.sorted.move_front(sorted, &mut taken);
-        self.fresh.move_oldest(count - sorted, &mut taken);
-        Ok(Taken::of(taken))
-    }
-
     // ---- what is asked
 
     /// What the list says of the value at the key. It copies nothing but a value that it settles. Where a message that found

@@ -118,6 +118,7 @@ pub(crate) fn clear<U: Update>(
     ensures counted { result ≡ point_count points.new.entries }
 {
     let mut left = count;
+    // What `len` promises says that the keys rise.
     let _ = points.len();
     while let Some(run) = take_inside(points, alloc, range) {
         left -= run.len();
@@ -180,6 +181,7 @@ pub(crate) fn run_at<'a, U: Update>(
     ensures value { option_copied result ≡ look key.now points.now.entries }
     ensures ordered { IsOrdered by_bytes points.now }
 {
+    // What `len` promises says that the keys rise.
     let _ = points.len();
     points.get(key)
 }
@@ -194,6 +196,7 @@ pub(crate) fn stretch_end<'a, U: Update>(
     requires some { is_below from.now (option_copied end) ≡ true }
     ensures { IsStretch (point_msgs points.now.entries) from.now (option_copied end.entry) (option_copied result) }
 {
+    // What `len` promises says that the keys rise.
     let _ = points.len();
     earlier(end, first_behind(points, from))
 }
@@ -225,6 +228,7 @@ pub(crate) fn copy<U: Update>(
     ensures keyed { IfOk result (λ p. AreRunsKeyed points.now.entries → AreRunsKeyed p.entries) }
 {
     let mut copy = BTreeMap::new(alloc);
+    // What `len` promises says that the keys rise.
     let _ = points.len();
     for (key, run) in points {
         let key = key.copy(alloc)?;

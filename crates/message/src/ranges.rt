@@ -69,6 +69,7 @@ pub(crate) fn stretch_end<'a, U: Update>(
     requires some { is_below from.now (option_copied end) ≡ true }
     ensures { IsStretch (range_msgs {U = U} {V = U.Value} ranges.now.entries) from.now (option_copied end.entry) (option_copied result) }
 {
+    // What `len` promises says that the low ends rise.
     let _ = ranges.len();
     earlier(
         earlier(end, first_behind(ranges, from)),
@@ -152,7 +153,7 @@ pub(crate) fn end_of(range: &KeyRange) -> Bound<&Key>
     }
 }
 
-/// Whether the key lies behind the low end of a range and before its high end.
+/// Whether the key lies not inside a range: at its low end or before it, or at its high end or behind it.
 fn is_outside(key: &Key, range: &KeyRange) -> bool
     ensures { result ≡ not (before range.now.lo key.now && is_below key.now range.now.hi) }
 {
@@ -271,6 +272,7 @@ pub(crate) fn copy(
     ensures { IfOk result (λ r. r.entries ≡ ranges.now.entries) }
 {
     let mut copy = BTreeMap::new(alloc);
+    // What `len` promises says that the low ends rise.
     let _ = ranges.len();
     for (lo, hi) in ranges {
         let lo = lo.copy(alloc)?;

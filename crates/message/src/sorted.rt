@@ -1,7 +1,6 @@
 //! A sorted list from whose front messages leave one by one.
 ghost use Rattle.std.specs.Prelude.{◌≡◌, ◌+◌, ◌-◌, ◌^◌, ◌<◌, ◌≤◌, ◌++◌, [], ◌∷◌, true, false, length, take, drop, IfOk, IfErr, IfNone, OnOk, OnErr};
 ghost use Rattle.std.specs.Option.{option_copied, option_map, option_to_list};
-ghost use Rattle.std.specs.Vec.{vec_len, vec_capacity};
 ghost use Rattle.std.specs.List.{slice_get};
 ghost use Rattle.message.specs.Effects.{effects, any_touches, range_count, Takes};
 ghost use Rattle.message.specs.Eldest.{eldest_msg};
@@ -151,22 +150,6 @@ impl<U: Update> Sorted<U> {
     {
         for _ in 0..count {
             self.pop();
-        }
-    }
-
-    /// Moves the `count` oldest messages into reserved room behind those in `taken`.
-    pub(crate) fn move_front(&mut self, count: usize, taken: &mut Vec<Msg<U>>)
-        requires within { count ≤ length self.old }
-        requires room { vec_len taken.old + count ≤ vec_capacity taken.old }
-        ensures left { self.new ≡ drop count self.old }
-        ensures moved { taken.new.items ≡ taken.old.items ++ take count self.old }
-        ensures capacity { vec_capacity taken.new ≡ vec_capacity taken.old }
-    {
-        for _ in 0..count {
-            let Some(msg) = self.pop() else {
-                unreachable!()
-            };
-            taken.push_reserved(msg);
         }
     }
 

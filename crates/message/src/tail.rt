@@ -2,7 +2,6 @@
 //!
 //! A queue holds them, so that the oldest one leaves without moving the others.
 ghost use Rattle.std.specs.Prelude.{◌≡◌, ◌+◌, ◌^◌, ◌≤◌, ◌<◌, ◌++◌, [], ◌∷◌, true, length, take, drop, IfOk, IfNone, IfSome, OnOk, OnErr};
-ghost use Rattle.std.specs.Vec.{vec_len, vec_capacity};
 ghost use Rattle.std.specs.Option.{option_copied, option_map, option_to_list};
 ghost use Rattle.std.specs.List.{slice_get};
 ghost use Rattle.message.specs.Effects.{any_touches, effects, range_count};
@@ -120,21 +119,6 @@ impl<U: Update> Tail<U> {
     {
         for _ in 0..count {
             self.pop();
-        }
-    }
-
-    /// Moves the `count` oldest messages into reserved room behind those in `taken`.
-    pub(crate) fn move_oldest(&mut self, count: usize, taken: &mut Vec<Msg<U>>)
-        requires within { count ≤ length self.old.0 }
-        requires room { vec_len taken.old + count ≤ vec_capacity taken.old }
-        ensures left { self.new.0 ≡ drop count self.old.0 }
-        ensures moved { taken.new.items ≡ taken.old.items ++ take count self.old.0 }
-    {
-        for _ in 0..count {
-            let Some(msg) = self.pop() else {
-                unreachable!()
-            };
-            taken.push_reserved(msg);
         }
     }
 

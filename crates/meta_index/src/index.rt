@@ -2,7 +2,7 @@
 ghost use Rattle.std.specs.Prelude.{◌≡◌, ◌+◌, IfOk, OnOk, IsTrue, None, length, not};
 ghost use Rattle.meta_index.specs.Means.{IsMeantBy, metadata, told};
 ghost use Rattle.node.specs.Shapes.{is_shape};
-ghost use Rattle.pathkey.specs.Keys.{next_key, subtree};
+ghost use Rattle.pathkey.specs.Keys.{subtree};
 ghost use Rattle.reference.specs.Calls.{is_found, is_full, names_of, parent_fault};
 ghost use Rattle.reference.specs.Looks.{look};
 ghost use Rattle.reference.specs.Pairs.{pairs_of};
@@ -91,22 +91,22 @@ impl MetaIndex {
     pub fn is_empty_dir(&self, alloc: Global, path: &Path) -> Result<bool, NoMemory>
         ensures { IfOk result (λ empty. (t : DirectoryTree) → IsMeantBy t self.now → empty ≡ not (is_full (entry_at t path.now))) }
     {
-        let mut steps = 0;
-        self.is_empty_dir_counted(alloc, path, &mut steps)
+        let mut searches = 0;
+        self.is_empty_dir_counted(alloc, path, &mut searches)
     }
 
-    /// Likewise, and leaves in `steps` how often it asked the tree for a first pair: once.
+    /// Likewise, and leaves in `searches` how often it asked the tree for a first pair: once.
     pub fn is_empty_dir_counted(
         &self,
         alloc: Global,
         path: &Path,
-        steps: &mut u64,
+        searches: &mut u64,
     ) -> Result<bool, NoMemory>
         ensures empty { IfOk result (λ empty. (t : DirectoryTree) → IsMeantBy t self.now → empty ≡ not (is_full (entry_at t path.now))) }
-        ensures counted { OnOk result (steps.new ≡ 1) }
+        ensures counted { OnOk result (searches.new ≡ 1) }
     {
         let below = keys_below(alloc, path)?;
-        *steps = 1;
+        *searches = 1;
         Ok(first_in(alloc, &self.tree, &below)?.is_none())
     }
 
@@ -117,32 +117,32 @@ impl MetaIndex {
     pub fn children(&self, alloc: Global, path: &Path) -> Result<Vec<(Kind, Vec<u8>)>, NoMemory>
         ensures { IfOk result (λ v. (t : DirectoryTree) → IsMeantBy t self.now → pairs_of v.items ≡ names_of (entry_at t path.now)) }
     {
-        let mut steps = 0;
-        self.children_counted(alloc, path, &mut steps)
+        let mut searches = 0;
+        self.children_counted(alloc, path, &mut searches)
     }
 
-    /// Likewise, and leaves in `steps` how often it asked for a first pair: once for each entry, and once more. The tree itself
+    /// Likewise, and leaves in `searches` how often it asked for a first pair: once for each entry, and once more. The tree itself
     /// it asks no more often, since the pairs come from it in pieces.
     pub fn children_counted(
         &self,
         alloc: Global,
         path: &Path,
-        steps: &mut u64,
+        searches: &mut u64,
     ) -> Result<Vec<(Kind, Vec<u8>)>, NoMemory>
         ensures listed { IfOk result (λ v. (t : DirectoryTree) → IsMeantBy t self.now → pairs_of v.items ≡ names_of (entry_at t path.now)) }
-        ensures counted { IfOk result (λ v. steps.new ≡ length v.items + 1) }
+        ensures counted { IfOk result (λ v. searches.new ≡ length v.items + 1) }
     {
         let mut entries = Vec::new(alloc);
         let mut rest = keys_below(alloc, path)?;
         let mut pieces = Pieces::new(alloc);
-        *steps = 1;
+        *searches = 1;
         'entries: while let Some((key, meta)) = pieces.first(alloc, &self.tree, &rest)? {
             let Some(child) = child_at(alloc, &key)? else {
                 return Ok(entries);
             };
             entries.push((kind_of(meta), child.name))?;
             rest.lo = child.end;
-            *steps += 1;
+            *searches += 1;
         }
         Ok(entries)
     }
@@ -158,23 +158,5 @@ impl MetaIndex {
         ensures { IfOk result (λ v. IsScan (metadata self.now) (subtree path.now).lo (subtree path.now).hi limit v.items) }
     {
         scan(alloc, &self.tree, &subtree(alloc, path)?, limit)
-    }
-
-    /// The first `limit` pairs behind a key, up to the end of the path's subtree, in key order, or all where there are
-    /// fewer. It fails only for want of memory.
-    ///
-    /// Behind the last key of `below`, or of such a piece, stands the subtree's next piece.
-    pub fn below_behind(
-        &self,
-        alloc: Global,
-        path: &Path,
-        key: &Key,
-        limit: usize,
-    ) -> Result<Vec<(Key, Meta)>, NoMemory>
-        ensures { IfOk result (λ v. IsScan (metadata self.now) (next_key key.now) (subtree path.now).hi limit v.items) }
-    {
-        let mut rest = subtree(alloc, path)?;
-        rest.lo = key.next(alloc)?;
-        scan(alloc, &self.tree, &rest, limit)
     }
 }

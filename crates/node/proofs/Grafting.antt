@@ -10,14 +10,13 @@ use Rattle.node.specs.declared.shape.Shape.{Shape}
 use Rattle.node.specs.See.{seen_slots}
 use Rattle.node.specs.Pure.{PNode, leaf, inner, PSlots, none, more, PTree}
 use Rattle.node.specs.Lawful.{IsLawful, IsLawfulRoot, AreLawfulSlots, slot_count, next_lo}
-use Rattle.node.specs.Grafts.{OfSlot, AtSlot, AtRootSlot, CanReplace, TookPlace, IsGrafted, Grafted, KeepLists, KeepsLists}
+use Rattle.node.specs.Grafts.{OfSlot, AtSlot, AtRootSlot, CanReplace, TookPlace, IsGrafted, Grafted, KeepsLists}
 use Rattle.node.specs.Meaning.{value, slots_value}
 use Rattle.node.specs.Site.{joined, Spliced}
 use Rattle.node.specs.Sinks.{Sinks}
-use Rattle.std.proofs.lemmas.List.{append-nil}
-use Rattle.node.specs.Appended.{parts}
 use Rattle.node.proofs.Roots.{tree_of, on_ok}
 use Rattle.node.proofs.Sinking.{touch_only-drop}
+use Rattle.node.proofs.Wholes.{kept-none}
 use Rattle.node.proofs.Splice.{slots-split, slots-set_split, slot_count-take, slot_count-joined, starts_at-joined, lawful-spliced, value-spliced, starts-first}
 
 module _ {U V : Type 0} where
@@ -125,15 +124,9 @@ module _ {U V : Type 0} where
   keeps_nothing S h ks ms was old w e =
       subst (λ z. KeepsLists ks z was.root old) (sym e) (subst (λ (t : PTree U V). KeepsLists ks [] t.root old) w (same ks old))
     where
-      lists : (ks : List ℕ) (ss : PSlots U V) → KeepLists ks (parts None [] ss) ss ss
-      lists [] none = tt
-      lists (k ∷ ks) none = tt
-      lists [] (more lo ms n ss) = tt
-      lists (k ∷ ks) (more lo ms n ss) = (λ z. sym (append-nil ms), lists ks ss)
-
       same : (ks : List ℕ) (a : PNode U V) → KeepsLists ks [] a a
       same ks (leaf es) = tt
-      same ks (inner ss) = lists ks ss
+      same ks (inner ss) = kept-none ks ss
 
   -- lists that stay in the lent root stay in the tree
   pub kept_after : (S : Shape) {T X : Type 0} (r : Result T X) (ks : List ℕ) (ms : List (Msg U V)) (was : PTree U V) (old now new seen : PNode U V) → tree_of S old ≡ was → now ≡ old → OnOk r (KeepsLists ks ms now new) → seen ≡ new → OnOk r (KeepsLists ks ms was.root seen)

@@ -2,12 +2,14 @@
 use Rattle.std.proofs.Common.{◌≡◌, ℕ, zero, suc, ◌++◌, ◌<◌, ◌≤◌, true, false, List, [], ◌∷◌, length, get_or, map, refl, ap, sym, ◌∙◌, Option, Some, None, cond, arith}
 use Rattle.std.specs.Prelude.{IfSome}
 use Rattle.std.proofs.Math.ListN.{set}
+use Rattle.std.proofs.lemmas.List.{append-nil}
 use Rattle.std.proofs.lemmas.Option.{same_Some}
 use Rattle.message.specs.declared.msg.Msg.{Msg}
 use Rattle.message.specs.Effects.{point, Takes}
 use Rattle.message.proofs.Composing.{takes-none}
 use Rattle.node.specs.declared.node.Slot.{Slot}
 use Rattle.node.specs.Appended.{parts, all_at, HaveTaken}
+use Rattle.node.specs.Grafts.{KeepLists}
 use Rattle.node.specs.Meaning.{begins_by, slot_number, holder}
 use Rattle.node.specs.Pure.{PSlots, none, more}
 use Rattle.node.specs.Searchable.{AreRising, HasRoomAt}
@@ -63,6 +65,21 @@ module _ {U V : Type 0} where
   room-get [] i n d h = absurd h
   room-get (x ∷ xs) zero n d h = h
   room-get (x ∷ xs) (suc i) n d h = room-get xs i n d h
+
+  -- lists that take nothing stay
+  pub kept-none : (ks : List ℕ) (ss : PSlots U V) → KeepLists ks (parts None [] ss) ss ss
+  kept-none [] none = tt
+  kept-none (k ∷ ks) none = tt
+  kept-none [] (more lo ms n ss) = tt
+  kept-none (k ∷ ks) (more lo ms n ss) = (λ z. sym (append-nil ms), kept-none ks ss)
+
+  -- lists stay where one slot takes messages: those of all others, and its own if they stand behind it
+  pub kept-at : (ks : List ℕ) (ms : List (Msg U V)) (xs : List (Slot U V)) (i : ℕ) (d : Slot U V) (p : List (Msg U V) × ℕ) → i < length xs → (0 < get_or ks i 0 → p.0 ≡ (get_or xs i d).pending.0 ++ ms) → KeepLists ks (all_at i ms (seen_slots xs)) (seen_slots xs) (seen_slots (set xs i (record { lo = (get_or xs i d).lo; pending = p; child = (get_or xs i d).child })))
+  kept-at ks ms [] i d p b same = absurd (omega (arith, b))
+  kept-at [] ms (x ∷ xs) zero d p b same = tt
+  kept-at [] ms (x ∷ xs) (suc i) d p b same = tt
+  kept-at (k ∷ ks) ms (x ∷ xs) zero d p b same = (same, kept-none ks (seen_slots xs))
+  kept-at (k ∷ ks) ms (x ∷ xs) (suc i) d p b same = (λ z. sym (append-nil x.pending.0), kept-at ks ms xs i d p (omega (arith, b)) same)
 
 module _ {U V : Type 0} (means : U → Option V → Option V) where
   -- slots that take nothing stay

@@ -1,6 +1,18 @@
 //! The limits of a tree's nodes.
 ghost use Rattle.std.specs.Prelude.{◌≡◌};
 
+/// The fewest slots that an inner node of a shape may have at most, and the fewest entries of a leaf.
+pub const LEAST: u16 = 4;
+
+/// The most slots of an inner node, in any shape.
+pub const GREATEST_FANOUT: u16 = 64;
+
+/// The most pending pieces of an inner node other than the root, in any shape.
+pub const GREATEST_PENDING: u16 = 1024;
+
+/// The most entries of a leaf, in any shape.
+pub const GREATEST_LEAF: u16 = 1024;
+
 /// How many slots, pending pieces and entries a node may have.
 #[derive(Clone, Copy, Debug, PartialEq, Eq)]
 pub struct Shape {
@@ -15,13 +27,20 @@ pub struct Shape {
 impl Shape {
     ghost use Rattle.node.specs.Shapes.{is_shape};
 
+    /// The shape for usual work: 16 slots, 256 pending pieces, 256 entries.
+    pub const USUAL: Shape = Shape {
+        fanout: 16,
+        pending: 256,
+        leaf: 256,
+    };
+
     /// Whether a tree may have the shape.
     pub fn ok(&self) -> bool
         ensures { result ≡ is_shape self.now }
     {
-        (4..=64).contains(&self.fanout)
+        (LEAST..=GREATEST_FANOUT).contains(&self.fanout)
             && self.fanout <= self.pending
-            && self.pending <= 1024
-            && (4..=1024).contains(&self.leaf)
+            && self.pending <= GREATEST_PENDING
+            && (LEAST..=GREATEST_LEAF).contains(&self.leaf)
     }
 }

@@ -9,10 +9,11 @@ ghost use Rattle.node.specs.Searchable.{IsSearchable};
 ghost use Rattle.node.specs.Shapes.{is_shape};
 ghost use Rattle.node.specs.declared.report.Quantity.TheVariants.{Pending};
 
+use crate::node::Node;
 use crate::node::count::{height, total};
-use crate::node::{Node, append};
 use crate::report::{Quantity, ShapeReport};
 use crate::shape::Shape;
+use kept::append_both_kept;
 use message::{Changes, Msg, Update};
 use pathkey::NoMemory;
 use std::alloc::Global;
@@ -117,11 +118,7 @@ impl<U: Update> Tree<U> {
         ensures err { OnErr result (self.new ≡ self.old) }
         ensures nothing { msgs.items ≡ [] → IsOk result × (self.new ≡ self.old) }
     {
-        let root = &mut self.root;
-        if msgs.is_empty() {
-            return Ok(());
-        }
-        Arc::make_mut(root)?.append(alloc, msgs)
+        self.append_kept(alloc, msgs, &[])
     }
 }
 
@@ -141,11 +138,5 @@ pub fn append_both<A: Update, B: Update>(
     ensures second_nothing { second_msgs.items ≡ [] → second.new ≡ second.old }
     ensures nothing { first_msgs.items ≡ [] → second_msgs.items ≡ [] → IsOk result }
 {
-    if first_msgs.is_empty() || second_msgs.is_empty() {
-        first.append(alloc, first_msgs)?;
-        return second.append(alloc, second_msgs);
-    }
-    let one = Arc::make_mut(&mut first.root)?;
-    let two = Arc::make_mut(&mut second.root)?;
-    append::append_both(alloc, one, first_msgs, two, second_msgs)
+    append_both_kept(alloc, first, first_msgs, &[], second, second_msgs, &[])
 }

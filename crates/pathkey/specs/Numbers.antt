@@ -1,5 +1,5 @@
 -- The numbers and words of the refusals.
-use Rattle.std.specs.Prelude.{ℕ, List, codes}
+use Rattle.std.specs.Prelude.{ℕ, List, ◌++◌, codes}
 use Rattle.pathkey.specs.declared.errno.Errno.{Errno}
 use Rattle.pathkey.specs.declared.errno.Errno.TheVariants.{ENOENT, ENOTDIR, EISDIR, EEXIST, ENOTEMPTY, EPERM, EINVAL, ENAMETOOLONG, EFBIG, EBUSY, ENOMEM, ENOSPC}
 
@@ -32,3 +32,22 @@ word_of EFBIG = codes "EFBIG"
 word_of EBUSY = codes "EBUSY"
 word_of ENOMEM = codes "ENOMEM"
 word_of ENOSPC = codes "ENOSPC"
+
+-- what a refusal says
+abbrev pub sentence_of : Errno → List ℕ
+sentence_of ENOENT = codes "no such file or directory"
+sentence_of ENOTDIR = codes "not a directory"
+sentence_of EISDIR = codes "is a directory"
+sentence_of EEXIST = codes "something stands there"
+sentence_of ENOTEMPTY = codes "directory not empty"
+sentence_of EPERM = codes "operation not permitted"
+sentence_of EINVAL = codes "invalid argument"
+sentence_of ENAMETOOLONG = codes "name or path too long"
+sentence_of EFBIG = codes "file too large"
+sentence_of EBUSY = codes "the root cannot be moved or taken out"
+sentence_of ENOMEM = codes "memory was refused"
+sentence_of ENOSPC = codes "all 64 names of snapshots are taken"
+
+-- how a refusal is shown
+abbrev pub shown : Errno → List ℕ
+shown e = word_of e ++ codes ": " ++ sentence_of e

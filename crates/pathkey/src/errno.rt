@@ -1,7 +1,7 @@
 //! Why a call is refused.
 ghost use Rattle.std.specs.Prelude.{◌≡◌};
 ghost use Rattle.pathkey.specs.declared.errno.Errno.TheVariants.{ENOMEM};
-ghost use Rattle.pathkey.specs.Numbers.{number_of, word_of};
+ghost use Rattle.pathkey.specs.Numbers.{number_of, sentence_of, word_of};
 
 use std::alloc::{AllocError, AllocFailed};
 use std::error::Error;
@@ -64,7 +64,42 @@ impl Errno {
             Errno::ENOSPC => "ENOSPC",
         }
     }
+
+    /// What the refusal says, as a short sentence without a full stop.
+    pub fn sentence(self) -> &'static str
+        ensures { result.now ≡ sentence_of self }
+    {
+        match self {
+            Errno::ENOENT => "no such file or directory",
+            Errno::ENOTDIR => "not a directory",
+            Errno::EISDIR => "is a directory",
+            Errno::EEXIST => "something stands there",
+            Errno::ENOTEMPTY => "directory not empty",
+            Errno::EPERM => "operation not permitted",
+            Errno::EINVAL => "invalid argument",
+            Errno::ENAMETOOLONG => "name or path too long",
+            Errno::EFBIG => "file too large",
+            Errno::EBUSY => "the root cannot be moved or taken out",
+            Errno::ENOMEM => "memory was refused",
+            Errno::ENOSPC => "all 64 names of snapshots are taken",
+        }
+    }
 }
+
+/// The word and the sentence, as `ENOENT: no such file or directory`.
+impl fmt::Display for Errno {
+    ghost use Rattle.std.specs.Prelude.{Some};
+    ghost use Rattle.pathkey.specs.Numbers.{shown};
+
+    ghost output = { λ e. Some (shown e) };
+
+    fn fmt<W: fmt::Write>(&self, f: &mut fmt::Formatter<W>) -> fmt::Result {
+        let (word, sentence) = (self.name(), self.sentence());
+        write!(f, "{word}: {sentence}")
+    }
+}
+
+impl Error for Errno {}
 
 /// Memory was refused, and the call changed nothing.
 #[derive(Clone, Copy, Debug, PartialEq, Eq)]

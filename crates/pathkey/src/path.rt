@@ -12,6 +12,7 @@ use crate::errno::{Errno, NoMemory};
 use crate::key::Key;
 use crate::names::Names;
 use std::alloc::Global;
+use std::fmt;
 use std::marker::Model;
 
 /// The most bytes that a path's text has.
@@ -135,4 +136,29 @@ impl Path {
     {
         self.key().as_bytes().starts_with(other.key().as_bytes())
     }
+}
+
+/// The path's text in quotes, with the escapes of a byte string.
+impl fmt::Debug for Path {
+    fn fmt<W: fmt::Write>(&self, f: &mut fmt::Formatter<W>) -> fmt::Result {
+        f.write_str("\"/")?;
+        let key = self.key.as_bytes();
+        if let Some((_, names)) = key.split_last() {
+            show_names(names, f)?;
+        }
+        f.write_str("\"")
+    }
+}
+
+// The names of a path whose key has these bytes before its last.
+fn show_names<W: fmt::Write>(names: &[u8], f: &mut fmt::Formatter<W>) -> fmt::Result {
+    for &byte in names {
+        match byte {
+            0 => f.write_str("/")?,
+            b'\\' | b'"' => write!(f, "\\{}", byte as char)?,
+            0x20..=0x7e => write!(f, "{}", byte as char)?,
+            _ => write!(f, "\\x{byte:02x}")?,
+        }
+    }
+    Ok(())
 }

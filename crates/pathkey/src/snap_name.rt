@@ -12,6 +12,7 @@ use crate::errno::{Errno, NoMemory};
 use crate::key::Key;
 use std::alloc::Global;
 use std::cmp::Ordering;
+use std::fmt;
 use std::marker::Model;
 
 /// The most bytes that a snapshot's name has.
@@ -120,5 +121,16 @@ impl Ord for SnapName {
 
     fn cmp(&self, other: &SnapName) -> Ordering {
         self.bytes.cmp(&other.bytes)
+    }
+}
+
+/// The name in quotes.
+impl fmt::Debug for SnapName {
+    fn fmt<W: fmt::Write>(&self, f: &mut fmt::Formatter<W>) -> fmt::Result {
+        f.write_str("\"")?;
+        for &byte in self.as_bytes() {
+            write!(f, "{}", byte as char)?;
+        }
+        f.write_str("\"")
     }
 }

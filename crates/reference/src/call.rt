@@ -4,7 +4,7 @@ use bytes::Bytes;
 use pathkey::Path;
 
 /// A file call. Offsets and lengths are in bytes.
-#[derive(Drop)]
+#[derive(Debug, Drop)]
 pub enum Call {
     /// Makes an empty directory (POSIX.1-2017, mkdir).
     Mkdir(Path),

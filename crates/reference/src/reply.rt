@@ -26,7 +26,7 @@ pub enum Meta {
 }
 
 /// Bytes that were read. Contracts see them as a list, so that replies are compared by plain equality.
-#[derive(Drop)]
+#[derive(Debug, Drop)]
 pub struct FileBytes {
     bytes: Vec<u8>,
 }
@@ -63,7 +63,7 @@ impl FileBytes {
 }
 
 /// The entries of a directory: kind and name of each, in byte order of names. Contracts see a list.
-#[derive(Drop)]
+#[derive(Debug, Drop)]
 pub struct Listing {
     entries: Vec<(Kind, Vec<u8>)>,
 }
@@ -104,7 +104,7 @@ impl Listing {
 }
 
 /// The answer to a file call.
-#[derive(Drop)]
+#[derive(Debug, Drop)]
 pub enum Reply {
     /// The call was done, and has nothing to tell.
     Done,

@@ -7,7 +7,7 @@ ghost use Rattle.scan.specs.Pairs.{AddsScan, IsFirst};
 
 use message::Update;
 use message::ends::is_before_end;
-use node::node::leaf::count_before;
+use node::leaf::count_before;
 use pathkey::{Key, NoMemory};
 use std::alloc::Global;
 

@@ -12,7 +12,7 @@ use crate::leaf::first_entry;
 use crate::slot::{changed, pair_at, slot_end};
 use message::ends::is_before_end;
 use message::{Told, Update};
-use node::node::search::slot_of;
+use node::search::slot_of;
 use node::{Body, Node, Slot};
 use pathkey::{Key, NoMemory};
 use std::alloc::Global;

@@ -9,7 +9,7 @@ ghost use Rattle.scan.specs.Stretches.{changed, pair_of};
 use message::ends::earlier;
 use message::{Pending, Update};
 use node::Slot;
-use node::node::search::end_of;
+use node::search::end_of;
 use pathkey::{Key, NoMemory};
 use std::alloc::Global;
 

@@ -13,7 +13,7 @@ use crate::search::first;
 use crate::slot::{changed, slot_end};
 use message::ends::is_before_end;
 use message::{Told, Update};
-use node::node::search::slot_of;
+use node::search::slot_of;
 use node::{Body, Node, Slot};
 use pathkey::{Key, NoMemory};
 use std::alloc::Global;

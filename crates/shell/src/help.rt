@@ -2,8 +2,8 @@
 
 /// The first lines of help.
 pub const ABOUT: &str = "\
-Runs a script of file calls over a new, empty file system held in memory,
-and prints the reply to each line.";
+Runs a script of file calls over a file system held in memory, which is empty
+or that of an image (--load), and prints the reply to each line.";
 
 /// The last lines of help: what a script is.
 pub const SCRIPTS: &str = "\

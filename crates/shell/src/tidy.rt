@@ -3,10 +3,7 @@
 //! No claim rests on its choices.
 use crate::pace::Pace;
 use node::StepReply;
-use volume::{Index, Step, Volume};
-
-/// How many steps in a row without room are given up for another.
-const TRIES: u8 = 64;
+use volume::{Step, TRIES, Volume};
 
 /// So many steps after each line, of the index in which more pieces wait.
 #[derive(Drop)]
@@ -68,13 +65,7 @@ impl Pace for Tidy {
 /// The heaviest flush of the index in which more pieces wait, that of the metadata where both have as many; none where
 /// nothing waits.
 fn heaviest(volume: &Volume) -> Option<Step> {
-    let meta = volume.pending(Index::Meta);
-    let block = volume.pending(Index::Block);
-    let index = if meta >= block {
-        Index::Meta
-    } else {
-        Index::Block
-    };
+    let index = volume.busier();
     let step = volume.heaviest(index)?;
     Some(Step { index, step })
 }

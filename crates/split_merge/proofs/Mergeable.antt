@@ -71,6 +71,7 @@ module _ {U V : Type 0} where
   pub can_merge_leaves-is : (xs : List (Slot U V)) (i : ℕ) (s t : Slot U V) → suc i < length xs → s ≡ get_or xs i s → t ≡ get_or xs (suc i) t → can_merge_leaves (slots_from i (seen_slots xs)) ≡ (is_leaf s.child.value && is_leaf t.child.value)
   can_merge_leaves-is xs i s t h e f = ap can_merge_leaves (slots_from-two xs i s t h e f) ∙ can_merge_leaves-two s.lo t.lo s.pending.0 t.pending.0 s.child.value t.child.value (seen_slots (drop (suc (suc i)) xs))
 
+  -- two slots can be merged as inner nodes where neither child is a leaf
   pub can_merge_inner-is : (xs : List (Slot U V)) (i : ℕ) (s t : Slot U V) → suc i < length xs → s ≡ get_or xs i s → t ≡ get_or xs (suc i) t → can_merge_inner (slots_from i (seen_slots xs)) ≡ (not (is_leaf s.child.value) && not (is_leaf t.child.value))
   can_merge_inner-is xs i s t h e f = ap can_merge_inner (slots_from-two xs i s t h e f) ∙ can_merge_inner-two s.lo t.lo s.pending.0 t.pending.0 s.child.value t.child.value (seen_slots (drop (suc (suc i)) xs))
 
@@ -80,6 +81,7 @@ module _ {U V : Type 0} where
   unlike_leaves lo lp ms ns (leaf es) (inner ds) a h = refl
   unlike_leaves lo lp ms ns (inner cs) r a h = refl
 
+  -- and not where the children are of two kinds
   pub unlike_inner : (lo lp : List ℕ) (ms ns : List (Msg U V)) (l r : PNode U V) (a : PSlots U V) → are_alike l r ≡ false → can_merge_inner (more lo ms l (more lp ns r a)) ≡ false
   unlike_inner lo lp ms ns (leaf es) r a h = refl
   unlike_inner lo lp ms ns (inner cs) (leaf fs) a h = refl

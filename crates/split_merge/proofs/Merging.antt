@@ -196,6 +196,7 @@ module _ {U V : Type 0} where
       pub too_many : AreTooMany S (more [] [] s.child.value (more [] [] t.child.value none)) → AreTooMany S (slots_from i (seen_slots xs))
       too_many q = subst (AreTooMany S) (sym (slots_from-two xs i s t h e f)) (same_many S [] [] s.lo t.lo [] [] s.pending.0 t.pending.0 s.child.value t.child.value none _ q)
 
+      -- too many slots below two slots are too many below the two alone
       pub too_many_below : AreTooMany S (slots_from i (seen_slots xs)) → AreTooMany S (more [] [] s.child.value (more [] [] t.child.value none))
       too_many_below q = same_many S s.lo t.lo [] [] s.pending.0 t.pending.0 [] [] s.child.value t.child.value _ none (subst (AreTooMany S) (slots_from-two xs i s t h e f) q)
 

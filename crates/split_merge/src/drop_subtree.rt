@@ -11,7 +11,7 @@ ghost use Rattle.node.specs.declared.step.StepKind.TheVariants.{DropCovered};
 ghost use Rattle.split_merge.specs.Swept.{bare, Swept};
 
 use message::{Pending, Update};
-use node::node::search::next_pivot;
+use node::search::next_pivot;
 use node::{Body, Change, Node, Place, Shape, Slot, StepReply, Tree};
 use pathkey::{Key, NoMemory};
 use std::alloc::Global;

@@ -7,8 +7,8 @@ ghost use Rattle.node.specs.See.{seen_slots};
 ghost use Rattle.split_merge.specs.Lowered.{Lowered, Stays};
 
 use message::{Pending, Update};
-use node::node::append::append_copies;
-use node::node::copy::copy_slots;
+use node::append::append_copies;
+use node::copy::copy_slots;
 use node::{Body, Node, Slot, StepReply, Tree};
 use pathkey::NoMemory;
 use std::alloc::Global;

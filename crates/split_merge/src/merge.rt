@@ -14,7 +14,7 @@ ghost use Rattle.node.specs.declared.step.StepKind.TheVariants.{MergeLeaves, Mer
 ghost use Rattle.split_merge.specs.Merged.{are_alike, both, IsJoined, MergeReplies};
 
 use message::Update;
-use node::node::count::held;
+use node::count::held;
 use node::{Body, Change, Node, Place, Shape, Slot, StepReply, Tree};
 use pathkey::{Key, NoMemory};
 use std::alloc::Global;

@@ -9,8 +9,8 @@ ghost use Rattle.node.specs.declared.step.StepKind.TheVariants.{SplitInner};
 ghost use Rattle.split_merge.specs.Halves.{IsHalved, HalvedOr};
 
 use message::Update;
-use node::node::copy::copy_slots;
-use node::node::count::can_part;
+use node::copy::copy_slots;
+use node::count::can_part;
 use node::{Body, Change, Node, Place, Shape, Slot, StepReply, Tree};
 use pathkey::{Key, NoMemory};
 use std::alloc::Global;

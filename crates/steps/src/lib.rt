@@ -18,7 +18,7 @@ pub mod room;
 pub use room::make_room;
 
 /// How many steps that have no room are given up for another before a turn ends.
-const TRIES: u8 = 64;
+pub const TRIES: u8 = 64;
 
 /// Does the step. Whatever it answers, the tree means what it meant.
 ///

@@ -2,23 +2,15 @@
 //!
 //! No claim rests on the choices that are made here: every step keeps what the tree means, and is proved to.
 use message::Update;
-use node::{Body, Node, Place, Slot, StepKind, Tree, TreeStep};
+use node::{Node, Place, Slot, StepKind, Tree, TreeStep};
 
 /// The slots of the node that the numbers lead to; `None` where no inner node is there.
 fn slots_at<'a, U: Update>(root: &'a Node<U>, numbers: &[u8]) -> Option<&'a [Slot<U>]> {
     let mut node = root;
     for number in numbers {
-        node = &slots_of(node)?.get(*number as usize)?.child;
+        node = &node.slots()?.get(*number as usize)?.child;
     }
-    slots_of(node)
-}
-
-/// The slots of a node; `None` where it is a leaf.
-pub fn slots_of<U: Update>(node: &Node<U>) -> Option<&[Slot<U>]> {
-    match node.body() {
-        Body::Inner(slots) => Some(slots.as_slice()),
-        Body::Leaf(_) => None,
-    }
+    node.slots()
 }
 
 /// The place that these numbers lead to; `None` where they are more than 15.

@@ -2,13 +2,12 @@
 use crate::number::Set;
 use lookup::get;
 use message::Msg;
-use node::node::count::held;
+use node::count::held;
 use node::{Shape, StepReply, Tree};
 use pathkey::{Key, NoMemory};
 use std::alloc::Global;
 use std::collections::BTreeMap;
 use steps::relieve;
-use steps::room::slots_of;
 
 /// The shape of the trees.
 const SHAPE: Shape = Shape {
@@ -44,7 +43,7 @@ fn key(alloc: Global, number: u64) -> Result<Key, NoMemory> {
 
 /// How many messages wait in the root.
 fn waiting(tree: &Tree<Set>) -> u128 {
-    match slots_of(tree.root()) {
+    match tree.root().slots() {
         Some(slots) => held(slots),
         None => 0,
     }

@@ -17,10 +17,7 @@ use node::{StepReply, TreeStep};
 use pathkey::NoMemory;
 use std::alloc::Global;
 use std::marker::Model;
-use steps::make_room;
-
-/// How many steps that have no room are given up for another before a turn ends.
-const TRIES: u8 = 64;
+use steps::{TRIES, make_room};
 
 /// Indexes, and the marks of the jobs taken from them: they stand beside the trees, so that no share of a tree has any.
 #[derive(Drop)]

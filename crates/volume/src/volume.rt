@@ -212,8 +212,8 @@ impl Volume {
         relief
     }
 
-    /// The index with more pending pieces, that of the metadata where both have as many.
-    fn busier(&self) -> Index
+    /// The index with more pending pieces, that of the metadata where both have as many. It takes no memory.
+    pub fn busier(&self) -> Index
         ensures index { result ≡ busier self.now.live }
         ensures nothing { (pending_in result self.now.live ≡ 0) → (pending_in Index.Meta self.now.live ≡ 0) × (pending_in Index.Block self.now.live ≡ 0) }
     {

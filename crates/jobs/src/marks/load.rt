@@ -5,7 +5,7 @@ use super::{Marks, kept_at};
 use crate::mark::Mark;
 use flush::inner::spare;
 use message::Update;
-use node::{Body, Slot, Tree};
+use node::{Slot, Tree};
 
 /// The slot of a root of which a job would move the most messages.
 #[derive(Clone, Copy, Debug, PartialEq, Eq)]
@@ -30,9 +30,7 @@ impl Marks {
     /// The slot of the tree's root of which a job would move the most messages, the first of equals; none where no job would
     /// move any. It takes no memory, and looks below those slots alone that hold more than the best one before them.
     pub fn heaviest<U: Update>(&self, tree: &Tree<U>) -> Option<Load> {
-        let Body::Inner(slots) = tree.root().body() else {
-            return None;
-        };
+        let slots = tree.root().slots()?;
         let room = tree.shape().pending;
         let mut best = None;
         let mut most = 0;

@@ -61,6 +61,9 @@ fn survives<U: Update>(step: TreeStep, root: &Node<U>, mark: &Mark) -> bool
 }
 
 /// Does a step, and takes away the marks from number `k` on that do not outlive it.
+///
+/// Which marks outlive the step is asked of the root before it, and they go only once it is done. So each call keeps one answer
+/// while the next does the rest: no list of answers is needed, for which memory could be refused. At most 64 marks stand.
 fn do_step_from<U: Update>(
     alloc: Global,
     tree: &mut Tree<U>,

@@ -13,14 +13,14 @@ ghost use Rattle.node.specs.StepRows.{can_flush_inner, IsFullBelow};
 ghost use Rattle.node.specs.See.{seen_slots};
 ghost use Rattle.node.specs.Site.{slots_from};
 
-use super::{Marks, kept_at};
+use super::{MOST_MARKS, Marks, kept_at};
 use crate::job::Job;
 use crate::mark::Mark;
 use crate::reply::TakeReply;
 use flush::inner::{few_oldest, fitting, is_flushable, spare};
 use message::ends::copy_end;
 use message::{Msg, Update};
-use node::node::search::end_of;
+use node::search::end_of;
 use node::{Body, Node, Shape, Slot, Tree};
 use pathkey::{KeyRange, NoMemory};
 use std::alloc::Global;
@@ -189,7 +189,7 @@ impl Marks {
         if !can_take(self.list.as_slice(), tree.root(), i) {
             return TakeReply::NotThere;
         }
-        if all >= 64 || given > u64::MAX as u128 {
+        if all >= MOST_MARKS || given > u64::MAX as u128 {
             return TakeReply::NoRoom;
         }
         match job_of(alloc, given as u64, tree, i) {

@@ -1,7 +1,7 @@
-//! New messages in the slots of a root, whole or not at all.
+//! New messages for the slots of a root, cut at the pivots, with room for them.
 //!
-//! An append has two steps. `prepare` cuts the messages at the pivots and makes room in every slot that takes
-//! some: it may be refused memory, and the tree looks the same. `put_batch` moves the parts into that room and
+//! An append has two steps. `prepare` cuts the messages at the pivots and reserves room in every slot that takes
+//! some: it may be refused memory, and the tree looks the same. `put_batch` (in `kept`) moves the parts into that room and
 //! cannot fail. So two trees are appended to together: prepare, prepare, put, put. One message for one key goes to its
 //! slot as it is, without a part for each slot.
 ghost use Rattle.std.specs.Prelude.{◌≡◌, ◌<◌, OnOk, OnErr, IfOk, IfSome, map, length, ◌++◌, [], None};
@@ -12,8 +12,9 @@ ghost use Rattle.node.specs.Pure.{inner};
 ghost use Rattle.node.specs.Searchable.{AreRising, Fits, AllFit, IsRoot, HasRoom, see_list};
 ghost use Rattle.node.specs.See.{see_slot, seen_slots};
 
+use super::Slot;
+use super::kept::put_kept;
 use super::search::{holder, next_pivot, slot_of};
-use super::{Body, Node, Slot};
 use message::{Changes, Msg, Update};
 use pathkey::{Key, NoMemory};
 use std::alloc::Global;
@@ -117,7 +118,7 @@ fn copied_parts<U: Update>(
 }
 
 /// Reserves room in each slot's list for its part. The slots mean what they meant, whatever it answers.
-pub fn make_room<U: Update>(slots: &mut [Slot<U>], parts: &[Vec<Msg<U>>]) -> Result<(), NoMemory>
+fn reserve_each<U: Update>(slots: &mut [Slot<U>], parts: &[Vec<Msg<U>>]) -> Result<(), NoMemory>
     ensures same { map see_slot slots.new ≡ map see_slot slots.old }
     ensures room { OnOk result (HasRoom slots.new parts.now) }
 {
@@ -128,27 +129,12 @@ pub fn make_room<U: Update>(slots: &mut [Slot<U>], parts: &[Vec<Msg<U>>]) -> Res
         return Ok(());
     };
     slot.pending.reserve(part.len())?;
-    make_room(slots, parts)
-}
-
-/// Puts each part behind what waits in its slot, where there is room for it.
-pub fn put<U: Update>(slots: &mut [Slot<U>], parts: &mut [Vec<Msg<U>>])
-    requires { HasRoom slots.old parts.old }
-    ensures { HaveTaken U.means (seen_slots slots.old) (map see_list parts.old) (seen_slots slots.new) }
-{
-    let Some((slot, slots)) = slots.split_first_mut() else {
-        return;
-    };
-    let Some((part, parts)) = parts.split_first_mut() else {
-        return;
-    };
-    slot.pending.append_reserved(part);
-    put(slots, parts)
+    reserve_each(slots, parts)
 }
 
 /// The messages of an append as the slots take them.
 #[derive(Drop)]
-enum Batch<U: Changes> {
+pub enum Batch<U: Changes> {
     /// All go to the slot with this number.
     Whole(usize, Vec<Msg<U>>),
     /// The part of each slot.
@@ -168,7 +154,7 @@ fn holder_of_all<U: Update>(slots: &[Slot<U>], msgs: &[Msg<U>]) -> Option<usize>
 }
 
 /// Cuts the messages for a root's slots and reserves room for the parts in them.
-pub fn prepare_parts<U: Update>(
+fn prepare_parts<U: Update>(
     alloc: Global,
     slots: &mut [Slot<U>],
     msgs: Vec<Msg<U>>,
@@ -179,12 +165,12 @@ pub fn prepare_parts<U: Update>(
     ensures parts { IfOk result (λ v. map see_list v.items ≡ parts_of None msgs.items (seen_slots slots.old)) }
 {
     let parts = parts(alloc, slots, None, msgs)?;
-    make_room(slots, parts.as_slice())?;
+    reserve_each(slots, parts.as_slice())?;
     Ok(parts)
 }
 
 /// Likewise, but one message for one key goes to its slot as it is.
-fn prepare<U: Update>(
+pub fn prepare<U: Update>(
     alloc: Global,
     slots: &mut [Slot<U>],
     msgs: Vec<Msg<U>>,
@@ -201,60 +187,6 @@ fn prepare<U: Update>(
     Ok(Batch::Parts(prepare_parts(alloc, slots, msgs)?))
 }
 
-/// Puts the messages behind what waits in the slots, where there is room for them.
-fn put_batch<U: Update>(slots: &mut [Slot<U>], batch: Batch<U>)
-    requires { HasRoomFor slots.old batch }
-    ensures { HaveTaken U.means (seen_slots slots.old) (batch_parts batch (seen_slots slots.old)) (seen_slots slots.new) }
-{
-    match batch {
-        Batch::Whole(i, msgs) => {
-            let mut msgs = msgs;
-            slots[i].pending.append_reserved(&mut msgs);
-        }
-        Batch::Parts(parts) => {
-            let mut parts = parts;
-            put(slots, parts.as_mut_slice());
-        }
-    }
-}
-
-/// Puts messages behind what waits in a root's slots.
-fn append_slots<U: Update>(
-    alloc: Global,
-    slots: &mut [Slot<U>],
-    msgs: Vec<Msg<U>>,
-) -> Result<(), NoMemory>
-    requires { IsRoot (inner (seen_slots slots.old)) }
-    ensures ok { OnOk result (IsAppended U.means msgs.items (inner (seen_slots slots.old)) (inner (seen_slots slots.new))) }
-    ensures err { OnErr result (map see_slot slots.new ≡ map see_slot slots.old) }
-{
-    let batch = prepare(alloc, slots, msgs)?;
-    put_batch(slots, batch);
-    Ok(())
-}
-
-/// Likewise for two roots: both or neither.
-fn append_both_slots<A: Update, B: Update>(
-    alloc: Global,
-    first: &mut [Slot<A>],
-    first_msgs: Vec<Msg<A>>,
-    second: &mut [Slot<B>],
-    second_msgs: Vec<Msg<B>>,
-) -> Result<(), NoMemory>
-    requires first { IsRoot (inner (seen_slots first.old)) }
-    requires second { IsRoot (inner (seen_slots second.old)) }
-    ensures first_ok { OnOk result (IsAppended A.means first_msgs.items (inner (seen_slots first.old)) (inner (seen_slots first.new))) }
-    ensures first_err { OnErr result (map see_slot first.new ≡ map see_slot first.old) }
-    ensures second_ok { OnOk result (IsAppended B.means second_msgs.items (inner (seen_slots second.old)) (inner (seen_slots second.new))) }
-    ensures second_err { OnErr result (map see_slot second.new ≡ map see_slot second.old) }
-{
-    let first_batch = prepare(alloc, first, first_msgs)?;
-    let second_batch = prepare(alloc, second, second_msgs)?;
-    put_batch(first, first_batch);
-    put_batch(second, second_batch);
-    Ok(())
-}
-
 /// Puts copies of messages behind what waits in slots, each cut to the ranges of the slots that it touches, whole or
 /// not at all. It asks nothing of the slots.
 pub fn append_copies<U: Update>(
@@ -266,51 +198,7 @@ pub fn append_copies<U: Update>(
     ensures err { OnErr result (map see_slot slots.new ≡ map see_slot slots.old) }
 {
     let mut parts = copied_parts(alloc, slots, msgs)?;
-    make_room(slots, parts.as_slice())?;
-    put(slots, parts.as_mut_slice());
+    reserve_each(slots, parts.as_slice())?;
+    put_kept(slots, parts.as_mut_slice(), &[]);
     Ok(())
-}
-
-impl<U: Update> Node<U> {
-    /// Puts messages into the slots of a root.
-    pub fn append(&mut self, alloc: Global, msgs: Vec<Msg<U>>) -> Result<(), NoMemory>
-        requires { IsRoot self.old }
-        ensures ok { OnOk result (IsAppended U.means msgs.items self.old self.new) }
-        ensures err { OnErr result (self.new ≡ self.old) }
-    {
-        let Body::Inner(slots) = self.body_mut() else {
-            unreachable!()
-        };
-        append_slots(alloc, slots.as_mut_slice(), msgs)
-    }
-}
-
-/// Puts messages into the slots of two roots: both or neither.
-pub fn append_both<A: Update, B: Update>(
-    alloc: Global,
-    first: &mut Node<A>,
-    first_msgs: Vec<Msg<A>>,
-    second: &mut Node<B>,
-    second_msgs: Vec<Msg<B>>,
-) -> Result<(), NoMemory>
-    requires first { IsRoot first.old }
-    requires second { IsRoot second.old }
-    ensures first_ok { OnOk result (IsAppended A.means first_msgs.items first.old first.new) }
-    ensures first_err { OnErr result (first.new ≡ first.old) }
-    ensures second_ok { OnOk result (IsAppended B.means second_msgs.items second.old second.new) }
-    ensures second_err { OnErr result (second.new ≡ second.old) }
-{
-    let Body::Inner(one) = first.body_mut() else {
-        unreachable!()
-    };
-    let Body::Inner(two) = second.body_mut() else {
-        unreachable!()
-    };
-    append_both_slots(
-        alloc,
-        one.as_mut_slice(),
-        first_msgs,
-        two.as_mut_slice(),
-        second_msgs,
-    )
 }

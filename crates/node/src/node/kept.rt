@@ -1,13 +1,14 @@
-//! New messages in the slots of a root of which some keep their lists: those from which a job was taken.
-ghost use Rattle.std.specs.Prelude.{◌≡◌, ◌≤◌, ◌++◌, true, OnOk, OnErr, map, length};
+//! New messages in the slots of a root, of which some may keep their lists: those from which a job was taken.
+ghost use Rattle.std.specs.Prelude.{◌≡◌, ◌<◌, ◌≤◌, ◌++◌, true, OnOk, OnErr, map, length, get_or};
 ghost use Rattle.message.specs.Effects.{Takes};
 ghost use Rattle.node.specs.Appended.{HaveTaken, IsAppended};
+ghost use Rattle.node.specs.Batches.{batch_parts, HasRoomFor};
 ghost use Rattle.node.specs.Grafts.{IsFirstKept, KeepLists, KeepsLists};
 ghost use Rattle.node.specs.Pure.{inner};
 ghost use Rattle.node.specs.Searchable.{IsRoot, HasRoom, see_list};
 ghost use Rattle.node.specs.See.{see_slot, seen_slots};
 
-use super::append::prepare_parts;
+use super::append::{Batch, prepare};
 use super::{Body, Node, Slot};
 use message::{Msg, Pending, Update};
 use pathkey::NoMemory;
@@ -38,7 +39,7 @@ fn first_kept(kept: &[u32]) -> (bool, &[u32])
 
 /// Puts each part behind what waits in its slot, where there is room for it; where the slot's number is above 0, what
 /// waits stays as it was.
-fn put_kept<U: Update>(slots: &mut [Slot<U>], parts: &mut [Vec<Msg<U>>], kept: &[u32])
+pub fn put_kept<U: Update>(slots: &mut [Slot<U>], parts: &mut [Vec<Msg<U>>], kept: &[u32])
     requires { HasRoom slots.old parts.old }
     ensures taken { HaveTaken U.means (seen_slots slots.old) (map see_list parts.old) (seen_slots slots.new) }
     ensures kept { KeepLists kept.now (map see_list parts.old) (seen_slots slots.old) (seen_slots slots.new) }
@@ -54,8 +55,38 @@ fn put_kept<U: Update>(slots: &mut [Slot<U>], parts: &mut [Vec<Msg<U>>], kept: &
     put_kept(slots, parts, kept)
 }
 
+/// Whether the number at the place is above 0; one that is missing is 0. It takes no memory.
+fn is_kept(kept: &[u32], i: usize) -> bool
+    ensures { 0 < get_or kept.now i 0 → result ≡ true }
+{
+    match kept.get(i) {
+        None => false,
+        Some(number) => *number > 0,
+    }
+}
+
+/// Puts the messages behind what waits in the slots, where there is room for them; where a slot's number is above 0, what
+/// waits stays as it was.
+fn put_batch<U: Update>(slots: &mut [Slot<U>], batch: Batch<U>, kept: &[u32])
+    requires { HasRoomFor slots.old batch }
+    ensures taken { HaveTaken U.means (seen_slots slots.old) (batch_parts batch (seen_slots slots.old)) (seen_slots slots.new) }
+    ensures kept { KeepLists kept.now (batch_parts batch (seen_slots slots.old)) (seen_slots slots.old) (seen_slots slots.new) }
+{
+    match batch {
+        Batch::Whole(i, msgs) => {
+            let mut msgs = msgs;
+            let plain = is_kept(kept, i);
+            put_part(&mut slots[i].pending, &mut msgs, plain);
+        }
+        Batch::Parts(parts) => {
+            let mut parts = parts;
+            put_kept(slots, parts.as_mut_slice(), kept);
+        }
+    }
+}
+
 /// Puts messages behind what waits in a root's slots; where a slot's number is above 0, what waits stays as it was.
-fn append_slots_kept<U: Update>(
+fn append_slots<U: Update>(
     alloc: Global,
     slots: &mut [Slot<U>],
     msgs: Vec<Msg<U>>,
@@ -66,13 +97,13 @@ fn append_slots_kept<U: Update>(
     ensures kept { OnOk result (KeepsLists kept.now msgs.items (inner (seen_slots slots.old)) (inner (seen_slots slots.new))) }
     ensures err { OnErr result (map see_slot slots.new ≡ map see_slot slots.old) }
 {
-    let mut parts = prepare_parts(alloc, slots, msgs)?;
-    put_kept(slots, parts.as_mut_slice(), kept);
+    let batch = prepare(alloc, slots, msgs)?;
+    put_batch(slots, batch, kept);
     Ok(())
 }
 
 /// Likewise for two roots: both or neither.
-fn append_both_slots_kept<A: Update, B: Update>(
+fn append_both_slots<A: Update, B: Update>(
     alloc: Global,
     first: &mut [Slot<A>],
     first_msgs: Vec<Msg<A>>,
@@ -90,10 +121,10 @@ fn append_both_slots_kept<A: Update, B: Update>(
     ensures second_kept { OnOk result (KeepsLists second_kept.now second_msgs.items (inner (seen_slots second.old)) (inner (seen_slots second.new))) }
     ensures second_err { OnErr result (map see_slot second.new ≡ map see_slot second.old) }
 {
-    let mut first_parts = prepare_parts(alloc, first, first_msgs)?;
-    let mut second_parts = prepare_parts(alloc, second, second_msgs)?;
-    put_kept(first, first_parts.as_mut_slice(), first_kept);
-    put_kept(second, second_parts.as_mut_slice(), second_kept);
+    let first_batch = prepare(alloc, first, first_msgs)?;
+    let second_batch = prepare(alloc, second, second_msgs)?;
+    put_batch(first, first_batch, first_kept);
+    put_batch(second, second_batch, second_kept);
     Ok(())
 }
 
@@ -113,7 +144,7 @@ impl<U: Update> Node<U> {
         let Body::Inner(slots) = self.body_mut() else {
             unreachable!()
         };
-        append_slots_kept(alloc, slots.as_mut_slice(), msgs, kept)
+        append_slots(alloc, slots.as_mut_slice(), msgs, kept)
     }
 }
 
@@ -142,7 +173,7 @@ pub fn append_both_kept<A: Update, B: Update>(
     let Body::Inner(two) = second.body_mut() else {
         unreachable!()
     };
-    append_both_slots_kept(
+    append_both_slots(
         alloc,
         one.as_mut_slice(),
         first_msgs,

@@ -1,9 +1,9 @@
 //! Which slot holds a key, and where a slot ends.
-ghost use Rattle.std.specs.Prelude.{◌≡◌, ◌<◌, length, IfSome};
+ghost use Rattle.std.specs.Prelude.{◌≡◌, ◌<◌, true, length, IfSome, MatchOption};
 ghost use Rattle.std.specs.Option.{option_copied};
 ghost use Rattle.node.specs.Lawful.{next_lo};
 ghost use Rattle.node.specs.Meaning.{holder, slot_number};
-ghost use Rattle.node.specs.Pure.{is_leaf};
+ghost use Rattle.node.specs.Pure.{inner, is_leaf};
 ghost use Rattle.node.specs.Searchable.{AreRising};
 ghost use Rattle.node.specs.See.{see, seen_slots};
 ghost use Rattle.node.specs.Site.{end_of};
@@ -63,6 +63,16 @@ impl<U: Changes> Node<U> {
         ensures { see result.now ≡ self.now }
     {
         &self.body
+    }
+
+    /// The slots of the node; none where it is a leaf.
+    pub fn slots(&self) -> Option<&[Slot<U>]>
+        ensures { MatchOption result (is_leaf self.now ≡ true) (λ slots. self.now ≡ inner (seen_slots slots.now)) }
+    {
+        match &self.body {
+            Body::Leaf(_) => None,
+            Body::Inner(slots) => Some(slots.as_slice()),
+        }
     }
 
     /// Whether it is a leaf.

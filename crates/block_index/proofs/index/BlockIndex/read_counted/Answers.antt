@@ -54,7 +54,7 @@ returns-clause-counted c =
     let v : c.each.index ≤ (c.min-end.result - 1) / 4096 + 1 = c.each.auto.index-end (omega (arith, g)) in
     let k : c.min-end.result ≡ min c.saturating_add.result c.args.len = c.min-end.ensures in
     let end : c.min-end.result ≡ min (c.args.off + c.args.n) c.args.len = omega (arith, k, c.requires.short, c.saturating_add.ensures) in
-    counted_to c.args.off c.min-end.result (min (c.args.off + c.args.n) c.args.len) c.each.index c.each.steps g end (omega (arith, w, v)) c.each.invariant.counted
+    counted_to c.args.off c.min-end.result (min (c.args.off + c.args.n) c.args.len) c.each.index c.each.searches g end (omega (arith, w, v)) c.each.invariant.counted
 
 pub returns-clause-few : goal.returns-clause-few
 returns-clause-few c = λ small.

@@ -9,5 +9,5 @@ use Rattle.block_index.proofs.index.BlockIndex.read_counted.Given as goal
 abbrev pub invariant-each : goal.invariant-each
 invariant-each l = record {
   read : (t : Tree) (b : List ℕ) → BlocksMean t (blocks l.self) → look t l.path ≡ Some (Bytes b) → length b ≡ l.len → SoFar b l.off l.end l.index l.bytes.items;
-  counted : l.steps + l.off / 4096 ≡ l.index;
+  counted : l.searches + l.off / 4096 ≡ l.index;
 }

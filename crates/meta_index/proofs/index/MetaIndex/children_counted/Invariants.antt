@@ -10,7 +10,7 @@ abbrev pub invariant-entries : goal.invariant-entries
 invariant-entries l = record {
   listed : (t : Tree) → IsMeantBy t l.self → Listed t l.self l.path (pairs_of l.entries.items) l.rest.lo l.rest.hi;
   ahead : AreAhead (metadata l.self) l.rest.lo l.rest.hi l.pieces.all l.pieces.pairs.items;
-  counted : l.steps ≡ length l.entries.items + 1;
+  counted : l.searches ≡ length l.entries.items + 1;
 }
 
 abbrev pub decreases-entries : goal.decreases-entries
