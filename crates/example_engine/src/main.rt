@@ -6,13 +6,6 @@ use std::alloc::Global;
 use std::sync::Wait;
 use std::thread::Threads;
 
-/// The shape of the trees.
-const SHAPE: Shape = Shape {
-    fanout: 16,
-    pending: 256,
-    leaf: 256,
-};
-
 /// Each client makes a directory of its own, and both one that both want.
 #[derive(Drop)]
 struct Makers;
@@ -36,7 +29,7 @@ impl Work for Makers {
 
 /// What is left of an engine over a new volume.
 fn served<R: Threads + Wait + Sync>(rt: &R, alloc: Global) -> Option<Report> {
-    let volume = Volume::new(alloc, SHAPE).ok()?;
+    let volume = Volume::new(alloc, Shape::USUAL).ok()?;
     let room = Room::new(alloc, volume).ok()?;
     room.serve(rt, alloc, 2, 1, &Makers).ok()
 }
