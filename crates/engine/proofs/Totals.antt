@@ -132,7 +132,7 @@ each_once n ks within has few = all_there n ks has (omega (arith, total-length n
 -- ---- whether a client is in a list
 
 times-append : (c : ℕ) (ks js : List Known) → times_in c (ks ++ js) ≡ times_in c ks + times_in c js
-times-append c [] js = refl
+times-append c [] js = omega arith
 times-append c (k ∷ ks) js = omega (arith, times-append c ks js)
 
 -- none in a beginning, nor the next

@@ -36,9 +36,10 @@ impl<J: Naming> Clients<J> {
         Clients { list, most }
     }
 
-    /// How many there are.
+    /// How many there are, at most as many as the engine has.
     pub fn len(&self) -> usize
-        ensures { result ≡ length self.now }
+        ensures count { result ≡ length self.now }
+        ensures few { length self.now ≤ J.clients }
     {
         self.list.len()
     }
