@@ -5,13 +5,13 @@ ghost use Rattle.node.specs.Shapes.{is_shape};
 ghost use Rattle.reference.specs.Image.{image};
 ghost use Rattle.reference.specs.ImageLines.{IsBadAt};
 ghost use Rattle.reference.specs.Tree.{Tree};
-ghost use Rattle.shell.specs.Loads.{Loaded, form_of, new_form};
+ghost use Rattle.images.specs.Loads.{Loaded, form_of, new_form};
 ghost use Rattle.byte_calls.specs.Images.{Prints};
 
 use crate::looks::lay;
 use node::Shape;
 use pathkey::Errno;
-use shell::{LoadFault, load_image, print_image};
+use images::{LoadFault, load_image, print_image};
 use std::alloc::Global;
 use volume::{Frozen, Volume};
 

@@ -4,7 +4,7 @@ ghost use Rattle.pathkey.specs.declared.errno.Errno.TheVariants.{EINVAL, ENOMEM}
 ghost use Rattle.std.specs.Prelude.{◌≡◌, ◌≤◌, ◌<◌, ◌↔◌, ◌⊎◌, false, Err, IfErr, IfOk, Some};
 ghost use Rattle.node.specs.Shapes.{is_shape};
 ghost use Rattle.reference.specs.Worlds.{World};
-ghost use Rattle.shell.specs.Loads.{Loaded};
+ghost use Rattle.images.specs.Loads.{Loaded};
 ghost use Rattle.volume.specs.Volumes.{IsNew, Means};
 ghost use Rattle.byte_calls.specs.Upkeep.{IsIdle, Relieves};
 ghost use Rattle.doorvervain.specs.Handed.{FindsHanded, Given, Hands, HandsOut, NoShape};
@@ -18,7 +18,7 @@ use crate::parts::Parts;
 use crate::place::Place;
 use node::Shape;
 use pathkey::Errno;
-use shell::LoadFault;
+use images::LoadFault;
 use std::alloc::Global;
 use volume::{Frozen, Volume};
 

@@ -4,7 +4,7 @@ use crate::standing::show_volume;
 use crate::told::{put, put_no_memory};
 use crate::window;
 use node::Shape;
-use shell::{LoadFault, load_image};
+use images::{LoadFault, load_image};
 use std::alloc::Global;
 use volume::Volume;
 

@@ -4,7 +4,8 @@ use crate::standing::put_image;
 use crate::told::{put, put_fault, put_no_memory, put_ok, put_reply};
 use pathkey::{Errno, NoMemory, SnapName};
 use reference::Reply;
-use shell::{ImageFault, Look, Request, print_image};
+use images::{ImageFault, print_image};
+use shell::{Look, Request};
 use std::alloc::Global;
 use volume::{Frozen, Volume};
 

@@ -4,7 +4,7 @@ use crate::told::{put, put_choice, put_fault, put_load, put_number, put_report};
 use jobs::Load;
 use node::{ShapeReport, TreeStep};
 use pathkey::{Errno, NoMemory, SnapName};
-use shell::print_image;
+use images::print_image;
 use std::alloc::Global;
 use volume::{Frozen, Index, Volume};
 

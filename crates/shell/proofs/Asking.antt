@@ -7,7 +7,7 @@ use Rattle.pathkey.specs.SnapNames.{snap_parsed}
 use Rattle.shell.specs.declared.request.Look.{Look}
 use Rattle.shell.specs.declared.request.Request.{Request}
 use Rattle.shell.specs.declared.request.Request.TheVariants.{Malformed, Past, Refused}
-use Rattle.shell.specs.Lines.{words_of}
+use Rattle.lines.specs.Lines.{words_of}
 use Rattle.shell.specs.Requests.{IsAsked, IsReadAs, command_of, past, with_named}
 
 -- no command has four words and then more

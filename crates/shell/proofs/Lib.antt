@@ -1,6 +1,3 @@
-pub mod Known
-pub mod WordFacts
-pub mod ValueFacts
 pub mod Asking
 pub mod Texts
 pub mod Progress
@@ -10,8 +7,3 @@ pub mod Cutting
 pub mod OneAnswer
 pub mod OptionFacts
 pub mod LineExamples
-pub mod ImageEntries
-pub mod ImageLineFacts
-pub mod LoadFacts
-pub mod LoadCutting
-pub mod ImageBlocks

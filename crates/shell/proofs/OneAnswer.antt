@@ -18,8 +18,9 @@ use Rattle.reference.specs.declared.reply.Reply.TheVariants.{Done, Count, Data, 
 use Rattle.shell.specs.declared.request.Request.{Request}
 use Rattle.shell.specs.declared.request.Look.{Look}
 use Rattle.shell.specs.declared.request.Request.TheVariants.{Silent, Overlong, Malformed, Refused, Wanted, Snapshot, DropSnapshot, Restore, Past}
-use Rattle.shell.specs.Lines.{lines_of}
-use Rattle.shell.specs.Replies.{entry_line, hex_text, name_word, number_line, reply_text, stat_word}
+use Rattle.lines.specs.Lines.{lines_of}
+use Rattle.shell.specs.Replies.{entry_line, name_word, reply_text, stat_word}
+use Rattle.lines.specs.Texts.{hex_text, number_line}
 use Rattle.shell.specs.Requests.{request_of}
 use Rattle.shell.specs.Script.{Answers, Does, Script, LacksNothing, Settles, Tells, settled_reply, told_of}
 

@@ -4,11 +4,12 @@ use Rattle.std.specs.Prelude.{Option}
 use Rattle.std.specs.Io.KnownBytes.{Appends, Consumes, IsAtEnd, Keeps}
 use Rattle.std.proofs.KnownBytes.{Appends-kept, Appends-trans, Consumes-kept, Consumes-trans}
 use Rattle.reference.specs.Worlds.{World}
-use Rattle.shell.specs.Parts.{AppendsPart}
+use Rattle.lines.specs.Parts.{AppendsPart}
 use Rattle.shell.specs.Script.{Script}
 use Rattle.shell.specs.Runs.{DoesAll, DoesGiven, DoesUntil, Leads, Worlds}
-use Rattle.shell.specs.Progress.{FailedIn, Holds, Went, last_line}
-use Rattle.shell.proofs.Known.{known_text, known_whole}
+use Rattle.shell.specs.Progress.{FailedIn, Went, last_line}
+use Rattle.lines.specs.Held.{Holds}
+use Rattle.lines.proofs.Known.{known_text, known_whole}
 use Rattle.shell.proofs.Progress.{script_at_end, script_held, script_of_whole, stopped_at_end, stopped_between, stopped_in, went_then}
 
 -- at the head of the loop: what the reader gave was done, up to the line so far

@@ -1,13 +1,7 @@
-pub mod Lines
-pub mod Values
 pub mod Requests
 pub mod Replies
-pub mod Parts
 pub mod Script
 pub mod Runs
 pub mod Progress
 pub mod CommandLine
-pub mod Image
-pub mod ImageLines
-pub mod Loads
 pub mod Sessions

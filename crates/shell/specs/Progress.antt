@@ -8,21 +8,10 @@ abbrev pub text_of_lines : List (List ℕ) → List ℕ
 text_of_lines [] = []
 text_of_lines (l ∷ ls) = l ++ (10 ∷ text_of_lines ls)
 
--- no line feed
-abbrev pub IsFree : List ℕ → Type 0
-IsFree [] = ⊤
-IsFree (x ∷ xs) = (x ≢ 10) × IsFree xs
-
 -- no line feed in any of the lines
 abbrev pub AreFree : List (List ℕ) → Type 0
 AreFree [] = ⊤
 AreFree (l ∷ ls) = IsFree l × AreFree ls
-
--- the line so far, of which no more is held than shows that it is too long
-pub record Holds (held items : List ℕ) : Type 0 where
-  pub short : length held ≤ 65536 → items ≡ held
-  pub long : 65536 < length held → 65536 < length items
-  pub free : IsFree held
 
 -- after a piece more the script has done these lines, and `left` is the line so far
 pub record Went (held piece : List ℕ) (first : World) (out left : List ℕ) (after : World) : Type 0 where

@@ -8,11 +8,6 @@ use Rattle.reference.specs.declared.reply.Reply.TheVariants.{Done, Count, Data, 
 use Rattle.reference.specs.declared.reply.Kind.{Kind}
 use Rattle.reference.specs.declared.reply.Kind.TheVariants.{Dir, File}
 
--- bytes in hexadecimal, two lower-case digits each; a dash where there are none
-abbrev pub hex_text : List ℕ → List ℕ
-hex_text [] = codes "-"
-hex_text (b ∷ bytes) = flat_map (two_digits 87) (b ∷ bytes)
-
 -- what stands before the length that `stat` tells
 abbrev pub stat_word : Kind → List ℕ
 stat_word Dir = codes "dir "
@@ -22,10 +17,6 @@ stat_word File = codes "file "
 abbrev pub name_word : Kind → List ℕ
 name_word Dir = codes "d "
 name_word File = codes "f "
-
--- a word and a number, on one line
-abbrev pub number_line : List ℕ → ℕ → List ℕ
-number_line word n = word ++ decimal n ++ codes "\n"
 
 -- an entry of a directory: its kind, and its name in percent form
 abbrev pub entry_line : Kind × Name → List ℕ

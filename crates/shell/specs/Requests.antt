@@ -1,25 +1,19 @@
 -- What a line of a script asks for.
 use Rattle.std.specs.Prelude.{◌≡◌, ◌⊎◌, ⊤, ℕ, nat_lt, List, [], ◌∷◌, length, codes, bytes_eq, Option, Some, None, Result, Ok, Err, ◌==◌, if◌then◌else◌}
-use Rattle.percent_encoding.specs.Percent.{percent_decode}
 use Rattle.pathkey.specs.Names.{Path}
 use Rattle.pathkey.specs.SnapNames.{snap_parsed}
-use Rattle.pathkey.specs.Texts.{parsed}
 use Rattle.pathkey.specs.declared.errno.Errno.{Errno}
 use Rattle.pathkey.specs.declared.errno.Errno.TheVariants.{ENOMEM}
 use Rattle.reference.specs.declared.call.Call.{Call}
 use Rattle.reference.specs.declared.call.Call.TheVariants.{Mkdir, Create, Write, Truncate, Unlink, Rmdir, Rename, Rmtree, Read, Stat as AskStat, Readdir}
-use Rattle.shell.specs.Lines.{at_sign, words_of}
-use Rattle.shell.specs.Values.{bytes_of, number_of}
+use Rattle.lines.specs.Lines.{at_sign, words_of}
+use Rattle.lines.specs.Values.{bytes_of, number_of, path_of}
 use Rattle.shell.specs.declared.command.PathCall.{PathCall}
 use Rattle.shell.specs.declared.command.PathCall.TheVariants as on
 use Rattle.shell.specs.declared.request.Look.{Look}
 use Rattle.shell.specs.declared.request.Look.TheVariants as look
 use Rattle.shell.specs.declared.request.Request.{Request}
 use Rattle.shell.specs.declared.request.Request.TheVariants.{Silent, Overlong, Malformed, Refused, Wanted, Snapshot, DropSnapshot, Restore, Past}
-
--- what reading a word as a path answers: its text is in percent form
-abbrev pub path_of : List ℕ → Result Path Errno
-path_of word = parsed (percent_decode word)
 
 -- the call on a path
 abbrev pub call_at : PathCall → Path → Call

@@ -2,7 +2,7 @@
 use Rattle.std.specs.Prelude.{◌≡◌, ℕ, List, Option, IfSome}
 use Rattle.std.specs.Io.KnownBytes.{Consumes, IsAtEnd}
 use Rattle.reference.specs.Worlds.{World}
-use Rattle.shell.specs.Lines.{lines_of, whole}
+use Rattle.lines.specs.Lines.{lines_of, whole}
 use Rattle.shell.specs.Script.{Script, Stopped}
 
 -- the worlds that a state means

@@ -13,7 +13,7 @@ use Rattle.shell.specs.declared.request.Look.{Look}
 use Rattle.shell.specs.declared.request.Look.TheVariants as look
 use Rattle.shell.specs.declared.request.Request.{Request}
 use Rattle.shell.specs.declared.request.Request.TheVariants.{Silent, Overlong, Malformed, Refused, Wanted, Snapshot, DropSnapshot, Restore, Past}
-use Rattle.shell.specs.Lines.{lines_of}
+use Rattle.lines.specs.Lines.{lines_of}
 use Rattle.shell.specs.Requests.{request_of, IsAsked}
 use Rattle.shell.specs.Replies.{reply_text}
 

@@ -1,20 +1,18 @@
 //! Reads what a line asks for.
 ghost use Rattle.std.specs.Prelude.{◌≡◌, ◌⊎◌, ℕ, List, Err, MatchOption, MatchResult};
 ghost use Rattle.pathkey.specs.declared.errno.Errno.TheVariants.{ENOMEM};
-ghost use Rattle.shell.specs.Lines.{words_of};
+ghost use Rattle.lines.specs.Lines.{words_of};
 ghost use Rattle.pathkey.specs.SnapNames.{snap_parsed};
-ghost use Rattle.shell.specs.Requests.{IsReadAs, call_at, command_of, looking, named_command, offset_command, on_path, past, past_path_command, past_read_command, path_command, path_of, read_command, rename_of, request_of, third_command, truncate_command, write_command};
+ghost use Rattle.shell.specs.Requests.{IsReadAs, call_at, command_of, looking, named_command, offset_command, on_path, past, past_path_command, past_read_command, path_command, read_command, rename_of, request_of, third_command, truncate_command, write_command};
+ghost use Rattle.lines.specs.Values.{path_of};
 
 use crate::request::{Look, Request};
-use crate::values::{read_bytes, read_number, writes_bytes};
-use crate::words::{cut_at_sign, cut_word};
+use lines::held::LONGEST_LINE;
+use lines::values::{read_bytes, read_number, read_path, writes_bytes};
+use lines::words::{cut_at_sign, cut_word};
 use pathkey::{Errno, NoMemory, Path, SnapName};
-use percent_encoding::percent_decode;
 use reference::Call;
 use std::alloc::Global;
-
-/// The most bytes of a line that is looked at.
-pub const LONGEST_LINE: usize = 65_536;
 
 /// What a line asks for.
 pub fn read_request(alloc: Global, line: &[u8]) -> Request
@@ -328,15 +326,4 @@ fn with_named(request: Result<Request, Errno>) -> Request
         Ok(request) => request,
         Err(fault) => Request::Refused(fault),
     }
-}
-
-/// The path that a word names, in percent form.
-pub(crate) fn read_path(alloc: Global, word: &[u8]) -> Result<Path, Errno>
-    ensures { (result ≡ path_of word.now) ⊎ (result ≡ Err ENOMEM) }
-{
-    let mut text = Vec::new(alloc);
-    if percent_decode(word).append_to(&mut text).is_err() {
-        return Err(Errno::ENOMEM);
-    }
-    Path::parse(alloc, text.as_slice())
 }

@@ -1,11 +1,10 @@
 //! The program `betr`: runs a script over a new volume, as the words of a command line ask.
 use crate::command_line::{Options, read_words};
 use crate::flushers::run_beside_flushers;
-use crate::image::{ImageFault, print_image};
-use crate::load::{LoadFault, load_image};
 use crate::script::{ScriptFault, run_script};
 use crate::tidy::Tidy;
 use clap::error::ErrorKind;
+use images::{ImageFault, LoadFault, load_image, print_image};
 use node::Shape;
 use pathkey::Errno;
 use std::alloc::Global;

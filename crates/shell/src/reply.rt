@@ -2,16 +2,15 @@
 ghost use Rattle.std.specs.Prelude.{◌≡◌, ◌++◌, OnOk, OnErr, codes, flat_map};
 ghost use Rattle.std.specs.Io.KnownBytes.{Appends};
 ghost use Rattle.pathkey.specs.Numbers.{word_of};
-ghost use Rattle.reference.specs.Image.{percent};
 ghost use Rattle.reference.specs.Pairs.{pairs_of};
-ghost use Rattle.shell.specs.Parts.{AppendsPart};
+ghost use Rattle.lines.specs.Parts.{AppendsPart};
 ghost use Rattle.reference.specs.declared.reply.Reply.TheVariants.{Names};
-ghost use Rattle.shell.specs.Replies.{entry_line, hex_text, number_line, reply_text, name_word};
+ghost use Rattle.shell.specs.Replies.{entry_line, reply_text, name_word};
+ghost use Rattle.lines.specs.Texts.{hex_text, number_line};
 
-use crate::output::{WriteFailed, put};
-use itoa::Buffer;
+use lines::output::{WriteFailed, put};
+use lines::text::{put_hex, put_number_line, put_percent};
 use pathkey::Errno;
-use reference::digits::{escape, lower_digits};
 use reference::{Kind, Reply};
 use std::io::Write;
 
@@ -42,22 +41,6 @@ pub fn put_fault<W: Write>(writer: &mut W, fault: Errno) -> Result<(), WriteFail
     Ok(())
 }
 
-// Writes a line of a word and a number, or a beginning of it.
-pub(crate) fn put_number_line<W: Write>(
-    writer: &mut W,
-    word: &[u8],
-    n: u64,
-) -> Result<(), WriteFailed>
-    ensures ok { OnOk result (Appends (W.contents writer.old) (W.contents writer.new) (number_line word.now n)) }
-    ensures err { OnErr result (AppendsPart (W.contents writer.old) (W.contents writer.new) (number_line word.now n)) }
-{
-    let mut digits = Buffer::new();
-    put(writer, word)?;
-    put(writer, digits.format(n).as_bytes())?;
-    put(writer, b"\n")?;
-    Ok(())
-}
-
 // Writes the line of bytes that were read, or a beginning of it.
 fn put_data<W: Write>(writer: &mut W, bytes: &[u8]) -> Result<(), WriteFailed>
     ensures ok { OnOk result (Appends (W.contents writer.old) (W.contents writer.new) (codes "bytes " ++ hex_text bytes.now ++ codes "\n")) }
@@ -66,20 +49,6 @@ fn put_data<W: Write>(writer: &mut W, bytes: &[u8]) -> Result<(), WriteFailed>
     put(writer, b"bytes ")?;
     put_hex(writer, bytes)?;
     put(writer, b"\n")?;
-    Ok(())
-}
-
-// Writes bytes in hexadecimal, or a beginning of it.
-pub(crate) fn put_hex<W: Write>(writer: &mut W, bytes: &[u8]) -> Result<(), WriteFailed>
-    ensures ok { OnOk result (Appends (W.contents writer.old) (W.contents writer.new) (hex_text bytes.now)) }
-    ensures err { OnErr result (AppendsPart (W.contents writer.old) (W.contents writer.new) (hex_text bytes.now)) }
-{
-    if bytes.is_empty() {
-        return put(writer, b"-");
-    }
-    for &byte in bytes {
-        put(writer, &lower_digits(byte))?;
-    }
     Ok(())
 }
 
@@ -125,24 +94,3 @@ fn name_word(kind: Kind) -> &'static [u8]
     }
 }
 
-// Writes a name in percent form, or a beginning of it.
-pub(crate) fn put_percent<W: Write>(writer: &mut W, name: &[u8]) -> Result<(), WriteFailed>
-    ensures ok { OnOk result (Appends (W.contents writer.old) (W.contents writer.new) (flat_map percent name.now)) }
-    ensures err { OnErr result (AppendsPart (W.contents writer.old) (W.contents writer.new) (flat_map percent name.now)) }
-{
-    for &byte in name {
-        put_percent_byte(writer, byte)?;
-    }
-    Ok(())
-}
-
-// Writes a byte in percent form, or a beginning of it.
-fn put_percent_byte<W: Write>(writer: &mut W, byte: u8) -> Result<(), WriteFailed>
-    ensures ok { OnOk result (Appends (W.contents writer.old) (W.contents writer.new) (percent byte)) }
-    ensures err { OnErr result (AppendsPart (W.contents writer.old) (W.contents writer.new) (percent byte)) }
-{
-    match escape(byte) {
-        Some(form) => put(writer, &form),
-        None => put(writer, &[byte]),
-    }
-}

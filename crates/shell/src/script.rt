@@ -1,22 +1,24 @@
 //! Runs a script: reads it piece by piece, does each line, and writes its reply.
 ghost use Rattle.std.specs.Prelude.{◌≡◌, ◌≢◌, ◌≤◌, ◌<◌, ◌+◌, ◌++◌, ℕ, List, [], ◌∷◌, All, length, vec_capacity, OnOk, OnErr};
 ghost use Rattle.std.specs.Io.KnownBytes.{Appends};
-ghost use Rattle.shell.specs.Parts.{AppendsPart};
+ghost use Rattle.lines.specs.Parts.{AppendsPart};
 ghost use Rattle.shell.specs.Replies.{reply_text};
 ghost use Rattle.shell.specs.Script.{Answers, Does, Script, Tells, settled_reply};
 ghost use Rattle.reference.specs.Worlds.{World};
 ghost use Rattle.volume.specs.Volumes.{Means};
 ghost use Rattle.shell.specs.Runs.{DoesAll, DoesGiven, DoesUntil, Leads};
-ghost use Rattle.shell.specs.Progress.{FailedIn, Holds, Went, last_line};
+ghost use Rattle.shell.specs.Progress.{FailedIn, Went, last_line};
+ghost use Rattle.lines.specs.Held.{Holds};
 
-use crate::command::{LONGEST_LINE, read_request};
-use crate::input::read_some;
-use crate::output::{WriteFailed, flush, put};
+use crate::command::read_request;
 use crate::pace::Pace;
 use crate::reply::{put_fault, write_reply};
 use crate::request::Request;
 use crate::session::Session;
-use crate::words::cut_line;
+use lines::held::{LONGEST_LINE, PIECE, hold};
+use lines::input::read_some;
+use lines::output::{WriteFailed, flush, put};
+use lines::words::cut_line;
 use pathkey::Errno;
 use reference::Reply;
 use std::alloc::Global;
@@ -37,9 +39,6 @@ pub enum ScriptFault {
     #[error("betr: write failed")]
     Write,
 }
-
-/// How many bytes are read at a time.
-pub(crate) const PIECE: usize = 65_536;
 
 /// Runs all the lines of the reader on the volume, and writes a reply to each as it is done. After each line the pace picks tree
 /// steps; whatever they are, the replies and what the volume means are the same.
@@ -191,20 +190,6 @@ fn end_line<S: Session, W: Write, P: Pace>(
     do_line(alloc, session, start.as_slice(), writer, pace)?;
     start.clear();
     Ok(())
-}
-
-// Adds bytes to the line, of a line that is too long no more than show that it is.
-pub(crate) fn hold(line: &mut Vec<u8>, bytes: &[u8])
-    requires room { 65536 < vec_capacity line.old }
-    ensures short { length line.old.items + length bytes.now ≤ 65536 → line.new.items ≡ line.old.items ++ bytes.now }
-    ensures long { 65536 < length line.old.items + length bytes.now → 65536 < length line.new.items }
-    ensures room { 65536 < vec_capacity line.new }
-{
-    if line.len() <= LONGEST_LINE {
-        let most = LONGEST_LINE + 1 - line.len();
-        let bytes = &bytes[..bytes.len().min(most)];
-        line.extend_from_slice(bytes).unwrap();
-    }
 }
 
 // Does the last line, where the text does not end with a line feed.

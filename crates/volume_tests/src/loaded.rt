@@ -2,7 +2,7 @@
 use crate::asked::USUAL;
 use crate::streams::Source;
 use node::Shape;
-use shell::{LoadFault, load_image};
+use images::{LoadFault, load_image};
 use std::alloc::Global;
 use std::io::Read;
 

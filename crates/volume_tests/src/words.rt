@@ -1,5 +1,5 @@
 //! Numbers and bytes as words of a line.
-use shell::values::{read_bytes, read_number, writes_bytes};
+use lines::values::{read_bytes, read_number, writes_bytes};
 use std::alloc::Global;
 
 const NUMBERS: &[(&str, Option<u64>)] = &[

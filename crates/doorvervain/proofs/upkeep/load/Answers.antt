@@ -1,4 +1,4 @@
-use Rattle.shell.specs.Loads.{Loaded}
+use Rattle.images.specs.Loads.{Loaded}
 use Rattle.doorvervain.proofs.Handed.{given_of}
 use Rattle.doorvervain.proofs.upkeep.load.Goals as goal
 

@@ -2,10 +2,11 @@ use Rattle.std.proofs.Common.{sym, subst, ap, ◌∙◌}
 use Rattle.std.specs.List.{flat_map}
 use Rattle.std.specs.Io.KnownBytes.{Appends}
 use Rattle.std.proofs.lemmas.List.{take_all}
-use Rattle.shell.specs.Parts.{AppendsPart}
+use Rattle.lines.specs.Parts.{AppendsPart}
 use Rattle.shell.specs.Replies.{entry_line}
-use Rattle.shell.proofs.Known.{on_err}
-use Rattle.shell.proofs.Texts.{each_part, entry_text, entries_text}
+use Rattle.lines.proofs.Known.{on_err}
+use Rattle.lines.proofs.Texts.{each_part}
+use Rattle.shell.proofs.Texts.{entry_text, entries_text}
 use Rattle.shell.proofs.reply.put_entries.Goals as goal
 
 pub returns-in_err-put_entry-clause-err : goal.returns-in_err-put_entry-clause-err

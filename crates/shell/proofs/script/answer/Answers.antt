@@ -1,7 +1,7 @@
 use Rattle.std.proofs.Common.{[], refl}
 use Rattle.std.proofs.KnownBytes.{Appends-nil}
 use Rattle.reference.specs.Worlds.{TakeSnapshot, DropSnapshot as DropNamed, RestoreSnapshot}
-use Rattle.shell.proofs.Known.{on_err_map, on_ok_map}
+use Rattle.lines.proofs.Known.{on_err_map, on_ok_map}
 use Rattle.shell.proofs.Answering.{answers_as, answers_kept, answers_call, answers_look, answers_settled}
 use Rattle.shell.proofs.script.answer.Goals as goal
 

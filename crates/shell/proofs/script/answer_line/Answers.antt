@@ -1,4 +1,4 @@
-use Rattle.shell.proofs.Known.{on_err_map, on_ok_map}
+use Rattle.lines.proofs.Known.{on_err_map, on_ok_map}
 use Rattle.shell.proofs.Answering.{line_done}
 use Rattle.shell.proofs.script.answer_line.Goals as goal
 

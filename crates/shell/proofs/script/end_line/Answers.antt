@@ -1,8 +1,8 @@
 use Rattle.std.proofs.Common.{◌≡◌, length, rules}
 use Rattle.std.proofs.lemmas.List.{nil_from_length}
-use Rattle.shell.proofs.Known.{on_err, on_err_map, on_ok_map}
+use Rattle.lines.proofs.Known.{on_err, on_err_map, on_ok_map}
 use Rattle.shell.proofs.Cutting.{does_line, fails_line}
-use Rattle.shell.proofs.Progress.{hold_first, hold_more}
+use Rattle.lines.proofs.HeldFacts.{hold_first, hold_more}
 use Rattle.shell.proofs.script.end_line.Goals as goal
 
 pub returns-then-is_empty-clause-ok : goal.returns-then-is_empty-clause-ok

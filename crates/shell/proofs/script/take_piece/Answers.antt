@@ -1,4 +1,4 @@
-use Rattle.shell.proofs.Known.{on_err}
+use Rattle.lines.proofs.Known.{on_err}
 use Rattle.shell.proofs.Cutting.{fails_at_line, takes_line, takes_nothing, takes_rest}
 use Rattle.shell.proofs.script.take_piece.Goals as goal
 

@@ -1,0 +1,5 @@
+pub mod ImageEntries
+pub mod ImageLineFacts
+pub mod LoadFacts
+pub mod LoadCutting
+pub mod ImageBlocks

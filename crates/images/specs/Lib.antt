@@ -1,0 +1,3 @@
+pub mod Image
+pub mod ImageLines
+pub mod Loads

@@ -1,0 +1,12 @@
+//! The image of a tree: a text from which the tree can be had back. It is printed of a tree that stands still, and loaded into
+//! a new volume.
+//!
+//! Each tree has one image, and each image is that of one tree.
+#![tactic(auto)]
+
+pub mod image;
+pub mod image_line;
+pub mod load;
+
+pub use image::{ImageFault, print_image};
+pub use load::{LoadFault, load_image};

@@ -1,0 +1,412 @@
+//! Loads an image: reads it line by line into a new volume.
+//!
+//! One line is held at a time, and of a file no block beside the volume's own. Of the lines before, only what decides which line
+//! may follow is kept.
+ghost use Rattle.std.specs.Prelude.{◌≡◌, ◌≢◌, ◌↔◌, All, ◌≤◌, ◌<◌, ◌+◌, ◌++◌, ◌∷◌, [], ℕ, List, Some, None, Err, false, true, length, IfSome, vec_capacity, IfOk, OnOk, OnErr, codes};
+ghost use Rattle.node.specs.Shapes.{is_shape};
+ghost use Rattle.reference.specs.Tree.{Dir, nothing};
+ghost use Rattle.reference.specs.declared.call.Call.TheVariants.{Write};
+ghost use Rattle.volume.specs.Volumes.{Means};
+ghost use Rattle.reference.specs.ImageLines.{IsBlock, IsLine, Line};
+ghost use Rattle.reference.specs.ImageLines.{BlockLine, DirectoryLine, FileLine};
+ghost use Rattle.images.specs.ImageLines.{line_of};
+ghost use Rattle.images.specs.Loads.{Counts, FitsAt, HasRead, IsBadIn, LoadsAll, LoadsEnd, LoadsLine, LoadsNext, LoadsPiece, LoadsRoot, MayNotFollow, RefusesEnd, RefusesLine, RefusesPiece, alone, entry_line, form_of, len_of, new_form};
+
+use crate::image_line::{ImageLine, read_image_line};
+use bytes::Bytes;
+use lines::held::{LONGEST_LINE, PIECE, hold};
+use lines::input::read_some;
+use lines::words::cut_line;
+use node::Shape;
+use pathkey::{Errno, NoMemory, Path};
+use reference::{Call, Meta, Reply};
+use std::alloc::Global;
+use std::cmp::Ordering;
+use std::io::Read;
+use thiserror::Error;
+use volume::Volume;
+
+/// How many bytes a block holds.
+const BLOCK: u64 = 4_096;
+
+/// Why an image was not loaded.
+#[derive(Debug, Drop, PartialEq, Eq, Error)]
+pub enum LoadFault {
+    /// No tree may have the shape; nothing was read.
+    #[error("betr: bad shape")]
+    Shape,
+    /// Memory was refused.
+    #[error("betr: no memory")]
+    Memory,
+    /// The reader failed.
+    #[error("betr: read failed")]
+    Read,
+    /// The text is no image from the line of this number on, counted from 1.
+    #[error("betr: bad image at line {0}")]
+    Bad(u64),
+}
+
+/// The volume whose tree has the image that the reader gives, without snapshots and marks, in trees of this shape. It fails where the shape is not
+/// ok, where memory or a read is refused, and where the text is no image: `Bad` has the number of the first line with which it is none.
+pub fn load_image<R: Read>(alloc: Global, shape: Shape, reader: &mut R) -> Result<Volume, LoadFault>
+    ensures loaded { IfOk result (LoadsAll (R.remaining reader.old) (R.remaining reader.new)) }
+    ensures form { IfOk result (λ v. form_of v ≡ new_form shape) }
+    ensures bad { (n : ℕ) → result ≡ Err (LoadFault.Bad n) → IsBadIn (R.remaining reader.old) n }
+    ensures shape { (result ≡ Err LoadFault.Shape) ↔ (is_shape shape ≡ false) }
+{
+    if !shape.ok() {
+        return Err(LoadFault::Shape);
+    }
+    let Ok(volume) = Volume::new(alloc, shape) else {
+        return Err(LoadFault::Memory);
+    };
+    load_into(alloc, volume, reader)
+}
+
+/// The volume, which is new, once the image is loaded into it.
+fn load_into<R: Read>(alloc: Global, volume: Volume, reader: &mut R) -> Result<Volume, LoadFault>
+    requires { Means volume (alone (Dir nothing)) }
+    ensures loaded { IfOk result (LoadsAll (R.remaining reader.old) (R.remaining reader.new)) }
+    ensures form { IfOk result (λ v. form_of v ≡ form_of volume) }
+    ensures bad { (n : ℕ) → result ≡ Err (LoadFault.Bad n) → IsBadIn (R.remaining reader.old) n }
+    ensures shape { result ≢ Err LoadFault.Shape }
+{
+    let Ok(mut piece) = Vec::from_elem(alloc, 0u8, PIECE) else {
+        drop(volume);
+        return Err(LoadFault::Memory);
+    };
+    let Ok(mut held) = Vec::with_capacity(alloc, LONGEST_LINE + 1) else {
+        drop(piece);
+        drop(volume);
+        return Err(LoadFault::Memory);
+    };
+    let mut loading = Loading::new(alloc, volume);
+    if let Err(fault) = loading.take_all(alloc, reader, piece.as_mut_slice(), &mut held) {
+        drop(loading);
+        drop(held);
+        drop(piece);
+        return Err(fault);
+    }
+    drop(held);
+    drop(piece);
+    Ok(loading.volume)
+}
+
+/// A volume that is loaded line by line, and what decides which line may follow.
+#[derive(Drop)]
+pub struct Loading {
+    /// The tree of the lines so far.
+    pub volume: Volume,
+    /// How many lines were loaded.
+    pub lines: u64,
+    /// The path of the last entry.
+    pub last: Path,
+    /// The length of the last entry, where it is a file.
+    pub len: Option<u64>,
+    /// The first block that the next line may tell.
+    pub next: u64,
+}
+
+impl Loading {
+    /// Nothing is loaded into a volume that is new.
+    pub fn new(alloc: Global, volume: Volume) -> Loading
+        ensures volume { result.volume ≡ volume }
+        ensures nothing { (result.lines ≡ 0) × (result.last ≡ []) × (result.len ≡ None) × (result.next ≡ 0) }
+    {
+        Loading {
+            volume,
+            lines: 0,
+            last: Path::root(alloc),
+            len: None,
+            next: 0,
+        }
+    }
+
+    /// Reads and loads piece after piece, in the given buffers, until the reader is at its end.
+    fn take_all<R: Read>(
+        &mut self,
+        alloc: Global,
+        reader: &mut R,
+        piece: &mut [u8],
+        held: &mut Vec<u8>,
+    ) -> Result<(), LoadFault>
+        requires piece { 0 < length piece.old }
+        requires room { 65536 < vec_capacity held.old }
+        requires start { HasRead [] held.old.items self.old }
+        ensures ok { OnOk result (LoadsAll (R.remaining reader.old) (R.remaining reader.new) self.new.volume) }
+        ensures form { OnOk result (form_of self.new.volume ≡ form_of self.old.volume) }
+        ensures bad { (n : ℕ) → result ≡ Err (LoadFault.Bad n) → IsBadIn (R.remaining reader.old) n }
+        ensures shape { result ≢ Err LoadFault.Shape }
+    {
+        for _ in 0..u64::MAX {
+            let Ok(n) = read_some(reader, piece) else {
+                return Err(LoadFault::Read);
+            };
+            if n == 0 {
+                return self.end(held.as_slice());
+            }
+            if let Err(fault) = self.take_piece(alloc, held, &piece[..n]) {
+                return Err(fault);
+            }
+        }
+        Err(LoadFault::Read)
+    }
+
+    /// Loads each line that ends in a piece of the text, and holds what follows the last of them.
+    fn take_piece(
+        &mut self,
+        alloc: Global,
+        held: &mut Vec<u8>,
+        piece: &[u8],
+    ) -> Result<(), LoadFault>
+        requires room { 65536 < vec_capacity held.old }
+        ensures room { 65536 < vec_capacity held.new }
+        ensures ok { OnOk result (LoadsPiece held.old.items piece.now held.new.items self.old self.new) }
+        ensures form { OnOk result (form_of self.new.volume ≡ form_of self.old.volume) }
+        ensures bad { (n : ℕ) → result ≡ Err (LoadFault.Bad n) → RefusesPiece held.old.items piece.now n self.old }
+        ensures shape { result ≢ Err LoadFault.Shape }
+    {
+        let mut rest = piece;
+        while let Some((end, after)) = cut_line(rest) {
+            if let Err(fault) = self.end_line(alloc, held, end) {
+                return Err(fault);
+            }
+            rest = after;
+        }
+        hold(held, rest);
+        Ok(())
+    }
+
+    /// Loads the line that begins with what is held and ends with `end`. It is copied only where something is held.
+    fn end_line(&mut self, alloc: Global, held: &mut Vec<u8>, end: &[u8]) -> Result<(), LoadFault>
+        requires room { 65536 < vec_capacity held.old }
+        requires free { All (λ b. b ≢ 10) end.now }
+        ensures room { 65536 < vec_capacity held.new }
+        ensures ok { OnOk result (LoadsPiece held.old.items (end.now ++ 10 ∷ []) held.new.items self.old self.new) }
+        ensures form { OnOk result (form_of self.new.volume ≡ form_of self.old.volume) }
+        ensures bad { (n : ℕ) → result ≡ Err (LoadFault.Bad n) → RefusesPiece held.old.items (end.now ++ 10 ∷ []) n self.old }
+        ensures shape { result ≢ Err LoadFault.Shape }
+    {
+        let number = self.next_number()?;
+        if held.is_empty() {
+            return self.take_line(alloc, end, number);
+        }
+        hold(held, end);
+        if let Err(fault) = self.take_line(alloc, held.as_slice(), number) {
+            return Err(fault);
+        }
+        held.clear();
+        Ok(())
+    }
+
+    /// Ends the image: no line is left that has no line feed, and there was one at least.
+    fn end(&self, held: &[u8]) -> Result<(), LoadFault>
+        ensures ok { OnOk result (LoadsEnd held.now self.now) }
+        ensures bad { (n : ℕ) → result ≡ Err (LoadFault.Bad n) → RefusesEnd held.now n self.now }
+        ensures shape { result ≢ Err LoadFault.Shape }
+    {
+        let number = self.next_number()?;
+        if !held.is_empty() {
+            return Err(LoadFault::Bad(number));
+        }
+        if self.lines == 0 {
+            return Err(LoadFault::Bad(number));
+        }
+        Ok(())
+    }
+
+    /// The number of the next line. No image has as many lines as could not be counted.
+    fn next_number(&self) -> Result<u64, LoadFault>
+        ensures ok { IfOk result (λ n. n ≡ self.now.lines + 1) }
+        ensures err { OnErr result (result ≡ Err LoadFault.Memory) }
+    {
+        match self.lines.checked_add(1) {
+            Some(number) => Ok(number),
+            None => Err(LoadFault::Memory),
+        }
+    }
+
+    /// Loads a line, without its line feed; `number` counts it.
+    pub fn take_line(&mut self, alloc: Global, line: &[u8], number: u64) -> Result<(), LoadFault>
+        requires { number ≡ self.old.lines + 1 }
+        ensures ok { OnOk result (LoadsLine line.now self.old self.new) }
+        ensures short { OnOk result (length line.now ≤ 65536) }
+        ensures form { OnOk result (form_of self.new.volume ≡ form_of self.old.volume) }
+        ensures bad { (n : ℕ) → result ≡ Err (LoadFault.Bad n) → (n ≡ number) × RefusesLine line.now self.old }
+        ensures shape { result ≢ Err LoadFault.Shape }
+    {
+        if line.len() > LONGEST_LINE {
+            return Err(LoadFault::Bad(number));
+        }
+        if self.lines == 0 {
+            return self.take_root(line, number);
+        }
+        match read_image_line(alloc, line) {
+            Ok(Some(line)) => self.take_next(alloc, line, number),
+            Ok(None) => Err(LoadFault::Bad(number)),
+            Err(NoMemory) => Err(LoadFault::Memory),
+        }
+    }
+
+    /// Loads the first line, which is the root's.
+    fn take_root(&mut self, line: &[u8], number: u64) -> Result<(), LoadFault>
+        requires { number ≡ self.old.lines + 1 }
+        ensures ok { OnOk result (LoadsRoot line.now self.old self.new) }
+        ensures form { OnOk result (form_of self.new.volume ≡ form_of self.old.volume) }
+        ensures bad { (n : ℕ) → result ≡ Err (LoadFault.Bad n) → (n ≡ number) × (line.now ≢ codes "d /") }
+        ensures kinds { (result ≢ Err LoadFault.Shape) × (result ≢ Err LoadFault.Memory) }
+    {
+        if line != b"d /".as_slice() {
+            return Err(LoadFault::Bad(number));
+        }
+        self.lines = number;
+        Ok(())
+    }
+
+    /// Loads a line behind the root's.
+    fn take_next(&mut self, alloc: Global, line: ImageLine, number: u64) -> Result<(), LoadFault>
+        requires line { IsLine (line_of line) }
+        requires number { number ≡ self.old.lines + 1 }
+        ensures ok { OnOk result (LoadsNext (line_of line) self.old self.new) }
+        ensures form { OnOk result (form_of self.new.volume ≡ form_of self.old.volume) }
+        ensures bad { (n : ℕ) → result ≡ Err (LoadFault.Bad n) → (n ≡ number) × MayNotFollow (line_of line) self.old }
+        ensures shape { result ≢ Err LoadFault.Shape }
+    {
+        match line {
+            ImageLine::Directory(path) => self.take_entry(alloc, path, Meta::Dir, number),
+            ImageLine::File(path, len) => {
+                self.take_entry(alloc, path, Meta::File { len }, number)
+            }
+            ImageLine::Block(index, bytes) => self.take_block(alloc, index, bytes, number),
+        }
+    }
+
+    /// Loads the line of an entry.
+    fn take_entry(
+        &mut self,
+        alloc: Global,
+        path: Path,
+        meta: Meta,
+        number: u64,
+    ) -> Result<(), LoadFault>
+        requires { number ≡ self.old.lines + 1 }
+        ensures ok { OnOk result (LoadsNext (entry_line path meta) self.old self.new) }
+        ensures form { OnOk result (form_of self.new.volume ≡ form_of self.old.volume) }
+        ensures bad { (n : ℕ) → result ≡ Err (LoadFault.Bad n) → (n ≡ number) × MayNotFollow (entry_line path meta) self.old }
+        ensures shape { result ≢ Err LoadFault.Shape }
+    {
+        if self.last.key().cmp(path.key()) != Ordering::Less {
+            drop(path);
+            return Err(LoadFault::Bad(number));
+        }
+        if let Err(fault) = self.volume.plant_entry(alloc, &path, meta) {
+            let refused = entry_fault(fault, number);
+            drop(path);
+            return Err(refused);
+        }
+        self.len = len_of(meta);
+        self.last = path;
+        self.next = 0;
+        self.lines = number;
+        Ok(())
+    }
+
+    /// Loads the line of a block.
+    fn take_block(
+        &mut self,
+        alloc: Global,
+        index: u32,
+        bytes: Bytes,
+        number: u64,
+    ) -> Result<(), LoadFault>
+        requires block { IsBlock bytes }
+        requires number { number ≡ self.old.lines + 1 }
+        ensures ok { OnOk result (LoadsNext (BlockLine index bytes) self.old self.new) }
+        ensures form { OnOk result (form_of self.new.volume ≡ form_of self.old.volume) }
+        ensures bad { (n : ℕ) → result ≡ Err (LoadFault.Bad n) → (n ≡ number) × MayNotFollow (BlockLine index bytes) self.old }
+        ensures shape { result ≢ Err LoadFault.Shape }
+    {
+        let Some(offset) = self.offset_of(index, bytes.len() as u64) else {
+            return Err(LoadFault::Bad(number));
+        };
+        if !write_bytes(alloc, &mut self.volume, &self.last, offset, bytes) {
+            return Err(LoadFault::Memory);
+        }
+        self.next = u64::from(index) + 1;
+        self.lines = number;
+        Ok(())
+    }
+
+    /// Where in the last file a block of this number and of so many bytes lies; none where it may not follow.
+    fn offset_of(&self, index: u32, len: u64) -> Option<u64>
+        requires { len ≤ 4096 }
+        ensures fits { IfSome result (FitsAt index len self.now) }
+        ensures none { result ≡ None → (b : List ℕ) → length b ≡ len → MayNotFollow (BlockLine index b) self.now }
+    {
+        let Some(file) = self.len else {
+            return None;
+        };
+        let index = u64::from(index);
+        if index < self.next {
+            return None;
+        }
+        let offset = BLOCK * index;
+        let end = offset + len;
+        if file < end {
+            return None;
+        }
+        Some(offset)
+    }
+}
+
+/// Writes bytes into a file of the volume; `false` where memory is refused.
+fn write_bytes(alloc: Global, volume: &mut Volume, path: &Path, offset: u64, bytes: Bytes) -> bool
+    ensures { result ≡ true → Counts (Write path.now offset bytes) volume.old volume.new }
+{
+    match path.copy(alloc) {
+        Ok(path) => {
+            let call = Call::Write(path, offset, bytes);
+            let counted = counts(alloc, volume, &call);
+            drop(call);
+            counted
+        }
+        Err(NoMemory) => {
+            drop(bytes);
+            false
+        }
+    }
+}
+
+/// Whether a call is answered by a count.
+fn counts(alloc: Global, volume: &mut Volume, call: &Call) -> bool
+    ensures { result ≡ true → Counts call.now volume.old volume.new }
+{
+    let reply = volume.call(alloc, call);
+    match &reply {
+        Reply::Count(_) => true,
+        _ => false,
+    }
+}
+
+/// Why an entry was not planted.
+fn entry_fault(fault: Errno, number: u64) -> LoadFault
+    ensures memory { (result ≡ LoadFault.Memory) ↔ (fault ≡ Errno.ENOMEM) }
+    ensures bad { (n : ℕ) → result ≡ LoadFault.Bad n → (n ≡ number) × (fault ≢ Errno.ENOMEM) }
+    ensures shape { result ≢ LoadFault.Shape }
+{
+    if fault == Errno::ENOMEM {
+        LoadFault::Memory
+    } else {
+        LoadFault::Bad(number)
+    }
+}
+
+/// The length of a file.
+fn len_of(meta: Meta) -> Option<u64>
+    ensures { result ≡ len_of meta }
+{
+    match meta {
+        Meta::Dir => None,
+        Meta::File { len } => Some(len),
+    }
+}

@@ -1,0 +1,5 @@
+pub mod Known
+pub mod WordFacts
+pub mod ValueFacts
+pub mod Texts
+pub mod HeldFacts

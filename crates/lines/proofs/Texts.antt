@@ -1,0 +1,31 @@
+-- Texts that are written piece by piece, for each element of a list.
+use Rattle.std.proofs.Common.{◌≡◌, ℕ, ◌+◌, ◌<◌, List, [], ◌∷◌, ◌++◌, Option, length, take, drop, get_or, sym, ap, refl, ◌∙◌, subst, append-nil, take-append-drop, arith}
+use Rattle.std.specs.List.{flat_map}
+use Rattle.std.specs.Io.KnownBytes.{Appends}
+use Rattle.std.proofs.lemmas.List.{take_more}
+use Rattle.std.proofs.lemmas.Grind.{flat_map-append}
+use Rattle.reference.specs.Image.{two_digits}
+use Rattle.lines.specs.Parts.{AppendsPart}
+use Rattle.lines.specs.Texts.{hex_text}
+use Rattle.lines.proofs.Known.{part_after, part_before}
+
+module _ {X : Type 0} (f : X → List ℕ) (d : X) where
+  -- the text of one element more
+  taken_more : (xs : List X) (i : ℕ) → i < length xs → flat_map f (take (i + 1) xs) ≡ flat_map f (take i xs) ++ f (get_or xs i d)
+  taken_more xs i lt =
+      ap (flat_map f) (take_more xs i d lt) ∙ flat_map-append f (take i xs) (get_or xs i d ∷ [])
+      ∙ ap (λ t. flat_map f (take i xs) ++ t) (append-nil (f (get_or xs i d)))
+
+  -- a part of the text of one element, after the texts of those before it
+  pub each_part : (a b c : Option (List ℕ)) (xs : List X) (i : ℕ) → i < length xs → Appends a b (flat_map f (take i xs)) → AppendsPart b c (f (get_or xs i d))
+      → AppendsPart a c (flat_map f xs)
+  each_part a b c xs i lt first second =
+      let whole : (flat_map f (take i xs) ++ f (get_or xs i d)) ++ flat_map f (drop (i + 1) xs) ≡ flat_map f xs =
+      ap (λ t. t ++ flat_map f (drop (i + 1) xs)) (sym (taken_more xs i lt))
+      ∙ sym (flat_map-append f (take (i + 1) xs) (drop (i + 1) xs)) ∙ ap (flat_map f) (take-append-drop (i + 1) xs) in
+      subst (AppendsPart a c) whole (part_before a c _ (flat_map f (drop (i + 1) xs)) (part_after a b c _ _ first second))
+
+-- some bytes in hexadecimal
+pub hex_of_some : (bytes : List ℕ) → 0 < length bytes → hex_text bytes ≡ flat_map (two_digits 87) bytes
+hex_of_some [] some = absurd (omega arith)
+hex_of_some (b ∷ bytes) some = refl

@@ -1,5 +1,0 @@
-use Rattle.shell.proofs.LoadFacts.{loaded_form}
-use Rattle.shell.proofs.load.load_image.Goals as goal
-
-pub returns-clause-form : goal.returns-clause-form
-returns-clause-form g c = loaded_form c.load_into.result c.in-Ok.volume c.args.shape c.in-Ok.ensures.new c.load_into.ensures.form
