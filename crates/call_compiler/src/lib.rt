@@ -15,12 +15,12 @@ pub mod batch;
 mod files;
 pub mod indexes;
 pub mod laws;
-mod making;
-mod moving;
+pub mod making;
+pub mod moving;
 pub mod reading;
-mod removing;
+pub mod removing;
 mod subtrees;
-mod writing;
+pub mod writing;
 
 pub use batch::Batch;
 pub use indexes::Indexes;

@@ -14,11 +14,7 @@ use reference::{Call, Reply};
 use std::alloc::Global;
 
 /// Makes an empty directory (POSIX.1-2017, mkdir).
-pub(crate) fn mkdir(
-    alloc: Global,
-    indexes: &Indexes,
-    path: &Path,
-) -> Result<(Reply, Batch), NoMemory>
+pub fn mkdir(alloc: Global, indexes: &Indexes, path: &Path) -> Result<(Reply, Batch), NoMemory>
     ensures { IfOk result (λ c. IsCompiled indexes.now (Call.Mkdir path.now) c.0 (messages c.1)) }
 {
     let key = path.key();
@@ -30,11 +26,7 @@ pub(crate) fn mkdir(
 }
 
 /// Makes an empty file (open with O_CREAT and O_EXCL, without a descriptor).
-pub(crate) fn create(
-    alloc: Global,
-    indexes: &Indexes,
-    path: &Path,
-) -> Result<(Reply, Batch), NoMemory>
+pub fn create(alloc: Global, indexes: &Indexes, path: &Path) -> Result<(Reply, Batch), NoMemory>
     ensures { IfOk result (λ c. IsCompiled indexes.now (Call.Create path.now) c.0 (messages c.1)) }
 {
     let key = path.key();

@@ -25,7 +25,7 @@ use std::alloc::Global;
 ///
 /// Each entry and each block at or below `old` is put under its new key, and then one range-delete in each index takes out what
 /// stood at or below `old`; the blocks of a file that is replaced go before all else. No byte of a file is copied.
-pub(crate) fn rename(
+pub fn rename(
     alloc: Global,
     indexes: &Indexes,
     old: &Path,

@@ -14,11 +14,7 @@ use reference::{Call, Reply};
 use std::alloc::Global;
 
 /// Takes a file out, with all its blocks (POSIX.1-2017, unlink). A directory is refused.
-pub(crate) fn unlink(
-    alloc: Global,
-    indexes: &Indexes,
-    path: &Path,
-) -> Result<(Reply, Batch), NoMemory>
+pub fn unlink(alloc: Global, indexes: &Indexes, path: &Path) -> Result<(Reply, Batch), NoMemory>
     ensures { IfOk result (λ c. IsCompiled indexes.now (Call.Unlink path.now) c.0 (messages c.1)) }
 {
     let key = path.key();
@@ -31,11 +27,7 @@ pub(crate) fn unlink(
 }
 
 /// Takes an empty directory out (rmdir).
-pub(crate) fn rmdir(
-    alloc: Global,
-    indexes: &Indexes,
-    path: &Path,
-) -> Result<(Reply, Batch), NoMemory>
+pub fn rmdir(alloc: Global, indexes: &Indexes, path: &Path) -> Result<(Reply, Batch), NoMemory>
     ensures { IfOk result (λ c. IsCompiled indexes.now (Call.Rmdir path.now) c.0 (messages c.1)) }
 {
     let key = path.key();
@@ -66,11 +58,7 @@ fn fault_of_rmdir(alloc: Global, indexes: &Indexes, path: &Path) -> Result<Optio
 /// Takes out what stands at the path, with all that lies below it.
 ///
 /// It sends one range-delete to each index, whatever lies below.
-pub(crate) fn rmtree(
-    alloc: Global,
-    indexes: &Indexes,
-    path: &Path,
-) -> Result<(Reply, Batch), NoMemory>
+pub fn rmtree(alloc: Global, indexes: &Indexes, path: &Path) -> Result<(Reply, Batch), NoMemory>
     ensures { IfOk result (λ c. IsCompiled indexes.now (Call.Rmtree path.now) c.0 (messages c.1)) }
 {
     // What `key` promises says that the path is one.

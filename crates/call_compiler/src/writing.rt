@@ -16,7 +16,7 @@ use reference::{Call, GREATEST_FILE, Reply, fits_file};
 use std::alloc::Global;
 
 /// Lays bytes over a file from the offset on (POSIX.1-2017, pwrite). No bytes change nothing, at any offset.
-pub(crate) fn write(
+pub fn write(
     alloc: Global,
     indexes: &Indexes,
     path: &Path,
@@ -50,7 +50,7 @@ fn count(bytes: &[u8]) -> u64
 }
 
 /// Cuts a file to a length, or lengthens it by zeros (truncate).
-pub(crate) fn truncate(
+pub fn truncate(
     alloc: Global,
     indexes: &Indexes,
     path: &Path,

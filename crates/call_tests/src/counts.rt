@@ -7,11 +7,7 @@ use node::Shape;
 use pathkey::Path;
 use std::alloc::Global;
 
-const SHAPE: Shape = Shape {
-    fanout: 16,
-    pending: 256,
-    leaf: 256,
-};
+const SHAPE: Shape = Shape::USUAL;
 
 /// Puts the file with a number of four digits in `/a` into an index.
 fn put_numbered(alloc: Global, index: &mut MetaIndex, number: u32) -> bool {

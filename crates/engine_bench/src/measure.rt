@@ -17,11 +17,7 @@ use std::time::Instant;
 use volume::Volume;
 
 /// The shape of the trees.
-const SHAPE: Shape = Shape {
-    fanout: 16,
-    pending: 256,
-    leaf: 256,
-};
+const SHAPE: Shape = Shape::USUAL;
 
 /// Nanoseconds of all calls of a kind, and how many turns flushers made meanwhile.
 #[derive(Clone, Copy)]

@@ -10,11 +10,7 @@ use std::collections::BTreeMap;
 use steps::relieve;
 
 /// The shape of the trees.
-const SHAPE: Shape = Shape {
-    fanout: 16,
-    pending: 256,
-    leaf: 256,
-};
+const SHAPE: Shape = Shape::USUAL;
 
 /// The numbers of keys, in turn.
 #[derive(Clone, Copy)]

@@ -73,7 +73,7 @@ called v c r l does_it w m =
     (inl (ap Replied d.0), subst (λ (b : Bool). Means (volume l v.snapshots) (cond b w (outcome w (Ask c)).0)) (sym given) there)
 
 -- where nothing changes and no message came, each list stays
-nothing_comes : (l m : PLive) → m ≡ l → KeepMarkedLists no_messages l m
+pub nothing_comes : (l m : PLive) → m ≡ l → KeepMarkedLists no_messages l m
 nothing_comes l m e = subst (λ (x : PLive). KeepMarkedLists no_messages l x) (sym e) (record {
   meta = keeps_nothing l.indexes.meta.tree.shape 0 (kept_in l.marks.meta l.indexes.meta.tree.root) [] l.indexes.meta.tree l.indexes.meta.tree.root refl refl;
   block = keeps_nothing l.indexes.block.tree.shape 0 (kept_in l.marks.block l.indexes.block.tree.root) [] l.indexes.block.tree l.indexes.block.tree.root refl refl;

@@ -1,5 +1,5 @@
 -- Where no slot is marked, no list has to stay.
-use Rattle.std.proofs.Common.{◌≡◌, ℕ, ◌+◌, ◌<◌, ◌≤◌, List, [], ◌∷◌, length, arith, Option, None}
+use Rattle.std.proofs.Common.{◌≡◌, List, [], ◌∷◌, length, arith, None}
 use Rattle.std.specs.Prelude.{Result, Ok, Err, OnOk}
 use Rattle.call_compiler.specs.Compiled.{Messages}
 use Rattle.jobs.specs.Marks.{kept_in, kept_numbers}

@@ -1,16 +1,19 @@
 //! The live indexes of a volume, with the marks of the jobs taken from their trees.
 ghost use Rattle.std.specs.Prelude.{◌≡◌, ◌↔◌, [], None, IfOk, IfNone, IfSome, OnErr, OnOk};
-ghost use Rattle.call_compiler.specs.Compiled.{messages};
+ghost use Rattle.call_compiler.specs.Compiled.{MeanTree, messages};
 ghost use Rattle.call_compiler.specs.Laws.{HaveTaken};
 ghost use Rattle.pathkey.specs.declared.errno.Errno.{Errno as Refusal};
+ghost use Rattle.reference.specs.Tree.{Tree};
+ghost use Rattle.reference.specs.declared.call.Call.{Call as FileCall};
 ghost use Rattle.volume.specs.Changes.{Does, Batched, StepsLive};
 ghost use Rattle.volume.specs.Jobs.{AnswersTaking, AnswersInstalling, DoneFits, mark_count};
 ghost use Rattle.volume.specs.Marked.{KeepMarkedLists, KeepsMarks, Stands, no_marks, without_mark};
 ghost use Rattle.volume.specs.Told.{HeaviestIn, pending_in};
+ghost use Rattle.volume.specs.Typed.{Compiles, IsOfKind};
 
 use crate::event::{Index, Relief, Step};
 use crate::job::{Done, InstallReply, Job, TakeReply};
-use call_compiler::{Batch, Call, Indexes, Reply, compile};
+use call_compiler::{Batch, Indexes, Reply};
 use flush::heaviest;
 use jobs::{Load, Marks, Ticket};
 use node::{StepReply, TreeStep};
@@ -104,17 +107,21 @@ impl Live {
             .append_kept(alloc, batch, meta_kept.as_slice(), block_kept.as_slice())
     }
 
-    /// Does a file call: asks the indexes what it comes to, and appends its messages. It fails only for want of memory, and
-    /// then changes nothing.
-    pub fn call(&mut self, alloc: Global, call: &Call) -> Result<Reply, NoMemory>
-        ensures done { IfOk result (λ r. Does call.now r self.old.indexes self.new.indexes) }
-        ensures refused { IfOk result (λ r. (e : Refusal) → r ≡ Reply.Fault e → self.new.indexes ≡ self.old.indexes) }
-        ensures batch { IfOk result (λ r. Batched call.now self.old self.new) }
+    /// Does a file call that was compiled: appends its messages. It fails only for want of memory, and then changes nothing.
+    pub fn send(
+        &mut self,
+        alloc: Global,
+        compiled: Result<(Reply, Batch), NoMemory>,
+    ) -> Result<Reply, NoMemory>
+        ensures done { (c : FileCall) → Compiles self.old.indexes c compiled → IfOk result (λ r. Does c r self.old.indexes self.new.indexes) }
+        ensures kind { (c : FileCall) → Compiles self.old.indexes c compiled → (t : Tree) → MeanTree self.old.indexes t → IfOk result (λ r. IsOfKind c r) }
+        ensures refused { (c : FileCall) → Compiles self.old.indexes c compiled → IfOk result (λ r. (e : Refusal) → r ≡ Reply.Fault e → self.new.indexes ≡ self.old.indexes) }
+        ensures batch { (c : FileCall) → Compiles self.old.indexes c compiled → IfOk result (λ r. Batched c self.old self.new) }
         ensures err { OnErr result (self.new ≡ self.old) }
         ensures marks { self.new.marks ≡ self.old.marks }
         ensures kept { KeepsMarks self.old self.new }
     {
-        let (reply, batch) = compile(alloc, &self.indexes, call)?;
+        let (reply, batch) = compiled?;
         self.append(alloc, batch)?;
         Ok(reply)
     }

@@ -3,12 +3,14 @@ ghost use Rattle.std.specs.Prelude.{◌≡◌, ◌⊎◌, ◌↔◌, false, Matc
 ghost use Rattle.call_compiler.specs.Compiled.{MeanTree};
 ghost use Rattle.node.specs.Shapes.{is_shape};
 ghost use Rattle.std.specs.FinMap as finite;
+ghost use Rattle.reference.specs.declared.call.Call.{Call as FileCall};
 ghost use Rattle.reference.specs.Worlds.{World, TakeSnapshot, DropSnapshot, RestoreSnapshot};
 ghost use Rattle.volume.specs.Changes.{Called, Settles, KeptAs, Dropped, Restored, Stepped};
 ghost use Rattle.volume.specs.Plants.{Plants};
 ghost use Rattle.volume.specs.Jobs.{AnswersInstalling, AnswersTaking, DoneFits};
 ghost use Rattle.volume.specs.Marked.{KeepsMarks, no_marks, without_mark};
 ghost use Rattle.volume.specs.Volumes.{IsNew, IsVolume, Means, live_of};
+ghost use Rattle.volume.specs.Typed.{Compiles, IsOfKind};
 ghost use Rattle.volume.specs.Told.{Finds, HeaviestIn, busier, pending_in, report_in};
 
 use crate::event::{Index, Relief, Step};
@@ -17,7 +19,7 @@ use crate::job::{Done, InstallReply, TakeReply};
 use crate::live::Live;
 use crate::plant::plant;
 use crate::snapshots::Snapshots;
-use call_compiler::{Call, Indexes, Reply};
+use call_compiler::{Batch, Call, Indexes, Reply, compile};
 use jobs::{Load, Ticket};
 use node::{Shape, ShapeReport, StepReply, TreeStep};
 use pathkey::{Errno, NoMemory, Path, SnapName};
@@ -71,7 +73,28 @@ impl Volume {
     pub fn call(&mut self, alloc: Global, call: &Call) -> Reply
         ensures { Called call.now result self.old self.new }
     {
-        let answer = self.live.call(alloc, call);
+        let compiled = compile(alloc, self.indexes(), call);
+        self.send(alloc, compiled)
+    }
+
+    /// The live indexes.
+    pub(crate) fn indexes(&self) -> &Indexes
+        ensures { result.now ≡ self.now.live }
+    {
+        self.live.indexes()
+    }
+
+    /// Does a file call that was compiled.
+    pub(crate) fn send(
+        &mut self,
+        alloc: Global,
+        compiled: Result<(Reply, Batch), NoMemory>,
+    ) -> Reply
+        requires { (c : FileCall) × Compiles self.old.live c compiled }
+        ensures called { (c : FileCall) → Compiles self.old.live c compiled → Called c result self.old self.new }
+        ensures kind { (c : FileCall) → Compiles self.old.live c compiled → IsOfKind c result }
+    {
+        let answer = self.live.send(alloc, compiled);
         self.live.stands();
         match answer {
             Ok(reply) => reply,

@@ -9,11 +9,7 @@ use std::alloc::Global;
 use volume::{Frozen, Index, Volume};
 
 /// The shape that `betr` uses.
-pub const USUAL: Shape = Shape {
-    fanout: 16,
-    pending: 256,
-    leaf: 256,
-};
+pub const USUAL: Shape = Shape::USUAL;
 
 /// The smallest shape.
 pub const SMALL: Shape = Shape {

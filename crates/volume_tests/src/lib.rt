@@ -35,4 +35,6 @@ mod streams;
 #[cfg(test)]
 mod told;
 #[cfg(test)]
+mod typed;
+#[cfg(test)]
 mod words;

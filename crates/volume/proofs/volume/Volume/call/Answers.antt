@@ -1,32 +1,10 @@
-use Rattle.std.proofs.Common.{sym, subst}
-use Rattle.reference.specs.Worlds.{Ask, Replied}
-use Rattle.reference.specs.declared.reply.Reply.{Reply}
-use Rattle.reference.specs.declared.reply.Reply.TheVariants.{Fault}
-use Rattle.pathkey.specs.declared.errno.Errno.TheVariants.{ENOMEM}
-use Rattle.volume.specs.Changes.{Called}
-use Rattle.volume.specs.Marked.{PLive}
-use Rattle.volume.specs.Volumes.{PVolume, IsVolume}
-use Rattle.volume.proofs.Leading.{volume, called, call_done, lacks_call, lasts}
+use Rattle.std.proofs.Common.{subst}
+use Rattle.call_compiler.specs.declared.indexes.Indexes.{Indexes}
+use Rattle.volume.specs.Typed.{Compiles}
 use Rattle.volume.proofs.volume.Volume.call.Goals as goal
-use Rattle.volume.proofs.volume.Volume.call.Goals.{in-Ok, in-Err}
 
-pub invariant_of-self : goal.invariant_of-self
-invariant_of-self c =
-    let old : PVolume = volume c.self.inside.live c.self.inside.snapshots in
-    let new : PVolume = volume c.call-answer.new.self c.self.inside.snapshots in
-    elim c.match-answer.branch [
-      | in-Ok w ↦ lasts old new (Ask c.args.call.now) (Replied w.in-Ok.reply) c.self.invariant (called old c.args.call.now w.in-Ok.reply c.call-answer.new.self w.in-Ok.ensures.done) c.self.invariant.few c.stands.ensures
-      | in-Err w ↦ subst (λ (l : PLive). IsVolume (volume l c.self.inside.snapshots)) (sym w.in-Err.ensures.err) c.self.invariant
-    ]
+pub send-requires : goal.send-requires
+send-requires c = (c.args.call.now, subst (λ (i : Indexes). Compiles i c.args.call.now c.compile-compiled.result) c.indexes.ensures c.compile-compiled.ensures)
 
 pub returns : goal.returns
-returns c =
-    let old : PVolume = volume c.self.inside.live c.self.inside.snapshots in
-    let new : PVolume = volume c.call-answer.new.self c.self.inside.snapshots in
-    elim c.match-answer.branch [
-      | in-Ok w ↦
-          let done : Called c.args.call.now w.in-Ok.reply old new = call_done old c.args.call.now w.in-Ok.reply c.call-answer.new.self w.in-Ok.ensures.done w.in-Ok.ensures.refused w.in-Ok.ensures.batch c.call-answer.ensures.marks c.call-answer.ensures.kept in
-          subst (λ (r : Reply). Called c.args.call.now r c.args.self.now new) (sym w.result-is) (subst (λ (v : PVolume). Called c.args.call.now w.in-Ok.reply v new) c.self.view_is done)
-      | in-Err w ↦
-          subst (λ (r : Reply). Called c.args.call.now r c.args.self.now new) (sym w.result-is) (subst (λ (v : PVolume). Called c.args.call.now (Fault ENOMEM) v new) c.self.view_is (lacks_call old c.args.call.now c.call-answer.new.self w.in-Err.ensures.err))
-    ]
+returns c = c.send.ensures.called c.args.call.now (subst (λ (i : Indexes). Compiles i c.args.call.now c.compile-compiled.result) c.indexes.ensures c.compile-compiled.ensures)

@@ -1,0 +1,56 @@
+//! A volume on one page: a file is written, kept by a snapshot, written over, read as it is and as it was, and brought back.
+#![tactic(auto)]
+
+use std::alloc::Global;
+use std::str;
+use volume::{Errno, Path, Shape, SnapName, Volume};
+
+fn make(alloc: Global, volume: &mut Volume) -> Result<(), Errno> {
+    volume.mkdir(alloc, &Path::parse(alloc, b"/notes")?)?;
+    volume.create(alloc, &Path::parse(alloc, b"/notes/today")?)
+}
+
+fn write(alloc: Global, volume: &mut Volume, text: &[u8]) -> Result<u64, Errno> {
+    let path = Path::parse(alloc, b"/notes/today")?;
+    volume.write(alloc, &path, 0, text)
+}
+
+fn keep(alloc: Global, volume: &mut Volume) -> Result<(), Errno> {
+    volume.snapshot(alloc, &SnapName::parse(alloc, b"monday")?)
+}
+
+fn bring_back(alloc: Global, volume: &mut Volume) -> Result<(), Errno> {
+    volume.restore(&SnapName::parse(alloc, b"monday")?)
+}
+
+fn read(alloc: Global, volume: &Volume) -> Result<Vec<u8>, Errno> {
+    let path = Path::parse(alloc, b"/notes/today")?;
+    volume.read(alloc, &path, 0, 1_000)
+}
+
+fn read_kept(alloc: Global, volume: &Volume) -> Result<Vec<u8>, Errno> {
+    let monday = volume.frozen(&SnapName::parse(alloc, b"monday")?)?;
+    monday.try_read(alloc, &Path::parse(alloc, b"/notes/today")?, 0, 1_000)
+}
+
+fn print(rt: &impl Print, when: &str, bytes: Vec<u8>) -> anyhow::Result<()> {
+    let text = str::from_utf8(bytes.as_slice()).unwrap_or("no text");
+    println!(rt; "{when}: {text}")?;
+    Ok(())
+}
+
+fn tell(rt: &impl Print, alloc: Global, volume: &mut Volume) -> anyhow::Result<()> {
+    make(alloc, volume)?;
+    write(alloc, volume, b"first words")?;
+    keep(alloc, volume)?;
+    write(alloc, volume, b"other")?;
+    print(rt, "now", read(alloc, volume)?)?;
+    print(rt, "kept", read_kept(alloc, volume)?)?;
+    bring_back(alloc, volume)?;
+    print(rt, "back", read(alloc, volume)?)
+}
+
+fn main(rt: HostRuntime) -> anyhow::Result<()> {
+    let mut volume = Volume::new(rt.alloc(), Shape::USUAL)?;
+    tell(&rt, rt.alloc(), &mut volume)
+}

@@ -1,0 +1,18 @@
+use Rattle.std.proofs.Common.{sym, subst}
+use Rattle.call_compiler.specs.declared.indexes.Indexes.{Indexes}
+use Rattle.reference.specs.declared.call.Call.TheVariants.{Create}
+use Rattle.reference.specs.declared.reply.Reply.{Reply}
+use Rattle.volume.specs.Changes.{Called}
+use Rattle.volume.specs.Typed.{Compiles}
+use Rattle.volume.proofs.volume.Volume.create.Goals as goal
+
+pub send-requires : goal.send-requires
+send-requires c = (Create c.args.path.now, subst (λ (i : Indexes). Compiles i (Create c.args.path.now) c.create-compiled.result) c.indexes.ensures c.create-compiled.ensures)
+
+pub settled-requires : goal.settled-requires
+settled-requires c = c.send.ensures.kind (Create c.args.path.now) (subst (λ (i : Indexes). Compiles i (Create c.args.path.now) c.create-compiled.result) c.indexes.ensures c.create-compiled.ensures)
+
+pub returns : goal.returns
+returns c =
+    subst (λ (r : Reply). Called (Create c.args.path.now) r c.args.self.now c.send.new.self) (sym c.settled.ensures)
+    (c.send.ensures.called (Create c.args.path.now) (subst (λ (i : Indexes). Compiles i (Create c.args.path.now) c.create-compiled.result) c.indexes.ensures c.create-compiled.ensures))

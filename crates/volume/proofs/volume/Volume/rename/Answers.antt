@@ -1,0 +1,18 @@
+use Rattle.std.proofs.Common.{sym, subst}
+use Rattle.call_compiler.specs.declared.indexes.Indexes.{Indexes}
+use Rattle.reference.specs.declared.call.Call.TheVariants.{Rename}
+use Rattle.reference.specs.declared.reply.Reply.{Reply}
+use Rattle.volume.specs.Changes.{Called}
+use Rattle.volume.specs.Typed.{Compiles}
+use Rattle.volume.proofs.volume.Volume.rename.Goals as goal
+
+pub send-requires : goal.send-requires
+send-requires c = (Rename c.args.old.now c.args.new.now, subst (λ (i : Indexes). Compiles i (Rename c.args.old.now c.args.new.now) c.rename-compiled.result) c.indexes.ensures c.rename-compiled.ensures)
+
+pub settled-requires : goal.settled-requires
+settled-requires c = c.send.ensures.kind (Rename c.args.old.now c.args.new.now) (subst (λ (i : Indexes). Compiles i (Rename c.args.old.now c.args.new.now) c.rename-compiled.result) c.indexes.ensures c.rename-compiled.ensures)
+
+pub returns : goal.returns
+returns c =
+    subst (λ (r : Reply). Called (Rename c.args.old.now c.args.new.now) r c.args.self.now c.send.new.self) (sym c.settled.ensures)
+    (c.send.ensures.called (Rename c.args.old.now c.args.new.now) (subst (λ (i : Indexes). Compiles i (Rename c.args.old.now c.args.new.now) c.rename-compiled.result) c.indexes.ensures c.rename-compiled.ensures))

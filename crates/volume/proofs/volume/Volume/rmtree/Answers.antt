@@ -1,0 +1,18 @@
+use Rattle.std.proofs.Common.{sym, subst}
+use Rattle.call_compiler.specs.declared.indexes.Indexes.{Indexes}
+use Rattle.reference.specs.declared.call.Call.TheVariants.{Rmtree}
+use Rattle.reference.specs.declared.reply.Reply.{Reply}
+use Rattle.volume.specs.Changes.{Called}
+use Rattle.volume.specs.Typed.{Compiles}
+use Rattle.volume.proofs.volume.Volume.rmtree.Goals as goal
+
+pub send-requires : goal.send-requires
+send-requires c = (Rmtree c.args.path.now, subst (λ (i : Indexes). Compiles i (Rmtree c.args.path.now) c.rmtree-compiled.result) c.indexes.ensures c.rmtree-compiled.ensures)
+
+pub settled-requires : goal.settled-requires
+settled-requires c = c.send.ensures.kind (Rmtree c.args.path.now) (subst (λ (i : Indexes). Compiles i (Rmtree c.args.path.now) c.rmtree-compiled.result) c.indexes.ensures c.rmtree-compiled.ensures)
+
+pub returns : goal.returns
+returns c =
+    subst (λ (r : Reply). Called (Rmtree c.args.path.now) r c.args.self.now c.send.new.self) (sym c.settled.ensures)
+    (c.send.ensures.called (Rmtree c.args.path.now) (subst (λ (i : Indexes). Compiles i (Rmtree c.args.path.now) c.rmtree-compiled.result) c.indexes.ensures c.rmtree-compiled.ensures))

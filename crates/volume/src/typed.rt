@@ -1,0 +1,237 @@
+//! Each file call by a name and an answer of its own: a refusal is an `Err`, so that `?` serves.
+//!
+//! Each has the contract of `Volume::call`, and no path is copied on its way. A volume and a frozen tree are asked alike; on a
+//! frozen tree the names begin with `try_`, since `read`, `stat` and `readdir` give the replies themselves there.
+ghost use Rattle.std.specs.Prelude.{◌≡◌};
+ghost use Rattle.reference.specs.Pairs.{pairs_of};
+ghost use Rattle.reference.specs.declared.call.Call.{Call as FileCall};
+ghost use Rattle.volume.specs.Changes.{Called};
+ghost use Rattle.volume.specs.Told.{Tells};
+ghost use Rattle.volume.specs.Typed.{Compiles, IsCount, IsData, IsNames, IsOfKind, IsSettled, IsStat, Looks, replied};
+
+use crate::frozen::Frozen;
+use crate::volume::Volume;
+use bytes::Bytes;
+use call_compiler::{Batch, Call, Indexes, Reply, making, moving, reading, removing, writing};
+use pathkey::{Errno, NoMemory, Path};
+use reference::Kind;
+use std::alloc::Global;
+
+impl Volume {
+    /// Makes an empty directory (POSIX.1-2017, mkdir).
+    pub fn mkdir(&mut self, alloc: Global, path: &Path) -> Result<(), Errno>
+        ensures { Called (Call.Mkdir path.now) (replied (λ _. Reply.Done) result) self.old self.new }
+    {
+        let compiled = making::mkdir(alloc, self.indexes(), path);
+        settled(self.send(alloc, compiled))
+    }
+
+    /// Makes an empty file, where none stands (open with O_CREAT and O_EXCL, without a descriptor).
+    pub fn create(&mut self, alloc: Global, path: &Path) -> Result<(), Errno>
+        ensures { Called (Call.Create path.now) (replied (λ _. Reply.Done) result) self.old self.new }
+    {
+        let compiled = making::create(alloc, self.indexes(), path);
+        settled(self.send(alloc, compiled))
+    }
+
+    /// Lays the bytes over a file from the offset on, all of them or none (pwrite): how many they are.
+    pub fn write(
+        &mut self,
+        alloc: Global,
+        path: &Path,
+        offset: u64,
+        bytes: &[u8],
+    ) -> Result<u64, Errno>
+        ensures { Called (Call.Write path.now offset bytes.now) (replied (λ n. Reply.Count n) result) self.old self.new }
+    {
+        let compiled = compile_write(alloc, self.indexes(), path, offset, bytes);
+        counted(self.send(alloc, compiled))
+    }
+
+    /// Cuts a file to so many bytes, or lengthens it to them by zeros (truncate).
+    pub fn truncate(&mut self, alloc: Global, path: &Path, length: u64) -> Result<(), Errno>
+        ensures { Called (Call.Truncate path.now length) (replied (λ _. Reply.Done) result) self.old self.new }
+    {
+        let compiled = writing::truncate(alloc, self.indexes(), path, length);
+        settled(self.send(alloc, compiled))
+    }
+
+    /// Takes a file out (unlink).
+    pub fn unlink(&mut self, alloc: Global, path: &Path) -> Result<(), Errno>
+        ensures { Called (Call.Unlink path.now) (replied (λ _. Reply.Done) result) self.old self.new }
+    {
+        let compiled = removing::unlink(alloc, self.indexes(), path);
+        settled(self.send(alloc, compiled))
+    }
+
+    /// Takes an empty directory out (rmdir).
+    pub fn rmdir(&mut self, alloc: Global, path: &Path) -> Result<(), Errno>
+        ensures { Called (Call.Rmdir path.now) (replied (λ _. Reply.Done) result) self.old self.new }
+    {
+        let compiled = removing::rmdir(alloc, self.indexes(), path);
+        settled(self.send(alloc, compiled))
+    }
+
+    /// Moves what stands at the first path to the second (rename).
+    pub fn rename(&mut self, alloc: Global, old: &Path, new: &Path) -> Result<(), Errno>
+        ensures { Called (Call.Rename old.now new.now) (replied (λ _. Reply.Done) result) self.old self.new }
+    {
+        let compiled = moving::rename(alloc, self.indexes(), old, new);
+        settled(self.send(alloc, compiled))
+    }
+
+    /// Takes a file out, or a directory with all below it.
+    pub fn rmtree(&mut self, alloc: Global, path: &Path) -> Result<(), Errno>
+        ensures { Called (Call.Rmtree path.now) (replied (λ _. Reply.Done) result) self.old self.new }
+    {
+        let compiled = removing::rmtree(alloc, self.indexes(), path);
+        settled(self.send(alloc, compiled))
+    }
+
+    /// The bytes of a file from the offset on, at most `count` and none past its end (pread).
+    pub fn read(
+        &self,
+        alloc: Global,
+        path: &Path,
+        offset: u64,
+        count: u64,
+    ) -> Result<Vec<u8>, Errno>
+        ensures { Called (Call.Read path.now offset count) (replied (λ bytes. Reply.Data bytes.items) result) self.now self.now }
+    {
+        let compiled = reading::read(alloc, self.indexes(), path, offset, count);
+        data(self.look(compiled))
+    }
+
+    /// What stands at a path, and a file's length in bytes (0 for a directory) (stat).
+    pub fn stat(&self, alloc: Global, path: &Path) -> Result<(Kind, u64), Errno>
+        ensures { Called (Call.Stat path.now) (replied (λ s. Reply.Stat s.0 s.1) result) self.now self.now }
+    {
+        let compiled = reading::stat(alloc, self.indexes(), path);
+        status(self.look(compiled))
+    }
+
+    /// The entries of a directory: kind and name of each, in byte order of names (readdir).
+    pub fn readdir(&self, alloc: Global, path: &Path) -> Result<Vec<(Kind, Vec<u8>)>, Errno>
+        ensures { Called (Call.Readdir path.now) (replied (λ es. Reply.Names (pairs_of es.items)) result) self.now self.now }
+    {
+        let compiled = reading::readdir(alloc, self.indexes(), path);
+        names(self.look(compiled))
+    }
+
+    /// The reply of a call that only looks, which was compiled.
+    fn look(&self, compiled: Result<(Reply, Batch), NoMemory>) -> Reply
+        ensures called { (c : FileCall) → Looks c → Compiles self.now.live c compiled → Called c result self.now self.now }
+        ensures kind { (c : FileCall) → Compiles self.now.live c compiled → IsOfKind c result }
+    {
+        self.means_a_world();
+        match compiled {
+            Ok((reply, _)) => reply,
+            Err(NoMemory) => Reply::Fault(Errno::ENOMEM),
+        }
+    }
+}
+
+impl Frozen {
+    /// What `read` replies, as the bytes or the refusal.
+    pub fn try_read(
+        &self,
+        alloc: Global,
+        path: &Path,
+        offset: u64,
+        count: u64,
+    ) -> Result<Vec<u8>, Errno>
+        ensures { Tells (Call.Read path.now offset count) (replied (λ bytes. Reply.Data bytes.items) result) self.now }
+    {
+        self.means_a_tree();
+        data(self.read(alloc, path, offset, count))
+    }
+
+    /// What `stat` replies, as what stands there or the refusal.
+    pub fn try_stat(&self, alloc: Global, path: &Path) -> Result<(Kind, u64), Errno>
+        ensures { Tells (Call.Stat path.now) (replied (λ s. Reply.Stat s.0 s.1) result) self.now }
+    {
+        self.means_a_tree();
+        status(self.stat(alloc, path))
+    }
+
+    /// What `readdir` replies, as the entries or the refusal.
+    pub fn try_readdir(&self, alloc: Global, path: &Path) -> Result<Vec<(Kind, Vec<u8>)>, Errno>
+        ensures { Tells (Call.Readdir path.now) (replied (λ es. Reply.Names (pairs_of es.items)) result) self.now }
+    {
+        self.means_a_tree();
+        names(self.readdir(alloc, path))
+    }
+}
+
+// What a write is compiled to. The messages own the bytes, so they are copied once.
+fn compile_write(
+    alloc: Global,
+    indexes: &Indexes,
+    path: &Path,
+    offset: u64,
+    bytes: &[u8],
+) -> Result<(Reply, Batch), NoMemory>
+    ensures { Compiles indexes.now (Call.Write path.now offset bytes.now) result }
+{
+    let own = Bytes::copy_from_slice(alloc, bytes)?;
+    writing::write(alloc, indexes, path, offset, &own)
+}
+
+// The answer that tells a reply of which only a refusal counts.
+fn settled(reply: Reply) -> Result<(), Errno>
+    requires { IsSettled reply }
+    ensures { replied (λ _. Reply.Done) result ≡ reply }
+{
+    match reply {
+        Reply::Fault(fault) => Err(fault),
+        _ => Ok(()),
+    }
+}
+
+// The answer that tells the reply to a write.
+fn counted(reply: Reply) -> Result<u64, Errno>
+    requires { IsCount reply }
+    ensures { replied (λ n. Reply.Count n) result ≡ reply }
+{
+    match reply {
+        Reply::Count(count) => Ok(count),
+        Reply::Fault(fault) => Err(fault),
+        _ => Err(Errno::EINVAL),
+    }
+}
+
+// The answer that tells the reply to a read.
+fn data(reply: Reply) -> Result<Vec<u8>, Errno>
+    requires { IsData reply }
+    ensures { replied (λ bytes. Reply.Data bytes.items) result ≡ reply }
+{
+    match reply {
+        Reply::Data(bytes) => Ok(bytes.into_vec()),
+        Reply::Fault(fault) => Err(fault),
+        _ => Err(Errno::EINVAL),
+    }
+}
+
+// The answer that tells the reply to a stat.
+fn status(reply: Reply) -> Result<(Kind, u64), Errno>
+    requires { IsStat reply }
+    ensures { replied (λ s. Reply.Stat s.0 s.1) result ≡ reply }
+{
+    match reply {
+        Reply::Stat(kind, length) => Ok((kind, length)),
+        Reply::Fault(fault) => Err(fault),
+        _ => Err(Errno::EINVAL),
+    }
+}
+
+// The answer that tells the reply to a listing.
+fn names(reply: Reply) -> Result<Vec<(Kind, Vec<u8>)>, Errno>
+    requires { IsNames reply }
+    ensures { replied (λ es. Reply.Names (pairs_of es.items)) result ≡ reply }
+{
+    match reply {
+        Reply::Names(entries) => Ok(entries.into_vec()),
+        Reply::Fault(fault) => Err(fault),
+        _ => Err(Errno::EINVAL),
+    }
+}
