@@ -1,8 +1,8 @@
--- The calls of all clients are all calls, and a list with as many clients as the engine has, none twice, has them all.
-use Rattle.std.proofs.Common.{◌≡◌, ◌≢◌, ◌⊎◌, ℕ, ◌+◌, ◌<◌, ◌≤◌, List, [], ◌∷◌, ◌++◌, length, zero, suc, Bool, ◌==◌, if◌then◌else◌, refl, sym, ap, ◌∙◌, arith, inl, inr, ⊎_elim, eq-eqb, ne_eqb}
+-- The calls of all clients are all calls, and a list of no more clients than the engine has, in which each is there, has each once.
+use Rattle.std.proofs.Common.{◌≡◌, ◌≢◌, ◌⊎◌, ℕ, ◌+◌, ◌<◌, ◌≤◌, List, [], ◌∷◌, ◌++◌, length, zero, suc, Bool, ◌==◌, if◌then◌else◌, refl, sym, ap, ◌∙◌, subst, arith, inl, inr, ⊎_elim, eq-eqb, ne_eqb}
 use Rattle.engine.specs.Histories.{Entry, own, AllBelow}
 use Rattle.engine.specs.Clients.{Known}
-use Rattle.engine.specs.Ends.{Agrees, AllAgree, times_in, NoneTwice, EachOnce, LacksOne, Within, made_by_all}
+use Rattle.engine.specs.Ends.{Agrees, AllAgree, times_in, HasEach, EachOnce, LacksOne, Within, made_by_all}
 
 -- the calls of each of them in one history
 abbrev weigh : List Entry → List Known → ℕ
@@ -99,48 +99,51 @@ total-length : (n : ℕ) (ks : List Known) → Within n ks → total n ks ≡ le
 total-length n [] w = total-none n
 total-length n (k ∷ ks) w = omega (arith, total-more n k ks, one_below n k.client w.0, total-length n ks w.1)
 
-total-most : (n : ℕ) (ks : List Known) → NoneTwice ks → total n ks ≤ n
-total-most zero ks once = omega arith
-total-most (suc n) ks once = omega (arith, once n, total-most n ks once)
+total-least : (n : ℕ) (ks : List Known) → HasEach n ks → n ≤ total n ks
+total-least zero ks has = omega arith
+total-least (suc n) ks has = omega (arith, has n (omega arith), total-least n ks (λ c lt. has c (omega (arith, lt))))
 
--- as many as there are numbers: each number stands once
-all_there : (n : ℕ) (ks : List Known) → NoneTwice ks → total n ks ≡ n → EachOnce n ks
-all_there zero ks once all c lt = absurd (omega (arith, lt))
-all_there (suc n) ks once all c lt =
-    let top : times_in n ks ≡ 1 = omega (arith, all, once n, total-most n ks once) in
-    let rest : total n ks ≡ n = omega (arith, all, top) in
+-- a number below the next one is this one or below it
+top-or : (n c : ℕ) → c < suc n → (c ≡ n) ⊎ (c < n)
+top-or zero zero lt = inl refl
+top-or zero (suc c) lt = absurd (omega (arith, lt))
+top-or (suc n) zero lt = inr (omega arith)
+top-or (suc n) (suc c) lt = ⊎_elim (λ (e : c ≡ n). inl (ap suc e)) (λ (l : c < n). inr (omega (arith, l))) (top-or n c (omega (arith, lt)))
+
+pub has-more : (n : ℕ) (ks : List Known) → HasEach n ks → 1 ≤ times_in n ks → HasEach (n + 1) ks
+has-more n ks has top c lt = ⊎_elim (λ (same : c ≡ n). subst (λ x. 1 ≤ times_in x ks) (sym same) top) (λ (less : c < n). has c less) (top-or n c (omega (arith, lt)))
+
+-- no more than there are numbers, each of which stands there: each stands there once
+all_there : (n : ℕ) (ks : List Known) → HasEach n ks → total n ks ≤ n → EachOnce n ks
+all_there zero ks has few c lt = absurd (omega (arith, lt))
+all_there (suc n) ks has few c lt =
+    let below : HasEach n ks = λ d l. has d (omega (arith, l)) in
+    let some : 1 ≤ times_in n ks = has n (omega arith) in
+    let top : times_in n ks ≡ 1 = omega (arith, few, some, total-least n ks below) in
+    let rest : total n ks ≤ n = omega (arith, few, top) in
     ⊎_elim
     (λ (same : c ≡ n). ap (λ x. times_in x ks) same ∙ top)
-    (λ (less : c < n). all_there n ks once rest c less)
+    (λ (less : c < n). all_there n ks below rest c less)
     (top-or n c lt)
-  where
-    top-or : (n c : ℕ) → c < suc n → (c ≡ n) ⊎ (c < n)
-    top-or zero zero lt = inl refl
-    top-or zero (suc c) lt = absurd (omega (arith, lt))
-    top-or (suc n) zero lt = inr (omega arith)
-    top-or (suc n) (suc c) lt = ⊎_elim (λ (e : c ≡ n). inl (ap suc e)) (λ (l : c < n). inr (omega (arith, l))) (top-or n c (omega (arith, lt)))
 
--- fewer: one number does not stand there
-lacks_or : (n : ℕ) (ks : List Known) (t : ℕ) → times_in n ks ≡ t → (t ≢ 0 → LacksOne n ks) → LacksOne (suc n) ks
-lacks_or n ks zero e rest = (n, omega arith, e)
-lacks_or n ks (suc t) e rest = let r : LacksOne n ks = rest (λ z. let y = z in absurd (omega arith)) in (r.0, omega (arith, r.1), r.2)
+pub each_once : (n : ℕ) (ks : List Known) → Within n ks → HasEach n ks → length ks ≤ n → EachOnce n ks
+each_once n ks within has few = all_there n ks has (omega (arith, total-length n ks within, few))
 
-one_lacks : (n : ℕ) (ks : List Known) → NoneTwice ks → total n ks < n → LacksOne n ks
-one_lacks zero ks once few = absurd (omega (arith, few))
-one_lacks (suc n) ks once few = lacks_or n ks (times_in n ks) refl (λ some. one_lacks n ks once (fewer (times_in n ks) (total n ks) n few some))
-  where
-    fewer : (t a n : ℕ) → t + a < suc n → t ≢ 0 → a < n
-    fewer zero a n lt some = absurd (some refl)
-    fewer (suc t) a n lt some = omega (arith, lt)
+-- ---- whether a client is in a list
 
-pub each_once : (n : ℕ) (ks : List Known) → Within n ks → NoneTwice ks → length ks ≡ n → EachOnce n ks
-each_once n ks within once as_many = all_there n ks once (total-length n ks within ∙ as_many)
+times-append : (c : ℕ) (ks js : List Known) → times_in c (ks ++ js) ≡ times_in c ks + times_in c js
+times-append c [] js = omega arith
+times-append c (k ∷ ks) js = omega (arith, times-append c ks js)
 
-less : (a b : ℕ) → a ≤ b → a ≢ b → a < b
-less zero zero le ne = absurd (ne refl)
-less zero (suc b) le ne = omega arith
-less (suc a) zero le ne = absurd (omega (arith, le))
-less (suc a) (suc b) le ne = let e : a < b = less a b (omega (arith, le)) (λ x. ne (ap suc x)) in omega (arith, e)
+-- none in a beginning, nor the next
+pub none-snoc : (c : ℕ) (ks : List Known) (k : Known) → times_in c ks ≡ 0 → c ≢ k.client → times_in c (ks ++ k ∷ []) ≡ 0
+none-snoc c ks k none other =
+    let here : (if c == k.client then 1 else 0) ≡ 0 = ap weight (ne_eqb c k.client other) in
+    omega (arith, times-append c ks (k ∷ []), none, here)
 
-pub lacks_one : (n : ℕ) (ks : List Known) → Within n ks → NoneTwice ks → length ks ≢ n → LacksOne n ks
-lacks_one n ks within once other = one_lacks n ks once (less (total n ks) n (total-most n ks once) (λ e. other (sym (total-length n ks within) ∙ e)))
+-- one behind a beginning
+pub some-there : (c : ℕ) (all ks js : List Known) (k : Known) → all ≡ (ks ++ k ∷ []) ++ js → c ≡ k.client → 1 ≤ times_in c all
+some-there c all ks js k is same =
+    let here : (if c == k.client then 1 else 0) ≡ 1 = ap weight (eq-eqb c k.client same) in
+    let parts : times_in c all ≡ times_in c (ks ++ k ∷ []) + times_in c js = ap (times_in c) is ∙ times-append c (ks ++ k ∷ []) js in
+    omega (arith, parts, times-append c ks (k ∷ []), here)

@@ -1,9 +1,11 @@
 -- What the end of an engine says.
-use Rattle.std.specs.Prelude.{◌≡◌, List, [], ◌∷◌, ℕ, ◌+◌, ◌%◌, ◌^◌, ◌<◌, ◌≤◌, ◌==◌, if◌then◌else◌, length}
+use Rattle.std.specs.Prelude.{◌≡◌, List, [], ◌∷◌, ℕ, ◌+◌, ◌%◌, ◌^◌, ◌<◌, ◌≤◌, ◌==◌, if◌then◌else◌, length, ⊤}
 use Rattle.call_compiler.specs.declared.indexes.Indexes.{Indexes}
 use Rattle.volume.specs.Volumes.{PVolume}
 use Rattle.engine.specs.declared.engine.CloseFault.{CloseFault}
 use Rattle.engine.specs.declared.engine.CloseFault.TheVariants.{Missing, NoMemory}
+use Rattle.engine.specs.declared.serve.ServeFault.{ServeFault}
+use Rattle.engine.specs.declared.serve.ServeFault.TheVariants.{NotOpened, NotClosed}
 use Rattle.engine.specs.Histories.{Entry, LegalFrom, StartsWith, own}
 use Rattle.engine.specs.Seats.{Shows}
 use Rattle.engine.specs.Clients.{Known}
@@ -22,9 +24,9 @@ abbrev pub times_in : ℕ → List Known → ℕ
 times_in c [] = 0
 times_in c (k ∷ ks) = (if c == k.client then 1 else 0) + times_in c ks
 
--- no client is there twice
-abbrev pub NoneTwice : List Known → Type 0
-NoneTwice ks = (c : ℕ) → times_in c ks ≤ 1
+-- each client below n is there
+abbrev pub HasEach : ℕ → List Known → Type 0
+HasEach n ks = (c : ℕ) → c < n → 1 ≤ times_in c ks
 
 -- each client below n is there once
 abbrev pub EachOnce : ℕ → List Known → Type 0
@@ -41,8 +43,8 @@ Within n (k ∷ ks) = (k.client < n) × Within n ks
 
 -- why an engine with so many clients did not end: one of its clients is not in the list, or all are; both come back
 abbrev pub GivesBack : {J : Type 0} → ℕ → List Known → CloseFault J → Type 0
-GivesBack n clients (Missing engine back) = LacksOne n clients × (engine ≡ n) × (back.items ≡ clients)
-GivesBack n clients (NoMemory engine back) = EachOnce n clients × (engine ≡ n) × (back.items ≡ clients)
+GivesBack n clients (Missing engine back) = LacksOne n clients × (engine ≡ n) × (back ≡ clients)
+GivesBack n clients (NoMemory engine back) = EachOnce n clients × (engine ≡ n) × (back ≡ clients)
 
 -- the calls of all of them
 abbrev pub made_by_all : List Known → ℕ
@@ -58,3 +60,12 @@ pub record Ends (o : PVolume) (clients : List Known) (count : ℕ) (tree : Index
   pub length_is : count ≡ length history % 2 ^ 64
   pub all_made : length history ≡ made_by_all clients
   pub leaves : Shows o history tree
+
+-- what is left of an engine that so many clients of a volume worked on: each was there once, and it ended with them
+abbrev pub Served : PVolume → ℕ → ℕ → Indexes → Type 0
+Served o n count tree = (clients : List Known) × EachOnce n clients × Ends o clients count tree
+
+-- a fault that came before any client worked gives the volume back
+abbrev pub GivesVolume : PVolume → ServeFault → Type 0
+GivesVolume o (NotOpened volume) = volume ≡ o
+GivesVolume o NotClosed = ⊤

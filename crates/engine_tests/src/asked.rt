@@ -1,5 +1,4 @@
 //! What is asked of a client, as a table can hold it.
-ghost use Rattle.std.specs.Prelude.{◌≡◌};
 
 use engine::{Client, Naming, Room};
 use node::Shape;
@@ -30,9 +29,7 @@ fn replies<J: Naming, R: Wait>(
     client: &mut Client<J>,
     call: &Call,
     told: Told<'_>,
-) -> bool
-    ensures { client.new.client ≡ client.old.client }
-{
+) -> bool {
     let reply = client.call(rt, alloc, call);
     is(told, &reply)
 }
@@ -49,9 +46,7 @@ pub fn answers<J: Naming, R: Wait>(
     client: &mut Client<J>,
     ask: Ask<'_>,
     told: Told<'_>,
-) -> bool
-    ensures { client.new.client ≡ client.old.client }
-{
+) -> bool {
     match call_of(alloc, ask) {
         Some(call) => replies(rt, alloc, client, &call, told),
         None => false,

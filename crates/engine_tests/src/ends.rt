@@ -2,7 +2,7 @@
 ghost use Rattle.std.specs.Prelude.{◌≡◌};
 
 use crate::asked::{SMALL, answers, is, name_of, new_room};
-use crate::crew::{alone, end, only, two_of};
+use crate::crew::{end, two_of};
 use engine::{Client, CloseFault, Engine, Naming, Room};
 use pathkey::{Errno, Path};
 use samples::{Ask, Told};
@@ -26,9 +26,7 @@ pub fn fault_of<J: Naming, R: Wait>(
     client: &mut Client<J>,
     snap: Snap,
     text: &str,
-) -> Option<Errno>
-    ensures { client.new.client ≡ client.old.client }
-{
+) -> Option<Errno> {
     let Some(name) = name_of(alloc, text) else {
         return Some(Errno::ENOMEM);
     };
@@ -47,9 +45,7 @@ fn stat_in<J: Naming, R: Wait>(
     text: &str,
     path: &Path,
     told: Told<'_>,
-) -> Result<bool, Errno>
-    ensures { client.new.client ≡ client.old.client }
-{
+) -> Result<bool, Errno> {
     let Some(name) = name_of(alloc, text) else {
         return Err(Errno::ENOMEM);
     };
@@ -60,9 +56,7 @@ fn stat_in<J: Naming, R: Wait>(
 }
 
 /// Each call of a client once; how many of them were recorded.
-fn each_call<J: Naming, R: Wait>(rt: &R, alloc: Global, client: &mut Client<J>) -> Option<u64>
-    ensures { client.new.client ≡ client.old.client }
-{
+fn each_call<J: Naming, R: Wait>(rt: &R, alloc: Global, client: &mut Client<J>) -> Option<u64> {
     let path = Path::parse(alloc, b"/a".as_slice()).ok()?;
     let made = answers(rt, alloc, client, Ask::Mkdir("/a"), Told::Done);
     let kept = fault_of(rt, alloc, client, Snap::Keep, "s");
@@ -91,10 +85,10 @@ fn each_call<J: Naming, R: Wait>(rt: &R, alloc: Global, client: &mut Client<J>) 
 fn in_room<J: Naming, R: Wait>(rt: &R, alloc: Global, room: Room) -> Option<u64>
     requires { (room.0 ≡ J.table) × (room.1 ≡ J.opening) × (J.clients ≡ 2) }
 {
-    let (engine, clients) = Engine::<J>::open(alloc, room, 2).ok()?;
-    let (mut one, other) = two_of(clients)?;
+    let (engine, mut clients) = Engine::<J>::open(alloc, room, 2).ok()?;
+    let (mut one, other) = two_of(&mut clients)?;
     let made = each_call(rt, alloc, &mut one)?;
-    let report = end(rt, alloc, engine, one, other)?;
+    let report = end(rt, engine, clients, one, other)?;
     (report.calls == made).then_some(made)
 }
 
@@ -117,13 +111,13 @@ fn each_call_of_a_client(rt: HostRuntime) -> Result<(), Fail> {
 fn without_one<J: Naming, R: Wait>(rt: &R, alloc: Global, room: Room) -> Option<bool>
     requires { (room.0 ≡ J.table) × (room.1 ≡ J.opening) × (J.clients ≡ 2) }
 {
-    let (engine, clients) = Engine::<J>::open(alloc, room, 2).ok()?;
-    let (one, other) = two_of(clients)?;
-    let Err(CloseFault::Missing(engine, back)) = engine.close(rt, alone(alloc, one)?) else {
+    let (engine, mut clients) = Engine::<J>::open(alloc, room, 2).ok()?;
+    let other = clients.pop()?;
+    let Err(CloseFault::Missing(engine, mut back)) = engine.close(rt, clients) else {
         return None;
     };
-    let one = only(back)?;
-    let report = end(rt, alloc, engine, one, other)?;
+    back.push(other).ok()?;
+    let report = engine.close(rt, back).ok()?;
     Some(report.calls == 0)
 }
 

@@ -17,9 +17,7 @@ use volume::Frozen;
 const LOOKS: u32 = 1_000_000;
 
 /// Asks for a file until it is found.
-fn finds<J: Naming, R: Wait>(rt: &R, alloc: Global, client: &mut Client<J>, text: &str) -> bool
-    ensures { client.new.client ≡ client.old.client }
-{
+fn finds<J: Naming, R: Wait>(rt: &R, alloc: Global, client: &mut Client<J>, text: &str) -> bool {
     for _ in 0..LOOKS {
         if answers(rt, alloc, client, Ask::Stat(text), Told::File(0)) {
             return true;
@@ -37,9 +35,7 @@ fn has_file(alloc: Global, tree: &Frozen, text: &str) -> bool {
 }
 
 /// Whether both files stand in the tree that the client takes.
-fn freezes_both<J: Naming, R: Wait>(rt: &R, alloc: Global, client: &mut Client<J>) -> bool
-    ensures { client.new.client ≡ client.old.client }
-{
+fn freezes_both<J: Naming, R: Wait>(rt: &R, alloc: Global, client: &mut Client<J>) -> bool {
     match client.freeze(rt) {
         Ok(tree) => has_file(alloc, &tree, "/w1") && has_file(alloc, &tree, "/w2"),
         Err(_) => false,
@@ -53,9 +49,7 @@ fn meet<J: Naming, R: Wait>(
     mut client: Client<J>,
     mine: &str,
     theirs: &str,
-) -> (Client<J>, bool)
-    ensures { result.0.client ≡ client.client }
-{
+) -> (Client<J>, bool) {
     let made = answers(rt, alloc, &mut client, Ask::Create(mine), Told::Done);
     let found = finds(rt, alloc, &mut client, theirs);
     let both = freezes_both(rt, alloc, &mut client);
@@ -68,17 +62,11 @@ fn both_meet<J: Naming + Send + Sync, R: Threads + Wait + Sync>(
     alloc: Global,
     one: Client<J>,
     other: Client<J>,
-) -> ((Client<J>, bool), (Client<J>, bool))
-    ensures { (result.0.0.client ≡ one.client) × (result.1.0.client ≡ other.client) }
-{
+) -> ((Client<J>, bool), (Client<J>, bool)) {
     join(
         rt,
-        move || -> (Client<J>, bool)
-            ensures { result.0.client ≡ one.client }
-        { meet(rt, alloc, one, "/w1", "/w2") },
-        move || -> (Client<J>, bool)
-            ensures { result.0.client ≡ other.client }
-        { meet(rt, alloc, other, "/w2", "/w1") },
+        move || meet(rt, alloc, one, "/w1", "/w2"),
+        move || meet(rt, alloc, other, "/w2", "/w1"),
     )
 }
 
@@ -90,10 +78,10 @@ fn in_room<J: Naming + Send + Sync, R: Threads + Wait + Sync>(
 ) -> Option<bool>
     requires { (room.0 ≡ J.table) × (room.1 ≡ J.opening) × (J.clients ≡ 2) }
 {
-    let (engine, clients) = Engine::<J>::open(alloc, room, 2).ok()?;
-    let (one, other) = two_of(clients)?;
+    let (engine, mut clients) = Engine::<J>::open(alloc, room, 2).ok()?;
+    let (one, other) = two_of(&mut clients)?;
     let ((one, one_right), (other, other_right)) = both_meet(rt, alloc, one, other);
-    let report = end(rt, alloc, engine, one, other)?;
+    let report = end(rt, engine, clients, one, other)?;
     Some(one_right && other_right && has_file(alloc, &report.tree, "/w1"))
 }
 

@@ -1,5 +1,5 @@
 //! Two clients and two flushers, each in a thread of its own.
-ghost use Rattle.std.specs.Prelude.{◌≡◌, IfSome};
+ghost use Rattle.std.specs.Prelude.{◌≡◌};
 
 use crate::asked::{SMALL, answers, new_room};
 use crate::crew::{end, two_flushers, two_of};
@@ -24,9 +24,12 @@ fn written(alloc: Global) -> Option<Vec<u8>> {
 }
 
 /// Writes a byte for each call but the first and the last, each behind the one before.
-fn write_all<J: Naming, R: Wait>(rt: &R, alloc: Global, client: &mut Client<J>, text: &str) -> bool
-    ensures { client.new.client ≡ client.old.client }
-{
+fn write_all<J: Naming, R: Wait>(
+    rt: &R,
+    alloc: Global,
+    client: &mut Client<J>,
+    text: &str,
+) -> bool {
     let mut is_right = true;
     for k in 2..CALLS {
         let byte = [(k % 256) as u8];
@@ -47,9 +50,7 @@ fn thousand<J: Naming, R: Wait>(
     alloc: Global,
     mut client: Client<J>,
     text: &str,
-) -> (Client<J>, bool)
-    ensures { result.0.client ≡ client.client }
-{
+) -> (Client<J>, bool) {
     let Some(bytes) = written(alloc) else {
         return (client, false);
     };
@@ -72,17 +73,11 @@ fn thousands<J: Naming + Send + Sync, R: Threads + Wait + Sync>(
     alloc: Global,
     one: Client<J>,
     other: Client<J>,
-) -> ((Client<J>, bool), (Client<J>, bool))
-    ensures { (result.0.0.client ≡ one.client) × (result.1.0.client ≡ other.client) }
-{
+) -> ((Client<J>, bool), (Client<J>, bool)) {
     join(
         rt,
-        move || -> (Client<J>, bool)
-            ensures { result.0.client ≡ one.client }
-        { thousand(rt, alloc, one, "/c0") },
-        move || -> (Client<J>, bool)
-            ensures { result.0.client ≡ other.client }
-        { thousand(rt, alloc, other, "/c1") },
+        move || thousand(rt, alloc, one, "/c0"),
+        move || thousand(rt, alloc, other, "/c1"),
     )
 }
 
@@ -115,18 +110,16 @@ fn at_once<J: Naming + Send + Sync, R: Threads + Wait + Sync>(
 ) -> Option<(bool, u64)>
     requires { (room.0 ≡ J.table) × (room.1 ≡ J.opening) × (J.clients ≡ 2) }
 {
-    let (mut engine, clients) = Engine::<J>::open(alloc, room, 2).ok()?;
-    let (one, other) = two_of(clients)?;
+    let (mut engine, mut clients) = Engine::<J>::open(alloc, room, 2).ok()?;
+    let (one, other) = two_of(&mut clients)?;
     let (first, second) = two_flushers(&mut engine)?;
     let (done, _) = join(
         rt,
-        move || -> ((Client<J>, bool), (Client<J>, bool))
-            ensures { (result.0.0.client ≡ one.client) × (result.1.0.client ≡ other.client) }
-        { thousands(rt, alloc, one, other) },
+        move || thousands(rt, alloc, one, other),
         move || flush_both(rt, alloc, first, second, 1000),
     );
     let ((one, one_right), (other, other_right)) = done;
-    let report = end(rt, alloc, engine, one, other)?;
+    let report = end(rt, engine, clients, one, other)?;
     Some((one_right && other_right, report.calls))
 }
 

@@ -6,7 +6,7 @@ use crate::ends::{Snap, fault_of};
 use crate::filled::{FIRST, kept_room};
 use crate::own::{CLIENTS, LATER, Own, rest, work};
 use crate::tally::{Course, Tally};
-use engine::{Between, Client, Engine, Flusher, Naming, Room, TurnReply};
+use engine::{Between, Client, Clients, Engine, Flusher, Naming, Room, TurnReply};
 use std::alloc::Global;
 use std::marker::Brand;
 use std::sync::Wait;
@@ -176,7 +176,7 @@ fn beside<J: Naming + Send + Sync, R: Threads + Wait + Sync>(
     rt: &R,
     alloc: Global,
     engine: &mut Engine<J>,
-    clients: &mut Vec<Client<J>>,
+    clients: &mut Clients<J>,
     course: Course,
 ) -> bool {
     let tally = Tally::new(course);

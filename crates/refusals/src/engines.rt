@@ -1,7 +1,5 @@
 //! Engines: how they are opened and closed, and what their clients and flushers do.
-ghost use Rattle.std.specs.Prelude.{◌≡◌, IfErr};
-ghost use Rattle.engine.specs.Ends.{NoneTwice};
-ghost use Rattle.refusals.specs.Apart.{BacksApart};
+ghost use Rattle.std.specs.Prelude.{◌≡◌};
 
 use crate::clients::{Made, Served, make_turn};
 use crate::frame::ask;
@@ -11,7 +9,7 @@ use crate::standing::{put_image, show_volume};
 use crate::told::{put, put_no_memory, put_number};
 use crate::values::word_at;
 use crate::window;
-use engine::{Client, CloseFault, Engine, Naming, Report, Room};
+use engine::{Client, Clients, CloseFault, Engine, Naming, Report, Room};
 use pathkey::SnapName;
 use shell::read_request;
 use std::alloc::Global;
@@ -175,11 +173,9 @@ fn close_again<J: Naming, R: Wait>(
     rt: &R,
     alloc: Global,
     engine: Engine<J>,
-    clients: Vec<Client<J>>,
+    clients: Clients<J>,
     out: &mut Vec<u8>,
-)
-    requires { NoneTwice clients.items }
-{
+) {
     put_no_memory(out);
     let ended = engine.close(rt, clients);
     put_second(alloc, ended, out);
@@ -189,11 +185,8 @@ fn close_again<J: Naming, R: Wait>(
 fn close_asked<J: Naming, R: Wait + Print>(
     rt: &R,
     engine: Engine<J>,
-    clients: Vec<Client<J>>,
-) -> Result<Report, CloseFault<J>>
-    requires { NoneTwice clients.items }
-    ensures { IfErr result BacksApart }
-{
+    clients: Clients<J>,
+) -> Result<Report, CloseFault<J>> {
     window::open(rt);
     let ended = engine.close(rt, clients);
     window::close(rt);
@@ -201,9 +194,12 @@ fn close_asked<J: Naming, R: Wait + Print>(
 }
 
 /// Why an engine was not closed: memory was refused, and then it is closed again.
-fn close_refused<J: Naming, R: Wait>(rt: &R, alloc: Global, fault: CloseFault<J>, out: &mut Vec<u8>)
-    requires { BacksApart fault }
-{
+fn close_refused<J: Naming, R: Wait>(
+    rt: &R,
+    alloc: Global,
+    fault: CloseFault<J>,
+    out: &mut Vec<u8>,
+) {
     match fault {
         CloseFault::NoMemory(engine, clients) => close_again(rt, alloc, engine, clients, out),
         CloseFault::Missing(_engine, _clients) => put(out, "missing\n"),
@@ -215,11 +211,9 @@ fn close<J: Naming, R: Wait + Print>(
     rt: &R,
     alloc: Global,
     engine: Engine<J>,
-    clients: Vec<Client<J>>,
+    clients: Clients<J>,
     out: &mut Vec<u8>,
-) -> bool
-    requires { NoneTwice clients.items }
-{
+) -> bool {
     let ended = close_asked(rt, engine, clients);
     put(out, "== answer\n");
     match ended {
@@ -234,12 +228,10 @@ fn with<J: Naming, R: Wait + Print>(
     rt: &R,
     alloc: Global,
     mut engine: Engine<J>,
-    mut clients: Vec<Client<J>>,
+    mut clients: Clients<J>,
     scene: Scene<'_>,
     out: &mut Vec<u8>,
-) -> bool
-    requires { NoneTwice clients.items }
-{
+) -> bool {
     if let Scene::Close = scene {
         return close(rt, alloc, engine, clients, out);
     }
@@ -257,7 +249,7 @@ fn put_back(alloc: Global, volume: &Volume, out: &mut Vec<u8>) {
 }
 
 /// An engine and its clients, or the volume.
-type Opened<J> = Result<(Engine<J>, Vec<Client<J>>), Volume>;
+type Opened<J> = Result<(Engine<J>, Clients<J>), Volume>;
 
 /// Prints how the opening of an engine ended.
 fn put_opened<J: Naming>(alloc: Global, opened: Opened<J>, out: &mut Vec<u8>) {

@@ -3,7 +3,7 @@ ghost use Rattle.std.specs.Prelude.{◌≡◌};
 
 use crate::client::run_client;
 use crate::script::ScriptFault;
-use engine::{Client, Engine, Flusher, Naming, Room};
+use engine::{Client, Clients, Engine, Flusher, Naming, Room};
 use std::alloc::Global;
 use std::io::{Read, Write};
 use std::marker::Brand;
@@ -61,7 +61,7 @@ fn run_first<J: Naming + Send + Sync, H: Threads + Wait + Sync, R: Read, W: Writ
     rt: &H,
     alloc: Global,
     mut engine: Engine<J>,
-    mut clients: Vec<Client<J>>,
+    mut clients: Clients<J>,
     flushers: u8,
     reader: &mut R,
     writer: &mut W,

@@ -13,7 +13,7 @@ loop-client-preserved g c =
     let h : i < length clients = omega arith in
     let e : take (i + 1) clients ≡ take i clients ++ c.client-item.result ∷ [] =
     take_more clients i c.client-item.result h ∙ ap (λ (x : Known). take i clients ++ x ∷ []) (sym c.client-item.is) in
-    subst (λ (ks : List Known). Within g.J.Naming.clients ks) (sym e) (within-snoc _ (take i clients) _ c.loop-client.invariant c.is_one_of_the_engine.ensures)
+    subst (λ (ks : List Known). Within g.J.Naming.clients ks) (sym e) (within-snoc _ (take i clients) _ c.loop-client.invariant c.number.ensures.below)
 
 pub returns : goal.returns
 returns g c =

@@ -10,10 +10,10 @@ pub returns-clause-ends : goal.returns-clause-ends
 returns-clause-ends g c =
     let s = c.settle_all.ensures in
     let h = c.settle_all.new.desk in
-    let ks : List Known = c.args.clients.items in
-    let once : EachOnce c.args.self ks = subst (λ (l : List Known). EachOnce c.args.self l) c.as_slice.ensures.value (c.has_all.ensures.all c.if-not-has_all.false) in
+    let ks : List Known = c.args.clients in
+    let once : EachOnce c.args.self ks = c.has_all.ensures.all c.if-not-has_all.false in
     let n : c.args.self ≡ g.J.Naming.clients = sym c.self.view_is ∙ c.self.invariant.0 in
-    let all : AllAgree h ks = subst (λ (l : List Entry). AllAgree l ks) (sym s.same) s.agree in (
+    let all : AllAgree h ks = subst (λ (x : List Entry × List Known). AllAgree x.0 x.1) (λ i. (sym s.same i, c.into_list.ensures i)) s.agree in (
       once,
       record {
         history = h;

@@ -1,6 +1,6 @@
 use Rattle.std.proofs.Common.{sym, ap, ◌∙◌}
 use Rattle.engine.specs.Rule.{Seated}
-use Rattle.engine.proofs.Clients.{watches-after, stays-after}
+use Rattle.engine.proofs.Callers.{watches-after, stays-after}
 use Rattle.engine.proofs.flusher.Flusher.turn.Goals as goal
 
 pub into_seat-place-requires : goal.into_seat-place-requires
