@@ -11,7 +11,7 @@ ghost use Rattle.volume.specs.Volumes.{Means, live_of};
 use crate::act::Act;
 use crate::flusher::TurnReply;
 use crate::pick::{pick, put};
-use crate::rule::{Naming, Place, Words};
+use crate::rule::{Naming, Seat, Words};
 use crate::ties::{announce, learn, make, record_taking, show, tie};
 use jobs::Ticket;
 use pathkey::{Errno, NoMemory, SnapName};
@@ -25,7 +25,7 @@ pub struct Desk<J: Naming> {
     volume: Volume,
     /// How many calls were recorded, modulo 2^64.
     count: u64,
-    seat: Place,
+    seat: Seat,
     of: PhantomData<J>,
 }
 
@@ -47,7 +47,7 @@ impl<J: Naming> Model for Desk<J> {
 fn take_recorded<J: Naming>(
     alloc: Global,
     words: &Words,
-    engine: &mut Place,
+    engine: &mut Seat,
     volume: &mut Volume,
 ) -> TakeReply
     requires words { (words.now.table_id ≡ J.table) × (1 < J.table.words) }
@@ -72,7 +72,7 @@ fn take_recorded<J: Naming>(
 
 impl<J: Naming> Desk<J> {
     /// The desk of an engine of which nothing was asked. It cancels the marks that stand.
-    pub fn new(mut volume: Volume, seat: Place) -> Desk<J>
+    pub fn new(mut volume: Volume, seat: Seat) -> Desk<J>
         requires { IsEngineSeat J.table J.opening seat × (seat.me.0.history ≡ []) × (seat.me.0.takings ≡ []) × (volume ≡ J.opening) }
         ensures { result ≡ [] }
     {
@@ -86,7 +86,7 @@ impl<J: Naming> Desk<J> {
     }
 
     /// Does what the client asks and records it.
-    pub fn make<A: Act>(&mut self, words: &Words, client: Place, act: &A) -> (Place, A::Reply)
+    pub fn make<A: Act>(&mut self, words: &Words, client: Seat, act: &A) -> (Seat, A::Reply)
         requires words { (words.now.table_id ≡ J.table) × (0 < J.table.words) }
         requires client { IsClientSeat J.table J.opening client × (client.me.0.client < J.clients) }
         requires announced { client.me.0.announced ≡ own client.me.0.client client.me.0.seen }
@@ -103,7 +103,7 @@ impl<J: Naming> Desk<J> {
     }
 
     /// The client sees the history.
-    pub fn look(&mut self, words: &Words, client: Place) -> Place
+    pub fn look(&mut self, words: &Words, client: Seat) -> Seat
         requires words { (words.now.table_id ≡ J.table) × (0 < J.table.words) }
         requires client { IsClientSeat J.table J.opening client }
         requires announced { client.me.0.announced ≡ own client.me.0.client client.me.0.seen }
@@ -132,7 +132,7 @@ impl<J: Naming> Desk<J> {
     }
 
     /// The flusher sees the history, and a tree step is done, which is not recorded.
-    pub fn turn(&mut self, alloc: Global, words: &Words, flusher: Place) -> (Place, TurnReply)
+    pub fn turn(&mut self, alloc: Global, words: &Words, flusher: Seat) -> (Seat, TurnReply)
         requires words { (words.now.table_id ≡ J.table) × (0 < J.table.words) }
         requires flusher { IsFlusherSeat J.table J.opening flusher }
         ensures same { self.new ≡ self.old }
@@ -145,7 +145,7 @@ impl<J: Naming> Desk<J> {
     }
 
     /// The flusher sees the history and the takings, of which the last is the job that it takes, if one can be taken.
-    pub fn take(&mut self, alloc: Global, words: &Words, flusher: Place) -> (Place, TakeReply)
+    pub fn take(&mut self, alloc: Global, words: &Words, flusher: Seat) -> (Seat, TakeReply)
         requires words { (words.now.table_id ≡ J.table) × (0 < J.table.words) × (1 < J.table.words) }
         requires flusher { IsFlusherSeat J.table J.opening flusher }
         ensures same { self.new ≡ self.old }
@@ -159,7 +159,7 @@ impl<J: Naming> Desk<J> {
     }
 
     /// Installs what was built of a job that the flusher saw taken.
-    pub fn install(&mut self, words: &Words, flusher: Place, done: Done) -> (Place, TurnReply)
+    pub fn install(&mut self, words: &Words, flusher: Seat, done: Done) -> (Seat, TurnReply)
         requires words { (words.now.table_id ≡ J.table) × (0 < J.table.words) }
         requires flusher { IsFlusherSeat J.table J.opening flusher }
         requires built { BuiltOf flusher.me.0.seen_takings done }

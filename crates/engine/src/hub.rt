@@ -9,7 +9,7 @@ ghost use Rattle.volume.specs.Jobs.{IfTaken};
 use crate::act::Act;
 use crate::desk::Desk;
 use crate::flusher::{Between, TurnReply};
-use crate::rule::{Board, Naming, Place, Words};
+use crate::rule::{Board, Naming, Seat, Words};
 use jobs::Ticket;
 use pathkey::{Errno, NoMemory, SnapName};
 use std::alloc::Global;
@@ -36,7 +36,7 @@ impl<J: Naming> Hub<J> {
     }
 
     /// Does what the client asks under the lock, and records it.
-    pub fn make<R: Wait, A: Act>(&self, rt: &R, client: Place, act: &A) -> (Place, A::Reply)
+    pub fn make<R: Wait, A: Act>(&self, rt: &R, client: Seat, act: &A) -> (Seat, A::Reply)
         requires client { IsClientSeat J.table J.opening client × (client.me.0.client < J.clients) }
         requires announced { client.me.0.announced ≡ own client.me.0.client client.me.0.seen }
         ensures client { IsClientSeat J.table J.opening result.0 }
@@ -53,7 +53,7 @@ impl<J: Naming> Hub<J> {
     }
 
     /// The client sees the history, and takes the live tree that it leaves.
-    pub fn freeze<R: Wait>(&self, rt: &R, client: Place) -> (Place, Result<Frozen, NoMemory>)
+    pub fn freeze<R: Wait>(&self, rt: &R, client: Seat) -> (Seat, Result<Frozen, NoMemory>)
         requires client { IsClientSeat J.table J.opening client }
         requires announced { client.me.0.announced ≡ own client.me.0.client client.me.0.seen }
         ensures client { IsClientSeat J.table J.opening result.0 }
@@ -77,9 +77,9 @@ impl<J: Naming> Hub<J> {
     pub fn frozen<R: Wait>(
         &self,
         rt: &R,
-        client: Place,
+        client: Seat,
         name: &SnapName,
-    ) -> (Place, Result<Frozen, Errno>)
+    ) -> (Seat, Result<Frozen, Errno>)
         requires client { IsClientSeat J.table J.opening client }
         requires announced { client.me.0.announced ≡ own client.me.0.client client.me.0.seen }
         ensures client { IsClientSeat J.table J.opening result.0 }
@@ -104,9 +104,9 @@ impl<J: Naming> Hub<J> {
         &self,
         rt: &R,
         alloc: Global,
-        flusher: Place,
+        flusher: Seat,
         between: &mut B,
-    ) -> (Place, TurnReply)
+    ) -> (Seat, TurnReply)
         requires flusher { IsFlusherSeat J.table J.opening flusher × LegalFrom J.opening flusher.me.0.seen }
         ensures flusher { IsFlusherSeat J.table J.opening result.0 }
         ensures watches { Watches J.opening (watched flusher.me.0) (watched result.0.me.0) }
@@ -128,10 +128,10 @@ impl<J: Naming> Hub<J> {
         &self,
         rt: &R,
         alloc: Global,
-        flusher: Place,
+        flusher: Seat,
         between: &mut B,
         job: Job,
-    ) -> (Place, TurnReply)
+    ) -> (Seat, TurnReply)
         requires flusher { IsFlusherSeat J.table J.opening flusher × LegalFrom J.opening flusher.me.0.seen }
         requires taken { IsTaken flusher.me.0.seen_takings job }
         ensures flusher { IsFlusherSeat J.table J.opening result.0 }
@@ -150,7 +150,7 @@ impl<J: Naming> Hub<J> {
     }
 
     /// The flusher takes a job under the lock, if one can be taken, and sees it among the takings.
-    fn take<R: Wait>(&self, rt: &R, alloc: Global, flusher: Place) -> (Place, TakeReply)
+    fn take<R: Wait>(&self, rt: &R, alloc: Global, flusher: Seat) -> (Seat, TakeReply)
         requires flusher { IsFlusherSeat J.table J.opening flusher × LegalFrom J.opening flusher.me.0.seen }
         ensures flusher { IsFlusherSeat J.table J.opening result.0 }
         ensures watches { Watches J.opening (watched flusher.me.0) (watched result.0.me.0) }
@@ -164,7 +164,7 @@ impl<J: Naming> Hub<J> {
     }
 
     /// Installs under the lock what was built of a job that the flusher saw taken; `Stale` where the engine has ended.
-    fn install<R: Wait>(&self, rt: &R, flusher: Place, done: Done) -> (Place, TurnReply)
+    fn install<R: Wait>(&self, rt: &R, flusher: Seat, done: Done) -> (Seat, TurnReply)
         requires flusher { IsFlusherSeat J.table J.opening flusher × LegalFrom J.opening flusher.me.0.seen }
         requires built { BuiltOf flusher.me.0.seen_takings done }
         ensures flusher { IsFlusherSeat J.table J.opening result.0 }
@@ -186,7 +186,7 @@ impl<J: Naming> Hub<J> {
     }
 
     /// The flusher sees the history, and does one tree step; nothing where the engine has ended.
-    fn step<R: Wait>(&self, rt: &R, alloc: Global, flusher: Place) -> (Place, TurnReply)
+    fn step<R: Wait>(&self, rt: &R, alloc: Global, flusher: Seat) -> (Seat, TurnReply)
         requires flusher { IsFlusherSeat J.table J.opening flusher × LegalFrom J.opening flusher.me.0.seen }
         ensures flusher { IsFlusherSeat J.table J.opening result.0 }
         ensures watches { Watches J.opening (watched flusher.me.0) (watched result.0.me.0) }

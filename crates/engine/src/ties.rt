@@ -9,13 +9,13 @@ ghost use Rattle.engine.specs.Seats.{IsEngineSeat, IsClientSeat, IsFlusherSeat};
 
 use crate::act::Act;
 use crate::rule::{
-    Announces, Deals, Hires, Learns, Meets, Naming, Place, Records, Takes, Taking, Told, Words,
+    Announces, Deals, Hires, Learns, Meets, Naming, Seat, Records, Takes, Taking, Told, Words,
 };
 use std::marker::Brand;
 use volume::Job;
 
 /// The client's seat is told the history of the engine's.
-pub fn tie<J: Naming>(words: &Words, engine: &mut Place, client: Place) -> Place
+pub fn tie<J: Naming>(words: &Words, engine: &mut Seat, client: Seat) -> Seat
     requires words { (words.now.table_id ≡ J.table) × (0 < J.table.words) }
     requires engine { IsEngineSeat J.table J.opening engine.old }
     requires client { IsClientSeat J.table J.opening client }
@@ -28,7 +28,7 @@ pub fn tie<J: Naming>(words: &Words, engine: &mut Place, client: Place) -> Place
 }
 
 /// The flusher's seat is told the history of the engine's.
-pub fn tie_flusher<J: Naming>(words: &Words, engine: &mut Place, flusher: Place) -> Place
+pub fn tie_flusher<J: Naming>(words: &Words, engine: &mut Seat, flusher: Seat) -> Seat
     requires words { (words.now.table_id ≡ J.table) × (0 < J.table.words) }
     requires engine { IsEngineSeat J.table J.opening engine.old }
     requires flusher { IsFlusherSeat J.table J.opening flusher }
@@ -40,7 +40,7 @@ pub fn tie_flusher<J: Naming>(words: &Words, engine: &mut Place, flusher: Place)
 }
 
 /// The client announces one call more.
-pub fn announce<J: Naming>(words: &Words, client: &mut Place)
+pub fn announce<J: Naming>(words: &Words, client: &mut Seat)
     requires words { (words.now.table_id ≡ J.table) × (0 < J.table.words) }
     requires client { IsClientSeat J.table J.opening client.old }
     ensures seat { (client.new.table_id ≡ J.table) × (client.new.me ≡ (announced_more client.old.me.0, [])) }
@@ -51,7 +51,7 @@ pub fn announce<J: Naming>(words: &Words, client: &mut Place)
 }
 
 /// The client in hand made this call. Answers how many calls there are now, modulo 2^64.
-fn record<E: Told, A: Act>(words: &Words, seat: &mut Place, act: &A, reply: &A::Reply) -> u64
+fn record<E: Told, A: Act>(words: &Words, seat: &mut Seat, act: &A, reply: &A::Reply) -> u64
     requires told { (E.event ≡ A.event act.now) × (E.answer ≡ A.answer reply.now) }
     requires words { (seat.old.table_id ≡ words.now.table_id) × (0 < words.now.table_id.words) }
     requires seat { (seat.old.me.1 ≡ []) × (seat.old.me.0.keeps ≡ true) × (seat.old.me.0.hosts ≡ true) × (seat.old.me.0.watches ≡ true) }
@@ -66,7 +66,7 @@ fn record<E: Told, A: Act>(words: &Words, seat: &mut Place, act: &A, reply: &A::
 }
 
 /// The engine took this job.
-fn take_up<E: Taking>(words: &Words, seat: &mut Place, job: &Job)
+fn take_up<E: Taking>(words: &Words, seat: &mut Seat, job: &Job)
     requires taking { E.job ≡ job.now }
     requires words { (seat.old.table_id ≡ words.now.table_id) × (1 < words.now.table_id.words) }
     requires seat { (seat.old.me.1 ≡ []) × (seat.old.me.0.keeps ≡ true) }
@@ -78,7 +78,7 @@ fn take_up<E: Taking>(words: &Words, seat: &mut Place, job: &Job)
 }
 
 /// The engine's seat records that this job was taken, under a ticket that no other taking has.
-pub fn record_taking<J: Naming>(words: &Words, engine: &mut Place, job: &Job)
+pub fn record_taking<J: Naming>(words: &Words, engine: &mut Seat, job: &Job)
     requires words { (words.now.table_id ≡ J.table) × (1 < J.table.words) }
     requires engine { IsEngineSeat J.table J.opening engine.old }
     requires new { times_taken (ticket_of job.now) engine.old.me.0.takings ≡ 0 }
@@ -90,7 +90,7 @@ pub fn record_taking<J: Naming>(words: &Words, engine: &mut Place, job: &Job)
 }
 
 /// The client sees what it was told.
-pub fn learn<J: Naming>(words: &Words, client: &mut Place)
+pub fn learn<J: Naming>(words: &Words, client: &mut Seat)
     requires words { (words.now.table_id ≡ J.table) × (0 < J.table.words) }
     requires client { IsClientSeat J.table J.opening client.old }
     ensures seat { (client.new.table_id ≡ J.table) × (client.new.me ≡ (learned client.old.me.0, [])) }
@@ -102,7 +102,7 @@ pub fn learn<J: Naming>(words: &Words, client: &mut Place)
 }
 
 /// The flusher sees what it was told.
-pub fn learn_flusher<J: Naming>(words: &Words, flusher: &mut Place)
+pub fn learn_flusher<J: Naming>(words: &Words, flusher: &mut Seat)
     requires words { (words.now.table_id ≡ J.table) × (0 < J.table.words) }
     requires flusher { IsFlusherSeat J.table J.opening flusher.old }
     ensures seat { (flusher.new.table_id ≡ J.table) × (flusher.new.me ≡ (learned flusher.old.me.0, [])) }
@@ -114,7 +114,7 @@ pub fn learn_flusher<J: Naming>(words: &Words, flusher: &mut Place)
 }
 
 /// The flusher sees the history and the takings of the engine's seat.
-pub fn show<J: Naming>(words: &Words, engine: &mut Place, flusher: Place) -> Place
+pub fn show<J: Naming>(words: &Words, engine: &mut Seat, flusher: Seat) -> Seat
     requires words { (words.now.table_id ≡ J.table) × (0 < J.table.words) }
     requires engine { IsEngineSeat J.table J.opening engine.old }
     requires flusher { IsFlusherSeat J.table J.opening flusher }
@@ -132,11 +132,11 @@ pub fn show<J: Naming>(words: &Words, engine: &mut Place, flusher: Place) -> Pla
 /// now, modulo 2^64.
 pub fn make<J: Naming, A: Act>(
     words: &Words,
-    engine: &mut Place,
-    client: Place,
+    engine: &mut Seat,
+    client: Seat,
     act: &A,
     reply: &A::Reply,
-) -> (Place, u64)
+) -> (Seat, u64)
     requires words { (words.now.table_id ≡ J.table) × (0 < J.table.words) }
     requires engine { IsEngineSeat J.table J.opening engine.old }
     requires client { IsClientSeat J.table J.opening client }
@@ -160,7 +160,7 @@ pub fn make<J: Naming, A: Act>(
 }
 
 /// The engine's seat deals a further client's.
-pub fn deal_one<J: Naming>(words: &Words, engine: &mut Place) -> Place
+pub fn deal_one<J: Naming>(words: &Words, engine: &mut Seat) -> Seat
     requires words { (words.now.table_id ≡ J.table) × (0 < J.table.words) }
     requires engine { (engine.old.table_id ≡ J.table) × (engine.old.me ≡ (keeper J.opening engine.old.me.0.dealt [] [], [])) }
     ensures engine { (engine.new.table_id ≡ J.table) × (engine.new.me ≡ (keeper J.opening (engine.old.me.0.dealt + 1) [] [], [])) }
@@ -170,7 +170,7 @@ pub fn deal_one<J: Naming>(words: &Words, engine: &mut Place) -> Place
 }
 
 /// The engine's seat, while nothing was called, leaves a first one for flushers.
-pub fn hire_first<J: Naming>(words: &Words, engine: &mut Place) -> Place
+pub fn hire_first<J: Naming>(words: &Words, engine: &mut Seat) -> Seat
     requires words { (words.now.table_id ≡ J.table) × (0 < J.table.words) }
     requires engine { (engine.old.table_id ≡ J.table) × (engine.old.me ≡ (keeper J.opening engine.old.me.0.dealt [] [], [])) }
     ensures engine { (engine.new.table_id ≡ engine.old.table_id) × (engine.new.me ≡ engine.old.me) }
@@ -180,7 +180,7 @@ pub fn hire_first<J: Naming>(words: &Words, engine: &mut Place) -> Place
 }
 
 /// A flusher's seat that has seen nothing leaves another one.
-pub fn hire<J: Naming>(words: &Words, spare: &mut Place) -> Place
+pub fn hire<J: Naming>(words: &Words, spare: &mut Seat) -> Seat
     requires words { (words.now.table_id ≡ J.table) × (0 < J.table.words) }
     requires spare { (spare.old.table_id ≡ J.table) × (spare.old.me ≡ (watcher J.opening [] [] [] [], [])) }
     ensures spare { (spare.new.table_id ≡ spare.old.table_id) × (spare.new.me ≡ spare.old.me) }
