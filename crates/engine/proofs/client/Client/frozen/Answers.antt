@@ -4,7 +4,7 @@ use Rattle.engine.proofs.Callers.{sees-after, greets-still, numbered-still}
 use Rattle.engine.proofs.client.Client.frozen.Goals as goal
 
 pub into_seat-seat-requires : goal.into_seat-seat-requires
-into_seat-seat-requires g c = (_, ap (λ b. b.views) c.replace.ensures.value ∙ c.self.invariant.1.0.0)
+into_seat-seat-requires g c = (_, ap (λ b. b.views) c.replace.ensures.value ∙ c.self.invariant.1.0)
 
 pub invariant_of-self : goal.invariant_of-self
 invariant_of-self g c =
@@ -12,11 +12,11 @@ invariant_of-self g c =
     let p = c.frozen-seat.ensures in
     let was = ap (λ b. b.views) (sym c.replace.ensures.value) ∙ c.into_seat-seat.ensures.2 in
     let now = c.into_badge.ensures in
-    (now.0 ∙ p.client.0, greets-still _ _ _ _ _ _ _ i.1.0 was p.looks now.2 (ap (λ (m : Seated). m.0) p.client.1), numbered-still _ _ _ _ _ i.1.1 was p.looks.0 now.2)
+    (now.0 ∙ p.client.0, greets-still _ _ _ _ _ _ _ i.1 was p.looks now.2 (ap (λ (m : Seated). m.0) p.client.1), numbered-still _ _ _ _ _ i.2 was p.looks.0 now.2)
 
 pub returns-clause-seen : goal.returns-clause-seen
 returns-clause-seen g c =
     let i = c.self.invariant in
     let p = c.frozen-seat.ensures in
     let was = ap (λ b. b.views) (sym c.replace.ensures.value) ∙ c.into_seat-seat.ensures.2 in
-    sees-after _ _ _ _ _ _ _ i.1.0 was p.looks c.into_badge.ensures.2 _ c.self.view_is
+    sees-after _ _ _ _ _ _ _ i.1 was p.looks c.into_badge.ensures.2 _ c.self.view_is
