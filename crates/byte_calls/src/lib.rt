@@ -5,14 +5,14 @@
 #![tactic(auto)]
 
 pub mod changes;
-pub mod images;
+pub mod image_texts;
 pub mod looks;
 mod replies;
 pub mod snapshots;
 pub mod upkeep;
 
 pub use changes::{PathCall, on_path, rename, truncate, write};
-pub use images::{load, print};
+pub use image_texts::{load, print};
 pub use looks::{frozen_read, frozen_readdir, frozen_stat, read, readdir, stat};
 pub use snapshots::{drop_snapshot, freeze, frozen, restore, snapshot};
 pub use upkeep::relieve;

@@ -16,9 +16,9 @@ use crate::handle::Handle;
 use crate::numbers::number;
 use crate::parts::Parts;
 use crate::place::Place;
+use images::LoadFault;
 use node::Shape;
 use pathkey::Errno;
-use images::LoadFault;
 use std::alloc::Global;
 use volume::{Frozen, Volume};
 

@@ -8,7 +8,7 @@ use crate::opening::open;
 use crate::runs::{Run, events_without};
 use crate::trees::{self, Append, Entries, Pair, Share};
 use crate::values::{index_of, meta_of, path_of, slot_of, step_of, tree_step_of, word_at};
-use crate::{images, lines, small};
+use crate::{image_scenes, line_scenes, small};
 use jobs::Ticket;
 use node::StepKind;
 use pathkey::{NoMemory, SnapName};
@@ -318,10 +318,10 @@ pub fn play<R: Print + Files + Threads + Wait + Sync>(
     let (name, others) = words.split_first()?;
     match *name {
         "small" => Some(small::scene(rt, alloc, out)),
-        "load" => Some(images::scene(rt, alloc, false, text, out)),
-        "bad_shape" => Some(images::scene(rt, alloc, true, text, out)),
-        "read_words" => Some(lines::read(rt, alloc, others, out)),
-        "run_words" => Some(lines::run(rt, alloc, others, text, out)),
+        "load" => Some(image_scenes::scene(rt, alloc, false, text, out)),
+        "bad_shape" => Some(image_scenes::scene(rt, alloc, true, text, out)),
+        "read_words" => Some(line_scenes::read(rt, alloc, others, out)),
+        "run_words" => Some(line_scenes::run(rt, alloc, others, text, out)),
         _ => behind(rt, alloc, words, text, out),
     }
 }

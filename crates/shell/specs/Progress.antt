@@ -1,7 +1,8 @@
 -- How far a script has come within its text.
-use Rattle.std.specs.Prelude.{◌≡◌, ◌≢◌, ℕ, List, [], ◌∷◌, ◌++◌, ⊤, ◌≤◌, ◌<◌, length}
+use Rattle.std.specs.Prelude.{◌≡◌, ℕ, List, [], ◌∷◌, ◌++◌, ⊤}
 use Rattle.reference.specs.Worlds.{World}
 use Rattle.shell.specs.Script.{Does, Script}
+use Rattle.lines.specs.Held.{IsFree}
 
 -- the lines, each with its line feed
 abbrev pub text_of_lines : List (List ℕ) → List ℕ

@@ -1,8 +1,9 @@
 -- The replies as text.
-use Rattle.std.specs.Prelude.{ℕ, List, [], ◌∷◌, ◌++◌, length, codes, decimal, flat_map}
+use Rattle.std.specs.Prelude.{ℕ, List, ◌++◌, length, codes, flat_map}
 use Rattle.pathkey.specs.Names.{Name}
 use Rattle.pathkey.specs.Numbers.{word_of}
-use Rattle.reference.specs.Image.{percent, two_digits}
+use Rattle.reference.specs.Image.{percent}
+use Rattle.lines.specs.Texts.{hex_text, number_line}
 use Rattle.reference.specs.declared.reply.Reply.{Reply}
 use Rattle.reference.specs.declared.reply.Reply.TheVariants.{Done, Count, Data, Stat, Names, Fault}
 use Rattle.reference.specs.declared.reply.Kind.{Kind}

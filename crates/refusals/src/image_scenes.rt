@@ -3,8 +3,8 @@ use crate::opening::SMALL;
 use crate::standing::show_volume;
 use crate::told::{put, put_no_memory};
 use crate::window;
-use node::Shape;
 use images::{LoadFault, load_image};
+use node::Shape;
 use std::alloc::Global;
 use volume::Volume;
 

@@ -9,9 +9,9 @@ ghost use Rattle.images.specs.Loads.{Loaded, form_of, new_form};
 ghost use Rattle.byte_calls.specs.Images.{Prints};
 
 use crate::looks::lay;
+use images::{LoadFault, load_image, print_image};
 use node::Shape;
 use pathkey::Errno;
-use images::{LoadFault, load_image, print_image};
 use std::alloc::Global;
 use volume::{Frozen, Volume};
 
