@@ -9,7 +9,7 @@ ghost use Rattle.engine.specs.Seats.{IsEngineSeat, IsClientSeat, IsFlusherSeat};
 
 use crate::act::Act;
 use crate::rule::{
-    Announces, Deals, Hires, Learns, Meets, Naming, Seat, Records, Takes, Taking, Told, Words,
+    Announces, Deals, Hires, Learns, Meets, Naming, Records, Seat, Takes, Taking, Told, Words,
 };
 use std::marker::Brand;
 use volume::Job;

@@ -6,7 +6,7 @@ ghost use Rattle.reference.specs.ImageLines.{IsBlock, IsLine, spelled};
 ghost use Rattle.std.specs.Prelude.{List, ℕ, decimal, flat_map};
 ghost use Rattle.images.specs.ImageLines.{Guesses, Spells, line_of};
 
-use crate::image::{trimmed_len, put_block, put_directory, put_file};
+use crate::image::{put_block, put_directory, put_file, trimmed_len};
 use bytes::Bytes;
 use hex::FromHexError;
 use lines::output::WriteFailed;

@@ -3,3 +3,4 @@ pub mod WordFacts
 pub mod ValueFacts
 pub mod Texts
 pub mod HeldFacts
+pub mod HexFacts

@@ -1,5 +1,5 @@
 -- Texts that are written piece by piece, for each element of a list.
-use Rattle.std.proofs.Common.{◌≡◌, ℕ, ◌+◌, ◌<◌, List, [], ◌∷◌, ◌++◌, Option, length, take, drop, get_or, sym, ap, refl, ◌∙◌, subst, append-nil, take-append-drop, arith}
+use Rattle.std.proofs.Common.{◌≡◌, ℕ, ◌+◌, ◌<◌, List, [], ◌∷◌, ◌++◌, Option, length, take, drop, get_or, sym, ap, refl, ◌∙◌, subst, append-nil, append_assoc, take-append-drop, arith}
 use Rattle.std.specs.List.{flat_map}
 use Rattle.std.specs.Io.KnownBytes.{Appends}
 use Rattle.std.proofs.lemmas.List.{take_more}
@@ -29,3 +29,14 @@ module _ {X : Type 0} (f : X → List ℕ) (d : X) where
 pub hex_of_some : (bytes : List ℕ) → 0 < length bytes → hex_text bytes ≡ flat_map (two_digits 87) bytes
 hex_of_some [] some = absurd (omega arith)
 hex_of_some (b ∷ bytes) some = refl
+
+-- a piece is taken from what is left
+pub cut_more : (all done rest piece behind : List ℕ) (n : ℕ) → all ≡ done ++ rest → piece ≡ take n rest → behind ≡ drop n rest → all ≡ (done ++ piece) ++ behind
+cut_more all done rest piece behind n split front back =
+    split ∙ ap (λ l. done ++ l) (sym (take-append-drop n rest) ∙ ap (λ l. l ++ drop n rest) (sym front) ∙ ap (λ l. piece ++ l) (sym back)) ∙ sym (append_assoc done piece behind)
+
+-- the text of what was done, of a piece, and of what is behind it
+pub text_of_pieces : (f : ℕ → List ℕ) (all done piece behind : List ℕ) → all ≡ (done ++ piece) ++ behind
+    → (flat_map f done ++ flat_map f piece) ++ flat_map f behind ≡ flat_map f all
+text_of_pieces f all done piece behind cut =
+    ap (λ l. l ++ flat_map f behind) (sym (flat_map-append f done piece)) ∙ sym (flat_map-append f (done ++ piece) behind) ∙ ap (flat_map f) (sym cut)

@@ -20,4 +20,3 @@ pub fn hold(line: &mut Vec<u8>, bytes: &[u8])
         line.extend_from_slice(bytes).unwrap();
     }
 }
-

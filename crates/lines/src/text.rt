@@ -1,21 +1,20 @@
 //! Writes numbers, and bytes in hexadecimal and in percent form.
-ghost use Rattle.std.specs.Prelude.{OnOk, OnErr, flat_map};
+ghost use Rattle.std.specs.Prelude.{◌≤◌, OnOk, OnErr, flat_map, length};
 ghost use Rattle.std.specs.Io.KnownBytes.{Appends};
-ghost use Rattle.reference.specs.Image.{percent};
+ghost use Rattle.reference.specs.Image.{percent, two_digits};
 ghost use Rattle.lines.specs.Parts.{AppendsPart};
 ghost use Rattle.lines.specs.Texts.{hex_text, number_line};
 
 use crate::output::{WriteFailed, put};
 use itoa::Buffer;
-use reference::digits::{escape, lower_digits};
+use reference::digits::escape;
 use std::io::Write;
 
+/// Of how many bytes the digits are written in one go.
+const AT_ONCE: usize = 512;
+
 /// Writes a line of a word and a number, or a beginning of it.
-pub fn put_number_line<W: Write>(
-    writer: &mut W,
-    word: &[u8],
-    n: u64,
-) -> Result<(), WriteFailed>
+pub fn put_number_line<W: Write>(writer: &mut W, word: &[u8], n: u64) -> Result<(), WriteFailed>
     ensures ok { OnOk result (Appends (W.contents writer.old) (W.contents writer.new) (number_line word.now n)) }
     ensures err { OnErr result (AppendsPart (W.contents writer.old) (W.contents writer.new) (number_line word.now n)) }
 {
@@ -34,10 +33,38 @@ pub fn put_hex<W: Write>(writer: &mut W, bytes: &[u8]) -> Result<(), WriteFailed
     if bytes.is_empty() {
         return put(writer, b"-");
     }
-    for &byte in bytes {
-        put(writer, &lower_digits(byte))?;
+    put_digits(writer, bytes)
+}
+
+/// Writes two digits for each byte, or a beginning of them.
+fn put_digits<W: Write>(writer: &mut W, bytes: &[u8]) -> Result<(), WriteFailed>
+    ensures ok { OnOk result (Appends (W.contents writer.old) (W.contents writer.new) (flat_map (two_digits 87) bytes.now)) }
+    ensures err { OnErr result (AppendsPart (W.contents writer.old) (W.contents writer.new) (flat_map (two_digits 87) bytes.now)) }
+{
+    let mut rest = bytes;
+    for _ in 0..u64::MAX {
+        if rest.is_empty() {
+            return Ok(());
+        }
+        let (piece, behind) = rest.split_at(rest.len().min(AT_ONCE));
+        put_piece(writer, piece)?;
+        rest = behind;
     }
-    Ok(())
+    Err(WriteFailed)
+}
+
+/// The same of a few bytes, whose digits are written in one go.
+fn put_piece<W: Write>(writer: &mut W, bytes: &[u8]) -> Result<(), WriteFailed>
+    requires { length bytes.now ≤ 512 }
+    ensures ok { OnOk result (Appends (W.contents writer.old) (W.contents writer.new) (flat_map (two_digits 87) bytes.now)) }
+    ensures err { OnErr result (AppendsPart (W.contents writer.old) (W.contents writer.new) (flat_map (two_digits 87) bytes.now)) }
+{
+    let mut room = [0u8; 2 * AT_ONCE];
+    let digits = &mut room[..2 * bytes.len()];
+    match hex::encode_to_slice(bytes, digits) {
+        Ok(()) => put(writer, digits),
+        Err(_) => unreachable!(),
+    }
 }
 
 /// Writes a name in percent form, or a beginning of it.

@@ -2,9 +2,9 @@
 use crate::frame::Deed;
 use crate::standing::put_image;
 use crate::told::{put, put_fault, put_no_memory, put_ok, put_reply};
+use images::{ImageFault, print_image};
 use pathkey::{Errno, NoMemory, SnapName};
 use reference::Reply;
-use images::{ImageFault, print_image};
 use shell::{Look, Request};
 use std::alloc::Global;
 use volume::{Frozen, Volume};

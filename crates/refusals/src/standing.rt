@@ -1,10 +1,10 @@
 //! What stands in a volume: how large its trees are, and the images of the live tree and of its snapshots.
 use crate::frame::Subject;
 use crate::told::{put, put_choice, put_fault, put_load, put_number, put_report};
+use images::print_image;
 use jobs::Load;
 use node::{ShapeReport, TreeStep};
 use pathkey::{Errno, NoMemory, SnapName};
-use images::print_image;
 use std::alloc::Global;
 use volume::{Frozen, Index, Volume};
 

@@ -93,4 +93,3 @@ fn name_word(kind: Kind) -> &'static [u8]
         Kind::File => b"f ",
     }
 }
-

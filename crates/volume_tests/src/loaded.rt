@@ -1,8 +1,8 @@
 //! Why an image is not loaded, beside what stands in it.
 use crate::asked::USUAL;
 use crate::streams::Source;
-use node::Shape;
 use images::{LoadFault, load_image};
+use node::Shape;
 use std::alloc::Global;
 use std::io::Read;
 

@@ -3,8 +3,8 @@ ghost use Rattle.std.specs.Prelude.{Some};
 
 use crate::asked::{SMALL, USUAL, freeze, new_volume, waiting};
 use crate::pieces::{Piece, built};
-use node::Shape;
 use images::{ImageFault, print_image};
+use node::Shape;
 use shell::{ScriptFault, Tidy, run_script};
 use std::alloc::Global;
 use std::io;
