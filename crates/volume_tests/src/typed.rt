@@ -42,7 +42,7 @@ fn moves(alloc: Global, volume: &mut Volume, from: &Path, to: &str) -> Result<u6
     Ok(0)
 }
 
-fn change(alloc: Global, volume: &mut Volume, at: &str, change: Change<'_>) -> Result<u64, Errno> {
+fn outcome(alloc: Global, volume: &mut Volume, at: &str, change: Change<'_>) -> Result<u64, Errno> {
     does(alloc, volume, &path(alloc, at)?, change)
 }
 
@@ -65,7 +65,7 @@ const ROWS: [(&str, Change<'static>, Result<u64, Errno>); 12] = [
 /// Whether each row is answered so.
 fn goes(alloc: Global, volume: &mut Volume) -> bool {
     for (at, what, wanted) in ROWS {
-        if change(alloc, volume, at, what) != wanted {
+        if outcome(alloc, volume, at, what) != wanted {
             return false;
         }
     }
@@ -110,8 +110,8 @@ fn looks(alloc: Global, volume: &Volume, tree: &Frozen) -> Result<bool, Errno> {
 
 /// Whether a tree goes with all below it.
 fn goes_whole(alloc: Global, volume: &mut Volume) -> bool {
-    change(alloc, volume, "/a", Change::Rmtree) == Ok(0)
-        && change(alloc, volume, "/a", Change::Rmtree) == Err(Errno::ENOENT)
+    outcome(alloc, volume, "/a", Change::Rmtree) == Ok(0)
+        && outcome(alloc, volume, "/a", Change::Rmtree) == Err(Errno::ENOENT)
 }
 
 /// Whether all rows are answered, looks tell what they left, and the whole goes.
