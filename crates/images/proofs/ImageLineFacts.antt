@@ -1,14 +1,14 @@
 -- What is guessed of a line of an image is the line that it spells.
-use Rattle.std.proofs.Common.{◌≡◌, ◌≢◌, ◌⊎◌, ⊎_elim, ◌↔◌, ℕ, zero, suc, ◌/◌, ◌%◌, ◌^◌, ◌<◌, ◌≤◌, List, [], ◌∷◌, ◌++◌, length, get_or, true, false, Bool, cond, ◌==◌, nat_lt, refl, sym, ap, subst, ◌∙◌, arith, append_assoc, Option, Some, None, Result, Ok, Err, decimal, flat_map, codes, All}
-use Rattle.std.specs.Prelude.{slice_index, IfSome}
+use Rattle.std.proofs.Common.{◌≡◌, ◌≢◌, ◌⊎◌, ⊎_elim, ◌↔◌, ℕ, ◌/◌, ◌%◌, ◌^◌, ◌<◌, ◌≤◌, List, [], ◌∷◌, ◌++◌, length, get_or, true, false, Bool, cond, ◌==◌, nat_lt, refl, sym, ap, subst, ◌∙◌, arith, append_assoc, Option, Some, None, Result, Ok, Err, decimal, flat_map, codes, All}
+use Rattle.std.specs.Prelude.{IfSome}
 use Rattle.std.specs.List.{list_all}
 use Rattle.std.specs.Char.{is_ascii_digit}
 use Rattle.std.specs.Str.Parse.{digits_value}
 use Rattle.std.proofs.lemmas.Bool.{lt-ltb, cases_lt, eqb-true}
 use Rattle.std.proofs.lemmas.Fmt.{decimal_digit, first_decimal, digits_decimal, digits_value-decimal}
 use Rattle.std.proofs.lemmas.List.{get_or_past}
-use Rattle.std.proofs.lemmas.List.Elements.{All-head, All-tail, All-get_or}
-use Rattle.hex.specs.Hex.{decode_of, encode_with, encode_lower, lower_digits, IsBytes}
+use Rattle.std.proofs.lemmas.List.Elements.{recursion_from_All, All-head, All-tail, All-get_or}
+use Rattle.hex.specs.Hex.{decode_of, IsBytes}
 use Rattle.hex.specs.declared.error.FromHexError.{FromHexError}
 use Rattle.hex.specs.declared.error.FromHexError.TheVariants.{OutOfMemory}
 use Rattle.hex.proofs.HexLemmas.{decode_of-encode_lower}
@@ -26,6 +26,7 @@ use Rattle.reference.proofs.ImageTexts.{Visible, path_visible, decimal_visible, 
 use Rattle.images.specs.ImageLines.{Guesses}
 use Rattle.lines.specs.Values.{path_of}
 use Rattle.lines.specs.Values.{is_decimal, number_of}
+use Rattle.lines.proofs.HexFacts.{encoded}
 use Rattle.lines.proofs.ValueFacts.{own}
 use Rattle.images.specs.declared.image_line.ImageLine.TheVariants.{File, Block}
 
@@ -97,42 +98,14 @@ number_read n h =
 
 -- ---- bytes
 
-nibble : (d : ℕ) → d < 16 → digit 87 d ≡ slice_index lower_digits d
-nibble zero h = refl
-nibble (suc zero) h = refl
-nibble (suc (suc zero)) h = refl
-nibble (suc (suc (suc zero))) h = refl
-nibble (suc (suc (suc (suc zero)))) h = refl
-nibble (suc (suc (suc (suc (suc zero))))) h = refl
-nibble (suc (suc (suc (suc (suc (suc zero)))))) h = refl
-nibble (suc (suc (suc (suc (suc (suc (suc zero))))))) h = refl
-nibble (suc (suc (suc (suc (suc (suc (suc (suc zero)))))))) h = refl
-nibble (suc (suc (suc (suc (suc (suc (suc (suc (suc zero))))))))) h = refl
-nibble (suc (suc (suc (suc (suc (suc (suc (suc (suc (suc zero)))))))))) h = refl
-nibble (suc (suc (suc (suc (suc (suc (suc (suc (suc (suc (suc zero))))))))))) h = refl
-nibble (suc (suc (suc (suc (suc (suc (suc (suc (suc (suc (suc (suc zero)))))))))))) h = refl
-nibble (suc (suc (suc (suc (suc (suc (suc (suc (suc (suc (suc (suc (suc zero))))))))))))) h = refl
-nibble (suc (suc (suc (suc (suc (suc (suc (suc (suc (suc (suc (suc (suc (suc zero)))))))))))))) h = refl
-nibble (suc (suc (suc (suc (suc (suc (suc (suc (suc (suc (suc (suc (suc (suc (suc zero))))))))))))))) h = refl
-nibble (suc (suc (suc (suc (suc (suc (suc (suc (suc (suc (suc (suc (suc (suc (suc (suc d)))))))))))))))) h = absurd (omega arith)
-
 are_small : (b : List ℕ) → AreBytes b → IsBytes b
 are_small b h = λ i. ⊎_elim
     (λ (l : i < length b). All-get_or (λ x. x < 256) b i 0 l h)
     (λ (g : length b ≤ i). let e : get_or b i 0 ≡ 0 = get_or_past b i 0 g in omega arith)
     (cases_lt i (length b))
 
-encoded : (b : List ℕ) → AreBytes b → flat_map (two_digits 87) b ≡ encode_lower b
-unfolding encode_with
-encoded [] h = refl
-encoded (x ∷ b) h =
-    let small : x < 256 = All-head (λ y. y < 256) x b h in
-    ap (λ (t : Text). digit 87 (x / 16) ∷ digit 87 (x % 16) ∷ t) (encoded b (All-tail (λ y. y < 256) x b h))
-    ∙ ap (λ (d : ℕ). d ∷ digit 87 (x % 16) ∷ encode_lower b) (nibble (x / 16) (omega arith))
-    ∙ ap (λ (d : ℕ). slice_index lower_digits (x / 16) ∷ d ∷ encode_lower b) (nibble (x % 16) (omega arith))
-
 pub bytes_read : (b : List ℕ) → AreBytes b → decode_of (flat_map (two_digits 87) b) ≡ Ok b
-bytes_read b h = ap decode_of (encoded b h) ∙ decode_of-encode_lower b (are_small b h)
+bytes_read b h = ap decode_of (sym (encoded b (recursion_from_All (λ x. x < 256) b h))) ∙ decode_of-encode_lower b (are_small b h)
 
 pub bytes_spelled : (word : Text) (b bytes : List ℕ) → decode_of word ≡ Ok bytes → IsBlock b → word ≡ flat_map (two_digits 87) b → bytes ≡ b
 bytes_spelled word b bytes read is e = let g : ◌≡◌ {A = Result (List ℕ) FromHexError} (Ok bytes) (Ok b) = sym read ∙ ap decode_of e ∙ bytes_read b is.bytes in cc

@@ -1,4 +1,4 @@
-use Rattle.std.proofs.Common.{ap, ◌∙◌, subst, Option, Some, None, List, ℕ}
+use Rattle.std.proofs.Common.{ap, ◌∙◌, subst, Option}
 use Rattle.message.specs.Ranges.{reaches}
 use Rattle.message.proofs.KeyOrder.{reaches-refl}
 use Rattle.meta_index.specs.Means.{metadata}

@@ -1,4 +1,4 @@
-use Rattle.std.proofs.Common.{◌≡◌, sym, subst, refl}
+use Rattle.std.proofs.Common.{sym, subst, refl}
 use Rattle.std.proofs.KnownBytes.{Appends-nil}
 use Rattle.block_index.specs.Means.{blocks}
 use Rattle.pathkey.specs.declared.range.KeyRange.{KeyRange}
