@@ -2,7 +2,7 @@
 use Rattle.std.proofs.Common.{◌≡◌, ◌≢◌, ◌⊎◌, ℕ, ◌+◌, ◌<◌, ◌≤◌, List, [], ◌∷◌, ◌++◌, length, zero, suc, Bool, ◌==◌, if◌then◌else◌, refl, sym, ap, ◌∙◌, subst, arith, inl, inr, ⊎_elim, eq-eqb, ne_eqb}
 use Rattle.engine.specs.Histories.{Entry, own, AllBelow}
 use Rattle.engine.specs.Clients.{Known}
-use Rattle.engine.specs.Ends.{Agrees, AllAgree, times_in, HasEach, EachOnce, LacksOne, Within, made_by_all}
+use Rattle.engine.specs.Ends.{Agrees, AllAgree, times_in, HasEach, EachOnce, Within, made_by_all}
 
 -- the calls of each of them in one history
 abbrev weigh : List Entry → List Known → ℕ

@@ -1,4 +1,4 @@
-use Rattle.std.proofs.Common.{◌≡◌, ℕ, Result, Err, length, sym, subst, ap, ◌∙◌}
+use Rattle.std.proofs.Common.{ℕ, Result, length, sym, subst}
 use Rattle.std.proofs.lemmas.Result.{err_from_is_err_and}
 use Rattle.pathkey.specs.declared.errno.Errno.{Errno}
 use Rattle.reference.specs.declared.call.Call.TheVariants.{Read}

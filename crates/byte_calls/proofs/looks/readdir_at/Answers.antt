@@ -1,4 +1,4 @@
-use Rattle.std.proofs.Common.{ℕ, Result, Err, refl, sym, subst}
+use Rattle.std.proofs.Common.{ℕ, Result, refl, sym, subst}
 use Rattle.std.proofs.lemmas.Result.{err_from_is_err_and}
 use Rattle.pathkey.specs.declared.errno.Errno.{Errno}
 use Rattle.byte_calls.specs.Looks.{Lists}

@@ -1,5 +1,4 @@
-use Rattle.std.proofs.Common.{◌≡◌, ◌<◌, arith, subst}
-use Rattle.engine.specs.Ends.{HasEach}
+use Rattle.std.proofs.Common.{arith}
 use Rattle.engine.proofs.Totals.{has-more}
 use Rattle.engine.proofs.engine.has_each.Goals as goal
 

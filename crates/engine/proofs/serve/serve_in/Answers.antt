@@ -1,4 +1,4 @@
-use Rattle.std.proofs.Common.{◌≡◌, ℕ, ◌∙◌, sym, subst}
+use Rattle.std.proofs.Common.{ℕ, sym, subst}
 use Rattle.std.specs.Prelude.{IfOk, IfErr}
 use Rattle.volume.specs.Volumes.{PVolume}
 use Rattle.engine.specs.Ends.{Served, GivesVolume}

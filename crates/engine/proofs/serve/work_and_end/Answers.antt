@@ -1,4 +1,4 @@
-use Rattle.std.proofs.Common.{◌≡◌, ℕ, subst}
+use Rattle.std.proofs.Common.{ℕ, subst}
 use Rattle.std.specs.Prelude.{IfOk}
 use Rattle.engine.specs.Ends.{Served}
 use Rattle.engine.proofs.serve.work_and_end.Goals as goal
