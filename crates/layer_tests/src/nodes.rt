@@ -1,6 +1,6 @@
 //! Appends of messages on numbers, at keys of one byte, seen in the slots where they wait.
 use crate::rows::{Holds, all_hold};
-use crate::trees::{Course, SMALL, all_go, append, goes_anew, new_tree};
+use crate::trees::{Course, SMALL, all_go, append, goes_anew, has, new_tree};
 use flush::flush_leaf;
 use message::Msg;
 use node::{Body, Node, Place, Shape, Slot, StepReply, Tree, append_both};
@@ -311,4 +311,121 @@ impl Course for Cutting {
 #[test]
 fn cuts_messages_at_the_pivots(rt: HostRuntime) {
     assert!(rt; goes_anew(rt.alloc(), SMALL, &Cutting));
+}
+
+/// Messages for one key each come in one batch to a root with two slots.
+struct Points {
+    /// The numbers of the slots: above 0 for one that keeps its list.
+    kept: &'static [u32],
+    msgs: &'static [Plain],
+    /// What then waits in the first slot, and in the second.
+    waiting: (&'static [Plain], &'static [Plain]),
+    /// What the tree then has at keys.
+    values: &'static [(u8, Option<u64>)],
+}
+
+fn append_beside_kept(alloc: Global, tree: &mut Tree<Digit>, points: &Points) -> bool {
+    match batch(alloc, points.msgs) {
+        Ok(msgs) => tree.append_kept(alloc, msgs, points.kept).is_ok(),
+        Err(_) => false,
+    }
+}
+
+fn has_each(alloc: Global, tree: &Tree<Digit>, values: &[(u8, Option<u64>)]) -> bool {
+    for (at, wanted) in values {
+        if !has(alloc, tree, *at, *wanted) {
+            return false;
+        }
+    }
+    true
+}
+
+impl Course for Points {
+    fn goes(&self, alloc: Global, tree: &mut Tree<Digit>) -> bool {
+        has_two_slots(alloc, tree)
+            && append_beside_kept(alloc, tree, self)
+            && wait(alloc, tree.root(), 0, self.waiting.0)
+            && wait(alloc, tree.root(), 1, self.waiting.1)
+            && has_each(alloc, tree, self.values)
+    }
+}
+
+const POINTS: &[Points] = &[
+    // into one slot
+    Points {
+        kept: &[],
+        msgs: &[Plain::Put(6, 1), Plain::Edit(7, 2)],
+        waiting: (&[], &[Plain::Put(6, 1), Plain::Edit(7, 2)]),
+        values: &[(1, Some(0)), (6, Some(1)), (7, Some(2))],
+    },
+    Points {
+        kept: &[],
+        msgs: &[Plain::Put(2, 1), Plain::Edit(2, 2)],
+        waiting: (&[Plain::Put(2, 12)], &[]),
+        values: &[(2, Some(12)), (5, Some(0))],
+    },
+    // into two, in either order
+    Points {
+        kept: &[],
+        msgs: &[Plain::Put(4, 3), Plain::Edit(5, 4)],
+        waiting: (&[Plain::Put(4, 3)], &[Plain::Edit(5, 4)]),
+        values: &[(4, Some(3)), (5, Some(4))],
+    },
+    Points {
+        kept: &[],
+        msgs: &[Plain::Del(255), Plain::Del(1)],
+        waiting: (&[Plain::Del(1)], &[Plain::Del(255)]),
+        values: &[(1, None), (2, Some(0)), (7, Some(0)), (255, None)],
+    },
+    // by turns
+    Points {
+        kept: &[],
+        msgs: &[
+            Plain::Put(6, 1),
+            Plain::Put(1, 2),
+            Plain::Edit(6, 3),
+            Plain::Edit(1, 4),
+        ],
+        waiting: (&[Plain::Put(1, 24)], &[Plain::Put(6, 13)]),
+        values: &[(1, Some(24)), (6, Some(13))],
+    },
+    // into slots that keep their lists, and beside one
+    Points {
+        kept: &[0, 1],
+        msgs: &[Plain::Put(6, 1), Plain::Edit(6, 2)],
+        waiting: (&[], &[Plain::Put(6, 1), Plain::Edit(6, 2)]),
+        values: &[(6, Some(12))],
+    },
+    Points {
+        kept: &[0, 1],
+        msgs: &[
+            Plain::Put(1, 1),
+            Plain::Put(6, 2),
+            Plain::Edit(1, 3),
+            Plain::Edit(6, 4),
+        ],
+        waiting: (&[Plain::Put(1, 13)], &[Plain::Put(6, 2), Plain::Edit(6, 4)]),
+        values: &[(1, Some(13)), (6, Some(24))],
+    },
+    // more than a few
+    Points {
+        kept: &[1],
+        msgs: &[
+            Plain::Put(1, 1),
+            Plain::Put(6, 2),
+            Plain::Edit(1, 3),
+            Plain::Edit(6, 4),
+            Plain::Edit(2, 5),
+        ],
+        waiting: (
+            &[Plain::Put(1, 1), Plain::Edit(1, 3), Plain::Edit(2, 5)],
+            &[Plain::Put(6, 24)],
+        ),
+        values: &[(1, Some(13)), (2, Some(5)), (6, Some(24))],
+    },
+];
+
+#[test]
+fn brings_messages_for_one_key_each_to_their_slots(rt: HostRuntime) -> Result<(), usize> {
+    all_go(rt.alloc(), SMALL, POINTS)
 }

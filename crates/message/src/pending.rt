@@ -104,6 +104,15 @@ impl<U: Update> Pending<U> {
         self.fresh.append(newer);
     }
 
+    /// The same for one message.
+    pub fn push_kept(&mut self, msg: Msg<U>)
+        requires { 0 < self.old.1 }
+        ensures messages { self.new.0 ≡ self.old.0 ++ msg ∷ [] }
+        ensures room { self.old.1 ≤ self.new.1 + 1 }
+    {
+        self.fresh.push_reserved(msg);
+    }
+
     /// Moves all messages of the list `newer` into reserved room, newer than all others.
     pub fn append_list(&mut self, newer: &mut Pending<U>)
         requires { length newer.old.0 ≤ self.old.1 }

@@ -24,7 +24,7 @@ impl<U: Changes> Model for Taken<U> {
 
 impl<U: Update> Taken<U> {
     /// These messages, the oldest first. It takes no memory.
-    pub(crate) fn of(msgs: Vec<Msg<U>>) -> Taken<U>
+    pub fn of(msgs: Vec<Msg<U>>) -> Taken<U>
         ensures { result ≡ msgs.items }
     {
         Taken {

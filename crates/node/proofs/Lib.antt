@@ -20,4 +20,5 @@ pub mod Sizes
 pub mod Grafting
 pub mod Weighing
 pub mod Wholes
+pub mod Points
 pub mod Below

@@ -1,18 +1,20 @@
 -- Messages that go to one slot whole.
 use Rattle.std.proofs.Common.{◌≡◌, ℕ, zero, suc, ◌++◌, ◌<◌, ◌≤◌, true, false, List, [], ◌∷◌, length, get_or, map, refl, ap, sym, ◌∙◌, Option, Some, None, cond, arith}
-use Rattle.std.specs.Prelude.{IfSome}
 use Rattle.std.proofs.Math.ListN.{set}
 use Rattle.std.proofs.lemmas.List.{append-nil}
 use Rattle.std.proofs.lemmas.Option.{same_Some}
 use Rattle.message.specs.declared.msg.Msg.{Msg}
 use Rattle.message.specs.Effects.{point, Takes}
+use Rattle.message.specs.Ranges.{reaches}
 use Rattle.message.proofs.Composing.{takes-none}
+use Rattle.message.proofs.KeyOrder.{from_start}
 use Rattle.node.specs.declared.node.Slot.{Slot}
 use Rattle.node.specs.Appended.{parts, all_at, HaveTaken}
 use Rattle.node.specs.Grafts.{KeepLists}
+use Rattle.node.specs.Lawful.{starts_at}
 use Rattle.node.specs.Meaning.{begins_by, slot_number, holder}
-use Rattle.node.specs.Pure.{PSlots, none, more}
-use Rattle.node.specs.Searchable.{AreRising, HasRoomAt}
+use Rattle.node.specs.Pure.{PSlots, inner, none, more}
+use Rattle.node.specs.Searchable.{AreRising, HasRoomAt, IsRoot}
 use Rattle.node.specs.See.{see_slot, seen_slots}
 use Rattle.node.proofs.Placing.{placed-parts, placed-at, length-parts, slot_count-slots}
 
@@ -23,26 +25,33 @@ module _ {U V : Type 0} where
   set_at zero ms (more lo old n ss) = refl
   set_at (suc i) ms (more lo old n ss) = ap (λ z. [] ∷ z) (set_at i ms ss)
 
+  -- a root holds each key
+  pub root_holds : (ss : PSlots U V) (q : List ℕ) → starts_at [] ss → begins_by ss q ≡ true
+  root_holds none q h = absurd h
+  root_holds (more lo old n ss) q h = ap (λ x. reaches x q) h ∙ from_start q
+
   -- a message for one key is for the slot that holds the key, whole
+  at_number : (m : Msg U V) (q : List ℕ) (xs : List (Slot U V)) (i : ℕ) → Some q ≡ point m → AreRising (seen_slots xs) → begins_by (seen_slots xs) q ≡ true → i ≡ slot_number (seen_slots xs) q → all_at i (m ∷ []) (seen_slots xs) ≡ parts None (m ∷ []) (seen_slots xs)
+  at_number m q xs i e r f h =
+      let ss = seen_slots xs in
+      let ps = parts None [] ss in
+      let len = length-parts None [] xs ∙ sym (slot_count-slots xs) in
+      sym (set_at i (m ∷ []) ss)
+      ∙ ap (λ j. set ps j (get_or ps j [] ++ m ∷ [])) h
+      ∙ sym (placed-at None m q ss ps (sym e) r f refl len)
+      ∙ placed-parts None [] m ss
+
+  -- the same of a root, which holds each key
+  pub at_slot : (m : Msg U V) (q : List ℕ) (xs : List (Slot U V)) (i : ℕ) → Some q ≡ point m → IsRoot (inner (seen_slots xs)) → i ≡ slot_number (seen_slots xs) q → all_at i (m ∷ []) (seen_slots xs) ≡ parts None (m ∷ []) (seen_slots xs)
+  at_slot m q xs i e r h = at_number m q xs i e r.1 (root_holds (seen_slots xs) q r.0) h
+
+  -- and of slots that were asked which of them holds the key
   pub at_holder : (m : Msg U V) (q : List ℕ) (xs : List (Slot U V)) (i : ℕ) → Some q ≡ point m → AreRising (seen_slots xs) → Some i ≡ holder (seen_slots xs) q → all_at i (m ∷ []) (seen_slots xs) ≡ parts None (m ∷ []) (seen_slots xs)
   at_holder m q xs i e r h =
       (elim (begins_by (seen_slots xs) q) as (λ b. begins_by (seen_slots xs) q ≡ b → Some i ≡ cond b (Some (slot_number (seen_slots xs) q)) None → all_at i (m ∷ []) (seen_slots xs) ≡ parts None (m ∷ []) (seen_slots xs)) [
-        | true ↦ λ f n.
-            let ss = seen_slots xs in
-            let ps = parts None [] ss in
-            let len = length-parts None [] xs ∙ sym (slot_count-slots xs) in
-            sym (set_at i (m ∷ []) ss)
-            ∙ ap (λ j. set ps j (get_or ps j [] ++ m ∷ [])) (same_Some i (slot_number ss q) n)
-            ∙ sym (placed-at None m q ss ps (sym e) r f refl len)
-            ∙ placed-parts None [] m ss
+        | true ↦ λ f n. at_number m q xs i e r f (same_Some i (slot_number (seen_slots xs) q) n)
         | false ↦ λ f n. absurd (cc)
       ]) refl h
-
-  pub one_at_holder : (ms : List (Msg U V)) (m : Msg U V) (q : List ℕ) (xs : List (Slot U V)) (r : Option ℕ) → length ms ≡ 1 → m ≡ get_or ms 0 m → Some q ≡ point m → AreRising (seen_slots xs) → r ≡ holder (seen_slots xs) q → IfSome r (λ i. all_at i ms (seen_slots xs) ≡ parts None ms (seen_slots xs))
-  one_at_holder ms m q xs None l e p r h = tt
-  one_at_holder [] m q xs (Some i) l e p r h = absurd (omega (arith, l))
-  one_at_holder (x ∷ y ∷ ms) m q xs (Some i) l e p r h = absurd (omega (arith, l))
-  one_at_holder (x ∷ []) m q xs (Some i) l e p r h = at_holder x q xs i (p ∙ ap point e) r h
 
   -- a list of the same messages in the place of a slot's changes no meaning
   pub see-pending : (xs : List (Slot U V)) (i : ℕ) (d : Slot U V) (p : List (Msg U V) × ℕ) → p.0 ≡ (get_or xs i d).pending.0 → map see_slot (set xs i (record { lo = (get_or xs i d).lo; pending = p; child = (get_or xs i d).child })) ≡ map see_slot xs
@@ -55,11 +64,6 @@ module _ {U V : Type 0} where
   room-set [] i n t b h = absurd (omega (arith, b))
   room-set (x ∷ xs) zero n t b h = h
   room-set (x ∷ xs) (suc i) n t b h = room-set xs i n t (omega (arith, b)) h
-
-  pub room-bound : (xs : List (Slot U V)) (i n : ℕ) → HasRoomAt i n xs → i < length xs
-  room-bound [] i n h = absurd h
-  room-bound (x ∷ xs) zero n h = omega arith
-  room-bound (x ∷ xs) (suc i) n h = let b = room-bound xs i n h in omega (arith, b)
 
   pub room-get : (xs : List (Slot U V)) (i n : ℕ) (d : Slot U V) → HasRoomAt i n xs → n ≤ (get_or xs i d).pending.1
   room-get [] i n d h = absurd h

@@ -83,6 +83,21 @@ impl<U: Update> Tree<U> {
         &self.root
     }
 
+    /// How many trees have the root: this one, and each that shares it. No claim rests on it.
+    pub fn owners(&self) -> usize {
+        Arc::strong_count(&self.root)
+    }
+
+    /// Whether the two trees have one root, so that neither was changed since one was shared from the other: then one more
+    /// owner of the one is one more of the other. It may err while another thread shares either, and no claim rests on it.
+    pub fn has_root_of(&self, other: &Tree<U>) -> Result<bool, NoMemory> {
+        let before = other.owners();
+        let shared = self.share()?;
+        let after = other.owners();
+        drop(shared);
+        Ok(before != after)
+    }
+
     /// How many pieces wait in the tree. It costs a look at the root's slots and no walk.
     pub fn pending(&self) -> u128
         ensures { result ≡ total_of Pending self.now.root }

@@ -2,19 +2,19 @@
 //!
 //! An append has two steps. `prepare` cuts the messages at the pivots and reserves room in every slot that takes
 //! some: it may be refused memory, and the tree looks the same. `put_batch` (in `kept`) moves the parts into that room and
-//! cannot fail. So two trees are appended to together: prepare, prepare, put, put. One message for one key goes to its
-//! slot as it is, without a part for each slot.
-ghost use Rattle.std.specs.Prelude.{◌≡◌, ◌<◌, OnOk, OnErr, IfOk, IfSome, map, length, ◌++◌, [], None};
+//! cannot fail. So two trees are appended to together: prepare, prepare, put, put. A few messages for one key each go to
+//! their slots as they are, without a part for each slot.
+ghost use Rattle.std.specs.Prelude.{◌≡◌, true, OnOk, OnErr, IfOk, map, length, ◌++◌, [], None};
 ghost use Rattle.std.specs.Option.{option_copied, option_to_list};
-ghost use Rattle.node.specs.Appended.{all_at, parts as parts_of, placed, HaveTaken, IsAppended};
-ghost use Rattle.node.specs.Batches.{batch_parts, HasRoomFor};
+ghost use Rattle.node.specs.Appended.{parts as parts_of, placed, HaveTaken, IsAppended};
+ghost use Rattle.node.specs.Batches.{batch_parts, HasRoomFor, HaveRoomEach, KeepsRoom};
 ghost use Rattle.node.specs.Pure.{inner};
 ghost use Rattle.node.specs.Searchable.{AreRising, Fits, AllFit, IsRoot, HasRoom, see_list};
 ghost use Rattle.node.specs.See.{see_slot, seen_slots};
 
 use super::Slot;
 use super::kept::put_kept;
-use super::search::{holder, next_pivot, slot_of};
+use super::search::{next_pivot, slot_of};
 use message::{Changes, Msg, Update};
 use pathkey::{Key, NoMemory};
 use std::alloc::Global;
@@ -132,25 +132,39 @@ fn reserve_each<U: Update>(slots: &mut [Slot<U>], parts: &[Vec<Msg<U>>]) -> Resu
     reserve_each(slots, parts)
 }
 
+/// How many messages an append brings to their slots as they are, at most.
+const FEW: usize = 4;
+
 /// The messages of an append as the slots take them.
 #[derive(Drop)]
 pub enum Batch<U: Changes> {
-    /// All go to the slot with this number.
-    Whole(usize, Vec<Msg<U>>),
+    /// A few messages for one key each: each goes to the slot that holds its key, as it is.
+    Points(Vec<Msg<U>>),
     /// The part of each slot.
     Parts(Vec<Vec<Msg<U>>>),
 }
 
-/// The number of the slot that takes all of the messages, where they are one for one key.
-fn holder_of_all<U: Update>(slots: &[Slot<U>], msgs: &[Msg<U>]) -> Option<usize>
-    requires { AreRising (seen_slots slots.now) }
-    ensures bound { IfSome result (λ i. i < length slots.now) }
-    ensures whole { IfSome result (λ i. all_at i msgs.now (seen_slots slots.now) ≡ parts_of None msgs.now (seen_slots slots.now)) }
+/// Reserves room for `count` messages in the slot of each of the messages, and says whether each is for one key. The slots
+/// mean what they meant, and have the room that they had, whatever it answers.
+fn reserve_points<U: Update>(
+    slots: &mut [Slot<U>],
+    count: usize,
+    msgs: &[Msg<U>],
+) -> Result<bool, NoMemory>
+    requires { IsRoot (inner (seen_slots slots.old)) }
+    ensures same { map see_slot slots.new ≡ map see_slot slots.old }
+    ensures stays { KeepsRoom count slots.old slots.new }
+    ensures room { IfOk result (λ all. all ≡ true → HaveRoomEach count slots.new msgs.now) }
 {
-    if msgs.len() != 1 {
-        return None;
-    }
-    holder(slots, msgs[0].point()?)
+    let Some((msg, later)) = msgs.split_first() else {
+        return Ok(true);
+    };
+    let Some(key) = msg.point() else {
+        return Ok(false);
+    };
+    let i = slot_of(slots, key);
+    slots[i].pending.reserve(count)?;
+    reserve_points(slots, count, later)
 }
 
 /// Cuts the messages for a root's slots and reserves room for the parts in them.
@@ -169,7 +183,7 @@ fn prepare_parts<U: Update>(
     Ok(parts)
 }
 
-/// Likewise, but one message for one key goes to its slot as it is.
+/// Likewise, but a few messages for one key each go to their slots as they are.
 pub fn prepare<U: Update>(
     alloc: Global,
     slots: &mut [Slot<U>],
@@ -180,9 +194,9 @@ pub fn prepare<U: Update>(
     ensures room { IfOk result (λ b. HasRoomFor slots.new b) }
     ensures parts { IfOk result (λ b. batch_parts b (seen_slots slots.old) ≡ parts_of None msgs.items (seen_slots slots.old)) }
 {
-    if let Some(i) = holder_of_all(slots, msgs.as_slice()) {
-        slots[i].pending.reserve(msgs.len())?;
-        return Ok(Batch::Whole(i, msgs));
+    let count = msgs.len();
+    if count <= FEW && reserve_points(slots, count, msgs.as_slice())? {
+        return Ok(Batch::Points(msgs));
     }
     Ok(Batch::Parts(prepare_parts(alloc, slots, msgs)?))
 }

@@ -1,16 +1,17 @@
 //! New messages in the slots of a root, of which some may keep their lists: those from which a job was taken.
-ghost use Rattle.std.specs.Prelude.{◌≡◌, ◌<◌, ◌≤◌, ◌++◌, true, OnOk, OnErr, map, length, get_or};
+ghost use Rattle.std.specs.Prelude.{◌≡◌, ◌+◌, ◌<◌, ◌≤◌, ◌++◌, [], ◌∷◌, true, None, OnOk, OnErr, map, length, get_or};
 ghost use Rattle.message.specs.Effects.{Takes};
-ghost use Rattle.node.specs.Appended.{HaveTaken, IsAppended};
-ghost use Rattle.node.specs.Batches.{batch_parts, HasRoomFor};
+ghost use Rattle.node.specs.Appended.{parts, HaveTaken, IsAppended};
+ghost use Rattle.node.specs.Batches.{batch_parts, HasRoomFor, HaveRoomEach};
 ghost use Rattle.node.specs.Grafts.{IsFirstKept, KeepLists, KeepsLists};
 ghost use Rattle.node.specs.Pure.{inner};
 ghost use Rattle.node.specs.Searchable.{IsRoot, HasRoom, see_list};
 ghost use Rattle.node.specs.See.{see_slot, seen_slots};
 
 use super::append::{Batch, prepare};
+use super::search::slot_of;
 use super::{Body, Node, Slot};
-use message::{Msg, Pending, Update};
+use message::{Msg, Pending, Taken, Update};
 use pathkey::NoMemory;
 use std::alloc::Global;
 
@@ -65,6 +66,40 @@ fn is_kept(kept: &[u32], i: usize) -> bool
     }
 }
 
+/// Puts a message behind a list that has room for it; where `plain`, the list stays as it was.
+fn put_message<U: Update>(pending: &mut Pending<U>, msg: Msg<U>, plain: bool)
+    requires { 0 < pending.old.1 }
+    ensures takes { Takes U.means pending.old.0 (msg ∷ []) pending.new.0 }
+    ensures kept { plain ≡ true → pending.new.0 ≡ pending.old.0 ++ msg ∷ [] }
+    ensures room { pending.old.1 ≤ pending.new.1 + 1 }
+{
+    if plain {
+        pending.push_kept(msg);
+    } else {
+        pending.push_reserved(msg);
+    }
+}
+
+/// Puts messages for one key each behind what waits in the slots that hold their keys, where there is room for them; where
+/// a slot's number is above 0, what waits stays as it was.
+fn put_points<U: Update>(slots: &mut [Slot<U>], msgs: &mut Taken<U>, kept: &[u32])
+    requires root { IsRoot (inner (seen_slots slots.old)) }
+    requires room { HaveRoomEach (length msgs.old) slots.old msgs.old }
+    ensures taken { HaveTaken U.means (seen_slots slots.old) (parts None msgs.old (seen_slots slots.old)) (seen_slots slots.new) }
+    ensures kept { KeepLists kept.now (parts None msgs.old (seen_slots slots.old)) (seen_slots slots.old) (seen_slots slots.new) }
+{
+    let Some(msg) = msgs.next() else {
+        return;
+    };
+    let Some(key) = msg.point() else {
+        unreachable!()
+    };
+    let i = slot_of(slots, key);
+    let plain = is_kept(kept, i);
+    put_message(&mut slots[i].pending, msg, plain);
+    put_points(slots, msgs, kept)
+}
+
 /// Puts the messages behind what waits in the slots, where there is room for them; where a slot's number is above 0, what
 /// waits stays as it was.
 fn put_batch<U: Update>(slots: &mut [Slot<U>], batch: Batch<U>, kept: &[u32])
@@ -73,10 +108,9 @@ fn put_batch<U: Update>(slots: &mut [Slot<U>], batch: Batch<U>, kept: &[u32])
     ensures kept { KeepLists kept.now (batch_parts batch (seen_slots slots.old)) (seen_slots slots.old) (seen_slots slots.new) }
 {
     match batch {
-        Batch::Whole(i, msgs) => {
-            let mut msgs = msgs;
-            let plain = is_kept(kept, i);
-            put_part(&mut slots[i].pending, &mut msgs, plain);
+        Batch::Points(msgs) => {
+            let mut msgs = Taken::of(msgs);
+            put_points(slots, &mut msgs, kept);
         }
         Batch::Parts(parts) => {
             let mut parts = parts;
