@@ -23,10 +23,11 @@ type Key = Vec<u8>;
 /// A block's key: its file's, and its number.
 type Place = (Key, u32);
 
+/// What stands at a path: a directory, or a file with its length; each with its moment of last change.
 #[derive(Clone, Copy)]
 enum Meta {
-    Directory,
-    File(u64),
+    Directory(u64),
+    File(u64, u64),
 }
 
 #[derive(Clone, Copy)]
@@ -96,7 +97,7 @@ struct Tree {
 impl Tree {
     fn new() -> Tree {
         Tree {
-            entries: BTreeMap::from([(Key::new(), Meta::Directory)]),
+            entries: BTreeMap::from([(Key::new(), Meta::Directory(0))]),
             blocks: BTreeMap::new(),
         }
     }
@@ -115,8 +116,8 @@ impl Tree {
         while let Some(next) = parent(above) {
             above = next;
             match self.entries.get(above) {
-                Some(Meta::File(_)) => return Fault::Notdir,
-                Some(Meta::Directory) => return Fault::Noent,
+                Some(Meta::File(..)) => return Fault::Notdir,
+                Some(Meta::Directory(_)) => return Fault::Noent,
                 None => {}
             }
         }
@@ -125,15 +126,15 @@ impl Tree {
 
     fn find_file(&self, key: &[u8]) -> Result<u64, Fault> {
         match self.find(key)? {
-            Meta::File(len) => Ok(len),
-            Meta::Directory => Err(Fault::Isdir),
+            Meta::File(len, _) => Ok(len),
+            Meta::Directory(_) => Err(Fault::Isdir),
         }
     }
 
     /// Tells the parent faults of a path; the root has none.
     fn look_above(&self, key: &[u8]) -> Result<(), Fault> {
         match parent(key).map(|above| self.find(above)) {
-            Some(Ok(Meta::File(_))) => Err(Fault::Notdir),
+            Some(Ok(Meta::File(..))) => Err(Fault::Notdir),
             Some(Err(fault)) => Err(fault),
             _ => Ok(()),
         }
@@ -151,6 +152,14 @@ impl Tree {
         self.below(key).nth(1).is_none()
     }
 
+    /// Gives the directory of a path a moment.
+    fn touch(&mut self, key: &[u8], at: u64) {
+        let above = parent(key).unwrap_or_default();
+        if let Some(Meta::Directory(modified)) = self.entries.get_mut(above) {
+            *modified = at;
+        }
+    }
+
     fn make(&mut self, key: Key, meta: Meta) -> Answer {
         if key.is_empty() {
             return Err(Fault::Exist);
@@ -165,10 +174,17 @@ impl Tree {
         }
     }
 
-    fn write(&mut self, key: Key, offset: u64, bytes: &[u8]) -> Answer {
-        let len = match self.entries.get_mut(&key) {
-            Some(Meta::File(len)) => len,
-            Some(Meta::Directory) => return Err(Fault::Isdir),
+    /// A new entry at a moment, which its directory gets too.
+    fn make_at(&mut self, key: Key, meta: Meta, at: u64) -> Answer {
+        let done = self.make(key.clone(), meta)?;
+        self.touch(&key, at);
+        Ok(done)
+    }
+
+    fn write(&mut self, key: Key, offset: u64, bytes: &[u8], at: u64) -> Answer {
+        let (len, modified) = match self.entries.get_mut(&key) {
+            Some(Meta::File(len, modified)) => (len, modified),
+            Some(Meta::Directory(_)) => return Err(Fault::Isdir),
             None => return Err(self.fault(&key)),
         };
         let count = bytes.len() as u64;
@@ -177,6 +193,7 @@ impl Tree {
                 .checked_add(count)
                 .filter(|&end| end <= GREATEST_FILE);
             *len = end.ok_or(Fault::Fbig)?.max(*len);
+            *modified = at;
             self.lay(key, offset, bytes);
         }
         Ok(Reply::Count(count))
@@ -198,12 +215,12 @@ impl Tree {
         }
     }
 
-    fn truncate(&mut self, key: Key, len: u64) -> Answer {
+    fn truncate(&mut self, key: Key, len: u64, at: u64) -> Answer {
         self.find_file(&key)?;
         if len > GREATEST_FILE {
             return Err(Fault::Fbig);
         }
-        self.entries.insert(key.clone(), Meta::File(len));
+        self.entries.insert(key.clone(), Meta::File(len, at));
         let (last, rest) = ((len / BLOCK as u64) as u32, len as usize % BLOCK);
         let mut place = (key, last);
         if rest > 0 {
@@ -231,36 +248,39 @@ impl Tree {
             .for_each(drop);
     }
 
-    fn unlink(&mut self, key: Key) -> Answer {
-        if matches!(self.find(&key)?, Meta::Directory) {
+    fn unlink(&mut self, key: Key, at: u64) -> Answer {
+        if matches!(self.find(&key)?, Meta::Directory(_)) {
             return Err(Fault::Perm);
         }
+        self.touch(&key, at);
         self.take_out(key);
         Ok(Reply::Done)
     }
 
-    fn rmdir(&mut self, key: Key) -> Answer {
+    fn rmdir(&mut self, key: Key, at: u64) -> Answer {
         if key.is_empty() {
             return Err(Fault::Busy);
         }
         match self.find(&key)? {
-            Meta::File(_) => return Err(Fault::Notdir),
-            Meta::Directory if !self.is_empty(&key) => return Err(Fault::Notempty),
-            Meta::Directory => self.entries.remove(&key),
+            Meta::File(..) => return Err(Fault::Notdir),
+            Meta::Directory(_) if !self.is_empty(&key) => return Err(Fault::Notempty),
+            Meta::Directory(_) => self.entries.remove(&key),
         };
+        self.touch(&key, at);
         Ok(Reply::Done)
     }
 
-    fn rmtree(&mut self, key: Key) -> Answer {
+    fn rmtree(&mut self, key: Key, at: u64) -> Answer {
         if key.is_empty() {
             return Err(Fault::Busy);
         }
         self.find(&key)?;
+        self.touch(&key, at);
         self.take_out(key);
         Ok(Reply::Done)
     }
 
-    fn rename(&mut self, old: Key, new: Key) -> Answer {
+    fn rename(&mut self, old: Key, new: Key, at: u64) -> Answer {
         if old.is_empty() {
             return Err(Fault::Busy);
         }
@@ -268,20 +288,22 @@ impl Tree {
         if new == old {
             return Ok(Reply::Done);
         }
-        if new.starts_with(&old) && matches!(moved, Meta::Directory) {
+        if new.starts_with(&old) && matches!(moved, Meta::Directory(_)) {
             return Err(Fault::Inval);
         }
         self.look_above(&new)?;
         match (moved, self.entries.get(&new)) {
-            (Meta::File(_), Some(Meta::Directory)) => return Err(Fault::Isdir),
-            (Meta::Directory, Some(Meta::File(_))) => return Err(Fault::Notdir),
-            (_, Some(Meta::Directory)) if !self.is_empty(&new) => return Err(Fault::Notempty),
+            (Meta::File(..), Some(Meta::Directory(_))) => return Err(Fault::Isdir),
+            (Meta::Directory(_), Some(Meta::File(..))) => return Err(Fault::Notdir),
+            (_, Some(Meta::Directory(_))) if !self.is_empty(&new) => return Err(Fault::Notempty),
             _ => {}
         }
         let longest = self.below(&old).map(|(key, _)| key.len()).max();
         if longest.unwrap_or(0) - old.len() + new.len() > LONGEST_PATH {
             return Err(Fault::Nametoolong);
         }
+        self.touch(&old, at);
+        self.touch(&new, at);
         self.take_out(new.clone());
         self.shift(old, &new);
         Ok(Reply::Done)
@@ -325,14 +347,14 @@ impl Tree {
     }
 
     fn readdir(&self, key: Key) -> Answer {
-        if matches!(self.find(&key)?, Meta::File(_)) {
+        if matches!(self.find(&key)?, Meta::File(..)) {
             return Err(Fault::Notdir);
         }
         let mut names = Vec::new();
         let mut rest = self.below(&key);
         rest.next();
         while let Some((child, meta)) = rest.next() {
-            let is_directory = matches!(meta, Meta::Directory);
+            let is_directory = matches!(meta, Meta::Directory(_));
             names.push((is_directory, child[key.len()..child.len() - 1].to_vec()));
             if let (true, Some(behind)) = (is_directory, end_of(child)) {
                 rest = match end_of(&key) {
@@ -353,9 +375,10 @@ impl Tree {
     }
 }
 
-/// The live tree and the snapshots, each a copy of both maps.
+/// The live tree and the snapshots, each a copy of both maps, and the moment of the calls that follow.
 struct World {
     live: Tree,
+    at: u64,
     snapshots: BTreeMap<Vec<u8>, Tree>,
 }
 
@@ -409,27 +432,35 @@ impl World {
 
     /// Does a command that may change something.
     fn change(&mut self, command: &[u8], words: &[&[u8]]) -> Option<Answer> {
-        let live = &mut self.live;
+        let (live, at) = (&mut self.live, self.at);
         Some(match (command, words) {
-            (b"mkdir", [path]) => read_path(path).and_then(|key| live.make(key, Meta::Directory)),
-            (b"create", [path]) => read_path(path).and_then(|key| live.make(key, Meta::File(0))),
-            (b"unlink", [path]) => read_path(path).and_then(|key| live.unlink(key)),
-            (b"rmdir", [path]) => read_path(path).and_then(|key| live.rmdir(key)),
-            (b"rmtree", [path]) => read_path(path).and_then(|key| live.rmtree(key)),
+            (b"at", [number]) => {
+                self.at = read_number(number)?;
+                Ok(Reply::Done)
+            }
+            (b"mkdir", [path]) => {
+                read_path(path).and_then(|key| live.make_at(key, Meta::Directory(at), at))
+            }
+            (b"create", [path]) => {
+                read_path(path).and_then(|key| live.make_at(key, Meta::File(0, at), at))
+            }
+            (b"unlink", [path]) => read_path(path).and_then(|key| live.unlink(key, at)),
+            (b"rmdir", [path]) => read_path(path).and_then(|key| live.rmdir(key, at)),
+            (b"rmtree", [path]) => read_path(path).and_then(|key| live.rmtree(key, at)),
             (b"snapshot", [name]) => read_snapshot(name).and_then(|name| self.snapshot(name)),
             (b"drop", [name]) => read_snapshot(name).and_then(|name| self.drop_snapshot(&name)),
             (b"restore", [name]) => read_snapshot(name).and_then(|name| self.restore(&name)),
             (b"rename", [old, new]) => {
                 let keys = read_path(old).and_then(|old| Ok((old, read_path(new)?)));
-                keys.and_then(|(old, new)| live.rename(old, new))
+                keys.and_then(|(old, new)| live.rename(old, new, at))
             }
             (b"truncate", [path, len]) => {
                 let len = read_number(len)?;
-                read_path(path).and_then(|key| live.truncate(key, len))
+                read_path(path).and_then(|key| live.truncate(key, len, at))
             }
             (b"write", [path, offset, hex]) => {
                 let (offset, bytes) = (read_number(offset)?, read_hex(hex)?);
-                read_path(path).and_then(|key| live.write(key, offset, &bytes))
+                read_path(path).and_then(|key| live.write(key, offset, &bytes, at))
             }
             _ => return None,
         })
@@ -555,8 +586,8 @@ fn put_reply(out: &mut impl Write, reply: Reply) -> io::Result<()> {
     match reply {
         Reply::Done => out.write_all(b"ok\n"),
         Reply::Count(count) => writeln!(out, "count {count}"),
-        Reply::Stat(Meta::Directory) => out.write_all(b"dir 0\n"),
-        Reply::Stat(Meta::File(len)) => writeln!(out, "file {len}"),
+        Reply::Stat(Meta::Directory(modified)) => writeln!(out, "dir 0 {modified}"),
+        Reply::Stat(Meta::File(len, modified)) => writeln!(out, "file {len} {modified}"),
         Reply::Data(bytes) if bytes.is_empty() => out.write_all(b"bytes -\n"),
         Reply::Data(bytes) => {
             out.write_all(b"bytes ")?;
@@ -577,19 +608,19 @@ fn put_names(out: &mut impl Write, names: &[(bool, Vec<u8>)]) -> io::Result<()> 
     Ok(())
 }
 
-/// Prints the image of a tree.
+/// Prints the image of a tree, in version 2.
 fn put_image(out: &mut impl Write, tree: &Tree) -> io::Result<()> {
     let mut blocks = tree.blocks.iter().peekable();
     for (key, meta) in &tree.entries {
-        out.write_all(if matches!(meta, Meta::Directory) {
-            b"d "
+        out.write_all(if matches!(meta, Meta::Directory(_)) {
+            b"D "
         } else {
-            b"f "
+            b"F "
         })?;
         put_path(out, key)?;
         match meta {
-            Meta::Directory => out.write_all(b"\n")?,
-            Meta::File(len) => writeln!(out, " {len}")?,
+            Meta::Directory(modified) => writeln!(out, " {modified}")?,
+            Meta::File(len, modified) => writeln!(out, " {len} {modified}")?,
         }
         while let Some(((_, number), block)) = blocks.next_if(|((owner, _), _)| owner == key) {
             put_block(out, *number, block)?;
@@ -644,14 +675,18 @@ fn load_line(tree: &mut Tree, last: &mut Key, line: &[u8]) -> Option<()> {
         .collect();
     match words.as_slice() {
         [b"d", b"/"] => {}
-        [b"d", path] => {
-            *last = read_path(path).ok()?;
-            tree.make(last.clone(), Meta::Directory).ok()?;
+        [b"D", b"/", modified] => {
+            let root = Meta::Directory(read_number(modified)?);
+            tree.entries.insert(Key::new(), root);
         }
-        [b"f", path, len] => {
-            *last = read_path(path).ok()?;
-            tree.make(last.clone(), Meta::File(read_number(len)?))
-                .ok()?;
+        [b"d", path] => load_entry(tree, last, path, Meta::Directory(0))?,
+        [b"D", path, modified] => {
+            load_entry(tree, last, path, Meta::Directory(read_number(modified)?))?;
+        }
+        [b"f", path, len] => load_entry(tree, last, path, Meta::File(read_number(len)?, 0))?,
+        [b"F", path, len, modified] => {
+            let meta = Meta::File(read_number(len)?, read_number(modified)?);
+            load_entry(tree, last, path, meta)?;
         }
         [b"b", number, hex] => {
             let number = u32::try_from(read_number(number)?).ok()?;
@@ -659,6 +694,13 @@ fn load_line(tree: &mut Tree, last: &mut Key, line: &[u8]) -> Option<()> {
         }
         _ => return None,
     }
+    Some(())
+}
+
+/// Loads the line of an entry.
+fn load_entry(tree: &mut Tree, last: &mut Key, path: &[u8], meta: Meta) -> Option<()> {
+    *last = read_path(path).ok()?;
+    tree.make(last.clone(), meta).ok()?;
     Some(())
 }
 
@@ -717,6 +759,7 @@ fn work(options: &Options) -> Result<(), String> {
     let live = options.load.as_deref().map_or(Ok(Tree::new()), load)?;
     let mut world = World {
         live,
+        at: 0,
         snapshots: BTreeMap::new(),
     };
     let mut out = BufWriter::with_capacity(LONGEST_LINE, io::stdout().lock());

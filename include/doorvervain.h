@@ -68,20 +68,22 @@ enum { DOORVERVAIN_DIRECTORY = 1, DOORVERVAIN_FILE = 2 };
 
 uint8_t doorvervain_raw_open(uint16_t fanout, uint16_t pending, uint16_t leaf, struct doorvervain *out);
 void doorvervain_raw_close(struct doorvervain fs);
-uint8_t doorvervain_raw_mkdir(struct doorvervain *fs, const uint8_t *path, size_t length);
-uint8_t doorvervain_raw_create(struct doorvervain *fs, const uint8_t *path, size_t length);
-uint8_t doorvervain_raw_unlink(struct doorvervain *fs, const uint8_t *path, size_t length);
-uint8_t doorvervain_raw_rmdir(struct doorvervain *fs, const uint8_t *path, size_t length);
-uint8_t doorvervain_raw_rmtree(struct doorvervain *fs, const uint8_t *path, size_t length);
+uint8_t doorvervain_raw_mkdir(struct doorvervain *fs, const uint8_t *path, size_t length, uint64_t at);
+uint8_t doorvervain_raw_create(struct doorvervain *fs, const uint8_t *path, size_t length, uint64_t at);
+uint8_t doorvervain_raw_unlink(struct doorvervain *fs, const uint8_t *path, size_t length, uint64_t at);
+uint8_t doorvervain_raw_rmdir(struct doorvervain *fs, const uint8_t *path, size_t length, uint64_t at);
+uint8_t doorvervain_raw_rmtree(struct doorvervain *fs, const uint8_t *path, size_t length, uint64_t at);
 uint8_t doorvervain_raw_rename(
-    struct doorvervain *fs, const uint8_t *from, size_t from_length, const uint8_t *to, size_t to_length);
-uint8_t doorvervain_raw_truncate(struct doorvervain *fs, const uint8_t *path, size_t length, uint64_t size);
+    struct doorvervain *fs, const uint8_t *from, size_t from_length, const uint8_t *to, size_t to_length, uint64_t at);
+uint8_t doorvervain_raw_truncate(
+    struct doorvervain *fs, const uint8_t *path, size_t length, uint64_t size, uint64_t at);
 uint8_t doorvervain_raw_write(struct doorvervain *fs, const uint8_t *path, size_t length, uint64_t offset,
-    const uint8_t *bytes, size_t count);
+    const uint8_t *bytes, size_t count, uint64_t at);
 uint8_t doorvervain_raw_read(struct doorvervain *fs, const uint8_t *path, size_t length, uint64_t offset,
     uint8_t *out, size_t room, size_t *got);
 uint8_t doorvervain_raw_stat(
-    struct doorvervain *fs, const uint8_t *path, size_t length, uint8_t *kind, uint64_t *size);
+    struct doorvervain *fs, const uint8_t *path, size_t length, uint8_t *kind, uint64_t *size,
+    uint64_t *modified);
 uint8_t doorvervain_raw_readdir(
     struct doorvervain *fs, const uint8_t *path, size_t length, uint8_t *out, size_t room, size_t *size);
 uint8_t doorvervain_raw_snapshot(struct doorvervain *fs, const uint8_t *name, size_t length);
@@ -93,7 +95,8 @@ uint8_t doorvervain_raw_frozen(
 uint8_t doorvervain_raw_frozen_read(struct doorvervain_frozen *tree, const uint8_t *path, size_t length,
     uint64_t offset, uint8_t *out, size_t room, size_t *got);
 uint8_t doorvervain_raw_frozen_stat(
-    struct doorvervain_frozen *tree, const uint8_t *path, size_t length, uint8_t *kind, uint64_t *size);
+    struct doorvervain_frozen *tree, const uint8_t *path, size_t length, uint8_t *kind, uint64_t *size,
+    uint64_t *modified);
 uint8_t doorvervain_raw_load(uint16_t fanout, uint16_t pending, uint16_t leaf, const uint8_t *text, size_t length,
     uint64_t *line, struct doorvervain *out);
 uint8_t doorvervain_raw_image(struct doorvervain_frozen *tree, uint8_t *out, size_t room, size_t *size);
@@ -179,65 +182,69 @@ static inline void doorvervain_close(struct doorvervain *fs) {
 }
 
 // ---- calls that change a volume. Each may answer ENOMEM where memory is refused; then nothing has changed.
+// Each is done at the moment `at`, a number that need not rise: what is new, a file whose bytes are set, and each
+// directory that gets or loses an entry then has that moment.
 // A text that is no path is refused before anything else: ENOENT (empty), EINVAL or ENAMETOOLONG.
 
 // Makes an empty directory. ENOENT, ENOTDIR: what is above the path; EEXIST.
-static inline uint8_t doorvervain_mkdir(struct doorvervain *fs, const uint8_t *path, size_t length) {
+static inline uint8_t doorvervain_mkdir(struct doorvervain *fs, const uint8_t *path, size_t length, uint64_t at) {
     uint8_t lacks = doorvervain_lacks(fs, path, length);
-    return lacks ? lacks : doorvervain_raw_mkdir(fs, doorvervain_from(path), length);
+    return lacks ? lacks : doorvervain_raw_mkdir(fs, doorvervain_from(path), length, at);
 }
 
 // Makes an empty file where nothing stands. ENOENT, ENOTDIR: what is above the path; EEXIST.
-static inline uint8_t doorvervain_create(struct doorvervain *fs, const uint8_t *path, size_t length) {
+static inline uint8_t doorvervain_create(struct doorvervain *fs, const uint8_t *path, size_t length, uint64_t at) {
     uint8_t lacks = doorvervain_lacks(fs, path, length);
-    return lacks ? lacks : doorvervain_raw_create(fs, doorvervain_from(path), length);
+    return lacks ? lacks : doorvervain_raw_create(fs, doorvervain_from(path), length, at);
 }
 
 // Takes a file out. ENOENT, ENOTDIR; EPERM: a directory.
-static inline uint8_t doorvervain_unlink(struct doorvervain *fs, const uint8_t *path, size_t length) {
+static inline uint8_t doorvervain_unlink(struct doorvervain *fs, const uint8_t *path, size_t length, uint64_t at) {
     uint8_t lacks = doorvervain_lacks(fs, path, length);
-    return lacks ? lacks : doorvervain_raw_unlink(fs, doorvervain_from(path), length);
+    return lacks ? lacks : doorvervain_raw_unlink(fs, doorvervain_from(path), length, at);
 }
 
 // Takes an empty directory out. ENOENT, ENOTDIR, ENOTEMPTY; EBUSY: the root.
-static inline uint8_t doorvervain_rmdir(struct doorvervain *fs, const uint8_t *path, size_t length) {
+static inline uint8_t doorvervain_rmdir(struct doorvervain *fs, const uint8_t *path, size_t length, uint64_t at) {
     uint8_t lacks = doorvervain_lacks(fs, path, length);
-    return lacks ? lacks : doorvervain_raw_rmdir(fs, doorvervain_from(path), length);
+    return lacks ? lacks : doorvervain_raw_rmdir(fs, doorvervain_from(path), length, at);
 }
 
 // Takes a file out, or a directory with all below it. ENOENT, ENOTDIR; EBUSY: the root.
-static inline uint8_t doorvervain_rmtree(struct doorvervain *fs, const uint8_t *path, size_t length) {
+static inline uint8_t doorvervain_rmtree(struct doorvervain *fs, const uint8_t *path, size_t length, uint64_t at) {
     uint8_t lacks = doorvervain_lacks(fs, path, length);
-    return lacks ? lacks : doorvervain_raw_rmtree(fs, doorvervain_from(path), length);
+    return lacks ? lacks : doorvervain_raw_rmtree(fs, doorvervain_from(path), length, at);
 }
 
 // Moves what stands at the first path, with all below it, to the second, where it replaces a file by a file, or an
 // empty directory by a directory. ENOENT, ENOTDIR, EISDIR, ENOTEMPTY, ENAMETOOLONG; EINVAL: to below itself; EBUSY:
 // the root.
 static inline uint8_t doorvervain_rename(
-    struct doorvervain *fs, const uint8_t *from, size_t from_length, const uint8_t *to, size_t to_length) {
+    struct doorvervain *fs, const uint8_t *from, size_t from_length, const uint8_t *to, size_t to_length, uint64_t at) {
     uint8_t lacks = doorvervain_lacks(fs, from, from_length);
     if (!lacks) lacks = doorvervain_lacks(fs, to, to_length);
     return lacks ? lacks
-                 : doorvervain_raw_rename(fs, doorvervain_from(from), from_length, doorvervain_from(to), to_length);
+                 : doorvervain_raw_rename(
+                       fs, doorvervain_from(from), from_length, doorvervain_from(to), to_length, at);
 }
 
 // Cuts a file to `size` bytes, or lengthens it to them by zeros. ENOENT, ENOTDIR, EISDIR; EFBIG: more than 2^40.
 static inline uint8_t doorvervain_truncate(
-    struct doorvervain *fs, const uint8_t *path, size_t length, uint64_t size) {
+    struct doorvervain *fs, const uint8_t *path, size_t length, uint64_t size, uint64_t at) {
     uint8_t lacks = doorvervain_lacks(fs, path, length);
-    return lacks ? lacks : doorvervain_raw_truncate(fs, doorvervain_from(path), length, size);
+    return lacks ? lacks : doorvervain_raw_truncate(fs, doorvervain_from(path), length, size, at);
 }
 
 // Lays `count` bytes over a file from the byte `offset` on, and lengthens it where they reach past its end: all of
 // them, or none. ENOENT, ENOTDIR, EISDIR; EFBIG: past 2^40 bytes.
 static inline uint8_t doorvervain_write(struct doorvervain *fs, const uint8_t *path, size_t length, uint64_t offset,
-    const uint8_t *bytes, size_t count) {
+    const uint8_t *bytes, size_t count, uint64_t at) {
     uint8_t lacks = doorvervain_lacks(fs, path, length);
     if (!lacks) lacks = doorvervain_lacks(fs, bytes, count);
     return lacks
                ? lacks
-               : doorvervain_raw_write(fs, doorvervain_from(path), length, offset, doorvervain_from(bytes), count);
+               : doorvervain_raw_write(
+                     fs, doorvervain_from(path), length, offset, doorvervain_from(bytes), count, at);
 }
 
 // ---- calls that look
@@ -256,15 +263,18 @@ static inline uint8_t doorvervain_read(struct doorvervain *fs, const uint8_t *pa
                : doorvervain_raw_read(fs, doorvervain_from(path), length, offset, doorvervain_into(out), room, got);
 }
 
-// What stands at a path: DOORVERVAIN_DIRECTORY, or DOORVERVAIN_FILE with its size in bytes (0 for a directory).
+// What stands at a path: DOORVERVAIN_DIRECTORY, or DOORVERVAIN_FILE with its size in bytes (0 for a directory),
+// and its moment of last change.
 // ENOENT, ENOTDIR.
 static inline uint8_t doorvervain_stat(
-    struct doorvervain *fs, const uint8_t *path, size_t length, uint8_t *kind, uint64_t *size) {
-    if (!kind || !size) return DOORVERVAIN_NULL;
+    struct doorvervain *fs, const uint8_t *path, size_t length, uint8_t *kind, uint64_t *size,
+    uint64_t *modified) {
+    if (!kind || !size || !modified) return DOORVERVAIN_NULL;
     *kind = 0;
     *size = 0;
+    *modified = 0;
     uint8_t lacks = doorvervain_lacks(fs, path, length);
-    return lacks ? lacks : doorvervain_raw_stat(fs, doorvervain_from(path), length, kind, size);
+    return lacks ? lacks : doorvervain_raw_stat(fs, doorvervain_from(path), length, kind, size, modified);
 }
 
 // Lists a directory, in byte order of the names: for each entry `d` or `f`, its name and a byte 0. `*size` is how
@@ -334,12 +344,14 @@ static inline uint8_t doorvervain_frozen_read(struct doorvervain_frozen *tree, c
 
 // What stands at a path of a frozen tree, as doorvervain_stat says it of a volume.
 static inline uint8_t doorvervain_frozen_stat(
-    struct doorvervain_frozen *tree, const uint8_t *path, size_t length, uint8_t *kind, uint64_t *size) {
-    if (!kind || !size) return DOORVERVAIN_NULL;
+    struct doorvervain_frozen *tree, const uint8_t *path, size_t length, uint8_t *kind, uint64_t *size,
+    uint64_t *modified) {
+    if (!kind || !size || !modified) return DOORVERVAIN_NULL;
     *kind = 0;
     *size = 0;
+    *modified = 0;
     uint8_t lacks = doorvervain_frozen_lacks(tree, path, length);
-    return lacks ? lacks : doorvervain_raw_frozen_stat(tree, doorvervain_from(path), length, kind, size);
+    return lacks ? lacks : doorvervain_raw_frozen_stat(tree, doorvervain_from(path), length, kind, size, modified);
 }
 
 // Lists a directory of a frozen tree, as doorvervain_readdir does of a volume.

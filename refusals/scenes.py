@@ -147,8 +147,10 @@ MARKED = (
 )
 LOOKS = ("read@v /f 0 10000", "stat@v /f", "stat@s /d/f150", "readdir@v /e", "readdir@s /d", "stat@s /v", "read@s /d 0 5")
 SCRIPT = (
+    "at 9",
     "mkdir /x",
     "create /x/y",
+    "at 8",
     "write /x/y 4090 6162636465666768",
     "read /x/y 4088 6",
     "snapshot u",
@@ -189,7 +191,9 @@ WHOLE = tuple(
         f"stat /f{number}",
     )
 )
-IMAGE = ("d /", "f /a 9000", f"b 0 {hexed(4_096)}", f"b 2 {hexed(808)}", "d /b", *(f"f /b/f{number:02} 5" for number in range(40)), "d /c")
+# An image of version 1, and the same with moments.
+FIRST_IMAGE = ("d /", "f /a 9000", f"b 0 {hexed(4_096)}", f"b 2 {hexed(808)}", "d /b", *(f"f /b/f{number:02} 5" for number in range(40)), "d /c")
+IMAGE = tuple(line if line.startswith("b ") else f"{line[0].upper()}{line[1:]} {number}" for number, line in enumerate(FIRST_IMAGE))
 SMALL = ("--fanout", "4", "--pending", "4", "--leaf", "4", "--steps", "1", "--image")
 
 
@@ -218,20 +222,21 @@ def frozen():
     yield Scene("trees that stand still", ("frozen", "v"), WITH_FILES, free=True, wanted="fault ENOENT")
     for line in LOOKS:
         yield Scene("trees that stand still", ("look", line), WITH_FILES)
-    yield Scene("trees that stand still", ("look", "stat@s /"), WITH_FILES, free=True, wanted="dir 0")
+    yield Scene("trees that stand still", ("look", "stat@s /"), WITH_FILES, free=True, wanted="dir 0 0")
     yield Scene("trees that stand still", ("image",), WITH_FILES, judged="text")
 
 
 def planting():
-    for words in (("/x", "d"), ("/x", "5000"), ("/e/x", "d")):
+    for words in (("/x", "d"), ("/x", "5000"), ("/e/x", "d"), ("/", "d")):
         yield Scene("planting", ("plant", *words), WITH_FILES, wanted="ok")
-    for words, fault in ((("/", "d"), "EEXIST"), (("/d", "d"), "EEXIST"), (("/v/x", "d"), "ENOENT"), (("/f/x", "d"), "ENOTDIR"), (("/x", "1099511627777"), "EFBIG")):
+    for words, fault in ((("/", "5000"), "EEXIST"), (("/d", "d"), "EEXIST"), (("/v/x", "d"), "ENOENT"), (("/f/x", "d"), "ENOTDIR"), (("/x", "1099511627777"), "EFBIG")):
         yield Scene("planting", ("plant", *words), WITH_FILES, wanted=f"fault {fault}")
 
 
 def scripts():
     yield Scene("scripts", ("script", *SCRIPT), WITH_FILES, judged="script")
     yield Scene("scripts", ("run",), WITH_FILES, judged="run")
+    yield Scene("images", ("load",), FIRST_IMAGE)
     yield Scene("images", ("load",), IMAGE)
     yield Scene("images", ("bad_shape",), IMAGE, free=True, wanted="bad shape")
     yield Scene("command lines", ("read_words", "betr", *SMALL, "--load", "x", "--flushers", "2", "script"), ())

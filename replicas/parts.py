@@ -8,7 +8,7 @@ import json
 
 from log import Log
 
-# The lines with a path behind the first word; those with two paths. Other lines are for every shard.
+# The lines with a path behind the first word; those with two paths. Other lines are for every shard: those on snapshots, and `at M`.
 ONE_PATH = {b"mkdir", b"create", b"write", b"truncate", b"unlink", b"rmdir", b"rmtree", b"read", b"stat", b"readdir"}
 TWO_PATHS = {b"rename"}
 

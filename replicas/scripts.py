@@ -1,11 +1,11 @@
-"""Scripts that look random, of all eleven calls and of snapshots, from a seed."""
+"""Scripts that look random, of all eleven calls, of moments and of snapshots, from a seed."""
 import random
 
 TOPS, BELOW, FILES = 8, 6, 40
 # How often each kind of line comes, of a hundred and some.
 WEIGHTS = {
     "mkdir": 9, "create": 22, "write": 25, "read": 8, "stat": 8, "readdir": 2, "truncate": 6,
-    "rename": 7, "unlink": 9, "rmdir": 3, "rmtree": 1, "look": 1,
+    "rename": 7, "unlink": 9, "rmdir": 3, "rmtree": 1, "look": 1, "at": 6,
 }  # fmt: skip
 # A snapshot stands for so many lines, and then none of this script for as many.
 STANDING = 400
@@ -42,6 +42,8 @@ class Script:
                 return f"truncate {self.file()} {chance.randrange(10_000)}"
             case "rename":
                 return f"rename {self.path()} {self.path()}"
+            case "at":
+                return f"at {chance.randrange(1_000_000)}"
             case "look":
                 return f"stat@{self.name} {self.path()}"
             case _:

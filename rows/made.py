@@ -46,9 +46,26 @@ class Told:
         self.last = b""
         self.length: int | None = None
         self.next = 0
+        self.tells_moments = False
+
+    def takes_root(self, line: bytes) -> bool:
+        match line.split(b" "):
+            case [b"d", b"/"]:
+                return True
+            case [b"D", b"/", moment]:
+                self.tells_moments = True
+                return number(moment) is not None
+        return False
 
     def takes(self, line: bytes) -> bool:
-        match line.split(b" "):
+        words = line.split(b" ")
+        if self.tells_moments and words[0] in (b"D", b"F"):
+            if number(words.pop()) is None:
+                return False
+            words[0] = words[0].lower()
+        elif self.tells_moments and words[0] != b"b":
+            return False
+        match words:
             case [b"d", path]:
                 return self.takes_entry(path, None)
             case [b"f", path, length]:
@@ -86,7 +103,7 @@ def bad_line(text: bytes) -> int | None:
     *lines, rest = text.split(b"\n")
     told = Told()
     for place, line in enumerate(lines, 1):
-        if not (line == b"d /" if place == 1 else told.takes(line)):
+        if not (told.takes_root(line) if place == 1 else told.takes(line)):
             return place
     return len(lines) + 1 if rest or not lines else None
 
@@ -95,6 +112,7 @@ def bad_line(text: bytes) -> int | None:
 
 NAMES = sorted([b"%0A", b"%20", b"!", b"%25", b"-", b".a", b"A", b"a", b"a%20b", b"a!", b"ab", b"%FF"], key=name_of)
 LENGTHS = [0, 1, 5, 4095, 4096, 4097, 9000, LONGEST]
+MOMENTS = [0, 1, 5, 10, 2**63, 2**64 - 1]
 
 
 def blocks_of(draw: random.Random, length: int) -> Iterator[bytes]:
@@ -123,19 +141,33 @@ def goes_on(draw: random.Random, names: list[int], is_directory: bool) -> bool:
     return False
 
 
+def entry_line(draw: random.Random, tells_moments: bool, letter: bytes, *words: bytes) -> bytes:
+    """The line of an entry: in version 2 its letter is an upper-case one, and a moment ends it."""
+    if tells_moments:
+        letter, words = letter.upper(), (*words, b"%d" % draw.choice(MOMENTS))
+    return b" ".join((letter, *words)) + b"\n"
+
+
+def printed(text: bytes) -> bytes:
+    """An image as it is printed: in version 2, where version 1 has the moment 0."""
+    told = re.sub(rb"^d (.*)$", rb"D \1 0", text, flags=re.M)
+    return re.sub(rb"^f (.*)$", rb"F \1 0", told, flags=re.M)
+
+
 def image_of(draw: random.Random) -> bytes:
     """An image in the order of its keys: each entry stands in the directory before it, or behind that or one above it."""
-    lines, names, is_directory = [b"d /\n"], [], True
+    told = draw.randrange(2) == 1
+    lines, names, is_directory = [entry_line(draw, told, b"d", b"/")], [], True
     for _ in range(24):
         if not goes_on(draw, names, is_directory):
             break
         path = b"".join(b"/" + NAMES[it] for it in names)
         is_directory = draw.randrange(2) == 0
         if is_directory:
-            lines.append(b"d %s\n" % path)
+            lines.append(entry_line(draw, told, b"d", path))
         else:
             length = draw.choice(LENGTHS)
-            lines += [b"f %s %d\n" % (path, length), *blocks_of(draw, length)]
+            lines += [entry_line(draw, told, b"f", path, b"%d" % length), *blocks_of(draw, length)]
     return b"".join(lines)
 
 
@@ -144,7 +176,7 @@ def image_of(draw: random.Random) -> bytes:
 Damage = Callable[[random.Random, bytes, int], bytes]
 
 
-def line_from(text: bytes, place: int, kinds: bytes = b"dfb") -> tuple[int, int]:
+def line_from(text: bytes, place: int, kinds: bytes = b"dfbDF") -> tuple[int, int]:
     """The first line of these kinds that ends behind the place, with its line feed; nothing at the end where there is none."""
     start = text.rfind(b"\n", 0, place) + 1
     while start < len(text):
@@ -164,7 +196,7 @@ def swaps(text: bytes, first: tuple[int, int], second: tuple[int, int]) -> bytes
     return text[: first[0]] + text[slice(*second)] + text[slice(*first)] + text[second[1] :]
 
 
-def of_lines(change: Callable[[random.Random, bytes, int, int], bytes], kinds: bytes = b"dfb") -> Damage:
+def of_lines(change: Callable[[random.Random, bytes, int, int], bytes], kinds: bytes = b"dfbDF") -> Damage:
     """Damage of the line at a place, of these kinds."""
     return lambda draw, text, place: change(draw, text, *line_from(text, place, kinds))
 
@@ -213,7 +245,7 @@ DAMAGES: dict[str, tuple[Damage, int]] = {
     "a space more": (lambda draw, text, at: text[:at] + b" " + text[at:], IMAGES),
     "a byte by its number": (percent_form, 1),
     "a slash more": (lambda draw, text, at: (lambda to: text[:to] + b"/" + text[to:])(found_from(text, at, b"/")), IMAGES),
-    "another kind": (of_lines(lambda draw, text, a, b: text[:a] + draw.choice([b"d", b"f", b"b"]) + text[a + 1 :]), 1),
+    "another kind": (of_lines(lambda draw, text, a, b: text[:a] + draw.choice([b"d", b"f", b"b", b"D", b"F"]) + text[a + 1 :]), 1),
     "a block past the end": (of_lines(lambda draw, text, a, b: text[: a + 2] + b"9" + text[a + 2 :] if a < b else text, b"b"), 1),
     "a block before another": (of_lines(lambda draw, text, a, b: swaps(text, (a, b), line_from(text, b)), b"b"), 1),
     "zeros at a block's end": (of_lines(lambda draw, text, a, b: text[: b - 1] + b"00" + text[b - 1 :] if a < b else text, b"b"), 1),
@@ -238,7 +270,7 @@ def damaged() -> Iterator[tuple[str, str, bytes]]:
 
 # ---- scripts of no sense
 
-COMMANDS = "mkdir create write truncate unlink rmdir rmtree rename read stat readdir read@s stat@s readdir@s snapshot drop restore Mkdir stat@ #".split()
+COMMANDS = "at mkdir create write truncate unlink rmdir rmtree rename read stat readdir read@s stat@s readdir@s snapshot drop restore Mkdir stat@ #".split()
 WORDS = [*"/ /a /b /a/b /a/%62 /% /a/.. // a s a@b 0 1 4096 00 1099511627775 18446744073709551615 18446744073709551616 aa 0a0B -".split(), ""]
 
 

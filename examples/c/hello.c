@@ -19,11 +19,11 @@ static const uint8_t *bytes_of(const char *text) { return (const uint8_t *)text;
 static void say(const char *what, uint8_t number) { printf("%s: %d\n", what, number); }
 
 static uint8_t make(struct doorvervain *fs, const char *path) {
-    return doorvervain_create(fs, bytes_of(path), strlen(path));
+    return doorvervain_create(fs, bytes_of(path), strlen(path), 0);
 }
 
 static uint8_t put(struct doorvervain *fs, const char *path, uint64_t offset, const char *text) {
-    return doorvervain_write(fs, bytes_of(path), strlen(path), offset, bytes_of(text), strlen(text));
+    return doorvervain_write(fs, bytes_of(path), strlen(path), offset, bytes_of(text), strlen(text), 0);
 }
 
 // Whether all bytes of the buffer from here on are guards.
@@ -64,27 +64,28 @@ static void say_entries(const char *what, struct doorvervain *fs, const char *pa
 
 static void say_stat(const char *what, struct doorvervain *fs, const char *path) {
     uint8_t kind = 99;
-    uint64_t size = 99;
-    uint8_t number = doorvervain_stat(fs, bytes_of(path), strlen(path), &kind, &size);
-    printf("%s: %d, kind %d, %llu bytes\n", what, number, kind, (unsigned long long)size);
+    uint64_t size = 99, modified = 99;
+    uint8_t number = doorvervain_stat(fs, bytes_of(path), strlen(path), &kind, &size, &modified);
+    printf("%s: %d, kind %d, %llu bytes, moment %llu\n", what, number, kind, (unsigned long long)size,
+        (unsigned long long)modified);
 }
 
 // The eleven calls, on one volume while the other stays empty.
 static void calls(struct doorvervain *one, struct doorvervain *other) {
-    say("mkdir /d", doorvervain_mkdir(one, bytes_of("/d"), 2));
-    say("mkdir /d again", doorvervain_mkdir(one, bytes_of("/d"), 2));
+    say("mkdir /d", doorvervain_mkdir(one, bytes_of("/d"), 2, 0));
+    say("mkdir /d again", doorvervain_mkdir(one, bytes_of("/d"), 2, 0));
     say("create /d/x", make(one, "/d/x"));
     say("write /d/x", put(one, "/d/x", 0, "hello, world"));
     say_stat("stat /d/x", one, "/d/x");
     say_stat("stat /d/x of the other", other, "/d/x");
     say_entries("readdir / of the other", other, "/", ROOM);
-    say("rename /d/x /y", doorvervain_rename(one, bytes_of("/d/x"), 4, bytes_of("/y"), 2));
-    say("truncate /y", doorvervain_truncate(one, bytes_of("/y"), 2, 5));
+    say("rename /d/x /y", doorvervain_rename(one, bytes_of("/d/x"), 4, bytes_of("/y"), 2, 7));
+    say("truncate /y", doorvervain_truncate(one, bytes_of("/y"), 2, 5, 9));
     say_read("read /y", one, "/y", 0, ROOM);
-    say("unlink /d", doorvervain_unlink(one, bytes_of("/d"), 2));
-    say("unlink /y", doorvervain_unlink(one, bytes_of("/y"), 2));
-    say("rmdir /d", doorvervain_rmdir(one, bytes_of("/d"), 2));
-    say("rmtree /d", doorvervain_rmtree(one, bytes_of("/d"), 2));
+    say("unlink /d", doorvervain_unlink(one, bytes_of("/d"), 2, 0));
+    say("unlink /y", doorvervain_unlink(one, bytes_of("/y"), 2, 0));
+    say("rmdir /d", doorvervain_rmdir(one, bytes_of("/d"), 2, 0));
+    say("rmtree /d", doorvervain_rmtree(one, bytes_of("/d"), 2, 0));
     say_entries("readdir /", one, "/", ROOM);
 }
 
@@ -107,15 +108,15 @@ static void refusals(struct doorvervain *one) {
     struct doorvervain closed = {0};
     struct doorvervain_frozen thawed = {0};
     size_t got = 99;
-    say("a null path", doorvervain_mkdir(one, NULL, 3));
-    say("a null path of no bytes", doorvervain_mkdir(one, NULL, 0));
+    say("a null path", doorvervain_mkdir(one, NULL, 3, 0));
+    say("a null path of no bytes", doorvervain_mkdir(one, NULL, 0, 0));
     say("a null buffer", doorvervain_read(one, bytes_of("/long"), 5, 0, NULL, 9, &got));
     say("a null buffer without room", doorvervain_read(one, bytes_of("/long"), 5, 0, NULL, 0, &got));
     say("a null count", doorvervain_read(one, bytes_of("/long"), 5, 0, buffer, 9, NULL));
-    say("no volume", doorvervain_mkdir(NULL, bytes_of("/d"), 2));
-    say("a closed volume", doorvervain_mkdir(&closed, bytes_of("/d"), 2));
+    say("no volume", doorvervain_mkdir(NULL, bytes_of("/d"), 2, 0));
+    say("a closed volume", doorvervain_mkdir(&closed, bytes_of("/d"), 2, 0));
     say("a thawed tree", doorvervain_frozen_read(&thawed, bytes_of("/long"), 5, 0, buffer, 9, &got));
-    say("no path", doorvervain_mkdir(one, bytes_of("d"), 1));
+    say("no path", doorvervain_mkdir(one, bytes_of("d"), 1, 0));
     say("no name", doorvervain_snapshot(one, bytes_of("a/b"), 3));
     say("no shape", doorvervain_open(&closed, 1, 256, 64));
     say("as errno", (uint8_t)(doorvervain_errno(DOORVERVAIN_NULL) == EFAULT && doorvervain_errno(11) == ENOMEM));
@@ -130,7 +131,7 @@ static void moments(struct doorvervain *one, struct doorvervain *other) {
     say("snapshot s again", doorvervain_snapshot(one, bytes_of("s"), 1));
     say("write", put(one, "/long", 0, "THE FIRST"));
     say("freeze", doorvervain_freeze(one, &live));
-    say("unlink", doorvervain_unlink(one, bytes_of("/long"), 5));
+    say("unlink", doorvervain_unlink(one, bytes_of("/long"), 5, 0));
     say("frozen s", doorvervain_frozen(one, bytes_of("s"), 1, &kept));
     say("frozen s of the other", doorvervain_frozen(other, bytes_of("s"), 1, &(struct doorvervain_frozen){0}));
     say_frozen_read("read of s", &kept, "/long");
@@ -204,7 +205,7 @@ static void refused_memory(struct doorvervain *one) {
 
 // An image is loaded, and the volume then has that image. A text that is none is told by its line.
 static void images(void) {
-    static const char text[] = "d /\nd /a\nf /a/f 3\nb 0 616263\n";
+    static const char text[] = "D / 5\nD /a 9\nF /a/f 3 7\nb 0 616263\n";
     struct doorvervain fs = {0};
     struct doorvervain_frozen tree = {0};
     uint64_t line = 0;
@@ -234,7 +235,7 @@ int main(void) {
     many(&other);
     doorvervain_close(&one);
     say_read("read of the other, alone", &other, "/long", 0, ROOM);
-    say("mkdir in one that is closed", doorvervain_mkdir(&one, bytes_of("/d"), 2));
+    say("mkdir in one that is closed", doorvervain_mkdir(&one, bytes_of("/d"), 2, 0));
     doorvervain_close(&other);
     doorvervain_close(&other);
     return 0;

@@ -13,9 +13,9 @@ struct Handle {
 unsafe extern "C" {
     fn doorvervain_raw_open(fanout: u16, pending: u16, leaf: u16, out: &mut Handle) -> u8;
     fn doorvervain_raw_close(fs: Handle);
-    fn doorvervain_raw_mkdir(fs: &mut Handle, path: *const u8, length: usize) -> u8;
-    fn doorvervain_raw_create(fs: &mut Handle, path: *const u8, length: usize) -> u8;
-    fn doorvervain_raw_rmtree(fs: &mut Handle, path: *const u8, length: usize) -> u8;
+    fn doorvervain_raw_mkdir(fs: &mut Handle, path: *const u8, length: usize, at: u64) -> u8;
+    fn doorvervain_raw_create(fs: &mut Handle, path: *const u8, length: usize, at: u64) -> u8;
+    fn doorvervain_raw_rmtree(fs: &mut Handle, path: *const u8, length: usize, at: u64) -> u8;
     fn doorvervain_raw_write(
         fs: &mut Handle,
         path: *const u8,
@@ -23,6 +23,7 @@ unsafe extern "C" {
         offset: u64,
         bytes: *const u8,
         count: usize,
+        moment: u64,
     ) -> u8;
     fn doorvervain_raw_read(
         fs: &mut Handle,
@@ -73,20 +74,20 @@ impl Volume {
     }
 
     fn mkdir(&mut self, path: &str) -> Result<(), Refusal> {
-        done(unsafe { doorvervain_raw_mkdir(&mut self.0, path.as_ptr(), path.len()) })
+        done(unsafe { doorvervain_raw_mkdir(&mut self.0, path.as_ptr(), path.len(), 0) })
     }
 
     fn create(&mut self, path: &str) -> Result<(), Refusal> {
-        done(unsafe { doorvervain_raw_create(&mut self.0, path.as_ptr(), path.len()) })
+        done(unsafe { doorvervain_raw_create(&mut self.0, path.as_ptr(), path.len(), 0) })
     }
 
     fn rmtree(&mut self, path: &str) -> Result<(), Refusal> {
-        done(unsafe { doorvervain_raw_rmtree(&mut self.0, path.as_ptr(), path.len()) })
+        done(unsafe { doorvervain_raw_rmtree(&mut self.0, path.as_ptr(), path.len(), 0) })
     }
 
     fn write(&mut self, path: &str, offset: u64, bytes: &[u8]) -> Result<(), Refusal> {
         let (at, count) = (bytes.as_ptr(), bytes.len());
-        done(unsafe { doorvervain_raw_write(&mut self.0, path.as_ptr(), path.len(), offset, at, count) })
+        done(unsafe { doorvervain_raw_write(&mut self.0, path.as_ptr(), path.len(), offset, at, count, 0) })
     }
 
     /// The bytes of a file from the offset on, at most so many.

@@ -23,9 +23,12 @@ static const char *file(int number) {
     return path;
 }
 
-static int create(int i) { return volume.way->change(volume.self, CREATE, file(i)); }
+// Each call has a moment of its own, as the mount's have.
+static uint64_t moment(int i) { return (uint64_t)i + 1; }
 
-static int take_away(int i) { return volume.way->change(volume.self, UNLINK, file(i)); }
+static int create(int i) { return volume.way->change(volume.self, CREATE, file(i), moment(i)); }
+
+static int take_away(int i) { return volume.way->change(volume.self, UNLINK, file(i), moment(i)); }
 
 static int look(int i) {
     struct standing standing;
@@ -34,7 +37,7 @@ static int look(int i) {
 
 static int write_small(int i) {
     size_t done;
-    return volume.way->write(volume.self, file(i), 0, bytes, SMALL, &done);
+    return volume.way->write(volume.self, file(i), 0, bytes, SMALL, moment(i), &done);
 }
 
 static int read_small(int i) {
@@ -45,7 +48,7 @@ static int read_small(int i) {
 
 static int write_large(int i) {
     size_t done;
-    return volume.way->write(volume.self, "/large", (uint64_t)i * LARGE, bytes, LARGE, &done);
+    return volume.way->write(volume.self, "/large", (uint64_t)i * LARGE, bytes, LARGE, moment(i), &done);
 }
 
 static int read_large(int i) {
@@ -68,8 +71,8 @@ int main(int count, char **words) {
     struct making making = {.betr = count > 1 ? words[1] : 0, .steps = 4};
     for (int i = 0; i < LARGE; i++) bytes[i] = (char)(i * 7 + i / 4096);
     if (making.betr ? open_pipe(&making, &volume) : open_library(&making, &volume)) return 1;
-    if (volume.way->change(volume.self, MAKE_DIRECTORY, "/folder")) return 1;
-    if (volume.way->change(volume.self, CREATE, "/large")) return 1;
+    if (volume.way->change(volume.self, MAKE_DIRECTORY, "/folder", 0)) return 1;
+    if (volume.way->change(volume.self, CREATE, "/large", 0)) return 1;
     time_calls("create", create, MANY);
     time_calls("stat", look, MANY);
     time_calls("write 4 KiB", write_small, MANY);

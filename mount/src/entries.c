@@ -8,10 +8,22 @@ static struct entry **slots;
 static size_t slot_count, entry_count;
 static struct timespec began;
 
+enum { NANOSECONDS = 1000000000 };
+
 struct timespec now(void) {
     struct timespec time;
     clock_gettime(CLOCK_REALTIME, &time);
     return time;
+}
+
+uint64_t moment_now(void) {
+    struct timespec time = now();
+    return (uint64_t)time.tv_sec * NANOSECONDS + (uint64_t)time.tv_nsec;
+}
+
+struct timespec time_of(uint64_t moment) {
+    if (!moment) return began;
+    return (struct timespec){.tv_sec = (time_t)(moment / NANOSECONDS), .tv_nsec = (long)(moment % NANOSECONDS)};
 }
 
 static size_t slot_of(const struct entry *parent, const char *name) {
@@ -65,12 +77,8 @@ static void link_out(struct entry *entry) {
 }
 
 static struct attributes default_attributes(bool is_directory) {
-    return (struct attributes){.mode = is_directory ? 0755 : 0644,
-                               .user = getuid(),
-                               .group = getgid(),
-                               .access = began,
-                               .modify = began,
-                               .change = began};
+    return (struct attributes){
+        .mode = is_directory ? 0755 : 0644, .user = getuid(), .group = getgid(), .access = began};
 }
 
 static struct entry *new_entry(char *name, bool is_directory) {
@@ -257,5 +265,3 @@ int attribute_remove(struct entry *entry, const char *name) {
     entry->attributes.change = now();
     return 0;
 }
-
-void entry_touch(struct entry *entry) { entry->attributes.modify = entry->attributes.change = now(); }

@@ -1,5 +1,6 @@
 // The names that the mount has seen, as a tree, and beside each name what the proved file system does not keep: mode,
-// owner, times and extended attributes. An entry stands for one inode of the kernel. No proof covers any of this.
+// owner, times but for the moment of last change, and extended attributes. An entry stands for one inode of the kernel.
+// No proof covers any of this.
 #ifndef ENTRIES_H
 #define ENTRIES_H
 #include "way.h"
@@ -29,7 +30,12 @@ struct attributes {
     mode_t mode; // the lower 12 bits
     uid_t user;
     gid_t group;
-    struct timespec access, modify, change;
+    struct timespec access;
+    struct timespec change; // of the name or of what stands here; a change of the tree may be later
+    // A time of modification that was set by hand. It is told for as long as the tree has the moment at which it was set.
+    bool has_modify;
+    uint64_t modify_at;
+    struct timespec modify;
     struct attribute *extended;
 };
 
@@ -81,7 +87,8 @@ struct attribute *attribute_find(const struct entry *entry, const char *name);
 int attribute_set(struct entry *entry, const char *name, const char *value, size_t length);
 int attribute_remove(struct entry *entry, const char *name);
 
+// The moment that is now, and a moment as a time. Moment 0, which was never handed in, is the time of the mount.
+uint64_t moment_now(void);
+struct timespec time_of(uint64_t moment);
 struct timespec now(void);
-// The bytes or names of an entry changed.
-void entry_touch(struct entry *entry);
 #endif

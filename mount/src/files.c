@@ -23,8 +23,15 @@ static int stand(struct mount *mount, const struct spot *spot, struct standing *
     return mount->volume.way->stat(mount->volume.self, (struct place){spot->snapshot, spot->path}, out);
 }
 
+static struct timespec later(struct timespec one, struct timespec other) {
+    bool is_later = other.tv_sec > one.tv_sec || (other.tv_sec == one.tv_sec && other.tv_nsec > one.tv_nsec);
+    return is_later ? other : one;
+}
+
 static void fill_stat(const struct entry *entry, struct standing standing, struct stat *out) {
     const struct attributes *attributes = &entry->attributes;
+    struct timespec modified = time_of(standing.modified);
+    bool is_set = attributes->has_modify && attributes->modify_at == standing.modified;
     bool is_gone = !entry->parent && entry->role != LIVE_ROOT;
     *out = (struct stat){
         .st_ino = (ino_t)(uintptr_t)entry,
@@ -36,8 +43,8 @@ static void fill_stat(const struct entry *entry, struct standing standing, struc
         .st_blksize = 4096,
         .st_blocks = (blkcnt_t)((standing.length + 511) / 512),
         .st_atim = attributes->access,
-        .st_mtim = attributes->modify,
-        .st_ctim = attributes->change,
+        .st_mtim = is_set ? attributes->modify : modified,
+        .st_ctim = later(modified, attributes->change),
     };
 }
 
@@ -68,38 +75,52 @@ int files_find(struct mount *mount, struct entry *parent, const char *name, stru
     return 0;
 }
 
-int files_stat(struct mount *mount, struct entry *entry, struct stat *out) {
+// What stands where an entry lies. The tree has no folder of snapshots, and no directory that is gone.
+static int stand_of(struct mount *mount, const struct entry *entry, struct standing *out) {
     struct spot spot;
-    struct standing standing = {.is_directory = entry->is_directory};
     bool is_gone_directory = entry->is_directory && !entry->parent && entry->role != LIVE_ROOT;
-    if (entry->role != SNAPSHOT_FOLDER && !is_gone_directory) {
-        int fault = entry_spot(entry, 0, &spot);
-        if (!fault) fault = stand(mount, &spot, &standing);
-        if (fault) return fault;
-    }
-    fill_stat(entry, standing, out);
-    return 0;
+    *out = (struct standing){.is_directory = entry->is_directory};
+    if (entry->role == SNAPSHOT_FOLDER || is_gone_directory) return 0;
+    int fault = entry_spot(entry, 0, &spot);
+    return fault ? fault : stand(mount, &spot, out);
 }
 
-static int set_length(struct mount *mount, struct entry *entry, uint64_t length) {
+int files_stat(struct mount *mount, struct entry *entry, struct stat *out) {
+    struct standing standing;
+    int fault = stand_of(mount, entry, &standing);
+    if (!fault) fill_stat(entry, standing, out);
+    return fault;
+}
+
+static int set_length(struct mount *mount, struct entry *entry, uint64_t length, uint64_t at) {
     struct spot spot;
     int fault = entry_spot(entry, 0, &spot);
-    if (!fault) fault = mount->volume.way->truncate(mount->volume.self, spot.path, length);
-    if (!fault) entry_touch(entry);
-    return fault;
+    return fault ? fault : mount->volume.way->truncate(mount->volume.self, spot.path, length, at);
+}
+
+// No call of the tree sets a moment alone, so the time stands beside it.
+static int set_modify(struct mount *mount, struct entry *entry, struct timespec time) {
+    struct attributes *attributes = &entry->attributes;
+    struct standing standing;
+    int fault = stand_of(mount, entry, &standing);
+    if (fault) return fault;
+    attributes->has_modify = true;
+    attributes->modify_at = standing.modified;
+    attributes->modify = time;
+    return 0;
 }
 
 int files_set(struct mount *mount, struct entry *entry, const struct setting *setting) {
     struct attributes *attributes = &entry->attributes;
     int fault = files_may_change(entry);
-    if (!fault && setting->length) fault = set_length(mount, entry, *setting->length);
+    if (!fault && setting->length) fault = set_length(mount, entry, *setting->length, setting->at);
+    if (!fault && setting->modify) fault = set_modify(mount, entry, *setting->modify);
     if (fault) return fault;
     if (setting->mode) attributes->mode = *setting->mode & 07777;
     if (setting->user) attributes->user = *setting->user;
     if (setting->group) attributes->group = *setting->group;
     if (setting->access) attributes->access = *setting->access;
-    if (setting->modify) attributes->modify = *setting->modify;
-    attributes->change = now();
+    attributes->change = time_of(setting->at);
     return 0;
 }
 
@@ -112,45 +133,54 @@ static int may_change_name(const struct entry *parent, const char *name) {
 int files_make(struct mount *mount, struct entry *parent, const char *name, const struct attributes *attributes,
                bool is_directory, struct found *out) {
     const struct volume *volume = &mount->volume;
+    uint64_t at = moment_now();
     struct spot spot;
     if (parent->role == SNAPSHOT_FOLDER) return is_directory ? snapshot_take(mount, name, out) : EPERM;
     int fault = may_change_name(parent, name);
     if (!fault) fault = entry_spot(parent, name, &spot);
-    if (!fault) fault = volume->way->change(volume->self, is_directory ? MAKE_DIRECTORY : CREATE, spot.path);
+    if (!fault) fault = volume->way->change(volume->self, is_directory ? MAKE_DIRECTORY : CREATE, spot.path, at);
     if (fault) return fault;
     out->entry = entry_find_or_add(parent, name, is_directory);
     if (!out->entry) {
-        volume->way->change(volume->self, is_directory ? REMOVE_DIRECTORY : UNLINK, spot.path);
+        volume->way->change(volume->self, is_directory ? REMOVE_DIRECTORY : UNLINK, spot.path, at);
         return ENOMEM;
     }
     out->entry->attributes = *attributes;
-    entry_touch(parent);
-    fill_stat(out->entry, (struct standing){.is_directory = is_directory}, &out->stat);
+    out->entry->attributes.access = time_of(at);
+    fill_stat(out->entry, (struct standing){.is_directory = is_directory, .modified = at}, &out->stat);
     return 0;
 }
 
+int files_own_folder(struct mount *mount, enum change what) {
+    const struct volume *volume = &mount->volume;
+    struct standing root;
+    int fault = volume->way->stat(volume->self, (struct place){0, "/"}, &root);
+    return fault ? fault : volume->way->change(volume->self, what, "/" UNLINKED, root.modified);
+}
+
 // Moves an open file whose name goes to where no listing shows it. It lives there until it is closed.
-static int set_aside(struct mount *mount, struct entry *entry, const struct spot *spot) {
+static int set_aside(struct mount *mount, struct entry *entry, const struct spot *spot, uint64_t at) {
     const struct volume *volume = &mount->volume;
     char text[sizeof UNLINKED + 32];
     char *name = 0;
-    int fault = volume->way->change(volume->self, MAKE_DIRECTORY, "/" UNLINKED);
+    int fault = files_own_folder(mount, MAKE_DIRECTORY);
     if (fault && fault != EEXIST) return fault;
     if (asprintf(&name, "%llu", (unsigned long long)++mount->unlinked) < 0) return ENOMEM;
     snprintf(text, sizeof text, "/" UNLINKED "/%s", name);
-    fault = volume->way->rename(volume->self, spot->path, text);
+    fault = volume->way->rename(volume->self, spot->path, text, at);
     if (fault) {
         free(name);
         return fault;
     }
     entry_move(entry, entry_find(mount->root, UNLINKED), name);
     entry->is_unlinked = true;
-    entry->attributes.change = now();
+    entry->attributes.change = time_of(at);
     return 0;
 }
 
 int files_remove(struct mount *mount, struct entry *parent, const char *name, bool is_directory) {
     const struct volume *volume = &mount->volume;
+    uint64_t at = moment_now();
     struct spot spot;
     if (parent->role == SNAPSHOT_FOLDER) return is_directory ? snapshot_drop(mount, name) : EPERM;
     int fault = may_change_name(parent, name);
@@ -158,31 +188,34 @@ int files_remove(struct mount *mount, struct entry *parent, const char *name, bo
     if (fault) return fault;
     struct entry *entry = entry_find(parent, name);
     bool is_open = !is_directory && entry && entry->opens;
-    if (is_open) fault = set_aside(mount, entry, &spot);
-    else fault = volume->way->change(volume->self, is_directory ? REMOVE_DIRECTORY : UNLINK, spot.path);
+    if (is_open) fault = set_aside(mount, entry, &spot, at);
+    else fault = volume->way->change(volume->self, is_directory ? REMOVE_DIRECTORY : UNLINK, spot.path, at);
     if (fault) return fault;
     if (entry && !is_open) {
-        entry->attributes.change = now();
+        entry->attributes.change = time_of(at);
         entry_take_out(entry);
     }
-    entry_touch(parent);
     return 0;
 }
 
-// An open file that another one replaces is set aside first. Where the rename is refused then, it gets its name back.
-static int rename_over_open(struct mount *mount, const struct spot *from, const struct spot *to, struct entry *target) {
+// An open file that another one replaces is set aside first. Where the rename is refused then, it gets its name back,
+// and its directory the moment that it had.
+static int rename_over_open(struct mount *mount, const struct spot *from, const struct spot *to, struct entry *target,
+                            uint64_t at) {
     const struct volume *volume = &mount->volume;
     struct entry *parent = target->parent;
+    struct standing before;
     struct spot aside;
     char *name = strdup(target->name);
-    int fault = name ? set_aside(mount, target, to) : ENOMEM;
-    if (!fault) fault = volume->way->rename(volume->self, from->path, to->path);
+    int fault = name ? stand_of(mount, parent, &before) : ENOMEM;
+    if (!fault) fault = set_aside(mount, target, to, at);
+    if (!fault) fault = volume->way->rename(volume->self, from->path, to->path, at);
     if (!fault || !target->is_unlinked) {
         free(name);
         return fault;
     }
     entry_spot(target, 0, &aside);
-    if (volume->way->rename(volume->self, aside.path, to->path)) {
+    if (volume->way->rename(volume->self, aside.path, to->path, before.modified)) {
         free(name);
         return fault;
     }
@@ -192,18 +225,19 @@ static int rename_over_open(struct mount *mount, const struct spot *from, const 
 }
 
 // The entries follow a rename that was done.
-static void follow_rename(struct entry *entry, struct entry *target, struct entry *new_parent, char *name) {
+static void follow_rename(struct entry *entry, struct entry *target, struct entry *new_parent, char *name,
+                          uint64_t at) {
     if (target && target->parent && !target->is_unlinked) entry_take_out(target);
     entry_move(entry, new_parent, name);
-    entry->attributes.change = now();
+    entry->attributes.change = time_of(at);
 }
 
 static int rename_spots(struct mount *mount, const struct spot *from, const struct spot *to, struct entry *entry,
-                        struct entry *target) {
+                        struct entry *target, uint64_t at) {
     const struct volume *volume = &mount->volume;
     bool covers_open = target && target != entry && target->opens && !target->is_directory && !entry->is_directory;
-    if (covers_open) return rename_over_open(mount, from, to, target);
-    return volume->way->rename(volume->self, from->path, to->path);
+    if (covers_open) return rename_over_open(mount, from, to, target, at);
+    return volume->way->rename(volume->self, from->path, to->path, at);
 }
 
 static int may_rename(struct mount *mount, const struct entry *parent, const char *name, const struct entry *new_parent,
@@ -219,6 +253,7 @@ static int may_rename(struct mount *mount, const struct entry *parent, const cha
 
 int files_rename(struct mount *mount, struct entry *parent, const char *name, struct entry *new_parent,
                  const char *new_name, unsigned flags) {
+    uint64_t at = moment_now();
     struct spot from, to;
     struct found found;
     int fault = may_rename(mount, parent, name, new_parent, new_name, flags, &to);
@@ -228,21 +263,19 @@ int files_rename(struct mount *mount, struct entry *parent, const char *name, st
     struct entry *target = entry_find(new_parent, new_name);
     if (target == found.entry) return 0;
     char *copy = strdup(new_name);
-    fault = copy ? rename_spots(mount, &from, &to, found.entry, target) : ENOMEM;
+    fault = copy ? rename_spots(mount, &from, &to, found.entry, target, at) : ENOMEM;
     if (fault) {
         free(copy);
         return fault;
     }
-    follow_rename(found.entry, target, new_parent, copy);
-    entry_touch(parent);
-    entry_touch(new_parent);
+    follow_rename(found.entry, target, new_parent, copy, at);
     return 0;
 }
 
 int files_open(struct mount *mount, struct entry *entry, int flags) {
     bool writes = (flags & O_ACCMODE) != O_RDONLY;
     int fault = writes ? files_may_change(entry) : 0;
-    if (!fault && writes && flags & O_TRUNC) fault = set_length(mount, entry, 0);
+    if (!fault && writes && flags & O_TRUNC) fault = set_length(mount, entry, 0, moment_now());
     if (!fault) entry->opens++;
     return fault;
 }
@@ -252,7 +285,7 @@ int files_close(struct mount *mount, struct entry *entry) {
     struct spot spot;
     int fault = 0;
     if (entry->opens == 1 && entry->is_unlinked && !entry_spot(entry, 0, &spot)) {
-        fault = volume->way->change(volume->self, UNLINK, spot.path);
+        fault = volume->way->change(volume->self, UNLINK, spot.path, moment_now());
         entry_take_out(entry);
     }
     entry_close(entry);
@@ -280,8 +313,8 @@ int files_write(struct mount *mount, struct entry *entry, uint64_t offset, const
     *done = 0;
     int fault = entry_spot(entry, 0, &spot);
     if (!fault && spot.snapshot) fault = EROFS;
-    if (!fault) fault = mount->volume.way->write(mount->volume.self, spot.path, offset, bytes, count, done);
-    if (*done) entry_touch(entry);
+    if (!fault)
+        fault = mount->volume.way->write(mount->volume.self, spot.path, offset, bytes, count, moment_now(), done);
     return *done ? 0 : fault;
 }
 
@@ -289,7 +322,8 @@ int files_allocate(struct mount *mount, struct entry *entry, uint64_t offset, ui
     struct stat stat;
     int fault = files_may_change(entry);
     if (!fault) fault = files_stat(mount, entry, &stat);
-    if (!fault && (uint64_t)stat.st_size < offset + count) fault = set_length(mount, entry, offset + count);
+    if (!fault && (uint64_t)stat.st_size < offset + count)
+        fault = set_length(mount, entry, offset + count, moment_now());
     return fault;
 }
 

@@ -24,6 +24,7 @@ struct setting {
     const gid_t *group;
     const uint64_t *length;
     const struct timespec *access, *modify;
+    uint64_t at; // the moment that is now
 };
 
 int files_start(struct mount *mount);
@@ -53,6 +54,9 @@ int files_list(struct mount *mount, struct entry *entry, struct bytes *out);
 int files_find_extended(const struct entry *entry, const char *name, const struct attribute **out);
 int files_set_extended(struct entry *entry, const char *name, const char *value, size_t length, int flags);
 int files_remove_extended(struct entry *entry, const char *name);
+
+// The folder of files that are unlinked and open comes or goes. The root keeps its moment.
+int files_own_folder(struct mount *mount, enum change what);
 
 // Whether an entry may be changed: 0 or EROFS.
 int files_may_change(const struct entry *entry);

@@ -1,7 +1,8 @@
 // The file system as the static library in this very process.
 #include "doorvervain.h"
-#include "image.h"
+#include "way.h"
 #include <errno.h>
+#include <inttypes.h>
 #include <stdio.h>
 #include <stdlib.h>
 #include <string.h>
@@ -25,28 +26,28 @@ static int done(struct library *library, uint8_t number) {
     return 0;
 }
 
-static int library_change(void *self, enum change what, const char *path) {
-    static uint8_t (*const calls[])(struct doorvervain *, const uint8_t *, size_t) = {
+static int library_change(void *self, enum change what, const char *path, uint64_t at) {
+    static uint8_t (*const calls[])(struct doorvervain *, const uint8_t *, size_t, uint64_t) = {
         doorvervain_mkdir, doorvervain_create, doorvervain_unlink, doorvervain_rmdir, doorvervain_rmtree};
     struct library *library = self;
-    return done(library, calls[what](&library->volume, text(path), strlen(path)));
+    return done(library, calls[what](&library->volume, text(path), strlen(path), at));
 }
 
-static int library_rename(void *self, const char *from, const char *to) {
+static int library_rename(void *self, const char *from, const char *to, uint64_t at) {
     struct library *library = self;
-    return done(library, doorvervain_rename(&library->volume, text(from), strlen(from), text(to), strlen(to)));
+    return done(library, doorvervain_rename(&library->volume, text(from), strlen(from), text(to), strlen(to), at));
 }
 
-static int library_truncate(void *self, const char *path, uint64_t length) {
+static int library_truncate(void *self, const char *path, uint64_t length, uint64_t at) {
     struct library *library = self;
-    return done(library, doorvervain_truncate(&library->volume, text(path), strlen(path), length));
+    return done(library, doorvervain_truncate(&library->volume, text(path), strlen(path), length, at));
 }
 
-static int library_write(void *self, const char *path, uint64_t offset, const char *bytes, size_t count,
+static int library_write(void *self, const char *path, uint64_t offset, const char *bytes, size_t count, uint64_t at,
                          size_t *written) {
     struct library *library = self;
     int fault =
-        done(library, doorvervain_write(&library->volume, text(path), strlen(path), offset, text(bytes), count));
+        done(library, doorvervain_write(&library->volume, text(path), strlen(path), offset, text(bytes), count, at));
     *written = fault ? 0 : count;
     return fault;
 }
@@ -85,8 +86,9 @@ static int library_stat(void *self, struct place at, struct standing *out) {
     uint8_t kind = 0, number;
     int fault = at.snapshot ? look_into(library, at.snapshot) : 0;
     if (fault) return fault;
-    if (at.snapshot) number = doorvervain_frozen_stat(&library->tree, text(at.path), length, &kind, &out->length);
-    else number = doorvervain_stat(&library->volume, text(at.path), length, &kind, &out->length);
+    if (at.snapshot)
+        number = doorvervain_frozen_stat(&library->tree, text(at.path), length, &kind, &out->length, &out->modified);
+    else number = doorvervain_stat(&library->volume, text(at.path), length, &kind, &out->length, &out->modified);
     out->is_directory = kind == 1;
     return doorvervain_errno(number);
 }
@@ -120,11 +122,36 @@ static int library_keep(void *self, enum keeping what, const char *snapshot) {
     return done(library, calls[what](&library->volume, text(snapshot), strlen(snapshot)));
 }
 
-static const struct way library_way;
+// The image of a tree that stands still; it takes as many bytes as `size` says.
+static int print_image(struct doorvervain_frozen *tree, struct bytes *out) {
+    size_t size = 0;
+    int fault = doorvervain_errno(doorvervain_image(tree, 0, 0, &size));
+    if (!fault) fault = bytes_reserve(out, size);
+    if (!fault) fault = doorvervain_errno(doorvervain_image(tree, (uint8_t *)out->at, size, &out->length));
+    return fault;
+}
+
+static int write_file(const char *file, const struct bytes *bytes) {
+    FILE *out = fopen(file, "we");
+    if (!out) return errno;
+    bool is_short = fwrite(bytes->at, 1, bytes->length, out) != bytes->length;
+    return fclose(out) || is_short ? EIO : 0;
+}
+
+static int save(struct library *library, const char *file) {
+    struct doorvervain_frozen live;
+    struct bytes image = {0};
+    int fault = doorvervain_errno(doorvervain_freeze(&library->volume, &live));
+    if (!fault) fault = print_image(&live, &image);
+    if (!fault) fault = write_file(file, &image);
+    doorvervain_thaw(&live);
+    bytes_free(&image);
+    return fault;
+}
 
 static int library_close(void *self, const char *image) {
     struct library *library = self;
-    int fault = image ? image_save(&(struct volume){&library_way, self}, image) : 0;
+    int fault = image ? save(library, image) : 0;
     forget_tree(library);
     doorvervain_close(&library->volume);
     free(library);
@@ -136,12 +163,29 @@ static const struct way library_way = {
     library_stat,   library_list,   library_keep,     library_close,
 };
 
+static int open_empty(struct library *library) {
+    int fault = doorvervain_errno(doorvervain_open(&library->volume, FANOUT, PENDING, LEAF));
+    if (fault) fprintf(stderr, "doorvervain-mount: no volume: %s\n", strerror(fault));
+    return fault;
+}
+
+static int load(struct library *library, const char *file) {
+    struct bytes image = {0};
+    uint64_t line = 0;
+    int fault = bytes_read_file(&image, file);
+    if (!fault)
+        fault = doorvervain_errno(
+            doorvervain_load(&library->volume, FANOUT, PENDING, LEAF, text(image.at), image.length, &line));
+    if (line) fprintf(stderr, "doorvervain-mount: %s: bad image at line %" PRIu64 "\n", file, line);
+    else if (fault) fprintf(stderr, "doorvervain-mount: %s: %s\n", file, strerror(fault));
+    bytes_free(&image);
+    return fault;
+}
+
 int open_library(const struct making *making, struct volume *out) {
     struct library *library = calloc(1, sizeof *library);
     if (!library) return ENOMEM;
     library->steps = making->steps;
     *out = (struct volume){&library_way, library};
-    int fault = doorvervain_errno(doorvervain_open(&library->volume, FANOUT, PENDING, LEAF));
-    if (fault) fprintf(stderr, "doorvervain-mount: no volume: %s\n", strerror(fault));
-    return fault || !making->image ? fault : image_load(out, making->image);
+    return making->image ? load(library, making->image) : open_empty(library);
 }

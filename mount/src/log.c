@@ -10,6 +10,7 @@
 struct log {
     struct volume over;
     FILE *calls, *replies;
+    uint64_t at; // the moment of the lines that follow
     struct bytes line, reply;
 };
 
@@ -31,22 +32,33 @@ static int tell_done(struct log *log, int fault) {
     return tell(log, fault);
 }
 
-static int log_change(void *self, enum change what, const char *path) {
+// Sets the moment of the lines that follow, where it is another one.
+static void tell_moment(struct log *log, uint64_t at) {
+    if (at == log->at) return;
+    log->at = at;
+    script_moment(fresh(&log->line), at);
+    tell_done(log, 0);
+}
+
+static int log_change(void *self, enum change what, const char *path, uint64_t at) {
     struct log *log = self;
+    tell_moment(log, at);
     script_change(fresh(&log->line), what, path);
-    return tell_done(log, log->over.way->change(log->over.self, what, path));
+    return tell_done(log, log->over.way->change(log->over.self, what, path, at));
 }
 
-static int log_rename(void *self, const char *from, const char *to) {
+static int log_rename(void *self, const char *from, const char *to, uint64_t at) {
     struct log *log = self;
+    tell_moment(log, at);
     script_rename(fresh(&log->line), from, to);
-    return tell_done(log, log->over.way->rename(log->over.self, from, to));
+    return tell_done(log, log->over.way->rename(log->over.self, from, to, at));
 }
 
-static int log_truncate(void *self, const char *path, uint64_t length) {
+static int log_truncate(void *self, const char *path, uint64_t length, uint64_t at) {
     struct log *log = self;
+    tell_moment(log, at);
     script_truncate(fresh(&log->line), path, length);
-    return tell_done(log, log->over.way->truncate(log->over.self, path, length));
+    return tell_done(log, log->over.way->truncate(log->over.self, path, length, at));
 }
 
 static void tell_write(struct log *log, const char *path, uint64_t offset, const char *bytes, size_t count) {
@@ -55,12 +67,14 @@ static void tell_write(struct log *log, const char *path, uint64_t offset, const
     tell(log, 0);
 }
 
-static int log_write(void *self, const char *path, uint64_t offset, const char *bytes, size_t count, size_t *done) {
+static int log_write(void *self, const char *path, uint64_t offset, const char *bytes, size_t count, uint64_t at,
+                     size_t *done) {
     struct log *log = self;
-    int fault = log->over.way->write(log->over.self, path, offset, bytes, count, done);
-    for (size_t at = 0; at < *done; at += LARGEST_LINE_WRITE)
-        tell_write(log, path, offset + at, bytes + at,
-                   *done - at < LARGEST_LINE_WRITE ? *done - at : LARGEST_LINE_WRITE);
+    tell_moment(log, at);
+    int fault = log->over.way->write(log->over.self, path, offset, bytes, count, at, done);
+    for (size_t from = 0; from < *done; from += LARGEST_LINE_WRITE)
+        tell_write(log, path, offset + from, bytes + from,
+                   *done - from < LARGEST_LINE_WRITE ? *done - from : LARGEST_LINE_WRITE);
     if (!fault) return 0;
     if (count - *done <= LARGEST_LINE_WRITE) {
         script_write(fresh(&log->line), path, offset + *done, bytes + *done, count - *done);

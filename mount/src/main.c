@@ -69,8 +69,8 @@ static int serve(struct fuse_session *session, int parent) {
 }
 
 // Nothing unlinked is open any more, so nothing of it goes into the image.
-static int close_volume(const struct mount *mount, const char *image) {
-    mount->volume.way->change(mount->volume.self, REMOVE_TREE, "/" UNLINKED);
+static int close_volume(struct mount *mount, const char *image) {
+    files_own_folder(mount, REMOVE_TREE);
     return say("cannot write ", image ? image : "the log", mount->volume.way->close(mount->volume.self, image));
 }
 

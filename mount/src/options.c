@@ -22,8 +22,8 @@ static const char help[] =
     "\n"
     "mkdir MNT/.snapshots/NAME takes a snapshot, and rmdir of that folder drops it. What is below it is read-only.\n"
     "No listing of MNT shows .snapshots. Links, symbolic links, fifos, sockets and devices are refused.\n"
-    "The tree lives in memory: what no image keeps is gone with the mount, and modes, owners, times and extended\n"
-    "attributes are in no image.\n";
+    "The tree lives in memory: what no image keeps is gone with the mount. An image has the time of last change of each\n"
+    "entry, and no modes, owners, other times and extended attributes.\n";
 
 void print_help(void) { fputs(help, stdout); }
 

@@ -13,6 +13,7 @@
 struct pipe {
     int end; // our end of the pair
     pid_t child;
+    uint64_t at;    // the moment of the lines that follow
     bool is_broken; // what is left of a reply would be taken for the next one
     struct bytes line, reply;
 };
@@ -69,27 +70,39 @@ static struct bytes *fresh_line(struct pipe *pipe) {
     return &pipe->line;
 }
 
-static int pipe_change(void *self, enum change what, const char *path) {
-    return ask_for(self, script_change(fresh_line(self), what, path));
+// Sets the moment of the lines that follow, where it is another one.
+static int set_moment(struct pipe *pipe, uint64_t at) {
+    if (at == pipe->at) return 0;
+    int fault = ask_for(pipe, script_moment(fresh_line(pipe), at));
+    if (!fault) pipe->at = at;
+    return fault;
 }
 
-static int pipe_rename(void *self, const char *from, const char *to) {
-    return ask_for(self, script_rename(fresh_line(self), from, to));
+static int pipe_change(void *self, enum change what, const char *path, uint64_t at) {
+    int fault = set_moment(self, at);
+    return fault ? fault : ask_for(self, script_change(fresh_line(self), what, path));
 }
 
-static int pipe_truncate(void *self, const char *path, uint64_t length) {
-    return ask_for(self, script_truncate(fresh_line(self), path, length));
+static int pipe_rename(void *self, const char *from, const char *to, uint64_t at) {
+    int fault = set_moment(self, at);
+    return fault ? fault : ask_for(self, script_rename(fresh_line(self), from, to));
 }
 
-static int pipe_write(void *self, const char *path, uint64_t offset, const char *bytes, size_t count, size_t *done) {
+static int pipe_truncate(void *self, const char *path, uint64_t length, uint64_t at) {
+    int fault = set_moment(self, at);
+    return fault ? fault : ask_for(self, script_truncate(fresh_line(self), path, length));
+}
+
+static int pipe_write(void *self, const char *path, uint64_t offset, const char *bytes, size_t count, uint64_t at,
+                      size_t *done) {
     *done = 0;
-    while (*done < count) {
+    int fault = set_moment(self, at);
+    while (!fault && *done < count) {
         size_t part = count - *done < LARGEST_LINE_WRITE ? count - *done : LARGEST_LINE_WRITE;
-        int fault = ask_for(self, script_write(fresh_line(self), path, offset + *done, bytes + *done, part));
-        if (fault) return fault;
-        *done += part;
+        fault = ask_for(self, script_write(fresh_line(self), path, offset + *done, bytes + *done, part));
+        if (!fault) *done += part;
     }
-    return 0;
+    return fault;
 }
 
 static int pipe_read(void *self, struct place at, uint64_t offset, char *out, size_t room, size_t *got) {

@@ -90,8 +90,10 @@ static void on_getattr(fuse_req_t req, fuse_ino_t number, struct fuse_file_info 
 
 static void on_setattr(fuse_req_t req, fuse_ino_t number, struct stat *wanted, int which, struct fuse_file_info *info) {
     uint64_t length = (uint64_t)wanted->st_size;
-    struct timespec time = now();
+    uint64_t at = moment_now();
+    struct timespec time = time_of(at);
     struct setting setting = {
+        .at = at,
         .mode = which & FUSE_SET_ATTR_MODE ? &wanted->st_mode : 0,
         .user = which & FUSE_SET_ATTR_UID ? &wanted->st_uid : 0,
         .group = which & FUSE_SET_ATTR_GID ? &wanted->st_gid : 0,
@@ -114,9 +116,7 @@ static void on_setattr(fuse_req_t req, fuse_ino_t number, struct stat *wanted, i
 
 static struct attributes fresh_attributes(fuse_req_t req, mode_t mode) {
     const struct fuse_ctx *asks = fuse_req_ctx(req);
-    struct timespec time = now();
-    return (struct attributes){
-        .mode = mode & 07777, .user = asks->uid, .group = asks->gid, .access = time, .modify = time, .change = time};
+    return (struct attributes){.mode = mode & 07777, .user = asks->uid, .group = asks->gid};
 }
 
 static void make(fuse_req_t req, fuse_ino_t parent, const char *name, mode_t mode, bool is_directory) {

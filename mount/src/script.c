@@ -32,6 +32,8 @@ static int append_look(struct bytes *line, const char *word, struct place at) {
 
 static int end_line(struct bytes *line, int fault) { return fault ? fault : bytes_append(line, "\n", 1); }
 
+int script_moment(struct bytes *line, uint64_t at) { return bytes_print(line, "at %" PRIu64 "\n", at); }
+
 int script_change(struct bytes *line, enum change what, const char *path) {
     return end_line(line, append_call(line, change_words[what], path));
 }
@@ -78,8 +80,8 @@ int reply_read(struct bytes *reply, const char *bytes, size_t count) {
 }
 
 int reply_stat(struct bytes *reply, struct standing standing) {
-    if (standing.is_directory) return bytes_append(reply, "dir 0\n", 6);
-    return bytes_print(reply, "file %" PRIu64 "\n", standing.length);
+    if (standing.is_directory) return bytes_print(reply, "dir 0 %" PRIu64 "\n", standing.modified);
+    return bytes_print(reply, "file %" PRIu64 " %" PRIu64 "\n", standing.length, standing.modified);
 }
 
 static size_t names_of(const char *listing, size_t length) {
@@ -110,9 +112,11 @@ int read_reply_bytes(const struct bytes *reply, char *out, size_t room, size_t *
 
 int read_reply_stat(const struct bytes *reply, struct standing *out) {
     *out = (struct standing){.is_directory = begins(reply, "dir ")};
-    if (out->is_directory) return 0;
-    if (!begins(reply, "file ")) return EIO;
-    out->length = strtoull(reply->at + 5, 0, 10);
+    if (!out->is_directory && !begins(reply, "file ")) return EIO;
+    char *end;
+    out->length = strtoull(strchr(reply->at, ' '), &end, 10);
+    if (*end != ' ') return EIO;
+    out->modified = strtoull(end, 0, 10);
     return 0;
 }
 

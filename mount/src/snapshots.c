@@ -74,7 +74,7 @@ int snapshot_restore(struct mount *mount, const char *name, struct bytes *out) {
     int fault = snapshot ? volume->way->keep(volume->self, RESTORE_SNAPSHOT, name) : ENOENT;
     if (fault) return fault;
     // Files that were open and unlinked when the snapshot was taken are not of its tree.
-    volume->way->change(volume->self, REMOVE_TREE, "/" UNLINKED);
+    files_own_folder(mount, REMOVE_TREE);
     note_held(mount->root, out);
     settle(mount, mount->root);
     note_root(mount, out);

@@ -30,15 +30,18 @@ struct place {
 // What stands at a path.
 struct standing {
     bool is_directory;
-    uint64_t length; // of a file, in bytes
+    uint64_t length;   // of a file, in bytes
+    uint64_t modified; // its moment of last change
 };
 
+// What changes the tree is done at a moment `at`, the nanoseconds since the beginning of 1970.
 struct way {
-    int (*change)(void *self, enum change what, const char *path);
-    int (*rename)(void *self, const char *from, const char *to);
-    int (*truncate)(void *self, const char *path, uint64_t length);
+    int (*change)(void *self, enum change what, const char *path, uint64_t at);
+    int (*rename)(void *self, const char *from, const char *to, uint64_t at);
+    int (*truncate)(void *self, const char *path, uint64_t length, uint64_t at);
     // All is written, or the first `done` bytes are and the rest was refused.
-    int (*write)(void *self, const char *path, uint64_t offset, const char *bytes, size_t count, size_t *done);
+    int (*write)(void *self, const char *path, uint64_t offset, const char *bytes, size_t count, uint64_t at,
+                 size_t *done);
     // At most LARGEST_READ bytes, and fewer at the end of the file.
     int (*read)(void *self, struct place at, uint64_t offset, char *out, size_t room, size_t *got);
     int (*stat)(void *self, struct place at, struct standing *out);

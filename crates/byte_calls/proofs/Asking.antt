@@ -3,13 +3,14 @@ use Rattle.std.proofs.Common.{◌≡◌, ◌⊎◌, ℕ, List, [], ◌∷◌, le
 use Rattle.pathkey.specs.Names.{same_path}
 use Rattle.pathkey.specs.declared.errno.Errno.{Errno}
 use Rattle.pathkey.specs.declared.errno.Errno.TheVariants.{ENOMEM}
-use Rattle.reference.specs.Calls.{Outcome, does, unless, faults_of_new, faults_of_write, faults_of_truncate, faults_of_unlink, faults_of_rmdir, faults_of_rmtree, faults_of_rename_from, faults_of_rename, placed, is_empty, bytes_of}
+use Rattle.reference.specs.Calls.{Outcome, changed, does, unless, faults_of_new, faults_of_write, faults_of_truncate, faults_of_unlink, faults_of_rmdir, faults_of_rmtree, faults_of_rename_from, faults_of_rename, placed, is_empty, bytes_of}
 use Rattle.reference.specs.Tree.{Tree, Dir, File, nothing, with_entry, without, entry_at, over, sized}
 use Rattle.reference.specs.Worlds.{World, Ask, Replied, Fits}
 use Rattle.reference.specs.declared.call.Call.{Call}
 use Rattle.reference.specs.declared.call.Call.TheVariants.{Mkdir, Create, Write, Truncate, Unlink, Rmdir, Rename, Rmtree, Read, Stat as AskStat, Readdir}
 use Rattle.reference.specs.declared.reply.Reply.{Reply}
 use Rattle.reference.specs.declared.reply.Reply.TheVariants.{Done, Count, Fault}
+use Rattle.reference.proofs.Touching.{reply_is}
 use Rattle.volume.specs.Changes.{Called}
 use Rattle.volume.specs.Volumes.{PVolume, IsVolume}
 use Rattle.byte_calls.specs.Changes.{Changes, done_of, settled, told}
@@ -37,22 +38,22 @@ wrote : (t x : Tree) (w : List ℕ) → Replies (Count (length w)) (cond {A = Ou
 wrote t x [] = inl refl
 wrote t x (b ∷ w) = inl refl
 
-replies : (c : Call) (t : Tree) → Changes c → Replies (done_of c) (does t c).1
-unfolding does
-replies (Mkdir p) t h = is_done t (faults_of_new t p) (with_entry t p (Dir nothing)) Done
-replies (Create p) t h = is_done t (faults_of_new t p) (with_entry t p (File [])) Done
-replies (Write p off w) t h = by_faults t (faults_of_write t p off w) _ (Count (length w)) (wrote t (with_entry t p (File (over (bytes_of (entry_at t p)) off w))) w)
-replies (Truncate p n) t h = is_done t (faults_of_truncate t p n) (with_entry t p (File (sized (bytes_of (entry_at t p)) n))) Done
-replies (Unlink p) t h = is_done t (faults_of_unlink t p) (without t p) Done
-replies (Rmdir p) t h = is_done t (faults_of_rmdir t p) (without t p) Done
-replies (Rmtree p) t h = is_done t (faults_of_rmtree t p) (without t p) Done
-replies (Rename o n) t h =
+replies : (at : ℕ) (c : Call) (t : Tree) → Changes c → Replies (done_of c) (changed at t c).1
+unfolding changed
+replies at (Mkdir p) t h = is_done t (faults_of_new t p) (with_entry t p (Dir at nothing)) Done
+replies at (Create p) t h = is_done t (faults_of_new t p) (with_entry t p (File at [])) Done
+replies at (Write p off w) t h = by_faults t (faults_of_write t p off w) _ (Count (length w)) (wrote t (with_entry t p (File at (over (bytes_of (entry_at t p)) off w))) w)
+replies at (Truncate p n) t h = is_done t (faults_of_truncate t p n) (with_entry t p (File at (sized (bytes_of (entry_at t p)) n))) Done
+replies at (Unlink p) t h = is_done t (faults_of_unlink t p) (without t p) Done
+replies at (Rmdir p) t h = is_done t (faults_of_rmdir t p) (without t p) Done
+replies at (Rmtree p) t h = is_done t (faults_of_rmtree t p) (without t p) Done
+replies at (Rename o n) t h =
     by_faults t (faults_of_rename_from t o) _ Done
     (by_test (same_path o n) (t, Done) (unless t (faults_of_rename t o n) (placed (without t o) n (entry_at t o), Done)) Done
     (inl refl) (is_done t (faults_of_rename t o n) (placed (without t o) n (entry_at t o)) Done))
-replies (Read p off n) t h = absurd h
-replies (AskStat p) t h = absurd h
-replies (Readdir p) t h = absurd h
+replies at (Read p off n) t h = absurd h
+replies at (AskStat p) t h = absurd h
+replies at (Readdir p) t h = absurd h
 
 -- ---- what is told
 
@@ -64,11 +65,11 @@ told_reply : (c : Call) (r : Reply) → Replies (done_of c) r → told (done_of 
 told_reply c r (inl e) = ap (λ x. told (done_of c) (settled x)) e ∙ told_done c ∙ sym e
 told_reply c r (inr e) = ap (λ x. told (done_of c) (settled x)) e.1 ∙ sym e.1
 
-fitting : (w : World) (c : Call) (r : Reply) → Changes c → Fits w (Ask c) (Replied r) → Replies (done_of c) r
-fitting w c r h (inl e) = let k : r ≡ (does w.live c).1 = (cc) in subst (λ x. Replies (done_of c) x) (sym k) (replies c w.live h)
-fitting w c r h (inr e) = inr (ENOMEM, (cc))
+fitting : (at : ℕ) (w : World) (c : Call) (r : Reply) → Changes c → Fits w (Ask c at) (Replied r) → Replies (done_of c) r
+fitting at w c r h (inl e) = let k : r ≡ (does at w.live c).1 = (cc) in subst (λ x. Replies (done_of c) x) (sym (k ∙ reply_is at w.live c)) (replies at c w.live h)
+fitting at w c r h (inr e) = inr (ENOMEM, (cc))
 
 -- the volume was called, and what is told of its reply is the reply
-pub called_told : (c : Call) (r : Reply) (old new : PVolume) → Changes c → IsVolume old → Called c r old new → Called c (told (done_of c) (settled r)) old new
-called_told c r old new h v k =
-    subst (λ x. Called c x old new) (sym (told_reply c r (fitting v.world c r h (k.leads v.world v.means).0))) k
+pub called_told : (c : Call) (at : ℕ) (r : Reply) (old new : PVolume) → Changes c → IsVolume old → Called c at r old new → Called c at (told (done_of c) (settled r)) old new
+called_told c at r old new h v k =
+    subst (λ x. Called c at x old new) (sym (told_reply c r (fitting at v.world c r h (k.leads v.world v.means).0))) k

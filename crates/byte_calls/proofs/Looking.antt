@@ -2,11 +2,11 @@
 use Rattle.std.proofs.Common.{◌≡◌, ◌⊎◌, ℕ, ◌≤◌, List, [], ◌∷◌, length, take, drop, refl, sym, subst, ap, ◌∙◌, Option, Some, None, Result, Ok, Err, inl, inr, arith}
 use Rattle.std.specs.Prelude.{⊤}
 use Rattle.std.proofs.lemmas.List.{length-take}
-use Rattle.call_compiler.specs.declared.indexes.Indexes.{Indexes}
+use Rattle.volume.specs.declared.rooted.Rooted.{Rooted}
 use Rattle.pathkey.specs.Names.{Name, Path}
 use Rattle.pathkey.specs.declared.errno.Errno.{Errno}
 use Rattle.pathkey.specs.declared.errno.Errno.TheVariants.{ENOMEM}
-use Rattle.reference.specs.Calls.{bytes_of, does, faults_of_read, faults_of_readdir, faults_of_stat, names_of as entries_of, stat_of, unless}
+use Rattle.reference.specs.Calls.{bytes_of, changed, does, faults_of_read, faults_of_readdir, faults_of_stat, names_of as entries_of, stat_of, unless}
 use Rattle.reference.specs.Tree.{At, Blocked, Dir, File, Found, Missing, Tree, entry_at}
 use Rattle.reference.specs.declared.call.Call.TheVariants.{Read, Stat as AskStat, Readdir}
 use Rattle.reference.specs.declared.reply.Kind.{Kind}
@@ -41,15 +41,15 @@ module _ (back : Reply → Reply) (fault : (e : Errno) → back (Fault e) ≡ Fa
 
 -- ---- reads
 
-read_back : (t : Tree) (p : Path) (off n : ℕ) → data_reply (data_of (does t (Read p off n)).1) ≡ (does t (Read p off n)).1
-unfolding does
+read_back : (t : Tree) (p : Path) (off n : ℕ) → data_reply (data_of (does 0 t (Read p off n)).1) ≡ (does 0 t (Read p off n)).1
+unfolding does changed
 read_back t p off n = by_faults (λ r. data_reply (data_of r)) (λ e. refl) t (faults_of_read t p n) (Data (take n (drop off (bytes_of (entry_at t p))))) refl
 
-read_told : (p : Path) (off n : ℕ) (r : Reply) (i : Indexes) → MeanSome i → Tells (Read p off n) r i → data_reply (data_of r) ≡ r
-read_told p off n r i s k = told_back (λ r. data_reply (data_of r)) (λ e. refl) r (does s.tree (Read p off n)).1 (read_back s.tree p off n) (k s.tree s.means)
+read_told : (p : Path) (off n : ℕ) (r : Reply) (i : Rooted) → MeanSome i → Tells (Read p off n) r i → data_reply (data_of r) ≡ r
+read_told p off n r i s k = told_back (λ r. data_reply (data_of r)) (λ e. refl) r (does 0 s.tree (Read p off n)).1 (read_back s.tree p off n) (k s.tree 0 s.means)
 
 -- a refusal of a read is its reply
-pub read_refused : (p : Path) (off n : ℕ) (r : Reply) (e : Errno) (i : Indexes) → MeanSome i → Tells (Read p off n) r i → data_of r ≡ Err e → Tells (Read p off n) (Fault e) i
+pub read_refused : (p : Path) (off n : ℕ) (r : Reply) (e : Errno) (i : Rooted) → MeanSome i → Tells (Read p off n) r i → data_of r ≡ Err e → Tells (Read p off n) (Fault e) i
 read_refused p off n r e i s k h =
     let is : r ≡ Fault e = sym (read_told p off n r i s k) ∙ ap data_reply h in
     subst (λ x. Tells (Read p off n) x i) is k
@@ -67,53 +67,53 @@ short_by_faults t (Some e ∷ fs) n bytes h = tt
 take_short : (n : ℕ) (bytes : List ℕ) → length (take n bytes) ≤ n
 take_short n bytes = let e = length-take n bytes in omega (arith, e)
 
-short_read : (t : Tree) (p : Path) (off n : ℕ) → IsShort n (does t (Read p off n)).1
-unfolding does
+short_read : (t : Tree) (p : Path) (off n : ℕ) → IsShort n (does 0 t (Read p off n)).1
+unfolding does changed
 short_read t p off n = short_by_faults t (faults_of_read t p n) n (take n (drop off (bytes_of (entry_at t p)))) (take_short n (drop off (bytes_of (entry_at t p))))
 
 short_told : (n : ℕ) (r d : Reply) → IsShort n d → (r ≡ d) ⊎ (r ≡ Fault ENOMEM) → IsShort n r
 short_told n r d h (inl e) = subst (IsShort n) (sym e) h
 short_told n r d h (inr e) = subst (IsShort n) (sym e) tt
 
-pub read_short : (p : Path) (off n : ℕ) (r : Reply) (bytes : List ℕ) (i : Indexes) → MeanSome i → Tells (Read p off n) r i → data_of r ≡ Ok bytes → length bytes ≤ n
+pub read_short : (p : Path) (off n : ℕ) (r : Reply) (bytes : List ℕ) (i : Rooted) → MeanSome i → Tells (Read p off n) r i → data_of r ≡ Ok bytes → length bytes ≤ n
 read_short p off n r bytes i s k h =
     let is : r ≡ Data bytes = sym (read_told p off n r i s k) ∙ ap data_reply h in
-    subst (IsShort n) is (short_told n r (does s.tree (Read p off n)).1 (short_read s.tree p off n) (k s.tree s.means))
+    subst (IsShort n) is (short_told n r (does 0 s.tree (Read p off n)).1 (short_read s.tree p off n) (k s.tree 0 s.means))
 
 -- ---- stats
 
 stat_here : (here : At) → stat_reply (meta_of (stat_of here)) ≡ stat_of here
-stat_here (Found (Dir es)) = refl
-stat_here (Found (File b)) = refl
+stat_here (Found (Dir date es)) = refl
+stat_here (Found (File date b)) = refl
 stat_here Missing = refl
 stat_here Blocked = refl
 
-stat_back : (t : Tree) (p : Path) → stat_reply (meta_of (does t (AskStat p)).1) ≡ (does t (AskStat p)).1
-unfolding does
+stat_back : (t : Tree) (p : Path) → stat_reply (meta_of (does 0 t (AskStat p)).1) ≡ (does 0 t (AskStat p)).1
+unfolding does changed
 stat_back t p = by_faults (λ r. stat_reply (meta_of r)) (λ e. refl) t (faults_of_stat t p) (stat_of (entry_at t p)) (stat_here (entry_at t p))
 
-pub stat_told : (p : Path) (r : Reply) (i : Indexes) → MeanSome i → Tells (AskStat p) r i → Tells (AskStat p) (stat_reply (meta_of r)) i
+pub stat_told : (p : Path) (r : Reply) (i : Rooted) → MeanSome i → Tells (AskStat p) r i → Tells (AskStat p) (stat_reply (meta_of r)) i
 stat_told p r i s k =
-    let is : stat_reply (meta_of r) ≡ r = told_back (λ r. stat_reply (meta_of r)) (λ e. refl) r (does s.tree (AskStat p)).1 (stat_back s.tree p) (k s.tree s.means) in
+    let is : stat_reply (meta_of r) ≡ r = told_back (λ r. stat_reply (meta_of r)) (λ e. refl) r (does 0 s.tree (AskStat p)).1 (stat_back s.tree p) (k s.tree 0 s.means) in
     subst (λ x. Tells (AskStat p) x i) (sym is) k
 
 -- ---- listings
 
-list_back : (t : Tree) (p : Path) → names_reply (names_of (does t (Readdir p)).1) ≡ (does t (Readdir p)).1
-unfolding does
+list_back : (t : Tree) (p : Path) → names_reply (names_of (does 0 t (Readdir p)).1) ≡ (does 0 t (Readdir p)).1
+unfolding does changed
 list_back t p = by_faults (λ r. names_reply (names_of r)) (λ e. refl) t (faults_of_readdir t p) (Names (entries_of (entry_at t p))) refl
 
-list_told : (p : Path) (r : Reply) (i : Indexes) → MeanSome i → Tells (Readdir p) r i → names_reply (names_of r) ≡ r
-list_told p r i s k = told_back (λ r. names_reply (names_of r)) (λ e. refl) r (does s.tree (Readdir p)).1 (list_back s.tree p) (k s.tree s.means)
+list_told : (p : Path) (r : Reply) (i : Rooted) → MeanSome i → Tells (Readdir p) r i → names_reply (names_of r) ≡ r
+list_told p r i s k = told_back (λ r. names_reply (names_of r)) (λ e. refl) r (does 0 s.tree (Readdir p)).1 (list_back s.tree p) (k s.tree 0 s.means)
 
 -- a refusal of a listing is its reply
-pub list_refused : (p : Path) (r : Reply) (e : Errno) (i : Indexes) → MeanSome i → Tells (Readdir p) r i → names_of r ≡ Err e → Tells (Readdir p) (Fault e) i
+pub list_refused : (p : Path) (r : Reply) (e : Errno) (i : Rooted) → MeanSome i → Tells (Readdir p) r i → names_of r ≡ Err e → Tells (Readdir p) (Fault e) i
 list_refused p r e i s k h =
     let is : r ≡ Fault e = sym (list_told p r i s k) ∙ ap names_reply h in
     subst (λ x. Tells (Readdir p) x i) is k
 
 -- and so are entries
-pub list_told_all : (p : Path) (r : Reply) (es : List (Kind × Name)) (i : Indexes) → MeanSome i → Tells (Readdir p) r i → names_of r ≡ Ok es → Tells (Readdir p) (Names es) i
+pub list_told_all : (p : Path) (r : Reply) (es : List (Kind × Name)) (i : Rooted) → MeanSome i → Tells (Readdir p) r i → names_of r ≡ Ok es → Tells (Readdir p) (Names es) i
 list_told_all p r es i s k h =
     let is : r ≡ Names es = sym (list_told p r i s k) ∙ ap names_reply h in
     subst (λ x. Tells (Readdir p) x i) is k

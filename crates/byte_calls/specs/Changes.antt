@@ -1,5 +1,5 @@
 -- Calls asked in texts that change a volume.
-use Rattle.std.specs.Prelude.{◌≡◌, ◌⊎◌, length, Result, Ok, Err, ⊤}
+use Rattle.std.specs.Prelude.{◌≡◌, ◌⊎◌, ℕ, length, Result, Ok, Err, ⊤}
 use Rattle.pathkey.specs.Names.{Path}
 use Rattle.pathkey.specs.declared.errno.Errno.{Errno}
 use Rattle.pathkey.specs.declared.errno.Errno.TheVariants.{ENOMEM}
@@ -62,8 +62,8 @@ told r (Err e) = Fault e
 abbrev pub Refuses : {A : Type 0} → Errno → Result A Errno → PVolume → PVolume → Type 0
 Refuses e result old new = (result ≡ Err e) × (new ≡ old)
 
--- texts that ask for no call are refused, and nothing changes; else the volume was called, and what it replied is told, or
+-- texts that ask for no call are refused, and nothing changes; else the volume was called at the moment, and what it replied is told, or
 -- memory was refused on the way to it
-abbrev pub Asks : Result Call Errno → Result (Unit {0}) Errno → PVolume → PVolume → Type 0
-Asks (Err e) result old new = Refuses e result old new
-Asks (Ok c) result old new = Called c (told (done_of c) result) old new ⊎ Refuses ENOMEM result old new
+abbrev pub Asks : Result Call Errno → ℕ → Result (Unit {0}) Errno → PVolume → PVolume → Type 0
+Asks (Err e) at result old new = Refuses e result old new
+Asks (Ok c) at result old new = Called c at (told (done_of c) result) old new ⊎ Refuses ENOMEM result old new

@@ -1,6 +1,6 @@
 -- Calls asked in texts that only look, and what they write into a buffer.
 use Rattle.std.specs.Prelude.{◌≡◌, ℕ, ◌≤◌, List, [], ◌∷◌, ◌++◌, length, take, drop, flat_map, nat_le, if◌then◌else◌, Result, Ok, Err, MatchResult}
-use Rattle.call_compiler.specs.declared.indexes.Indexes.{Indexes}
+use Rattle.volume.specs.declared.rooted.Rooted.{Rooted}
 use Rattle.pathkey.specs.Names.{Name, Path}
 use Rattle.pathkey.specs.declared.errno.Errno.{Errno}
 use Rattle.pathkey.specs.declared.errno.Errno.TheVariants.{EINVAL}
@@ -44,14 +44,14 @@ data_of _ = Err EINVAL
 
 -- the reply that was told by what stands there
 abbrev pub stat_reply : Result Meta Errno → Reply
-stat_reply (Ok Dir) = Stat Directory 0
-stat_reply (Ok (File len)) = Stat Plain len
+stat_reply (Ok (Dir at)) = Stat Directory 0 at
+stat_reply (Ok (File len at)) = Stat Plain len at
 stat_reply (Err e) = Fault e
 
 -- what a reply to a stat says, or its refusal; no stat is replied to otherwise
 abbrev pub meta_of : Reply → Result Meta Errno
-meta_of (Stat Directory n) = Ok Dir
-meta_of (Stat Plain n) = Ok (File n)
+meta_of (Stat Directory n at) = Ok (Dir at)
+meta_of (Stat Plain n at) = Ok (File n at)
 meta_of (Fault e) = Err e
 meta_of _ = Err EINVAL
 
@@ -81,13 +81,13 @@ names_of (Fault e) = Err e
 names_of _ = Err EINVAL
 
 -- the entries that the tree has at the path, and how many bytes they take, which are in the buffer where they fit
-pub record ListsAll (p : Path) (i : Indexes) (n : ℕ) (old new : List ℕ) : Type 0 where
+pub record ListsAll (p : Path) (i : Rooted) (n : ℕ) (old new : List ℕ) : Type 0 where
   pub entries : List (Kind × Name)
   pub tells : Tells (Readdir p) (Names entries) i
   pub size : n ≡ length (listing_bytes entries)
   pub buffer : new ≡ laid (listing_bytes entries) old
 
 -- the same, or the refusal, and the buffer is as it was
-abbrev pub Lists : Path → Indexes → Result ℕ Errno → List ℕ → List ℕ → Type 0
+abbrev pub Lists : Path → Rooted → Result ℕ Errno → List ℕ → List ℕ → Type 0
 Lists p i (Ok n) old new = ListsAll p i n old new
 Lists p i (Err e) old new = Tells (Readdir p) (Fault e) i × (new ≡ old)

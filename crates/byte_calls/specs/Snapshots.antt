@@ -1,7 +1,7 @@
 -- Calls of snapshots, whose names are asked in texts.
 use Rattle.std.specs.Prelude.{◌≡◌, ◌⊎◌, ℕ, List, Result, Ok, Err, Some, IfOk}
 use Rattle.std.specs.FinMap as finite
-use Rattle.call_compiler.specs.declared.indexes.Indexes.{Indexes}
+use Rattle.volume.specs.declared.rooted.Rooted.{Rooted}
 use Rattle.pathkey.specs.declared.errno.Errno.{Errno}
 use Rattle.pathkey.specs.declared.errno.Errno.TheVariants.{ENOMEM}
 use Rattle.reference.specs.Worlds.{World, Snapped, Event}
@@ -17,11 +17,11 @@ SettlesNamed (Err e) event Done result old new = Refuses e result old new
 SettlesNamed (Ok s) event Done result old new = Settles (event s) (Done s) result old new ⊎ Refuses ENOMEM result old new
 
 -- the tree of the snapshot of that name, as the volume keeps it
-pub record Keeps (s : List ℕ) (v : PVolume) (result : Result Indexes Errno) : Type 0 where
+pub record Keeps (s : List ℕ) (v : PVolume) (result : Result Rooted Errno) : Type 0 where
   pub same : IfOk result (λ f. finite.get v.snapshots s ≡ Some f)
   pub means : (w : World) → Means v w → Finds s result w
 
 -- a text that is no name is refused; else it is the tree of that name, or memory was refused on the way to it
-abbrev pub FindsNamed : Result (List ℕ) Errno → PVolume → Result Indexes Errno → Type 0
+abbrev pub FindsNamed : Result (List ℕ) Errno → PVolume → Result Rooted Errno → Type 0
 FindsNamed (Err e) v result = result ≡ Err e
 FindsNamed (Ok s) v result = Keeps s v result ⊎ (result ≡ Err ENOMEM)

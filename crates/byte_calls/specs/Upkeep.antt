@@ -9,7 +9,7 @@ use Rattle.volume.specs.declared.event.Relief.{Relief}
 -- a step in the index with more pending pieces was tried, and so answered
 pub record Relieved (old new : PVolume) : Type 0 where
   pub relief : Relief
-  pub index : relief.step.index ≡ busier old.live
+  pub index : relief.step.index ≡ busier old.live.indexes
   pub stepped : Stepped relief.step relief.reply old new
 
 -- so many of them, one after another
@@ -19,4 +19,4 @@ Relieves (suc n) old new = (between : PVolume) × Relieves n old between × Reli
 
 -- nothing is pending in either index
 abbrev pub IsIdle : PVolume → Type 0
-IsIdle v = (pending_in Meta v.live ≡ 0) × (pending_in Block v.live ≡ 0)
+IsIdle v = (pending_in Meta v.live.indexes ≡ 0) × (pending_in Block v.live.indexes ≡ 0)

@@ -1,4 +1,4 @@
-//! Calls that change a volume.
+//! Calls that change a volume, each at a moment.
 ghost use Rattle.pathkey.specs.declared.errno.Errno.TheVariants.{ENOMEM};
 ghost use Rattle.pathkey.specs.Texts.{parsed};
 ghost use Rattle.volume.specs.Changes.{Called};
@@ -27,29 +27,47 @@ pub enum PathCall {
     Rmtree,
 }
 
-/// Does a call on the path that a text names.
-pub fn on_path(alloc: Global, volume: &mut Volume, what: PathCall, path: &[u8]) -> Result<(), Errno>
-    ensures { Asks (asked (call_at what) (parsed path.now)) result volume.old volume.new }
+/// Does a call at a moment on the path that a text names.
+pub fn on_path(
+    alloc: Global,
+    volume: &mut Volume,
+    what: PathCall,
+    path: &[u8],
+    at: u64,
+) -> Result<(), Errno>
+    ensures { Asks (asked (call_at what) (parsed path.now)) at result volume.old volume.new }
 {
     let path = Path::parse(alloc, path)?;
-    ask(alloc, volume, &call_at(what, path))
+    ask(alloc, volume, &call_at(what, path), at)
 }
 
 /// Moves what stands at the first path to the second. Where memory is refused for the first, the second is not read.
-pub fn rename(alloc: Global, volume: &mut Volume, old: &[u8], new: &[u8]) -> Result<(), Errno>
-    ensures { Asks (moved (parsed old.now) (parsed new.now)) result volume.old volume.new ⊎ Refuses ENOMEM result volume.old volume.new }
+pub fn rename(
+    alloc: Global,
+    volume: &mut Volume,
+    old: &[u8],
+    new: &[u8],
+    at: u64,
+) -> Result<(), Errno>
+    ensures { Asks (moved (parsed old.now) (parsed new.now)) at result volume.old volume.new ⊎ Refuses ENOMEM result volume.old volume.new }
 {
     let old = Path::parse(alloc, old)?;
     let new = Path::parse(alloc, new)?;
-    ask(alloc, volume, &Call::Rename(old, new))
+    ask(alloc, volume, &Call::Rename(old, new), at)
 }
 
 /// Cuts a file to so many bytes, or lengthens it to them by zeros.
-pub fn truncate(alloc: Global, volume: &mut Volume, path: &[u8], length: u64) -> Result<(), Errno>
-    ensures { Asks (asked (λ p. Call.Truncate p length) (parsed path.now)) result volume.old volume.new }
+pub fn truncate(
+    alloc: Global,
+    volume: &mut Volume,
+    path: &[u8],
+    length: u64,
+    at: u64,
+) -> Result<(), Errno>
+    ensures { Asks (asked (λ p. Call.Truncate p length) (parsed path.now)) at result volume.old volume.new }
 {
     let path = Path::parse(alloc, path)?;
-    ask(alloc, volume, &Call::Truncate(path, length))
+    ask(alloc, volume, &Call::Truncate(path, length), at)
 }
 
 /// Lays the bytes over a file from the offset on: all of them, or none.
@@ -59,14 +77,15 @@ pub fn write(
     path: &[u8],
     offset: u64,
     bytes: &[u8],
+    at: u64,
 ) -> Result<(), Errno>
-    ensures { Asks (asked (λ p. Call.Write p offset bytes.now) (parsed path.now)) result volume.old volume.new }
+    ensures { Asks (asked (λ p. Call.Write p offset bytes.now) (parsed path.now)) at result volume.old volume.new }
 {
     let path = Path::parse(alloc, path)?;
     let Ok(bytes) = Bytes::copy_from_slice(alloc, bytes) else {
         return Err(Errno::ENOMEM);
     };
-    ask(alloc, volume, &Call::Write(path, offset, bytes))
+    ask(alloc, volume, &Call::Write(path, offset, bytes), at)
 }
 
 // The call on a path.
@@ -83,10 +102,10 @@ fn call_at(what: PathCall, path: Path) -> Call
 }
 
 // Does a call that changes the volume, and tells whether it was done.
-fn ask(alloc: Global, volume: &mut Volume, call: &Call) -> Result<(), Errno>
+fn ask(alloc: Global, volume: &mut Volume, call: &Call, at: u64) -> Result<(), Errno>
     requires { Changes call.now }
-    ensures { Called call.now (told (done_of call.now) result) volume.old volume.new }
+    ensures { Called call.now at (told (done_of call.now) result) volume.old volume.new }
 {
     volume.means_a_world();
-    settled(volume.call(alloc, call))
+    settled(volume.call(alloc, call, at))
 }

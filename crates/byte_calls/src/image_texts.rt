@@ -1,12 +1,12 @@
 //! Images: a tree as text, out and in.
 ghost use Rattle.std.specs.Prelude.{◌≡◌, ◌↔◌, ℕ, Err, IfOk, false};
-ghost use Rattle.call_compiler.specs.Compiled.{MeanTree};
 ghost use Rattle.node.specs.Shapes.{is_shape};
-ghost use Rattle.reference.specs.Image.{image};
+ghost use Rattle.reference.specs.Image.{Second, image};
 ghost use Rattle.reference.specs.ImageLines.{IsBadAt};
 ghost use Rattle.reference.specs.Tree.{Tree};
 ghost use Rattle.images.specs.Loads.{Loaded, form_of, new_form};
 ghost use Rattle.byte_calls.specs.Images.{Prints};
+ghost use Rattle.volume.specs.Volumes.{MeanRooted};
 
 use crate::looks::lay;
 use images::{LoadFault, load_image, print_image};
@@ -15,10 +15,10 @@ use pathkey::Errno;
 use std::alloc::Global;
 use volume::{Frozen, Volume};
 
-/// The image of a frozen tree. The result is how many bytes it has; they are written where the buffer has room for all of them,
+/// The image of a frozen tree, in version 2. The result is how many bytes it has; they are written where the buffer has room for all of them,
 /// and else it stays as it was.
 pub fn print(alloc: Global, tree: &Frozen, out: &mut [u8]) -> Result<usize, Errno>
-    ensures { (t : Tree) → MeanTree tree.now t → Prints (image t) result out.old out.new }
+    ensures { (t : Tree) → MeanRooted tree.now t → Prints (image Second t) result out.old out.new }
 {
     let mut text = Vec::new(alloc);
     if print_image(alloc, tree, &mut text).is_err() {

@@ -32,8 +32,8 @@ pub(crate) fn meta_of(reply: Reply) -> Result<Meta, Errno>
     ensures { result ≡ meta_of reply }
 {
     match reply {
-        Reply::Stat(Kind::Dir, _) => Ok(Meta::Dir),
-        Reply::Stat(Kind::File, len) => Ok(Meta::File { len }),
+        Reply::Stat(Kind::Dir, _, modified) => Ok(Meta::Dir { modified }),
+        Reply::Stat(Kind::File, len, modified) => Ok(Meta::File { len, modified }),
         Reply::Fault(fault) => Err(fault),
         _ => Err(Errno::EINVAL),
     }

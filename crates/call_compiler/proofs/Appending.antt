@@ -1,17 +1,20 @@
 -- What a batch is for: appended to the indexes, it makes them mean the tree after the call. And what indexes begin with.
-use Rattle.std.proofs.Common.{◌≡◌, ◌∙◌, sym, None}
+use Rattle.std.proofs.Common.{◌≡◌, ℕ, List, [], ◌∷◌, refl, ◌∙◌, sym, None}
 use Rattle.block_index.specs.Means.{blocks}
 use Rattle.block_index.specs.declared.index.BlockIndex.{BlockIndex}
 use Rattle.meta_index.specs.declared.index.MetaIndex.{MetaIndex}
 use Rattle.meta_index.specs.Means.{metadata, IsMeantBy}
 use Rattle.meta_index.proofs.Fresh.{means_alike}
-use Rattle.pathkey.specs.Keys.{Key, block_key}
+use Rattle.message.specs.Effects.{effects}
+use Rattle.meta_index.specs.Updates.{means as meta_means}
+use Rattle.pathkey.specs.Names.{Path}
+use Rattle.pathkey.specs.Keys.{Key, enc, block_key}
 use Rattle.reference.specs.Tree.{Tree, Dir, nothing}
-use Rattle.reference.specs.Indexes.{Blocks, BlocksMean, IndexesMean}
+use Rattle.reference.specs.Indexes.{Metadata, Blocks, BlocksMean, IndexesMean, edit_at, touch, touch_at}
 use Rattle.reference.proofs.FreshIndexes.{fresh_law}
 use Rattle.reference.proofs.PointIndexes.{hold_alike}
 use Rattle.call_compiler.specs.declared.indexes.Indexes.{Indexes}
-use Rattle.call_compiler.specs.Compiled.{Messages, metadata_after, blocks_after, MeanTree}
+use Rattle.call_compiler.specs.Compiled.{Messages, touches, metadata_after, blocks_after, MeanTree}
 use Rattle.call_compiler.specs.Laws.{HaveTaken}
 
 -- blocks that agree at each key mean the same
@@ -30,9 +33,14 @@ meant_after t old new msgs means taken = record {
 }
 
 -- an index without blocks beside that of the empty root directory
-pub empty_meant : (m : MetaIndex) (d : BlockIndex) → IsMeantBy (Dir nothing) m → ((k : Key) → blocks d k ≡ None) → MeanTree (record { meta = m; block = d }) (Dir nothing)
+pub empty_meant : (m : MetaIndex) (d : BlockIndex) → IsMeantBy (Dir 0 nothing) m → ((k : Key) → blocks d k ≡ None) → MeanTree (record { meta = m; block = d }) (Dir 0 nothing)
 empty_meant m d means none = record {
   tree = means.tree;
   meta = means.meta;
-  blocks = blocks_alike (Dir nothing) (λ k. None) (blocks d) none fresh_law.blocks;
+  blocks = blocks_alike (Dir 0 nothing) (λ k. None) (blocks d) none fresh_law.blocks;
 }
+
+-- messages that set moments set them at each of the paths
+pub touches_set : (at : ℕ) (ps : List Path) (f : Metadata) (k : Key) → effects meta_means (touches at ps) k (f k) ≡ touch_at at ps f k
+touches_set at [] f k = refl
+touches_set at (p ∷ ps) f k = touches_set at ps (edit_at (enc p) (touch at) f) k

@@ -29,44 +29,44 @@ pub meta_meant : (i : Indexes) (t : Tree) → MeanTree i t → IsMeantBy t i.met
 meta_meant i t means = record { tree = means.tree; meta = means.meta }
 
 -- every call may send nothing
-pub nothing_sent : (i : Indexes) (call : Call) → Sends i call no_messages
-nothing_sent i (Mkdir p) = omega arith
-nothing_sent i (Create p) = omega arith
-nothing_sent i (Write p off w) = inl refl
-nothing_sent i (Truncate p n) = (omega arith, λ t means short. omega arith)
-nothing_sent i (Unlink p) = omega arith
-nothing_sent i (Rmdir p) = omega arith
-nothing_sent i (Rename o n) = inl refl
-nothing_sent i (Rmtree p) = omega arith
-nothing_sent i (Read p off n) = refl
-nothing_sent i (AskStat p) = refl
-nothing_sent i (Readdir p) = refl
+pub nothing_sent : (i : Indexes) (call : Call) (at : ℕ) → Sends i call at no_messages
+nothing_sent i (Mkdir p) at = omega arith
+nothing_sent i (Create p) at = omega arith
+nothing_sent i (Write p off w) at = inl refl
+nothing_sent i (Truncate p n) at = (omega arith, λ t means short. omega arith)
+nothing_sent i (Unlink p) at = omega arith
+nothing_sent i (Rmdir p) at = omega arith
+nothing_sent i (Rename o n) at = inl refl
+nothing_sent i (Rmtree p) at = omega arith
+nothing_sent i (Read p off n) at = refl
+nothing_sent i (AskStat p) at = refl
+nothing_sent i (Readdir p) at = refl
 
 -- the indexes mean the tree t after messages
 abbrev pub After : Indexes → Messages → Tree → Type 0
 After i msgs t = IndexesMean t (metadata_after msgs (metadata i.meta)) (blocks_after msgs (blocks i.block))
 
-module _ (i : Indexes) (call : Call) (reply : Reply) (msgs : Messages) where
+module _ (i : Indexes) (call : Call) (at : ℕ) (reply : Reply) (msgs : Messages) where
   -- a call that changes nothing and sends nothing
-  pub compiled_kept : ((t : Tree) → MeanTree i t → reply ≡ (does t call).1) → ((t : Tree) → MeanTree i t → (does t call).0 ≡ t) → msgs ≡ no_messages → IsCompiled i call reply msgs
+  pub compiled_kept : ((t : Tree) → MeanTree i t → reply ≡ (does at t call).1) → ((t : Tree) → MeanTree i t → (does at t call).0 ≡ t) → msgs ≡ no_messages → IsCompiled i call at reply msgs
   compiled_kept replies keeps none = record {
     reply = replies;
-    tree = λ t means. subst (λ (x : Messages). After i x (does t call).0) (sym none) (subst (λ (u : Tree). After i no_messages u) (sym (keeps t means)) means);
+    tree = λ t means. subst (λ (x : Messages). After i x (does at t call).0) (sym none) (subst (λ (u : Tree). After i no_messages u) (sym (keeps t means)) means);
     fault = λ e h. none;
-    sends = subst (λ (x : Messages). Sends i call x) (sym none) (nothing_sent i call);
+    sends = subst (λ (x : Messages). Sends i call at x) (sym none) (nothing_sent i call at);
   }
 
   -- a call that is refused
-  pub compiled_refused : (e : Errno) → ((t : Tree) → MeanTree i t → (does t call).1 ≡ Fault e) → reply ≡ Fault e → msgs ≡ no_messages → IsCompiled i call reply msgs
-  compiled_refused e refuses r none = compiled_kept (λ t means. r ∙ sym (refuses t means)) (λ t means. fault_law t call e (refuses t means)) none
+  pub compiled_refused : (e : Errno) → ((t : Tree) → MeanTree i t → (does at t call).1 ≡ Fault e) → reply ≡ Fault e → msgs ≡ no_messages → IsCompiled i call at reply msgs
+  compiled_refused e refuses r none = compiled_kept (λ t means. r ∙ sym (refuses t means)) (λ t means. fault_law at t call e (refuses t means)) none
 
   -- a call that is done
-  pub compiled_done : (answer : Reply) (sent : Messages) → ((e : Errno) → answer ≡ Fault e → ⊥) → ((t : Tree) → MeanTree i t → (does t call).1 ≡ answer) → ((t : Tree) → MeanTree i t → ◌≡◌ {A = Outcome} (does t call) ((does t call).0, answer) → After i sent (does t call).0) → Sends i call sent → reply ≡ answer → msgs ≡ sent → IsCompiled i call reply msgs
+  pub compiled_done : (answer : Reply) (sent : Messages) → ((e : Errno) → answer ≡ Fault e → ⊥) → ((t : Tree) → MeanTree i t → (does at t call).1 ≡ answer) → ((t : Tree) → MeanTree i t → ◌≡◌ {A = Outcome} (does at t call) ((does at t call).0, answer) → After i sent (does at t call).0) → Sends i call at sent → reply ≡ answer → msgs ≡ sent → IsCompiled i call at reply msgs
   compiled_done answer sent other replies makes few r m = record {
     reply = λ t means. r ∙ sym (replies t means);
-    tree = λ t means. subst (λ (x : Messages). After i x (does t call).0) (sym m) (makes t means (ap (λ (x : Reply). ((does t call).0, x)) (replies t means)));
+    tree = λ t means. subst (λ (x : Messages). After i x (does at t call).0) (sym m) (makes t means (ap (λ (x : Reply). ((does at t call).0, x)) (replies t means)));
     fault = λ e h. absurd (other e (sym r ∙ h));
-    sends = subst (λ (x : Messages). Sends i call x) (sym m) few;
+    sends = subst (λ (x : Messages). Sends i call at x) (sym m) few;
   }
 
 -- messages are their two halves

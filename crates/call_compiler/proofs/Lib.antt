@@ -7,3 +7,4 @@ pub mod Appending
 pub mod Overlay
 pub mod Renames
 pub mod Walking
+pub mod RootMoment

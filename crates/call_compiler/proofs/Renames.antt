@@ -23,28 +23,36 @@ use Rattle.pathkey.specs.declared.errno.Errno.{Errno}
 use Rattle.pathkey.specs.declared.errno.Errno.TheVariants.{ENAMETOOLONG, EBUSY}
 use Rattle.pathkey.proofs.KeyFacts.{enc-append, under_from_key, in_subtree, in_subtree_from, path_in_subtree, block_in_subtree, in_blocks, block_in_blocks_from}
 use Rattle.pathkey.proofs.TextFacts.{text_len_enc}
-use Rattle.reference.specs.Tree.{Tree, Dir, File, At, Found, onward, entry_at}
-use Rattle.reference.specs.Calls.{Outcome, when, is_root, first_fault, same_path, text_len, path_fault, is_file, deepest, deepest_at, faults_of_rename_from, faults_of_place, does}
-use Rattle.reference.specs.Looks.{Look, Directory, Bytes, seen, look}
-use Rattle.reference.specs.Indexes.{Blocks, IndexesMean, PathOf, BlockOf, meta_of, most_blocks, moved}
+use Rattle.reference.specs.Tree.{Tree, Dir, File, At, Found, Missing, Blocked, onward, entry_at, all_touched}
+use Rattle.reference.specs.Calls.{Outcome, when, is_root, first_fault, same_path, text_len, path_fault, is_file, deepest, deepest_at, faults_of_rename_from, faults_of_place, parents_of, changed, does}
+use Rattle.reference.specs.Shape.{IsMoment}
+use Rattle.reference.specs.Looks.{Look, Directory, Bytes, seen, look, Sight, Seen, look_of, sighted, sight}
+use Rattle.reference.specs.Indexes.{Blocks, IndexesMean, PathOf, BlockOf, meta_of, most_blocks, moved, touch_at}
 use Rattle.reference.specs.declared.call.Call.TheVariants.{Rename}
 use Rattle.reference.specs.declared.reply.Meta.{Meta}
 use Rattle.reference.specs.declared.reply.Reply.{Reply}
 use Rattle.reference.specs.declared.reply.Reply.TheVariants.{Done, Fault}
 use Rattle.reference.proofs.CallCases.{MayMove, renamed_cases}
 use Rattle.reference.proofs.Deepest.{Deepest, deepest_there}
+use Rattle.reference.proofs.Edits.{alike, look_from}
 use Rattle.reference.proofs.EntryPaths.{append-nil as path_nil, along}
 use Rattle.reference.proofs.IndexLaws.{rename_law}
 use Rattle.reference.proofs.RenameLooks.{IsMoved, none_below, rename_moves}
 use Rattle.reference.proofs.Standing.{found_from, seen_found, file_seen, rising-found, below_deepest}
+use Rattle.reference.proofs.Touching.{reply_is, done_law}
 use Rattle.reference.proofs.TreeEdits.{MayBeSeen, looks_may}
 use Rattle.call_compiler.specs.declared.indexes.Indexes.{Indexes}
-use Rattle.call_compiler.specs.Compiled.{Messages, no_messages, metadata_after, blocks_after, MeanTree, IsCompiled}
+use Rattle.call_compiler.specs.Compiled.{Messages, no_messages, touches, metadata_after, blocks_after, MeanTree, IsCompiled}
 use Rattle.call_compiler.specs.Moves.{AreBelow, put_under, is_key_too_long, replaced}
-use Rattle.call_compiler.proofs.Appending.{blocks_alike}
+use Rattle.call_compiler.proofs.Appending.{blocks_alike, touches_set}
 use Rattle.call_compiler.proofs.Compiling.{After, meta_meant, compiled_kept, compiled_refused, compiled_done}
 use Rattle.call_compiler.proofs.Faults.{too_long, rename_of_nothing, rename_to_itself, rename_no_place, rename_too_long, rename_done}
 use Rattle.call_compiler.proofs.Overlay.{source, source_at, puts_move}
+
+-- as many messages as moments
+length-touches : (at : ℕ) (ps : List Path) → length (touches at ps) ≡ length ps
+length-touches at [] = refl
+length-touches at (p ∷ ps) = ap suc (length-touches at ps)
 
 -- ---- what is known of keys
 
@@ -71,13 +79,20 @@ subtrees_apart o n old new above below k inside = false_from_ne_true (is_in (sub
     ])
 
 -- metadata tells that something is seen, and what is seen has metadata
-looked : (l : Option Look) (v : Meta) → meta_of l ≡ Some v → (k : Look) × (l ≡ Some k)
+looked : (s : Option Sight) (v : Meta) → meta_of s ≡ Some v → (k : Sight) × (s ≡ Some k)
 looked None v h = absurd (cc)
 looked (Some k) v h = (k, refl)
 
-metadata_seen : (l : Look) → (v : Meta) × (meta_of (Some l) ≡ Some v)
-metadata_seen Directory = (_, refl)
-metadata_seen (Bytes b) = (_, refl)
+metadata_seen : (s : Sight) → (v : Meta) × (meta_of (Some s) ≡ Some v)
+metadata_seen (Seen Directory date) = (_, refl)
+metadata_seen (Seen (Bytes b) date) = (_, refl)
+
+-- what is seen has a moment
+sight_from : (a : At) (l : Look) → seen a ≡ Some l → (s : Sight) × (sighted a ≡ Some s)
+sight_from (Found (Dir date es)) l h = (_, refl)
+sight_from (Found (File date b)) l h = (_, refl)
+sight_from Missing l h = absurd (cc)
+sight_from Blocked l h = absurd (cc)
 
 -- a fault that comes second
 second_none : (a b : Option Errno) → first_fault (a ∷ b ∷ []) ≡ None → b ≡ None
@@ -96,14 +111,14 @@ any_at test f (x ∷ xs) (suc i) d l h = elim (test (f x)) as (λ b. (b || list_
 
 -- ---- a text that gets too long
 
-module _ (t : Tree) (i : Indexes) (o n : Path) (means : IsMeantBy t i.meta) (old : IsPath o) (x : Tree) (at : entry_at t o ≡ Found x) (es : List (Key × Meta)) (below : AreBelow (metadata i.meta) o es) where
+module _ (date : ℕ) (t : Tree) (i : Indexes) (o n : Path) (means : IsMeantBy t i.meta) (old : IsPath o) (x : Tree) (at : entry_at t o ≡ Found x) (es : List (Key × Meta)) (below : AreBelow (metadata i.meta) o es) where
   -- the message that puts an entry has a key that is too long
   abbrev Long : Key × Meta → Bool
   Long p = is_key_too_long (put_under {U = MetaUpdate} o n p)
 
   -- what is seen below o is seen in what stands there
-  below_old : (r : Path) → look t (o ++ r) ≡ look x r
-  below_old r = ap seen (along t o r ∙ ap (λ (a : At). fold onward a r) at)
+  below_old : (r : Path) → sight t (o ++ r) ≡ sight x r
+  below_old r = ap sighted (along t o r ∙ ap (λ (a : At). fold onward a r) at)
 
   -- the new key of a path below o
   new_length : (r : Path) → length (enc n ++ drop (length (enc o)) (enc (o ++ r))) ≡ text_len n + text_len r
@@ -118,8 +133,8 @@ module _ (t : Tree) (i : Indexes) (o n : Path) (means : IsMeantBy t i.meta) (old
       let c : PathOf p.0 = means.meta.only_paths p.0 p.1 is in
       let z : (z : Key) × (p.0 ≡ enc o ++ z) = in_subtree o p.0 inside in
       let r : (r : Path) × (c.path ≡ o ++ r) × (z.0 ≡ enc r) = under_from_key o c.path z.0 old.names c.is_path.names (sym z.1 ∙ c.key) in
-      let l : (l : Look) × (look t c.path ≡ Some l) = looked (look t c.path) p.1 (sym (means.meta.paths c.path c.is_path) ∙ ap (metadata i.meta) (sym c.key) ∙ is) in
-      let deep : text_len r.0 ≤ deepest x = below_deepest r.0 x l.0 (sym (below_old r.0) ∙ ap (look t) (sym r.1) ∙ l.1) in
+      let l : (l : Sight) × (sight t c.path ≡ Some l) = looked (sight t c.path) p.1 (sym (means.meta.paths c.path c.is_path) ∙ ap (metadata i.meta) (sym c.key) ∙ is) in
+      let deep : text_len r.0 ≤ deepest x = below_deepest r.0 x (look_of l.0) (look_from x r.0 l.0 (sym (below_old r.0) ∙ ap (sight t) (sym r.1) ∙ l.1)) in
       let long : length (enc n ++ drop (length (enc o)) p.0) ≡ text_len n + text_len r.0 = ap (λ (k : Key). length (enc n ++ drop (length (enc o)) k)) (c.key ∙ ap enc r.1) ∙ new_length r.0 in
       le-ltb 1023 (length (enc n ++ drop (length (enc o)) p.0)) (omega arith)
 
@@ -127,10 +142,11 @@ module _ (t : Tree) (i : Indexes) (o n : Path) (means : IsMeantBy t i.meta) (old
   deepest_put : 1023 < text_len n + deepest x → list_any is_key_too_long (map (put_under {U = MetaUpdate} o n) es) ≡ true
   deepest_put long =
       let d : Deepest x = deepest_there x (rising-found o t x at means.tree.rising) in
-      let there : look t (o ++ d.path) ≡ Some d.there = below_old d.path ∙ d.seen in
+      let there : look t (o ++ d.path) ≡ Some d.there = alike t x (o ++ d.path) d.path (below_old d.path) ∙ d.seen in
+      let s : (s : Sight) × (sight t (o ++ d.path) ≡ Some s) = sight_from (entry_at t (o ++ d.path)) d.there there in
       let may : MayBeSeen (o ++ d.path) d.there = looks_may t (o ++ d.path) d.there means.tree there in
-      let v : (v : Meta) × (meta_of (Some d.there) ≡ Some v) = metadata_seen d.there in
-      let is : metadata i.meta (enc (o ++ d.path)) ≡ Some v.0 = means.meta.paths (o ++ d.path) may.path ∙ ap meta_of there ∙ v.1 in
+      let v : (v : Meta) × (meta_of (Some s.0) ≡ Some v) = metadata_seen s.0 in
+      let is : metadata i.meta (enc (o ++ d.path)) ≡ Some v.0 = means.meta.paths (o ++ d.path) may.path ∙ ap meta_of s.1 ∙ v.1 in
       let c : Contains es (enc (o ++ d.path), v.0) = below.all (enc (o ++ d.path)) v.0 (ap (is_in (subtree o)) (enc-append o d.path) ∙ in_subtree_from o (enc d.path)) is in
       let l : text_len d.path ≡ deepest x = d.long in
       let whole : length (enc n ++ drop (length (enc o)) (enc (o ++ d.path))) ≡ text_len n + text_len d.path = new_length d.path in
@@ -138,10 +154,10 @@ module _ (t : Tree) (i : Indexes) (o n : Path) (means : IsMeantBy t i.meta) (old
       (ap Long c.2 ∙ lt-ltb 1023 (length (enc n ++ drop (length (enc o)) (enc (o ++ d.path)))) (omega arith))
 
   -- a message has too long a key exactly where a text gets too long
-  pub long_key : list_any is_key_too_long (map (put_under {U = MetaUpdate} o n) es) ≡ too_long t o n
+  pub long_key : list_any is_key_too_long (map (put_under {U = MetaUpdate} o n) es) ≡ too_long date t o n
   long_key =
       let deep : deepest_at (entry_at t o) ≡ deepest x = ap deepest_at at in
-      elim (too_long t o n) as (λ b. too_long t o n ≡ b → list_any is_key_too_long (map (put_under {U = MetaUpdate} o n) es) ≡ b) [
+      elim (too_long date t o n) as (λ b. too_long date t o n ≡ b → list_any is_key_too_long (map (put_under {U = MetaUpdate} o n) es) ≡ b) [
         | true ↦ λ e. deepest_put (let l : 1023 < text_len n + deepest_at (entry_at t o) = ltb-true 1023 (text_len n + deepest_at (entry_at t o)) e in omega arith)
         | false ↦ λ e. list_any_none is_key_too_long (map (put_under {U = MetaUpdate} o n) es)
             (All-map (λ m. is_key_too_long m ≡ false) (put_under {U = MetaUpdate} o n) es
@@ -166,8 +182,8 @@ module _ (t : Tree) (i : Indexes) (o n : Path) (means : MeanTree i t) (old : IsP
     | Some v ↦ λ e. absurd (
         let c : PathOf k = means.meta.only_paths k v e in
         let r : (r : Path) × (c.path ≡ n ++ r) = path_in_subtree n c.path new.names c.is_path.names (ap (is_in (subtree n)) (sym c.key) ∙ inside) in
-        let l : (l : Look) × (look t c.path ≡ Some l) = looked (look t c.path) v (sym (means.meta.paths c.path c.is_path) ∙ ap (metadata i.meta) (sym c.key) ∙ e) in
-        let only : r.0 ≡ [] = alone r.0 l.0 (ap (look t) (sym r.1) ∙ l.1) in
+        let l : (l : Sight) × (sight t c.path ≡ Some l) = looked (sight t c.path) v (sym (means.meta.paths c.path c.is_path) ∙ ap (metadata i.meta) (sym c.key) ∙ e) in
+        let only : r.0 ≡ [] = alone r.0 (look_of l.0) (ap (look t) (sym r.1) ∙ look_from t c.path l.0 l.1) in
         let key : k ≡ enc n ++ [] = c.key ∙ ap enc (r.1 ∙ ap (λ (p : Path). n ++ p) only) ∙ enc-append n [] in
         let f : (x : Tree) × (entry_at t o ≡ Found x) = found_from (entry_at t o) may.there in
         let here : (v : Meta) × (metadata i.meta (enc o) ≡ Some v) = found_metadata f.0 f.1 in
@@ -177,8 +193,8 @@ module _ (t : Tree) (i : Indexes) (o n : Path) (means : MeanTree i t) (old : IsP
   ] refl
     where
       found_metadata : (x : Tree) → entry_at t o ≡ Found x → (v : Meta) × (metadata i.meta (enc o) ≡ Some v)
-      found_metadata (Dir es) h = (_, means.meta.paths o old ∙ ap (λ (a : At). meta_of (seen a)) h)
-      found_metadata (File b) h = (_, means.meta.paths o old ∙ ap (λ (a : At). meta_of (seen a)) h)
+      found_metadata (Dir date es) h = (_, means.meta.paths o old ∙ ap (λ (a : At). meta_of (sighted a)) h)
+      found_metadata (File date b) h = (_, means.meta.paths o old ∙ ap (λ (a : At). meta_of (sighted a)) h)
 
   -- the blocks below n are those of the file that stands there
   block_alone : (k : Key) (v : List ℕ) → is_in (subtree n) k ≡ true → blocks i.block k ≡ Some v → (is_file (entry_at t n) ≡ true) × (j : ℕ) × (j < most_blocks) × (k ≡ block_key n j)
@@ -187,7 +203,7 @@ module _ (t : Tree) (i : Indexes) (o n : Path) (means : MeanTree i t) (old : IsP
       let r : (r : Path) × (c.path ≡ n ++ r) = block_in_subtree n c.path c.index new.names c.is_path.names (ap (is_in (subtree n)) (sym c.key) ∙ inside) in
       let only : r.0 ≡ [] = alone r.0 (Bytes c.bytes) (ap (look t) (sym r.1) ∙ c.file) in
       let path : c.path ≡ n = r.1 ∙ ap (λ (p : Path). n ++ p) only ∙ path_nil n in
-      (ap is_file (file_seen (entry_at t n) c.bytes (ap (look t) (sym path) ∙ c.file)), c.index, c.few, c.key ∙ ap (λ (p : Path). block_key p c.index) path)
+      (ap is_file (file_seen (entry_at t n) c.bytes (ap (look t) (sym path) ∙ c.file)).1, c.index, c.few, c.key ∙ ap (λ (p : Path). block_key p c.index) path)
 
   -- the blocks when those of a file that is replaced are gone
   abbrev kept : Blocks
@@ -218,9 +234,9 @@ module _ (t : Tree) (i : Indexes) (o n : Path) (means : MeanTree i t) (old : IsP
     | false ↦ refl
   ]
 
-  module _ (t' : Tree) (is : IsMoved t t' o n) (moves : IndexesMean t' (moved o n (metadata i.meta)) (moved o n (blocks i.block)))
+  module _ (at : ℕ) (ps : List Path) (t' u : Tree) (is : IsMoved t u o n) (moves : IndexesMean t' (touch_at at ps (moved o n (metadata i.meta))) (moved o n (blocks i.block)))
       (es : List (Key × Meta)) (bs : List (Key × List ℕ)) (entries : AreBelow (metadata i.meta) o es) (contents : AreBelow (blocks i.block) o bs) (msgs : Messages)
-      (meta : msgs.meta ≡ map (put_under o n) es ++ DelRange (subtree o) ∷ []) (block : msgs.block ≡ replaced (entry_at t n) n ++ map (put_under o n) bs ++ DelRange (subtree o) ∷ []) where
+      (meta : msgs.meta ≡ (map (put_under o n) es ++ DelRange (subtree o) ∷ []) ++ touches at ps) (block : msgs.block ≡ replaced (entry_at t n) n ++ map (put_under o n) bs ++ DelRange (subtree o) ∷ []) where
     apart : (k : Key) → is_in (subtree n) k ≡ true → is_in (subtree o) k ≡ false
     apart = subtrees_apart o n old new is.not_above is.not_below
 
@@ -228,9 +244,11 @@ module _ (t : Tree) (i : Indexes) (o n : Path) (means : MeanTree i t) (old : IsP
     pub messages_move : After i msgs t'
     messages_move = record {
       tree = moves.tree;
-      meta = means_alike t' (moved o n (metadata i.meta)) (metadata_after msgs (metadata i.meta))
+      meta = means_alike t' (touch_at at ps (moved o n (metadata i.meta))) (metadata_after msgs (metadata i.meta))
           (λ k. ap (λ (ms : List (Msg MetaUpdate Meta)). effects meta_means ms k (metadata i.meta k)) meta
-          ∙ puts_move meta_means o n (metadata i.meta) es entries (metadata i.meta) apart no_metadata (λ k e. refl) k)
+          ∙ effects-append meta_means (map (put_under o n) es ++ DelRange (subtree o) ∷ []) (touches at ps) k (metadata i.meta k)
+          ∙ ap (effects meta_means (touches at ps) k) (puts_move meta_means o n (metadata i.meta) es entries (metadata i.meta) apart no_metadata (λ k e. refl) k)
+          ∙ touches_set at ps (moved o n (metadata i.meta)) k)
           moves.meta;
       blocks = blocks_alike t' (moved o n (blocks i.block)) (blocks_after msgs (blocks i.block))
           (λ k. ap (λ (ms : List (Msg BlockUpdate (List ℕ))). effects block_means ms k (blocks i.block k)) (block ∙ append_assoc (replaced (entry_at t n) n) (map (put_under o n) bs) (DelRange (subtree o) ∷ []))
@@ -240,15 +258,18 @@ module _ (t : Tree) (i : Indexes) (o n : Path) (means : MeanTree i t) (old : IsP
     }
 
 -- where the table does a rename between two paths, it lets it
-may_move : (t : Tree) (o n : Path) → same_path o n ≡ false → (does t (Rename o n)).1 ≡ Done → MayMove t o n
-unfolding does
-may_move t o n apart = renamed_cases (λ (z : Outcome). z.1 ≡ Done → MayMove t o n) t o n (λ e h. absurd (cc)) (λ same h. absurd (let both : true ≡ false = sym same ∙ apart in cc)) (λ may h. may)
+lets_move : (at : ℕ) (t : Tree) (o n : Path) → same_path o n ≡ false → (changed at t (Rename o n)).1 ≡ Done → MayMove t o n
+unfolding changed
+lets_move at t o n apart = renamed_cases (λ (z : Outcome). z.1 ≡ Done → MayMove t o n) t o n (λ e h. absurd (cc)) (λ same h. absurd (let both : true ≡ false = sym same ∙ apart in cc)) (λ may h. may)
+
+may_move : (at : ℕ) (t : Tree) (o n : Path) → same_path o n ≡ false → (does at t (Rename o n)).1 ≡ Done → MayMove t o n
+may_move at t o n apart h = lets_move at t o n apart (sym (reply_is at t (Rename o n)) ∙ h)
 
 -- ---- what `rename` is compiled to
 
-module _ (i : Indexes) (o n : Path) (reply : Reply) (msgs : Messages) (from : Option Errno) (first : (t : Tree) → IsMeantBy t i.meta → from ≡ first_fault (faults_of_rename_from t o)) where
-  pub rename_is_of_nothing : (e : Errno) → from ≡ Some e → reply ≡ Fault e → msgs ≡ no_messages → IsCompiled i (Rename o n) reply msgs
-  rename_is_of_nothing e is = compiled_refused i (Rename o n) reply msgs e (λ t means. rename_of_nothing t o n e (sym (first t (meta_meant i t means)) ∙ is))
+module _ (i : Indexes) (o n : Path) (at : ℕ) (reply : Reply) (msgs : Messages) (from : Option Errno) (first : (t : Tree) → IsMeantBy t i.meta → from ≡ first_fault (faults_of_rename_from t o)) where
+  pub rename_is_of_nothing : (e : Errno) → from ≡ Some e → reply ≡ Fault e → msgs ≡ no_messages → IsCompiled i (Rename o n) at reply msgs
+  rename_is_of_nothing e is = compiled_refused i (Rename o n) at reply msgs e (λ t means. rename_of_nothing at t o n e (sym (first t (meta_meant i t means)) ∙ is))
 
   module _ (here : from ≡ None) where
     -- what is to be moved is there
@@ -258,41 +279,52 @@ module _ (i : Indexes) (o n : Path) (reply : Reply) (msgs : Messages) (from : Op
     found : (t : Tree) → IsMeantBy t i.meta → path_fault (entry_at t o) ≡ None
     found t means = second_none (when (is_root o) EBUSY) (path_fault (entry_at t o)) (there t means)
 
-    pub rename_is_to_itself : same_path o n ≡ true → reply ≡ Done → msgs ≡ no_messages → IsCompiled i (Rename o n) reply msgs
-    rename_is_to_itself same r = compiled_kept i (Rename o n) reply msgs
-        (λ t means. r ∙ sym (ap (λ (z : Outcome). z.1) (rename_to_itself t o n (there t (meta_meant i t means)) same)))
-        (λ t means. ap (λ (z : Outcome). z.0) (rename_to_itself t o n (there t (meta_meant i t means)) same))
+    pub rename_is_to_itself : same_path o n ≡ true → reply ≡ Done → msgs ≡ no_messages → IsCompiled i (Rename o n) at reply msgs
+    rename_is_to_itself same r = compiled_kept i (Rename o n) at reply msgs
+        (λ t means. r ∙ sym (ap (λ (z : Outcome). z.1) (rename_to_itself at t o n (there t (meta_meant i t means)) same)))
+        (λ t means. ap (λ (z : Outcome). z.0) (rename_to_itself at t o n (there t (meta_meant i t means)) same))
 
     module _ (apart : same_path o n ≡ false) (place : Option Errno) (fits : (t : Tree) → IsMeantBy t i.meta → path_fault (entry_at t o) ≡ None → place ≡ first_fault (faults_of_place t o n)) where
-      pub rename_is_without_place : (e : Errno) → place ≡ Some e → reply ≡ Fault e → msgs ≡ no_messages → IsCompiled i (Rename o n) reply msgs
-      rename_is_without_place e is = compiled_refused i (Rename o n) reply msgs e
-          (λ t means. let m : IsMeantBy t i.meta = meta_meant i t means in rename_no_place t o n (there t m) apart e (sym (fits t m (found t m)) ∙ is))
+      pub rename_is_without_place : (e : Errno) → place ≡ Some e → reply ≡ Fault e → msgs ≡ no_messages → IsCompiled i (Rename o n) at reply msgs
+      rename_is_without_place e is = compiled_refused i (Rename o n) at reply msgs e
+          (λ t means. let m : IsMeantBy t i.meta = meta_meant i t means in rename_no_place at t o n (there t m) apart e (sym (fits t m (found t m)) ∙ is))
 
       module _ (free : place ≡ None) (is_old : IsPath o) (es : List (Key × Meta)) (entries : AreBelow (metadata i.meta) o es) where
         -- the keys tell whether a text gets too long
-        longs : (t : Tree) → IsMeantBy t i.meta → list_any is_key_too_long (map (put_under {U = MetaUpdate} o n) es) ≡ too_long t o n
-        longs t m = let f : (x : Tree) × (entry_at t o ≡ Found x) = found_from (entry_at t o) (found t m) in long_key t i o n m is_old f.0 f.1 es entries
+        longs : (t : Tree) → IsMeantBy t i.meta → list_any is_key_too_long (map (put_under {U = MetaUpdate} o n) es) ≡ too_long at t o n
+        longs t m = let f : (x : Tree) × (entry_at t o ≡ Found x) = found_from (entry_at t o) (found t m) in long_key at t i o n m is_old f.0 f.1 es entries
 
-        pub rename_is_too_long : list_any is_key_too_long (map (put_under {U = MetaUpdate} o n) es) ≡ true → reply ≡ Fault ENAMETOOLONG → msgs ≡ no_messages → IsCompiled i (Rename o n) reply msgs
-        rename_is_too_long long = compiled_refused i (Rename o n) reply msgs ENAMETOOLONG
-            (λ t means. let m : IsMeantBy t i.meta = meta_meant i t means in rename_too_long t o n (there t m) apart (sym (fits t m (found t m)) ∙ free) (sym (longs t m) ∙ long))
+        pub rename_is_too_long : list_any is_key_too_long (map (put_under {U = MetaUpdate} o n) es) ≡ true → reply ≡ Fault ENAMETOOLONG → msgs ≡ no_messages → IsCompiled i (Rename o n) at reply msgs
+        rename_is_too_long long = compiled_refused i (Rename o n) at reply msgs ENAMETOOLONG
+            (λ t means. let m : IsMeantBy t i.meta = meta_meant i t means in rename_too_long at t o n (there t m) apart (sym (fits t m (found t m)) ∙ free) (sym (longs t m) ∙ long))
 
         module _ (short : list_any is_key_too_long (map (put_under {U = MetaUpdate} o n) es) ≡ false) (is_new : IsPath n) where
-          answers : (t : Tree) → MeanTree i t → (does t (Rename o n)).1 ≡ Done
-          answers t means = let m : IsMeantBy t i.meta = meta_meant i t means in rename_done t o n (there t m) apart (sym (fits t m (found t m)) ∙ free) (sym (longs t m) ∙ short)
+          answers : (t : Tree) → MeanTree i t → (does at t (Rename o n)).1 ≡ Done
+          answers t means = let m : IsMeantBy t i.meta = meta_meant i t means in rename_done at t o n (there t m) apart (sym (fits t m (found t m)) ∙ free) (sym (longs t m) ∙ short)
 
-          pub rename_is_done : (bs : List (Key × List ℕ)) → AreBelow (blocks i.block) o bs → (gone : List (Msg BlockUpdate (List ℕ))) → ((t : Tree) → IsMeantBy t i.meta → gone ≡ replaced (entry_at t n) n) → length gone ≤ 1
-              → reply ≡ Done → msgs ≡ record { meta = map (put_under o n) es ++ DelRange (subtree o) ∷ []; block = gone ++ map (put_under o n) bs ++ DelRange (subtree o) ∷ [] } → IsCompiled i (Rename o n) reply msgs
-          rename_is_done bs contents gone are few r m =
-              compiled_done i (Rename o n) reply msgs Done (record { meta = map (put_under o n) es ++ DelRange (subtree o) ∷ []; block = gone ++ map (put_under o n) bs ++ DelRange (subtree o) ∷ [] }) (λ e. (λ f. cc))
+          pub rename_is_done : IsMoment at → (bs : List (Key × List ℕ)) → AreBelow (blocks i.block) o bs → (gone : List (Msg BlockUpdate (List ℕ))) → ((t : Tree) → IsMeantBy t i.meta → gone ≡ replaced (entry_at t n) n) → length gone ≤ 1
+              → reply ≡ Done → msgs ≡ record { meta = (map (put_under o n) es ++ DelRange (subtree o) ∷ []) ++ touches at (parents_of (Rename o n)); block = gone ++ map (put_under o n) bs ++ DelRange (subtree o) ∷ [] } → IsCompiled i (Rename o n) at reply msgs
+          rename_is_done early bs contents gone are few r m =
+              compiled_done i (Rename o n) at reply msgs Done (record { meta = (map (put_under o n) es ++ DelRange (subtree o) ∷ []) ++ touches at (parents_of (Rename o n)); block = gone ++ map (put_under o n) bs ++ DelRange (subtree o) ∷ [] }) (λ e. (λ f. cc))
               answers
               (λ t means e.
-              let t' : Tree = (does t (Rename o n)).0 in
-              messages_move t i o n means is_old is_new (may_move t o n apart (answers t means)) t' (rename_moves t t' o n apart e)
-              (rename_law t t' o n (metadata i.meta) (blocks i.block) means (is_old, is_new) apart e) es bs entries contents _ refl
+              let t' : Tree = (does at t (Rename o n)).0 in
+              let d : (u : Tree) × (◌≡◌ {A = Outcome} (changed at t (Rename o n)) (u, Done)) × (t' ≡ all_touched at u (parents_of (Rename o n))) = done_law at t t' (Rename o n) e in
+              messages_move t i o n means is_old is_new (may_move at t o n apart (answers t means)) at (parents_of (Rename o n)) t' d.0 (rename_moves at t d.0 o n apart d.1)
+              (rename_law at t t' o n (metadata i.meta) (blocks i.block) early means (is_old, is_new) apart e) es bs entries contents _ refl
               (ap (λ (ms : List (Msg BlockUpdate (List ℕ))). ms ++ map (put_under o n) bs ++ DelRange (subtree o) ∷ []) (are t (meta_meant i t means))))
               (inr (es, bs, entries, contents, counted))
               r m
             where
-              counted : length (map (put_under {U = MetaUpdate} o n) es ++ DelRange (subtree o) ∷ []) + length (gone ++ map (put_under o n) bs ++ DelRange (subtree o) ∷ []) ≤ length es + length bs + 3
-              counted = omega (arith, length-append (map (put_under {U = MetaUpdate} {V = Meta} o n) es) (DelRange (subtree o) ∷ []), length-append (gone ++ map (put_under o n) bs) (DelRange (subtree o) ∷ []), length-append gone (map (put_under o n) bs), length-map es (put_under {U = MetaUpdate} {V = Meta} o n), length-map bs (put_under {U = BlockUpdate} {V = List ℕ} o n), few)
+              counted : length ((map (put_under {U = MetaUpdate} o n) es ++ DelRange (subtree o) ∷ []) ++ touches at (parents_of (Rename o n))) + length (gone ++ map (put_under {U = BlockUpdate} {V = List ℕ} o n) bs ++ DelRange (subtree o) ∷ []) ≤ length es + length bs + 3 + length (parents_of (Rename o n))
+              counted = omega (
+                arith,
+                length-append (map (put_under {U = MetaUpdate} {V = Meta} o n) es ++ DelRange (subtree o) ∷ []) (touches at (parents_of (Rename o n))),
+                length-touches at (parents_of (Rename o n)),
+                length-append (map (put_under {U = MetaUpdate} {V = Meta} o n) es) (DelRange (subtree o) ∷ []),
+                length-append (gone ++ map (put_under o n) bs) (DelRange (subtree o) ∷ []),
+                length-append gone (map (put_under o n) bs),
+                length-map es (put_under {U = MetaUpdate} {V = Meta} o n),
+                length-map bs (put_under {U = BlockUpdate} {V = List ℕ} o n),
+                few,
+              )

@@ -1,5 +1,6 @@
 -- What a file call is compiled to, by the directory tree that the indexes mean.
-use Rattle.std.specs.Prelude.{◌≡◌, ◌≤◌, ◌+◌, ◌⊎◌, ℕ, length, List, [], ◌∷◌}
+use Rattle.std.specs.Prelude.{◌≡◌, ◌≤◌, ◌+◌, ◌⊎◌, ℕ, Bool, length, List, [], ◌∷◌}
+use Rattle.std.specs.List.{list_any}
 use Rattle.block_index.specs.Changed.{patches}
 use Rattle.block_index.specs.Means.{blocks}
 use Rattle.block_index.specs.Updates.{means as block_means}
@@ -8,15 +9,15 @@ use Rattle.message.specs.declared.msg.Msg.{Msg}
 use Rattle.message.specs.declared.msg.Msg.TheVariants.{Edit}
 use Rattle.message.specs.Effects.{effects}
 use Rattle.meta_index.specs.declared.update.MetaUpdate.{MetaUpdate}
-use Rattle.meta_index.specs.declared.update.MetaUpdate.TheVariants.{Grow}
+use Rattle.meta_index.specs.declared.update.MetaUpdate.TheVariants.{Grow, Touch}
 use Rattle.meta_index.specs.Means.{metadata}
 use Rattle.meta_index.specs.Updates.{means as meta_means}
 use Rattle.pathkey.specs.Keys.{Key, enc}
-use Rattle.pathkey.specs.Names.{Path}
+use Rattle.pathkey.specs.Names.{Path, is_root}
 use Rattle.pathkey.specs.declared.errno.Errno.{Errno}
 use Rattle.pathkey.specs.declared.errno.Errno.TheVariants.{ENOENT, ENOTDIR}
 use Rattle.reference.specs.Tree.{Tree, At, Found, Missing, Blocked, entry_at}
-use Rattle.reference.specs.Calls.{bytes_of, stat_of, does}
+use Rattle.reference.specs.Calls.{bytes_of, stat_of, parents_of, does}
 use Rattle.reference.specs.Indexes.{Metadata, Blocks, IndexesMean}
 use Rattle.reference.specs.declared.call.Call.{Call}
 use Rattle.reference.specs.declared.call.Call.TheVariants.{Mkdir, Create, Write, Truncate, Unlink, Rmdir, Rename, Rmtree, Read, Stat as AskStat, Readdir}
@@ -59,39 +60,49 @@ blocks_after msgs d k = effects block_means msgs.block k (d k)
 abbrev pub MeanTree : Indexes → Tree → Type 0
 MeanTree i t = IndexesMean t (metadata i.meta) (blocks i.block)
 
--- the messages of a write of w at off: the length is raised, and each block that the bytes touch gets its slice of them
-abbrev pub write_messages : Path → ℕ → List ℕ → Messages
-write_messages p off w = record { meta = Edit (enc p) (Grow (off + length w)) ∷ []; block = patches p off w }
+-- the messages that set the moment at the paths
+abbrev pub touches : ℕ → List Path → List (Msg MetaUpdate Meta)
+touches at [] = []
+touches at (p ∷ ps) = Edit (enc p) (Touch at) ∷ touches at ps
+
+-- whether the call, where it is done, gives the root its moment: an entry of the root is put or taken out
+abbrev pub touches_root : Call → Bool
+touches_root c = list_any is_root (parents_of c)
+
+-- the messages of a write of w at off: the length is raised and the moment set, and each block that the bytes touch gets
+-- its slice of them
+abbrev pub write_messages : Path → ℕ → List ℕ → ℕ → Messages
+write_messages p off w at = record { meta = Edit (enc p) (Grow (off + length w) at) ∷ []; block = patches p off w }
 
 -- what a call may send over both indexes: one message where an entry comes or an empty directory goes, two where a
 -- file goes, three where it is cut, one where it is lengthened, two where an entry goes with all below it, for a write
 -- its patches and one, for each entry and block that is moved one and three besides, and nothing for a call that only
--- reads
-abbrev pub Sends : Indexes → Call → Messages → Type 0
-Sends i (Mkdir p) msgs = count msgs ≤ 1
-Sends i (Create p) msgs = count msgs ≤ 1
-Sends i (Write p off w) msgs = (msgs ≡ no_messages) ⊎ (msgs ≡ write_messages p off w)
-Sends i (Truncate p n) msgs = (count msgs ≤ 3) × ((t : Tree) → MeanTree i t → length (bytes_of (entry_at t p)) ≤ n → count msgs ≤ 1)
-Sends i (Unlink p) msgs = count msgs ≤ 2
-Sends i (Rmdir p) msgs = count msgs ≤ 1
-Sends i (Rmtree p) msgs = count msgs ≤ 2
-Sends i (Read p off n) msgs = msgs ≡ no_messages
-Sends i (AskStat p) msgs = msgs ≡ no_messages
-Sends i (Readdir p) msgs = msgs ≡ no_messages
-Sends i (Rename o n) msgs =
+-- reads; and one more for each directory that gets the moment
+abbrev pub Sends : Indexes → Call → ℕ → Messages → Type 0
+Sends i (Mkdir p) at msgs = count msgs ≤ 1 + length (parents_of (Mkdir p))
+Sends i (Create p) at msgs = count msgs ≤ 1 + length (parents_of (Create p))
+Sends i (Write p off w) at msgs = (msgs ≡ no_messages) ⊎ (msgs ≡ write_messages p off w at)
+Sends i (Truncate p n) at msgs = (count msgs ≤ 3) × ((t : Tree) → MeanTree i t → length (bytes_of (entry_at t p)) ≤ n → count msgs ≤ 1)
+Sends i (Unlink p) at msgs = count msgs ≤ 2 + length (parents_of (Unlink p))
+Sends i (Rmdir p) at msgs = count msgs ≤ 1 + length (parents_of (Rmdir p))
+Sends i (Rmtree p) at msgs = count msgs ≤ 2 + length (parents_of (Rmtree p))
+Sends i (Read p off n) at msgs = msgs ≡ no_messages
+Sends i (AskStat p) at msgs = msgs ≡ no_messages
+Sends i (Readdir p) at msgs = msgs ≡ no_messages
+Sends i (Rename o n) at msgs =
     (msgs ≡ no_messages)
-    ⊎ ((es : List (Key × Meta)) × (bs : List (Key × List ℕ)) × AreBelow (metadata i.meta) o es × AreBelow (blocks i.block) o bs × (count msgs ≤ length es + length bs + 3))
+    ⊎ ((es : List (Key × Meta)) × (bs : List (Key × List ℕ)) × AreBelow (metadata i.meta) o es × AreBelow (blocks i.block) o bs × (count msgs ≤ length es + length bs + 3 + length (parents_of (Rename o n))))
 
--- what a call is compiled to
-pub record IsCompiled (i : Indexes) (call : Call) (answer : Reply) (msgs : Messages) : Type 0 where
+-- what a call at a moment is compiled to
+pub record IsCompiled (i : Indexes) (call : Call) (at : ℕ) (answer : Reply) (msgs : Messages) : Type 0 where
   -- the reply is the one that the table of calls makes of the tree that the indexes mean
-  pub reply : (t : Tree) → MeanTree i t → answer ≡ (does t call).1
+  pub reply : (t : Tree) → MeanTree i t → answer ≡ (does at t call).1
   -- after the messages they mean the tree that the table makes of it
-  pub tree : (t : Tree) → MeanTree i t → IndexesMean (does t call).0 (metadata_after msgs (metadata i.meta)) (blocks_after msgs (blocks i.block))
+  pub tree : (t : Tree) → MeanTree i t → IndexesMean (does at t call).0 (metadata_after msgs (metadata i.meta)) (blocks_after msgs (blocks i.block))
   -- a call that is refused has no message
   pub fault : (e : Errno) → answer ≡ Fault e → msgs ≡ no_messages
   -- and one that is done no more than it needs
-  pub sends : Sends i call msgs
+  pub sends : Sends i call at msgs
 
 -- ---- how the calls come to it
 

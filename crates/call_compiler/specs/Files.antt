@@ -6,8 +6,8 @@ use Rattle.reference.specs.Calls.{faults_of_file, first_fault}
 
 -- a file of that length stands there; or this is why none does, e being the fault of a directory
 abbrev pub TellsFile : At → Errno → Result ℕ Errno → Type 0
-TellsFile here e file = MatchResult file (λ len. (b : List ℕ) × (here ≡ Found (File b)) × (length b ≡ len)) (λ fault. first_fault (faults_of_file here e) ≡ Some fault)
+TellsFile here e file = MatchResult file (λ len. (date : ℕ) × (b : List ℕ) × (here ≡ Found (File date b)) × (length b ≡ len)) (λ fault. first_fault (faults_of_file here e) ≡ Some fault)
 
 -- a file that stands there has at most 2^40 bytes
 abbrev pub IsShort : At → Type 0
-IsShort here = (b : List ℕ) → here ≡ Found (File b) → length b ≤ 2 ^ 40
+IsShort here = (date : ℕ) (b : List ℕ) → here ≡ Found (File date b) → length b ≤ 2 ^ 40

@@ -1,13 +1,16 @@
 -- Laws of what calls are compiled to.
+use Rattle.std.specs.Prelude.{◌≡◌, ◌&&◌, ℕ, if◌then◌else◌}
 use Rattle.block_index.specs.Means.{blocks}
 use Rattle.block_index.specs.Updates.{means as block_means}
 use Rattle.meta_index.specs.Means.{metadata}
 use Rattle.meta_index.specs.Updates.{means as meta_means}
 use Rattle.node.specs.Appended.{Appended}
-use Rattle.reference.specs.Tree.{Tree}
+use Rattle.reference.specs.Calls.{is_done, does}
+use Rattle.reference.specs.Tree.{Tree, moment}
 use Rattle.reference.specs.Indexes.{IndexesMean}
 use Rattle.call_compiler.specs.declared.indexes.Indexes.{Indexes}
-use Rattle.call_compiler.specs.Compiled.{Messages, metadata_after, blocks_after, MeanTree}
+use Rattle.reference.specs.declared.call.Call.{Call}
+use Rattle.call_compiler.specs.Compiled.{Messages, metadata_after, blocks_after, MeanTree, touches_root}
 
 -- each index has got its half of the messages
 pub record HaveTaken (msgs : Messages) (old new : Indexes) : Type 0 where
@@ -17,3 +20,7 @@ pub record HaveTaken (msgs : Messages) (old new : Indexes) : Type 0 where
 -- indexes that have got messages mean the tree after them
 abbrev pub AppendLaw : Type 0
 AppendLaw = (t : Tree) (old new : Indexes) (msgs : Messages) → IndexesMean t (metadata_after msgs (metadata old.meta)) (blocks_after msgs (blocks old.block)) → HaveTaken msgs old new → MeanTree new t
+
+-- the root has the moment of a call that is done and puts or takes out an entry of it, and after any other the moment that it had
+abbrev pub RootLaw : Type 0
+RootLaw = (at : ℕ) (t : Tree) (c : Call) → moment (does at t c).0 ≡ if is_done (does at t c).1 && touches_root c then at else moment t

@@ -1,11 +1,13 @@
 //! The messages that a call is compiled to.
 ghost use Rattle.std.specs.Prelude.{◌≡◌, [], ◌∷◌, IfOk};
-ghost use Rattle.call_compiler.specs.Compiled.{messages, no_messages};
+ghost use Rattle.call_compiler.specs.Compiled.{messages, no_messages, touches};
+ghost use Rattle.reference.specs.Calls.{parent};
 
+use crate::touching::touch_directory;
 use block_index::BlockUpdate;
 use message::Msg;
 use meta_index::MetaUpdate;
-use pathkey::{Errno, NoMemory};
+use pathkey::{Errno, NoMemory, Path};
 use reference::Reply;
 use std::alloc::Global;
 
@@ -49,4 +51,22 @@ pub(crate) fn done(
     let mut meta = Vec::with_capacity(alloc, 1)?;
     meta.push(msg)?;
     Ok((reply, Batch { meta, block }))
+}
+
+/// What a call that puts an entry at the path, or takes one out, by a message for the metadata and messages for blocks
+/// comes to: it is done, and the path's directory gets the moment.
+pub(crate) fn done_in_directory(
+    alloc: Global,
+    path: &Path,
+    at: u64,
+    msg: Msg<MetaUpdate>,
+    block: Vec<Msg<BlockUpdate>>,
+) -> Result<(Reply, Batch), NoMemory>
+    ensures reply { IfOk result (λ c. c.0 ≡ Reply.Done) }
+    ensures messages { IfOk result (λ c. messages c.1 ≡ record { meta = msg ∷ touches at (parent path.now ∷ []); block = block.items }) }
+{
+    let mut meta = Vec::with_capacity(alloc, 2)?;
+    meta.push(msg)?;
+    touch_directory(alloc, &mut meta, path, at)?;
+    Ok((Reply::Done, Batch { meta, block }))
 }

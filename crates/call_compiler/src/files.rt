@@ -34,8 +34,8 @@ fn file_of(at: At, directory: Errno) -> Result<u64, Errno>
     ensures short { IfOk result (λ len. len ≤ 2 ^ 40) }
 {
     match at {
-        At::Found(Meta::File { len }) => Ok(len.min(GREATEST_FILE)),
-        At::Found(Meta::Dir) => Err(directory),
+        At::Found(Meta::File { len, .. }) => Ok(len.min(GREATEST_FILE)),
+        At::Found(Meta::Dir { .. }) => Err(directory),
         At::Missing => Err(Errno::ENOENT),
         At::Blocked => Err(Errno::ENOTDIR),
     }

@@ -23,12 +23,12 @@ pub struct Indexes {
 }
 
 impl Indexes {
-    /// The indexes of the empty root directory, in new trees of this shape. It fails only for want of memory.
+    /// The indexes of the empty root directory, of moment 0, in new trees of this shape. It fails only for want of memory.
     pub fn new(alloc: Global, shape: Shape) -> Result<Indexes, NoMemory>
         requires { IsTrue (is_shape shape) }
         ensures meta_shape { IfOk result (λ i. i.meta.tree.shape ≡ shape) }
         ensures block_shape { IfOk result (λ i. i.block.tree.shape ≡ shape) }
-        ensures empty { IfOk result (λ i. MeanTree i (Dir nothing)) }
+        ensures empty { IfOk result (λ i. MeanTree i (Dir 0 nothing)) }
     {
         let meta = MetaIndex::new(alloc, shape)?;
         let block = BlockIndex::new(alloc, shape)?;

@@ -20,25 +20,34 @@ pub mod moving;
 pub mod reading;
 pub mod removing;
 mod subtrees;
+pub mod touching;
 pub mod writing;
 
 pub use batch::Batch;
 pub use indexes::Indexes;
 pub use reference::{Call, Reply};
 
-/// The reply to a file call, and the messages that do it. It changes nothing, and fails only for want of memory.
-pub fn compile(alloc: Global, indexes: &Indexes, call: &Call) -> Result<(Reply, Batch), NoMemory>
-    ensures { IfOk result (λ c. IsCompiled indexes.now call.now c.0 (messages c.1)) }
+/// The reply to a file call at a moment, and the messages that do it. It changes nothing, and fails only for want of
+/// memory.
+pub fn compile(
+    alloc: Global,
+    indexes: &Indexes,
+    call: &Call,
+    at: u64,
+) -> Result<(Reply, Batch), NoMemory>
+    ensures { IfOk result (λ c. IsCompiled indexes.now call.now at c.0 (messages c.1)) }
 {
     match call {
-        Call::Mkdir(path) => making::mkdir(alloc, indexes, path),
-        Call::Create(path) => making::create(alloc, indexes, path),
-        Call::Write(path, offset, bytes) => writing::write(alloc, indexes, path, *offset, bytes),
-        Call::Truncate(path, len) => writing::truncate(alloc, indexes, path, *len),
-        Call::Unlink(path) => removing::unlink(alloc, indexes, path),
-        Call::Rmdir(path) => removing::rmdir(alloc, indexes, path),
-        Call::Rename(old, new) => moving::rename(alloc, indexes, old, new),
-        Call::Rmtree(path) => removing::rmtree(alloc, indexes, path),
+        Call::Mkdir(path) => making::mkdir(alloc, indexes, path, at),
+        Call::Create(path) => making::create(alloc, indexes, path, at),
+        Call::Write(path, offset, bytes) => writing::write(
+            alloc, indexes, path, *offset, bytes, at,
+        ),
+        Call::Truncate(path, len) => writing::truncate(alloc, indexes, path, *len, at),
+        Call::Unlink(path) => removing::unlink(alloc, indexes, path, at),
+        Call::Rmdir(path) => removing::rmdir(alloc, indexes, path, at),
+        Call::Rename(old, new) => moving::rename(alloc, indexes, old, new, at),
+        Call::Rmtree(path) => removing::rmtree(alloc, indexes, path, at),
         Call::Read(path, offset, count) => reading::read(alloc, indexes, path, *offset, *count),
         Call::Stat(path) => reading::stat(alloc, indexes, path),
         Call::Readdir(path) => reading::readdir(alloc, indexes, path),

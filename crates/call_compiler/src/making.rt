@@ -5,7 +5,7 @@ ghost use Rattle.meta_index.specs.Means.{IsMeantBy};
 ghost use Rattle.reference.specs.Calls.{faults_of_new, first_fault};
 ghost use Rattle.reference.specs.Tree.{Tree};
 
-use crate::batch::{Batch, done, refused};
+use crate::batch::{Batch, done_in_directory, refused};
 use crate::indexes::Indexes;
 use message::Msg;
 use meta_index::Meta;
@@ -14,27 +14,43 @@ use reference::{Call, Reply};
 use std::alloc::Global;
 
 /// Makes an empty directory (POSIX.1-2017, mkdir).
-pub fn mkdir(alloc: Global, indexes: &Indexes, path: &Path) -> Result<(Reply, Batch), NoMemory>
-    ensures { IfOk result (λ c. IsCompiled indexes.now (Call.Mkdir path.now) c.0 (messages c.1)) }
+pub fn mkdir(
+    alloc: Global,
+    indexes: &Indexes,
+    path: &Path,
+    at: u64,
+) -> Result<(Reply, Batch), NoMemory>
+    ensures { IfOk result (λ c. IsCompiled indexes.now (Call.Mkdir path.now) at c.0 (messages c.1)) }
 {
     let key = path.key();
     if let Some(fault) = fault_of_new(alloc, indexes, path)? {
         return Ok(refused(alloc, fault));
     }
-    let put = Msg::Put(key.copy(alloc)?, Meta::Dir);
-    done(alloc, Reply::Done, put, Vec::new(alloc))
+    let put = Msg::Put(key.copy(alloc)?, Meta::Dir { modified: at });
+    done_in_directory(alloc, path, at, put, Vec::new(alloc))
 }
 
 /// Makes an empty file (open with O_CREAT and O_EXCL, without a descriptor).
-pub fn create(alloc: Global, indexes: &Indexes, path: &Path) -> Result<(Reply, Batch), NoMemory>
-    ensures { IfOk result (λ c. IsCompiled indexes.now (Call.Create path.now) c.0 (messages c.1)) }
+pub fn create(
+    alloc: Global,
+    indexes: &Indexes,
+    path: &Path,
+    at: u64,
+) -> Result<(Reply, Batch), NoMemory>
+    ensures { IfOk result (λ c. IsCompiled indexes.now (Call.Create path.now) at c.0 (messages c.1)) }
 {
     let key = path.key();
     if let Some(fault) = fault_of_new(alloc, indexes, path)? {
         return Ok(refused(alloc, fault));
     }
-    let put = Msg::Put(key.copy(alloc)?, Meta::File { len: 0 });
-    done(alloc, Reply::Done, put, Vec::new(alloc))
+    let put = Msg::Put(
+        key.copy(alloc)?,
+        Meta::File {
+            len: 0,
+            modified: at,
+        },
+    );
+    done_in_directory(alloc, path, at, put, Vec::new(alloc))
 }
 
 /// Why no new entry can be made at the path; none where one can.

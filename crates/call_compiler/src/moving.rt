@@ -1,11 +1,11 @@
 //! `rename`.
 ghost use Rattle.std.specs.Prelude.{◌≡◌, ◌≤◌, [], ◌∷◌, ◌++◌, IfOk, None, length, not};
-ghost use Rattle.call_compiler.specs.Compiled.{IsCompiled, messages};
+ghost use Rattle.call_compiler.specs.Compiled.{IsCompiled, messages, touches};
 ghost use Rattle.call_compiler.specs.Moves.{replaced};
 ghost use Rattle.message.specs.declared.msg.Msg.TheVariants.{DelRange};
 ghost use Rattle.meta_index.specs.Means.{IsMeantBy, told};
 ghost use Rattle.pathkey.specs.Keys.{subtree as subtree_of};
-ghost use Rattle.reference.specs.Calls.{faults_of_place, faults_of_replacing, first_fault, is_directory as stands_directory, is_full, path_fault, same_path};
+ghost use Rattle.reference.specs.Calls.{faults_of_place, faults_of_replacing, first_fault, is_directory as stands_directory, is_full, once, parent, path_fault};
 ghost use Rattle.reference.specs.Tree as trees;
 
 use crate::batch::{Batch, refused, without_messages};
@@ -13,6 +13,7 @@ use crate::files::find_file;
 use crate::indexes::Indexes;
 use crate::removing::fault_of_rmtree;
 use crate::subtrees::{has_too_long_key, put_moved};
+use crate::touching::{are_same, touch_directories};
 use block_index::BlockUpdate;
 use message::Msg;
 use meta_index::{At, Meta, MetaUpdate};
@@ -24,14 +25,16 @@ use std::alloc::Global;
 /// (POSIX.1-2017, rename). What stands at `old` stays there where both paths are one.
 ///
 /// Each entry and each block at or below `old` is put under its new key, and then one range-delete in each index takes out what
-/// stood at or below `old`; the blocks of a file that is replaced go before all else. No byte of a file is copied.
+/// stood at or below `old`; the blocks of a file that is replaced go before all else, and the moments of both directories
+/// come last. No byte of a file is copied.
 pub fn rename(
     alloc: Global,
     indexes: &Indexes,
     old: &Path,
     new: &Path,
+    at: u64,
 ) -> Result<(Reply, Batch), NoMemory>
-    ensures { IfOk result (λ c. IsCompiled indexes.now (Call.Rename old.now new.now) c.0 (messages c.1)) }
+    ensures { IfOk result (λ c. IsCompiled indexes.now (Call.Rename old.now new.now) at c.0 (messages c.1)) }
 {
     // What `key` promises says that both paths are paths.
     let _old_key = old.key();
@@ -51,15 +54,8 @@ pub fn rename(
     }
     let replaced = replaced_blocks(alloc, indexes, new)?;
     let blocks = put_moved(alloc, &indexes.block.tree, old, new, replaced)?;
-    let batch = with_old_cleared(alloc, old, entries, blocks)?;
+    let batch = with_old_cleared(alloc, old, new, at, entries, blocks)?;
     Ok((Reply::Done, batch))
-}
-
-/// Whether the two paths are one.
-fn are_same(first: &Path, second: &Path) -> bool
-    ensures { result ≡ same_path first.now second.now }
-{
-    second.is_under(first) && first.is_under(second)
 }
 
 /// Why what stands at `old` cannot be put at `new`, another path, whatever the length of its texts; none where it can.
@@ -88,7 +84,7 @@ fn is_directory(at: At) -> bool
     ensures { (here : trees.At) → at ≡ told here → result ≡ stands_directory here }
 {
     match at {
-        At::Found(Meta::Dir) => true,
+        At::Found(Meta::Dir { .. }) => true,
         At::Found(Meta::File { .. }) => false,
         At::Missing => false,
         At::Blocked => false,
@@ -100,9 +96,11 @@ fn fault_of_replacing(from: At, to: At, empty: bool) -> Option<Errno>
     ensures { (a b : trees.At) → from ≡ told a → to ≡ told b → empty ≡ not (is_full b) → path_fault a ≡ None → result ≡ first_fault (faults_of_replacing a b) }
 {
     match (from, to) {
-        (At::Found(Meta::File { .. }), At::Found(Meta::Dir)) => Some(Errno::EISDIR),
-        (At::Found(Meta::Dir), At::Found(Meta::File { .. })) => Some(Errno::ENOTDIR),
-        (At::Found(Meta::Dir), At::Found(Meta::Dir)) if !empty => Some(Errno::ENOTEMPTY),
+        (At::Found(Meta::File { .. }), At::Found(Meta::Dir { .. })) => Some(Errno::EISDIR),
+        (At::Found(Meta::Dir { .. }), At::Found(Meta::File { .. })) => Some(Errno::ENOTDIR),
+        (At::Found(Meta::Dir { .. }), At::Found(Meta::Dir { .. })) if !empty => Some(
+            Errno::ENOTEMPTY,
+        ),
         _ => None,
     }
 }
@@ -123,19 +121,23 @@ fn replaced_blocks(
     Ok(msgs)
 }
 
-/// The batch of a rename: behind the messages, a range-delete in each index over what lies at or below the path.
+/// The batch of a rename: behind the messages, a range-delete in each index over what lies at or below the old path, and
+/// the moments of both directories.
 fn with_old_cleared(
     alloc: Global,
     old: &Path,
+    new: &Path,
+    at: u64,
     entries: Vec<Msg<MetaUpdate>>,
     blocks: Vec<Msg<BlockUpdate>>,
 ) -> Result<Batch, NoMemory>
-    ensures { IfOk result (λ b. messages b ≡ record { meta = entries.items ++ DelRange (subtree_of old.now) ∷ []; block = blocks.items ++ DelRange (subtree_of old.now) ∷ [] }) }
+    ensures { IfOk result (λ b. messages b ≡ record { meta = (entries.items ++ DelRange (subtree_of old.now) ∷ []) ++ touches at (once (parent old.now) (parent new.now)); block = blocks.items ++ DelRange (subtree_of old.now) ∷ [] }) }
 {
     let range = subtree(alloc, old)?;
     let mut block = blocks;
     block.push(Msg::DelRange(range.copy(alloc)?))?;
     let mut meta = entries;
     meta.push(Msg::DelRange(range))?;
+    touch_directories(alloc, &mut meta, old, new, at)?;
     Ok(Batch { meta, block })
 }

@@ -1,5 +1,5 @@
 //! Calls that only read: `read`, `stat` and `readdir`.
-ghost use Rattle.std.specs.Prelude.{◌≡◌, IfOk};
+ghost use Rattle.std.specs.Prelude.{◌≡◌, ℕ, IfOk};
 ghost use Rattle.call_compiler.specs.Compiled.{IsCompiled, messages, stat_at};
 ghost use Rattle.meta_index.specs.Means.{told};
 ghost use Rattle.reference.specs.Tree as trees;
@@ -20,7 +20,7 @@ pub fn read(
     offset: u64,
     count: u64,
 ) -> Result<(Reply, Batch), NoMemory>
-    ensures { IfOk result (λ c. IsCompiled indexes.now (Call.Read path.now offset count) c.0 (messages c.1)) }
+    ensures { (at : ℕ) → IfOk result (λ c. IsCompiled indexes.now (Call.Read path.now offset count) at c.0 (messages c.1)) }
 {
     let len = match find_file(alloc, indexes, path, Errno::EISDIR)? {
         Ok(len) => len,
@@ -36,19 +36,19 @@ pub fn read(
 
 /// What stands at the path (stat).
 pub fn stat(alloc: Global, indexes: &Indexes, path: &Path) -> Result<(Reply, Batch), NoMemory>
-    ensures { IfOk result (λ c. IsCompiled indexes.now (Call.Stat path.now) c.0 (messages c.1)) }
+    ensures { (at : ℕ) → IfOk result (λ c. IsCompiled indexes.now (Call.Stat path.now) at c.0 (messages c.1)) }
 {
     let at = indexes.meta.find(alloc, path)?;
     Ok(without_messages(alloc, reply_of(at)))
 }
 
-/// Kind and length of what stands at a path, or why nothing does.
+/// Kind, length and moment of what stands at a path, or why nothing does.
 fn reply_of(at: At) -> Reply
     ensures { (here : trees.At) → at ≡ told here → result ≡ stat_at here }
 {
     match at {
-        At::Found(Meta::Dir) => Reply::Stat(Kind::Dir, 0),
-        At::Found(Meta::File { len }) => Reply::Stat(Kind::File, len),
+        At::Found(Meta::Dir { modified }) => Reply::Stat(Kind::Dir, 0, modified),
+        At::Found(Meta::File { len, modified }) => Reply::Stat(Kind::File, len, modified),
         At::Missing => Reply::Fault(Errno::ENOENT),
         At::Blocked => Reply::Fault(Errno::ENOTDIR),
     }
@@ -56,7 +56,7 @@ fn reply_of(at: At) -> Reply
 
 /// The entries of the directory at the path (readdir).
 pub fn readdir(alloc: Global, indexes: &Indexes, path: &Path) -> Result<(Reply, Batch), NoMemory>
-    ensures { IfOk result (λ c. IsCompiled indexes.now (Call.Readdir path.now) c.0 (messages c.1)) }
+    ensures { (at : ℕ) → IfOk result (λ c. IsCompiled indexes.now (Call.Readdir path.now) at c.0 (messages c.1)) }
 {
     let at = indexes.meta.find(alloc, path)?;
     if let Some(fault) = at.fault_of_directory() {

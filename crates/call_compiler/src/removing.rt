@@ -5,7 +5,7 @@ ghost use Rattle.meta_index.specs.Means.{IsMeantBy};
 ghost use Rattle.reference.specs.Calls.{faults_of_rmdir, faults_of_rmtree, first_fault};
 ghost use Rattle.reference.specs.Tree.{Tree};
 
-use crate::batch::{Batch, done, refused};
+use crate::batch::{Batch, done_in_directory, refused};
 use crate::files::find_file;
 use crate::indexes::Indexes;
 use message::Msg;
@@ -14,8 +14,13 @@ use reference::{Call, Reply};
 use std::alloc::Global;
 
 /// Takes a file out, with all its blocks (POSIX.1-2017, unlink). A directory is refused.
-pub fn unlink(alloc: Global, indexes: &Indexes, path: &Path) -> Result<(Reply, Batch), NoMemory>
-    ensures { IfOk result (λ c. IsCompiled indexes.now (Call.Unlink path.now) c.0 (messages c.1)) }
+pub fn unlink(
+    alloc: Global,
+    indexes: &Indexes,
+    path: &Path,
+    at: u64,
+) -> Result<(Reply, Batch), NoMemory>
+    ensures { IfOk result (λ c. IsCompiled indexes.now (Call.Unlink path.now) at c.0 (messages c.1)) }
 {
     let key = path.key();
     if let Err(fault) = find_file(alloc, indexes, path, Errno::EPERM)? {
@@ -23,19 +28,24 @@ pub fn unlink(alloc: Global, indexes: &Indexes, path: &Path) -> Result<(Reply, B
     }
     let mut block = Vec::with_capacity(alloc, 1)?;
     block.push(Msg::DelRange(blocks_from(alloc, path, 0)?))?;
-    done(alloc, Reply::Done, Msg::Del(key.copy(alloc)?), block)
+    done_in_directory(alloc, path, at, Msg::Del(key.copy(alloc)?), block)
 }
 
 /// Takes an empty directory out (rmdir).
-pub fn rmdir(alloc: Global, indexes: &Indexes, path: &Path) -> Result<(Reply, Batch), NoMemory>
-    ensures { IfOk result (λ c. IsCompiled indexes.now (Call.Rmdir path.now) c.0 (messages c.1)) }
+pub fn rmdir(
+    alloc: Global,
+    indexes: &Indexes,
+    path: &Path,
+    at: u64,
+) -> Result<(Reply, Batch), NoMemory>
+    ensures { IfOk result (λ c. IsCompiled indexes.now (Call.Rmdir path.now) at c.0 (messages c.1)) }
 {
     let key = path.key();
     if let Some(fault) = fault_of_rmdir(alloc, indexes, path)? {
         return Ok(refused(alloc, fault));
     }
     let del = Msg::Del(key.copy(alloc)?);
-    done(alloc, Reply::Done, del, Vec::new(alloc))
+    done_in_directory(alloc, path, at, del, Vec::new(alloc))
 }
 
 /// Why no empty directory can be taken out at the path; none where one can.
@@ -58,8 +68,13 @@ fn fault_of_rmdir(alloc: Global, indexes: &Indexes, path: &Path) -> Result<Optio
 /// Takes out what stands at the path, with all that lies below it.
 ///
 /// It sends one range-delete to each index, whatever lies below.
-pub fn rmtree(alloc: Global, indexes: &Indexes, path: &Path) -> Result<(Reply, Batch), NoMemory>
-    ensures { IfOk result (λ c. IsCompiled indexes.now (Call.Rmtree path.now) c.0 (messages c.1)) }
+pub fn rmtree(
+    alloc: Global,
+    indexes: &Indexes,
+    path: &Path,
+    at: u64,
+) -> Result<(Reply, Batch), NoMemory>
+    ensures { IfOk result (λ c. IsCompiled indexes.now (Call.Rmtree path.now) at c.0 (messages c.1)) }
 {
     // What `key` promises says that the path is one.
     let _key = path.key();
@@ -69,7 +84,7 @@ pub fn rmtree(alloc: Global, indexes: &Indexes, path: &Path) -> Result<(Reply, B
     let range = subtree(alloc, path)?;
     let mut block = Vec::with_capacity(alloc, 1)?;
     block.push(Msg::DelRange(range.copy(alloc)?))?;
-    done(alloc, Reply::Done, Msg::DelRange(range), block)
+    done_in_directory(alloc, path, at, Msg::DelRange(range), block)
 }
 
 /// Why no entry with all below it can be taken out at the path, or moved from it; none where one can.

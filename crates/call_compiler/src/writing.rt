@@ -22,8 +22,9 @@ pub fn write(
     path: &Path,
     offset: u64,
     bytes: &Bytes,
+    at: u64,
 ) -> Result<(Reply, Batch), NoMemory>
-    ensures { IfOk result (λ c. IsCompiled indexes.now (Call.Write path.now offset bytes.now) c.0 (messages c.1)) }
+    ensures { IfOk result (λ c. IsCompiled indexes.now (Call.Write path.now offset bytes.now) at c.0 (messages c.1)) }
 {
     let key = path.key();
     if let Err(fault) = find_file(alloc, indexes, path, Errno::EISDIR)? {
@@ -37,7 +38,7 @@ pub fn write(
     }
     let len = count(bytes.as_slice());
     let block = indexes.block.write_msgs(alloc, path, offset, bytes)?;
-    let grow = Msg::Edit(key.copy(alloc)?, MetaUpdate::Grow(offset + len));
+    let grow = Msg::Edit(key.copy(alloc)?, MetaUpdate::Grow(offset + len, at));
     done(alloc, Reply::Count(len), grow, block)
 }
 
@@ -55,8 +56,9 @@ pub fn truncate(
     indexes: &Indexes,
     path: &Path,
     len: u64,
+    at: u64,
 ) -> Result<(Reply, Batch), NoMemory>
-    ensures { IfOk result (λ c. IsCompiled indexes.now (Call.Truncate path.now len) c.0 (messages c.1)) }
+    ensures { IfOk result (λ c. IsCompiled indexes.now (Call.Truncate path.now len) at c.0 (messages c.1)) }
 {
     let key = path.key();
     let old = match find_file(alloc, indexes, path, Errno::EISDIR)? {
@@ -67,7 +69,7 @@ pub fn truncate(
         return Ok(refused(alloc, Errno::EFBIG));
     }
     let block = cut_from(alloc, &indexes.block, path, old, len)?;
-    let set = Msg::Edit(key.copy(alloc)?, MetaUpdate::SetLen(len));
+    let set = Msg::Edit(key.copy(alloc)?, MetaUpdate::SetLen(len, at));
     done(alloc, Reply::Done, set, block)
 }
 

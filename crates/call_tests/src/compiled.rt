@@ -33,7 +33,7 @@ fn are_sent(alloc: Global, indexes: &mut Indexes, batch: Batch, counts: Counts) 
 
 /// What a call is compiled to. It ensures nothing, so that no proof of a test reads what a call means.
 fn compiled(alloc: Global, indexes: &Indexes, call: &Call) -> Option<(Reply, Batch)> {
-    compile(alloc, indexes, call).ok()
+    compile(alloc, indexes, call, 0).ok()
 }
 
 /// Whether a call is answered as its row says. What it sends is appended.
@@ -78,8 +78,8 @@ fn answered(alloc: Global, rows: &[Row]) -> usize {
 }
 
 const NEW_ENTRIES: &[Row] = &[
-    (Ask::Create("/f"), Told::Done, (1, 0)),
-    (Ask::Mkdir("/a"), Told::Done, (1, 0)),
+    (Ask::Create("/f"), Told::Done, (2, 0)),
+    (Ask::Mkdir("/a"), Told::Done, (2, 0)),
     (Ask::Mkdir("/"), Told::Fault(Errno::EEXIST), (0, 0)),
     (Ask::Create("/"), Told::Fault(Errno::EEXIST), (0, 0)),
     (Ask::Mkdir("/a"), Told::Fault(Errno::EEXIST), (0, 0)),
@@ -95,8 +95,8 @@ const NEW_ENTRIES: &[Row] = &[
 ];
 
 const EMPTY_DIRECTORY: &[Row] = &[
-    (Ask::Mkdir("/a"), Told::Done, (1, 0)),
-    (Ask::Create("/f"), Told::Done, (1, 0)),
+    (Ask::Mkdir("/a"), Told::Done, (2, 0)),
+    (Ask::Create("/f"), Told::Done, (2, 0)),
     (Ask::Stat("/"), Told::Dir, (0, 0)),
     (Ask::Stat("/a"), Told::Dir, (0, 0)),
     (Ask::Stat("/f"), Told::File(0), (0, 0)),
@@ -104,14 +104,14 @@ const EMPTY_DIRECTORY: &[Row] = &[
     (Ask::Rmdir("/f"), Told::Fault(Errno::ENOTDIR), (0, 0)),
     (Ask::Rmdir("/f/x"), Told::Fault(Errno::ENOTDIR), (0, 0)),
     (Ask::Rmdir("/c"), Told::Fault(Errno::ENOENT), (0, 0)),
-    (Ask::Rmdir("/a"), Told::Done, (1, 0)),
+    (Ask::Rmdir("/a"), Told::Done, (2, 0)),
     (Ask::Stat("/a"), Told::Fault(Errno::ENOENT), (0, 0)),
     (Ask::Stat("/a/b"), Told::Fault(Errno::ENOENT), (0, 0)),
     (Ask::Readdir("/a"), Told::Fault(Errno::ENOENT), (0, 0)),
 ];
 
 const WRITES: &[Row] = &[
-    (Ask::Create("/f"), Told::Done, (1, 0)),
+    (Ask::Create("/f"), Told::Done, (2, 0)),
     (Ask::Write("/f", 4_095, b"\xaa\xbb"), Told::Count(2), (1, 2)),
     (Ask::Read("/f", 4_094, 4), Told::Data(b"\0\xaa\xbb"), (0, 0)),
     (Ask::Stat("/f"), Told::File(4_097), (0, 0)),
@@ -124,7 +124,7 @@ const WRITES: &[Row] = &[
 ];
 
 const ENDS: &[Row] = &[
-    (Ask::Create("/f"), Told::Done, (1, 0)),
+    (Ask::Create("/f"), Told::Done, (2, 0)),
     (Ask::Write("/f", LAST, b"\x01"), Told::Count(1), (1, 1)),
     (
         Ask::Write("/f", LIMIT, b"\x01"),
@@ -154,7 +154,7 @@ const ENDS: &[Row] = &[
 ];
 
 const TRUNCATES: &[Row] = &[
-    (Ask::Create("/f"), Told::Done, (1, 0)),
+    (Ask::Create("/f"), Told::Done, (2, 0)),
     (Ask::Write("/f", 0, &[0xff; 10]), Told::Count(10), (1, 1)),
     (Ask::Truncate("/f", 5), Told::Done, (1, 2)),
     (Ask::Stat("/f"), Told::File(5), (0, 0)),
@@ -170,21 +170,21 @@ const TRUNCATES: &[Row] = &[
 ];
 
 const FILES: &[Row] = &[
-    (Ask::Mkdir("/a"), Told::Done, (1, 0)),
+    (Ask::Mkdir("/a"), Told::Done, (2, 0)),
     (Ask::Unlink("/"), Told::Fault(Errno::EPERM), (0, 0)),
     (Ask::Unlink("/a"), Told::Fault(Errno::EPERM), (0, 0)),
     (Ask::Read("/", 0, 1), Told::Fault(Errno::EISDIR), (0, 0)),
     (Ask::Read("/a", 0, 1), Told::Fault(Errno::EISDIR), (0, 0)),
-    (Ask::Create("/f"), Told::Done, (1, 0)),
+    (Ask::Create("/f"), Told::Done, (2, 0)),
     (Ask::Write("/f", 0, b"\xaa"), Told::Count(1), (1, 1)),
     (
         Ask::Read("/f", 0, 1_048_577),
         Told::Fault(Errno::EINVAL),
         (0, 0),
     ),
-    (Ask::Unlink("/f"), Told::Done, (1, 1)),
+    (Ask::Unlink("/f"), Told::Done, (2, 1)),
     (Ask::Unlink("/f/x"), Told::Fault(Errno::ENOENT), (0, 0)),
-    (Ask::Create("/f"), Told::Done, (1, 0)),
+    (Ask::Create("/f"), Told::Done, (2, 0)),
     (Ask::Write("/f", 1, b"\xbb"), Told::Count(1), (1, 1)),
     (Ask::Read("/f", 0, 9), Told::Data(b"\0\xbb"), (0, 0)),
 ];
@@ -193,35 +193,35 @@ const SUBTREES: &[Row] = &[
     (Ask::Rmtree("/"), Told::Fault(Errno::EBUSY), (0, 0)),
     (Ask::Rmtree("/a"), Told::Fault(Errno::ENOENT), (0, 0)),
     (Ask::Rmtree("/a/b"), Told::Fault(Errno::ENOENT), (0, 0)),
-    (Ask::Mkdir("/a"), Told::Done, (1, 0)),
-    (Ask::Create("/a/x"), Told::Done, (1, 0)),
+    (Ask::Mkdir("/a"), Told::Done, (2, 0)),
+    (Ask::Create("/a/x"), Told::Done, (2, 0)),
     (Ask::Write("/a/x", 0, b"\xaa"), Told::Count(1), (1, 1)),
-    (Ask::Mkdir("/a/d"), Told::Done, (1, 0)),
-    (Ask::Create("/a/d/y"), Told::Done, (1, 0)),
+    (Ask::Mkdir("/a/d"), Told::Done, (2, 0)),
+    (Ask::Create("/a/d/y"), Told::Done, (2, 0)),
     (
         Ask::Write("/a/d/y", 4_095, b"\xbb\xcc"),
         Told::Count(2),
         (1, 2),
     ),
-    (Ask::Create("/a-b"), Told::Done, (1, 0)),
+    (Ask::Create("/a-b"), Told::Done, (2, 0)),
     (Ask::Write("/a-b", 0, b"\xdd"), Told::Count(1), (1, 1)),
-    (Ask::Create("/ab"), Told::Done, (1, 0)),
+    (Ask::Create("/ab"), Told::Done, (2, 0)),
     (Ask::Write("/ab", 0, b"\xee"), Told::Count(1), (1, 1)),
     (Ask::Rmtree("/a/x/z"), Told::Fault(Errno::ENOTDIR), (0, 0)),
     (Ask::Rmtree("/a/x/z/z"), Told::Fault(Errno::ENOTDIR), (0, 0)),
-    (Ask::Rmtree("/a"), Told::Done, (1, 1)),
+    (Ask::Rmtree("/a"), Told::Done, (2, 1)),
     (Ask::Rmtree("/a"), Told::Fault(Errno::ENOENT), (0, 0)),
     (Ask::Stat("/a"), Told::Fault(Errno::ENOENT), (0, 0)),
     (Ask::Stat("/a/x"), Told::Fault(Errno::ENOENT), (0, 0)),
     (Ask::Read("/a-b", 0, 9), Told::Data(b"\xdd"), (0, 0)),
     (Ask::Read("/ab", 0, 9), Told::Data(b"\xee"), (0, 0)),
-    (Ask::Mkdir("/a"), Told::Done, (1, 0)),
-    (Ask::Create("/a/x"), Told::Done, (1, 0)),
+    (Ask::Mkdir("/a"), Told::Done, (2, 0)),
+    (Ask::Create("/a/x"), Told::Done, (2, 0)),
     (Ask::Stat("/a/x"), Told::File(0), (0, 0)),
     (Ask::Write("/a/x", 1, b"\xff"), Told::Count(1), (1, 1)),
     (Ask::Read("/a/x", 0, 9), Told::Data(b"\0\xff"), (0, 0)),
-    (Ask::Rmtree("/a/x"), Told::Done, (1, 1)),
-    (Ask::Rmdir("/a"), Told::Done, (1, 0)),
+    (Ask::Rmtree("/a/x"), Told::Done, (2, 1)),
+    (Ask::Rmdir("/a"), Told::Done, (2, 0)),
 ];
 
 const REFUSED_MOVES: &[Row] = &[
@@ -229,9 +229,9 @@ const REFUSED_MOVES: &[Row] = &[
     (Ask::Rename("/", "/"), Told::Fault(Errno::EBUSY), (0, 0)),
     (Ask::Rename("/a", "/b"), Told::Fault(Errno::ENOENT), (0, 0)),
     (Ask::Rename("/a", "/a"), Told::Fault(Errno::ENOENT), (0, 0)),
-    (Ask::Mkdir("/a"), Told::Done, (1, 0)),
-    (Ask::Mkdir("/a/d"), Told::Done, (1, 0)),
-    (Ask::Create("/f"), Told::Done, (1, 0)),
+    (Ask::Mkdir("/a"), Told::Done, (2, 0)),
+    (Ask::Mkdir("/a/d"), Told::Done, (2, 0)),
+    (Ask::Create("/f"), Told::Done, (2, 0)),
     (
         Ask::Rename("/f/x", "/b"),
         Told::Fault(Errno::ENOTDIR),
@@ -274,20 +274,20 @@ const REFUSED_MOVES: &[Row] = &[
 ];
 
 const MOVES: &[Row] = &[
-    (Ask::Mkdir("/a"), Told::Done, (1, 0)),
-    (Ask::Create("/a/x"), Told::Done, (1, 0)),
+    (Ask::Mkdir("/a"), Told::Done, (2, 0)),
+    (Ask::Create("/a/x"), Told::Done, (2, 0)),
     (Ask::Write("/a/x", 0, b"\xaa"), Told::Count(1), (1, 1)),
-    (Ask::Mkdir("/a/d"), Told::Done, (1, 0)),
-    (Ask::Create("/a/d/y"), Told::Done, (1, 0)),
+    (Ask::Mkdir("/a/d"), Told::Done, (2, 0)),
+    (Ask::Create("/a/d/y"), Told::Done, (2, 0)),
     (
         Ask::Write("/a/d/y", 4_095, b"\xbb\xcc"),
         Told::Count(2),
         (1, 2),
     ),
-    (Ask::Create("/a-b"), Told::Done, (1, 0)),
+    (Ask::Create("/a-b"), Told::Done, (2, 0)),
     (Ask::Write("/a-b", 4_096, b"\xdd"), Told::Count(1), (1, 1)),
-    // four entries, three blocks, and a range-delete for each index
-    (Ask::Rename("/a", "/b"), Told::Done, (5, 4)),
+    // four entries, three blocks, a range-delete for each index, and the moment of the root
+    (Ask::Rename("/a", "/b"), Told::Done, (6, 4)),
     (Ask::Stat("/a"), Told::Fault(Errno::ENOENT), (0, 0)),
     (Ask::Stat("/a/x"), Told::Fault(Errno::ENOENT), (0, 0)),
     (Ask::Read("/b/x", 0, 9), Told::Data(b"\xaa"), (0, 0)),
@@ -297,25 +297,25 @@ const MOVES: &[Row] = &[
         (0, 0),
     ),
     (Ask::Read("/a-b", 4_095, 9), Told::Data(b"\0\xdd"), (0, 0)),
-    // one entry and one block, and the blocks of the file that is replaced
-    (Ask::Rename("/b/x", "/a-b"), Told::Done, (2, 3)),
+    // one entry and one block, the blocks of the file that is replaced, and the moments of two directories
+    (Ask::Rename("/b/x", "/a-b"), Told::Done, (4, 3)),
     (Ask::Read("/a-b", 0, 9), Told::Data(b"\xaa"), (0, 0)),
     (Ask::Truncate("/a-b", 4_098), Told::Done, (1, 0)),
     (Ask::Read("/a-b", 4_095, 9), Told::Data(b"\0\0\0"), (0, 0)),
-    (Ask::Mkdir("/e"), Told::Done, (1, 0)),
-    (Ask::Rename("/b/d", "/e"), Told::Done, (3, 3)),
+    (Ask::Mkdir("/e"), Told::Done, (2, 0)),
+    (Ask::Rename("/b/d", "/e"), Told::Done, (5, 3)),
     (
         Ask::Read("/e/y", 4_094, 9),
         Told::Data(b"\0\xbb\xcc"),
         (0, 0),
     ),
-    (Ask::Rmdir("/b"), Told::Done, (1, 0)),
+    (Ask::Rmdir("/b"), Told::Done, (2, 0)),
 ];
 
 /// Each table, with what it shows.
 const TABLES: &[(&str, &[Row])] = &[
     (
-        "a new entry wants a directory above and a free name",
+        "a new entry wants a directory above, which gets its moment, and a free name",
         NEW_ENTRIES,
     ),
     ("an empty directory goes", EMPTY_DIRECTORY),
@@ -323,9 +323,15 @@ const TABLES: &[(&str, &[Row])] = &[
     ("a file ends at the limit", ENDS),
     ("a truncate cuts the blocks behind its end", TRUNCATES),
     ("a file goes with its bytes", FILES),
-    ("a subtree goes by two messages", SUBTREES),
+    (
+        "a subtree goes by a range-delete for each index, and the moment of its directory",
+        SUBTREES,
+    ),
     ("a move that is refused sends nothing", REFUSED_MOVES),
-    ("a move is one message for each pair and the ranges", MOVES),
+    (
+        "a move is one message for each pair, the ranges, and the moments of its directories",
+        MOVES,
+    ),
 ];
 
 /// Whether all tables are answered as they say; the name of the first that is not.

@@ -12,7 +12,15 @@ const SHAPE: Shape = Shape::USUAL;
 /// Puts the file with a number of four digits in `/a` into an index.
 fn put_numbered(alloc: Global, index: &mut MetaIndex, number: u32) -> bool {
     match format!(in alloc; "/a/{number:04}") {
-        Ok(text) => put(alloc, index, text.as_str(), Meta::File { len: 0 }),
+        Ok(text) => put(
+            alloc,
+            index,
+            text.as_str(),
+            Meta::File {
+                len: 0,
+                modified: 0,
+            },
+        ),
         Err(_) => false,
     }
 }
@@ -24,7 +32,8 @@ fn fill(alloc: Global, index: &mut MetaIndex) -> bool {
             return false;
         }
     }
-    put(alloc, index, "/a", Meta::Dir) && put(alloc, index, "/b", Meta::Dir)
+    put(alloc, index, "/a", Meta::Dir { modified: 0 })
+        && put(alloc, index, "/b", Meta::Dir { modified: 0 })
 }
 
 /// What stands in the root.

@@ -54,14 +54,38 @@ fn edit(alloc: Global, index: &mut MetaIndex, text: &str, update: MetaUpdate) ->
 
 /// The root with a file `/f`, an empty directory `/b`, and a directory `/a` with a file and a directory of one file.
 const ENTRIES: &[(&str, Meta)] = &[
-    ("/", Meta::Dir),
-    ("/f", Meta::File { len: 5 }),
-    ("/b", Meta::Dir),
-    ("/a", Meta::Dir),
-    ("/a/x", Meta::File { len: 0 }),
-    ("/a/d", Meta::Dir),
-    ("/a/d/y", Meta::File { len: 9 }),
-    ("/a-b", Meta::File { len: 1 }),
+    ("/", Meta::Dir { modified: 0 }),
+    (
+        "/f",
+        Meta::File {
+            len: 5,
+            modified: 0,
+        },
+    ),
+    ("/b", Meta::Dir { modified: 0 }),
+    ("/a", Meta::Dir { modified: 0 }),
+    (
+        "/a/x",
+        Meta::File {
+            len: 0,
+            modified: 0,
+        },
+    ),
+    ("/a/d", Meta::Dir { modified: 0 }),
+    (
+        "/a/d/y",
+        Meta::File {
+            len: 9,
+            modified: 0,
+        },
+    ),
+    (
+        "/a-b",
+        Meta::File {
+            len: 1,
+            modified: 0,
+        },
+    ),
 ];
 
 /// Puts these entries into an index.
@@ -97,25 +121,46 @@ fn has_fault(alloc: Global, index: &MetaIndex, path: &Path, wanted: Option<Errno
     }
 }
 
+/// What an index finds, in one line of a table: the length of a file, and the moment of last change.
+#[derive(Clone, Copy)]
+enum Stands {
+    File(u64, u64),
+    Directory(u64),
+    Nothing,
+}
+
+impl Stands {
+    fn found(self) -> At {
+        match self {
+            Stands::File(len, modified) => At::Found(Meta::File { len, modified }),
+            Stands::Directory(modified) => At::Found(Meta::Dir { modified }),
+            Stands::Nothing => At::Missing,
+        }
+    }
+}
+
 /// A path, an update of the entry there, and what then stands there.
-const UPDATES: &[(&str, MetaUpdate, At)] = &[
-    ("/f", MetaUpdate::Grow(3), At::Found(Meta::File { len: 5 })),
-    ("/f", MetaUpdate::Grow(7), At::Found(Meta::File { len: 7 })),
-    (
-        "/f",
-        MetaUpdate::SetLen(2),
-        At::Found(Meta::File { len: 2 }),
-    ),
-    ("/f", MetaUpdate::Grow(4), At::Found(Meta::File { len: 4 })),
-    ("/b", MetaUpdate::SetLen(2), At::Found(Meta::Dir)),
-    ("/c", MetaUpdate::Grow(2), At::Missing),
+const UPDATES: &[(&str, MetaUpdate, Stands)] = &[
+    ("/f", MetaUpdate::Grow(3, 9), Stands::File(5, 9)),
+    ("/f", MetaUpdate::Grow(7, 4), Stands::File(7, 4)),
+    ("/f", MetaUpdate::SetLen(2, 6), Stands::File(2, 6)),
+    ("/f", MetaUpdate::Grow(4, 5), Stands::File(4, 5)),
+    ("/f", MetaUpdate::Touch(8), Stands::File(4, 8)),
+    ("/b", MetaUpdate::SetLen(2, 3), Stands::Directory(0)),
+    ("/b", MetaUpdate::Grow(2, 3), Stands::Directory(0)),
+    ("/b", MetaUpdate::Touch(7), Stands::Directory(7)),
+    ("/b", MetaUpdate::Touch(1), Stands::Directory(1)),
+    ("/c", MetaUpdate::Grow(2, 0), Stands::Nothing),
+    ("/c", MetaUpdate::Touch(2), Stands::Nothing),
 ];
 
 /// Whether all updates come to what their rows say; the number of the first that does not.
 fn updated_so(alloc: Global, index: &mut MetaIndex) -> Result<(), usize> {
     let mut number = 0usize;
     for (text, update, wanted) in UPDATES {
-        if !edit(alloc, index, text, *update) || !asks(alloc, index, text, Asked::Find(*wanted)) {
+        if !edit(alloc, index, text, *update)
+            || !asks(alloc, index, text, Asked::Find(wanted.found()))
+        {
             return Err(number);
         }
         number = number.saturating_add(1);
@@ -132,44 +177,54 @@ fn updated_in_sample(alloc: Global) -> Result<(), usize> {
 }
 
 #[test]
-fn lengths_are_set_and_raised(rt: HostRuntime) -> Result<(), usize> {
+fn lengths_and_moments_are_set(rt: HostRuntime) -> Result<(), usize> {
     updated_in_sample(rt.alloc())
 }
 
-/// Two updates, and the one that they are.
-struct Joined(MetaUpdate, MetaUpdate, MetaUpdate);
+/// Two updates, and the one that they are, if they are one.
+struct Joined(MetaUpdate, MetaUpdate, Option<MetaUpdate>);
 
 impl Holds for Joined {
     fn holds(&self, _alloc: Global) -> bool {
-        self.0.then(self.1) == self.2
+        self.0.joined(self.1) == self.2
     }
 }
 
+/// The moment is that of the later update, even where it is the smaller one.
 const JOINED: &[Joined] = &[
     Joined(
-        MetaUpdate::SetLen(3),
-        MetaUpdate::SetLen(2),
-        MetaUpdate::SetLen(2),
+        MetaUpdate::SetLen(3, 9),
+        MetaUpdate::SetLen(2, 4),
+        Some(MetaUpdate::SetLen(2, 4)),
     ),
     Joined(
-        MetaUpdate::Grow(3),
-        MetaUpdate::Grow(2),
-        MetaUpdate::Grow(3),
+        MetaUpdate::Grow(3, 9),
+        MetaUpdate::Grow(2, 4),
+        Some(MetaUpdate::Grow(3, 4)),
     ),
     Joined(
-        MetaUpdate::SetLen(3),
-        MetaUpdate::Grow(5),
-        MetaUpdate::SetLen(5),
+        MetaUpdate::SetLen(3, 4),
+        MetaUpdate::Grow(5, 9),
+        Some(MetaUpdate::SetLen(5, 9)),
     ),
     Joined(
-        MetaUpdate::Grow(3),
-        MetaUpdate::SetLen(2),
-        MetaUpdate::SetLen(2),
+        MetaUpdate::Grow(3, 9),
+        MetaUpdate::SetLen(2, 4),
+        Some(MetaUpdate::SetLen(2, 4)),
     ),
+    Joined(
+        MetaUpdate::Touch(9),
+        MetaUpdate::Touch(4),
+        Some(MetaUpdate::Touch(4)),
+    ),
+    Joined(MetaUpdate::Touch(9), MetaUpdate::SetLen(2, 4), None),
+    Joined(MetaUpdate::Touch(9), MetaUpdate::Grow(2, 4), None),
+    Joined(MetaUpdate::SetLen(3, 9), MetaUpdate::Touch(4), None),
+    Joined(MetaUpdate::Grow(3, 9), MetaUpdate::Touch(4), None),
 ];
 
 #[test]
-fn two_updates_are_one(rt: HostRuntime) -> Result<(), usize> {
+fn two_updates_are_one_where_they_join(rt: HostRuntime) -> Result<(), usize> {
     all_hold(rt.alloc(), JOINED)
 }
 
@@ -302,10 +357,22 @@ pub enum Asked {
 
 /// An entry is found, missing or blocked.
 const FOUND: &[(&str, Asked)] = &[
-    ("/", Asked::Find(At::Found(Meta::Dir))),
-    ("/f", Asked::Find(At::Found(Meta::File { len: 5 }))),
-    ("/a/d", Asked::Find(At::Found(Meta::Dir))),
-    ("/a/d/y", Asked::Find(At::Found(Meta::File { len: 9 }))),
+    ("/", Asked::Find(At::Found(Meta::Dir { modified: 0 }))),
+    (
+        "/f",
+        Asked::Find(At::Found(Meta::File {
+            len: 5,
+            modified: 0,
+        })),
+    ),
+    ("/a/d", Asked::Find(At::Found(Meta::Dir { modified: 0 }))),
+    (
+        "/a/d/y",
+        Asked::Find(At::Found(Meta::File {
+            len: 9,
+            modified: 0,
+        })),
+    ),
     ("/c", Asked::Find(At::Missing)),
     ("/c/d/e", Asked::Find(At::Missing)),
     ("/a/d/z", Asked::Find(At::Missing)),

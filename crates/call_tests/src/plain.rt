@@ -82,7 +82,7 @@ fn lists_frozen(alloc: Global, world: &World, name: &str, text: &str, told: Told
 
 /// The reply to a call. It ensures nothing, so that no proof of a test reads what a call means.
 fn reply_to(alloc: Global, world: &mut World, call: &Call) -> Result<Reply, Errno> {
-    match world.call(alloc, call) {
+    match world.call(alloc, call, 0) {
         Ok(reply) => Ok(reply),
         Err(_) => Err(Errno::ENOMEM),
     }
@@ -478,9 +478,9 @@ impl Course for Image {
 /// What was cut off reads as zeros once the file is longer again, and zeros stand in no line; the image has the root first, and each
 /// directory before what it holds.
 const IMAGES: &[Image] = &[
-    Image(CUT, b"d /\nf /f 9000\nb 0 ffffffffff\n"),
-    Image(&[], b"d /\n"),
-    Image(NESTED, b"d /\nd /d\nf /d/n 0\n"),
+    Image(CUT, b"D / 0\nF /f 9000 0\nb 0 ffffffffff\n"),
+    Image(&[], b"D / 0\n"),
+    Image(NESTED, b"D / 0\nD /d 0\nF /d/n 0 0\n"),
 ];
 
 #[test]

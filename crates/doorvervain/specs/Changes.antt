@@ -8,10 +8,10 @@ use Rattle.volume.specs.Volumes.{PVolume}
 use Rattle.byte_calls.specs.Changes.{Asks, Refuses, asked, moved}
 use Rattle.doorvervain.specs.Numbers.{told}
 
--- the volume was asked for the call on the path that a text spells, and the number tells the outcome
-abbrev pub AsksAt : (Path → Call) → List ℕ → ℕ → PVolume → PVolume → Type 0
-AsksAt call text number old new = Asks (asked call (parsed text)) (told number) old new
+-- the volume was asked at a moment for the call on the path that a text spells, and the number tells the outcome
+abbrev pub AsksAt : (Path → Call) → List ℕ → ℕ → ℕ → PVolume → PVolume → Type 0
+AsksAt call text at number old new = Asks (asked call (parsed text)) at (told number) old new
 
 -- the same of a move between two paths; want of memory may come before the refusal of the second text
-abbrev pub Moves : List ℕ → List ℕ → ℕ → PVolume → PVolume → Type 0
-Moves from to number old new = Asks (moved (parsed from) (parsed to)) (told number) old new ⊎ Refuses ENOMEM (told number) old new
+abbrev pub Moves : List ℕ → List ℕ → ℕ → ℕ → PVolume → PVolume → Type 0
+Moves from to at number old new = Asks (moved (parsed from) (parsed to)) at (told number) old new ⊎ Refuses ENOMEM (told number) old new

@@ -2,7 +2,7 @@
 use base.Fml.{Fml}
 use denote.Ref.{MutBor}
 use denote.Follow.{follows}
-use Rattle.call_compiler.specs.declared.indexes.Indexes.{Indexes}
+use Rattle.volume.specs.declared.rooted.Rooted.{Rooted}
 use Rattle.volume.specs.Volumes.{PVolume}
 use Rattle.volume.specs.contracts.volume.Volume.{the_row as volume_row}
 use Rattle.volume.specs.contracts.frozen.Frozen.{the_row as frozen_row}
@@ -20,9 +20,9 @@ abbrev pub handle_follows : MutBor Handle → MutBor PVolume → Fml
 handle_follows b r = follows handle_row volume_row b.ghost_name r.ghost_name (with_volume b.now)
 
 -- the handle once its tree is i
-abbrev pub with_tree : FrozenHandle → Indexes → FrozenHandle
+abbrev pub with_tree : FrozenHandle → Rooted → FrozenHandle
 with_tree h i = record h { tree = i }
 
 -- once the borrow r ends, the handle behind b holds the last tree written through r
-abbrev pub frozen_follows : MutBor FrozenHandle → MutBor Indexes → Fml
+abbrev pub frozen_follows : MutBor FrozenHandle → MutBor Rooted → Fml
 frozen_follows b r = follows frozen_handle_row frozen_row b.ghost_name r.ghost_name (with_tree b.now)

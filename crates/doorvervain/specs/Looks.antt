@@ -1,6 +1,6 @@
 -- What the exports that only look tell.
 use Rattle.std.specs.Prelude.{ℕ, List, length, Result}
-use Rattle.call_compiler.specs.declared.indexes.Indexes.{Indexes}
+use Rattle.volume.specs.declared.rooted.Rooted.{Rooted}
 use Rattle.pathkey.specs.declared.errno.Errno.{Errno}
 use Rattle.pathkey.specs.Texts.{parsed}
 use Rattle.reference.specs.declared.call.Call.TheVariants.{Read, Stat}
@@ -9,13 +9,13 @@ use Rattle.volume.specs.Told.{Tells}
 use Rattle.byte_calls.specs.Looks.{Lists, OnPath, read_reply, stat_reply}
 
 -- a read of the file at the path that a text spells, from an offset on, into a buffer, was so answered
-abbrev pub ReadsAt : List ℕ → ℕ → Indexes → Result ℕ Errno → List ℕ → List ℕ → Type 0
+abbrev pub ReadsAt : List ℕ → ℕ → Rooted → Result ℕ Errno → List ℕ → List ℕ → Type 0
 ReadsAt text offset i outcome old new = OnPath (parsed text) outcome (λ p. Tells (Read p offset (length old)) (read_reply outcome new) i)
 
 -- what stands at the path that a text spells was so told
-abbrev pub StatsAt : List ℕ → Indexes → Result Meta Errno → Type 0
+abbrev pub StatsAt : List ℕ → Rooted → Result Meta Errno → Type 0
 StatsAt text i outcome = OnPath (parsed text) outcome (λ p. Tells (Stat p) (stat_reply outcome) i)
 
 -- a listing of the directory at the path that a text spells was so told, and is in the buffer where it fits
-abbrev pub ListsAt : List ℕ → Indexes → Result ℕ Errno → List ℕ → List ℕ → Type 0
+abbrev pub ListsAt : List ℕ → Rooted → Result ℕ Errno → List ℕ → List ℕ → Type 0
 ListsAt text i outcome old new = OnPath (parsed text) outcome (λ p. Lists p i outcome old new)

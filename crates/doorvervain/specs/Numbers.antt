@@ -18,7 +18,7 @@ told_by (suc n) x = Err (slice_index_or refusals n ENOSPC)
 abbrev pub told : ℕ → Result (Unit {0}) Errno
 told n = told_by n tt
 
--- what the two numbers of a stat tell: 1 and any length for a directory, 2 and its length for a file
-abbrev pub meta_told : ℕ → ℕ → Meta
-meta_told (suc (suc n)) len = File len
-meta_told _ len = Dir
+-- what the numbers of a stat tell: 1 and any length for a directory, 2 and its length for a file, and the moment
+abbrev pub meta_told : ℕ → ℕ → ℕ → Meta
+meta_told (suc (suc n)) len at = File len at
+meta_told _ len at = Dir at

@@ -1,4 +1,4 @@
-//! Exports of the calls that change a volume.
+//! Exports of the calls that change a volume, each at a moment.
 ghost use Rattle.pathkey.specs.SnapNames.{snap_parsed};
 ghost use Rattle.reference.specs.declared.call.Call.TheVariants as ask;
 ghost use Rattle.reference.specs.Worlds.{DropSnapshot, RestoreSnapshot, TakeSnapshot};
@@ -14,42 +14,42 @@ use std::alloc::Global;
 
 /// Makes an empty directory.
 #[unsafe(no_mangle)]
-pub extern "C" fn doorvervain_raw_mkdir(alloc: Global, fs: &mut Handle, path: &[u8]) -> u8
-    ensures { AsksAt ask.Mkdir path.now result fs.old.volume fs.new.volume }
+pub extern "C" fn doorvervain_raw_mkdir(alloc: Global, fs: &mut Handle, path: &[u8], at: u64) -> u8
+    ensures { AsksAt ask.Mkdir path.now at result fs.old.volume fs.new.volume }
 {
-    number(byte_calls::on_path(alloc, fs.volume(), PathCall::Mkdir, path))
+    number(byte_calls::on_path(alloc, fs.volume(), PathCall::Mkdir, path, at))
 }
 
 /// Makes an empty file where nothing stands.
 #[unsafe(no_mangle)]
-pub extern "C" fn doorvervain_raw_create(alloc: Global, fs: &mut Handle, path: &[u8]) -> u8
-    ensures { AsksAt ask.Create path.now result fs.old.volume fs.new.volume }
+pub extern "C" fn doorvervain_raw_create(alloc: Global, fs: &mut Handle, path: &[u8], at: u64) -> u8
+    ensures { AsksAt ask.Create path.now at result fs.old.volume fs.new.volume }
 {
-    number(byte_calls::on_path(alloc, fs.volume(), PathCall::Create, path))
+    number(byte_calls::on_path(alloc, fs.volume(), PathCall::Create, path, at))
 }
 
 /// Takes a file out.
 #[unsafe(no_mangle)]
-pub extern "C" fn doorvervain_raw_unlink(alloc: Global, fs: &mut Handle, path: &[u8]) -> u8
-    ensures { AsksAt ask.Unlink path.now result fs.old.volume fs.new.volume }
+pub extern "C" fn doorvervain_raw_unlink(alloc: Global, fs: &mut Handle, path: &[u8], at: u64) -> u8
+    ensures { AsksAt ask.Unlink path.now at result fs.old.volume fs.new.volume }
 {
-    number(byte_calls::on_path(alloc, fs.volume(), PathCall::Unlink, path))
+    number(byte_calls::on_path(alloc, fs.volume(), PathCall::Unlink, path, at))
 }
 
 /// Takes an empty directory out.
 #[unsafe(no_mangle)]
-pub extern "C" fn doorvervain_raw_rmdir(alloc: Global, fs: &mut Handle, path: &[u8]) -> u8
-    ensures { AsksAt ask.Rmdir path.now result fs.old.volume fs.new.volume }
+pub extern "C" fn doorvervain_raw_rmdir(alloc: Global, fs: &mut Handle, path: &[u8], at: u64) -> u8
+    ensures { AsksAt ask.Rmdir path.now at result fs.old.volume fs.new.volume }
 {
-    number(byte_calls::on_path(alloc, fs.volume(), PathCall::Rmdir, path))
+    number(byte_calls::on_path(alloc, fs.volume(), PathCall::Rmdir, path, at))
 }
 
 /// Takes a file out, or a directory with all below it.
 #[unsafe(no_mangle)]
-pub extern "C" fn doorvervain_raw_rmtree(alloc: Global, fs: &mut Handle, path: &[u8]) -> u8
-    ensures { AsksAt ask.Rmtree path.now result fs.old.volume fs.new.volume }
+pub extern "C" fn doorvervain_raw_rmtree(alloc: Global, fs: &mut Handle, path: &[u8], at: u64) -> u8
+    ensures { AsksAt ask.Rmtree path.now at result fs.old.volume fs.new.volume }
 {
-    number(byte_calls::on_path(alloc, fs.volume(), PathCall::Rmtree, path))
+    number(byte_calls::on_path(alloc, fs.volume(), PathCall::Rmtree, path, at))
 }
 
 /// Moves what stands at the first path to the second.
@@ -59,10 +59,11 @@ pub extern "C" fn doorvervain_raw_rename(
     fs: &mut Handle,
     old: &[u8],
     new: &[u8],
+    at: u64,
 ) -> u8
-    ensures { Moves old.now new.now result fs.old.volume fs.new.volume }
+    ensures { Moves old.now new.now at result fs.old.volume fs.new.volume }
 {
-    number(byte_calls::rename(alloc, fs.volume(), old, new))
+    number(byte_calls::rename(alloc, fs.volume(), old, new, at))
 }
 
 /// Cuts a file to so many bytes, or lengthens it to them by zeros.
@@ -72,10 +73,11 @@ pub extern "C" fn doorvervain_raw_truncate(
     fs: &mut Handle,
     path: &[u8],
     length: u64,
+    at: u64,
 ) -> u8
-    ensures { AsksAt (λ p. ask.Truncate p length) path.now result fs.old.volume fs.new.volume }
+    ensures { AsksAt (λ p. ask.Truncate p length) path.now at result fs.old.volume fs.new.volume }
 {
-    number(byte_calls::truncate(alloc, fs.volume(), path, length))
+    number(byte_calls::truncate(alloc, fs.volume(), path, length, at))
 }
 
 /// Lays the bytes over a file from the offset on: all of them, or none.
@@ -86,10 +88,11 @@ pub extern "C" fn doorvervain_raw_write(
     path: &[u8],
     offset: u64,
     bytes: &[u8],
+    at: u64,
 ) -> u8
-    ensures { AsksAt (λ p. ask.Write p offset bytes.now) path.now result fs.old.volume fs.new.volume }
+    ensures { AsksAt (λ p. ask.Write p offset bytes.now) path.now at result fs.old.volume fs.new.volume }
 {
-    number(byte_calls::write(alloc, fs.volume(), path, offset, bytes))
+    number(byte_calls::write(alloc, fs.volume(), path, offset, bytes, at))
 }
 
 /// Keeps the live tree under a name.

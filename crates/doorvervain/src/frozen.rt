@@ -1,5 +1,5 @@
 //! A frozen tree as C holds it: a pointer, and with it the right to the tree there.
-ghost use Rattle.call_compiler.specs.declared.indexes.Indexes.{Indexes};
+ghost use Rattle.volume.specs.declared.rooted.Rooted.{Rooted};
 ghost use Rattle.volume.specs.contracts.frozen.Frozen.{the_row as frozen_row};
 ghost use Rattle.doorvervain.specs.Held.{held_at};
 
@@ -12,7 +12,7 @@ use std::marker::Model;
 #[repr(C)]
 pub struct FrozenHandle {
     at: *mut u8,
-    pub ghost tree: { Indexes } by { frozen_row.coded },
+    pub ghost tree: { Rooted } by { frozen_row.coded },
 }
 
 impl Model for FrozenHandle {

@@ -1,7 +1,7 @@
 //! Where C takes the handle of a frozen tree: a struct of one pointer that an export writes.
 ghost use Rattle.std.specs.Prelude.{◌≡◌, Some, Option};
 ghost use Rattle.std.specs.Coded.{coded_option};
-ghost use Rattle.call_compiler.specs.declared.indexes.Indexes.{Indexes};
+ghost use Rattle.volume.specs.declared.rooted.Rooted.{Rooted};
 ghost use Rattle.volume.specs.contracts.frozen.Frozen.{the_row as frozen_row};
 ghost use Rattle.doorvervain.specs.Held.{given_at};
 
@@ -14,7 +14,7 @@ use volume::Frozen;
 #[repr(C)]
 pub struct FrozenPlace {
     at: *mut u8,
-    pub ghost given: { Option Indexes } by { coded_option frozen_row.coded },
+    pub ghost given: { Option Rooted } by { coded_option frozen_row.coded },
 }
 
 impl Model for FrozenPlace {

@@ -2,9 +2,9 @@
 ghost use Rattle.std.specs.Prelude.{◌≡◌, IfErr};
 ghost use Rattle.byte_calls.specs.Images.{Prints};
 ghost use Rattle.byte_calls.specs.Looks.{Fills};
-ghost use Rattle.call_compiler.specs.Compiled.{MeanTree};
-ghost use Rattle.reference.specs.Image.{image};
+ghost use Rattle.reference.specs.Image.{Second, image};
 ghost use Rattle.reference.specs.Tree.{Tree};
+ghost use Rattle.volume.specs.Volumes.{MeanRooted};
 ghost use Rattle.doorvervain.specs.Looks.{ListsAt, ReadsAt, StatsAt};
 ghost use Rattle.doorvervain.specs.Numbers.{meta_told, told_by};
 
@@ -30,7 +30,8 @@ pub extern "C" fn doorvervain_raw_read(
     count(byte_calls::read(alloc, fs.volume(), path, offset, out), got)
 }
 
-/// What stands at a path of the live tree: 1 to `kind` for a directory or 2 for a file, and its length to `length`.
+/// What stands at a path of the live tree: 1 to `kind` for a directory or 2 for a file, its length to `length`, and its moment to
+/// `moment`.
 #[unsafe(no_mangle)]
 pub extern "C" fn doorvervain_raw_stat(
     alloc: Global,
@@ -38,14 +39,16 @@ pub extern "C" fn doorvervain_raw_stat(
     path: &[u8],
     kind_of: &mut u8,
     length_of: &mut u64,
+    moment_of: &mut u64,
 ) -> u8
-    ensures reply { StatsAt path.now fs.old.volume.live (told_by result (meta_told kind_of.new length_of.new)) }
+    ensures reply { StatsAt path.now fs.old.volume.live (told_by result (meta_told kind_of.new length_of.new moment_of.new)) }
     ensures kept { fs.new.volume ≡ fs.old.volume }
 {
     kind(
         byte_calls::stat(alloc, fs.volume(), path),
         kind_of,
         length_of,
+        moment_of,
     )
 }
 
@@ -86,7 +89,8 @@ pub extern "C" fn doorvervain_raw_frozen_read(
     )
 }
 
-/// What stands at a path of a frozen tree: 1 to `kind` for a directory or 2 for a file, and its length to `length`.
+/// What stands at a path of a frozen tree: 1 to `kind` for a directory or 2 for a file, its length to `length`, and its moment to
+/// `moment`.
 #[unsafe(no_mangle)]
 pub extern "C" fn doorvervain_raw_frozen_stat(
     alloc: Global,
@@ -94,14 +98,16 @@ pub extern "C" fn doorvervain_raw_frozen_stat(
     path: &[u8],
     kind_of: &mut u8,
     length_of: &mut u64,
+    moment_of: &mut u64,
 ) -> u8
-    ensures reply { StatsAt path.now tree.old.tree (told_by result (meta_told kind_of.new length_of.new)) }
+    ensures reply { StatsAt path.now tree.old.tree (told_by result (meta_told kind_of.new length_of.new moment_of.new)) }
     ensures kept { tree.new.tree ≡ tree.old.tree }
 {
     kind(
         byte_calls::frozen_stat(alloc, tree.tree(), path),
         kind_of,
         length_of,
+        moment_of,
     )
 }
 
@@ -134,7 +140,7 @@ pub extern "C" fn doorvervain_raw_image(
     out: &mut [u8],
     size: &mut usize,
 ) -> u8
-    ensures image { (t : Tree) → MeanTree tree.old.tree t → Prints (image t) (told_by result size.new) out.old out.new }
+    ensures image { (t : Tree) → MeanRooted tree.old.tree t → Prints (image Second t) (told_by result size.new) out.old out.new }
     ensures kept { tree.new.tree ≡ tree.old.tree }
 {
     count(byte_calls::print(alloc, tree.tree(), out), size)

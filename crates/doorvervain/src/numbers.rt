@@ -37,19 +37,26 @@ pub(crate) fn count(outcome: Result<usize, Errno>, got: &mut usize) -> u8
     }
 }
 
-/// The number of an outcome, what stands there and its length, which stay as they were where it is refused.
-pub(crate) fn kind(outcome: Result<Meta, Errno>, kind: &mut u8, length: &mut u64) -> u8
-    ensures { told_by result (meta_told kind.new length.new) ≡ outcome }
+/// The number of an outcome, what stands there, its length and its moment, which stay as they were where it is refused.
+pub(crate) fn kind(
+    outcome: Result<Meta, Errno>,
+    kind: &mut u8,
+    length: &mut u64,
+    moment: &mut u64,
+) -> u8
+    ensures { told_by result (meta_told kind.new length.new moment.new) ≡ outcome }
 {
     match outcome {
-        Ok(Meta::Dir) => {
+        Ok(Meta::Dir { modified }) => {
             *kind = DIRECTORY;
             *length = 0;
+            *moment = modified;
             DONE
         }
-        Ok(Meta::File { len }) => {
+        Ok(Meta::File { len, modified }) => {
             *kind = FILE;
             *length = len;
+            *moment = modified;
             DONE
         }
         Err(fault) => fault.number(),

@@ -36,6 +36,7 @@ use Rattle.atomic_table.proofs.owned.Table.TheSendSync as tables
 use Rattle.atomic_table.proofs.badge.Badge.TheSendSync as badges
 use Rattle.std.proofs.sync.Mutex.TheSendSync as mutexes
 use Rattle.std.proofs.option.Option.TheSendSync as options
+use Rattle.volume.specs.contracts.rooted.Rooted as rooted
 use Rattle.volume.specs.contracts.snapshots.Snapshots as snapshots
 
 meta_node_send : IsSend (node.the_row meta_update.the_row meta.the_row)
@@ -65,11 +66,14 @@ blocks_field_send = struct_send (shape blocks.the_type) (block_tree_send, tt)
 indexes_field_send : IsSend indexes.the_field.row
 indexes_field_send = struct_send (shape indexes.the_type) (metas_field_send, (blocks_field_send, tt))
 
-indexes_send : IsSend indexes.the_row
-indexes_send = recorded_send indexes.the_field.row _ _ indexes.the_type.to_one indexes_field_send
+rooted_field_send : IsSend rooted.the_field.row
+rooted_field_send = struct_send (shape rooted.the_type) (indexes_field_send, (search (sendable, crosses) depth 20, tt))
+
+rooted_send : IsSend rooted.the_row
+rooted_send = recorded_send rooted.the_field.row _ _ rooted.the_type.to_one rooted_field_send
 
 snapshots_send : IsSend snapshots.the_row
-snapshots_send = search (indexes_send, maps.the_send, names.the_send, sendable, crosses) depth 20
+snapshots_send = search (rooted_send, maps.the_send, names.the_send, sendable, crosses) depth 20
 
 marks_send : IsSend marks.the_row
 marks_send = search (keys.the_send, sendable, crosses) depth 20

@@ -1,6 +1,6 @@
 -- What the end of an engine says.
 use Rattle.std.specs.Prelude.{◌≡◌, List, [], ◌∷◌, ℕ, ◌+◌, ◌%◌, ◌^◌, ◌<◌, ◌≤◌, ◌==◌, if◌then◌else◌, length, ⊤}
-use Rattle.call_compiler.specs.declared.indexes.Indexes.{Indexes}
+use Rattle.volume.specs.declared.rooted.Rooted.{Rooted}
 use Rattle.volume.specs.Volumes.{PVolume}
 use Rattle.engine.specs.declared.engine.CloseFault.{CloseFault}
 use Rattle.engine.specs.declared.engine.CloseFault.TheVariants.{Missing, NoMemory}
@@ -53,7 +53,7 @@ made_by_all (k ∷ ks) = own k.client k.seen + made_by_all ks
 
 -- one legal history begins with all that the clients have seen, and has their calls and no others; the tree is the live
 -- one of the world that it leaves
-pub record Ends (o : PVolume) (clients : List Known) (count : ℕ) (tree : Indexes) : Type 0 where
+pub record Ends (o : PVolume) (clients : List Known) (count : ℕ) (tree : Rooted) : Type 0 where
   pub history : List Entry
   pub legal : LegalFrom o history
   pub agree : AllAgree history clients
@@ -62,7 +62,7 @@ pub record Ends (o : PVolume) (clients : List Known) (count : ℕ) (tree : Index
   pub leaves : Shows o history tree
 
 -- what is left of an engine that so many clients of a volume worked on: each was there once, and it ended with them
-abbrev pub Served : PVolume → ℕ → ℕ → Indexes → Type 0
+abbrev pub Served : PVolume → ℕ → ℕ → Rooted → Type 0
 Served o n count tree = (clients : List Known) × EachOnce n clients × Ends o clients count tree
 
 -- a fault that came before any client worked gives the volume back

@@ -46,14 +46,14 @@ fn is_right(reply: &Reply) -> bool {
     match reply {
         Reply::Done => true,
         Reply::Count(count) => *count == LEN,
-        Reply::Stat(_, len) => *len == LEN,
+        Reply::Stat(_, len, _) => *len == LEN,
         _ => false,
     }
 }
 
 impl Store for Volume {
     fn is_done<R: Wait>(&mut self, _rt: &R, alloc: Global, call: &Call) -> bool {
-        let reply = self.call(alloc, call);
+        let reply = self.call(alloc, call, 0);
         is_right(&reply)
     }
 }
@@ -75,7 +75,7 @@ impl Store for Relieved {
 
 impl<J: Naming> Store for Client<J> {
     fn is_done<R: Wait>(&mut self, rt: &R, alloc: Global, call: &Call) -> bool {
-        let reply = self.call(rt, alloc, call);
+        let reply = self.call(rt, alloc, call, 0);
         is_right(&reply)
     }
 }

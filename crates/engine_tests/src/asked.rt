@@ -30,7 +30,7 @@ fn replies<J: Naming, R: Wait>(
     call: &Call,
     told: Told<'_>,
 ) -> bool {
-    let reply = client.call(rt, alloc, call);
+    let reply = client.call(rt, alloc, call, 0);
     is(told, &reply)
 }
 

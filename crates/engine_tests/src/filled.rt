@@ -10,7 +10,7 @@ use volume::{Index, TakeReply, Volume};
 /// Whether a call of the volume is answered so.
 pub fn answers(alloc: Global, volume: &mut Volume, ask: Ask<'_>, told: Told<'_>) -> bool {
     match call_of(alloc, ask) {
-        Some(call) => is(told, &volume.call(alloc, &call)),
+        Some(call) => is(told, &volume.call(alloc, &call, 0)),
         None => false,
     }
 }
@@ -112,22 +112,26 @@ pub fn filled_room(alloc: Global) -> Option<Room> {
     room_of(alloc, filled_volume(alloc))
 }
 
-/// Whether a job was taken of the one slot of the metadata's root in which a new file waits.
-fn marks(alloc: Global, volume: &mut Volume) -> bool {
-    if !answers(alloc, volume, Ask::Create("/z"), Told::Done) {
-        return false;
-    }
+/// Whether a job was taken of the slot of the metadata's root in which the most messages wait.
+fn takes(alloc: Global, volume: &mut Volume) -> bool {
     let Some(load) = volume.load(Index::Meta) else {
         return false;
     };
-    let is_taken = matches!(
+    matches!(
         volume.take_job(alloc, Index::Meta, load.slot),
         TakeReply::Taken(_)
-    );
-    is_taken && volume.load(Index::Meta).is_none()
+    )
 }
 
-/// A volume of many files, and one more that waits in a slot with a mark.
+/// Whether jobs were taken of the two slots of the metadata's root in which a new file waits, and the moment of its directory.
+fn marks(alloc: Global, volume: &mut Volume) -> bool {
+    answers(alloc, volume, Ask::Create("/z"), Told::Done)
+        && takes(alloc, volume)
+        && takes(alloc, volume)
+        && volume.load(Index::Meta).is_none()
+}
+
+/// A volume of many files, and one more that waits behind marks.
 fn marked_volume(alloc: Global) -> Option<Volume> {
     let mut volume = filled_volume(alloc)?;
     if marks(alloc, &mut volume) {

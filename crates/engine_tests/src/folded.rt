@@ -85,7 +85,7 @@ fn taking(volume: &Volume, index: Index) -> Option<Event> {
 /// The event that writes a byte.
 fn writing(alloc: Global, offset: u64) -> Option<Event> {
     match call_of(alloc, Ask::Write(FILE, offset, b"x")) {
-        Some(call) => Some(Event::Call(call)),
+        Some(call) => Some(Event::Call(call, 0)),
         None => None,
     }
 }

@@ -29,4 +29,6 @@ mod stress;
 #[cfg(test)]
 mod tally;
 #[cfg(test)]
+mod typed;
+#[cfg(test)]
 mod unlocked;

@@ -215,7 +215,7 @@ fn found_by<J: Naming, R: Wait>(
     client: &mut Client<J>,
     call: &Call,
 ) -> Found {
-    let reply = client.call(rt, alloc, call);
+    let reply = client.call(rt, alloc, call, 0);
     found_in(&reply)
 }
 

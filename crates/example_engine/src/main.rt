@@ -1,7 +1,7 @@
 //! `example_engine`: two clients of an engine, each in a thread of its own, beside a flusher.
 #![tactic(auto)]
 
-use engine::{Call, Client, Naming, Path, Reply, Report, Room, Shape, Volume, Work};
+use engine::{Client, Naming, Path, Reply, Report, Room, Shape, Volume, Work};
 use std::alloc::Global;
 use std::sync::Wait;
 use std::thread::Threads;
@@ -21,7 +21,7 @@ impl Work for Makers {
         let name = if number == 0 { "/one" } else { "/two" };
         for name in [name, "/both"] {
             if let Ok(path) = Path::parse(alloc, name.as_bytes()) {
-                client.call(rt, alloc, &Call::Mkdir(path));
+                let _ = client.mkdir(rt, alloc, &path, 0);
             }
         }
     }
@@ -37,7 +37,7 @@ fn served<R: Threads + Wait + Sync>(rt: &R, alloc: Global) -> Option<Report> {
 /// Whether a path stands in the tree at the end.
 fn stands(alloc: Global, report: &Report, name: &str) -> bool {
     match Path::parse(alloc, name.as_bytes()) {
-        Ok(path) => matches!(report.tree.stat(alloc, &path), Reply::Stat(_, _)),
+        Ok(path) => matches!(report.tree.stat(alloc, &path), Reply::Stat(_, _, _)),
         Err(_) => false,
     }
 }

@@ -1,4 +1,5 @@
 //! A volume on one page: a file is written, kept by a snapshot, written over, read as it is and as it was, and brought back.
+//! The moments at which it is changed are 1, 2 and 3.
 #![tactic(auto)]
 
 use std::alloc::Global;
@@ -6,13 +7,13 @@ use std::str;
 use volume::{Errno, Path, Shape, SnapName, Volume};
 
 fn make(alloc: Global, volume: &mut Volume) -> Result<(), Errno> {
-    volume.mkdir(alloc, &Path::parse(alloc, b"/notes")?)?;
-    volume.create(alloc, &Path::parse(alloc, b"/notes/today")?)
+    volume.mkdir(alloc, &Path::parse(alloc, b"/notes")?, 1)?;
+    volume.create(alloc, &Path::parse(alloc, b"/notes/today")?, 1)
 }
 
-fn write(alloc: Global, volume: &mut Volume, text: &[u8]) -> Result<u64, Errno> {
+fn write(alloc: Global, volume: &mut Volume, text: &[u8], at: u64) -> Result<u64, Errno> {
     let path = Path::parse(alloc, b"/notes/today")?;
-    volume.write(alloc, &path, 0, text)
+    volume.write(alloc, &path, 0, text, at)
 }
 
 fn keep(alloc: Global, volume: &mut Volume) -> Result<(), Errno> {
@@ -33,6 +34,11 @@ fn read_kept(alloc: Global, volume: &Volume) -> Result<Vec<u8>, Errno> {
     monday.try_read(alloc, &Path::parse(alloc, b"/notes/today")?, 0, 1_000)
 }
 
+fn changed(alloc: Global, volume: &Volume) -> Result<u64, Errno> {
+    let (_, _, moment) = volume.stat(alloc, &Path::parse(alloc, b"/notes/today")?)?;
+    Ok(moment)
+}
+
 fn print(rt: &impl Print, when: &str, bytes: Vec<u8>) -> anyhow::Result<()> {
     let text = str::from_utf8(bytes.as_slice()).unwrap_or("no text");
     println!(rt; "{when}: {text}")?;
@@ -41,13 +47,16 @@ fn print(rt: &impl Print, when: &str, bytes: Vec<u8>) -> anyhow::Result<()> {
 
 fn tell(rt: &impl Print, alloc: Global, volume: &mut Volume) -> anyhow::Result<()> {
     make(alloc, volume)?;
-    write(alloc, volume, b"first words")?;
+    write(alloc, volume, b"first words", 2)?;
     keep(alloc, volume)?;
-    write(alloc, volume, b"other")?;
+    write(alloc, volume, b"other", 3)?;
     print(rt, "now", read(alloc, volume)?)?;
     print(rt, "kept", read_kept(alloc, volume)?)?;
     bring_back(alloc, volume)?;
-    print(rt, "back", read(alloc, volume)?)
+    print(rt, "back", read(alloc, volume)?)?;
+    let moment = changed(alloc, volume)?;
+    println!(rt; "changed at {moment}")?;
+    Ok(())
 }
 
 fn main(rt: HostRuntime) -> anyhow::Result<()> {

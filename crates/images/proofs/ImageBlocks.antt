@@ -286,21 +286,21 @@ line_part a m c b i j v e w part =
     let whole : block_lines b (count b) ≡ (block_lines b i ++ block_line j (trimmed v)) ++ rest = (begins b (j + 1)).1 ∙ ap (λ (l : List ℕ). l ++ rest) e in
     subst (AppendsPart a c) (sym whole) (part_before a c _ rest (part_after a m c (block_lines b i) (block_line j (trimmed v)) w part))
 
-module _ (t : Tree) (d : Blocks) (p : Path) (b : List ℕ) (is : IsTree t) (means : BlocksMean t d) (there : entry_at t p ≡ Found (File b)) (i : ℕ) (few : i ≤ most_blocks) (r : KeyRange) (range : BeginsAt d p i r) (first : Option (Key × List ℕ)) (h : IsFirst d r.lo r.hi first) where
+module _ (t : Tree) (d : Blocks) (p : Path) (date : ℕ) (b : List ℕ) (is : IsTree t) (means : BlocksMean t d) (there : entry_at t p ≡ Found (File date b)) (i : ℕ) (few : i ≤ most_blocks) (r : KeyRange) (range : BeginsAt d p i r) (first : Option (Key × List ℕ)) (h : IsFirst d r.lo r.hi first) where
   first_at : IsFirst d (blocks_from p i).lo (blocks_from p i).hi first
   first_at = range.1 first h
 
   -- no block is left
   pub blocks_end : first ≡ None → block_lines b i ≡ block_lines b (count b)
-  blocks_end e = all_printed t d p b (is.paths p (File b) there) means (ap seen there) i few (is.files p b there).few (subst (λ (o : Option (Key × List ℕ)). IsFirst d (blocks_from p i).lo (blocks_from p i).hi o) e first_at)
+  blocks_end e = all_printed t d p b (is.paths p (File date b) there) means (ap seen there) i few (is.files p date b there).few (subst (λ (o : Option (Key × List ℕ)). IsFirst d (blocks_from p i).lo (blocks_from p i).hi o) e first_at)
 
   -- or this one is the next
   pub blocks_next : (k : Key) (v : List ℕ) → first ≡ Some (k, v) → FirstBlock d p b i k v
-  blocks_next k v e = next_printed t d p b (is.paths p (File b) there) means (ap seen there) i few k v (subst (λ (o : Option (Key × List ℕ)). IsFirst d (blocks_from p i).lo (blocks_from p i).hi o) e first_at)
+  blocks_next k v e = next_printed t d p b (is.paths p (File date b) there) means (ap seen there) i few k v (subst (λ (o : Option (Key × List ℕ)). IsFirst d (blocks_from p i).lo (blocks_from p i).hi o) e first_at)
 
   -- and the range behind it begins with the one after it
   pub blocks_behind : (k : Key) (n : ℕ) → n < most_blocks → k ≡ block_key p n → (rest : KeyRange) → rest.lo ≡ next_key k → rest.hi ≡ r.hi → BeginsAt d p (n + 1) rest
-  blocks_behind k n lt key rest low high = begins_behind t d p (is.paths p (File b) there) means n lt rest (low ∙ ap next_key key) (high ∙ range.0 ∙ high_key p i n)
+  blocks_behind k n lt key rest low high = begins_behind t d p (is.paths p (File date b) there) means n lt rest (low ∙ ap next_key key) (high ∙ range.0 ∙ high_key p i n)
 
 -- ---- the number in a block's key
 

@@ -11,22 +11,22 @@ use Rattle.message.specs.Ranges.{before, reaches, within}
 use Rattle.message.proofs.KeyOrder.{before_from_not_reaches, from_start, le_le, not_before_from_reaches, reaches-from_before, reaches-refl}
 use Rattle.scan.specs.Pairs.{HasNone, IsFirst}
 use Rattle.message.proofs.NextKey.{by_bool, in_range, not_reaches, reaches-next}
-use Rattle.reference.specs.Tree.{Tree, Dir, File, Entries, nothing, entry, entry_at, named, found, onward, At, Found, Missing, Blocked}
-use Rattle.reference.specs.Image.{Text, block_lines, image, lines, lines_of, path_text}
+use Rattle.reference.specs.Tree.{Tree, Dir, File, Entries, nothing, entry, entry_at, named, found, onward, At, Found, Missing, Blocked, moment}
+use Rattle.reference.specs.Image.{Text, Second, block_lines, directory_line, file_line, image, lines, lines_of, path_text}
 use Rattle.reference.specs.Shape.{AllAbove, IsTree, Rising, RisingEntries}
-use Rattle.reference.specs.Looks.{Look, look, seen}
+use Rattle.reference.specs.Looks.{Sight, sight, sighted}
 use Rattle.reference.specs.Indexes.{Metadata, MetaMeans, PathOf, meta_of}
 use Rattle.reference.specs.declared.reply.Meta.{Meta}
 use Rattle.reference.specs.declared.reply.Meta.TheVariants.{Dir as DirMeta, File as FileMeta}
 use Rattle.reference.proofs.Edits.{fold-Missing, fold-Blocked}
 use Rattle.reference.proofs.ShownTrees.{first_at as first_stands, later_at}
-use Rattle.reference.proofs.Standing.{seen_found}
 use Rattle.meta_index.proofs.BelowPath.{in_below, seen_some}
 use Rattle.meta_index.proofs.ChildOrder.{child_before}
 use Rattle.call_compiler.specs.Compiled.{MeanTree}
 use Rattle.call_compiler.specs.declared.indexes.Indexes.{Indexes}
 use Rattle.meta_index.specs.Means.{metadata}
-use Rattle.images.specs.Image.{entry_lines, file_line}
+use Rattle.images.specs.Image.{directory_text, entry_lines, file_text}
+use Rattle.lines.specs.Texts.{number_line}
 
 -- ---- what stands in a directory
 
@@ -36,7 +36,7 @@ missing_stands r y e = let clash : Missing ≡ Found y = sym (fold-Missing r) �
 blocked_stands : (r : Path) (y : Tree) → fold onward Blocked r ≡ Found y → ⊥
 blocked_stands r y e = let clash : Blocked ≡ Found y = sym (fold-Blocked r) ∙ e in cc
 
-later_above : (n : Name) (rest : Entries) (k : Name) (r : Path) (y : Tree) → AllAbove n rest → entry_at (Dir rest) (k ∷ r) ≡ Found y → by_bytes n k ≡ Less
+later_above : (n : Name) (rest : Entries) (k : Name) (r : Path) (y : Tree) → AllAbove n rest → entry_at (Dir 0 rest) (k ∷ r) ≡ Found y → by_bytes n k ≡ Less
 later_above n nothing k r y h e = absurd (missing_stands r y e)
 later_above n (entry m x rest) k r y h e = by_bool (same k m) (by_bytes n k ≡ Less)
     (λ s. ap (by_bytes n) (same_true k m s) ∙ h.0)
@@ -46,8 +46,8 @@ later_above n (entry m x rest) k r y h e = by_bool (same k m) (by_bytes n k ≡ 
 
 abbrev mutual
   pub text_by : (Path → Bool) → Path → Tree → Text
-  text_by f p (Dir es) = cond (f p) (entry_lines p (Dir es)) [] ++ texts_by f p es
-  text_by f p (File b) = cond (f p) (entry_lines p (File b)) []
+  text_by f p (Dir date es) = cond (f p) (entry_lines p (Dir date es)) [] ++ texts_by f p es
+  text_by f p (File date b) = cond (f p) (entry_lines p (File date b)) []
 
   pub texts_by : (Path → Bool) → Path → Entries → Text
   texts_by f p nothing = []
@@ -56,49 +56,54 @@ abbrev mutual
 -- the same entries are marked
 mutual
   same_text : (f g : Path → Bool) (p : Path) (x : Tree) → Rising x → ((r : Path) (y : Tree) → entry_at x r ≡ Found y → f (p ++ r) ≡ g (p ++ r)) → text_by f p x ≡ text_by g p x
-  same_text f g p (Dir es) v h =
-      let here : f p ≡ g p = subst (λ (q : Path). f q ≡ g q) (append-nil p) (h [] (Dir es) refl) in
-      ap (λ (b : Bool). cond b (entry_lines p (Dir es)) [] ++ texts_by f p es) here
-      ∙ ap (λ (t : Text). cond (g p) (entry_lines p (Dir es)) [] ++ t) (same_texts f g p es v (λ n r y e. h (n ∷ r) y e))
-  same_text f g p (File b) v h =
-      let here : f p ≡ g p = subst (λ (q : Path). f q ≡ g q) (append-nil p) (h [] (File b) refl) in
-      ap (λ (c : Bool). cond c (entry_lines p (File b)) []) here
+  same_text f g p (Dir date es) v h =
+      let here : f p ≡ g p = subst (λ (q : Path). f q ≡ g q) (append-nil p) (h [] (Dir date es) refl) in
+      ap (λ (b : Bool). cond b (entry_lines p (Dir date es)) [] ++ texts_by f p es) here
+      ∙ ap (λ (t : Text). cond (g p) (entry_lines p (Dir date es)) [] ++ t) (same_texts f g p es v (λ n r y e. h (n ∷ r) y e))
+  same_text f g p (File date b) v h =
+      let here : f p ≡ g p = subst (λ (q : Path). f q ≡ g q) (append-nil p) (h [] (File date b) refl) in
+      ap (λ (c : Bool). cond c (entry_lines p (File date b)) []) here
 
-  same_texts : (f g : Path → Bool) (p : Path) (es : Entries) → RisingEntries es → ((n : Name) (r : Path) (y : Tree) → entry_at (Dir es) (n ∷ r) ≡ Found y → f (p ++ n ∷ r) ≡ g (p ++ n ∷ r)) → texts_by f p es ≡ texts_by g p es
+  same_texts : (f g : Path → Bool) (p : Path) (es : Entries) → RisingEntries es → ((n : Name) (r : Path) (y : Tree) → entry_at (Dir 0 es) (n ∷ r) ≡ Found y → f (p ++ n ∷ r) ≡ g (p ++ n ∷ r)) → texts_by f p es ≡ texts_by g p es
   same_texts f g p nothing v h = refl
   same_texts f g p (entry n x rest) v h =
       let first : text_by f (p ++ n ∷ []) x ≡ text_by g (p ++ n ∷ []) x =
-      same_text f g (p ++ n ∷ []) x v.1 (λ r y e. subst (λ (q : Path). f q ≡ g q) (sym (append_assoc p (n ∷ []) r)) (h n r y (first_stands n x rest r ∙ e)))
+      same_text f g (p ++ n ∷ []) x v.1 (λ r y e. subst (λ (q : Path). f q ≡ g q) (sym (append_assoc p (n ∷ []) r)) (h n r y (first_stands 0 n x rest r ∙ e)))
       in
       ap (λ (t : Text). t ++ texts_by f p rest) first
-      ∙ ap (λ (t : Text). text_by g (p ++ n ∷ []) x ++ t) (same_texts f g p rest v.2 (λ k r y e. h k r y (later_at n x rest k r y v.0 e)))
+      ∙ ap (λ (t : Text). text_by g (p ++ n ∷ []) x ++ t) (same_texts f g p rest v.2 (λ k r y e. h k r y (later_at 0 n x rest k r y v.0 e)))
 
 -- none is marked
 mutual
   no_text : (p : Path) (x : Tree) → text_by (λ _. false) p x ≡ []
-  no_text p (Dir es) = no_texts p es
-  no_text p (File b) = refl
+  no_text p (Dir date es) = no_texts p es
+  no_text p (File date b) = refl
 
   no_texts : (p : Path) (es : Entries) → texts_by (λ _. false) p es ≡ []
   no_texts p nothing = refl
   no_texts p (entry n x rest) = ap (λ (t : Text). t ++ texts_by (λ _. false) p rest) (no_text (p ++ n ∷ []) x) ∙ no_texts p rest
 
-file_lines : (p : Path) (b : List ℕ) → entry_lines p (File b) ≡ lines p (File b)
-file_lines p b =
-    let blocks : Text = block_lines b (length b / 4096 + 1) in
+dir_line : (p : Path) (date : ℕ) → directory_text Second p date ≡ directory_line Second (path_text p) date ++ 10 ∷ []
+dir_line p date = ap (λ (t : Text). 68 ∷ 32 ∷ t) (sym (append_assoc (path_text p) (32 ∷ decimal date) (10 ∷ [])))
+
+file_lines : (p : Path) (date : ℕ) (b : List ℕ) → entry_lines p (File date b) ≡ lines Second p (File date b)
+file_lines p date b =
     let len : Text = decimal (length b) in
-    ap (λ (t : Text). codes "f " ++ t)
-    (append_assoc (path_text p) (32 ∷ (len ++ 10 ∷ [])) blocks ∙ ap (λ (t : Text). path_text p ++ (32 ∷ t)) (append_assoc len (10 ∷ []) blocks) ∙ sym (append_assoc (path_text p) (32 ∷ len) (10 ∷ blocks)))
+    let end : Text = 32 ∷ decimal date in
+    let line : file_text Second p (length b) date ≡ file_line Second (path_text p) (length b) date ++ 10 ∷ [] =
+    ap (λ (t : Text). 70 ∷ 32 ∷ (path_text p ++ (32 ∷ t))) (sym (append_assoc len end (10 ∷ [])))
+    ∙ ap (λ (t : Text). 70 ∷ 32 ∷ t) (sym (append_assoc (path_text p) (32 ∷ (len ++ end)) (10 ∷ []))) in
+    ap (λ (t : Text). t ++ block_lines b (length b / 4096 + 1)) line
 
 -- all are marked
 mutual
-  all_text : (p : Path) (x : Tree) → text_by (λ _. true) p x ≡ lines p x
-  all_text p (Dir es) = ap (λ (t : Text). entry_lines p (Dir es) ++ t) (all_texts p es)
-  all_text p (File b) = file_lines p b
+  all_text : (p : Path) (x : Tree) → text_by (λ _. true) p x ≡ lines Second p x
+  all_text p (Dir date es) = ap (λ (t : Text). entry_lines p (Dir date es) ++ t) (all_texts p es) ∙ ap (λ (t : Text). t ++ lines_of Second p es) (dir_line p date)
+  all_text p (File date b) = file_lines p date b
 
-  all_texts : (p : Path) (es : Entries) → texts_by (λ _. true) p es ≡ lines_of p es
+  all_texts : (p : Path) (es : Entries) → texts_by (λ _. true) p es ≡ lines_of Second p es
   all_texts p nothing = refl
-  all_texts p (entry n x rest) = ap (λ (t : Text). t ++ texts_by (λ _. true) p rest) (all_text (p ++ n ∷ []) x) ∙ ap (λ (t : Text). lines (p ++ n ∷ []) x ++ t) (all_texts p rest)
+  all_texts p (entry n x rest) = ap (λ (t : Text). t ++ texts_by (λ _. true) p rest) (all_text (p ++ n ∷ []) x) ∙ ap (λ (t : Text). lines Second (p ++ n ∷ []) x ++ t) (all_texts p rest)
 
 -- ---- keys below a path
 
@@ -112,7 +117,7 @@ abbrev Valid : Tree → Type 0
 Valid x = (r : Path) (y : Tree) → entry_at x r ≡ Found y → EachName r
 
 abbrev ValidEntries : Entries → Type 0
-ValidEntries es = (n : Name) (r : Path) (y : Tree) → entry_at (Dir es) (n ∷ r) ≡ Found y → EachName (n ∷ r)
+ValidEntries es = (n : Name) (r : Path) (y : Tree) → entry_at (Dir 0 es) (n ∷ r) ≡ Found y → EachName (n ∷ r)
 
 -- ---- the first of the entries that are marked by their keys, from k on
 
@@ -130,14 +135,14 @@ module _ (k : Key) where
   gone p h = (not_reaches (enc p) k h, not_before (enc p) k h)
 
   here_is : (p : Path) (x : Tree) → Rising x → (from p ≡ true) × (behind p ≡ false) → k ≡ enc p → text_by from p x ≡ entry_lines p x ++ text_by behind p x
-  here_is p (Dir es) v at here =
-      ap (λ (b : Bool). cond b (entry_lines p (Dir es)) [] ++ texts_by from p es) at.0
-      ∙ ap (λ (t : Text). entry_lines p (Dir es) ++ t) (same_texts from behind p es v (λ n r y e. alike (p ++ n ∷ r) (subst (λ (j : Key). before j (enc (p ++ n ∷ r)) ≡ true) (sym here) (below_after p n r))))
-      ∙ ap (λ (b : Bool). entry_lines p (Dir es) ++ (cond b (entry_lines p (Dir es)) [] ++ texts_by behind p es)) (sym at.1)
-  here_is p (File b) v at here =
-      ap (λ (c : Bool). cond c (entry_lines p (File b)) []) at.0
-      ∙ sym (append-nil (entry_lines p (File b)))
-      ∙ ap (λ (c : Bool). entry_lines p (File b) ++ cond c (entry_lines p (File b)) []) (sym at.1)
+  here_is p (Dir date es) v at here =
+      ap (λ (b : Bool). cond b (entry_lines p (Dir date es)) [] ++ texts_by from p es) at.0
+      ∙ ap (λ (t : Text). entry_lines p (Dir date es) ++ t) (same_texts from behind p es v (λ n r y e. alike (p ++ n ∷ r) (subst (λ (j : Key). before j (enc (p ++ n ∷ r)) ≡ true) (sym here) (below_after p n r))))
+      ∙ ap (λ (b : Bool). entry_lines p (Dir date es) ++ (cond b (entry_lines p (Dir date es)) [] ++ texts_by behind p es)) (sym at.1)
+  here_is p (File date b) v at here =
+      ap (λ (c : Bool). cond c (entry_lines p (File date b)) []) at.0
+      ∙ sym (append-nil (entry_lines p (File date b)))
+      ∙ ap (λ (c : Bool). entry_lines p (File date b) ++ cond c (entry_lines p (File date b)) []) (sym at.1)
 
   first_here : (p : Path) (x y : Tree) → Rising x → Found x ≡ Found y → k ≡ enc (p ++ []) → text_by from p x ≡ entry_lines (p ++ []) y ++ text_by behind p x
   first_here p x y v e is =
@@ -149,14 +154,14 @@ module _ (k : Key) where
   mutual
     first_line : (p : Path) (x : Tree) (r : Path) (y : Tree) → Rising x → Valid x → entry_at x r ≡ Found y → k ≡ enc (p ++ r) → text_by from p x ≡ entry_lines (p ++ r) y ++ text_by behind p x
     first_line p x [] y v u e is = first_here p x y v e is
-    first_line p (Dir es) (n ∷ r) y v u e is =
+    first_line p (Dir date es) (n ∷ r) y v u e is =
         let none : (from p ≡ false) × (behind p ≡ false) = gone p (subst (λ (j : Key). before (enc p) j ≡ true) (sym is) (below_after p n r)) in
-        ap (λ (b : Bool). cond b (entry_lines p (Dir es)) [] ++ texts_by from p es) none.0
+        ap (λ (b : Bool). cond b (entry_lines p (Dir date es)) [] ++ texts_by from p es) none.0
         ∙ first_lines p es n r y v (λ m s z f. u (m ∷ s) z f) e is
-        ∙ ap (λ (b : Bool). entry_lines (p ++ n ∷ r) y ++ (cond b (entry_lines p (Dir es)) [] ++ texts_by behind p es)) (sym none.1)
-    first_line p (File b) (n ∷ r) y v u e is = absurd (blocked_stands r y e)
+        ∙ ap (λ (b : Bool). entry_lines (p ++ n ∷ r) y ++ (cond b (entry_lines p (Dir date es)) [] ++ texts_by behind p es)) (sym none.1)
+    first_line p (File date b) (n ∷ r) y v u e is = absurd (blocked_stands r y e)
 
-    first_lines : (p : Path) (es : Entries) (n : Name) (r : Path) (y : Tree) → RisingEntries es → ValidEntries es → entry_at (Dir es) (n ∷ r) ≡ Found y → k ≡ enc (p ++ n ∷ r) → texts_by from p es ≡ entry_lines (p ++ n ∷ r) y ++ texts_by behind p es
+    first_lines : (p : Path) (es : Entries) (n : Name) (r : Path) (y : Tree) → RisingEntries es → ValidEntries es → entry_at (Dir 0 es) (n ∷ r) ≡ Found y → k ≡ enc (p ++ n ∷ r) → texts_by from p es ≡ entry_lines (p ++ n ∷ r) y ++ texts_by behind p es
     first_lines p nothing n r y v u e is = absurd (missing_stands r y e)
     first_lines p (entry m x rest) n r y v u e is = by_bool (same n m) (texts_by from p (entry m x rest) ≡ entry_lines (p ++ n ∷ r) y ++ texts_by behind p (entry m x rest))
         (λ s.
@@ -165,17 +170,17 @@ module _ (k : Key) where
         let path : p ++ n ∷ r ≡ (p ++ m ∷ []) ++ r = ap (λ (j : Name). p ++ j ∷ r) one ∙ sym (append_assoc p (m ∷ []) r) in
         let key : k ≡ enc (p ++ m ∷ r) = is ∙ ap (λ (j : Name). enc (p ++ j ∷ r)) one in
         let first : text_by from (p ++ m ∷ []) x ≡ entry_lines ((p ++ m ∷ []) ++ r) y ++ text_by behind (p ++ m ∷ []) x =
-        first_line (p ++ m ∷ []) x r y v.1 (λ q z f. (u m q z (first_stands m x rest q ∙ f)).1) here (is ∙ ap enc path)
+        first_line (p ++ m ∷ []) x r y v.1 (λ q z f. (u m q z (first_stands 0 m x rest q ∙ f)).1) here (is ∙ ap enc path)
         in
         let others : texts_by from p rest ≡ texts_by behind p rest = same_texts from behind p rest v.2 (λ l q z f.
-        alike (p ++ l ∷ q) (subst (λ (j : Key). before j (enc (p ++ l ∷ q)) ≡ true) (sym key) (child_before p m l r q (u l q z (later_at m x rest l q z v.0 f)).0.bytes (later_above m rest l q z v.0 f))))
+        alike (p ++ l ∷ q) (subst (λ (j : Key). before j (enc (p ++ l ∷ q)) ≡ true) (sym key) (child_before p m l r q (u l q z (later_at 0 m x rest l q z v.0 f)).0.bytes (later_above m rest l q z v.0 f))))
         in
         ap (λ (t : Text). t ++ texts_by from p rest) first
         ∙ ap (λ (t : Text). (entry_lines ((p ++ m ∷ []) ++ r) y ++ text_by behind (p ++ m ∷ []) x) ++ t) others
         ∙ append_assoc (entry_lines ((p ++ m ∷ []) ++ r) y) (text_by behind (p ++ m ∷ []) x) (texts_by behind p rest)
         ∙ ap (λ (q : Path). entry_lines q y ++ texts_by behind p (entry m x rest)) (sym path))
         (λ s.
-        let later : entry_at (Dir rest) (n ∷ r) ≡ Found y = sym (ap (λ (b : Bool). fold onward (found (cond b (Some x) (named n rest))) r) s) ∙ e in
+        let later : entry_at (Dir 0 rest) (n ∷ r) ≡ Found y = sym (ap (λ (b : Bool). fold onward (found (cond b (Some x) (named n rest))) r) s) ∙ e in
         let less : by_bytes m n ≡ Less = later_above m rest n r y v.0 later in
         let none : (q : Path) → (from ((p ++ m ∷ []) ++ q) ≡ false) × (behind ((p ++ m ∷ []) ++ q) ≡ false) = λ q.
         gone ((p ++ m ∷ []) ++ q) (subst (λ (z : Path). before (enc z) k ≡ true) (sym (append_assoc p (m ∷ []) q)) (subst (λ (j : Key). before (enc (p ++ m ∷ q)) j ≡ true) (sym is) (child_before p m n q r (u n r y e).0.bytes less)))
@@ -183,34 +188,34 @@ module _ (k : Key) where
         let no_from : text_by from (p ++ m ∷ []) x ≡ [] = same_text from (λ _. false) (p ++ m ∷ []) x v.1 (λ q z f. (none q).0) ∙ no_text (p ++ m ∷ []) x in
         let no_behind : text_by behind (p ++ m ∷ []) x ≡ [] = same_text behind (λ _. false) (p ++ m ∷ []) x v.1 (λ q z f. (none q).1) ∙ no_text (p ++ m ∷ []) x in
         ap (λ (t : Text). t ++ texts_by from p rest) no_from
-        ∙ first_lines p rest n r y v.2 (λ l q z f. u l q z (later_at m x rest l q z v.0 f)) later is
+        ∙ first_lines p rest n r y v.2 (λ l q z f. u l q z (later_at 0 m x rest l q z v.0 f)) later is
         ∙ ap (λ (t : Text). entry_lines (p ++ n ∷ r) y ++ (t ++ texts_by behind p rest)) (sym no_behind))
 
 -- ---- the image
 
 -- its lines from a key on, without the root's
 abbrev pub image_from : Key → Tree → Text
-image_from lo (Dir es) = texts_by (λ p. reaches lo (enc p)) [] es
-image_from lo (File b) = []
+image_from lo (Dir date es) = texts_by (λ p. reaches lo (enc p)) [] es
+image_from lo (File date b) = []
 
-pub image_starts : (t : Tree) → IsTree t → image t ≡ codes "d /\n" ++ image_from (next_key []) t
-image_starts (Dir es) is = ap (λ (t : Text). codes "d /\n" ++ t) (sym (same_texts (λ p. reaches (next_key []) (enc p)) (λ _. true) [] es is.rising (λ n r y e. (and_parts _ _ (in_below [] n r)).0) ∙ all_texts [] es))
-image_starts (File b) is = absurd is.root
+pub image_starts : (t : Tree) (date : ℕ) → IsTree t → moment t ≡ date → image Second t ≡ number_line (codes "D / ") date ++ image_from (next_key []) t
+image_starts (Dir stamp es) date is same = ap (λ (n : ℕ). image Second (Dir n es)) same ∙ ap (λ (t : Text). number_line (codes "D / ") date ++ t) (sym (same_texts (λ p. reaches (next_key []) (enc p)) (λ _. true) [] es is.rising (λ n r y e. (and_parts _ _ (in_below [] n r)).0) ∙ all_texts [] es))
+image_starts (File stamp b) date is same = absurd is.root
 
 module _ (t : Tree) (m : Metadata) (is : IsTree t) (means : MetaMeans t m) where
   -- an entry has metadata
-  there : (p : Path) (x : Tree) → entry_at t p ≡ Found x → m (enc p) ≡ meta_of (seen (Found x))
-  there p x e = means.paths p (is.paths p x e) ∙ ap (λ (a : At). meta_of (seen a)) e
+  there : (p : Path) (x : Tree) → entry_at t p ≡ Found x → m (enc p) ≡ meta_of (sighted (Found x))
+  there p x e = means.paths p (is.paths p x e) ∙ ap (λ (a : At). meta_of (sighted a)) e
 
   -- so no entry's key is in a range without metadata
   unmarked : (lo : Key) (hi : Option Key) → HasNone m lo hi → (p : Path) (x : Tree) → entry_at t p ≡ Found x → within lo hi (enc p) ≡ false
   unmarked lo hi none p x e = false_from_ne_true (within lo hi (enc p)) (λ h. seen_some x (sym (there p x e) ∙ none (enc p) h))
 
 image_end : (t : Tree) (m : Metadata) (lo : Key) → IsTree t → MetaMeans t m → HasNone m lo None → image_from lo t ≡ []
-image_end (Dir es) m lo is means none = same_texts (λ p. reaches lo (enc p)) (λ _. false) [] es is.rising
-    (λ n r y e. false_from_ne_true (reaches lo (enc (n ∷ r))) (λ h. let in_it : within lo None (enc (n ∷ r)) ≡ true = in_range lo (enc (n ∷ r)) None h refl in let out : within lo None (enc (n ∷ r)) ≡ false = unmarked (Dir es) m is means lo None none (n ∷ r) y e in cc))
+image_end (Dir date es) m lo is means none = same_texts (λ p. reaches lo (enc p)) (λ _. false) [] es is.rising
+    (λ n r y e. false_from_ne_true (reaches lo (enc (n ∷ r))) (λ h. let in_it : within lo None (enc (n ∷ r)) ≡ true = in_range lo (enc (n ∷ r)) None h refl in let out : within lo None (enc (n ∷ r)) ≡ false = unmarked (Dir date es) m is means lo None none (n ∷ r) y e in cc))
     ∙ no_texts [] es
-image_end (File b) m lo is means none = refl
+image_end (File date b) m lo is means none = refl
 
 -- the first entry from a key on: its lines, and behind them the lines from the next key on
 pub record FirstEntry (t : Tree) (lo k : Key) (v : Meta) : Type 0 where
@@ -218,41 +223,46 @@ pub record FirstEntry (t : Tree) (lo k : Key) (v : Meta) : Type 0 where
   pub tree : Tree
   pub stands : entry_at t path ≡ Found tree
   pub key : k ≡ enc path
-  pub meta : meta_of (seen (Found tree)) ≡ Some v
+  pub meta : meta_of (sighted (Found tree)) ≡ Some v
   pub text : image_from lo t ≡ entry_lines path tree ++ image_from (next_key k) t
 
-look_from : (o : Option Look) (v : Meta) → meta_of o ≡ Some v → (l : Look) × (o ≡ Some l)
-look_from None v e = absurd (cc)
-look_from (Some l) v e = (l, refl)
+sighted_found : (a : At) (l : Sight) → sighted a ≡ Some l → (x : Tree) × (a ≡ Found x)
+sighted_found (Found x) l e = (x, refl)
+sighted_found Missing l e = absurd (cc)
+sighted_found Blocked l e = absurd (cc)
+
+sight_from : (o : Option Sight) (v : Meta) → meta_of o ≡ Some v → (l : Sight) × (o ≡ Some l)
+sight_from None v e = absurd (cc)
+sight_from (Some l) v e = (l, refl)
 
 first_text : (t : Tree) (m : Metadata) (lo k : Key) (q : Path) (y : Tree) → IsTree t → MetaMeans t m → reaches lo [] ≡ false → reaches lo k ≡ true → HasNone m lo (Some k) → k ≡ enc q → entry_at t q ≡ Found y → image_from lo t ≡ entry_lines q y ++ image_from (next_key k) t
-first_text (File b) m lo k q y is means low at none key e = absurd is.root
-first_text (Dir es) m lo k [] y is means low at none key e = absurd (let f : reaches lo [] ≡ true = subst (λ (j : Key). reaches lo j ≡ true) key at in cc)
-first_text (Dir es) m lo k (n ∷ r) y is means low at none key e =
+first_text (File date b) m lo k q y is means low at none key e = absurd is.root
+first_text (Dir date es) m lo k [] y is means low at none key e = absurd (let f : reaches lo [] ≡ true = subst (λ (j : Key). reaches lo j ≡ true) key at in cc)
+first_text (Dir date es) m lo k (n ∷ r) y is means low at none key e =
     same_texts (λ p. reaches lo (enc p)) (from k) [] es is.rising (λ l s z f. marks l s z f)
     ∙ first_lines k [] es n r y is.rising (λ l s z f. (is.paths (l ∷ s) z f).names) e key
     ∙ ap (λ (t : Text). entry_lines (n ∷ r) y ++ t) (same_texts (behind k) (λ p. reaches (next_key k) (enc p)) [] es is.rising (λ l s z f. sym (reaches-next k (enc (l ∷ s)))))
   where
-    marks : (l : Name) (s : Path) (z : Tree) → entry_at (Dir es) (l ∷ s) ≡ Found z → reaches lo (enc (l ∷ s)) ≡ reaches k (enc (l ∷ s))
+    marks : (l : Name) (s : Path) (z : Tree) → entry_at (Dir date es) (l ∷ s) ≡ Found z → reaches lo (enc (l ∷ s)) ≡ reaches k (enc (l ∷ s))
     marks l s z f = by_bool (reaches k (enc (l ∷ s))) (reaches lo (enc (l ∷ s)) ≡ reaches k (enc (l ∷ s)))
         (λ h. le_le lo k (enc (l ∷ s)) at h ∙ sym h)
         (λ h. false_from_ne_true (reaches lo (enc (l ∷ s))) (λ g.
         let in_it : within lo (Some k) (enc (l ∷ s)) ≡ true = in_range lo (enc (l ∷ s)) (Some k) g (before_from_not_reaches k (enc (l ∷ s)) h) in
-        let out : within lo (Some k) (enc (l ∷ s)) ≡ false = unmarked (Dir es) m is means lo (Some k) none (l ∷ s) z f in
+        let out : within lo (Some k) (enc (l ∷ s)) ≡ false = unmarked (Dir date es) m is means lo (Some k) none (l ∷ s) z f in
         cc) ∙ sym h)
 
 first_entry : (t : Tree) (m : Metadata) (lo k : Key) (v : Meta) → IsTree t → MetaMeans t m → reaches lo [] ≡ false → IsFirst m lo None (Some (k, v)) → FirstEntry t lo k v
 first_entry t m lo k v is means low h =
     let of : PathOf k = means.only_paths k v h.1 in
-    let meta : meta_of (look t of.path) ≡ Some v = sym (means.paths of.path of.is_path) ∙ ap m (sym of.key) ∙ h.1 in
-    let seen_as : (l : Look) × (look t of.path ≡ Some l) = look_from (look t of.path) v meta in
-    let at : (x : Tree) × (entry_at t of.path ≡ Found x) = seen_found (entry_at t of.path) seen_as.0 seen_as.1 in
+    let meta : meta_of (sight t of.path) ≡ Some v = sym (means.paths of.path of.is_path) ∙ ap m (sym of.key) ∙ h.1 in
+    let seen_as : (l : Sight) × (sight t of.path ≡ Some l) = sight_from (sight t of.path) v meta in
+    let at : (x : Tree) × (entry_at t of.path ≡ Found x) = sighted_found (entry_at t of.path) seen_as.0 seen_as.1 in
     record {
       path = of.path;
       tree = at.0;
       stands = at.1;
       key = of.key;
-      meta = sym (ap (λ (a : At). meta_of (seen a)) at.1) ∙ meta;
+      meta = sym (ap (λ (a : At). meta_of (sighted a)) at.1) ∙ meta;
       text = first_text t m lo k of.path at.0 is means low (and_parts _ _ h.0).0 h.2 of.key at.1;
     }
 
@@ -279,17 +289,22 @@ behind_root k = reaches-next k [] ∙ not_before_from_reaches [] k (from_start k
 
 -- ---- one entry
 
-pub dir_lines : (x : Tree) (q : Path) → meta_of (seen (Found x)) ≡ Some DirMeta → entry_lines q x ≡ codes "d " ++ path_text q ++ codes "\n"
-dir_lines (Dir es) q e = refl
-dir_lines (File b) q e = absurd (cc)
+pub dir_lines : (x : Tree) (q : Path) (date : ℕ) → meta_of (sighted (Found x)) ≡ Some (DirMeta date) → entry_lines q x ≡ directory_text Second q date
+dir_lines (Dir stamp es) q date e = let same : stamp ≡ date = cc in ap (directory_text Second q) same
+dir_lines (File stamp b) q date e = absurd (cc)
 
-pub record FileLines (x : Tree) (q : Path) (len : ℕ) : Type 0 where
+pub record FileLines (x : Tree) (q : Path) (len date : ℕ) : Type 0 where
   pub bytes : List ℕ
-  pub is : x ≡ File bytes
-  pub text : entry_lines q x ≡ file_line q len ++ block_lines bytes (length bytes / 4096 + 1)
+  pub is : x ≡ File date bytes
+  pub text : entry_lines q x ≡ file_text Second q len date ++ block_lines bytes (length bytes / 4096 + 1)
 
-pub file_parts : (x : Tree) (q : Path) (len : ℕ) → meta_of (seen (Found x)) ≡ Some (FileMeta len) → FileLines x q len
-file_parts (Dir es) q len e = absurd (cc)
-file_parts (File b) q len e =
+pub file_parts : (x : Tree) (q : Path) (len date : ℕ) → meta_of (sighted (Found x)) ≡ Some (FileMeta len date) → FileLines x q len date
+file_parts (Dir stamp es) q len date e = absurd (cc)
+file_parts (File stamp b) q len date e =
     let l : length b ≡ len = cc in
-    record { bytes = b; is = refl; text = ap (λ (n : ℕ). file_line q n ++ block_lines b (length b / 4096 + 1)) l }
+    let d : stamp ≡ date = cc in
+    record {
+      bytes = b;
+      is = ap (λ (n : ℕ). File n b) d;
+      text = ap (λ (n : ℕ). file_text Second q n stamp ++ block_lines b (length b / 4096 + 1)) l ∙ ap (λ (n : ℕ). file_text Second q len n ++ block_lines b (length b / 4096 + 1)) d;
+    }

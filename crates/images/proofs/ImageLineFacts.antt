@@ -1,5 +1,5 @@
 -- What is guessed of a line of an image is the line that it spells.
-use Rattle.std.proofs.Common.{◌≡◌, ◌≢◌, ◌⊎◌, ⊎_elim, ◌↔◌, ℕ, ◌/◌, ◌%◌, ◌^◌, ◌<◌, ◌≤◌, List, [], ◌∷◌, ◌++◌, length, get_or, true, false, Bool, cond, ◌==◌, nat_lt, refl, sym, ap, subst, ◌∙◌, arith, append_assoc, Option, Some, None, Result, Ok, Err, decimal, flat_map, codes, All}
+use Rattle.std.proofs.Common.{◌≡◌, ◌≢◌, ◌⊎◌, ⊎_elim, ◌↔◌, ℕ, ◌/◌, ◌%◌, ◌^◌, ◌<◌, ◌≤◌, List, [], ◌∷◌, ◌++◌, length, drop, get_or, true, false, Bool, cond, ◌==◌, nat_lt, refl, sym, ap, subst, ◌∙◌, arith, append_assoc, append-nil, Option, Some, None, Result, Ok, Err, decimal, flat_map, codes, All}
 use Rattle.std.specs.Prelude.{IfSome}
 use Rattle.std.specs.List.{list_all}
 use Rattle.std.specs.Char.{is_ascii_digit}
@@ -7,7 +7,7 @@ use Rattle.std.specs.Str.Parse.{digits_value}
 use Rattle.std.proofs.lemmas.Bool.{lt-ltb, cases_lt, eqb-true}
 use Rattle.std.proofs.lemmas.Fmt.{decimal_digit, first_decimal, digits_decimal, digits_value-decimal}
 use Rattle.std.proofs.lemmas.List.{get_or_past}
-use Rattle.std.proofs.lemmas.List.Elements.{recursion_from_All, All-head, All-tail, All-get_or}
+use Rattle.std.proofs.lemmas.List.Elements.{recursion_from_All, All-cons, All-head, All-nil, All-tail, All-get_or}
 use Rattle.hex.specs.Hex.{decode_of, IsBytes}
 use Rattle.hex.specs.declared.error.FromHexError.{FromHexError}
 use Rattle.hex.specs.declared.error.FromHexError.TheVariants.{OutOfMemory}
@@ -19,16 +19,17 @@ use Rattle.pathkey.specs.declared.errno.Errno.{Errno}
 use Rattle.pathkey.specs.declared.errno.Errno.TheVariants.{ENOMEM}
 use Rattle.pathkey.specs.Texts.{parsed, slashed}
 use Rattle.pathkey.proofs.TextFacts.{read_back}
-use Rattle.reference.specs.Image.{Text, digit, two_digits, percent, path_text}
-use Rattle.reference.specs.ImageLines.{Line, DirectoryLine, FileLine, BlockLine, spelled, IsLine, IsBlock}
+use Rattle.reference.specs.Image.{Text, Version, First, Second, directory_letter, file_letter, moment_text, root_line, digit, two_digits, percent, path_text}
+use Rattle.reference.specs.ImageLines.{Line, DirectoryLine, FileLine, BlockLine, spelled, IsLine, IsBlock, IsTold}
 use Rattle.reference.specs.Shape.{AreBytes}
 use Rattle.reference.proofs.ImageTexts.{Visible, path_visible, decimal_visible, percent_cases}
-use Rattle.images.specs.ImageLines.{Guesses}
-use Rattle.lines.specs.Values.{path_of}
-use Rattle.lines.specs.Values.{is_decimal, number_of}
+use Rattle.reference.proofs.OneImage.{letters_differ}
+use Rattle.images.specs.Image.{directory_text, file_text}
+use Rattle.images.specs.ImageLines.{CutsMoment, Guesses, IsRoot}
+use Rattle.lines.specs.Values.{is_decimal, number_of, path_of}
 use Rattle.lines.proofs.HexFacts.{encoded}
 use Rattle.lines.proofs.ValueFacts.{own}
-use Rattle.images.specs.declared.image_line.ImageLine.TheVariants.{File, Block}
+use Rattle.images.specs.declared.image_line.ImageLine.TheVariants.{Directory, File, Block}
 
 -- ---- a path in percent form
 
@@ -159,88 +160,138 @@ cut_parts text front back xs r h v e = same_cut front xs back r (no_space_from_a
 pub never_cut : (text xs r : Text) → All (λ b. b ≢ 32) text → text ≡ xs ++ 32 ∷ r → ⊥
 never_cut text xs r h e = no_space_there xs r (subst NoSpace e (no_space_from_all text h))
 
+-- visible bytes have no space
+all_visible : (xs : Text) → Visible xs → All (λ b. b ≢ 32) xs
+all_visible [] v = All-nil (λ b. b ≢ 32)
+all_visible (x ∷ xs) v = All-cons (λ b. b ≢ 32) x xs (λ e. let far : 33 ≤ x = v.0 in omega arith) (all_visible xs v.1)
+
 -- ---- guesses
 
-pub no_guess : (text : Text) → ((l : Line) → IsLine l → text ≡ spelled l → ⊥) → Guesses text None
-no_guess text h = record { valid = tt; complete = λ l is e. absurd (h l is e) }
+pub no_guess : (v : Version) (text : Text) → ((l : Line) → IsLine v l → text ≡ spelled v l → ⊥) → Guesses v text None
+no_guess v text h = record { valid = tt; complete = λ l is e. absurd (h l is e) }
 
 -- the first letter and the rest of a line
-letter : Line → ℕ
-letter (DirectoryLine p) = 100
-letter (FileLine p n) = 102
-letter (BlockLine i b) = 98
+letter : Version → Line → ℕ
+letter v (DirectoryLine p at) = directory_letter v
+letter v (FileLine p n at) = file_letter v
+letter v (BlockLine i b) = 98
 
-tail : Line → Text
-tail (DirectoryLine p) = path_text p
-tail (FileLine p n) = path_text p ++ 32 ∷ decimal n
-tail (BlockLine i b) = decimal i ++ 32 ∷ flat_map (two_digits 87) b
+tail : Version → Line → Text
+tail v (DirectoryLine p at) = path_text p ++ moment_text v at
+tail v (FileLine p n at) = path_text p ++ (32 ∷ (decimal n ++ moment_text v at))
+tail v (BlockLine i b) = decimal i ++ 32 ∷ flat_map (two_digits 87) b
 
-opened : (l : Line) → spelled l ≡ (letter l ∷ []) ++ 32 ∷ tail l
+opened : (v : Version) (l : Line) → spelled v l ≡ (letter v l ∷ []) ++ 32 ∷ tail v l
 unfolding letter tail
-opened (DirectoryLine p) = refl
-opened (FileLine p n) = refl
-opened (BlockLine i b) = refl
+opened v (DirectoryLine p at) = refl
+opened v (FileLine p n at) = refl
+opened v (BlockLine i b) = refl
 
-letter_visible : (l : Line) → Visible (letter l ∷ [])
+letter_visible : (v : Version) (l : Line) → Visible (letter v l ∷ [])
 unfolding letter
-letter_visible (DirectoryLine p) = (omega arith, tt)
-letter_visible (FileLine p n) = (omega arith, tt)
-letter_visible (BlockLine i b) = (omega arith, tt)
+letter_visible First (DirectoryLine p at) = (omega arith, tt)
+letter_visible First (FileLine p n at) = (omega arith, tt)
+letter_visible First (BlockLine i b) = (omega arith, tt)
+letter_visible Second (DirectoryLine p at) = (omega arith, tt)
+letter_visible Second (FileLine p n at) = (omega arith, tt)
+letter_visible Second (BlockLine i b) = (omega arith, tt)
 
-pub no_space_no_line : (text : Text) → All (λ b. b ≢ 32) text → Guesses text None
-no_space_no_line text h = no_guess text (λ l is e. never_cut text (letter l ∷ []) (tail l) h (e ∙ opened l))
+pub no_space_no_line : (v : Version) (text : Text) → All (λ b. b ≢ 32) text → Guesses v text None
+no_space_no_line v text h = no_guess v text (λ l is e. never_cut text (letter v l ∷ []) (tail v l) h (e ∙ opened v l))
 
-pub other_letter : (text front back : Text) → IsCut text front back → front ≢ codes "d" → front ≢ codes "f" → front ≢ codes "b" → Guesses text None
+pub other_letter : (v : Version) (text front back : Text) → IsCut text front back → front ≢ directory_letter v ∷ [] → front ≢ file_letter v ∷ [] → front ≢ codes "b" → Guesses v text None
 unfolding letter
-other_letter text front back h d f b = no_guess text (λ l is e. clash l (cut_parts text front back (letter l ∷ []) (tail l) h (letter_visible l) (e ∙ opened l)).0)
+other_letter v text front back h d f b = no_guess v text (λ l is e. clash l (cut_parts text front back (letter v l ∷ []) (tail v l) h (letter_visible v l) (e ∙ opened v l)).0)
   where
-    clash : (l : Line) → front ≡ letter l ∷ [] → ⊥
-    clash (DirectoryLine p) e = d e
-    clash (FileLine p n) e = f e
+    clash : (l : Line) → front ≡ letter v l ∷ [] → ⊥
+    clash (DirectoryLine p at) e = d e
+    clash (FileLine p n at) e = f e
     clash (BlockLine i b') e = b e
 
--- what is behind the letter of a file
+-- the first byte, and what is behind the second
 abbrev first : Text → ℕ
 first [] = 0
 first (x ∷ xs) = x
 
-module _ (words : Text) where
-  pub no_file : ((p : Path) (n : ℕ) → IsLine (FileLine p n) → words ≡ path_text p ++ 32 ∷ decimal n → ⊥) → Guesses (102 ∷ 32 ∷ words) None
-  no_file h = no_guess (102 ∷ 32 ∷ words) go
-    where
-      go : (l : Line) → IsLine l → 102 ∷ 32 ∷ words ≡ spelled l → ⊥
-      go (DirectoryLine p) is e = let f : ◌≡◌ {A = ℕ} 102 100 = ap first e in omega arith
-      go (FileLine p n) is e = h p n is (cc)
-      go (BlockLine i b) is e = let f : ◌≡◌ {A = ℕ} 102 98 = ap first e in omega arith
+abbrev behind : Text → Text
+behind [] = []
+behind (x ∷ []) = []
+behind (x ∷ y ∷ xs) = xs
 
-  pub a_file : (q : Path) (m : ℕ) → IsLine (FileLine q m) → ((p : Path) (n : ℕ) → IsLine (FileLine p n) → words ≡ path_text p ++ 32 ∷ decimal n → (q ≡ p) × (m ≡ n)) → Guesses (102 ∷ 32 ∷ words) (Some (File q m))
-  a_file q m valid h = record { valid = valid; complete = go }
-    where
-      go : (l : Line) → IsLine l → 102 ∷ 32 ∷ words ≡ spelled l → Some (FileLine q m) ≡ Some l
-      go (DirectoryLine p) is e = absurd (let f : ◌≡◌ {A = ℕ} 102 100 = ap first e in omega arith)
-      go (FileLine p n) is e = let g : (q ≡ p) × (m ≡ n) = h p n is (cc) in cc (g.0, g.1)
-      go (BlockLine i b) is e = absurd (let f : ◌≡◌ {A = ℕ} 102 98 = ap first e in omega arith)
+-- the letters of the kinds of lines differ
+no_block_letter : (v : Version) → (directory_letter v ≢ 98) × (file_letter v ≢ 98)
+no_block_letter First = ((λ e. omega arith), (λ e. omega arith))
+no_block_letter Second = ((λ e. omega arith), (λ e. omega arith))
 
-  pub no_block : ((i : ℕ) (b : List ℕ) → IsLine (BlockLine i b) → words ≡ decimal i ++ 32 ∷ flat_map (two_digits 87) b → ⊥) → Guesses (98 ∷ 32 ∷ words) None
-  no_block h = no_guess (98 ∷ 32 ∷ words) go
+module _ (v : Version) (words : Text) where
+  pub no_directory : ((p : Path) (at : ℕ) → IsLine v (DirectoryLine p at) → words ≡ path_text p ++ moment_text v at → ⊥) → Guesses v (directory_letter v ∷ 32 ∷ words) None
+  no_directory h = no_guess v (directory_letter v ∷ 32 ∷ words) go
     where
-      go : (l : Line) → IsLine l → 98 ∷ 32 ∷ words ≡ spelled l → ⊥
-      go (DirectoryLine p) is e = let f : ◌≡◌ {A = ℕ} 98 100 = ap first e in omega arith
-      go (FileLine p n) is e = let f : ◌≡◌ {A = ℕ} 98 102 = ap first e in omega arith
-      go (BlockLine i b) is e = h i b is (cc)
+      go : (l : Line) → IsLine v l → directory_letter v ∷ 32 ∷ words ≡ spelled v l → ⊥
+      go (DirectoryLine p at) is e = h p at is (ap behind e)
+      go (FileLine p n at) is e = letters_differ v (ap first e)
+      go (BlockLine i b) is e = (no_block_letter v).0 (ap first e)
 
-  pub a_block : (j : ℕ) (c : List ℕ) → IsLine (BlockLine j c) → ((i : ℕ) (b : List ℕ) → IsLine (BlockLine i b) → words ≡ decimal i ++ 32 ∷ flat_map (two_digits 87) b → (j ≡ i) × (c ≡ b)) → Guesses (98 ∷ 32 ∷ words) (Some (Block j c))
+  pub a_directory : (q : Path) (a : ℕ) → IsLine v (DirectoryLine q a) → ((p : Path) (at : ℕ) → IsLine v (DirectoryLine p at) → words ≡ path_text p ++ moment_text v at → (q ≡ p) × (a ≡ at))
+      → Guesses v (directory_letter v ∷ 32 ∷ words) (Some (Directory q a))
+  a_directory q a valid h = record { valid = valid; complete = go }
+    where
+      go : (l : Line) → IsLine v l → directory_letter v ∷ 32 ∷ words ≡ spelled v l → Some (DirectoryLine q a) ≡ Some l
+      go (DirectoryLine p at) is e = let g : (q ≡ p) × (a ≡ at) = h p at is (ap behind e) in cc (g.0, g.1)
+      go (FileLine p n at) is e = absurd (letters_differ v (ap first e))
+      go (BlockLine i b) is e = absurd ((no_block_letter v).0 (ap first e))
+
+  pub no_file : ((p : Path) (n at : ℕ) → IsLine v (FileLine p n at) → words ≡ path_text p ++ 32 ∷ (decimal n ++ moment_text v at) → ⊥) → Guesses v (file_letter v ∷ 32 ∷ words) None
+  no_file h = no_guess v (file_letter v ∷ 32 ∷ words) go
+    where
+      go : (l : Line) → IsLine v l → file_letter v ∷ 32 ∷ words ≡ spelled v l → ⊥
+      go (DirectoryLine p at) is e = letters_differ v (sym (ap first e))
+      go (FileLine p n at) is e = h p n at is (ap behind e)
+      go (BlockLine i b) is e = (no_block_letter v).1 (ap first e)
+
+  pub a_file : (q : Path) (m a : ℕ) → IsLine v (FileLine q m a) → ((p : Path) (n at : ℕ) → IsLine v (FileLine p n at) → words ≡ path_text p ++ 32 ∷ (decimal n ++ moment_text v at) → (q ≡ p) × (m ≡ n) × (a ≡ at))
+      → Guesses v (file_letter v ∷ 32 ∷ words) (Some (File q m a))
+  a_file q m a valid h = record { valid = valid; complete = go }
+    where
+      go : (l : Line) → IsLine v l → file_letter v ∷ 32 ∷ words ≡ spelled v l → Some (FileLine q m a) ≡ Some l
+      go (DirectoryLine p at) is e = absurd (letters_differ v (sym (ap first e)))
+      go (FileLine p n at) is e = let g : (q ≡ p) × (m ≡ n) × (a ≡ at) = h p n at is (ap behind e) in cc (g.0, g.1, g.2)
+      go (BlockLine i b) is e = absurd ((no_block_letter v).1 (ap first e))
+
+  pub no_block : ((i : ℕ) (b : List ℕ) → IsLine v (BlockLine i b) → words ≡ decimal i ++ 32 ∷ flat_map (two_digits 87) b → ⊥) → Guesses v (98 ∷ 32 ∷ words) None
+  no_block h = no_guess v (98 ∷ 32 ∷ words) go
+    where
+      go : (l : Line) → IsLine v l → 98 ∷ 32 ∷ words ≡ spelled v l → ⊥
+      go (DirectoryLine p at) is e = (no_block_letter v).0 (sym (ap first e))
+      go (FileLine p n at) is e = (no_block_letter v).1 (sym (ap first e))
+      go (BlockLine i b) is e = h i b is (ap behind e)
+
+  pub a_block : (j : ℕ) (c : List ℕ) → IsLine v (BlockLine j c) → ((i : ℕ) (b : List ℕ) → IsLine v (BlockLine i b) → words ≡ decimal i ++ 32 ∷ flat_map (two_digits 87) b → (j ≡ i) × (c ≡ b)) → Guesses v (98 ∷ 32 ∷ words) (Some (Block j c))
   a_block j c valid h = record { valid = valid; complete = go }
     where
-      go : (l : Line) → IsLine l → 98 ∷ 32 ∷ words ≡ spelled l → Some (BlockLine j c) ≡ Some l
-      go (DirectoryLine p) is e = absurd (let f : ◌≡◌ {A = ℕ} 98 100 = ap first e in omega arith)
-      go (FileLine p n) is e = absurd (let f : ◌≡◌ {A = ℕ} 98 102 = ap first e in omega arith)
-      go (BlockLine i b) is e = let g : (j ≡ i) × (c ≡ b) = h i b is (cc) in cc (g.0, g.1)
+      go : (l : Line) → IsLine v l → 98 ∷ 32 ∷ words ≡ spelled v l → Some (BlockLine j c) ≡ Some l
+      go (DirectoryLine p at) is e = absurd ((no_block_letter v).0 (sym (ap first e)))
+      go (FileLine p n at) is e = absurd ((no_block_letter v).1 (sym (ap first e)))
+      go (BlockLine i b) is e = let g : (j ≡ i) × (c ≡ b) = h i b is (ap behind e) in cc (g.0, g.1)
 
 -- ---- the words of a file's line, and of a block's
 
-pub file_words : (words front back : Text) (p : Path) (n : ℕ) → IsCut words front back → words ≡ path_text p ++ 32 ∷ decimal n → (front ≡ path_text p) × (back ≡ decimal n)
-file_words words front back p n h e = cut_parts words front back (path_text p) (decimal n) h (path_visible p) e
+pub file_words : (words front back : Text) (p : Path) (rest : Text) → IsCut words front back → words ≡ path_text p ++ 32 ∷ rest → (front ≡ path_text p) × (back ≡ rest)
+file_words words front back p rest h e = cut_parts words front back (path_text p) rest h (path_visible p) e
+
+-- what ends a line of version 2, cut at its only space
+pub moment_words : (words front back last : Text) (at : ℕ) → IsCut words front back → All (λ b. b ≢ 32) last → words ≡ last ++ (32 ∷ decimal at) → (front ≡ last) × (back ≡ decimal at)
+moment_words words front back last at h free e = same_cut front last back (decimal at) (no_space_from_all front h.first) (no_space_from_all last free) (sym h.is ∙ e)
+
+pub never_ends : (text last : Text) (at : ℕ) → All (λ b. b ≢ 32) text → text ≡ last ++ (32 ∷ decimal at) → ⊥
+never_ends text last at h e = no_space_there last (decimal at) (subst NoSpace e (no_space_from_all text h))
+
+-- texts without a space
+pub path_free : (p : Path) → All (λ b. b ≢ 32) (path_text p)
+path_free p = all_visible (path_text p) (path_visible p)
+
+pub decimal_free : (n : ℕ) → n < 2 ^ 64 → All (λ b. b ≢ 32) (decimal n)
+decimal_free n h = all_visible (decimal n) (decimal_visible n h)
 
 pub block_words : (words front back : Text) (i : ℕ) (b : List ℕ) → IsCut words front back → i < 2 ^ 28 → words ≡ decimal i ++ 32 ∷ flat_map (two_digits 87) b → (front ≡ decimal i) × (back ≡ flat_map (two_digits 87) b)
 block_words words front back i b h few e = cut_parts words front back (decimal i) (flat_map (two_digits 87) b) h (decimal_visible i (omega arith)) e
@@ -252,6 +303,11 @@ number_spelled word n h e = ap number_of e ∙ number_read n h
 pub some_is : (n m : ℕ) → ◌≡◌ {A = Option ℕ} (Some n) (Some m) → n ≡ m
 some_is n m e = cc
 
+pub some_both : (n a m b : ℕ) → ◌≡◌ {A = Option (ℕ × ℕ)} (Some (n, a)) (Some (m, b)) → (n ≡ m) × (a ≡ b)
+some_both n a m b e =
+    let same : (n, a) ≡ (m, b) = cc in
+    (ap (λ (p : ℕ × ℕ). p.0) same, ap (λ (p : ℕ × ℕ). p.1) same)
+
 pub never_cut_number : (text : Text) (i : ℕ) (r : Text) → All (λ b. b ≢ 32) text → i < 2 ^ 28 → text ≡ decimal i ++ 32 ∷ r → ⊥
 never_cut_number text i r h few e = no_space_there (decimal i) r (subst NoSpace e (no_space_from_all text h))
 
@@ -261,3 +317,92 @@ no_block_of bytes b both none is = let yes : b ≡ true = both.1 is in cc
 pub some_block : (guess : Option (List ℕ)) (b : List ℕ) → IfSome guess IsBlock → guess ≡ Some b → IsBlock b
 some_block None b h e = absurd (cc)
 some_block (Some c) b h e = let same : c ≡ b = cc in subst IsBlock same h
+
+-- ---- the moment that ends a line
+
+some_pair : (x y : Text × ℕ) → ◌≡◌ {A = Option (Text × ℕ)} (Some x) (Some y) → x ≡ y
+some_pair x y e = cc
+
+-- what was cut off is what was spelled
+pub moment_cut : (v : Version) (words : Text) (cut : Option (Text × ℕ)) → CutsMoment v words cut → (front : Text) (a : ℕ) → cut ≡ Some (front, a) → (last : Text) (at : ℕ) → All (λ b. b ≢ 32) last → IsTold v at
+    → words ≡ last ++ moment_text v at → (front ≡ last) × (a ≡ at)
+moment_cut v words cut h front a is last at free told e =
+    let same : (front, a) ≡ (last, at) = some_pair (front, a) (last, at) (sym is ∙ h.complete last at free told e) in
+    (ap (λ (p : Text × ℕ). p.0) same, ap (λ (p : Text × ℕ). p.1) same)
+
+-- and something was, where something is spelled
+pub no_moment_cut : (v : Version) (words : Text) (cut : Option (Text × ℕ)) → CutsMoment v words cut → cut ≡ None → (last : Text) (at : ℕ) → All (λ b. b ≢ 32) last → IsTold v at → words ≡ last ++ moment_text v at → ⊥
+no_moment_cut v words cut h none last at free told e = let clash : ◌≡◌ {A = Option (Text × ℕ)} None (Some (last, at)) = sym none ∙ h.complete last at free told e in cc
+
+pub moment_told : (v : Version) (words : Text) (cut : Option (Text × ℕ)) → CutsMoment v words cut → (front : Text) (a : ℕ) → cut ≡ Some (front, a) → IsTold v a
+moment_told v words cut h front a is = go (subst (λ (o : Option (Text × ℕ)). IfSome o (λ c. IsTold v c.1)) is h.valid)
+  where
+    go : IfSome (Some (front, a)) (λ (c : Text × ℕ). IsTold v c.1) → IsTold v a
+    go t = t
+
+-- ---- lines as they are written
+
+pub directory_spelled : (v : Version) (p : Path) (at : ℕ) → directory_text v p at ≡ spelled v (DirectoryLine p at) ++ 10 ∷ []
+directory_spelled v p at = ap (λ (t : Text). directory_letter v ∷ 32 ∷ t) (sym (append_assoc (path_text p) (moment_text v at) (10 ∷ [])))
+
+pub file_spelled : (v : Version) (p : Path) (n at : ℕ) → file_text v p n at ≡ spelled v (FileLine p n at) ++ 10 ∷ []
+file_spelled v p n at =
+    ap (λ (t : Text). file_letter v ∷ 32 ∷ (path_text p ++ (32 ∷ t))) (sym (append_assoc (decimal n) (moment_text v at) (10 ∷ [])))
+    ∙ ap (λ (t : Text). file_letter v ∷ 32 ∷ t) (sym (append_assoc (path_text p) (32 ∷ (decimal n ++ moment_text v at)) (10 ∷ [])))
+
+-- ---- the line of a root
+
+pub root_read : (line : Text) (read : Option (Version × ℕ)) → IsRoot line read → (v : Version) (a : ℕ) → read ≡ Some (v, a) → IsTold v a × (line ≡ root_line v a)
+root_read line read h v a is = go (subst (IsRoot line) is h)
+  where
+    go : IsRoot line (Some (v, a)) → IsTold v a × (line ≡ root_line v a)
+    go t = t
+
+pub root_unread : (line : Text) (read : Option (Version × ℕ)) → IsRoot line read → read ≡ None → (v : Version) (at : ℕ) → IsTold v at → line ≢ root_line v at
+root_unread line read h none = subst (IsRoot line) none h
+
+-- no line of version 1, nor one of version 2 without a number behind its words
+pub no_root : (line rest : Text) → line ≢ codes "d /" → rest ≡ drop (length (codes "D / ")) line → ((n : ℕ) → n < 2 ^ 64 → rest ≢ decimal n) → (v : Version) (at : ℕ) → IsTold v at → line ≢ root_line v at
+no_root line rest other is none First at told e = other e
+no_root line rest other is none Second at told e = none at told (is ∙ ap (drop (length (codes "D / "))) e)
+
+-- ---- how a moment is cut off
+
+-- version 1 has none
+pub cuts_nothing : (words : Text) → CutsMoment First words (Some (words, 0))
+cuts_nothing words = record {
+  valid = refl;
+  complete = λ front at free told e.
+      let same : words ≡ front = e ∙ append-nil front in
+      ap (λ (w : Text). Some (w, 0)) same ∙ ap (λ (n : ℕ). Some (front, n)) (sym told);
+}
+
+-- version 2 has a space before it
+pub cuts_no_space : (words : Text) → All (λ b. b ≢ 32) words → CutsMoment Second words None
+cuts_no_space words h = record { valid = tt; complete = λ front at free told e. absurd (never_ends words front at h e) }
+
+-- and a number behind that
+pub cuts_no_number : (words front back : Text) → IsCut words front back → number_of back ≡ None → CutsMoment Second words None
+cuts_no_number words front back h none = record {
+  valid = tt;
+  complete = λ last at free told e.
+      let parts = moment_words words front back last at h free e in
+      let clash : ◌≡◌ {A = Option ℕ} None (Some at) = sym none ∙ number_spelled back at told parts.1 in absurd (cc);
+}
+
+pub cuts_last : (words front back : Text) (n : ℕ) → IsCut words front back → number_of back ≡ Some n → n < 2 ^ 64 → CutsMoment Second words (Some (front, n))
+cuts_last words front back n h number few = record {
+  valid = few;
+  complete = λ last at free told e.
+      let parts = moment_words words front back last at h free e in
+      let same : n ≡ at = some_is n at (sym number ∙ number_spelled back at told parts.1) in
+      ap (λ (w : Text). Some (w, n)) parts.0 ∙ ap (λ (k : ℕ). Some (last, k)) same;
+}
+
+-- the length and the moment that end the line of a file
+pub len_spelled : (v : Version) (numbers number : Text) (cut : Option (Text × ℕ)) → CutsMoment v numbers cut → (a : ℕ) → cut ≡ Some (number, a) → (n at : ℕ) → n ≤ 2 ^ 40 → IsTold v at → numbers ≡ decimal n ++ moment_text v at
+    → (number_of number ≡ Some n) × (a ≡ at)
+len_spelled v numbers number cut h a is n at few told e =
+    let small : n < 2 ^ 64 = omega arith in
+    let parts = moment_cut v numbers cut h number a is (decimal n) at (decimal_free n small) told e in
+    (number_spelled number n small parts.0, parts.1)

@@ -1,21 +1,30 @@
 -- The lines of one entry of an image.
-use Rattle.std.specs.Prelude.{◌≡◌, ℕ, List, Option, Some, None, ◌+◌, ◌/◌, ◌<◌, ◌++◌, length, codes}
+use Rattle.std.specs.Prelude.{◌≡◌, ℕ, List, [], ◌∷◌, Option, Some, None, ◌+◌, ◌/◌, ◌<◌, ◌++◌, length, decimal}
 use Rattle.pathkey.specs.Keys.{Key, blocks_from}
 use Rattle.pathkey.specs.declared.range.KeyRange.{KeyRange}
 use Rattle.scan.specs.Pairs.{IsFirst}
-use Rattle.reference.specs.Image.{Text, block_line, block_lines, path_text, trimmed}
+use Rattle.reference.specs.Image.{Text, Version, First, Second, directory_letter, file_letter, moment_text, block_line, block_lines, path_text, trimmed}
 use Rattle.reference.specs.Indexes.{most_blocks}
 use Rattle.reference.specs.Tree.{Path, Tree, Dir, File}
-use Rattle.lines.specs.Texts.{number_line}
+use Rattle.images.specs.declared.version.ImageVersion.{ImageVersion}
+use Rattle.images.specs.declared.version.ImageVersion.TheVariants as version
 
--- the line of a file at the path p
-abbrev pub file_line : Path → ℕ → Text
-file_line p len = codes "f " ++ path_text p ++ number_line (codes " ") len
+-- the version that a value names
+abbrev pub version_of : ImageVersion → Version
+version_of version.First = First
+version_of version.Second = Second
 
--- the lines of what stands at the path p, without those of a directory's entries
+-- the line of a directory at the path p, and of a file there, in a version
+abbrev pub directory_text : Version → Path → ℕ → Text
+directory_text v p at = directory_letter v ∷ 32 ∷ (path_text p ++ (moment_text v at ++ 10 ∷ []))
+
+abbrev pub file_text : Version → Path → ℕ → ℕ → Text
+file_text v p len at = file_letter v ∷ 32 ∷ (path_text p ++ (32 ∷ (decimal len ++ (moment_text v at ++ 10 ∷ []))))
+
+-- the lines of what stands at the path p, without those of a directory's entries, in version 2
 abbrev pub entry_lines : Path → Tree → Text
-entry_lines p (Dir es) = codes "d " ++ path_text p ++ codes "\n"
-entry_lines p (File b) = file_line p (length b) ++ block_lines b (length b / 4096 + 1)
+entry_lines p (Dir date es) = directory_text Second p date
+entry_lines p (File date b) = file_text Second p (length b) date ++ block_lines b (length b / 4096 + 1)
 
 -- the block that comes next behind those before number i, whose line follows theirs; none where theirs are all lines
 abbrev pub IsNextBlock : List ℕ → ℕ → Option (ℕ × List ℕ) → Type 0

@@ -1,21 +1,30 @@
 -- The lines of an image as they are read.
-use Rattle.std.specs.Prelude.{◌≡◌, ◌≢◌, Option, Some, IfSome, MatchOption, option_map}
-use Rattle.reference.specs.Image.{Text}
-use Rattle.reference.specs.ImageLines.{Line, DirectoryLine, FileLine, BlockLine, spelled, IsLine}
+use Rattle.std.specs.Prelude.{◌≡◌, ◌≢◌, ℕ, ◌++◌, All, Option, Some, IfSome, MatchOption, option_map}
+use Rattle.reference.specs.Image.{Text, Version, moment_text, root_line}
+use Rattle.reference.specs.ImageLines.{Line, DirectoryLine, FileLine, BlockLine, spelled, IsLine, IsTold}
 use Rattle.images.specs.declared.image_line.ImageLine.{ImageLine}
 use Rattle.images.specs.declared.image_line.ImageLine.TheVariants.{Directory, File, Block}
 
 -- the line that was read
 abbrev pub line_of : ImageLine → Line
-line_of (Directory p) = DirectoryLine p
-line_of (File p n) = FileLine p n
+line_of (Directory p at) = DirectoryLine p at
+line_of (File p n at) = FileLine p n at
 line_of (Block i b) = BlockLine i b
 
--- what was guessed of a text: a line of an image, and the one that the text spells where it spells one
-pub record Guesses (text : Text) (guess : Option ImageLine) : Type 0 where
-  pub valid : IfSome guess (λ l. IsLine (line_of l))
-  pub complete : (l : Line) → IsLine l → text ≡ spelled l → option_map line_of guess ≡ Some l
+-- what was guessed of a text: a line of an image of the version, and the one that the text spells where it spells one
+pub record Guesses (v : Version) (text : Text) (guess : Option ImageLine) : Type 0 where
+  pub valid : IfSome guess (λ l. IsLine v (line_of l))
+  pub complete : (l : Line) → IsLine v l → text ≡ spelled v l → option_map line_of guess ≡ Some l
 
--- the line of an image that a text spells, or none where it spells none
-abbrev pub Spells : Text → Option ImageLine → Type 0
-Spells text read = MatchOption read ((l : Line) → IsLine l → text ≢ spelled l) (λ l. IsLine (line_of l) × (text ≡ spelled (line_of l)))
+-- the line of an image of the version that a text spells, or none where it spells none
+abbrev pub Spells : Version → Text → Option ImageLine → Type 0
+Spells v text read = MatchOption read ((l : Line) → IsLine v l → text ≢ spelled v l) (λ l. IsLine v (line_of l) × (text ≡ spelled v (line_of l)))
+
+-- the words of a line up to a moment, and the moment: where the version tells one it is the last word
+pub record CutsMoment (v : Version) (words : Text) (cut : Option (Text × ℕ)) : Type 0 where
+  pub valid : IfSome cut (λ c. IsTold v c.1)
+  pub complete : (front : Text) (at : ℕ) → All (λ b. b ≢ 32) front → IsTold v at → words ≡ front ++ moment_text v at → cut ≡ Some (front, at)
+
+-- the version and the moment that the line of a root tells, or none where it is none
+abbrev pub IsRoot : Text → Option (Version × ℕ) → Type 0
+IsRoot line read = MatchOption read ((v : Version) (at : ℕ) → IsTold v at → line ≢ root_line v at) (λ r. IsTold r.0 r.1 × (line ≡ root_line r.0 r.1))

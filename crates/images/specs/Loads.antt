@@ -1,16 +1,17 @@
 -- How far an image is loaded, line by line.
-use Rattle.std.specs.Prelude.{◌≡◌, ◌+◌, ◌*◌, ◌≤◌, ℕ, List, [], ◌∷◌, ◌++◌, length, codes, Option, Some, None, IfSome}
+use Rattle.std.specs.Prelude.{◌≡◌, ◌+◌, ◌*◌, ◌≤◌, ℕ, ⊤, List, [], ◌∷◌, ◌++◌, length, Option, Some, None, IfSome}
 use Rattle.std.specs.FinMap as finite
 use Rattle.std.specs.Io.KnownBytes.{Consumes, IsAtEnd}
-use Rattle.reference.specs.Image.{Text, image}
-use Rattle.reference.specs.ImageLines.{Line, DirectoryLine, FileLine, Lines, AreLines, IsBadAt, IsImage, MayFollow, image_of_lines, last_len, last_path, next_block, tree_of_lines}
+use Rattle.reference.specs.Image.{Text, Version, image, root_line}
+use Rattle.reference.specs.ImageLines.{Line, DirectoryLine, FileLine, Lines, AllTold, AreLines, IsBadAt, IsSomeImage, IsTold, MayFollow, image_of_lines, last_len, last_path, next_block, tree_of_lines}
 use Rattle.reference.specs.Shape.{IsTree}
-use Rattle.reference.specs.Tree.{Path, Tree}
+use Rattle.reference.specs.Tree.{Path, Tree, Dir, nothing, entry_at, moment_there}
 use Rattle.reference.specs.declared.call.Call.{Call}
 use Rattle.reference.specs.declared.reply.Meta.{Meta}
 use Rattle.reference.specs.declared.reply.Meta.TheVariants.{Dir as DirMeta, File as FileMeta}
 use Rattle.reference.specs.declared.reply.Reply.TheVariants.{Count}
 use Rattle.reference.specs.Worlds.{World}
+use Rattle.images.specs.Image.{version_of}
 use Rattle.lines.specs.Held.{Holds, IsFree}
 use Rattle.images.specs.declared.load.Loading.{Loading}
 use Rattle.node.specs.declared.shape.Shape.{Shape}
@@ -29,7 +30,7 @@ pub record Form : Type 0 where
   pub marks : PMarks
 
 abbrev pub form_of : PVolume → Form
-form_of v = record { meta = v.live.meta.tree.shape; block = v.live.block.tree.shape; marks = v.marks }
+form_of v = record { meta = v.live.indexes.meta.tree.shape; block = v.live.indexes.block.tree.shape; marks = v.marks }
 
 -- that of a new volume of the shape
 abbrev pub new_form : Shape → Form
@@ -37,24 +38,47 @@ new_form shape = record { meta = shape; block = shape; marks = no_marks 0 }
 
 -- ---- the lines so far: none, or the root's line and others behind it
 
-abbrev pub text_so_far : Option Lines → Text
+-- an image that was begun: its version, the moment of its root, and the lines behind the root's
+pub record Begun : Type 0 where
+  pub version : Version
+  pub root : ℕ
+  pub lines : Lines
+
+abbrev pub text_of : Begun → Text
+text_of b = image_of_lines b.version b.root b.lines
+
+abbrev pub with_line : Line → Begun → Begun
+with_line l b = record b { lines = l ∷ b.lines }
+
+abbrev pub text_so_far : Option Begun → Text
 text_so_far None = []
-text_so_far (Some ls) = image_of_lines ls
+text_so_far (Some b) = text_of b
 
-abbrev pub lines_so_far : Option Lines → Lines
+abbrev pub lines_so_far : Option Begun → Lines
 lines_so_far None = []
-lines_so_far (Some ls) = ls
+lines_so_far (Some b) = b.lines
 
-abbrev pub count_so_far : Option Lines → ℕ
+-- each line may follow those before it, and the root has a moment that the version may tell
+abbrev pub AreSoFar : Option Begun → Type 0
+AreSoFar None = ⊤
+AreSoFar (Some b) = IsTold b.version b.root × AreLines b.version b.lines
+
+abbrev pub tree_so_far : Option Begun → Tree
+tree_so_far None = Dir 0 nothing
+tree_so_far (Some b) = tree_of_lines b.root b.lines
+
+abbrev pub count_so_far : Option Begun → ℕ
 count_so_far None = 0
-count_so_far (Some ls) = length ls + 1
+count_so_far (Some b) = length b.lines + 1
 
 -- these lines were loaded, and what is kept of them decides which line may follow
-pub record IsLoading (s : Option Lines) (l : Loading) : Type 0 where
-  pub are : AreLines (lines_so_far s)
-  pub means : Means l.volume (alone (tree_of_lines (lines_so_far s)))
+pub record IsLoading (s : Option Begun) (l : Loading) : Type 0 where
+  pub are : AreSoFar s
+  pub means : Means l.volume (alone (tree_so_far s))
+  pub version : IfSome s (λ b. version_of l.version ≡ b.version)
   pub count : l.lines ≡ count_so_far s
   pub last : l.last ≡ last_path (lines_so_far s)
+  pub moment : moment_there (entry_at (tree_so_far s) (last_path (lines_so_far s))) ≡ l.modified
   pub len : l.len ≡ last_len (lines_so_far s)
   pub next : l.next ≡ next_block (lines_so_far s)
 
@@ -62,11 +86,11 @@ pub record IsLoading (s : Option Lines) (l : Loading) : Type 0 where
 
 -- the root's line was loaded
 abbrev pub LoadsRoot : Text → Loading → Loading → Type 0
-LoadsRoot line old new = IsLoading None old → IsLoading (Some []) new × (line ≡ codes "d /")
+LoadsRoot line old new = IsLoading None old → (b : Begun) × IsLoading (Some b) new × (b.lines ≡ []) × (line ≡ root_line b.version b.root)
 
 -- a line that may follow was loaded
 abbrev pub LoadsNext : Line → Loading → Loading → Type 0
-LoadsNext l old new = (ls : Lines) → IsLoading (Some ls) old → IsLoading (Some (l ∷ ls)) new
+LoadsNext l old new = (b : Begun) → IsLoading (Some b) old → IsLoading (Some (with_line l b)) new
 
 -- a block of this number and of so many bytes lies at this place within the last file, behind the blocks before it
 pub record FitsAt (i len : ℕ) (l : Loading) (offset : ℕ) : Type 0 where
@@ -76,37 +100,37 @@ pub record FitsAt (i len : ℕ) (l : Loading) (offset : ℕ) : Type 0 where
   pub at : offset ≡ 4096 * i
   pub inside : offset + len ≤ file
 
--- a call was answered by a count
-abbrev pub Counts : Call → PVolume → PVolume → Type 0
-Counts call old new = (n : ℕ) × Called call (Count n) old new
+-- a call at a moment was answered by a count
+abbrev pub Counts : Call → ℕ → PVolume → PVolume → Type 0
+Counts call at old new = (n : ℕ) × Called call at (Count n) old new
 
 -- the line may not follow
 abbrev pub MayNotFollow : Line → Loading → Type 0
-MayNotFollow l old = (ls : Lines) → IsLoading (Some ls) old → MayFollow l ls → ⊥
+MayNotFollow l old = (b : Begun) → IsLoading (Some b) old → MayFollow b.version l b.lines → ⊥
 
 -- a line was loaded
 abbrev pub LoadsLine : Text → Loading → Loading → Type 0
-LoadsLine line old new = (s : Option Lines) → IsLoading s old → (ls : Lines) × IsLoading (Some ls) new × (image_of_lines ls ≡ text_so_far s ++ (line ++ 10 ∷ []))
+LoadsLine line old new = (s : Option Begun) → IsLoading s old → (b : Begun) × IsLoading (Some b) new × (text_of b ≡ text_so_far s ++ (line ++ 10 ∷ []))
 
 -- a line does not leave an image
 abbrev pub RefusesLine : Text → Loading → Type 0
-RefusesLine line old = (s : Option Lines) → IsLoading s old → IsFree line → IsImage (text_so_far s ++ (line ++ 10 ∷ [])) → ⊥
+RefusesLine line old = (s : Option Begun) → IsLoading s old → IsFree line → IsSomeImage (text_so_far s ++ (line ++ 10 ∷ [])) → ⊥
 
 -- the line of an entry
 abbrev pub entry_line : Path → Meta → Line
-entry_line p DirMeta = DirectoryLine p
-entry_line p (FileMeta n) = FileLine p n
+entry_line p (DirMeta at) = DirectoryLine p at
+entry_line p (FileMeta n at) = FileLine p n at
 
 -- the length of a file
 abbrev pub len_of : Meta → Option ℕ
-len_of DirMeta = None
-len_of (FileMeta n) = Some n
+len_of (DirMeta at) = None
+len_of (FileMeta n at) = Some n
 
 -- ---- texts piece by piece
 
 -- of this text the whole lines were loaded, and what follows the last of them is held
 pub record HasRead (text items : Text) (l : Loading) : Type 0 where
-  pub so_far : Option Lines
+  pub so_far : Option Begun
   pub loading : IsLoading so_far l
   pub left : Text
   pub cut : text ≡ text_so_far so_far ++ left
@@ -122,7 +146,7 @@ RefusesPiece items piece n old = (text rest : Text) → HasRead text items old �
 
 -- at the end of the text: it is an image
 abbrev pub LoadsEnd : Text → Loading → Type 0
-LoadsEnd items l = (text : Text) → HasRead text items l → (ls : Lines) × IsLoading (Some ls) l × (text ≡ image_of_lines ls)
+LoadsEnd items l = (text : Text) → HasRead text items l → (b : Begun) × IsLoading (Some b) l × (text ≡ text_of b)
 
 -- or it is none, from the line that n counts
 abbrev pub RefusesEnd : Text → ℕ → Loading → Type 0
@@ -134,16 +158,19 @@ ReadsSoFar had has items l = (text : Text) × Consumes had has text × HasRead t
 
 -- ---- whole texts
 
--- the volume means the tree whose image the text is, without snapshots
+-- the volume means the tree whose image in one of the versions the text is, with the moments that this version tells, without
+-- snapshots
 pub record Loaded (text : Text) (v : PVolume) : Type 0 where
+  pub version : Version
   pub tree : Tree
   pub is_tree : IsTree tree
-  pub image_is : image tree ≡ text
+  pub image_is : image version tree ≡ text
+  pub told : AllTold version tree
   pub means : Means v (alone tree)
 
 -- the reader is at its end, and what it gave is an image, whose tree the volume means
 abbrev pub LoadsAll : Option (List ℕ) → Option (List ℕ) → PVolume → Type 0
-LoadsAll had has v = (text : Text) × Consumes had has text × IsAtEnd has × IsImage text × Loaded text v
+LoadsAll had has v = (text : Text) × Consumes had has text × IsAtEnd has × IsSomeImage text × Loaded text v
 
 -- what the reader had is no image from the line of that number on
 abbrev pub IsBadIn : Option (List ℕ) → ℕ → Type 0

@@ -1,26 +1,26 @@
 //! Prints the image of a tree that stands still: one line for each entry in key order, and for a file one for each block
-//! that holds a byte other than zero.
+//! that holds a byte other than zero. It prints version 2, which tells moments.
 ghost use Rattle.std.specs.Prelude.{◌≡◌, ◌≢◌, ◌<◌, ◌≤◌, ◌^◌, ◌++◌, ◌∷◌, ◌+◌, ◌/◌, [], ℕ, List, Some, None, false, IfOk, IfSome, codes, decimal, flat_map, length, take, OnOk, OnErr};
 ghost use Rattle.std.specs.Io.KnownBytes.{Appends};
 ghost use Rattle.block_index.specs.Means.{blocks};
 ghost use Rattle.call_compiler.specs.Compiled.{MeanTree};
 ghost use Rattle.meta_index.specs.Means.{metadata};
 ghost use Rattle.pathkey.specs.Keys.{block_key, enc, next_key};
-ghost use Rattle.reference.specs.Image.{block_line, block_lines, image, path_text, percent, trimmed};
+ghost use Rattle.reference.specs.Image.{Second, block_line, block_lines, image, moment_text, path_text, percent, trimmed};
 ghost use Rattle.reference.specs.Indexes.{BlocksMean, meta_of, most_blocks};
-ghost use Rattle.reference.specs.Looks.{seen};
+ghost use Rattle.reference.specs.Looks.{sighted};
 ghost use Rattle.reference.specs.Shape.{IsTree};
-ghost use Rattle.reference.specs.Tree.{File, Found, Tree, entry_at};
+ghost use Rattle.reference.specs.Tree.{File, Found, Tree, entry_at, moment};
 ghost use Rattle.scan.specs.Pairs.{AreAhead, IsFirst};
-ghost use Rattle.images.specs.Image.{BeginsAt, IsNextBlock, entry_lines};
+ghost use Rattle.images.specs.Image.{BeginsAt, IsNextBlock, directory_text, entry_lines, file_text, version_of};
 ghost use Rattle.lines.specs.Parts.{AppendsPart};
-ghost use Rattle.lines.specs.Texts.{number_line};
+ghost use Rattle.volume.specs.Volumes.{MeanRooted};
 
+use crate::version::{ImageVersion, directory_word, file_word};
 use block_index::{Block, BlockIndex, BlockUpdate};
 use call_compiler::Indexes;
-use itoa::Buffer;
 use lines::output::{WriteFailed, put};
-use lines::text::{put_hex, put_number_line, put_percent};
+use lines::text::{put_hex, put_number, put_number_line, put_percent};
 use meta_index::MetaUpdate;
 use pathkey::{Key, KeyRange, NoMemory, Path, blocks_from, dec};
 use reference::Meta;
@@ -53,7 +53,7 @@ impl From<WriteFailed> for ImageFault {
     }
 }
 
-/// Prints the image of a tree that stands still; where it fails, what was printed is a beginning of it.
+/// Prints the image of a tree that stands still, in version 2; where it fails, what was printed is a beginning of it.
 ///
 /// It goes from entry to entry, and in each file from block to block. It holds a piece of the entries and one block.
 pub fn print_image<W: Write>(
@@ -61,31 +61,34 @@ pub fn print_image<W: Write>(
     frozen: &Frozen,
     writer: &mut W,
 ) -> Result<(), ImageFault>
-    ensures ok { (t : Tree) → MeanTree frozen.now t → OnOk result (Appends (W.contents writer.old) (W.contents writer.new) (image t)) }
-    ensures err { (t : Tree) → MeanTree frozen.now t → OnErr result (AppendsPart (W.contents writer.old) (W.contents writer.new) (image t)) }
+    ensures ok { (t : Tree) → MeanRooted frozen.now t → OnOk result (Appends (W.contents writer.old) (W.contents writer.new) (image Second t)) }
+    ensures err { (t : Tree) → MeanRooted frozen.now t → OnErr result (AppendsPart (W.contents writer.old) (W.contents writer.new) (image Second t)) }
 {
     let mut rest = below_root(alloc)?;
     let mut pieces = Pieces::new(alloc);
-    let told = print_all(alloc, frozen.indexes(), &mut rest, &mut pieces, writer);
+    let indexes = frozen.indexes();
+    let modified = frozen.modified();
+    let told = print_all(alloc, indexes, modified, &mut rest, &mut pieces, writer);
     drop(pieces);
     drop(rest);
     told
 }
 
-/// Writes the image of a tree, or a beginning of it: the range that is left lies behind the root at first, and no entry is
-/// taken yet.
+/// Writes the image of a tree whose root has this moment, or a beginning of it: the range that is left lies behind the root at
+/// first, and no entry is taken yet.
 fn print_all<W: Write>(
     alloc: Global,
     indexes: &Indexes,
+    modified: u64,
     rest: &mut KeyRange,
     pieces: &mut Pieces<MetaUpdate>,
     writer: &mut W,
 ) -> Result<(), ImageFault>
     requires { (rest.old.lo ≡ next_key []) × (rest.old.hi ≡ None) × (pieces.old.pairs.items ≡ []) × (pieces.old.all ≡ false) }
-    ensures ok { (t : Tree) → MeanTree indexes.now t → OnOk result (Appends (W.contents writer.old) (W.contents writer.new) (image t)) }
-    ensures err { (t : Tree) → MeanTree indexes.now t → OnErr result (AppendsPart (W.contents writer.old) (W.contents writer.new) (image t)) }
+    ensures ok { (t : Tree) → MeanTree indexes.now t → moment t ≡ modified → OnOk result (Appends (W.contents writer.old) (W.contents writer.new) (image Second t)) }
+    ensures err { (t : Tree) → MeanTree indexes.now t → moment t ≡ modified → OnErr result (AppendsPart (W.contents writer.old) (W.contents writer.new) (image Second t)) }
 {
-    put(writer, b"d /\n")?;
+    put_number_line(writer, b"D / ", modified)?;
     // No tree has more entries.
     for _ in 0..u64::MAX {
         let Some((key, meta)) = next_entry(alloc, indexes, rest, pieces)? else {
@@ -135,8 +138,8 @@ fn print_entry<W: Write>(
     writer: &mut W,
 ) -> Result<(), ImageFault>
     requires { key ≢ [] }
-    ensures ok { (t : Tree) (q : List (List ℕ)) (x : Tree) → MeanTree indexes.now t → entry_at t q ≡ Found x → key ≡ enc q → meta_of (seen (Found x)) ≡ Some meta → OnOk result (Appends (W.contents writer.old) (W.contents writer.new) (entry_lines q x)) }
-    ensures err { (t : Tree) (q : List (List ℕ)) (x : Tree) → MeanTree indexes.now t → entry_at t q ≡ Found x → key ≡ enc q → meta_of (seen (Found x)) ≡ Some meta → OnErr result (AppendsPart (W.contents writer.old) (W.contents writer.new) (entry_lines q x)) }
+    ensures ok { (t : Tree) (q : List (List ℕ)) (x : Tree) → MeanTree indexes.now t → entry_at t q ≡ Found x → key ≡ enc q → meta_of (sighted (Found x)) ≡ Some meta → OnOk result (Appends (W.contents writer.old) (W.contents writer.new) (entry_lines q x)) }
+    ensures err { (t : Tree) (q : List (List ℕ)) (x : Tree) → MeanTree indexes.now t → entry_at t q ≡ Found x → key ≡ enc q → meta_of (sighted (Found x)) ≡ Some meta → OnErr result (AppendsPart (W.contents writer.old) (W.contents writer.new) (entry_lines q x)) }
 {
     let told = print_key(alloc, indexes, &key, meta, writer);
     drop(key);
@@ -152,8 +155,8 @@ fn print_key<W: Write>(
     writer: &mut W,
 ) -> Result<(), ImageFault>
     requires { key.now ≢ [] }
-    ensures ok { (t : Tree) (q : List (List ℕ)) (x : Tree) → MeanTree indexes.now t → entry_at t q ≡ Found x → key.now ≡ enc q → meta_of (seen (Found x)) ≡ Some meta → OnOk result (Appends (W.contents writer.old) (W.contents writer.new) (entry_lines q x)) }
-    ensures err { (t : Tree) (q : List (List ℕ)) (x : Tree) → MeanTree indexes.now t → entry_at t q ≡ Found x → key.now ≡ enc q → meta_of (seen (Found x)) ≡ Some meta → OnErr result (AppendsPart (W.contents writer.old) (W.contents writer.new) (entry_lines q x)) }
+    ensures ok { (t : Tree) (q : List (List ℕ)) (x : Tree) → MeanTree indexes.now t → entry_at t q ≡ Found x → key.now ≡ enc q → meta_of (sighted (Found x)) ≡ Some meta → OnOk result (Appends (W.contents writer.old) (W.contents writer.new) (entry_lines q x)) }
+    ensures err { (t : Tree) (q : List (List ℕ)) (x : Tree) → MeanTree indexes.now t → entry_at t q ≡ Found x → key.now ≡ enc q → meta_of (sighted (Found x)) ≡ Some meta → OnErr result (AppendsPart (W.contents writer.old) (W.contents writer.new) (entry_lines q x)) }
 {
     let Some(path) = dec(alloc, key)? else {
         return Err(ImageFault::Memory);
@@ -172,13 +175,13 @@ fn print_at<W: Write>(
     writer: &mut W,
 ) -> Result<(), ImageFault>
     requires { path.now ≢ [] }
-    ensures ok { (t : Tree) (x : Tree) → MeanTree indexes.now t → entry_at t path.now ≡ Found x → meta_of (seen (Found x)) ≡ Some meta → OnOk result (Appends (W.contents writer.old) (W.contents writer.new) (entry_lines path.now x)) }
-    ensures err { (t : Tree) (x : Tree) → MeanTree indexes.now t → entry_at t path.now ≡ Found x → meta_of (seen (Found x)) ≡ Some meta → OnErr result (AppendsPart (W.contents writer.old) (W.contents writer.new) (entry_lines path.now x)) }
+    ensures ok { (t : Tree) (x : Tree) → MeanTree indexes.now t → entry_at t path.now ≡ Found x → meta_of (sighted (Found x)) ≡ Some meta → OnOk result (Appends (W.contents writer.old) (W.contents writer.new) (entry_lines path.now x)) }
+    ensures err { (t : Tree) (x : Tree) → MeanTree indexes.now t → entry_at t path.now ≡ Found x → meta_of (sighted (Found x)) ≡ Some meta → OnErr result (AppendsPart (W.contents writer.old) (W.contents writer.new) (entry_lines path.now x)) }
 {
     match meta {
-        Meta::Dir => Ok(put_directory(writer, path)?),
-        Meta::File { len } => {
-            put_file(writer, path, len)?;
+        Meta::Dir { modified } => Ok(put_directory(writer, ImageVersion::Second, path, modified)?),
+        Meta::File { len, modified } => {
+            put_file(writer, ImageVersion::Second, path, len, modified)?;
             print_blocks(alloc, &indexes.block, path, writer)
         }
     }
@@ -192,8 +195,8 @@ fn print_blocks<W: Write>(
     writer: &mut W,
 ) -> Result<(), ImageFault>
     requires { path.now ≢ [] }
-    ensures ok { (t : Tree) (b : List ℕ) → IsTree t → BlocksMean t (blocks index.now) → entry_at t path.now ≡ Found (File b) → OnOk result (Appends (W.contents writer.old) (W.contents writer.new) (block_lines b (length b / 4096 + 1))) }
-    ensures err { (t : Tree) (b : List ℕ) → IsTree t → BlocksMean t (blocks index.now) → entry_at t path.now ≡ Found (File b) → OnErr result (AppendsPart (W.contents writer.old) (W.contents writer.new) (block_lines b (length b / 4096 + 1))) }
+    ensures ok { (t : Tree) (date : ℕ) (b : List ℕ) → IsTree t → BlocksMean t (blocks index.now) → entry_at t path.now ≡ Found (File date b) → OnOk result (Appends (W.contents writer.old) (W.contents writer.new) (block_lines b (length b / 4096 + 1))) }
+    ensures err { (t : Tree) (date : ℕ) (b : List ℕ) → IsTree t → BlocksMean t (blocks index.now) → entry_at t path.now ≡ Found (File date b) → OnErr result (AppendsPart (W.contents writer.old) (W.contents writer.new) (block_lines b (length b / 4096 + 1))) }
 {
     let mut rest = blocks_from(alloc, path, 0)?;
     let mut pieces = Pieces::new(alloc);
@@ -212,8 +215,8 @@ fn print_rest<W: Write>(
     writer: &mut W,
 ) -> Result<(), ImageFault>
     requires { (pieces.old.pairs.items ≡ []) × (pieces.old.all ≡ false) }
-    ensures ok { (t : Tree) (p : List (List ℕ)) (b : List ℕ) → IsTree t → BlocksMean t (blocks index.now) → entry_at t p ≡ Found (File b) → BeginsAt (blocks index.now) p 0 rest.old → OnOk result (Appends (W.contents writer.old) (W.contents writer.new) (block_lines b (length b / 4096 + 1))) }
-    ensures err { (t : Tree) (p : List (List ℕ)) (b : List ℕ) → IsTree t → BlocksMean t (blocks index.now) → entry_at t p ≡ Found (File b) → BeginsAt (blocks index.now) p 0 rest.old → OnErr result (AppendsPart (W.contents writer.old) (W.contents writer.new) (block_lines b (length b / 4096 + 1))) }
+    ensures ok { (t : Tree) (p : List (List ℕ)) (date : ℕ) (b : List ℕ) → IsTree t → BlocksMean t (blocks index.now) → entry_at t p ≡ Found (File date b) → BeginsAt (blocks index.now) p 0 rest.old → OnOk result (Appends (W.contents writer.old) (W.contents writer.new) (block_lines b (length b / 4096 + 1))) }
+    ensures err { (t : Tree) (p : List (List ℕ)) (date : ℕ) (b : List ℕ) → IsTree t → BlocksMean t (blocks index.now) → entry_at t p ≡ Found (File date b) → BeginsAt (blocks index.now) p 0 rest.old → OnErr result (AppendsPart (W.contents writer.old) (W.contents writer.new) (block_lines b (length b / 4096 + 1))) }
 {
     // No file has more blocks.
     for _ in 0..u64::MAX {
@@ -243,7 +246,7 @@ fn next_block(
     pieces: &mut Pieces<BlockUpdate>,
 ) -> Result<Option<(u32, Block)>, NoMemory>
     requires { AreAhead (blocks index.now) rest.old.lo rest.old.hi pieces.old.all pieces.old.pairs.items }
-    ensures next { (t : Tree) (p : List (List ℕ)) (b : List ℕ) (i : ℕ) → IsTree t → BlocksMean t (blocks index.now) → entry_at t p ≡ Found (File b) → i ≤ most_blocks → BeginsAt (blocks index.now) p i rest.old → IfOk result (λ r. IsNextBlock b i r × IfSome r (λ x. BeginsAt (blocks index.now) p (x.0 + 1) rest.new)) }
+    ensures next { (t : Tree) (p : List (List ℕ)) (date : ℕ) (b : List ℕ) (i : ℕ) → IsTree t → BlocksMean t (blocks index.now) → entry_at t p ≡ Found (File date b) → i ≤ most_blocks → BeginsAt (blocks index.now) p i rest.old → IfOk result (λ r. IsNextBlock b i r × IfSome r (λ x. BeginsAt (blocks index.now) p (x.0 + 1) rest.new)) }
     ensures ahead { IfOk result (λ r. IfSome r (λ _. AreAhead (blocks index.now) rest.new.lo rest.new.hi pieces.new.all pieces.new.pairs.items)) }
 {
     match pieces.first(alloc, &index.tree, rest)? {
@@ -268,25 +271,67 @@ fn number_of(key: &Key) -> u32
 }
 
 /// Writes the line of a directory, or a beginning of it.
-pub(crate) fn put_directory<W: Write>(writer: &mut W, path: &Path) -> Result<(), WriteFailed>
-    ensures ok { OnOk result (Appends (W.contents writer.old) (W.contents writer.new) (codes "d " ++ path_text path.now ++ codes "\n")) }
-    ensures err { OnErr result (AppendsPart (W.contents writer.old) (W.contents writer.new) (codes "d " ++ path_text path.now ++ codes "\n")) }
+pub(crate) fn put_directory<W: Write>(
+    writer: &mut W,
+    version: ImageVersion,
+    path: &Path,
+    modified: u64,
+) -> Result<(), WriteFailed>
+    ensures ok { OnOk result (Appends (W.contents writer.old) (W.contents writer.new) (directory_text (version_of version) path.now modified)) }
+    ensures err { OnErr result (AppendsPart (W.contents writer.old) (W.contents writer.new) (directory_text (version_of version) path.now modified)) }
 {
-    put(writer, b"d ")?;
+    put(writer, directory_word(version))?;
     put_path(writer, path)?;
-    put(writer, b"\n")?;
+    put_end(writer, version, modified)?;
     Ok(())
 }
 
 /// Writes the line of a file without its blocks, or a beginning of it.
-pub(crate) fn put_file<W: Write>(writer: &mut W, path: &Path, len: u64) -> Result<(), WriteFailed>
-    ensures ok { OnOk result (Appends (W.contents writer.old) (W.contents writer.new) (codes "f " ++ path_text path.now ++ number_line (codes " ") len)) }
-    ensures err { OnErr result (AppendsPart (W.contents writer.old) (W.contents writer.new) (codes "f " ++ path_text path.now ++ number_line (codes " ") len)) }
+pub(crate) fn put_file<W: Write>(
+    writer: &mut W,
+    version: ImageVersion,
+    path: &Path,
+    len: u64,
+    modified: u64,
+) -> Result<(), WriteFailed>
+    ensures ok { OnOk result (Appends (W.contents writer.old) (W.contents writer.new) (file_text (version_of version) path.now len modified)) }
+    ensures err { OnErr result (AppendsPart (W.contents writer.old) (W.contents writer.new) (file_text (version_of version) path.now len modified)) }
 {
-    put(writer, b"f ")?;
+    put(writer, file_word(version))?;
     put_path(writer, path)?;
-    put_number_line(writer, b" ", len)?;
+    put_len(writer, version, len, modified)?;
     Ok(())
+}
+
+/// Writes the length and the moment that end a file's line, or a beginning of them.
+fn put_len<W: Write>(
+    writer: &mut W,
+    version: ImageVersion,
+    len: u64,
+    modified: u64,
+) -> Result<(), WriteFailed>
+    ensures ok { OnOk result (Appends (W.contents writer.old) (W.contents writer.new) (32 ∷ (decimal len ++ (moment_text (version_of version) modified ++ 10 ∷ [])))) }
+    ensures err { OnErr result (AppendsPart (W.contents writer.old) (W.contents writer.new) (32 ∷ (decimal len ++ (moment_text (version_of version) modified ++ 10 ∷ [])))) }
+{
+    put(writer, b" ")?;
+    put_number(writer, len)?;
+    put_end(writer, version, modified)?;
+    Ok(())
+}
+
+/// Writes the moment that ends an entry's line, where the version tells it, and the line feed, or a beginning of them.
+fn put_end<W: Write>(
+    writer: &mut W,
+    version: ImageVersion,
+    modified: u64,
+) -> Result<(), WriteFailed>
+    ensures ok { OnOk result (Appends (W.contents writer.old) (W.contents writer.new) (moment_text (version_of version) modified ++ 10 ∷ [])) }
+    ensures err { OnErr result (AppendsPart (W.contents writer.old) (W.contents writer.new) (moment_text (version_of version) modified ++ 10 ∷ [])) }
+{
+    match version {
+        ImageVersion::First => put(writer, b"\n"),
+        ImageVersion::Second => put_number_line(writer, b" ", modified),
+    }
 }
 
 /// Writes a path's text in percent form, or a beginning of it.
@@ -316,9 +361,8 @@ pub(crate) fn put_block<W: Write>(
     if kept.is_empty() {
         return Ok(());
     }
-    let mut digits = Buffer::new();
     put(writer, b"b ")?;
-    put(writer, digits.format(number).as_bytes())?;
+    put_number(writer, u64::from(number))?;
     put(writer, b" ")?;
     put_hex(writer, kept)?;
     put(writer, b"\n")?;

@@ -1,14 +1,17 @@
 //! Reads a line of an image. There is one spelling of each: what a line seems to tell is written again and compared.
 ghost use Rattle.std.specs.Prelude.{◌≡◌, ◌≢◌, ◌↔◌, true, ◌++◌, ◌∷◌, ◌^◌, ◌<◌, ◌≤◌, [], Some, IfOk, IfSome, MatchOption, option_map};
 ghost use Rattle.pathkey.specs.Names.{IsPath, Path as Names};
-ghost use Rattle.reference.specs.Image.{path_text, two_digits};
-ghost use Rattle.reference.specs.ImageLines.{IsBlock, IsLine, spelled};
+ghost use Rattle.reference.specs.Image.{Second, directory_letter, file_letter, moment_text, path_text, two_digits};
+ghost use Rattle.reference.specs.ImageLines.{IsBlock, IsLine, IsTold, spelled};
 ghost use Rattle.std.specs.Prelude.{List, ℕ, decimal, flat_map};
-ghost use Rattle.images.specs.ImageLines.{Guesses, Spells, line_of};
+ghost use Rattle.images.specs.Image.{version_of};
+ghost use Rattle.images.specs.ImageLines.{CutsMoment, Guesses, IsRoot, Spells, line_of};
 
 use crate::image::{put_block, put_directory, put_file, trimmed_len};
+use crate::version::{ImageVersion, directory_letter, file_letter};
 use bytes::Bytes;
 use hex::FromHexError;
+use itoa::Buffer;
 use lines::output::WriteFailed;
 use lines::values::{read_number, read_path};
 use lines::words::cut_space;
@@ -18,10 +21,10 @@ use std::alloc::Global;
 /// A line of an image below the root's.
 #[derive(Drop)]
 pub enum ImageLine {
-    /// Of a directory.
-    Directory(Path),
-    /// Of a file of so many bytes.
-    File(Path, u64),
+    /// Of a directory, with its moment.
+    Directory(Path, u64),
+    /// Of a file of so many bytes, with its moment.
+    File(Path, u64, u64),
     /// Of a block of the file before it: its number and its bytes, up to the last that is not zero.
     Block(u32, Bytes),
 }
@@ -35,14 +38,18 @@ const MOST_BLOCKS: u64 = 1 << 28;
 /// The most bytes of a block.
 const BLOCK: usize = 4_096;
 
-/// The line of an image that a text spells, without its line feed; none where it spells none. It fails only for want of memory.
-pub fn read_image_line(alloc: Global, text: &[u8]) -> Result<Option<ImageLine>, NoMemory>
-    ensures { IfOk result (Spells text.now) }
+/// The line of an image of the version that a text spells, without its line feed; none where it spells none. It fails only for want of memory.
+pub fn read_image_line(
+    alloc: Global,
+    version: ImageVersion,
+    text: &[u8],
+) -> Result<Option<ImageLine>, NoMemory>
+    ensures { IfOk result (Spells (version_of version) text.now) }
 {
-    let Some(line) = guess_line(alloc, text)? else {
+    let Some(line) = guess_line(alloc, version, text)? else {
         return Ok(None);
     };
-    let written = write_line(alloc, &line)?;
+    let written = write_line(alloc, version, &line)?;
     if written.as_slice() == text {
         drop(written);
         Ok(Some(line))
@@ -53,13 +60,13 @@ pub fn read_image_line(alloc: Global, text: &[u8]) -> Result<Option<ImageLine>, 
     }
 }
 
-/// The one spelling of a line, without its line feed.
-fn write_line(alloc: Global, line: &ImageLine) -> Result<Vec<u8>, NoMemory>
-    requires { IsLine (line_of line.now) }
-    ensures { IfOk result (λ text. text.items ≡ spelled (line_of line.now)) }
+/// The one spelling of a line in a version, without its line feed.
+fn write_line(alloc: Global, version: ImageVersion, line: &ImageLine) -> Result<Vec<u8>, NoMemory>
+    requires { IsLine (version_of version) (line_of line.now) }
+    ensures { IfOk result (λ text. text.items ≡ spelled (version_of version) (line_of line.now)) }
 {
     let mut text = Vec::new(alloc);
-    match put_line(&mut text, line) {
+    match put_line(&mut text, version, line) {
         Ok(()) => {
             text.pop();
             Ok(text)
@@ -69,68 +76,162 @@ fn write_line(alloc: Global, line: &ImageLine) -> Result<Vec<u8>, NoMemory>
 }
 
 /// Appends a line with its line feed to a text.
-fn put_line(text: &mut Vec<u8>, line: &ImageLine) -> Result<(), WriteFailed>
-    requires { IsLine (line_of line.now) }
-    ensures { IfOk result (λ _. text.new.items ≡ text.old.items ++ (spelled (line_of line.now) ++ 10 ∷ [])) }
+fn put_line(text: &mut Vec<u8>, version: ImageVersion, line: &ImageLine) -> Result<(), WriteFailed>
+    requires { IsLine (version_of version) (line_of line.now) }
+    ensures { IfOk result (λ _. text.new.items ≡ text.old.items ++ (spelled (version_of version) (line_of line.now) ++ 10 ∷ [])) }
 {
     match line {
-        ImageLine::Directory(path) => put_directory(text, path),
-        ImageLine::File(path, len) => put_file(text, path, *len),
+        ImageLine::Directory(path, at) => put_directory(text, version, path, *at),
+        ImageLine::File(path, len, at) => put_file(text, version, path, *len, *at),
         ImageLine::Block(number, bytes) => put_block(text, *number, bytes.as_slice()),
     }
 }
 
-/// The line that a text seems to spell: it is the one that it spells, if it spells one.
-fn guess_line(alloc: Global, text: &[u8]) -> Result<Option<ImageLine>, NoMemory>
-    ensures { IfOk result (Guesses text.now) }
+/// The line that a text seems to spell: it is the one that it spells in the version, if it spells one.
+fn guess_line(
+    alloc: Global,
+    version: ImageVersion,
+    text: &[u8],
+) -> Result<Option<ImageLine>, NoMemory>
+    ensures { IfOk result (Guesses (version_of version) text.now) }
 {
     let Some((kind, rest)) = cut_space(text) else {
         return Ok(None);
     };
-    if kind == b"d".as_slice() {
-        return guess_directory(alloc, rest);
+    if kind == directory_letter(version) {
+        return guess_directory(alloc, version, rest);
     }
-    if kind == b"f".as_slice() {
-        return guess_file(alloc, rest);
+    if kind == file_letter(version) {
+        return guess_file(alloc, version, rest);
     }
     if kind == b"b".as_slice() {
-        return guess_block(alloc, rest);
+        return guess_block(alloc, version, rest);
     }
     Ok(None)
 }
 
-/// The line of a directory, from its path.
-fn guess_directory(alloc: Global, word: &[u8]) -> Result<Option<ImageLine>, NoMemory>
-    ensures { IfOk result (Guesses (100 ∷ 32 ∷ word.now)) }
+/// The line of a directory, from its path and its moment.
+fn guess_directory(
+    alloc: Global,
+    version: ImageVersion,
+    words: &[u8],
+) -> Result<Option<ImageLine>, NoMemory>
+    ensures { IfOk result (Guesses (version_of version) (directory_letter (version_of version) ∷ 32 ∷ words.now)) }
 {
+    let Some((word, at)) = cut_moment(version, words) else {
+        return Ok(None);
+    };
     match guess_path(alloc, word)? {
-        Some(path) => Ok(Some(ImageLine::Directory(path))),
+        Some(path) => Ok(Some(ImageLine::Directory(path, at))),
         None => Ok(None),
     }
 }
 
-/// The line of a file, from its path and its length.
-fn guess_file(alloc: Global, words: &[u8]) -> Result<Option<ImageLine>, NoMemory>
-    ensures { IfOk result (Guesses (102 ∷ 32 ∷ words.now)) }
+/// The line of a file, from its path, its length and its moment.
+fn guess_file(
+    alloc: Global,
+    version: ImageVersion,
+    words: &[u8],
+) -> Result<Option<ImageLine>, NoMemory>
+    ensures { IfOk result (Guesses (version_of version) (file_letter (version_of version) ∷ 32 ∷ words.now)) }
 {
-    let Some((word, number)) = cut_space(words) else {
+    let Some((word, numbers)) = cut_space(words) else {
         return Ok(None);
     };
-    let Some(len) = read_number(number) else {
+    let Some((len, at)) = cut_len(version, numbers) else {
         return Ok(None);
     };
-    if len > GREATEST_FILE {
-        return Ok(None);
-    }
     match guess_path(alloc, word)? {
-        Some(path) => Ok(Some(ImageLine::File(path, len))),
+        Some(path) => Ok(Some(ImageLine::File(path, len, at))),
         None => Ok(None),
     }
+}
+
+/// The length and the moment that end the line of a file.
+fn cut_len(version: ImageVersion, numbers: &[u8]) -> Option<(u64, u64)>
+    ensures valid { IfSome result (λ r. (r.0 ≤ 2 ^ 40) × IsTold (version_of version) r.1) }
+    ensures complete { (n at : ℕ) → n ≤ 2 ^ 40 → IsTold (version_of version) at → numbers.now ≡ decimal n ++ moment_text (version_of version) at → result ≡ Some (n, at) }
+{
+    let Some((number, at)) = cut_moment(version, numbers) else {
+        return None;
+    };
+    let Some(len) = read_number(number) else {
+        return None;
+    };
+    if len > GREATEST_FILE {
+        return None;
+    }
+    Some((len, at))
+}
+
+/// The words up to the moment that ends a line, and the moment: 0 where the version tells none.
+fn cut_moment(version: ImageVersion, words: &[u8]) -> Option<(&[u8], u64)>
+    ensures { CutsMoment (version_of version) words.now (option_map (λ r. (r.0.now, r.1)) result) }
+{
+    match version {
+        ImageVersion::First => Some((words, 0)),
+        ImageVersion::Second => cut_last(words),
+    }
+}
+
+/// The words up to the last, and the moment that this one writes.
+fn cut_last(words: &[u8]) -> Option<(&[u8], u64)>
+    ensures { CutsMoment Second words.now (option_map (λ r. (r.0.now, r.1)) result) }
+{
+    let Some((front, number)) = cut_space(words) else {
+        return None;
+    };
+    let Some(at) = read_number(number) else {
+        return None;
+    };
+    Some((front, at))
+}
+
+/// The version and the moment that the line of a root tells; none where it is no root's.
+pub(crate) fn read_root(line: &[u8]) -> Option<(ImageVersion, u64)>
+    ensures { IsRoot line.now (option_map (λ r. (version_of r.0, r.1)) result) }
+{
+    if line == b"d /".as_slice() {
+        return Some((ImageVersion::First, 0));
+    }
+    let Some(number) = line.strip_prefix(b"D / ".as_slice()) else {
+        return None;
+    };
+    match spelled_number(number) {
+        Some(at) => Some((ImageVersion::Second, at)),
+        None => None,
+    }
+}
+
+/// The number whose spelling a word is; none where it is no number's.
+fn spelled_number(word: &[u8]) -> Option<u64>
+    ensures { MatchOption result ((n : ℕ) → n < 2 ^ 64 → word.now ≢ decimal n) (λ n. (n < 2 ^ 64) × (word.now ≡ decimal n)) }
+{
+    let Some(number) = read_number(word) else {
+        return None;
+    };
+    if writes(word, number) {
+        Some(number)
+    } else {
+        None
+    }
+}
+
+/// Whether the word is the number's spelling.
+fn writes(word: &[u8], number: u64) -> bool
+    ensures { result ≡ true ↔ (word.now ≡ decimal number) }
+{
+    let mut digits = Buffer::new();
+    digits.format(number).as_bytes() == word
 }
 
 /// The line of a block, from its number and its bytes.
-fn guess_block(alloc: Global, words: &[u8]) -> Result<Option<ImageLine>, NoMemory>
-    ensures { IfOk result (Guesses (98 ∷ 32 ∷ words.now)) }
+fn guess_block(
+    alloc: Global,
+    version: ImageVersion,
+    words: &[u8],
+) -> Result<Option<ImageLine>, NoMemory>
+    ensures { IfOk result (Guesses (version_of version) (98 ∷ 32 ∷ words.now)) }
 {
     let Some((number, hex)) = cut_space(words) else {
         return Ok(None);

@@ -7,6 +7,8 @@
 pub mod image;
 pub mod image_line;
 pub mod load;
+pub mod version;
 
 pub use image::{ImageFault, print_image};
 pub use load::{LoadFault, load_image};
+pub use version::ImageVersion;

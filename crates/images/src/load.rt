@@ -1,18 +1,24 @@
 //! Loads an image: reads it line by line into a new volume.
 //!
 //! One line is held at a time, and of a file no block beside the volume's own. Of the lines before, only what decides which line
-//! may follow is kept.
-ghost use Rattle.std.specs.Prelude.{◌≡◌, ◌≢◌, ◌↔◌, All, ◌≤◌, ◌<◌, ◌+◌, ◌++◌, ◌∷◌, [], ℕ, List, Some, None, Err, false, true, length, IfSome, vec_capacity, IfOk, OnOk, OnErr, codes};
+//! may follow is kept. The first line tells the version; of version 1 each moment is 0.
+ghost use Rattle.std.specs.Prelude.{◌≡◌, ◌≢◌, ◌↔◌, Ok, All, ◌≤◌, ◌<◌, ◌+◌, ◌++◌, ◌∷◌, [], ℕ, List, Some, None, Err, false, true, length, IfSome, vec_capacity, IfOk, OnOk, OnErr, codes};
 ghost use Rattle.node.specs.Shapes.{is_shape};
+ghost use Rattle.reference.specs.Image.{Version, root_line};
+ghost use Rattle.reference.specs.Plant.{modified_of};
 ghost use Rattle.reference.specs.Tree.{Dir, nothing};
+ghost use Rattle.reference.specs.declared.reply.Meta.{Meta as MetaValue};
+ghost use Rattle.volume.specs.Plants.{Plants};
 ghost use Rattle.reference.specs.declared.call.Call.TheVariants.{Write};
 ghost use Rattle.volume.specs.Volumes.{Means};
-ghost use Rattle.reference.specs.ImageLines.{IsBlock, IsLine, Line};
+ghost use Rattle.reference.specs.ImageLines.{IsBlock, IsLine, IsTold, Line};
 ghost use Rattle.reference.specs.ImageLines.{BlockLine, DirectoryLine, FileLine};
+ghost use Rattle.images.specs.Image.{version_of};
 ghost use Rattle.images.specs.ImageLines.{line_of};
 ghost use Rattle.images.specs.Loads.{Counts, FitsAt, HasRead, IsBadIn, LoadsAll, LoadsEnd, LoadsLine, LoadsNext, LoadsPiece, LoadsRoot, MayNotFollow, RefusesEnd, RefusesLine, RefusesPiece, alone, entry_line, form_of, len_of, new_form};
 
-use crate::image_line::{ImageLine, read_image_line};
+use crate::image_line::{ImageLine, read_image_line, read_root};
+use crate::version::ImageVersion;
 use bytes::Bytes;
 use lines::held::{LONGEST_LINE, PIECE, hold};
 use lines::input::read_some;
@@ -65,7 +71,7 @@ pub fn load_image<R: Read>(alloc: Global, shape: Shape, reader: &mut R) -> Resul
 
 /// The volume, which is new, once the image is loaded into it.
 fn load_into<R: Read>(alloc: Global, volume: Volume, reader: &mut R) -> Result<Volume, LoadFault>
-    requires { Means volume (alone (Dir nothing)) }
+    requires { Means volume (alone (Dir 0 nothing)) }
     ensures loaded { IfOk result (LoadsAll (R.remaining reader.old) (R.remaining reader.new)) }
     ensures form { IfOk result (λ v. form_of v ≡ form_of volume) }
     ensures bad { (n : ℕ) → result ≡ Err (LoadFault.Bad n) → IsBadIn (R.remaining reader.old) n }
@@ -97,10 +103,14 @@ fn load_into<R: Read>(alloc: Global, volume: Volume, reader: &mut R) -> Result<V
 pub struct Loading {
     /// The tree of the lines so far.
     pub volume: Volume,
+    /// The version of the image, once its first line was loaded.
+    pub version: ImageVersion,
     /// How many lines were loaded.
     pub lines: u64,
     /// The path of the last entry.
     pub last: Path,
+    /// The moment of the last entry.
+    pub modified: u64,
     /// The length of the last entry, where it is a file.
     pub len: Option<u64>,
     /// The first block that the next line may tell.
@@ -111,12 +121,14 @@ impl Loading {
     /// Nothing is loaded into a volume that is new.
     pub fn new(alloc: Global, volume: Volume) -> Loading
         ensures volume { result.volume ≡ volume }
-        ensures nothing { (result.lines ≡ 0) × (result.last ≡ []) × (result.len ≡ None) × (result.next ≡ 0) }
+        ensures nothing { (result.lines ≡ 0) × (result.last ≡ []) × (result.modified ≡ 0) × (result.len ≡ None) × (result.next ≡ 0) }
     {
         Loading {
             volume,
+            version: ImageVersion::Second,
             lines: 0,
             last: Path::root(alloc),
+            modified: 0,
             len: None,
             next: 0,
         }
@@ -239,33 +251,38 @@ impl Loading {
             return Err(LoadFault::Bad(number));
         }
         if self.lines == 0 {
-            return self.take_root(line, number);
+            return self.take_root(alloc, line, number);
         }
-        match read_image_line(alloc, line) {
+        match read_image_line(alloc, self.version, line) {
             Ok(Some(line)) => self.take_next(alloc, line, number),
             Ok(None) => Err(LoadFault::Bad(number)),
             Err(NoMemory) => Err(LoadFault::Memory),
         }
     }
 
-    /// Loads the first line, which is the root's.
-    fn take_root(&mut self, line: &[u8], number: u64) -> Result<(), LoadFault>
+    /// Loads the first line, which is the root's and tells the version.
+    fn take_root(&mut self, alloc: Global, line: &[u8], number: u64) -> Result<(), LoadFault>
         requires { number ≡ self.old.lines + 1 }
         ensures ok { OnOk result (LoadsRoot line.now self.old self.new) }
         ensures form { OnOk result (form_of self.new.volume ≡ form_of self.old.volume) }
-        ensures bad { (n : ℕ) → result ≡ Err (LoadFault.Bad n) → (n ≡ number) × (line.now ≢ codes "d /") }
-        ensures kinds { (result ≢ Err LoadFault.Shape) × (result ≢ Err LoadFault.Memory) }
+        ensures bad { (n : ℕ) → result ≡ Err (LoadFault.Bad n) → (n ≡ number) × ((v : Version) (at : ℕ) → IsTold v at → line.now ≢ root_line v at) }
+        ensures shape { result ≢ Err LoadFault.Shape }
     {
-        if line != b"d /".as_slice() {
+        let Some((version, modified)) = read_root(line) else {
             return Err(LoadFault::Bad(number));
+        };
+        if !plant_root(alloc, &mut self.volume, modified) {
+            return Err(LoadFault::Memory);
         }
+        self.version = version;
+        self.modified = modified;
         self.lines = number;
         Ok(())
     }
 
     /// Loads a line behind the root's.
     fn take_next(&mut self, alloc: Global, line: ImageLine, number: u64) -> Result<(), LoadFault>
-        requires line { IsLine (line_of line) }
+        requires line { IsLine (version_of self.old.version) (line_of line) }
         requires number { number ≡ self.old.lines + 1 }
         ensures ok { OnOk result (LoadsNext (line_of line) self.old self.new) }
         ensures form { OnOk result (form_of self.new.volume ≡ form_of self.old.volume) }
@@ -273,9 +290,11 @@ impl Loading {
         ensures shape { result ≢ Err LoadFault.Shape }
     {
         match line {
-            ImageLine::Directory(path) => self.take_entry(alloc, path, Meta::Dir, number),
-            ImageLine::File(path, len) => {
-                self.take_entry(alloc, path, Meta::File { len }, number)
+            ImageLine::Directory(path, modified) => {
+                self.take_entry(alloc, path, Meta::Dir { modified }, number)
+            }
+            ImageLine::File(path, len, modified) => {
+                self.take_entry(alloc, path, Meta::File { len, modified }, number)
             }
             ImageLine::Block(index, bytes) => self.take_block(alloc, index, bytes, number),
         }
@@ -289,7 +308,9 @@ impl Loading {
         meta: Meta,
         number: u64,
     ) -> Result<(), LoadFault>
-        requires { number ≡ self.old.lines + 1 }
+        requires number { number ≡ self.old.lines + 1 }
+        requires path { path ≢ [] }
+        requires told { IsTold (version_of self.old.version) (modified_of meta) }
         ensures ok { OnOk result (LoadsNext (entry_line path meta) self.old self.new) }
         ensures form { OnOk result (form_of self.new.volume ≡ form_of self.old.volume) }
         ensures bad { (n : ℕ) → result ≡ Err (LoadFault.Bad n) → (n ≡ number) × MayNotFollow (entry_line path meta) self.old }
@@ -306,6 +327,7 @@ impl Loading {
         }
         self.len = len_of(meta);
         self.last = path;
+        self.modified = moment_of(meta);
         self.next = 0;
         self.lines = number;
         Ok(())
@@ -329,7 +351,14 @@ impl Loading {
         let Some(offset) = self.offset_of(index, bytes.len() as u64) else {
             return Err(LoadFault::Bad(number));
         };
-        if !write_bytes(alloc, &mut self.volume, &self.last, offset, bytes) {
+        if !write_bytes(
+            alloc,
+            &mut self.volume,
+            &self.last,
+            offset,
+            bytes,
+            self.modified,
+        ) {
             return Err(LoadFault::Memory);
         }
         self.next = u64::from(index) + 1;
@@ -359,14 +388,29 @@ impl Loading {
     }
 }
 
-/// Writes bytes into a file of the volume; `false` where memory is refused.
-fn write_bytes(alloc: Global, volume: &mut Volume, path: &Path, offset: u64, bytes: Bytes) -> bool
-    ensures { result ≡ true → Counts (Write path.now offset bytes) volume.old volume.new }
+/// Gives the root of the volume a moment; `false` where memory is refused.
+fn plant_root(alloc: Global, volume: &mut Volume, modified: u64) -> bool
+    ensures { result ≡ true → Plants [] (MetaValue.Dir modified) (Ok tt) volume.old volume.new }
+{
+    let planted = volume.plant_entry(alloc, &Path::root(alloc), Meta::Dir { modified });
+    planted.is_ok()
+}
+
+/// Writes bytes into a file of the volume, whose moment this is; `false` where memory is refused.
+fn write_bytes(
+    alloc: Global,
+    volume: &mut Volume,
+    path: &Path,
+    offset: u64,
+    bytes: Bytes,
+    at: u64,
+) -> bool
+    ensures { result ≡ true → Counts (Write path.now offset bytes) at volume.old volume.new }
 {
     match path.copy(alloc) {
         Ok(path) => {
             let call = Call::Write(path, offset, bytes);
-            let counted = counts(alloc, volume, &call);
+            let counted = counts(alloc, volume, &call, at);
             drop(call);
             counted
         }
@@ -377,11 +421,11 @@ fn write_bytes(alloc: Global, volume: &mut Volume, path: &Path, offset: u64, byt
     }
 }
 
-/// Whether a call is answered by a count.
-fn counts(alloc: Global, volume: &mut Volume, call: &Call) -> bool
-    ensures { result ≡ true → Counts call.now volume.old volume.new }
+/// Whether a call at a moment is answered by a count.
+fn counts(alloc: Global, volume: &mut Volume, call: &Call, at: u64) -> bool
+    ensures { result ≡ true → Counts call.now at volume.old volume.new }
 {
-    let reply = volume.call(alloc, call);
+    let reply = volume.call(alloc, call, at);
     match &reply {
         Reply::Count(_) => true,
         _ => false,
@@ -406,7 +450,17 @@ fn len_of(meta: Meta) -> Option<u64>
     ensures { result ≡ len_of meta }
 {
     match meta {
-        Meta::Dir => None,
-        Meta::File { len } => Some(len),
+        Meta::Dir { modified: _ } => None,
+        Meta::File { len, modified: _ } => Some(len),
+    }
+}
+
+/// The moment of an entry.
+fn moment_of(meta: Meta) -> u64
+    ensures { result ≡ modified_of meta }
+{
+    match meta {
+        Meta::Dir { modified } => modified,
+        Meta::File { len: _, modified } => modified,
     }
 }

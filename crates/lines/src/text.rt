@@ -1,5 +1,5 @@
 //! Writes numbers, and bytes in hexadecimal and in percent form.
-ghost use Rattle.std.specs.Prelude.{◌≤◌, OnOk, OnErr, flat_map, length};
+ghost use Rattle.std.specs.Prelude.{◌≤◌, OnOk, OnErr, decimal, flat_map, length};
 ghost use Rattle.std.specs.Io.KnownBytes.{Appends};
 ghost use Rattle.reference.specs.Image.{percent, two_digits};
 ghost use Rattle.lines.specs.Parts.{AppendsPart};
@@ -18,11 +18,19 @@ pub fn put_number_line<W: Write>(writer: &mut W, word: &[u8], n: u64) -> Result<
     ensures ok { OnOk result (Appends (W.contents writer.old) (W.contents writer.new) (number_line word.now n)) }
     ensures err { OnErr result (AppendsPart (W.contents writer.old) (W.contents writer.new) (number_line word.now n)) }
 {
-    let mut digits = Buffer::new();
     put(writer, word)?;
-    put(writer, digits.format(n).as_bytes())?;
+    put_number(writer, n)?;
     put(writer, b"\n")?;
     Ok(())
+}
+
+/// Writes a number in decimal, or a beginning of it.
+pub fn put_number<W: Write>(writer: &mut W, n: u64) -> Result<(), WriteFailed>
+    ensures ok { OnOk result (Appends (W.contents writer.old) (W.contents writer.new) (decimal n)) }
+    ensures err { OnErr result (AppendsPart (W.contents writer.old) (W.contents writer.new) (decimal n)) }
+{
+    let mut digits = Buffer::new();
+    put(writer, digits.format(n).as_bytes())
 }
 
 /// Writes bytes in hexadecimal, or a beginning of it.

@@ -15,7 +15,7 @@ use Rattle.scan.specs.Pairs.{IsFirst}
 use Rattle.message.proofs.NextKey.{before-next, reaches-next}
 use Rattle.reference.specs.Tree.{Tree, Dir, File, nothing, entry, entry_at, named, found, onward, At, Found, Missing, Blocked}
 use Rattle.reference.specs.Calls.{is_full}
-use Rattle.reference.specs.Looks.{seen, look}
+use Rattle.reference.specs.Looks.{sighted, sight}
 use Rattle.reference.specs.Indexes.{meta_of, PathOf}
 use Rattle.reference.specs.declared.reply.Meta.{Meta}
 use Rattle.reference.proofs.Edits.{fold-Missing, fold-Blocked}
@@ -71,23 +71,23 @@ pub record EntryOf (here : At) : Type 0 where
 
 -- what is full has an entry
 pub full_entry : (here : At) → is_full here ≡ true → EntryOf here
-full_entry (Found (Dir nothing)) h = absurd (cc)
-full_entry (Found (Dir (entry n x es))) h = record { name = n; tree = x; stands = ap (λ (b : Bool). found (cond b (Some x) (named n es))) (same_itself n) }
-full_entry (Found (File b)) h = absurd (cc)
+full_entry (Found (Dir date nothing)) h = absurd (cc)
+full_entry (Found (Dir date (entry n x es))) h = record { name = n; tree = x; stands = ap (λ (b : Bool). found (cond b (Some x) (named n es))) (same_itself n) }
+full_entry (Found (File date b)) h = absurd (cc)
 full_entry Missing h = absurd (cc)
 full_entry Blocked h = absurd (cc)
 
 -- what is not full has nothing below it
-pub nothing_below : (here : At) (n : Name) (r : Path) → is_full here ≡ false → seen (fold onward here (n ∷ r)) ≡ None
-nothing_below (Found (Dir nothing)) n r h = ap seen (fold-Missing r)
-nothing_below (Found (Dir (entry m x es))) n r h = absurd (cc)
-nothing_below (Found (File b)) n r h = ap seen (fold-Blocked r)
-nothing_below Missing n r h = ap seen (fold-Missing r)
-nothing_below Blocked n r h = ap seen (fold-Blocked r)
+pub nothing_below : (here : At) (n : Name) (r : Path) → is_full here ≡ false → sighted (fold onward here (n ∷ r)) ≡ None
+nothing_below (Found (Dir date nothing)) n r h = ap sighted (fold-Missing r)
+nothing_below (Found (Dir date (entry m x es))) n r h = absurd (cc)
+nothing_below (Found (File date b)) n r h = ap sighted (fold-Blocked r)
+nothing_below Missing n r h = ap sighted (fold-Missing r)
+nothing_below Blocked n r h = ap sighted (fold-Blocked r)
 
-pub seen_some : (x : Tree) → meta_of (seen (Found x)) ≡ None → ⊥
-seen_some (Dir es) e = cc
-seen_some (File b) e = cc
+pub seen_some : (x : Tree) → meta_of (sighted (Found x)) ≡ None → ⊥
+seen_some (Dir date es) e = cc
+seen_some (File date b) e = cc
 
 -- what is not some is none
 pub none_from_some : {A : Type 0} (o : Option A) (b : Bool) → is_some o ≡ not b → b ≡ is_none o
@@ -107,8 +107,8 @@ emptiness t m p first is_path means h = elim (is_full (entry_at t p)) as (λ b. 
     some None g full = absurd (
         let e : EntryOf (entry_at t p) = full_entry (entry_at t p) full in
         let there : entry_at t (p ++ e.name ∷ []) ≡ Found e.tree = along t p (e.name ∷ []) ∙ e.stands in
-        let meta : metadata m (enc (p ++ e.name ∷ [])) ≡ meta_of (look t (p ++ e.name ∷ [])) = means.meta.paths (p ++ e.name ∷ []) (means.tree.paths (p ++ e.name ∷ []) e.tree there) in
-        seen_some e.tree (sym (ap (λ (a : At). meta_of (seen a)) there) ∙ sym meta ∙ g (enc (p ++ e.name ∷ [])) (in_below p e.name [])))
+        let meta : metadata m (enc (p ++ e.name ∷ [])) ≡ meta_of (sight t (p ++ e.name ∷ [])) = means.meta.paths (p ++ e.name ∷ []) (means.tree.paths (p ++ e.name ∷ []) e.tree there) in
+        seen_some e.tree (sym (ap (λ (a : At). meta_of (sighted a)) there) ∙ sym meta ∙ g (enc (p ++ e.name ∷ [])) (in_below p e.name [])))
     some (Some x) g full = refl
 
     none : (f : Option (Key × Meta)) → IsFirst (metadata m) (below p).lo (below p).hi f → is_full (entry_at t p) ≡ false → is_none f ≡ true
@@ -117,6 +117,6 @@ emptiness t m p first is_path means h = elim (is_full (entry_at t p)) as (λ b. 
         let of : PathOf x.0 = means.meta.only_paths x.0 x.1 g.1 in
         let inside : within (below p).lo (below p).hi (enc of.path) ≡ true = subst (λ (k : Key). within (below p).lo (below p).hi k ≡ true) of.key g.0 in
         let rest : (n : Name) × (r : Path) × (of.path ≡ p ++ n ∷ r) = from_below p of.path is_path.names of.is_path.names inside in
-        let unseen : look t of.path ≡ None = ap (look t) rest.2 ∙ ap seen (along t p (rest.0 ∷ rest.1)) ∙ nothing_below (entry_at t p) rest.0 rest.1 empty in
+        let unseen : sight t of.path ≡ None = ap (sight t) rest.2 ∙ ap sighted (along t p (rest.0 ∷ rest.1)) ∙ nothing_below (entry_at t p) rest.0 rest.1 empty in
         let clash : None ≡ Some x.1 = sym (ap meta_of unseen) ∙ sym (means.meta.paths of.path of.is_path) ∙ sym (ap (metadata m) of.key) ∙ g.1 in
         cc)

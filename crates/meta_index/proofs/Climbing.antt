@@ -7,9 +7,10 @@ use Rattle.reference.specs.Tree.{Tree, Dir, File, entry_at, named, found, onward
 use Rattle.reference.specs.Tree.{At, Found, Missing, Blocked}
 use Rattle.reference.specs.Calls.{no_directory_fault, parent_fault}
 use Rattle.reference.specs.Shape.{IsDirectory}
-use Rattle.reference.specs.Looks.{Look, Directory, Bytes, seen, look}
+use Rattle.reference.specs.Looks.{Directory, Bytes, seen, look, Sight, Seen, sighted, sight}
 use Rattle.reference.specs.Indexes.{meta_of}
 use Rattle.reference.specs.declared.reply.Meta.{Meta}
+use Rattle.reference.proofs.Edits.{unseen}
 use Rattle.reference.proofs.EntryPaths.{along, last_name}
 use Rattle.meta_index.specs.declared.at.At as meta
 use Rattle.meta_index.specs.declared.index.MetaIndex.{MetaIndex}
@@ -17,24 +18,24 @@ use Rattle.meta_index.specs.Means.{metadata, IsMeantBy, told, beyond, Decides}
 
 -- ---- one path
 
-told_seen : (here : At) (v : Meta) → meta_of (seen here) ≡ Some v → meta.TheVariants.Found v ≡ told here
-told_seen (Found (Dir es)) v e = cc
-told_seen (Found (File b)) v e = cc
-told_seen Missing v e = absurd (cc)
-told_seen Blocked v e = absurd (cc)
+told_sighted : (here : At) (v : Meta) → meta_of (sighted here) ≡ Some v → meta.TheVariants.Found v ≡ told here
+told_sighted (Found (Dir date es)) v e = cc
+told_sighted (Found (File date b)) v e = cc
+told_sighted Missing v e = absurd (cc)
+told_sighted Blocked v e = absurd (cc)
 
-unseen : (l : Option Look) → meta_of l ≡ None → l ≡ None
-unseen None e = refl
-unseen (Some Directory) e = absurd (cc)
-unseen (Some (Bytes b)) e = absurd (cc)
+without_meta : (s : Option Sight) → meta_of s ≡ None → s ≡ None
+without_meta None e = refl
+without_meta (Some (Seen Directory date)) e = absurd (cc)
+without_meta (Some (Seen (Bytes b) date)) e = absurd (cc)
 
 -- the metadata at a path's key are those of what stands there
 pub found_told : (t : Tree) (m : MetaIndex) (p : Path) (v : Meta) → IsPath p → Some v ≡ metadata m (enc p) → IsMeantBy t m → meta.TheVariants.Found v ≡ told (entry_at t p)
-found_told t m p v is_path e means = told_seen (entry_at t p) v (sym (means.meta.paths p is_path) ∙ sym e)
+found_told t m p v is_path e means = told_sighted (entry_at t p) v (sym (means.meta.paths p is_path) ∙ sym e)
 
 -- and where there are none, nothing is seen
 pub none_seen : (t : Tree) (m : MetaIndex) (p : Path) → IsPath p → None ≡ metadata m (enc p) → IsMeantBy t m → look t p ≡ None
-none_seen t m p is_path e means = unseen (look t p) (sym (means.meta.paths p is_path) ∙ sym e)
+none_seen t m p is_path e means = unseen t p (without_meta (sight t p) (sym (means.meta.paths p is_path) ∙ sym e))
 
 -- ---- the paths above
 
@@ -56,25 +57,25 @@ pub height_falls : (a b : Option Path) (p : Path) → a ≡ parent_path p → b 
 height_falls a b p e f = omega (arith, ap height e, ap height f, height_of_parent p)
 
 lacking : (here : At) (n : Name) → seen (onward here n) ≡ None → onward here n ≡ beyond here
-lacking (Found (Dir es)) n e = absent (named n es) e
+lacking (Found (Dir date es)) n e = absent (named n es) e
   where
     absent : (o : Option Tree) → seen (found o) ≡ None → found o ≡ Missing
     absent None f = refl
-    absent (Some (Dir fs)) f = absurd (cc)
-    absent (Some (File b)) f = absurd (cc)
-lacking (Found (File b)) n e = refl
+    absent (Some (Dir stamp fs)) f = absurd (cc)
+    absent (Some (File date b)) f = absurd (cc)
+lacking (Found (File date b)) n e = refl
 lacking Missing n e = refl
 lacking Blocked n e = refl
 
 beyond_twice : (here : At) → beyond (beyond here) ≡ beyond here
-beyond_twice (Found (Dir es)) = refl
-beyond_twice (Found (File b)) = refl
+beyond_twice (Found (Dir date es)) = refl
+beyond_twice (Found (File date b)) = refl
 beyond_twice Missing = refl
 beyond_twice Blocked = refl
 
 root_seen : (t : Tree) → IsDirectory t → look t [] ≡ None → ⊥
-root_seen (Dir es) d e = cc
-root_seen (File b) d e = d
+root_seen (Dir date es) d e = cc
+root_seen (File date b) d e = d
 
 -- the parent decides
 pub parent_decides : (m : MetaIndex) (p : Path) → Decides m p (parent_path p)

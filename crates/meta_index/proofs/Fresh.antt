@@ -23,9 +23,9 @@ means_alike t m n alike old = record {
 }
 
 -- the root's entry in a new tree means the empty root directory
-pub root_alone : (old : PTree MetaUpdate Meta) (new : MetaIndex) → old.root ≡ empty_root → Appended means (Put [] DirMeta ∷ []) old new.tree → IsMeantBy (Dir nothing) new
+pub root_alone : (old : PTree MetaUpdate Meta) (new : MetaIndex) → old.root ≡ empty_root → Appended means (Put [] (DirMeta 0) ∷ []) old new.tree → IsMeantBy (Dir 0 nothing) new
 root_alone old new fresh appended = record {
   tree = fresh_law.tree;
-  meta = means_alike (Dir nothing) (put_at [] DirMeta (λ k. None)) (metadata new)
-      (λ k. appended.value_after k ∙ ap (λ (n : PNode MetaUpdate Meta). put_at [] DirMeta (value means n) k) fresh) fresh_law.meta;
+  meta = means_alike (Dir 0 nothing) (put_at [] (DirMeta 0) (λ k. None)) (metadata new)
+      (λ k. appended.value_after k ∙ ap (λ (n : PNode MetaUpdate Meta). put_at [] (DirMeta 0) (value means n) k) fresh) fresh_law.meta;
 }

@@ -15,7 +15,7 @@ use Rattle.message.proofs.NextKey.{by_bool, in_range, not_reaches, one_key}
 use Rattle.reference.specs.Tree.{Tree, Dir, File, Entries, nothing, entry, entry_at, named, found, onward, At, Found, Missing, Blocked}
 use Rattle.reference.specs.Calls.{kind_of, listing, names_of}
 use Rattle.reference.specs.Shape.{AllAbove, Rising, RisingEntries}
-use Rattle.reference.specs.Looks.{seen}
+use Rattle.reference.specs.Looks.{sighted}
 use Rattle.reference.specs.Indexes.{meta_of, PathOf}
 use Rattle.reference.specs.declared.reply.Kind.{Kind}
 use Rattle.reference.specs.declared.reply.Meta.{Meta}
@@ -53,35 +53,35 @@ module _ (t : Tree) (m : MetaIndex) (p : Path) where
 
 -- the directory's entries; none where there is no directory
 abbrev pub entries_of : At → Entries
-entries_of (Found (Dir es)) = es
-entries_of (Found (File b)) = nothing
+entries_of (Found (Dir date es)) = es
+entries_of (Found (File date b)) = nothing
 entries_of Missing = nothing
 entries_of Blocked = nothing
 
 names_listed : (here : At) → listing (entries_of here) ≡ names_of here
-names_listed (Found (Dir es)) = refl
-names_listed (Found (File b)) = refl
+names_listed (Found (Dir date es)) = refl
+names_listed (Found (File date b)) = refl
 names_listed Missing = refl
 names_listed Blocked = refl
 
 entry_stands : (here : At) (n : Name) (x : Tree) → named n (entries_of here) ≡ Some x → onward here n ≡ Found x
-entry_stands (Found (Dir es)) n x e = ap found e
-entry_stands (Found (File b)) n x e = absurd (cc)
+entry_stands (Found (Dir date es)) n x e = ap found e
+entry_stands (Found (File date b)) n x e = absurd (cc)
 entry_stands Missing n x e = absurd (cc)
 entry_stands Blocked n x e = absurd (cc)
 
-some_entry : (here : At) (n : Name) (r : Path) (v : Meta) → meta_of (seen (fold onward here (n ∷ r))) ≡ Some v → (x : Tree) × (named n (entries_of here) ≡ Some x)
-some_entry (Found (Dir es)) n r v e = elim (named n es) as (λ o. named n es ≡ o → meta_of (seen (fold onward (found o) r)) ≡ Some v → (x : Tree) × (named n es ≡ Some x)) [
-  | None ↦ λ f g. absurd (let clash : None ≡ Some v = sym (ap (λ (a : At). meta_of (seen a)) (fold-Missing r)) ∙ g in cc)
+some_entry : (here : At) (n : Name) (r : Path) (v : Meta) → meta_of (sighted (fold onward here (n ∷ r))) ≡ Some v → (x : Tree) × (named n (entries_of here) ≡ Some x)
+some_entry (Found (Dir date es)) n r v e = elim (named n es) as (λ o. named n es ≡ o → meta_of (sighted (fold onward (found o) r)) ≡ Some v → (x : Tree) × (named n es ≡ Some x)) [
+  | None ↦ λ f g. absurd (let clash : None ≡ Some v = sym (ap (λ (a : At). meta_of (sighted a)) (fold-Missing r)) ∙ g in cc)
   | Some x ↦ λ f g. (x, f)
 ] refl e
-some_entry (Found (File b)) n r v e = absurd (let clash : None ≡ Some v = sym (ap (λ (a : At). meta_of (seen a)) (fold-Blocked r)) ∙ e in cc)
-some_entry Missing n r v e = absurd (let clash : None ≡ Some v = sym (ap (λ (a : At). meta_of (seen a)) (fold-Missing r)) ∙ e in cc)
-some_entry Blocked n r v e = absurd (let clash : None ≡ Some v = sym (ap (λ (a : At). meta_of (seen a)) (fold-Blocked r)) ∙ e in cc)
+some_entry (Found (File date b)) n r v e = absurd (let clash : None ≡ Some v = sym (ap (λ (a : At). meta_of (sighted a)) (fold-Blocked r)) ∙ e in cc)
+some_entry Missing n r v e = absurd (let clash : None ≡ Some v = sym (ap (λ (a : At). meta_of (sighted a)) (fold-Missing r)) ∙ e in cc)
+some_entry Blocked n r v e = absurd (let clash : None ≡ Some v = sym (ap (λ (a : At). meta_of (sighted a)) (fold-Blocked r)) ∙ e in cc)
 
 entries_rise : (t : Tree) (p : Path) (here : At) → entry_at t p ≡ here → Rising t → RisingEntries (entries_of here)
-entries_rise t p (Found (Dir es)) e h = rising-found p t (Dir es) e h
-entries_rise t p (Found (File b)) e h = tt
+entries_rise t p (Found (Dir date es)) e h = rising-found p t (Dir date es) e h
+entries_rise t p (Found (File date b)) e h = tt
 entries_rise t p Missing e h = tt
 entries_rise t p Blocked e h = tt
 
@@ -96,7 +96,7 @@ listed_none t m p is_path means = record {
     ahead = λ n x e. (and_parts _ _ (in_below p n [])).0;
     only = λ q v of inside e.
         let at : (n : Name) × (r : Path) × (q ≡ p ++ n ∷ r) = from_below p q is_path.names of.names inside in
-        let meta : meta_of (seen (fold onward (entry_at t p) (at.0 ∷ at.1))) ≡ Some v = ap (λ (a : At). meta_of (seen a)) (sym (along t p (at.0 ∷ at.1)) ∙ ap (entry_at t) (sym at.2)) ∙ sym (means.meta.paths q of) ∙ e in
+        let meta : meta_of (sighted (fold onward (entry_at t p) (at.0 ∷ at.1))) ≡ Some v = ap (λ (a : At). meta_of (sighted a)) (sym (along t p (at.0 ∷ at.1)) ∙ ap (entry_at t) (sym at.2)) ∙ sym (means.meta.paths q of) ∙ e in
         let some : (x : Tree) × (named at.0 (entries_of (entry_at t p)) ≡ Some x) = some_entry (entry_at t p) at.0 at.1 v meta in
         record { name = at.0; rest = at.1; tree = some.0; path = at.2; entry = some.1 };
     high = refl;
@@ -130,9 +130,9 @@ later_named k n x y es h e = by_bool (same k n) (named k (entry n y es) ≡ Some
 name_bytes : (p : Path) (n : Name) (r : Path) → IsPath (p ++ n ∷ r) → HasNameBytes n
 name_bytes p n r h = (each_rest p (n ∷ r) h.names).0.bytes
 
-kind_is : (x : Tree) (v : Meta) → meta_of (seen (Found x)) ≡ Some v → kind_told v ≡ kind_of x
-kind_is (Dir es) v e = cc
-kind_is (File b) v e = cc
+kind_is : (x : Tree) (v : Meta) → meta_of (sighted (Found x)) ≡ Some v → kind_told v ≡ kind_of x
+kind_is (Dir date es) v e = cc
+kind_is (File date b) v e = cc
 
 -- ---- one entry more
 
@@ -145,10 +145,10 @@ pub record Next (t : Tree) (m : MetaIndex) (p : Path) (listed : List (Kind × Na
 
 module _ (t : Tree) (m : MetaIndex) (p : Path) (means : IsMeantBy t m) (listed : List (Kind × Name)) (lo : Key) (hi : Option Key) where
   -- the metadata of an entry that is left
-  own_meta : (es : Entries) → IsRest t m p es listed lo hi → (n : Name) (x : Tree) → named n es ≡ Some x → metadata m (enc (p ++ n ∷ [])) ≡ meta_of (seen (Found x))
+  own_meta : (es : Entries) → IsRest t m p es listed lo hi → (n : Name) (x : Tree) → named n es ≡ Some x → metadata m (enc (p ++ n ∷ [])) ≡ meta_of (sighted (Found x))
   own_meta es r n x e =
       let there : entry_at t (p ++ n ∷ []) ≡ Found x = r.stand n x e in
-      means.meta.paths (p ++ n ∷ []) (means.tree.paths (p ++ n ∷ []) x there) ∙ ap (λ (a : At). meta_of (seen a)) there
+      means.meta.paths (p ++ n ∷ []) (means.tree.paths (p ++ n ∷ []) x there) ∙ ap (λ (a : At). meta_of (sighted a)) there
 
   -- no key from lo on where the first entry's key is not reached yet
   reached : (es : Entries) → IsRest t m p es listed lo hi → (n : Name) (x : Tree) → named n es ≡ Some x → (k : Key) → HasNone (metadata m) lo (Some k) → reaches k (enc (p ++ n ∷ [])) ≡ true
@@ -200,7 +200,7 @@ module _ (t : Tree) (m : MetaIndex) (p : Path) (means : IsMeantBy t m) (listed :
   next_of nothing k v r h q e of among = absurd (let f : None ≡ Some among.tree = among.entry in cc)
   next_of (entry n x es) k v r h q e of among =
       let key : k ≡ enc (p ++ n ∷ []) = first_key n x es r k q e of among h.2 in
-      let meta : meta_of (seen (Found x)) ≡ Some v = sym (own_meta (entry n x es) r n x (first_named n x es)) ∙ ap (metadata m) (sym key) ∙ h.1 in
+      let meta : meta_of (sighted (Found x)) ≡ Some v = sym (own_meta (entry n x es) r n x (first_named n x es)) ∙ ap (metadata m) (sym key) ∙ h.1 in
       record {
         name = n;
         path = means.tree.paths (p ++ n ∷ []) x (r.stand n x (first_named n x es));

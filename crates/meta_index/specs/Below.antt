@@ -13,5 +13,5 @@ below p = record { lo = next_key (enc p); hi = (subtree p).hi }
 
 -- whether metadata are those of a directory or of a file
 abbrev pub kind_told : Meta → Kind
-kind_told DirMeta = DirKind
-kind_told (FileMeta n) = FileKind
+kind_told (DirMeta date) = DirKind
+kind_told (FileMeta n date) = FileKind

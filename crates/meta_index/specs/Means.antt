@@ -20,17 +20,18 @@ pub record IsMeantBy (t : Tree) (m : MetaIndex) : Type 0 where
   pub tree : IsTree t
   pub meta : MetaMeans t (metadata m)
 
--- what is told of what stands at a path: of a directory that it is one, of a file its length
+-- what is told of what stands at a path: of a directory that it is one, of a file its length, of both the moment of
+-- last change
 abbrev pub told : At → meta.At
-told (Found (Dir es)) = meta.TheVariants.Found DirMeta
-told (Found (File b)) = meta.TheVariants.Found (FileMeta (length b))
+told (Found (Dir date es)) = meta.TheVariants.Found (DirMeta date)
+told (Found (File date b)) = meta.TheVariants.Found (FileMeta (length b) date)
 told Missing = meta.TheVariants.Missing
 told Blocked = meta.TheVariants.Blocked
 
 -- what stands at a name that a place lacks
 abbrev pub beyond : At → At
-beyond (Found (Dir es)) = Missing
-beyond (Found (File b)) = Blocked
+beyond (Found (Dir date es)) = Missing
+beyond (Found (File date b)) = Blocked
 beyond Missing = Missing
 beyond Blocked = Blocked
 

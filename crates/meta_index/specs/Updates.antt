@@ -1,11 +1,20 @@
--- What updates of the metadata at a path mean.
-use Rattle.std.specs.Prelude.{Option}
-use Rattle.reference.specs.Indexes.{set_len, grow}
+-- What updates of the metadata at a path mean, and which two of them become one.
+use Rattle.std.specs.Prelude.{Bool, true, false, Option}
+use Rattle.reference.specs.Indexes.{set_len, grow, touch}
 use Rattle.reference.specs.declared.reply.Meta.{Meta}
 use Rattle.meta_index.specs.declared.update.MetaUpdate.{MetaUpdate}
-use Rattle.meta_index.specs.declared.update.MetaUpdate.TheVariants.{SetLen, Grow}
+use Rattle.meta_index.specs.declared.update.MetaUpdate.TheVariants.{SetLen, Grow, Touch}
 
--- what an update makes of the metadata at a path: a file's length is set, or raised where it is less
+-- what an update makes of the metadata at a path: a file's length is set, or raised where it is less, and its moment set;
+-- or the moment of what stands there is set
 abbrev pub means : MetaUpdate → Option Meta → Option Meta
-means (SetLen n) = set_len n
-means (Grow n) = grow n
+means (SetLen n at) = set_len n at
+means (Grow n at) = grow n at
+means (Touch at) = touch at
+
+-- two updates become one where both change a file, or both set a moment alone
+abbrev pub joins : MetaUpdate → MetaUpdate → Bool
+joins (Touch at) (Touch later) = true
+joins (Touch at) _ = false
+joins _ (Touch later) = false
+joins _ _ = true

@@ -24,7 +24,7 @@ impl At {
         ensures { (here : trees.At) → At.Found above ≡ told here → result ≡ told (beyond here) }
     {
         match above {
-            Meta::Dir => At::Missing,
+            Meta::Dir { .. } => At::Missing,
             Meta::File { .. } => At::Blocked,
         }
     }

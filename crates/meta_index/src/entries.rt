@@ -52,7 +52,7 @@ pub(crate) fn kind_of(meta: Meta) -> Kind
     ensures { result ≡ kind_told meta }
 {
     match meta {
-        Meta::Dir => Kind::Dir,
+        Meta::Dir { .. } => Kind::Dir,
         Meta::File { .. } => Kind::File,
     }
 }

@@ -29,16 +29,16 @@ pub struct MetaIndex {
 }
 
 impl MetaIndex {
-    /// The index of the empty root directory, whose entry waits as one message in a new tree. It fails only for want of
+    /// The index of the empty root directory, of moment 0, whose entry waits as one message in a new tree. It fails only for want of
     /// memory.
     pub fn new(alloc: Global, shape: Shape) -> Result<MetaIndex, NoMemory>
         requires { IsTrue (is_shape shape) }
         ensures shape { IfOk result (λ m. m.tree.shape ≡ shape) }
-        ensures empty { IfOk result (λ m. IsMeantBy (Dir nothing) m) }
+        ensures empty { IfOk result (λ m. IsMeantBy (Dir 0 nothing) m) }
     {
         let mut tree = Tree::new(alloc, shape)?;
         let mut msgs = Vec::with_capacity(alloc, 1)?;
-        msgs.push(Msg::Put(Key::new(alloc), Meta::Dir))?;
+        msgs.push(Msg::Put(Key::new(alloc), Meta::Dir { modified: 0 }))?;
         tree.append(alloc, msgs)?;
         Ok(MetaIndex { tree })
     }

@@ -1,5 +1,5 @@
 //! The metadata of the file system: a buffered tree that has, at the key of each path at which something stands, whether
-//! it is a directory or a file of which length.
+//! it is a directory or a file of which length, and its moment of last change.
 //!
 //! It is asked by full paths (full-path indexing: Jannen et al., FAST 2015): what stands at a path is one look-up, and
 //! what a directory holds lies side by side behind its own key. Contracts speak of the directory tree that the index

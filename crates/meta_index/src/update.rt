@@ -1,6 +1,6 @@
-//! Updates of the metadata at one path: the length of a file set or raised.
-ghost use Rattle.std.specs.Prelude.{◌≡◌, Some, Option};
-ghost use Rattle.meta_index.specs.Updates.{means as meant};
+//! Updates of the metadata at one path: the length of a file set or raised, and the moment of last change.
+ghost use Rattle.std.specs.Prelude.{◌≡◌, Some, Option, IfSome, is_some};
+ghost use Rattle.meta_index.specs.Updates.{joins, means as meant};
 ghost use Rattle.reference.specs.declared.reply.Meta.{Meta as MetaValue};
 
 use message::{Changes, Update};
@@ -8,13 +8,15 @@ use pathkey::NoMemory;
 use reference::Meta;
 use std::alloc::Global;
 
-/// A change of a file's length. A directory stays as it is, and so does a path at which nothing stands.
+/// A change of the metadata at a path. Where nothing stands, nothing comes of it.
 #[derive(Clone, Copy, Debug, PartialEq, Eq)]
 pub enum MetaUpdate {
-    /// The file has this length.
-    SetLen(u64),
-    /// The file has at least this length.
-    Grow(u64),
+    /// The file has this length, and this moment of last change. A directory stays as it is.
+    SetLen(u64, u64),
+    /// The file has at least this length, and this moment of last change. A directory stays as it is.
+    Grow(u64, u64),
+    /// The directory or file has this moment of last change.
+    Touch(u64),
 }
 
 impl MetaUpdate {
@@ -22,21 +24,49 @@ impl MetaUpdate {
     pub fn after(self, old: Meta) -> Meta
         ensures { Some result ≡ meant self (Some old) }
     {
-        match (self, old) {
-            (_, Meta::Dir) => Meta::Dir,
-            (MetaUpdate::SetLen(n), Meta::File { .. }) => Meta::File { len: n },
-            (MetaUpdate::Grow(n), Meta::File { len }) => Meta::File { len: len.max(n) },
+        match self {
+            MetaUpdate::SetLen(n, at) => match old {
+                Meta::Dir { modified } => Meta::Dir { modified },
+                Meta::File { .. } => Meta::File {
+                    len: n,
+                    modified: at,
+                },
+            },
+            MetaUpdate::Grow(n, at) => match old {
+                Meta::Dir { modified } => Meta::Dir { modified },
+                Meta::File { len, .. } => Meta::File {
+                    len: len.max(n),
+                    modified: at,
+                },
+            },
+            MetaUpdate::Touch(at) => match old {
+                Meta::Dir { .. } => Meta::Dir { modified: at },
+                Meta::File { len, .. } => Meta::File { len, modified: at },
+            },
         }
     }
 
-    /// The one update that means this one and then `later`.
-    pub fn then(self, later: MetaUpdate) -> MetaUpdate
-        ensures { (old : Option MetaValue) → meant result old ≡ meant later (meant self old) }
+    /// The one update that means this one and then `later`, with the moment of `later`: where both change a file, or both
+    /// set the moment alone.
+    pub fn joined(self, later: MetaUpdate) -> Option<MetaUpdate>
+        ensures means { IfSome result (λ one. (old : Option MetaValue) → meant one old ≡ meant later (meant self old)) }
+        ensures some { is_some result ≡ joins self later }
     {
-        match (self, later) {
-            (_, MetaUpdate::SetLen(n)) => MetaUpdate::SetLen(n),
-            (MetaUpdate::SetLen(m), MetaUpdate::Grow(n)) => MetaUpdate::SetLen(m.max(n)),
-            (MetaUpdate::Grow(m), MetaUpdate::Grow(n)) => MetaUpdate::Grow(m.max(n)),
+        match self {
+            MetaUpdate::SetLen(m, _) => match later {
+                MetaUpdate::SetLen(n, at) => Some(MetaUpdate::SetLen(n, at)),
+                MetaUpdate::Grow(n, at) => Some(MetaUpdate::SetLen(m.max(n), at)),
+                MetaUpdate::Touch(_) => None,
+            },
+            MetaUpdate::Grow(m, _) => match later {
+                MetaUpdate::SetLen(n, at) => Some(MetaUpdate::SetLen(n, at)),
+                MetaUpdate::Grow(n, at) => Some(MetaUpdate::Grow(m.max(n), at)),
+                MetaUpdate::Touch(_) => None,
+            },
+            MetaUpdate::Touch(_) => match later {
+                MetaUpdate::Touch(at) => Some(MetaUpdate::Touch(at)),
+                _ => None,
+            },
         }
     }
 }
@@ -58,7 +88,7 @@ impl Update for MetaUpdate {
     }
 
     fn join(&self, _alloc: Global, later: &MetaUpdate) -> Result<Option<MetaUpdate>, NoMemory> {
-        Ok(Some(self.then(*later)))
+        Ok(self.joined(*later))
     }
 
     fn copy(&self, _alloc: Global) -> Result<MetaUpdate, NoMemory> {

@@ -21,27 +21,27 @@ made_cases P t p x refused done =
     unless_holds P t (faults_of_new t p) (edited t p (Some x), Done) refused
     (λ f. done (not_root p (when_none (is_root p) EEXIST f.0)) f.1.0 (when_none (is_found (entry_at t p)) EEXIST f.1.1.0))
 
-pub written_cases : (P : Outcome → Type 0) (t : Tree) (p : Path) (off : ℕ) (w : List ℕ) → OfRefusals P t
+pub written_cases : (P : Outcome → Type 0) (at : ℕ) (t : Tree) (p : Path) (off : ℕ) (w : List ℕ) → OfRefusals P t
     → (is_empty w ≡ true → P (t, Count 0))
-    → (path_fault (entry_at t p) ≡ None → is_directory (entry_at t p) ≡ false → is_empty w ≡ false → nat_lt greatest_file (off + length w) ≡ false → P (edited t p (Some (File (over (bytes_of (entry_at t p)) off w))), Count (length w)))
-    → P (written t p off w)
+    → (path_fault (entry_at t p) ≡ None → is_directory (entry_at t p) ≡ false → is_empty w ≡ false → nat_lt greatest_file (off + length w) ≡ false → P (edited t p (Some (File at (over (bytes_of (entry_at t p)) off w))), Count (length w)))
+    → P (written at t p off w)
 unfolding NoFaults
-written_cases P t p off w refused empty done =
+written_cases P at t p off w refused empty done =
     let here : At = entry_at t p in
-    let laid : Outcome = (edited t p (Some (File (over (bytes_of here) off w))), Count (length w)) in
+    let laid : Outcome = (edited t p (Some (File at (over (bytes_of here) off w))), Count (length w)) in
     unless_holds P t (faults_of_write t p off w) (cond (is_empty w) (t, Count 0) laid) refused
     (λ f. elim (is_empty w) as (λ b. is_empty w ≡ b → when (not b && nat_lt greatest_file (off + length w)) EFBIG ≡ None → P (cond {A = Outcome} b (t, Count 0) laid)) [
       | true ↦ λ e g. empty e
       | false ↦ λ e g. done f.0 (when_none (is_directory here) EISDIR f.1.0) e (when_none (nat_lt greatest_file (off + length w)) EFBIG g)
     ] refl f.1.1.0)
 
-pub truncated_cases : (P : Outcome → Type 0) (t : Tree) (p : Path) (n : ℕ) → OfRefusals P t
-    → (path_fault (entry_at t p) ≡ None → is_directory (entry_at t p) ≡ false → nat_lt greatest_file n ≡ false → P (edited t p (Some (File (sized (bytes_of (entry_at t p)) n))), Done))
-    → P (truncated t p n)
+pub truncated_cases : (P : Outcome → Type 0) (at : ℕ) (t : Tree) (p : Path) (n : ℕ) → OfRefusals P t
+    → (path_fault (entry_at t p) ≡ None → is_directory (entry_at t p) ≡ false → nat_lt greatest_file n ≡ false → P (edited t p (Some (File at (sized (bytes_of (entry_at t p)) n))), Done))
+    → P (truncated at t p n)
 unfolding NoFaults
-truncated_cases P t p n refused done =
+truncated_cases P at t p n refused done =
     let here : At = entry_at t p in
-    unless_holds P t (faults_of_truncate t p n) (edited t p (Some (File (sized (bytes_of here) n))), Done) refused
+    unless_holds P t (faults_of_truncate t p n) (edited t p (Some (File at (sized (bytes_of here) n))), Done) refused
     (λ f. done f.0 (when_none (is_directory here) EISDIR f.1.0) (when_none (nat_lt greatest_file n) EFBIG f.1.1.0))
 
 pub unlinked_cases : (P : Outcome → Type 0) (t : Tree) (p : Path) → OfRefusals P t

@@ -1,5 +1,5 @@
 -- The longest text from a tree down is that of a path at which something is seen.
-use Rattle.std.proofs.Common.{◌≡◌, ◌+◌, ◌<◌, [], ◌∷◌, length, true, false, Bool, cond, sym, ap, refl, ◌∙◌, subst, arith, Some, None}
+use Rattle.std.proofs.Common.{◌≡◌, ℕ, ◌+◌, ◌<◌, [], ◌∷◌, length, true, false, Bool, cond, sym, ap, refl, ◌∙◌, subst, arith, Some, None}
 use Rattle.std.specs.Prelude.{fold, nat_le}
 use Rattle.std.proofs.lemmas.Bool.{leb-true, leb-false}
 use Rattle.pathkey.specs.Names.{text_len}
@@ -19,8 +19,8 @@ pub record Deepest (x : Tree) : Type 0 where
   pub long : text_len path ≡ deepest x
 
 -- below the first entry
-below_first : (n : Name) (y : Tree) (rest : Entries) → Deepest y → deepest_of (entry n y rest) ≡ 1 + length n + deepest y → Deepest (Dir (entry n y rest))
-below_first n y rest d long = record {
+below_first : (date : ℕ) (n : Name) (y : Tree) (rest : Entries) → Deepest y → deepest_of (entry n y rest) ≡ 1 + length n + deepest y → Deepest (Dir date (entry n y rest))
+below_first date n y rest d long = record {
   path = n ∷ d.path;
   there = d.there;
   seen = subst (λ (b : Bool). seen (fold onward (found (cond b (Some y) (named n rest))) d.path) ≡ Some d.there) (sym (same_itself n)) d.seen;
@@ -28,9 +28,9 @@ below_first n y rest d long = record {
 }
 
 -- below another
-below_others : (n : Name) (y : Tree) (rest : Entries) → RisingEntries (entry n y rest) → (p : Path) (l : Look) → look (Dir rest) p ≡ Some l → text_len p ≡ deepest_of rest → 0 < deepest_of rest → deepest_of (entry n y rest) ≡ deepest_of rest → Deepest (Dir (entry n y rest))
-below_others n y rest v [] l there long some is = absurd (omega arith)
-below_others n y rest v (k ∷ r) l there long some is = record {
+below_others : (date : ℕ) (n : Name) (y : Tree) (rest : Entries) → RisingEntries (entry n y rest) → (p : Path) (l : Look) → look (Dir date rest) p ≡ Some l → text_len p ≡ deepest_of rest → 0 < deepest_of rest → deepest_of (entry n y rest) ≡ deepest_of rest → Deepest (Dir date (entry n y rest))
+below_others date n y rest v [] l there long some is = absurd (omega arith)
+below_others date n y rest v (k ∷ r) l there long some is = record {
   path = k ∷ r;
   there = l;
   seen = elim (same k n) as (λ b. same k n ≡ b → seen (fold onward (found (cond b (Some y) (named k rest))) r) ≡ Some l) [
@@ -46,15 +46,15 @@ below_others n y rest v (k ∷ r) l there long some is = record {
 
 mutual
   pub deepest_there : (x : Tree) → Rising x → Deepest x
-  deepest_there (File b) v = record { path = []; there = Bytes b; seen = refl; long = refl }
-  deepest_there (Dir es) v = deepest_among es v
+  deepest_there (File date b) v = record { path = []; there = Bytes b; seen = refl; long = refl }
+  deepest_there (Dir date es) v = deepest_among date es v
 
-  deepest_among : (es : Entries) → RisingEntries es → Deepest (Dir es)
-  deepest_among nothing v = record { path = []; there = Directory; seen = refl; long = refl }
-  deepest_among (entry n y rest) v =
+  deepest_among : (date : ℕ) (es : Entries) → RisingEntries es → Deepest (Dir date es)
+  deepest_among date nothing v = record { path = []; there = Directory; seen = refl; long = refl }
+  deepest_among date (entry n y rest) v =
       let first : Deepest y = deepest_there y v.1 in
-      let others : Deepest (Dir rest) = deepest_among rest v.2 in
-      elim (nat_le (deepest_of rest) (1 + length n + deepest y)) as (λ b. nat_le (deepest_of rest) (1 + length n + deepest y) ≡ b → Deepest (Dir (entry n y rest))) [
-        | true ↦ λ e. below_first n y rest first (omega (arith, leb-true (deepest_of rest) (1 + length n + deepest y) e))
-        | false ↦ λ e. below_others n y rest v others.path others.there others.seen others.long (omega (arith, leb-false (deepest_of rest) (1 + length n + deepest y) e)) (omega (arith, leb-false (deepest_of rest) (1 + length n + deepest y) e))
+      let others : Deepest (Dir date rest) = deepest_among date rest v.2 in
+      elim (nat_le (deepest_of rest) (1 + length n + deepest y)) as (λ b. nat_le (deepest_of rest) (1 + length n + deepest y) ≡ b → Deepest (Dir date (entry n y rest))) [
+        | true ↦ λ e. below_first date n y rest first (omega (arith, leb-true (deepest_of rest) (1 + length n + deepest y) e))
+        | false ↦ λ e. below_others date n y rest v others.path others.there others.seen others.long (omega (arith, leb-false (deepest_of rest) (1 + length n + deepest y) e)) (omega (arith, leb-false (deepest_of rest) (1 + length n + deepest y) e))
       ] refl

@@ -1,11 +1,11 @@
--- What is seen at each path after an edit.
-use Rattle.std.proofs.Common.{◌≡◌, ◌≢◌, [], ◌∷◌, true, false, cond, sym, ap, refl, ◌∙◌, subst, Option, Some, None}
+-- What is seen at each path after an edit, and after a moment was set.
+use Rattle.std.proofs.Common.{◌≡◌, ◌≢◌, ℕ, [], ◌∷◌, true, false, cond, sym, ap, refl, ◌∙◌, subst, Option, Some, None}
 use Rattle.std.specs.Prelude.{fold, option_map}
 use Rattle.std.specs.Ordering.{is_eq}
 use Rattle.std.specs.declared.cmp.Ordering.TheVariants.{Less, Equal, Greater}
-use Rattle.reference.specs.Tree.{by_bytes, same, by_order, Name, Path, Tree, Dir, File, Entries, nothing, entry, named, put, take_out, set_entry, At, Missing, Blocked, found, onward, edited}
+use Rattle.reference.specs.Tree.{by_bytes, same, by_order, Name, Path, Tree, Dir, File, Entries, nothing, entry, named, put, take_out, set_entry, At, Missing, Blocked, Found, found, onward, entry_at, edited, dated, touched}
 use Rattle.reference.specs.Calls.{parent, no_directory_fault, parent_fault}
-use Rattle.reference.specs.Looks.{seen, look, rest_of, look_after}
+use Rattle.reference.specs.Looks.{seen, look, rest_of, look_after, Sight, Seen, look_of, sighted, sight, sight_after, sight_touched}
 use Rattle.pathkey.proofs.OrderFacts.{equal, same_itself, same_true, same_false, apart}
 
 pub named-put_same : (n : Name) (x : Tree) (es : Entries) → named n (put n x es) ≡ Some x
@@ -62,34 +62,117 @@ fold-Blocked [] = refl
 fold-Blocked (n ∷ p) = fold-Blocked p
 
 -- one name that was set, seen at a path through name k
-set_law : (n k : Name) (o : Option Tree) (es : Entries) (q : Path) → seen (fold onward (found (named k (set_entry n o es))) q) ≡ cond (same n k) (seen (fold onward (found o) q)) (seen (fold onward (found (named k es)) q))
+set_law : (n k : Name) (o : Option Tree) (es : Entries) (q : Path) → sighted (fold onward (found (named k (set_entry n o es))) q) ≡ cond (same n k) (sighted (fold onward (found o) q)) (sighted (fold onward (found (named k es)) q))
 set_law n k o es q =
-    elim (same n k) as (λ b. same n k ≡ b → seen (fold onward (found (named k (set_entry n o es))) q) ≡ cond b (seen (fold onward (found o) q)) (seen (fold onward (found (named k es)) q))) [
-      | true ↦ λ e. ap (λ (z : Option Tree). seen (fold onward (found z) q)) (subst (λ (z : Name). named z (set_entry n o es) ≡ o) (same_true n k e) (named-set_same n o es))
-      | false ↦ λ e. ap (λ (z : Option Tree). seen (fold onward (found z) q)) (named-set_other k n o es (same_flip n k e))
+    elim (same n k) as (λ b. same n k ≡ b → sighted (fold onward (found (named k (set_entry n o es))) q) ≡ cond b (sighted (fold onward (found o) q)) (sighted (fold onward (found (named k es)) q))) [
+      | true ↦ λ e. ap (λ (z : Option Tree). sighted (fold onward (found z) q)) (subst (λ (z : Name). named z (set_entry n o es) ≡ o) (same_true n k e) (named-set_same n o es))
+      | false ↦ λ e. ap (λ (z : Option Tree). sighted (fold onward (found z) q)) (named-set_other k n o es (same_flip n k e))
     ] refl
 
-pub edit_law : (p : Path) (t : Tree) (o : Option Tree) (q : Path) → p ≢ [] → parent_fault t p ≡ None → look (edited t p o) q ≡ look_after (rest_of p q) o (look t q)
-edit_law [] t o q ne h = absurd (ne refl)
-edit_law (n ∷ []) (File b) o q ne h = cc
-edit_law (n ∷ []) (Dir es) o [] ne h = refl
-edit_law (n ∷ []) (Dir es) o (k ∷ q) ne h =
-    set_law n k o es q ∙ elim (same n k) as (λ b. cond b (seen (fold onward (found o) q)) (seen (fold onward (found (named k es)) q)) ≡ look_after (cond b (Some q) None) o (seen (fold onward (found (named k es)) q))) [ true ↦ refl | false ↦ refl ]
-edit_law (n ∷ m ∷ p) (File b) o q ne h =
+pub sight_law : (p : Path) (t : Tree) (o : Option Tree) (q : Path) → p ≢ [] → parent_fault t p ≡ None → sight (edited t p o) q ≡ sight_after (rest_of p q) o (sight t q)
+sight_law [] t o q ne h = absurd (ne refl)
+sight_law (n ∷ []) (File date b) o q ne h = cc
+sight_law (n ∷ []) (Dir date es) o [] ne h = refl
+sight_law (n ∷ []) (Dir date es) o (k ∷ q) ne h =
+    set_law n k o es q ∙ elim (same n k) as (λ b. cond b (sighted (fold onward (found o) q)) (sighted (fold onward (found (named k es)) q)) ≡ sight_after (cond b (Some q) None) o (sighted (fold onward (found (named k es)) q))) [ true ↦ refl | false ↦ refl ]
+sight_law (n ∷ m ∷ p) (File date b) o q ne h =
     let e : fold onward Blocked (parent (m ∷ p)) ≡ Blocked = fold-Blocked (parent (m ∷ p)) in
     absurd (let f : no_directory_fault Blocked ≡ None = subst (λ (a : At). no_directory_fault a ≡ None) e h in cc)
-edit_law (n ∷ m ∷ p) (Dir es) o [] ne h = refl
-edit_law (n ∷ m ∷ p) (Dir es) o (k ∷ q) ne h =
+sight_law (n ∷ m ∷ p) (Dir date es) o [] ne h = refl
+sight_law (n ∷ m ∷ p) (Dir date es) o (k ∷ q) ne h =
     elim (named n es) as (λ c. named n es ≡ c → no_directory_fault (fold onward (found c) (parent (m ∷ p))) ≡ None
-    → seen (fold onward (found (named k (set_entry n (option_map (λ x. edited x (m ∷ p) o) c) es))) q) ≡ look_after (cond (same n k) (rest_of (m ∷ p) q) None) o (seen (fold onward (found (named k es)) q))) [
+    → sighted (fold onward (found (named k (set_entry n (option_map (λ x. edited x (m ∷ p) o) c) es))) q) ≡ sight_after (cond (same n k) (rest_of (m ∷ p) q) None) o (sighted (fold onward (found (named k es)) q))) [
       | None ↦ λ e f. absurd (let g : no_directory_fault Missing ≡ None = subst (λ (a : At). no_directory_fault a ≡ None) (fold-Missing (parent (m ∷ p))) f in cc)
       | Some x ↦ λ e f.
-          let ih : look (edited x (m ∷ p) o) q ≡ look_after (rest_of (m ∷ p) q) o (look x q) = edit_law (m ∷ p) x o q (λ z. cc) f in
-          set_law n k (Some (edited x (m ∷ p) o)) es q ∙ elim (same n k) as (λ b. same n k ≡ b → cond b (look (edited x (m ∷ p) o) q) (seen (fold onward (found (named k es)) q)) ≡ look_after (cond b (rest_of (m ∷ p) q) None) o (seen (fold onward (found (named k es)) q))) [
+          let ih : sight (edited x (m ∷ p) o) q ≡ sight_after (rest_of (m ∷ p) q) o (sight x q) = sight_law (m ∷ p) x o q (λ z. cc) f in
+          set_law n k (Some (edited x (m ∷ p) o)) es q ∙ elim (same n k) as (λ b. same n k ≡ b → cond b (sight (edited x (m ∷ p) o) q) (sighted (fold onward (found (named k es)) q)) ≡ sight_after (cond b (rest_of (m ∷ p) q) None) o (sighted (fold onward (found (named k es)) q))) [
             | true ↦ λ g. let s : named k es ≡ Some x = subst (λ (z : Name). named z es ≡ Some x) (same_true n k g) e in rw s ih
             | false ↦ λ g. refl
           ] refl
     ] refl h
+
+-- what is seen without its moment is seen
+pub seen_sighted : (a : At) → seen a ≡ option_map look_of (sighted a)
+seen_sighted (Found (Dir date es)) = refl
+seen_sighted (Found (File date b)) = refl
+seen_sighted Missing = refl
+seen_sighted Blocked = refl
+
+pub look_sighted : (t : Tree) (p : Path) → look t p ≡ option_map look_of (sight t p)
+look_sighted t p = seen_sighted (entry_at t p)
+
+pub look_from : (t : Tree) (p : Path) (s : Sight) → sight t p ≡ Some s → look t p ≡ Some (look_of s)
+look_from t p s e = look_sighted t p ∙ ap (option_map look_of) e
+
+pub unseen : (t : Tree) (p : Path) → sight t p ≡ None → look t p ≡ None
+unseen t p e = look_sighted t p ∙ ap (option_map look_of) e
+
+pub alike : (t u : Tree) (p q : Path) → sight t p ≡ sight u q → look t p ≡ look u q
+alike t u p q e = look_sighted t p ∙ ap (option_map look_of) e ∙ sym (look_sighted u q)
+
+looks_after : (c : Option Path) (o : Option Tree) (old : Option Sight) → option_map look_of (sight_after c o old) ≡ look_after c o (option_map look_of old)
+looks_after None o old = refl
+looks_after (Some r) o old = sym (seen_sighted (fold onward (found o) r))
+
+pub edit_law : (p : Path) (t : Tree) (o : Option Tree) (q : Path) → p ≢ [] → parent_fault t p ≡ None → look (edited t p o) q ≡ look_after (rest_of p q) o (look t q)
+edit_law p t o q ne h =
+    look_sighted (edited t p o) q
+    ∙ ap (option_map look_of) (sight_law p t o q ne h)
+    ∙ looks_after (rest_of p q) o (sight t q)
+    ∙ ap (look_after (rest_of p q) o) (sym (look_sighted t q))
+
+-- ---- a moment that is set
+nothing_touched : (at : ℕ) (c : Option Path) → sight_touched at c None ≡ None
+nothing_touched at None = refl
+nothing_touched at (Some []) = refl
+nothing_touched at (Some (n ∷ r)) = refl
+
+-- of the tree itself
+dated_law : (at : ℕ) (t : Tree) (q : Path) → sight (dated at t) q ≡ sight_touched at (Some q) (sight t q)
+dated_law at (Dir date es) [] = refl
+dated_law at (Dir date es) (k ∷ q) = refl
+dated_law at (File date b) [] = refl
+dated_law at (File date b) (k ∷ q) = refl
+
+-- what is seen where a moment was set, and elsewhere
+pub touched_law : (at : ℕ) (p : Path) (t : Tree) (q : Path) → sight (touched at t p) q ≡ sight_touched at (rest_of p q) (sight t q)
+touched_law at [] t q = dated_law at t q
+touched_law at (n ∷ p) (File date b) [] = refl
+touched_law at (n ∷ p) (File date b) (k ∷ q) =
+    let none : sighted (fold onward Blocked q) ≡ None = ap sighted (fold-Blocked q) in
+    none ∙ sym (nothing_touched at (rest_of (n ∷ p) (k ∷ q))) ∙ ap (sight_touched at (rest_of (n ∷ p) (k ∷ q))) (sym none)
+touched_law at (n ∷ p) (Dir date es) [] = refl
+touched_law at (n ∷ p) (Dir date es) (k ∷ q) =
+    elim (named n es) as (λ c. named n es ≡ c
+    → sighted (fold onward (found (named k (set_entry n (option_map (λ x. touched at x p) c) es))) q) ≡ sight_touched at (cond (same n k) (rest_of p q) None) (sighted (fold onward (found (named k es)) q))) [
+      | None ↦ λ e.
+          set_law n k None es q ∙ elim (same n k) as (λ b. same n k ≡ b → cond b (sighted (fold onward Missing q)) (sighted (fold onward (found (named k es)) q)) ≡ sight_touched at (cond b (rest_of p q) None) (sighted (fold onward (found (named k es)) q))) [
+            | true ↦ λ g.
+                let s : named k es ≡ None = subst (λ (z : Name). named z es ≡ None) (same_true n k g) e in
+                let none : sighted (fold onward Missing q) ≡ None = ap sighted (fold-Missing q) in
+                none ∙ sym (nothing_touched at (rest_of p q)) ∙ ap (sight_touched at (rest_of p q)) (sym none ∙ ap (λ (o : Option Tree). sighted (fold onward (found o) q)) (sym s))
+            | false ↦ λ g. refl
+          ] refl
+      | Some x ↦ λ e.
+          set_law n k (Some (touched at x p)) es q ∙ elim (same n k) as (λ b. same n k ≡ b → cond b (sight (touched at x p) q) (sighted (fold onward (found (named k es)) q)) ≡ sight_touched at (cond b (rest_of p q) None) (sighted (fold onward (found (named k es)) q))) [
+            | true ↦ λ g. let s : named k es ≡ Some x = subst (λ (z : Name). named z es ≡ Some x) (same_true n k g) e in rw s (touched_law at p x q)
+            | false ↦ λ g. refl
+          ] refl
+    ] refl
+
+looks_stay : (at : ℕ) (c : Option Path) (old : Option Sight) → option_map look_of (sight_touched at c old) ≡ option_map look_of old
+looks_stay at None old = refl
+looks_stay at (Some []) None = refl
+looks_stay at (Some []) (Some (Seen l date)) = refl
+looks_stay at (Some (n ∷ r)) old = refl
+
+-- what is seen but for moments stays
+pub touched_look : (at : ℕ) (t : Tree) (p q : Path) → look (touched at t p) q ≡ look t q
+touched_look at t p q =
+    look_sighted (touched at t p) q
+    ∙ ap (option_map look_of) (touched_law at p t q)
+    ∙ looks_stay at (rest_of p q) (sight t q)
+    ∙ sym (look_sighted t q)
 
 -- what is not there is not taken out
 pub take_out_absent : (n : Name) (es : Entries) → named n es ≡ None → take_out n es ≡ es
@@ -101,10 +184,19 @@ take_out_absent n (entry m y rest) h =
     ] h
 
 -- below a name that a directory lacks nothing is put or taken out
-pub edited_nowhere : (t : Tree) (es : Entries) (n m : Name) (p q : Path) (o : Option Tree) → t ≡ Dir es → q ≡ m ∷ p → named n es ≡ None → edited t (n ∷ q) o ≡ t
-edited_nowhere t es n m p q o is more none =
+pub edited_nowhere : (t : Tree) (date : ℕ) (es : Entries) (n m : Name) (p q : Path) (o : Option Tree) → t ≡ Dir date es → q ≡ m ∷ p → named n es ≡ None → edited t (n ∷ q) o ≡ t
+edited_nowhere t date es n m p q o is more none =
     ap (λ (x : Tree). edited x (n ∷ q) o) is
-    ∙ ap (λ (z : Path). edited (Dir es) (n ∷ z) o) more
-    ∙ ap (λ (c : Option Tree). Dir (set_entry n (option_map (λ x. edited x (m ∷ p) o) c) es)) none
-    ∙ ap Dir (take_out_absent n es none)
+    ∙ ap (λ (z : Path). edited (Dir date es) (n ∷ z) o) more
+    ∙ ap (λ (c : Option Tree). Dir date (set_entry n (option_map (λ x. edited x (m ∷ p) o) c) es)) none
+    ∙ ap (Dir date) (take_out_absent n es none)
+    ∙ sym is
+
+-- and no moment is set
+pub touched_nowhere : (at : ℕ) (t : Tree) (date : ℕ) (es : Entries) (n : Name) (p q : Path) → t ≡ Dir date es → q ≡ n ∷ p → named n es ≡ None → touched at t q ≡ t
+touched_nowhere at t date es n p q is more none =
+    ap (λ (x : Tree). touched at x q) is
+    ∙ ap (touched at (Dir date es)) more
+    ∙ ap (λ (c : Option Tree). Dir date (set_entry n (option_map (λ x. touched at x p) c) es)) none
+    ∙ ap (Dir date) (take_out_absent n es none)
     ∙ sym is

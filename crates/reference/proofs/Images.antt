@@ -3,7 +3,7 @@ use Rattle.std.proofs.Common.{◌≡◌, ℕ, ◌+◌, ◌*◌, List, [], ◌∷
 use Rattle.std.proofs.lemmas.List.{append-nil}
 use Rattle.std.specs.Prelude.{flat_map}
 use Rattle.reference.specs.Tree.{Name, Path, Tree, Entries, entry}
-use Rattle.reference.specs.Image.{percent, path_text, trimmed, block_line, block_lines, lines, lines_of}
+use Rattle.reference.specs.Image.{percent, path_text, trimmed, block_line, block_lines, Version, lines, lines_of}
 
 -- one block more
 pub block_lines_more : (out mid new b block : List ℕ) (i : ℕ) → block ≡ take 4096 (drop (4096 * i) b) → mid ≡ out ++ block_lines b i → new ≡ mid ++ block_line i (trimmed block) → new ≡ out ++ block_lines b (i + 1)
@@ -20,6 +20,6 @@ path_text_below (m ∷ p) n =
     ap (λ (t : List ℕ). 47 ∷ flat_map percent m ++ t) (path_text_below p n) ∙ sym (append_assoc (47 ∷ flat_map percent m) (path_text p) (47 ∷ flat_map percent n))
 
 -- the lines of an entry, and then those of the entries after it
-pub lines_of_more : (out mid : List ℕ) (p : Path) (n : Name) (x : Tree) (rest : Entries) → mid ≡ out ++ lines (p ++ n ∷ []) x → mid ++ lines_of p rest ≡ out ++ lines_of p (entry n x rest)
-lines_of_more out mid p n x rest h =
-    ap (λ (m : List ℕ). m ++ lines_of p rest) h ∙ append_assoc out (lines (p ++ n ∷ []) x) (lines_of p rest)
+pub lines_of_more : (v : Version) (out mid : List ℕ) (p : Path) (n : Name) (x : Tree) (rest : Entries) → mid ≡ out ++ lines v (p ++ n ∷ []) x → mid ++ lines_of v p rest ≡ out ++ lines_of v p (entry n x rest)
+lines_of_more v out mid p n x rest h =
+    ap (λ (m : List ℕ). m ++ lines_of v p rest) h ∙ append_assoc out (lines v (p ++ n ∷ []) x) (lines_of v p rest)

@@ -44,6 +44,7 @@ pub mod SnapshotRows
 pub mod Snapshots
 pub mod Standing
 pub mod NoFaults
+pub mod Touching
 pub mod TreeEdits
 pub mod TreeLines
 pub mod Unique

@@ -1,5 +1,5 @@
 -- Lines of an image make a directory tree whose image they are.
-use Rattle.std.proofs.Common.{◌≡◌, ◌≢◌, ◌⊎◌, inl, inr, ⊎_elim, ℕ, ◌+◌, ◌*◌, ◌/◌, ◌^◌, ◌<◌, ◌≤◌, List, [], ◌∷◌, ◌++◌, length, replicate, true, false, refl, sym, ap, subst, ◌∙◌, arith, append_assoc, Option, Some, None, decimal}
+use Rattle.std.proofs.Common.{◌≡◌, ◌≢◌, ◌⊎◌, inl, inr, ⊎_elim, ℕ, ◌+◌, ◌*◌, ◌/◌, ◌^◌, ◌<◌, ◌≤◌, List, [], ◌∷◌, ◌++◌, length, replicate, true, false, refl, sym, ap, subst, ◌∙◌, arith, append_assoc, append-nil, Option, Some, None}
 use Rattle.std.specs.declared.cmp.Ordering.TheVariants.{Less}
 use Rattle.std.proofs.lemmas.Bool.{cases_lt}
 use Rattle.std.proofs.lemmas.List.{get_or-replicate, get_or_past, length-replicate}
@@ -7,36 +7,27 @@ use Rattle.pathkey.specs.Enc.{enc}
 use Rattle.pathkey.specs.Names.{Path, IsPath, parent}
 use Rattle.pathkey.proofs.OrderFacts.{same_true, apart}
 use Rattle.reference.specs.Calls.{bytes_of, is_found, parent_fault, path_fault}
-use Rattle.reference.specs.Image.{Text, image, lines, block_line, block_lines, path_text}
-use Rattle.reference.specs.ImageLines.{DirectoryLine, FileLine, BlockLine, Lines, spelled, image_of_lines, last_path, last_len, next_block, HasDirectory, IsNewEntry, IsNewBlock, AreLines, tree_of_lines, LinesLaw}
-use Rattle.reference.specs.Looks.{Look, Directory, Bytes, look, seen}
-use Rattle.reference.specs.Shape.{IsContent, IsTree}
-use Rattle.reference.specs.Tree.{by_bytes, same, Tree, Dir, File, nothing, edited, over, At, Found, Missing, Blocked, entry_at}
+use Rattle.reference.specs.Image.{Text, Version, First, Second, file_line, root_line, image, lines, block_line, block_lines, path_text}
+use Rattle.reference.specs.ImageLines.{DirectoryLine, FileLine, BlockLine, Lines, spelled, image_of_lines, last_path, last_len, next_block, HasDirectory, IsNewEntry, IsNewBlock, IsTold, AreLines, tree_of_lines, AllTold, LinesLaw}
+use Rattle.reference.specs.Looks.{Look, Directory, Bytes, look, seen, Sight, Seen, date_of, sighted, sight}
+use Rattle.reference.specs.Shape.{IsContent, IsMoment, IsTree}
+use Rattle.reference.specs.Tree.{by_bytes, same, Tree, Dir, File, nothing, edited, over, At, Found, Missing, Blocked, entry_at, moment, moment_there}
 use Rattle.reference.proofs.Contents.{content-over, zeros as are_zeros}
 use Rattle.reference.proofs.Edits.{fold-Missing}
-use Rattle.reference.proofs.FreshIndexes.{fresh_law}
+use Rattle.reference.proofs.FreshIndexes.{empty_tree}
 use Rattle.reference.proofs.LastBlock.{ZeroFrom, LastBlock, zeros_behind, length_kept, block_end, no_more_lines}
 use Rattle.reference.proofs.LastEntry.{image_end}
 use Rattle.reference.proofs.PathOrder.{none_below_root, not_below_itself, below_trans}
-use Rattle.reference.proofs.Points.{Bare, bare_none, bare_empty, bare_file, IsPoint, point_from_edit}
+use Rattle.reference.proofs.Points.{Bare, bare_none, bare_empty, bare_file, IsPoint, looks_other, looks_itself, point_from_edit}
 use Rattle.reference.proofs.PutTwice.{put_twice}
-use Rattle.reference.proofs.Standing.{directory_parent, file_seen, parent_from_found}
+use Rattle.reference.proofs.Standing.{directory_parent, file_sighted, parent_from_found}
 use Rattle.reference.proofs.TreeEdits.{put_directory, put_file}
 
 -- ---- texts of lines
 
-file_text : (p : Path) (b : List ℕ) → lines p (File b) ≡ 102 ∷ 32 ∷ (path_text p ++ 32 ∷ (decimal (length b) ++ 10 ∷ block_lines b (length b / 4096 + 1)))
-file_text p b = simp append_assoc
-
-directory_spelled : (p : Path) → lines p (Dir nothing) ≡ spelled (DirectoryLine p) ++ 10 ∷ []
-directory_spelled p = simp append_assoc
-
-file_spelled : (p : Path) (n : ℕ) → spelled (FileLine p n) ++ 10 ∷ [] ≡ 102 ∷ 32 ∷ (path_text p ++ 32 ∷ (decimal n ++ 10 ∷ []))
-file_spelled p n = simp append_assoc
-
-pub block_spelled : (i : ℕ) (b : List ℕ) → 0 < length b → block_line i b ≡ spelled (BlockLine i b) ++ 10 ∷ []
-block_spelled i [] h = absurd (omega arith)
-block_spelled i (x ∷ b) h = simp append_assoc
+pub block_spelled : (v : Version) (i : ℕ) (b : List ℕ) → 0 < length b → block_line i b ≡ spelled v (BlockLine i b) ++ 10 ∷ []
+block_spelled v i [] h = absurd (omega arith)
+block_spelled v i (x ∷ b) h = simp append_assoc
 
 zeros_end : (n x : ℕ) → n ≤ x → length (replicate {A = ℕ} n 0) ≤ x
 zeros_end n x g = let e : length (replicate {A = ℕ} n 0) ≡ n = length-replicate n 0 in omega arith
@@ -47,29 +38,30 @@ zeros_from n x h = ⊎_elim
     (λ (g : n ≤ x). get_or_past (replicate n 0) x 0 (zeros_end n x g))
     (cases_lt x n)
 
+-- a directory without entries has its own line alone
+directory_spelled : (v : Version) (p : Path) (at : ℕ) → lines v p (Dir at nothing) ≡ spelled v (DirectoryLine p at) ++ 10 ∷ []
+directory_spelled v p at = append-nil (spelled v (DirectoryLine p at) ++ 10 ∷ [])
+
 -- a file of zeros has the line of its length alone
-zeros_spelled : (p : Path) (n : ℕ) → lines p (File (replicate n 0)) ≡ spelled (FileLine p n) ++ 10 ∷ []
-zeros_spelled p n =
+zeros_spelled : (v : Version) (p : Path) (n at : ℕ) → lines v p (File at (replicate n 0)) ≡ spelled v (FileLine p n at) ++ 10 ∷ []
+zeros_spelled v p n at =
     let b : List ℕ = replicate n 0 in
     let len : length b ≡ n = length-replicate n 0 in
-    file_text p b
-    ∙ ap (λ (k : ℕ). 102 ∷ 32 ∷ (path_text p ++ 32 ∷ (decimal (length b) ++ 10 ∷ block_lines b k))) (let e : length b / 4096 + 1 ≡ 0 + (length b / 4096 + 1) = omega arith in e)
-    ∙ ap (λ (t : Text). 102 ∷ 32 ∷ (path_text p ++ 32 ∷ (decimal (length b) ++ 10 ∷ t))) (no_more_lines b 0 (length b / 4096 + 1) (λ x g. zeros_from n x (omega arith)))
-    ∙ ap (λ (k : ℕ). 102 ∷ 32 ∷ (path_text p ++ 32 ∷ (decimal k ++ 10 ∷ []))) len
-    ∙ sym (file_spelled p n)
+    let own : Text = file_line v (path_text p) (length b) at ++ 10 ∷ [] in
+    ap (λ (k : ℕ). own ++ block_lines b k) (let e : length b / 4096 + 1 ≡ 0 + (length b / 4096 + 1) = omega arith in e)
+    ∙ ap (λ (t : Text). own ++ t) (no_more_lines b 0 (length b / 4096 + 1) (λ x g. zeros_from n x (omega arith)))
+    ∙ append-nil own
+    ∙ ap (λ (k : ℕ). file_line v (path_text p) k at ++ 10 ∷ []) len
 
 -- a file with one block more
-block_shown : (p : Path) (b : List ℕ) (i : ℕ) (v : List ℕ) → LastBlock b i v → lines p (File (over b (4096 * i) v)) ≡ lines p (File b) ++ (spelled (BlockLine i v) ++ 10 ∷ [])
-block_shown p b i v h =
+block_shown : (version : Version) (p : Path) (at : ℕ) (b : List ℕ) (i : ℕ) (v : List ℕ) → LastBlock b i v → lines version p (File at (over b (4096 * i) v)) ≡ lines version p (File at b) ++ (spelled version (BlockLine i v) ++ 10 ∷ [])
+block_shown version p at b i v h =
     let c : List ℕ = over b (4096 * i) v in
-    let before : Text = decimal (length b) ++ 10 ∷ [] in
-    file_text p c
-    ∙ ap (λ (k : ℕ). 102 ∷ 32 ∷ (path_text p ++ 32 ∷ (decimal k ++ 10 ∷ block_lines c (k / 4096 + 1)))) (length_kept b i v h)
-    ∙ ap (λ (t : Text). 102 ∷ 32 ∷ (path_text p ++ 32 ∷ (decimal (length b) ++ 10 ∷ t))) (block_end b i v h)
-    ∙ ap (λ (t : Text). 102 ∷ 32 ∷ (path_text p ++ 32 ∷ t)) (sym (append_assoc (decimal (length b)) (10 ∷ block_lines b (length b / 4096 + 1)) (block_line i v)))
-    ∙ ap (λ (t : Text). 102 ∷ 32 ∷ t) (sym (append_assoc (path_text p) (32 ∷ (decimal (length b) ++ 10 ∷ block_lines b (length b / 4096 + 1))) (block_line i v)))
-    ∙ ap (λ (t : Text). t ++ block_line i v) (sym (file_text p b))
-    ∙ ap (λ (t : Text). lines p (File b) ++ t) (block_spelled i v h.some)
+    let own : Text = file_line version (path_text p) (length b) at ++ 10 ∷ [] in
+    ap (λ (k : ℕ). (file_line version (path_text p) k at ++ 10 ∷ []) ++ block_lines c (k / 4096 + 1)) (length_kept b i v h)
+    ∙ ap (λ (t : Text). own ++ t) (block_end b i v h)
+    ∙ sym (append_assoc own (block_lines b (length b / 4096 + 1)) (block_line i v))
+    ∙ ap (λ (t : Text). lines version p (File at b) ++ t) (block_spelled version i v h.some)
 
 -- ---- paths
 
@@ -85,146 +77,177 @@ path_cases (n ∷ p) (m ∷ q) = elim (same n m) as (λ b. same n m ≡ b → ((
       (path_cases p q)
 ] refl
 
+-- ---- moments
+
+-- a moment that a version tells is one
+pub told_early : (v : Version) (at : ℕ) → IsTold v at → IsMoment at
+told_early First at h = omega arith
+told_early Second at h = h
+
+-- every moment that is seen is one that the version tells
+abbrev AllSeen : Version → Tree → Type 0
+AllSeen v t = (p : Path) (s : Sight) → sight t p ≡ Some s → IsTold v (date_of s)
+
 -- ---- what is kept of lines
 
--- the file whose lines come last: its bytes so far, and what the image says before it
-pub record LastFile (ls : Lines) (n : ℕ) : Type 0 where
+-- the file whose lines come last: its moment and its bytes so far, and what the image says before it
+pub record LastFile (v : Version) (root : ℕ) (ls : Lines) (n : ℕ) : Type 0 where
+  pub at : ℕ
   pub bytes : List ℕ
-  pub there : entry_at (tree_of_lines ls) (last_path ls) ≡ Found (File bytes)
+  pub there : entry_at (tree_of_lines root ls) (last_path ls) ≡ Found (File at bytes)
   pub long : length bytes ≡ n
   pub zeros : ZeroFrom (4096 * next_block ls) bytes
   pub some : last_path ls ≢ []
   pub front : Text
-  pub now : image_of_lines ls ≡ front ++ lines (last_path ls) (File bytes)
-  pub shown : (c : List ℕ) → image (edited (tree_of_lines ls) (last_path ls) (Some (File c))) ≡ front ++ lines (last_path ls) (File c)
+  pub now : image_of_lines v root ls ≡ front ++ lines v (last_path ls) (File at bytes)
+  pub shown : (c : List ℕ) → image v (edited (tree_of_lines root ls) (last_path ls) (Some (File at c))) ≡ front ++ lines v (last_path ls) (File at c)
 
-pub record Made (ls : Lines) : Type 0 where
-  pub tree : IsTree (tree_of_lines ls)
-  pub image_is : image (tree_of_lines ls) ≡ image_of_lines ls
-  pub directory : (q : Path) → HasDirectory ls q → look (tree_of_lines ls) q ≡ Some Directory
-  pub has : (q : Path) → look (tree_of_lines ls) q ≡ Some Directory → HasDirectory ls q
-  pub last : (q : Path) (l : Look) → look (tree_of_lines ls) q ≡ Some l → (q ≡ last_path ls) ⊎ (by_bytes (enc q) (enc (last_path ls)) ≡ Less)
-  pub file : (n : ℕ) → last_len ls ≡ Some n → LastFile ls n
+pub record Made (v : Version) (root : ℕ) (ls : Lines) : Type 0 where
+  pub tree : IsTree (tree_of_lines root ls)
+  pub image_is : image v (tree_of_lines root ls) ≡ image_of_lines v root ls
+  pub told : AllSeen v (tree_of_lines root ls)
+  pub directory : (q : Path) → HasDirectory ls q → look (tree_of_lines root ls) q ≡ Some Directory
+  pub has : (q : Path) → look (tree_of_lines root ls) q ≡ Some Directory → HasDirectory ls q
+  pub last : (q : Path) (l : Look) → look (tree_of_lines root ls) q ≡ Some l → (q ≡ last_path ls) ⊎ (by_bytes (enc q) (enc (last_path ls)) ≡ Less)
+  pub file : (n : ℕ) → last_len ls ≡ Some n → LastFile v root ls n
 
 -- ---- an entry more
 
 -- what stands ready for an entry
-pub record Ready (p : Path) (ls : Lines) : Type 0 where
+pub record Ready (root : ℕ) (p : Path) (ls : Lines) : Type 0 where
   pub some : p ≢ []
-  pub parent_there : parent_fault (tree_of_lines ls) p ≡ None
-  pub free : is_found (entry_at (tree_of_lines ls) p) ≡ false
-  pub before : (q : Path) (l : Look) → look (tree_of_lines ls) q ≡ Some l → by_bytes (enc q) (enc p) ≡ Less
+  pub parent_there : parent_fault (tree_of_lines root ls) p ≡ None
+  pub free : is_found (entry_at (tree_of_lines root ls) p) ≡ false
+  pub before : (q : Path) (l : Look) → look (tree_of_lines root ls) q ≡ Some l → by_bytes (enc q) (enc p) ≡ Less
 
 free_from : (a : At) → ((l : Look) → seen a ≡ Some l → ⊥) → is_found a ≡ false
-free_from (Found (Dir es)) h = absurd (h Directory refl)
-free_from (Found (File b)) h = absurd (h (Bytes b) refl)
+free_from (Found (Dir date es)) h = absurd (h Directory refl)
+free_from (Found (File date b)) h = absurd (h (Bytes b) refl)
 free_from Missing h = refl
 free_from Blocked h = refl
 
-pub ready : (p : Path) (ls : Lines) → Made ls → IsNewEntry p ls → Ready p ls
-ready p ls m h =
-    let before : (q : Path) (l : Look) → look (tree_of_lines ls) q ≡ Some l → by_bytes (enc q) (enc p) ≡ Less = λ q l e. ⊎_elim
+pub ready : (v : Version) (root : ℕ) (p : Path) (ls : Lines) → Made v root ls → IsNewEntry p ls → Ready root p ls
+ready v root p ls m h =
+    let t : Tree = tree_of_lines root ls in
+    let before : (q : Path) (l : Look) → look t q ≡ Some l → by_bytes (enc q) (enc p) ≡ Less = λ q l e. ⊎_elim
     (λ (s : q ≡ last_path ls). subst (λ (r : Path). by_bytes (enc r) (enc p) ≡ Less) (sym s) h.rises)
     (λ (s : by_bytes (enc q) (enc (last_path ls)) ≡ Less). below_trans (enc q) (enc (last_path ls)) (enc p) s h.rises)
     (m.last q l e)
     in
     record {
       some = λ e. none_below_root (enc (last_path ls)) (subst (λ (r : Path). by_bytes (enc (last_path ls)) (enc r) ≡ Less) e h.rises);
-      parent_there = directory_parent (tree_of_lines ls) p (m.directory (parent p) h.parent);
-      free = free_from (entry_at (tree_of_lines ls) p) (λ l e. not_below_itself (enc p) (before p l e));
+      parent_there = directory_parent t p (m.directory (parent p) h.parent);
+      free = free_from (entry_at t p) (λ l e. not_below_itself (enc p) (before p l e));
       before = before;
     }
 
 -- what is seen once an entry was put
-point : (p : Path) (ls : Lines) (x : Tree) → Ready p ls → Bare (Found x) → IsPoint (tree_of_lines ls) (edited (tree_of_lines ls) p (Some x)) p (seen (Found x))
-point p ls x r bare = point_from_edit (tree_of_lines ls) (edited (tree_of_lines ls) p (Some x)) p (Some x) r.some r.parent_there (bare_none (entry_at (tree_of_lines ls) p) r.free) bare refl
+point : (root : ℕ) (p : Path) (ls : Lines) (x : Tree) → Ready root p ls → Bare (Found x) → IsPoint (tree_of_lines root ls) (edited (tree_of_lines root ls) p (Some x)) p (sighted (Found x))
+point root p ls x r bare = point_from_edit (tree_of_lines root ls) (edited (tree_of_lines root ls) p (Some x)) p (Some x) r.some r.parent_there (bare_none (entry_at (tree_of_lines root ls) p) r.free) bare refl
 
-last_after : (p : Path) (ls : Lines) (t : Tree) (k : Option Look) → Ready p ls → IsPoint (tree_of_lines ls) t p k → (q : Path) (l : Look) → look t q ≡ Some l → (q ≡ p) ⊎ (by_bytes (enc q) (enc p) ≡ Less)
-last_after p ls t k r at q l e = ⊎_elim
+last_after : (root : ℕ) (p : Path) (ls : Lines) (t : Tree) (k : Option Sight) → Ready root p ls → IsPoint (tree_of_lines root ls) t p k → (q : Path) (l : Look) → look t q ≡ Some l → (q ≡ p) ⊎ (by_bytes (enc q) (enc p) ≡ Less)
+last_after root p ls t k r at q l e = ⊎_elim
     (λ (s : q ≡ p). inl s)
-    (λ (ne : q ≢ p). inr (r.before q l (sym (at.other q ne) ∙ e)))
+    (λ (ne : q ≢ p). inr (r.before q l (sym (looks_other (tree_of_lines root ls) t p k at q ne) ∙ e)))
     (path_cases p q)
 
-entry_image : (p : Path) (ls : Lines) (x : Tree) → Made ls → IsPath p → Ready p ls → image (edited (tree_of_lines ls) p (Some x)) ≡ image_of_lines ls ++ lines p x
-entry_image p ls x m path r = image_end (tree_of_lines ls) p x m.tree path r.some r.parent_there (λ q l ne e. r.before q l e) ∙ ap (λ (t : Text). t ++ lines p x) m.image_is
+-- moments that the version tells, also of what changed
+told_after : (v : Version) (t u : Tree) (p : Path) (l : Look) (date : ℕ) → IsTold v date → AllSeen v t → IsPoint t u p (Some (Seen l date)) → AllSeen v u
+told_after v t u p l date early told at q s e = ⊎_elim
+    (λ (is : q ≡ p).
+    let here : Some (Seen l date) ≡ Some s = sym at.itself ∙ ap (sight u) (sym is) ∙ e in
+    let same : Seen l date ≡ s = cc in
+    subst (λ (z : Sight). IsTold v (date_of z)) same early)
+    (λ (ne : q ≢ p). told q s (sym (at.other q ne) ∙ e))
+    (path_cases p q)
 
-directory_made : (p : Path) (ls : Lines) → Made ls → IsNewEntry p ls → Made (DirectoryLine p ∷ ls)
-directory_made p ls m h =
-    let r : Ready p ls = ready p ls m h in
-    let t : Tree = edited (tree_of_lines ls) p (Some (Dir nothing)) in
-    let at : IsPoint (tree_of_lines ls) t p (Some Directory) = point p ls (Dir nothing) r bare_empty in
+entry_image : (v : Version) (root : ℕ) (p : Path) (ls : Lines) (x : Tree) → Made v root ls → IsPath p → Ready root p ls → image v (edited (tree_of_lines root ls) p (Some x)) ≡ image_of_lines v root ls ++ lines v p x
+entry_image v root p ls x m path r = image_end v (tree_of_lines root ls) p x m.tree path r.some r.parent_there (λ q l ne e. r.before q l e) ∙ ap (λ (t : Text). t ++ lines v p x) m.image_is
+
+directory_made : (v : Version) (root : ℕ) (p : Path) (date : ℕ) (ls : Lines) → Made v root ls → IsNewEntry p ls → IsTold v date → Made v root (DirectoryLine p date ∷ ls)
+directory_made v root p date ls m h early =
+    let old_tree : Tree = tree_of_lines root ls in
+    let r : Ready root p ls = ready v root p ls m h in
+    let t : Tree = edited old_tree p (Some (Dir date nothing)) in
+    let at : IsPoint old_tree t p (Some (Seen Directory date)) = point root p ls (Dir date nothing) r (bare_empty date) in
+    let here : look t p ≡ Some Directory = looks_itself old_tree t p (Some (Seen Directory date)) at in
+    let others : (q : Path) → q ≢ p → look t q ≡ look old_tree q = looks_other old_tree t p (Some (Seen Directory date)) at in
     record {
-      tree = put_directory (tree_of_lines ls) p m.tree h.path r.some r.parent_there;
-      image_is = entry_image p ls (Dir nothing) m h.path r ∙ ap (λ (s : Text). image_of_lines ls ++ s) (directory_spelled p);
+      tree = put_directory old_tree p date m.tree h.path (told_early v date early) r.some r.parent_there;
+      image_is = entry_image v root p ls (Dir date nothing) m h.path r ∙ ap (λ (s : Text). image_of_lines v root ls ++ s) (directory_spelled v p date);
+      told = told_after v old_tree t p Directory date early m.told at;
       directory = λ q d. ⊎_elim
-          (λ (e : q ≡ p). subst (λ (k : Path). look t k ≡ Some Directory) (sym e) at.itself)
-          (λ (g : HasDirectory ls q). let old : look (tree_of_lines ls) q ≡ Some Directory = m.directory q g in
-          at.other q (λ e. not_below_itself (enc p) (subst (λ (k : Path). by_bytes (enc k) (enc p) ≡ Less) e (r.before q Directory old))) ∙ old)
+          (λ (e : q ≡ p). subst (λ (k : Path). look t k ≡ Some Directory) (sym e) here)
+          (λ (g : HasDirectory ls q). let old : look old_tree q ≡ Some Directory = m.directory q g in
+          others q (λ e. not_below_itself (enc p) (subst (λ (k : Path). by_bytes (enc k) (enc p) ≡ Less) e (r.before q Directory old))) ∙ old)
           d;
       has = λ q e. ⊎_elim
           (λ (s : q ≡ p). inl s)
-          (λ (ne : q ≢ p). inr (m.has q (sym (at.other q ne) ∙ e)))
+          (λ (ne : q ≢ p). inr (m.has q (sym (others q ne) ∙ e)))
           (path_cases p q);
-      last = last_after p ls t (Some Directory) r at;
+      last = last_after root p ls t (Some (Seen Directory date)) r at;
       file = λ n e. absurd (cc);
     }
 
-file_made : (p : Path) (n : ℕ) (ls : Lines) → Made ls → IsNewEntry p ls → n ≤ 2 ^ 40 → Made (FileLine p n ∷ ls)
-file_made p n ls m h few =
-    let r : Ready p ls = ready p ls m h in
+file_made : (v : Version) (root : ℕ) (p : Path) (n date : ℕ) (ls : Lines) → Made v root ls → IsNewEntry p ls → n ≤ 2 ^ 40 → IsTold v date → Made v root (FileLine p n date ∷ ls)
+file_made v root p n date ls m h few early =
+    let old_tree : Tree = tree_of_lines root ls in
+    let r : Ready root p ls = ready v root p ls m h in
     let b : List ℕ = replicate n 0 in
-    let t : Tree = edited (tree_of_lines ls) p (Some (File b)) in
-    let at : IsPoint (tree_of_lines ls) t p (Some (Bytes b)) = point p ls (File b) r (bare_file b) in
+    let t : Tree = edited old_tree p (Some (File date b)) in
+    let at : IsPoint old_tree t p (Some (Seen (Bytes b) date)) = point root p ls (File date b) r (bare_file date b) in
+    let here : look t p ≡ Some (Bytes b) = looks_itself old_tree t p (Some (Seen (Bytes b) date)) at in
+    let others : (q : Path) → q ≢ p → look t q ≡ look old_tree q = looks_other old_tree t p (Some (Seen (Bytes b) date)) at in
     let len : length b ≡ n = length-replicate n 0 in
     record {
-      tree = put_file (tree_of_lines ls) p b m.tree h.path (record { few = omega arith; bytes = are_zeros n }) r.some r.parent_there;
-      image_is = entry_image p ls (File b) m h.path r ∙ ap (λ (s : Text). image_of_lines ls ++ s) (zeros_spelled p n);
-      directory = λ q d. let old : look (tree_of_lines ls) q ≡ Some Directory = m.directory q d in
-          at.other q (λ e. not_below_itself (enc p) (subst (λ (k : Path). by_bytes (enc k) (enc p) ≡ Less) e (r.before q Directory old))) ∙ old;
+      tree = put_file old_tree p date b m.tree h.path (told_early v date early) (record { few = omega arith; bytes = are_zeros n }) r.some r.parent_there;
+      image_is = entry_image v root p ls (File date b) m h.path r ∙ ap (λ (s : Text). image_of_lines v root ls ++ s) (zeros_spelled v p n date);
+      told = told_after v old_tree t p (Bytes b) date early m.told at;
+      directory = λ q d. let old : look old_tree q ≡ Some Directory = m.directory q d in
+          others q (λ e. not_below_itself (enc p) (subst (λ (k : Path). by_bytes (enc k) (enc p) ≡ Less) e (r.before q Directory old))) ∙ old;
       has = λ q e. ⊎_elim
-          (λ (s : q ≡ p). absurd (let f : ◌≡◌ {A = Option Look} (Some (Bytes b)) (Some Directory) = sym at.itself ∙ ap (look t) (sym s) ∙ e in cc))
-          (λ (ne : q ≢ p). m.has q (sym (at.other q ne) ∙ e))
+          (λ (s : q ≡ p). absurd (let f : ◌≡◌ {A = Option Look} (Some (Bytes b)) (Some Directory) = sym here ∙ ap (look t) (sym s) ∙ e in cc))
+          (λ (ne : q ≢ p). m.has q (sym (others q ne) ∙ e))
           (path_cases p q);
-      last = last_after p ls t (Some (Bytes b)) r at;
+      last = last_after root p ls t (Some (Seen (Bytes b) date)) r at;
       file = λ k e. record {
+        at = date;
         bytes = b;
-        there = file_seen (entry_at t p) b at.itself;
+        there = file_sighted (entry_at t p) b date at.itself;
         long = len ∙ (cc);
         zeros = λ x g. zeros_from n x (omega arith);
         some = r.some;
-        front = image_of_lines ls;
-        now = ap (λ (s : Text). image_of_lines ls ++ s) (sym (zeros_spelled p n));
-        shown = λ c. ap image (put_twice (tree_of_lines ls) p (File b) (File c)) ∙ entry_image p ls (File c) m h.path r;
+        front = image_of_lines v root ls;
+        now = ap (λ (s : Text). image_of_lines v root ls ++ s) (sym (zeros_spelled v p n date));
+        shown = λ c. ap (image v) (put_twice old_tree p (File date b) (File date c)) ∙ entry_image v root p ls (File date c) m h.path r;
       };
     }
 
 -- ---- a block more
 
-line_more : (text front : Text) (p : Path) (b : List ℕ) (i : ℕ) (v : List ℕ) → text ≡ front ++ lines p (File b) → LastBlock b i v → front ++ lines p (File (over b (4096 * i) v)) ≡ text ++ (spelled (BlockLine i v) ++ 10 ∷ [])
-line_more text front p b i v e h =
-    ap (λ (s : Text). front ++ s) (block_shown p b i v h)
-    ∙ sym (append_assoc front (lines p (File b)) (spelled (BlockLine i v) ++ 10 ∷ []))
-    ∙ ap (λ (s : Text). s ++ (spelled (BlockLine i v) ++ 10 ∷ [])) (sym e)
+line_more : (version : Version) (text front : Text) (p : Path) (at : ℕ) (b : List ℕ) (i : ℕ) (v : List ℕ) → text ≡ front ++ lines version p (File at b) → LastBlock b i v → front ++ lines version p (File at (over b (4096 * i) v)) ≡ text ++ (spelled version (BlockLine i v) ++ 10 ∷ [])
+line_more version text front p at b i v e h =
+    ap (λ (s : Text). front ++ s) (block_shown version p at b i v h)
+    ∙ sym (append_assoc front (lines version p (File at b)) (spelled version (BlockLine i v) ++ 10 ∷ []))
+    ∙ ap (λ (s : Text). s ++ (spelled version (BlockLine i v) ++ 10 ∷ [])) (sym e)
 
 some_number : (n k : ℕ) → ◌≡◌ {A = Option ℕ} (Some n) (Some k) → n ≡ k
 some_number n k e = cc
 
 -- nothing is seen below an empty root
-only_root : (q : Path) (l : Look) → look (Dir nothing) q ≡ Some l → q ≡ []
-only_root [] l e = refl
-only_root (n ∷ q) l e = absurd (let f : ◌≡◌ {A = Option Look} None (Some l) = ap seen (sym (fold-Missing q)) ∙ e in cc)
+only_root : (date : ℕ) (q : Path) (l : Look) → look (Dir date nothing) q ≡ Some l → q ≡ []
+only_root date [] l e = refl
+only_root date (n ∷ q) l e = absurd (let f : ◌≡◌ {A = Option Look} None (Some l) = ap seen (sym (fold-Missing q)) ∙ e in cc)
 
-root_alone : (q : Path) → look (Dir nothing) q ≡ Some Directory → q ≡ []
-root_alone q e = only_root q Directory e
-
-block_made : (i : ℕ) (v : List ℕ) (ls : Lines) → Made ls → IsNewBlock i v ls → Made (BlockLine i v ∷ ls)
-block_made i v ls m h =
-    let f : LastFile ls h.len = m.file h.len h.file in
+block_made : (version : Version) (root : ℕ) (i : ℕ) (v : List ℕ) (ls : Lines) → Made version root ls → IsNewBlock i v ls → Made version root (BlockLine i v ∷ ls)
+block_made version root i v ls m h =
+    let f : LastFile version root ls h.len = m.file h.len h.file in
     let p : Path = last_path ls in
-    let old : Tree = tree_of_lines ls in
+    let old : Tree = tree_of_lines root ls in
+    let date : ℕ = f.at in
     let b : List ℕ = f.bytes in
     let c : List ℕ = over b (4096 * i) v in
-    let t : Tree = edited old p (Some (File c)) in
+    let t : Tree = edited old p (Some (File date c)) in
     let long : length b ≡ h.len = f.long in
     let inside : 4096 * i + length v ≤ h.len = h.inside in
     let rises : next_block ls ≤ i = h.rises in
@@ -235,52 +258,70 @@ block_made i v ls m h =
       most = h.block.most;
       trims = h.block.trims;
     } in
-    let same : tree_of_lines (BlockLine i v ∷ ls) ≡ t = ap (λ (a : At). edited old p (Some (File (over (bytes_of a) (4096 * i) v)))) f.there in
+    let same : tree_of_lines root (BlockLine i v ∷ ls) ≡ t = ap (λ (a : At). edited old p (Some (File (moment_there a) (over (bytes_of a) (4096 * i) v)))) f.there in
     let parent_there : parent_fault old p ≡ None = parent_from_found p old f.some (ap path_fault f.there) in
-    let at : IsPoint old t p (Some (Bytes c)) = point_from_edit old t p (Some (File c)) f.some parent_there (subst Bare (sym f.there) (bare_file b)) (bare_file c) refl in
+    let at : IsPoint old t p (Some (Seen (Bytes c) date)) = point_from_edit old t p (Some (File date c)) f.some parent_there (subst Bare (sym f.there) (bare_file date b)) (bare_file date c) refl in
+    let here : look t p ≡ Some (Bytes c) = looks_itself old t p (Some (Seen (Bytes c) date)) at in
+    let others : (q : Path) → q ≢ p → look t q ≡ look old q = looks_other old t p (Some (Seen (Bytes c) date)) at in
     let was : look old p ≡ Some (Bytes b) = ap seen f.there in
-    let content : IsContent b = m.tree.files p b f.there in
+    let told : IsTold version date = m.told p (Seen (Bytes b) date) (ap sighted f.there) in
+    let content : IsContent b = m.tree.files p date b f.there in
     let few : length b ≤ 2 ^ 40 = content.few in
     record {
-      tree = subst IsTree (sym same) (put_file old p c m.tree (m.tree.paths p (File b) f.there) (content-over b (4096 * i) v content h.block.bytes (omega arith)) f.some parent_there);
-      image_is = ap image same ∙ f.shown c ∙ line_more (image_of_lines ls) f.front p b i v f.now is_last;
+      tree = subst IsTree (sym same) (put_file old p date c m.tree (m.tree.paths p (File date b) f.there) (told_early version date told) (content-over b (4096 * i) v content h.block.bytes (omega arith)) f.some parent_there);
+      image_is = ap (image version) same ∙ f.shown c ∙ line_more version (image_of_lines version root ls) f.front p date b i v f.now is_last;
+      told = subst (AllSeen version) (sym same) (told_after version old t p (Bytes c) date told m.told at);
       directory = λ q d. let was_there : look old q ≡ Some Directory = m.directory q d in
-          ap (λ (u : Tree). look u q) same ∙ at.other q (λ e. let g : ◌≡◌ {A = Option Look} (Some (Bytes b)) (Some Directory) = sym was ∙ ap (look old) (sym e) ∙ was_there in cc) ∙ was_there;
+          ap (λ (u : Tree). look u q) same ∙ others q (λ e. let g : ◌≡◌ {A = Option Look} (Some (Bytes b)) (Some Directory) = sym was ∙ ap (look old) (sym e) ∙ was_there in cc) ∙ was_there;
       has = λ q e. let now : look t q ≡ Some Directory = ap (λ (u : Tree). look u q) (sym same) ∙ e in
-          m.has q (sym (at.other q (λ s. let g : ◌≡◌ {A = Option Look} (Some (Bytes c)) (Some Directory) = sym at.itself ∙ ap (look t) (sym s) ∙ now in cc)) ∙ now);
+          m.has q (sym (others q (λ s. let g : ◌≡◌ {A = Option Look} (Some (Bytes c)) (Some Directory) = sym here ∙ ap (look t) (sym s) ∙ now in cc)) ∙ now);
       last = λ q l e. ⊎_elim
           (λ (s : q ≡ p). inl s)
-          (λ (ne : q ≢ p). m.last q l (sym (at.other q ne) ∙ ap (λ (u : Tree). look u q) (sym same) ∙ e))
+          (λ (ne : q ≢ p). m.last q l (sym (others q ne) ∙ ap (λ (u : Tree). look u q) (sym same) ∙ e))
           (path_cases p q);
       file = λ k e. record {
+        at = date;
         bytes = c;
-        there = ap (λ (u : Tree). entry_at u p) same ∙ file_seen (entry_at t p) c at.itself;
+        there = ap (λ (u : Tree). entry_at u p) same ∙ file_sighted (entry_at t p) c date at.itself;
         long = length_kept b i v is_last ∙ long ∙ some_number h.len k (sym h.file ∙ e);
         zeros = zeros_behind b i v is_last;
         some = f.some;
         front = f.front;
-        now = sym (line_more (image_of_lines ls) f.front p b i v f.now is_last);
-        shown = λ d. ap (λ (u : Tree). image (edited u p (Some (File d)))) same ∙ ap image (put_twice old p (File c) (File d)) ∙ f.shown d;
+        now = sym (line_more version (image_of_lines version root ls) f.front p date b i v f.now is_last);
+        shown = λ d. ap (λ (u : Tree). image version (edited u p (Some (File date d)))) same ∙ ap (image version) (put_twice old p (File date c) (File date d)) ∙ f.shown d;
       };
     }
 
 -- ---- all lines
 
-none_made : Made []
-none_made = record {
-  tree = fresh_law.tree;
-  image_is = refl;
-  directory = λ q d. ap (look (Dir nothing)) d;
-  has = root_alone;
-  last = λ q l e. inl (only_root q l e);
+root_told : (v : Version) (root : ℕ) → IsTold v root → AllSeen v (Dir root nothing)
+root_told v root early [] s e = let same : Seen Directory root ≡ s = cc in subst (λ (z : Sight). IsTold v (date_of z)) same early
+root_told v root early (n ∷ q) s e = absurd (let f : None ≡ Some s = sym (ap sighted (fold-Missing q)) ∙ e in cc)
+
+none_made : (v : Version) (root : ℕ) → IsTold v root → Made v root []
+none_made v root early = record {
+  tree = empty_tree root (told_early v root early);
+  image_is = append-nil (root_line v root ++ 10 ∷ []);
+  told = root_told v root early;
+  directory = λ q d. ap (look (Dir root nothing)) d;
+  has = λ q e. only_root root q Directory e;
+  last = λ q l e. inl (only_root root q l e);
   file = λ n e. absurd (cc);
 }
 
-pub made : (ls : Lines) → AreLines ls → Made ls
-made [] h = none_made
-made (DirectoryLine p ∷ ls) h = directory_made p ls (made ls h.1) h.0
-made (FileLine p n ∷ ls) h = file_made p n ls (made ls h.1) h.0.0 h.0.1
-made (BlockLine i b ∷ ls) h = block_made i b ls (made ls h.1) h.0
+pub made : (v : Version) (root : ℕ) (ls : Lines) → IsTold v root → AreLines v ls → Made v root ls
+made v root [] early h = none_made v root early
+made v root (DirectoryLine p at ∷ ls) early h = directory_made v root p at ls (made v root ls early h.1) h.0.0 h.0.1
+made v root (FileLine p n at ∷ ls) early h = file_made v root p n at ls (made v root ls early h.1) h.0.0 h.0.1 h.0.2
+made v root (BlockLine i b ∷ ls) early h = block_made v root i b ls (made v root ls early h.1) h.0
+
+-- the moments of what stands in a tree are those of what is seen
+told_there : (v : Version) (t : Tree) → AllSeen v t → AllTold v t
+told_there v t seen p x e = at x e
+  where
+    at : (x : Tree) → entry_at t p ≡ Found x → IsTold v (moment x)
+    at (Dir date es) f = seen p (Seen Directory date) (ap sighted f)
+    at (File date b) f = seen p (Seen (Bytes b) date) (ap sighted f)
 
 pub lines_law : LinesLaw
-lines_law ls h = let m : Made ls = made ls h in (m.tree, m.image_is)
+lines_law v root ls early h = let m : Made v root ls = made v root ls early h in (m.tree, m.image_is, told_there v (tree_of_lines root ls) m.told)

@@ -1,5 +1,5 @@
 -- What a directory lists.
-use Rattle.std.proofs.Common.{◌≡◌, ◌↔◌, ◌⊎◌, inl, inr, ⊎_elim, List, [], ◌∷◌, ◌++◌, Bool, true, false, cond, sym, ap, refl, ◌∙◌, subst, arith, Option, Some, None}
+use Rattle.std.proofs.Common.{◌≡◌, ◌↔◌, ◌⊎◌, inl, inr, ⊎_elim, ℕ, List, [], ◌∷◌, ◌++◌, Bool, true, false, cond, sym, ap, refl, ◌∙◌, subst, arith, Option, Some, None}
 use Rattle.std.specs.Prelude.{option_map, Contains}
 use Rattle.std.proofs.lemmas.List.Elements.{Contains-append_left, Contains-append_right, Contains-append_cases, Contains-push, Contains-push_cases}
 use Rattle.pathkey.proofs.OrderFacts.{same_true, same_from_eq}
@@ -30,8 +30,8 @@ in_rest y ys x h = Contains-append_right (y ∷ []) ys x h
 -- ---- entries
 seen_kind : (o : Option Tree) → option_map look_kind (seen (found o)) ≡ option_map kind_of o
 seen_kind None = refl
-seen_kind (Some (Dir es)) = refl
-seen_kind (Some (File b)) = refl
+seen_kind (Some (Dir date es)) = refl
+seen_kind (Some (File date b)) = refl
 
 listed_named : (k : Kind) (n : Name) (es : Entries) → RisingEntries es → Contains (listing es) (k, n) → option_map kind_of (named n es) ≡ Some k
 listed_named k n nothing v h = absurd (in_none (k, n) h)
@@ -61,7 +61,7 @@ named_listed k n (entry m x rest) h =
       | false ↦ λ e f. in_rest (kind_of x, m) (listing rest) (k, n) (named_listed k n rest f)
     ] refl h
 
-pub listing_law : (t : Tree) (p : Path) (es : Entries) (k : Kind) (n : Name) → Rising t → entry_at t p ≡ Found (Dir es) → Contains (listing es) (k, n) ↔ (kind_at t (p ++ n ∷ []) ≡ Some k)
-listing_law t p es k n rises there =
-    let kind : kind_at t (p ++ n ∷ []) ≡ option_map kind_of (named n es) = ap (option_map look_kind) (child_law t p es n there) ∙ seen_kind (named n es) in
-    (λ h. kind ∙ listed_named k n es (rising-found p t (Dir es) there rises) h, λ h. named_listed k n es (sym kind ∙ h))
+pub listing_law : (t : Tree) (p : Path) (date : ℕ) (es : Entries) (k : Kind) (n : Name) → Rising t → entry_at t p ≡ Found (Dir date es) → Contains (listing es) (k, n) ↔ (kind_at t (p ++ n ∷ []) ≡ Some k)
+listing_law t p date es k n rises there =
+    let kind : kind_at t (p ++ n ∷ []) ≡ option_map kind_of (named n es) = ap (option_map look_kind) (child_law t p date es n there) ∙ seen_kind (named n es) in
+    (λ h. kind ∙ listed_named k n es (rising-found p t (Dir date es) there rises) h, λ h. named_listed k n es (sym kind ∙ h))

@@ -5,12 +5,13 @@ use Rattle.std.proofs.lemmas.Bool.{false_from_ne_true}
 use Rattle.std.proofs.lemmas.List.{drop_at, append_cancel_left}
 use Rattle.reference.specs.Tree.{Path, Tree}
 use Rattle.reference.specs.Shape.{IsTree}
-use Rattle.reference.specs.Looks.{Look, Bytes, look}
+use Rattle.reference.specs.Looks.{Look, Bytes, look, Sight, look_of, sight}
 use Rattle.pathkey.specs.Names.{EachName, IsPath}
 use Rattle.pathkey.specs.Keys.{Key, enc, block_key, subtree, is_in}
 use Rattle.reference.specs.Indexes.{Metadata, Blocks, meta_of, PathOf, MetaMeans, Hold, BlockOf, BlocksMean, moved}
 use Rattle.reference.specs.declared.reply.Meta.{Meta}
 use Rattle.pathkey.proofs.KeyFacts.{enc_law, enc-append, under_from_key, under_from_zero, in_subtree, in_subtree_from, path_in_subtree, path_in_subtree_from, block_in_subtree, block_in_subtree_from}
+use Rattle.reference.proofs.Edits.{alike, look_from, unseen}
 use Rattle.reference.proofs.EntryPaths.{each-append, each_rest, path_moved}
 use Rattle.reference.proofs.TreeEdits.{MayBeSeen, looks_may}
 use Rattle.reference.proofs.PointIndexes.{hold_alike}
@@ -56,7 +57,7 @@ origin {V} o n m k v e =
     ] refl
 
 -- metadata tells that something is seen
-looked : (l : Option Look) (v : Meta) → meta_of l ≡ Some v → (k : Look) × (l ≡ Some k)
+looked : (l : Option Sight) (v : Meta) → meta_of l ≡ Some v → (k : Sight) × (l ≡ Some k)
 looked None v h = absurd (cc)
 looked (Some k) v h = (k, refl)
 
@@ -79,10 +80,10 @@ module _ (t t' : Tree) (o n : Path) (tree : IsTree t) (old : IsPath o) (new : Is
 
   module _ (m : Metadata) (means : MetaMeans t m) where
     -- the index at any path of good names
-    meta_at : (s : Path) → EachName s → m (enc s) ≡ meta_of (look t s)
+    meta_at : (s : Path) → EachName s → m (enc s) ≡ meta_of (sight t s)
     meta_at s u =
-        elim (look t s) as (λ c. look t s ≡ c → m (enc s) ≡ meta_of c) [
-          | Some l ↦ λ h. let may : MayBeSeen s l = looks_may t s l tree h in means.paths s may.path ∙ ap meta_of h
+        elim (sight t s) as (λ c. sight t s ≡ c → m (enc s) ≡ meta_of c) [
+          | Some l ↦ λ h. let may : MayBeSeen s (look_of l) = looks_may t s (look_of l) tree (look_from t s l h) in means.paths s may.path ∙ ap meta_of h
           | None ↦ λ h. elim (m (enc s)) as (λ c. m (enc s) ≡ c → c ≡ None) [
             | None ↦ λ g. refl
             | Some v ↦ λ g.
@@ -93,9 +94,9 @@ module _ (t t' : Tree) (o n : Path) (tree : IsTree t) (old : IsPath o) (new : Is
         ] refl
 
     -- after the move each path has the metadata of what is seen there
-    moved_paths : (q : Path) → IsPath q → moved o n m (enc q) ≡ meta_of (look t' q)
+    moved_paths : (q : Path) → IsPath q → moved o n m (enc q) ≡ meta_of (sight t' q)
     moved_paths q u =
-        elim (is_in (subtree n) (enc q)) as (λ b. is_in (subtree n) (enc q) ≡ b → moved o n m (enc q) ≡ meta_of (look t' q)) [
+        elim (is_in (subtree n) (enc q)) as (λ b. is_in (subtree n) (enc q) ≡ b → moved o n m (enc q) ≡ meta_of (sight t' q)) [
           | true ↦ λ h.
               let f : (r : Path) × (q ≡ n ++ r) = path_in_subtree n q new.names u.names h in
               let names : EachName f.0 = each_rest n f.0 (subst EachName f.1 u.names) in
@@ -104,11 +105,11 @@ module _ (t t' : Tree) (o n : Path) (tree : IsTree t) (old : IsPath o) (new : Is
               ∙ ap m (sym (enc-append o f.0))
               ∙ meta_at (o ++ f.0) (each-append o f.0 old.names names)
               ∙ ap meta_of (sym (is.moved f.0))
-              ∙ ap (λ (x : Path). meta_of (look t' x)) (sym f.1)
-          | false ↦ λ h. elim (is_in (subtree o) (enc q)) as (λ b. is_in (subtree o) (enc q) ≡ b → moved o n m (enc q) ≡ meta_of (look t' q)) [
+              ∙ ap (λ (x : Path). meta_of (sight t' x)) (sym f.1)
+          | false ↦ λ h. elim (is_in (subtree o) (enc q)) as (λ b. is_in (subtree o) (enc q) ≡ b → moved o n m (enc q) ≡ meta_of (sight t' q)) [
             | true ↦ λ g.
                 let f : (r : Path) × (q ≡ o ++ r) = path_in_subtree o q old.names u.names g in
-                moved_outside o n m (enc q) h true g ∙ ap meta_of (sym (ap (look t') f.1 ∙ is.gone f.0))
+                moved_outside o n m (enc q) h true g ∙ ap meta_of (sym (ap (sight t') f.1 ∙ is.gone f.0))
             | false ↦ λ g. moved_outside o n m (enc q) h false g ∙ means.paths q u ∙ ap meta_of (sym (is.kept q (outside_path o q g) (outside_path n q h)))
           ] refl
         ] refl
@@ -119,10 +120,10 @@ module _ (t t' : Tree) (o n : Path) (tree : IsTree t) (old : IsPath o) (new : Is
     moved_only_paths k v (came z e f) =
         let c : PathOf (enc o ++ z) = means.only_paths (enc o ++ z) v f in
         let a : (r : Path) × (c.path ≡ o ++ r) × (z ≡ enc r) = under_from_key o c.path z old.names c.is_path.names c.key in
-        let l : (l : Look) × (look t c.path ≡ Some l) = looked (look t c.path) v (sym (means.paths c.path c.is_path) ∙ ap m (sym c.key) ∙ f) in
+        let l : (l : Sight) × (sight t c.path ≡ Some l) = looked (sight t c.path) v (sym (means.paths c.path c.is_path) ∙ ap m (sym c.key) ∙ f) in
         record {
           path = n ++ a.0;
-          is_path = new_path a.0 l.0 (ap (look t) (sym a.1) ∙ l.1);
+          is_path = new_path a.0 (look_of l.0) (ap (look t) (sym a.1) ∙ look_from t c.path l.0 l.1);
           key = e ∙ ap (λ (x : Key). enc n ++ x) a.2 ∙ sym (enc-append n a.0);
         }
 
@@ -131,10 +132,16 @@ module _ (t t' : Tree) (o n : Path) (tree : IsTree t) (old : IsPath o) (new : Is
     moved_meta = record { paths = moved_paths; only_paths = λ k v e. moved_only_paths k v (origin o n m k v e) }
 
   module _ (d : Blocks) (means : BlocksMean t d) where
+    look_moved : (r : Path) → look t' (n ++ r) ≡ look t (o ++ r)
+    look_moved r = alike t' t (n ++ r) (o ++ r) (is.moved r)
+
+    look_kept : (q : Path) → ((r : Path) → q ≡ o ++ r → ⊥) → ((r : Path) → q ≡ n ++ r → ⊥) → look t' q ≡ look t q
+    look_kept q v w = alike t' t q q (is.kept q v w)
+
     -- the blocks of a file at or below n are those it had below o
     blocks_came : (q : Path) (b : List ℕ) (r : Path) → q ≡ n ++ r → look t' q ≡ Some (Bytes b) → Hold (λ i. moved o n d (block_key q i)) b
     blocks_came q b r at f =
-        let file : look t (o ++ r) ≡ Some (Bytes b) = sym (is.moved r) ∙ ap (look t') (sym at) ∙ f in
+        let file : look t (o ++ r) ≡ Some (Bytes b) = sym (look_moved r) ∙ ap (look t') (sym at) ∙ f in
         let may : MayBeSeen (o ++ r) (Bytes b) = looks_may t (o ++ r) (Bytes b) tree file in
         hold_alike (λ i. d (block_key (o ++ r) i)) (λ i. moved o n d (block_key q i)) b
         (λ i li. ap d (block_key-append o r i) ∙ sym (moved_at o n d (block_key r i)) ∙ ap (moved o n d) (sym (ap (λ (x : Path). block_key x i) at ∙ block_key-append n r i)))
@@ -143,16 +150,16 @@ module _ (t t' : Tree) (o n : Path) (tree : IsTree t) (old : IsPath o) (new : Is
     -- all other files keep theirs
     blocks_stayed : (q : Path) (b : List ℕ) → IsPath q → ((r : Path) → q ≡ n ++ r → ⊥) → look t' q ≡ Some (Bytes b) → Hold (λ i. moved o n d (block_key q i)) b
     blocks_stayed q b u off_new f =
-        let off_old : (r : Path) → q ≡ o ++ r → ⊥ = λ r e. (let x : None ≡ Some (Bytes b) = sym (ap (look t') e ∙ is.gone r) ∙ f in cc) in
+        let off_old : (r : Path) → q ≡ o ++ r → ⊥ = λ r e. (let x : None ≡ Some (Bytes b) = sym (ap (look t') e ∙ unseen t' (o ++ r) (is.gone r)) ∙ f in cc) in
         hold_alike (λ i. d (block_key q i)) (λ i. moved o n d (block_key q i)) b
         (λ i li. sym (moved_outside o n d (block_key q i) (block_outside n q i new u off_new) false (block_outside o q i old u off_old)))
-        (means.blocks q b u (sym (is.kept q off_old off_new) ∙ f))
+        (means.blocks q b u (sym (look_kept q off_old off_new) ∙ f))
 
     -- and every key is that of a block of a file
     moved_only_blocks : (k : Key) (v : List ℕ) → Origin o n d k v → BlockOf t' k
     moved_only_blocks k v (stayed h g f) =
         let c : BlockOf t k = means.only_blocks k v f in
-        record { path = c.path; index = c.index; bytes = c.bytes; is_path = c.is_path; few = c.few; key = c.key; file = is.kept c.path (outside_block o c.path c.index k c.key g) (outside_block n c.path c.index k c.key h) ∙ c.file }
+        record { path = c.path; index = c.index; bytes = c.bytes; is_path = c.is_path; few = c.few; key = c.key; file = look_kept c.path (outside_block o c.path c.index k c.key g) (outside_block n c.path c.index k c.key h) ∙ c.file }
     moved_only_blocks k v (came z e f) =
         let c : BlockOf t (enc o ++ z) = means.only_blocks (enc o ++ z) v f in
         let a : (r : Path) × (c.path ≡ o ++ r) = under_block o c.path z c.index old.names c.is_path.names c.key in
@@ -165,7 +172,7 @@ module _ (t t' : Tree) (o n : Path) (tree : IsTree t) (old : IsPath o) (new : Is
           few = c.few;
           is_path = new_path a.0 (Bytes c.bytes) file;
           key = e ∙ ap (λ (x : Key). enc n ++ x) rest ∙ sym (block_key-append n a.0 c.index);
-          file = is.moved a.0 ∙ file;
+          file = look_moved a.0 ∙ file;
         }
 
     -- and so do the moved blocks

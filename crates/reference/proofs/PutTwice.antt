@@ -17,15 +17,15 @@ one_name n x y (entry m z rest) =
 
 pub put_twice : (t : Tree) (p : Path) (x y : Tree) → edited (edited t p (Some x)) p (Some y) ≡ edited t p (Some y)
 put_twice t [] x y = refl
-put_twice (File b) (n ∷ p) x y = refl
-put_twice (Dir es) (n ∷ []) x y = ap Dir (one_name n x y es)
-put_twice (Dir es) (n ∷ m ∷ p) x y =
-    elim (named n es) as (λ o. edited (Dir (set_entry n (option_map (λ z. edited z (m ∷ p) (Some x)) o) es)) (n ∷ m ∷ p) (Some y) ≡ Dir (set_entry n (option_map (λ z. edited z (m ∷ p) (Some y)) o) es)) [
+put_twice (File date b) (n ∷ p) x y = refl
+put_twice (Dir date es) (n ∷ []) x y = ap (Dir date) (one_name n x y es)
+put_twice (Dir date es) (n ∷ m ∷ p) x y =
+    elim (named n es) as (λ o. edited (Dir date (set_entry n (option_map (λ z. edited z (m ∷ p) (Some x)) o) es)) (n ∷ m ∷ p) (Some y) ≡ Dir date (set_entry n (option_map (λ z. edited z (m ∷ p) (Some y)) o) es)) [
       | None ↦
-          ap (λ (o : Option Tree). Dir (set_entry n (option_map (λ w. edited w (m ∷ p) (Some y)) o) (take_out n es))) (named-take_out_same n es)
-          ∙ ap Dir (take_out_absent n (take_out n es) (named-take_out_same n es))
+          ap (λ (o : Option Tree). Dir date (set_entry n (option_map (λ w. edited w (m ∷ p) (Some y)) o) (take_out n es))) (named-take_out_same n es)
+          ∙ ap (Dir date) (take_out_absent n (take_out n es) (named-take_out_same n es))
       | Some z ↦
-          ap (λ (o : Option Tree). Dir (set_entry n (option_map (λ w. edited w (m ∷ p) (Some y)) o) (put n (edited z (m ∷ p) (Some x)) es))) (named-put_same n (edited z (m ∷ p) (Some x)) es)
-          ∙ ap (λ (w : Tree). Dir (put n w (put n (edited z (m ∷ p) (Some x)) es))) (put_twice z (m ∷ p) x y)
-          ∙ ap Dir (one_name n (edited z (m ∷ p) (Some x)) (edited z (m ∷ p) (Some y)) es)
+          ap (λ (o : Option Tree). Dir date (set_entry n (option_map (λ w. edited w (m ∷ p) (Some y)) o) (put n (edited z (m ∷ p) (Some x)) es))) (named-put_same n (edited z (m ∷ p) (Some x)) es)
+          ∙ ap (λ (w : Tree). Dir date (put n w (put n (edited z (m ∷ p) (Some x)) es))) (put_twice z (m ∷ p) x y)
+          ∙ ap (Dir date) (one_name n (edited z (m ∷ p) (Some x)) (edited z (m ∷ p) (Some y)) es)
     ]

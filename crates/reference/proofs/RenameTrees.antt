@@ -6,13 +6,13 @@ use Rattle.pathkey.specs.Names.{IsPath}
 use Rattle.reference.specs.Tree.{Name, Path, Tree, Dir, File, nothing, entry, At, Found, Missing, onward, entry_at, edited}
 use Rattle.reference.specs.Calls.{is_under, text_len, is_directory, is_file, is_full, path_fault, parent, parent_fault, deepest, deepest_at, placed}
 use Rattle.reference.specs.Shape.{IsTree}
-use Rattle.reference.specs.Looks.{Directory, seen, look, rest_of, look_after}
+use Rattle.reference.specs.Looks.{Directory, seen, look, rest_of, look_after, sighted}
 use Rattle.reference.proofs.EntryPaths.{rest_of_from, under_itself, last_name, path_moved, along}
 use Rattle.reference.proofs.Edits.{edit_law, fold-Missing}
 use Rattle.reference.proofs.Rising.{rising-with}
 use Rattle.reference.proofs.Standing.{found_from, file_or_directory, no_directory_in_file, parent_directory, directory_parent, parent_from_found, rising-found, below_deepest}
 use Rattle.reference.proofs.CallCases.{MayMove}
-use Rattle.reference.proofs.TreeEdits.{MayBeSeen, looks_may, edit_tree, out_tree}
+use Rattle.reference.proofs.TreeEdits.{MayBeSeen, looks_may, sights_may, edit_tree, out_tree}
 
 -- where the table lets o be moved to n, n's parent is a directory still when o is taken out
 pub parent_kept : (t : Tree) (o n : Path) → n ≢ [] → o ≢ [] → path_fault (entry_at t o) ≡ None → (is_directory (entry_at t o) && is_under o n) ≡ false → parent_fault t n ≡ None → parent_fault (edited t o None) n ≡ None
@@ -45,14 +45,15 @@ moved_tree t u x o n is now path there short ne parent_is =
     let may : MayBeSeen (o ++ r) l = looks_may t (o ++ r) l is was in
     let deep : text_len r ≤ deepest x = below_deepest r x l h in
     record { path = path_moved o n r path may.path (omega arith); content = may.content })
+    (λ r s h. sights_may t (o ++ r) s is (ap sighted (along t o r) ∙ ap (λ (a : At). sighted (fold onward a r)) there ∙ h))
 
 -- a directory that stands where the root is would be full or replaced: o moved onto the root is refused
 not_root_new : (t : Tree) (o n : Path) → IsTree t → o ≢ [] → path_fault (entry_at t o) ≡ None → is_full (entry_at t n) ≡ false → n ≢ []
 not_root_new t [] n is old there full = absurd (old refl)
-not_root_new (File b) (k ∷ o) n is old there full = absurd is.root
-not_root_new (Dir nothing) (k ∷ o) n is old there full = absurd (let h : path_fault Missing ≡ None = subst (λ (a : At). path_fault a ≡ None) (fold-Missing o) there in cc)
-not_root_new (Dir (entry m x es)) (k ∷ o) [] is old there full = absurd (cc)
-not_root_new (Dir (entry m x es)) (k ∷ o) (l ∷ n) is old there full = λ e. cc
+not_root_new (File date b) (k ∷ o) n is old there full = absurd is.root
+not_root_new (Dir date nothing) (k ∷ o) n is old there full = absurd (let h : path_fault Missing ≡ None = subst (λ (a : At). path_fault a ≡ None) (fold-Missing o) there in cc)
+not_root_new (Dir date (entry m x es)) (k ∷ o) [] is old there full = absurd (cc)
+not_root_new (Dir date (entry m x es)) (k ∷ o) (l ∷ n) is old there full = λ e. cc
 
 -- what a rename that the table lets through leaves
 pub placed_tree : (t : Tree) (o n : Path) → IsTree t → IsPath n → MayMove t o n → IsTree (placed (edited t o None) n (entry_at t o))

@@ -1,10 +1,10 @@
 -- An edit keeps directories in order, and two trees in order that look alike are one.
-use Rattle.std.proofs.Common.{◌≡◌, [], ◌∷◌, true, false, cond, sym, ap, refl, ◌∙◌, subst, Option, Some, None}
+use Rattle.std.proofs.Common.{◌≡◌, ℕ, [], ◌∷◌, true, false, cond, sym, ap, refl, ◌∙◌, subst, Option, Some, None}
 use Rattle.std.specs.Prelude.{option_map}
 use Rattle.std.specs.Ordering.{ordering_reverse}
 use Rattle.std.specs.declared.cmp.Ordering.TheVariants.{Less, Equal, Greater}
 use Rattle.std.proofs.lemmas.Cmp.{nat_list_cmp_total}
-use Rattle.reference.specs.Tree.{by_bytes, same, by_order, Name, Path, Tree, Dir, File, Entries, nothing, entry, named, put, take_out, set_entry, edited}
+use Rattle.reference.specs.Tree.{by_bytes, same, by_order, Name, Path, Tree, Dir, File, Entries, nothing, entry, named, put, take_out, set_entry, edited, dated, touched}
 use Rattle.reference.specs.Shape.{AllAbove, Rising, RisingEntries}
 use Rattle.pathkey.proofs.OrderFacts.{equal}
 
@@ -73,10 +73,10 @@ rising-named n (entry m y rest) v =
 rising_edit_at : (p : Path) (t : Tree) (o : Option Tree) → RisingOption o → Rising t → Rising (edited t p o)
 unfolding RisingOption
 rising_edit_at [] t o u v = v
-rising_edit_at (n ∷ []) (File b) o u v = tt
-rising_edit_at (n ∷ []) (Dir es) o u v = rising-set n o es u v
-rising_edit_at (n ∷ m ∷ p) (File b) o u v = tt
-rising_edit_at (n ∷ m ∷ p) (Dir es) o u v = rising-set n (option_map (λ x. edited x (m ∷ p) o) (named n es)) es
+rising_edit_at (n ∷ []) (File date b) o u v = tt
+rising_edit_at (n ∷ []) (Dir date es) o u v = rising-set n o es u v
+rising_edit_at (n ∷ m ∷ p) (File date b) o u v = tt
+rising_edit_at (n ∷ m ∷ p) (Dir date es) o u v = rising-set n (option_map (λ x. edited x (m ∷ p) o) (named n es)) es
     (elim (named n es) as (λ c. RisingOption c → RisingOption (option_map (λ x. edited x (m ∷ p) o) c)) [
       | None ↦ λ w. tt
       | Some x ↦ λ w. rising_edit_at (m ∷ p) x o u w
@@ -89,3 +89,18 @@ rising-with t p x u v = rising_edit_at p t (Some x) u v
 pub rising-without : (t : Tree) (p : Path) → Rising t → Rising (edited t p None)
 unfolding RisingOption
 rising-without t p v = rising_edit_at p t None tt v
+
+-- and so does a moment that is set
+rising_dated : (at : ℕ) (t : Tree) → Rising t → Rising (dated at t)
+rising_dated at (Dir date es) v = v
+rising_dated at (File date b) v = tt
+
+pub rising-touched : (at : ℕ) (p : Path) (t : Tree) → Rising t → Rising (touched at t p)
+unfolding RisingOption
+rising-touched at [] t v = rising_dated at t v
+rising-touched at (n ∷ p) (File date b) v = tt
+rising-touched at (n ∷ p) (Dir date es) v = rising-set n (option_map (λ x. touched at x p) (named n es)) es
+    (elim (named n es) as (λ c. RisingOption c → RisingOption (option_map (λ x. touched at x p) c)) [
+      | None ↦ λ w. tt
+      | Some x ↦ λ w. rising-touched at p x w
+    ] (rising-named n es v)) v

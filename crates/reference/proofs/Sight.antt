@@ -4,7 +4,7 @@ use Rattle.std.specs.Prelude.{fold}
 use Rattle.std.specs.Ordering.{is_eq}
 use Rattle.std.specs.declared.cmp.Ordering.TheVariants.{Less, Equal, Greater}
 use Rattle.reference.specs.Tree.{by_bytes, same, Name, Path, Tree, Dir, File, Entries, nothing, entry, named, At, Found, Missing, Blocked, found, onward, entry_at}
-use Rattle.reference.specs.Looks.{Directory, Bytes, seen, look}
+use Rattle.reference.specs.Looks.{Directory, Bytes, seen, look, Seen, sighted, sight}
 use Rattle.reference.specs.Shape.{AllAbove, Rising, RisingEntries}
 use Rattle.pathkey.proofs.OrderFacts.{equal, same_itself, same_true}
 use Rattle.reference.proofs.EntryPaths.{along}
@@ -17,41 +17,48 @@ pub none_above : (n : Name) (es : Entries) → AllAbove n es → named n es ≡ 
 none_above n nothing h = refl
 none_above n (entry m x rest) h = subst (λ (o : Ordering). cond (is_eq o) (Some x) (named n rest) ≡ None) (sym h.0) (none_above n rest h.1)
 
+some_sighted : (x : Tree) → sighted (Found x) ≡ None → ⊥
+some_sighted (Dir date es) h = cc
+some_sighted (File date b) h = cc
+
 some_seen : (x : Tree) → seen (Found x) ≡ None → ⊥
-some_seen (Dir es) h = cc
-some_seen (File b) h = cc
+some_seen (Dir date es) h = cc
+some_seen (File date b) h = cc
 
 abbrev Alike : Entries → Entries → Type 0
-Alike es fs = (n : Name) (p : Path) → seen (fold onward (found (named n es)) p) ≡ seen (fold onward (found (named n fs)) p)
+Alike es fs = (n : Name) (p : Path) → sighted (fold onward (found (named n es)) p) ≡ sighted (fold onward (found (named n fs)) p)
 
 -- the first entry of es has no name of its own there where all names of fs are above
 first_missing : (n : Name) (x : Tree) (rest fs : Entries) → AllAbove n fs → Alike (entry n x rest) fs → ⊥
 first_missing n x rest fs h like =
-    some_seen x (sym (ap (λ (o : Option Tree). seen (found o)) here) ∙ like n [] ∙ ap (λ (o : Option Tree). seen (found o)) (none_above n fs h))
+    some_sighted x (sym (ap (λ (o : Option Tree). sighted (found o)) here) ∙ like n [] ∙ ap (λ (o : Option Tree). sighted (found o)) (none_above n fs h))
   where
     here : named n (entry n x rest) ≡ Some x
     here = ap (λ (b : Bool). cond b (Some x) (named n rest)) (same_itself n)
 
 -- entries behind equal first ones are alike
 tails : (n : Name) (x y : Tree) (es fs : Entries) → AllAbove n es → AllAbove n fs → Alike (entry n x es) (entry n y fs) → Alike es fs
-tails n x y es fs h g like = λ k p. elim (same k n) as (λ b. same k n ≡ b → seen (fold onward (found (named k es)) p) ≡ seen (fold onward (found (named k fs)) p)) [
+tails n x y es fs h g like = λ k p. elim (same k n) as (λ b. same k n ≡ b → sighted (fold onward (found (named k es)) p) ≡ sighted (fold onward (found (named k fs)) p)) [
   | true ↦ λ e.
       let is : k ≡ n = same_true k n e in
       let a : named k es ≡ None = ap (λ (z : Name). named z es) is ∙ none_above n es h in
       let b : named k fs ≡ None = ap (λ (z : Name). named z fs) is ∙ none_above n fs g in
-      ap (λ (o : Option Tree). seen (fold onward (found o) p)) (a ∙ sym b)
-  | false ↦ λ e. subst (λ (b : Bool). seen (fold onward (found (cond b (Some x) (named k es))) p) ≡ seen (fold onward (found (cond b (Some y) (named k fs))) p)) e (like k p)
+      ap (λ (o : Option Tree). sighted (fold onward (found o) p)) (a ∙ sym b)
+  | false ↦ λ e. subst (λ (b : Bool). sighted (fold onward (found (cond b (Some x) (named k es))) p) ≡ sighted (fold onward (found (cond b (Some y) (named k fs))) p)) e (like k p)
 ] refl
 
-heads : (n : Name) (x y : Tree) (es fs : Entries) → Alike (entry n x es) (entry n y fs) → (p : Path) → look x p ≡ look y p
-heads n x y es fs like p = subst (λ (b : Bool). seen (fold onward (found (cond b (Some x) (named n es))) p) ≡ seen (fold onward (found (cond b (Some y) (named n fs))) p)) (same_itself n) (like n p)
+heads : (n : Name) (x y : Tree) (es fs : Entries) → Alike (entry n x es) (entry n y fs) → (p : Path) → sight x p ≡ sight y p
+heads n x y es fs like p = subst (λ (b : Bool). sighted (fold onward (found (cond b (Some x) (named n es))) p) ≡ sighted (fold onward (found (cond b (Some y) (named n fs))) p)) (same_itself n) (like n p)
 
 mutual
-  pub one_tree : (t u : Tree) → Rising t → Rising u → ((p : Path) → look t p ≡ look u p) → t ≡ u
-  one_tree (Dir es) (Dir fs) r s like = ap Dir (one_directory es fs r s (λ n p. like (n ∷ p)))
-  one_tree (Dir es) (File c) r s like = absurd (let h : Some Directory ≡ Some (Bytes c) = like [] in cc)
-  one_tree (File b) (Dir fs) r s like = absurd (let h : Some (Bytes b) ≡ Some Directory = like [] in cc)
-  one_tree (File b) (File c) r s like = let h : Some (Bytes b) ≡ Some (Bytes c) = like [] in cc
+  pub one_tree : (t u : Tree) → Rising t → Rising u → ((p : Path) → sight t p ≡ sight u p) → t ≡ u
+  one_tree (Dir date es) (Dir stamp fs) r s like =
+      let h : Some (Seen Directory date) ≡ Some (Seen Directory stamp) = like [] in
+      let when : date ≡ stamp = cc in
+      cc (when, one_directory es fs r s (λ n p. like (n ∷ p)))
+  one_tree (Dir date es) (File stamp c) r s like = absurd (let h : Some (Seen Directory date) ≡ Some (Seen (Bytes c) stamp) = like [] in cc)
+  one_tree (File date b) (Dir stamp fs) r s like = absurd (let h : Some (Seen (Bytes b) date) ≡ Some (Seen Directory stamp) = like [] in cc)
+  one_tree (File date b) (File stamp c) r s like = let h : Some (Seen (Bytes b) date) ≡ Some (Seen (Bytes c) stamp) = like [] in cc
 
   pub one_directory : (es fs : Entries) → RisingEntries es → RisingEntries fs → Alike es fs → es ≡ fs
   one_directory nothing nothing r s like = refl
@@ -70,9 +77,9 @@ mutual
             cc
       ] refl
 
-directory_seen : (a : At) → seen a ≡ Some Directory → (es : Entries) × (a ≡ Found (Dir es))
-directory_seen (Found (Dir es)) h = (es, refl)
-directory_seen (Found (File c)) h = absurd (cc)
+directory_seen : (a : At) → seen a ≡ Some Directory → (date : ℕ) × (es : Entries) × (a ≡ Found (Dir date es))
+directory_seen (Found (Dir date es)) h = (date, es, refl)
+directory_seen (Found (File stamp c)) h = absurd (cc)
 directory_seen Missing h = absurd (cc)
 directory_seen Blocked h = absurd (cc)
 
@@ -81,13 +88,13 @@ found_none None h = refl
 found_none (Some x) h = absurd (some_seen x h)
 
 pub blocked_law : (t : Tree) (p : Path) (n : Name) (r : Path) (b : List ℕ) → look t p ≡ Some (Bytes b) → entry_at t (p ++ n ∷ r) ≡ Blocked
-blocked_law t p n r b h = along t p (n ∷ r) ∙ ap (λ (a : At). fold onward a (n ∷ r)) (file_seen (entry_at t p) b h) ∙ fold-Blocked r
+blocked_law t p n r b h = along t p (n ∷ r) ∙ ap (λ (a : At). fold onward a (n ∷ r)) (file_seen (entry_at t p) b h).1 ∙ fold-Blocked r
 
-pub child_law : (t : Tree) (p : Path) (es : Entries) (n : Name) → entry_at t p ≡ Found (Dir es) → look t (p ++ n ∷ []) ≡ seen (found (named n es))
-child_law t p es n h = ap seen (along t p (n ∷ [])) ∙ ap (λ (a : At). seen (onward a n)) h
+pub child_law : (t : Tree) (p : Path) (date : ℕ) (es : Entries) (n : Name) → entry_at t p ≡ Found (Dir date es) → look t (p ++ n ∷ []) ≡ seen (found (named n es))
+child_law t p date es n h = ap seen (along t p (n ∷ [])) ∙ ap (λ (a : At). seen (onward a n)) h
 
 pub missing_law : (t : Tree) (p : Path) (n : Name) (r : Path) → look t p ≡ Some Directory → look t (p ++ n ∷ []) ≡ None → entry_at t (p ++ n ∷ r) ≡ Missing
 missing_law t p n r h g =
-    let d : (es : Entries) × (entry_at t p ≡ Found (Dir es)) = directory_seen (entry_at t p) h in
-    let o : named n d.0 ≡ None = found_none (named n d.0) (sym (child_law t p d.0 n d.1) ∙ g) in
-    along t p (n ∷ r) ∙ ap (λ (a : At). fold onward a (n ∷ r)) d.1 ∙ ap (λ (c : Option Tree). fold onward (found c) r) o ∙ fold-Missing r
+    let d : (date : ℕ) × (es : Entries) × (entry_at t p ≡ Found (Dir date es)) = directory_seen (entry_at t p) h in
+    let o : named n d.1 ≡ None = found_none (named n d.1) (sym (child_law t p d.0 d.1 n d.2) ∙ g) in
+    along t p (n ∷ r) ∙ ap (λ (a : At). fold onward a (n ∷ r)) d.2 ∙ ap (λ (c : Option Tree). fold onward (found c) r) o ∙ fold-Missing r

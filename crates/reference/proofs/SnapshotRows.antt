@@ -8,7 +8,7 @@ use Rattle.pathkey.proofs.OrderFacts.{same_itself}
 use Rattle.std.specs.FinMap as finmap
 use Rattle.pathkey.specs.declared.errno.Errno.TheVariants.{ENOENT, EEXIST, ENOSPC}
 use Rattle.reference.specs.Tree.{Name, Tree, Dir, File, nothing, entry}
-use Rattle.reference.specs.Calls.{does}
+use Rattle.reference.specs.Calls.{changed, does}
 use Rattle.reference.specs.Rows.{path, happens_all, sixty_four_names, SnapshotNames, SnapshotKeepsItsTree, SnapshotIsRead}
 use Rattle.reference.specs.Worlds.{World, Snapped, Event, Ask, TakeSnapshot, DropSnapshot, RestoreSnapshot, Answer, Replied, Settled, restored}
 use Rattle.reference.specs.declared.call.Call.TheVariants.{Rmtree, Stat as AskStat, Readdir}
@@ -18,29 +18,29 @@ use Rattle.reference.proofs.Snapshots.{Kept, Snapshots, world, kept, with_all, h
 
 -- `/a` with an empty file `x`
 abbrev kept_tree : Tree
-kept_tree = Dir (entry (codes "a") (Dir (entry (codes "x") (File []) nothing)) nothing)
+kept_tree = Dir 0 (entry (codes "a") (Dir 0 (entry (codes "x") (File 0 []) nothing)) nothing)
 
 -- the answers by what the snapshot gave
 abbrev from_snapshot : World × Snapped → List Answer
-from_snapshot o = Replied Done ∷ Replied Done ∷ Settled o.1 ∷ (happens_all o.0 (Ask (Rmtree (path "/a")) ∷ Ask (AskStat (path "/a")) ∷ RestoreSnapshot (codes "s") ∷ Ask (Readdir (path "/a")) ∷ [])).1
+from_snapshot o = Replied Done ∷ Replied Done ∷ Settled o.1 ∷ (happens_all o.0 (Ask (Rmtree (path "/a")) 0 ∷ Ask (AskStat (path "/a")) 0 ∷ RestoreSnapshot (codes "s") ∷ Ask (Readdir (path "/a")) 0 ∷ [])).1
 
 -- and by what the snapshot's tree is
 abbrev from_restore : Option Tree → List Answer
 from_restore o =
-    let w : World × Snapped = restored (world (Dir nothing) (finmap.insert finmap.empty (codes "s") kept_tree)) o in
-    Replied Done ∷ Replied Done ∷ Settled (Ok tt) ∷ Replied Done ∷ Replied (Fault ENOENT) ∷ Settled w.1 ∷ (happens_all w.0 (Ask (Readdir (path "/a")) ∷ [])).1
+    let w : World × Snapped = restored (world (Dir 0 nothing) (finmap.insert finmap.empty (codes "s") kept_tree)) o in
+    Replied Done ∷ Replied Done ∷ Settled (Ok tt) ∷ Replied Done ∷ Replied (Fault ENOENT) ∷ Settled w.1 ∷ (happens_all w.0 (Ask (Readdir (path "/a")) 0 ∷ [])).1
 
 pub snapshot_keeps_its_tree : SnapshotKeepsItsTree
-unfolding does
+unfolding does changed
 snapshot_keeps_its_tree = ap from_snapshot (takes_first kept_tree (codes "s")) ∙ ap from_restore (get_itself finmap.empty (codes "s") kept_tree)
 
 -- what is read in the snapshot, by what the snapshot gave
 abbrev read_after : World × Snapped → Option Reply
-read_after o = option_map (λ t. (does t (Readdir (path "/a"))).1) (finmap.get (happens_all o.0 (Ask (Rmtree (path "/a")) ∷ [])).0.snapshots (codes "s"))
+read_after o = option_map (λ t. (does 0 t (Readdir (path "/a"))).1) (finmap.get (happens_all o.0 (Ask (Rmtree (path "/a")) 0 ∷ [])).0.snapshots (codes "s"))
 
 pub snapshot_is_read : SnapshotIsRead
-unfolding does
-snapshot_is_read = ap read_after (takes_first kept_tree (codes "s")) ∙ ap (option_map (λ t. (does t (Readdir (path "/a"))).1)) (get_itself finmap.empty (codes "s") kept_tree)
+unfolding does changed
+snapshot_is_read = ap read_after (takes_first kept_tree (codes "s")) ∙ ap (option_map (λ t. (does 0 t (Readdir (path "/a"))).1)) (get_itself finmap.empty (codes "s") kept_tree)
 
 -- ---- 64 snapshots and more
 -- what is answered where 64 snapshots stand, a among them, and neither b nor z
@@ -60,12 +60,12 @@ last_answers t m a b z l old new none apart =
     ∙ ap (λ (o : World × Snapped). Settled (Err ENOSPC) ∷ Settled (Err EEXIST) ∷ Settled (Ok tt) ∷ settled_first o (DropSnapshot z ∷ [])) (takes t (finmap.remove m a) a gone (ap (nat_le 64) fewer))
     ∙ ap (λ (o : World × Snapped). Settled (Err ENOSPC) ∷ Settled (Err EEXIST) ∷ Settled (Ok tt) ∷ Settled (Ok tt) ∷ settled_first o []) (drops_none t (finmap.insert (finmap.remove m a) a t) z absent)
 
-all_new : have_room (Dir nothing) [] sixty_four_names ≡ true
+all_new : have_room (Dir 0 nothing) [] sixty_four_names ≡ true
 all_new = refl
 
 -- the row's snapshots once 64 are taken
 all_taken : Snapshots
-all_taken = with_all (Dir nothing) [] sixty_four_names
+all_taken = with_all (Dir 0 nothing) [] sixty_four_names
 
 length-all_taken : length all_taken ≡ 64
 unfolding all_taken
@@ -88,8 +88,8 @@ unfolding all_taken
 snapshot_names =
     let none : finmap.len (kept []) ≡ 0 = finmap.len-empty by_bytes Tree in
     let events : List Event = TakeSnapshot (codes "s65") ∷ TakeSnapshot (codes "s1") ∷ DropSnapshot (codes "s1") ∷ TakeSnapshot (codes "s1") ∷ DropSnapshot (codes "zz") ∷ [] in
-    takes_all (Dir nothing) [] sixty_four_names events none all_new
+    takes_all (Dir 0 nothing) [] sixty_four_names events none all_new
     ∙ ap (λ (r : List Answer). map (λ n. Settled (Ok tt)) sixty_four_names ++ r)
-    (last_answers (Dir nothing) (kept all_taken) (codes "s1") (codes "s65") (codes "zz")
-    (len_with_all (Dir nothing) [] sixty_four_names none all_new ∙ length-all_taken)
+    (last_answers (Dir 0 nothing) (kept all_taken) (codes "s1") (codes "s65") (codes "zz")
+    (len_with_all (Dir 0 nothing) [] sixty_four_names none all_new ∙ length-all_taken)
     (is_kept all_taken (codes "s1") ∙ has_first) (is_kept all_taken (codes "s65") ∙ lacks_more) (is_kept all_taken (codes "zz") ∙ lacks_other) refl)

@@ -1,14 +1,14 @@
--- The lines of a directory tree, entry by entry: its image is an image.
-use Rattle.std.proofs.Common.{◌≡◌, ℕ, zero, suc, ◌+◌, ◌-◌, ◌*◌, ◌/◌, ◌<◌, ◌≤◌, min, List, [], ◌∷◌, ◌++◌, length, take, drop, inl, inr, refl, sym, ap, subst, ◌∙◌, arith, append_assoc, append-nil, Some}
+-- The lines of a directory tree, entry by entry: its image is one of its version.
+use Rattle.std.proofs.Common.{◌≡◌, ℕ, zero, suc, ◌+◌, ◌-◌, ◌*◌, ◌/◌, ◌<◌, ◌≤◌, min, List, [], ◌∷◌, ◌++◌, length, take, drop, inl, inr, refl, sym, ap, subst, ◌∙◌, arith, append_assoc, append-nil, Some, decimal}
 use Rattle.std.proofs.lemmas.List.{length-take, length-drop}
 use Rattle.std.proofs.lemmas.List.Elements.{All-cons, All-drop, All-head, All-same, All-tail, All-take}
 use Rattle.std.specs.declared.cmp.Ordering.TheVariants.{Less}
 use Rattle.pathkey.specs.Enc.{enc}
 use Rattle.pathkey.specs.Names.{parent}
 use Rattle.pathkey.proofs.KeyFacts.{enc-append}
-use Rattle.reference.specs.Image.{Text, block_line, block_lines, image, lines, lines_of, trimmed}
-use Rattle.reference.specs.ImageLines.{DirectoryLine, FileLine, BlockLine, Lines, spelled, image_of_lines, last_path, last_len, next_block, HasDirectory, IsNewEntry, IsBlock, AreLines, IsImage, ImageLaw}
-use Rattle.reference.specs.Shape.{AllAbove, AreBytes, IsTree, Rising, RisingEntries}
+use Rattle.reference.specs.Image.{Text, Version, First, Second, directory_letter, file_letter, moment_text, told_moment, path_text, block_line, block_lines, image, lines, lines_of, trimmed}
+use Rattle.reference.specs.ImageLines.{DirectoryLine, FileLine, BlockLine, Lines, spelled, image_of_lines, last_path, last_len, next_block, HasDirectory, IsNewEntry, IsBlock, IsTold, AreLines, IsImage, ImageLaw}
+use Rattle.reference.specs.Shape.{AllAbove, AreBytes, IsMoment, IsTree, Rising, RisingEntries}
 use Rattle.reference.specs.Tree.{by_bytes, Name, Path, Tree, Dir, File, Entries, nothing, entry}
 use Rattle.reference.proofs.ImageBytes.{block, keep, trimmed_is}
 use Rattle.reference.proofs.LinesMade.{block_spelled, lines_law}
@@ -29,50 +29,64 @@ with_blocks b (suc i) ls = with_block i (block b i) (with_blocks b i ls)
 
 -- those of a tree that stands at the path p, and of the entries of a directory there
 abbrev mutual
-  with_lines : Path → Tree → Lines → Lines
-  with_lines p (Dir es) ls = with_entries p es (DirectoryLine p ∷ ls)
-  with_lines p (File b) ls = with_blocks b (length b / 4096 + 1) (FileLine p (length b) ∷ ls)
+  with_lines : Version → Path → Tree → Lines → Lines
+  with_lines v p (Dir date es) ls = with_entries v p es (DirectoryLine p (told_moment v date) ∷ ls)
+  with_lines v p (File date b) ls = with_blocks b (length b / 4096 + 1) (FileLine p (length b) (told_moment v date) ∷ ls)
 
-  with_entries : Path → Entries → Lines → Lines
-  with_entries p nothing ls = ls
-  with_entries p (entry n x rest) ls = with_entries p rest (with_lines (p ++ n ∷ []) x ls)
+  with_entries : Version → Path → Entries → Lines → Lines
+  with_entries v p nothing ls = ls
+  with_entries v p (entry n x rest) ls = with_entries v p rest (with_lines v (p ++ n ∷ []) x ls)
+
+-- ---- moments
+
+-- the moment that the version tells is written as the tree's own
+told_text : (v : Version) (date : ℕ) → moment_text v (told_moment v date) ≡ moment_text v date
+told_text First date = refl
+told_text Second date = refl
+
+-- and the version may tell it
+told_is : (v : Version) (date : ℕ) → IsMoment date → IsTold v (told_moment v date)
+told_is First date early = refl
+told_is Second date early = early
 
 -- ---- their text
 
-block_shown : (i : ℕ) (v : List ℕ) (ls : Lines) → image_of_lines (with_block i v ls) ≡ image_of_lines ls ++ block_line i v
-block_shown i [] ls = sym (append-nil (image_of_lines ls))
-block_shown i (x ∷ v) ls = ap (λ (t : Text). image_of_lines ls ++ t) (sym (block_spelled i (x ∷ v) (omega arith)))
+block_shown : (v : Version) (root : ℕ) (i : ℕ) (b : List ℕ) (ls : Lines) → image_of_lines v root (with_block i b ls) ≡ image_of_lines v root ls ++ block_line i b
+block_shown v root i [] ls = sym (append-nil (image_of_lines v root ls))
+block_shown v root i (x ∷ b) ls = ap (λ (t : Text). image_of_lines v root ls ++ t) (sym (block_spelled v i (x ∷ b) (omega arith)))
 
-blocks_shown : (b : List ℕ) (n : ℕ) (ls : Lines) → image_of_lines (with_blocks b n ls) ≡ image_of_lines ls ++ block_lines b n
-blocks_shown b zero ls = sym (append-nil (image_of_lines ls))
-blocks_shown b (suc i) ls =
-    block_shown i (block b i) (with_blocks b i ls)
-    ∙ ap (λ (t : Text). t ++ block_line i (block b i)) (blocks_shown b i ls)
-    ∙ append_assoc (image_of_lines ls) (block_lines b i) (block_line i (block b i))
+blocks_shown : (v : Version) (root : ℕ) (b : List ℕ) (n : ℕ) (ls : Lines) → image_of_lines v root (with_blocks b n ls) ≡ image_of_lines v root ls ++ block_lines b n
+blocks_shown v root b zero ls = sym (append-nil (image_of_lines v root ls))
+blocks_shown v root b (suc i) ls =
+    block_shown v root i (block b i) (with_blocks b i ls)
+    ∙ ap (λ (t : Text). t ++ block_line i (block b i)) (blocks_shown v root b i ls)
+    ∙ append_assoc (image_of_lines v root ls) (block_lines b i) (block_line i (block b i))
 
-directory_text : (p : Path) (es : Entries) → (spelled (DirectoryLine p) ++ 10 ∷ []) ++ lines_of p es ≡ lines p (Dir es)
-directory_text p es = simp append_assoc
+directory_text : (v : Version) (p : Path) (date : ℕ) (es : Entries) → (spelled v (DirectoryLine p (told_moment v date)) ++ 10 ∷ []) ++ lines_of v p es ≡ lines v p (Dir date es)
+directory_text v p date es = ap (λ (m : Text). ((directory_letter v ∷ 32 ∷ path_text p ++ m) ++ 10 ∷ []) ++ lines_of v p es) (told_text v date)
 
-file_text : (p : Path) (b : List ℕ) → (spelled (FileLine p (length b)) ++ 10 ∷ []) ++ block_lines b (length b / 4096 + 1) ≡ lines p (File b)
-file_text p b = simp append_assoc
+file_text : (v : Version) (p : Path) (date : ℕ) (b : List ℕ) → (spelled v (FileLine p (length b) (told_moment v date)) ++ 10 ∷ []) ++ block_lines b (length b / 4096 + 1) ≡ lines v p (File date b)
+file_text v p date b = ap (λ (m : Text). ((file_letter v ∷ 32 ∷ path_text p ++ (32 ∷ decimal (length b) ++ m)) ++ 10 ∷ []) ++ block_lines b (length b / 4096 + 1)) (told_text v date)
 
 mutual
-  lines_shown : (p : Path) (x : Tree) (ls : Lines) → image_of_lines (with_lines p x ls) ≡ image_of_lines ls ++ lines p x
-  lines_shown p (Dir es) ls =
-      entries_shown p es (DirectoryLine p ∷ ls)
-      ∙ append_assoc (image_of_lines ls) (spelled (DirectoryLine p) ++ 10 ∷ []) (lines_of p es)
-      ∙ ap (λ (t : Text). image_of_lines ls ++ t) (directory_text p es)
-  lines_shown p (File b) ls =
-      blocks_shown b (length b / 4096 + 1) (FileLine p (length b) ∷ ls)
-      ∙ append_assoc (image_of_lines ls) (spelled (FileLine p (length b)) ++ 10 ∷ []) (block_lines b (length b / 4096 + 1))
-      ∙ ap (λ (t : Text). image_of_lines ls ++ t) (file_text p b)
+  lines_shown : (v : Version) (root : ℕ) (p : Path) (x : Tree) (ls : Lines) → image_of_lines v root (with_lines v p x ls) ≡ image_of_lines v root ls ++ lines v p x
+  lines_shown v root p (Dir date es) ls =
+      let own : Text = spelled v (DirectoryLine p (told_moment v date)) ++ 10 ∷ [] in
+      entries_shown v root p es (DirectoryLine p (told_moment v date) ∷ ls)
+      ∙ append_assoc (image_of_lines v root ls) own (lines_of v p es)
+      ∙ ap (λ (t : Text). image_of_lines v root ls ++ t) (directory_text v p date es)
+  lines_shown v root p (File date b) ls =
+      let own : Text = spelled v (FileLine p (length b) (told_moment v date)) ++ 10 ∷ [] in
+      blocks_shown v root b (length b / 4096 + 1) (FileLine p (length b) (told_moment v date) ∷ ls)
+      ∙ append_assoc (image_of_lines v root ls) own (block_lines b (length b / 4096 + 1))
+      ∙ ap (λ (t : Text). image_of_lines v root ls ++ t) (file_text v p date b)
 
-  entries_shown : (p : Path) (es : Entries) (ls : Lines) → image_of_lines (with_entries p es ls) ≡ image_of_lines ls ++ lines_of p es
-  entries_shown p nothing ls = sym (append-nil (image_of_lines ls))
-  entries_shown p (entry n x rest) ls =
-      entries_shown p rest (with_lines (p ++ n ∷ []) x ls)
-      ∙ ap (λ (t : Text). t ++ lines_of p rest) (lines_shown (p ++ n ∷ []) x ls)
-      ∙ append_assoc (image_of_lines ls) (lines (p ++ n ∷ []) x) (lines_of p rest)
+  entries_shown : (v : Version) (root : ℕ) (p : Path) (es : Entries) (ls : Lines) → image_of_lines v root (with_entries v p es ls) ≡ image_of_lines v root ls ++ lines_of v p es
+  entries_shown v root p nothing ls = sym (append-nil (image_of_lines v root ls))
+  entries_shown v root p (entry n x rest) ls =
+      entries_shown v root p rest (with_lines v (p ++ n ∷ []) x ls)
+      ∙ ap (λ (t : Text). t ++ lines_of v p rest) (lines_shown v root (p ++ n ∷ []) x ls)
+      ∙ append_assoc (image_of_lines v root ls) (lines v (p ++ n ∷ []) x) (lines_of v p rest)
 
 -- ---- what a block's line tells
 
@@ -130,22 +144,22 @@ is_block b i h some = record {
 -- ---- each line may follow those before it
 
 -- lines ks that go on after lines ls with the first n blocks of a file b, whose own line comes last in ls
-record GoOnWith (b : List ℕ) (n : ℕ) (ls ks : Lines) : Type 0 where
-  are : AreLines ks
+record GoOnWith (version : Version) (b : List ℕ) (n : ℕ) (ls ks : Lines) : Type 0 where
+  are : AreLines version ks
   last : last_path ks ≡ last_path ls
   len : last_len ks ≡ Some (length b)
   next : next_block ks ≤ n
   keeps : (q : Path) → HasDirectory ls q → HasDirectory ks q
 
-block_goes_on : (b : List ℕ) (i : ℕ) (ls ks : Lines) (v : List ℕ) → AreBytes b → v ≡ block b i → GoOnWith b i ls ks → GoOnWith b (suc i) ls (with_block i v ks)
-block_goes_on b i ls ks [] bytes e h = record {
+block_goes_on : (version : Version) (b : List ℕ) (i : ℕ) (ls ks : Lines) (v : List ℕ) → AreBytes b → v ≡ block b i → GoOnWith version b i ls ks → GoOnWith version b (suc i) ls (with_block i v ks)
+block_goes_on version b i ls ks [] bytes e h = record {
   are = h.are;
   last = h.last;
   len = h.len;
   next = let low : next_block ks ≤ i = h.next in omega arith;
   keeps = h.keeps;
 }
-block_goes_on b i ls ks (x ∷ v) bytes e h =
+block_goes_on version b i ls ks (x ∷ v) bytes e h =
     let long : length (x ∷ v) ≡ length (block b i) = ap (λ (w : List ℕ). length w) e in
     let short : length (block b i) ≤ min 4096 (length b - 4096 * i) = block_short b i in
     record {
@@ -165,13 +179,13 @@ block_goes_on b i ls ks (x ∷ v) bytes e h =
       keeps = h.keeps;
     }
 
-blocks_go_on : (b : List ℕ) (n : ℕ) (ls : Lines) → AreBytes b → AreLines ls → last_len ls ≡ Some (length b) → next_block ls ≡ 0 → GoOnWith b n ls (with_blocks b n ls)
-blocks_go_on b zero ls bytes are len next = record { are = are; last = refl; len = len; next = omega arith; keeps = λ q h. h }
-blocks_go_on b (suc i) ls bytes are len next = block_goes_on b i ls (with_blocks b i ls) (block b i) bytes refl (blocks_go_on b i ls bytes are len next)
+blocks_go_on : (version : Version) (b : List ℕ) (n : ℕ) (ls : Lines) → AreBytes b → AreLines version ls → last_len ls ≡ Some (length b) → next_block ls ≡ 0 → GoOnWith version b n ls (with_blocks b n ls)
+blocks_go_on version b zero ls bytes are len next = record { are = are; last = refl; len = len; next = omega arith; keeps = λ q h. h }
+blocks_go_on version b (suc i) ls bytes are len next = block_goes_on version b i ls (with_blocks b i ls) (block b i) bytes refl (blocks_go_on version b i ls bytes are len next)
 
 -- lines ks that go on after lines ls with entries at or below the path p
-record GoOn (p : Path) (ls ks : Lines) : Type 0 where
-  are : AreLines ks
+record GoOn (version : Version) (p : Path) (ls ks : Lines) : Type 0 where
+  are : AreLines version ks
   below : Path
   last : last_path ks ≡ p ++ below
   keeps : (q : Path) → HasDirectory ls q → HasDirectory ks q
@@ -209,35 +223,45 @@ next_above p n r q (entry m x rest) e h v =
     subst (λ (z : Path). by_bytes (enc z) (enc (p ++ m ∷ [])) ≡ Less) (sym (e ∙ append_assoc p (n ∷ []) r)) (below_one p (n ∷ r) (m ∷ []) (lesser_name n m (enc r) [] (name_below p m v.0).bytes h.0))
 
 mutual
-  lines_go_on : (p : Path) (x : Tree) (ls : Lines) → AreLines ls → IsNewEntry p ls → Shown p x → Rising x → GoOn p ls (with_lines p x ls)
-  lines_go_on p (Dir es) ls are new v u =
-      let more : GoOn p (DirectoryLine p ∷ ls) (with_entries p es (DirectoryLine p ∷ ls)) = entries_go_on p es (DirectoryLine p ∷ ls) (new, are) (inl refl) [] (sym (append-nil p)) (first_above p es) v u in
+  lines_go_on : (version : Version) (p : Path) (x : Tree) (ls : Lines) → AreLines version ls → IsNewEntry p ls → Shown p x → Rising x → GoOn version p ls (with_lines version p x ls)
+  lines_go_on version p (Dir date es) ls are new v u =
+      let own : Lines = DirectoryLine p (told_moment version date) ∷ ls in
+      let more : GoOn version p own (with_entries version p es own) = entries_go_on version p es own ((new, told_is version date v.0), are) (inl refl) [] (sym (append-nil p)) (first_above p es) v.1 u in
       record { are = more.are; below = more.below; last = more.last; keeps = λ q h. more.keeps q (inr h) }
-  lines_go_on p (File b) ls are new v u =
-      let more : GoOnWith b (length b / 4096 + 1) (FileLine p (length b) ∷ ls) (with_lines p (File b) ls) = blocks_go_on b (length b / 4096 + 1) (FileLine p (length b) ∷ ls) v.bytes ((new, v.few), are) refl refl in
+  lines_go_on version p (File date b) ls are new v u =
+      let own : Lines = FileLine p (length b) (told_moment version date) ∷ ls in
+      let more : GoOnWith version b (length b / 4096 + 1) own (with_lines version p (File date b) ls) = blocks_go_on version b (length b / 4096 + 1) own v.1.bytes ((new, v.1.few, told_is version date v.0), are) refl refl in
       record { are = more.are; below = []; last = more.last ∙ sym (append-nil p); keeps = more.keeps }
 
-  entries_go_on : (p : Path) (es : Entries) (ls : Lines) → AreLines ls → HasDirectory ls p → (below : Path) → last_path ls ≡ p ++ below → IsBelowFirst (last_path ls) p es → ShownEntries p es → RisingEntries es → GoOn p ls (with_entries p es ls)
-  entries_go_on p nothing ls are there below last first v u = record { are = are; below = below; last = last; keeps = λ q h. h }
-  entries_go_on p (entry n x rest) ls are there below last first v u =
+  entries_go_on : (version : Version) (p : Path) (es : Entries) (ls : Lines) → AreLines version ls → HasDirectory ls p → (below : Path) → last_path ls ≡ p ++ below → IsBelowFirst (last_path ls) p es → ShownEntries p es → RisingEntries es → GoOn version p ls (with_entries version p es ls)
+  entries_go_on version p nothing ls are there below last first v u = record { are = are; below = below; last = last; keeps = λ q h. h }
+  entries_go_on version p (entry n x rest) ls are there below last first v u =
       let q : Path = p ++ n ∷ [] in
-      let ks : Lines = with_lines q x ls in
-      let one : GoOn q ls ks = lines_go_on q x ls are (record { path = v.0; rises = first; parent = subst (HasDirectory ls) (sym (parent_below p n)) there }) v.1 u.1 in
-      let others : GoOn p ks (with_entries p rest ks) =
-      entries_go_on p rest ks one.are (one.keeps p there) (n ∷ one.below) (one.last ∙ append_assoc p (n ∷ []) one.below) (next_above p n one.below (last_path ks) rest one.last u.0 v.2) v.2 u.2
+      let ks : Lines = with_lines version q x ls in
+      let one : GoOn version q ls ks = lines_go_on version q x ls are (record { path = v.0; rises = first; parent = subst (HasDirectory ls) (sym (parent_below p n)) there }) v.1 u.1 in
+      let others : GoOn version p ks (with_entries version p rest ks) =
+      entries_go_on version p rest ks one.are (one.keeps p there) (n ∷ one.below) (one.last ∙ append_assoc p (n ∷ []) one.below) (next_above p n one.below (last_path ks) rest one.last u.0 v.2) v.2 u.2
       in
       record { are = others.are; below = others.below; last = others.last; keeps = λ d h. others.keeps d (one.keeps d h) }
 
 -- ---- images
 
-tree_image : (t : Tree) → IsTree t → IsImage (image t)
-tree_image (File b) h = absurd h.root
-tree_image (Dir es) h =
-    let go : GoOn [] [] (with_entries [] es []) = entries_go_on [] es [] tt refl [] refl (first_above [] es) (tree_shown es h) h.rising in
-    record { lines = with_entries [] es []; are = go.are; is = sym (entries_shown [] es []) }
+tree_image : (version : Version) (t : Tree) → IsTree t → IsImage version (image version t)
+tree_image version (File date b) h = absurd h.root
+tree_image version (Dir date es) h =
+    let root : ℕ = told_moment version date in
+    let all : Shown [] (Dir date es) = tree_shown date es h in
+    let go : GoOn version [] [] (with_entries version [] es []) = entries_go_on version [] es [] tt refl [] refl (first_above [] es) all.1 h.rising in
+    record {
+      root = root;
+      told = told_is version date all.0;
+      lines = with_entries version [] es [];
+      are = go.are;
+      is = ap (λ (m : Text). ((directory_letter version ∷ 32 ∷ 47 ∷ m) ++ 10 ∷ []) ++ lines_of version [] es) (sym (told_text version date)) ∙ sym (entries_shown version root [] es []);
+    }
 
 pub image_law : ImageLaw
-image_law text = (
-  λ h. let made = lines_law h.lines h.are in (_, made.0, h.is ∙ sym made.1),
-  λ h. subst IsImage (sym h.2) (tree_image h.0 h.1),
+image_law version text = (
+  λ h. let made = lines_law version h.root h.lines h.told h.are in (_, made.0, h.is ∙ sym made.1),
+  λ h. subst (IsImage version) (sym h.2) (tree_image version h.0 h.1),
 )

@@ -1,10 +1,10 @@
--- What each file call does to a tree, and what it answers: the table of calls, case by case, the first that
+-- What each file call at a moment does to a tree, and what it answers: the table of calls, case by case, the first that
 -- fits deciding (POSIX.1-2017: mkdir, open, pwrite, truncate, unlink, rmdir, rename, pread, stat, readdir;
 -- where POSIX leaves a choice, the profile makes it once, here).
 use Rattle.std.specs.Prelude.{ℕ, ◌+◌, ◌^◌, max, nat_lt, List, [], ◌∷◌, ◌++◌, length, take, drop, Bool, true, false, cond, not, ◌&&◌, Option, Some, None}
 pub use Rattle.pathkey.specs.Names.{is_root, parent, is_under, same_path, text_len}
 pub use Rattle.pathkey.specs.Outcomes.{when}
-use Rattle.reference.specs.Tree.{Name, Path, Tree, Dir, File, Entries, nothing, entry, At, Found, Missing, Blocked, entry_at, with_entry, without, over, sized}
+use Rattle.reference.specs.Tree.{Name, Path, Tree, Dir, File, Entries, nothing, entry, At, Found, Missing, Blocked, entry_at, with_entry, without, over, sized, touched}
 use Rattle.reference.specs.declared.call.Call.{Call}
 use Rattle.reference.specs.declared.call.Call.TheVariants.{Mkdir, Create, Write, Truncate, Unlink, Rmdir, Rename, Rmtree, Read, Stat as AskStat, Readdir}
 use Rattle.reference.specs.declared.reply.Reply.{Reply}
@@ -21,22 +21,22 @@ is_found _ = false
 
 -- a directory stands there
 abbrev pub is_directory : At → Bool
-is_directory (Found (Dir es)) = true
+is_directory (Found (Dir date es)) = true
 is_directory _ = false
 
 -- a file stands there
 abbrev pub is_file : At → Bool
-is_file (Found (File b)) = true
+is_file (Found (File date b)) = true
 is_file _ = false
 
 -- a directory with an entry
 abbrev pub is_full : At → Bool
-is_full (Found (Dir (entry n x es))) = true
+is_full (Found (Dir date (entry n x es))) = true
 is_full _ = false
 
 -- the bytes of the file that stands there
 abbrev pub bytes_of : At → List ℕ
-bytes_of (Found (File b)) = b
+bytes_of (Found (File date b)) = b
 bytes_of _ = []
 
 -- why nothing is found at a path: a component is absent, or a file stands before the last one
@@ -47,8 +47,8 @@ path_fault Blocked = Some ENOTDIR
 
 -- why a path names no directory
 abbrev pub no_directory_fault : At → Option Errno
-no_directory_fault (Found (Dir es)) = None
-no_directory_fault (Found (File b)) = Some ENOTDIR
+no_directory_fault (Found (Dir date es)) = None
+no_directory_fault (Found (File date b)) = Some ENOTDIR
 no_directory_fault Missing = Some ENOENT
 no_directory_fault Blocked = Some ENOTDIR
 
@@ -64,8 +64,8 @@ is_empty (b ∷ bs) = false
 -- the longest text from a tree down to what it holds
 abbrev mutual
   pub deepest : Tree → ℕ
-  deepest (Dir es) = deepest_of es
-  deepest (File b) = 0
+  deepest (Dir date es) = deepest_of es
+  deepest (File date b) = 0
 
   pub deepest_of : Entries → ℕ
   deepest_of nothing = 0
@@ -73,8 +73,8 @@ abbrev mutual
 
 -- whether an entry is a directory or a file
 abbrev pub kind_of : Tree → Kind
-kind_of (Dir es) = Directory
-kind_of (File b) = Plain
+kind_of (Dir date es) = Directory
+kind_of (File date b) = Plain
 
 -- the kinds and names of entries, in their order
 abbrev pub listing : Entries → List (Kind × Name)
@@ -120,19 +120,20 @@ faults_of_file here e = path_fault here ∷ when (is_directory here) e ∷ []
 abbrev pub faults_of_write : Tree → Path → ℕ → List ℕ → List (Option Errno)
 faults_of_write t p off w = faults_of_file (entry_at t p) EISDIR ++ when (not (is_empty w) && nat_lt greatest_file (off + length w)) EFBIG ∷ []
 
--- `write`: the bytes laid over the file, which is lengthened by zeros where it is shorter; no bytes change nothing
-abbrev pub written : Tree → Path → ℕ → List ℕ → Outcome
-written t p off w =
+-- `write` at a moment: the bytes laid over the file, which is lengthened by zeros where it is shorter and gets the
+-- moment; no bytes change nothing
+abbrev pub written : ℕ → Tree → Path → ℕ → List ℕ → Outcome
+written at t p off w =
     unless t (faults_of_write t p off w)
-    (cond (is_empty w) (t, Count 0) (with_entry t p (File (over (bytes_of (entry_at t p)) off w)), Count (length w)))
+    (cond (is_empty w) (t, Count 0) (with_entry t p (File at (over (bytes_of (entry_at t p)) off w)), Count (length w)))
 
 -- why `truncate` is refused
 abbrev pub faults_of_truncate : Tree → Path → ℕ → List (Option Errno)
 faults_of_truncate t p n = faults_of_file (entry_at t p) EISDIR ++ when (nat_lt greatest_file n) EFBIG ∷ []
 
--- `truncate`: the file cut to n bytes, or lengthened by zeros to n
-abbrev pub truncated : Tree → Path → ℕ → Outcome
-truncated t p n = unless t (faults_of_truncate t p n) (with_entry t p (File (sized (bytes_of (entry_at t p)) n)), Done)
+-- `truncate` at a moment: the file cut to n bytes, or lengthened by zeros to n, with the moment
+abbrev pub truncated : ℕ → Tree → Path → ℕ → Outcome
+truncated at t p n = unless t (faults_of_truncate t p n) (with_entry t p (File at (sized (bytes_of (entry_at t p)) n)), Done)
 
 -- why `unlink` is refused
 abbrev pub faults_of_unlink : Tree → Path → List (Option Errno)
@@ -203,10 +204,11 @@ faults_of_read t p n = faults_of_file (entry_at t p) EISDIR ++ when (nat_lt grea
 abbrev pub read : Tree → Path → ℕ → ℕ → Outcome
 read t p off n = unless t (faults_of_read t p n) (t, Data (take n (drop off (bytes_of (entry_at t p)))))
 
--- the kind and length of what stands there; a directory has length 0
+-- the kind, the length and the moment of what stands there; a directory has length 0
 abbrev pub stat_of : At → Reply
-stat_of (Found (File b)) = Stat Plain (length b)
-stat_of _ = Stat Directory 0
+stat_of (Found (File date b)) = Stat Plain (length b) date
+stat_of (Found (Dir date es)) = Stat Directory 0 date
+stat_of _ = Stat Directory 0 0
 
 -- why `stat` is refused
 abbrev pub faults_of_stat : Tree → Path → List (Option Errno)
@@ -218,7 +220,7 @@ asked t p = unless t (faults_of_stat t p) (t, stat_of (entry_at t p))
 
 -- what a directory lists
 abbrev pub names_of : At → List (Kind × Name)
-names_of (Found (Dir es)) = listing es
+names_of (Found (Dir date es)) = listing es
 names_of _ = []
 
 -- why `readdir` is refused
@@ -229,16 +231,50 @@ faults_of_readdir t p = path_fault (entry_at t p) ∷ when (is_file (entry_at t 
 abbrev pub listed : Tree → Path → Outcome
 listed t p = unless t (faults_of_readdir t p) (t, Names (names_of (entry_at t p)))
 
--- the tree after a call, and the answer, for each of the eleven calls
-unfoldable pub does : Tree → Call → Outcome
-does t (Mkdir p) = made t p (Dir nothing)
-does t (Create p) = made t p (File [])
-does t (Write p off w) = written t p off w
-does t (Truncate p n) = truncated t p n
-does t (Unlink p) = unlinked t p
-does t (Rmdir p) = directory_removed t p
-does t (Rename o n) = renamed t o n
-does t (Rmtree p) = removed t p
-does t (Read p off n) = read t p off n
-does t (AskStat p) = asked t p
-does t (Readdir p) = listed t p
+-- the tree after a call at a moment, but for the moments of directories that stood before, and the answer: for each
+-- of the eleven calls. What is new, and a file that gets other bytes, has the moment of the call
+unfoldable pub changed : ℕ → Tree → Call → Outcome
+changed at t (Mkdir p) = made t p (Dir at nothing)
+changed at t (Create p) = made t p (File at [])
+changed at t (Write p off w) = written at t p off w
+changed at t (Truncate p n) = truncated at t p n
+changed at t (Unlink p) = unlinked t p
+changed at t (Rmdir p) = directory_removed t p
+changed at t (Rename o n) = renamed t o n
+changed at t (Rmtree p) = removed t p
+changed at t (Read p off n) = read t p off n
+changed at t (AskStat p) = asked t p
+changed at t (Readdir p) = listed t p
+
+-- two paths, or one where they are one
+abbrev pub once : Path → Path → List Path
+once p q = cond (same_path p q) (p ∷ []) (p ∷ q ∷ [])
+
+-- the directories in which the call, when it is done, puts or takes out an entry
+abbrev pub parents_of : Call → List Path
+parents_of (Mkdir p) = parent p ∷ []
+parents_of (Create p) = parent p ∷ []
+parents_of (Unlink p) = parent p ∷ []
+parents_of (Rmdir p) = parent p ∷ []
+parents_of (Rmtree p) = parent p ∷ []
+parents_of (Rename o n) = cond (same_path o n) [] (once (parent o) (parent n))
+parents_of _ = []
+
+-- the answer of a call that was done and has nothing to tell
+abbrev pub is_done : Reply → Bool
+is_done Done = true
+is_done _ = false
+
+-- where the call was done, what stands at the path gets the moment
+abbrev pub touching : ℕ → Path → Outcome → Outcome
+touching at p o = (cond (is_done o.1) (touched at o.0 p) o.0, o.1)
+
+-- and so at each of the paths, one after the other
+abbrev pub all_touching : ℕ → List Path → Outcome → Outcome
+all_touching at [] o = o
+all_touching at (p ∷ ps) o = all_touching at ps (touching at p o)
+
+-- the tree after a call at a moment, and the answer: the call's change, and the moment for the directories in which
+-- it puts or takes out an entry
+unfoldable pub does : ℕ → Tree → Call → Outcome
+does at t c = all_touching at (parents_of c) (changed at t c)

@@ -1,4 +1,5 @@
 -- The image of a tree: one line for each entry in key order, and for a file the blocks that hold a byte other than zero.
+-- It has two versions, of which the second tells moments.
 use Rattle.std.specs.Prelude.{ℕ, zero, suc, ◌+◌, ◌*◌, ◌/◌, ◌%◌, nat_lt, ◌==◌, ◌||◌, List, [], ◌∷◌, ◌++◌, length, take, drop, cond, codes, decimal, flat_map}
 use Rattle.reference.specs.Tree.{Path, Tree, Dir, File, Entries, nothing, entry}
 
@@ -38,17 +39,64 @@ abbrev pub block_lines : List ℕ → ℕ → Text
 block_lines b zero = []
 block_lines b (suc i) = block_lines b i ++ block_line i (trimmed (take 4096 (drop (4096 * i) b)))
 
+-- ---- versions
+-- version 1 of an image tells no moments, version 2 does
+pub data Version : Type 0 where
+  First : Version
+  Second : Version
+
+-- the first letter of a directory's line, and of a file's
+abbrev pub directory_letter : Version → ℕ
+directory_letter First = 100
+directory_letter Second = 68
+
+abbrev pub file_letter : Version → ℕ
+file_letter First = 102
+file_letter Second = 70
+
+-- the end of an entry's line: nothing, or a space and the moment
+abbrev pub moment_text : Version → ℕ → Text
+moment_text First at = []
+moment_text Second at = 32 ∷ decimal at
+
+-- the moment as far as the version tells it: 0 where it does not
+abbrev pub told_moment : Version → ℕ → ℕ
+told_moment First at = 0
+told_moment Second at = at
+
+-- a tree with its moments as far as the version tells them
+abbrev mutual
+  pub as_told : Version → Tree → Tree
+  as_told v (Dir date es) = Dir (told_moment v date) (as_told_of v es)
+  as_told v (File date b) = File (told_moment v date) b
+
+  pub as_told_of : Version → Entries → Entries
+  as_told_of v nothing = nothing
+  as_told_of v (entry n x rest) = entry n (as_told v x) (as_told_of v rest)
+
+-- ---- images
+-- the line of a directory whose path has the text, and that of a file of so many bytes, without their line feeds
+abbrev pub directory_line : Version → Text → ℕ → Text
+directory_line v text date = directory_letter v ∷ 32 ∷ text ++ moment_text v date
+
+abbrev pub file_line : Version → Text → ℕ → ℕ → Text
+file_line v text n date = file_letter v ∷ 32 ∷ text ++ (32 ∷ decimal n ++ moment_text v date)
+
 -- the lines of a tree that stands at the path p, and of the entries of a directory there
 abbrev mutual
-  pub lines : Path → Tree → Text
-  lines p (Dir es) = codes "d " ++ path_text p ++ 10 ∷ [] ++ lines_of p es
-  lines p (File b) = codes "f " ++ path_text p ++ 32 ∷ decimal (length b) ++ 10 ∷ block_lines b (length b / 4096 + 1)
+  pub lines : Version → Path → Tree → Text
+  lines v p (Dir date es) = (directory_line v (path_text p) date ++ 10 ∷ []) ++ lines_of v p es
+  lines v p (File date b) = (file_line v (path_text p) (length b) date ++ 10 ∷ []) ++ block_lines b (length b / 4096 + 1)
 
-  pub lines_of : Path → Entries → Text
-  lines_of p nothing = []
-  lines_of p (entry n x rest) = lines (p ++ n ∷ []) x ++ lines_of p rest
+  pub lines_of : Version → Path → Entries → Text
+  lines_of v p nothing = []
+  lines_of v p (entry n x rest) = lines v (p ++ n ∷ []) x ++ lines_of v p rest
+
+-- the line of the root, without its line feed
+abbrev pub root_line : Version → ℕ → Text
+root_line v date = directory_line v (codes "/") date
 
 -- the image of a tree whose root is a directory
-abbrev pub image : Tree → Text
-image (File b) = []
-image (Dir es) = codes "d /" ++ 10 ∷ lines_of [] es
+abbrev pub image : Version → Tree → Text
+image v (File date b) = []
+image v (Dir date es) = (root_line v date ++ 10 ∷ []) ++ lines_of v [] es

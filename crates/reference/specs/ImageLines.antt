@@ -1,17 +1,18 @@
--- Which texts are images, line by line: each line may follow those before it.
+-- Which texts are images of a version, line by line: each line may follow those before it.
 use Rattle.std.specs.Prelude.{◌≡◌, ◌≢◌, ◌⊎◌, ◌↔◌, ℕ, zero, suc, ◌+◌, ◌-◌, ◌*◌, ◌^◌, ◌<◌, ◌≤◌, List, [], ◌∷◌, ◌++◌, length, replicate, codes, decimal, flat_map, cond, ◌==◌, Option, Some, None}
 use Rattle.std.specs.declared.cmp.Ordering.TheVariants.{Less}
 use Rattle.pathkey.specs.Enc.{enc}
 use Rattle.pathkey.specs.Names.{IsPath, parent}
 use Rattle.reference.specs.Calls.{bytes_of}
-use Rattle.reference.specs.Image.{Text, two_digits, path_text, trimmed, image}
-use Rattle.reference.specs.Shape.{AreBytes, IsTree}
-use Rattle.reference.specs.Tree.{Path, Tree, Dir, File, nothing, by_bytes, entry_at, over, with_entry}
+use Rattle.reference.specs.Image.{Text, two_digits, path_text, trimmed, Version, First, Second, directory_line, file_line, root_line, image}
+use Rattle.reference.specs.Shape.{AreBytes, IsMoment, IsTree}
+use Rattle.reference.specs.Tree.{Path, Tree, Dir, File, nothing, by_bytes, At, Found, entry_at, over, with_entry, moment, moment_there}
 
--- a line below the root's: of a directory, of a file of so many bytes, or of a block with its number and its bytes
+-- a line below the root's: of a directory, of a file of so many bytes, each with its moment, or of a block with its
+-- number and its bytes
 pub data Line : Type 0 where
-  DirectoryLine : Path → Line
-  FileLine : Path → ℕ → Line
+  DirectoryLine : Path → ℕ → Line
+  FileLine : Path → ℕ → ℕ → Line
   BlockLine : ℕ → List ℕ → Line
 
 -- lines, the last one first
@@ -20,16 +21,21 @@ Lines = List Line
 
 -- ---- texts
 
--- the one spelling of a line, without its line feed
-abbrev pub spelled : Line → Text
-spelled (DirectoryLine p) = codes "d " ++ path_text p
-spelled (FileLine p n) = codes "f " ++ path_text p ++ 32 ∷ decimal n
-spelled (BlockLine i b) = codes "b " ++ decimal i ++ 32 ∷ flat_map (two_digits 87) b
+-- the one spelling of a line in a version, without its line feed
+abbrev pub spelled : Version → Line → Text
+spelled v (DirectoryLine p at) = directory_line v (path_text p) at
+spelled v (FileLine p n at) = file_line v (path_text p) n at
+spelled v (BlockLine i b) = codes "b " ++ decimal i ++ 32 ∷ flat_map (two_digits 87) b
 
--- the root's line, and these lines behind it
-abbrev pub image_of_lines : Lines → Text
-image_of_lines [] = codes "d /" ++ 10 ∷ []
-image_of_lines (l ∷ ls) = image_of_lines ls ++ (spelled l ++ 10 ∷ [])
+-- the line of the root, which has that moment, and these lines behind it
+abbrev pub image_of_lines : Version → ℕ → Lines → Text
+image_of_lines v root [] = root_line v root ++ 10 ∷ []
+image_of_lines v root (l ∷ ls) = image_of_lines v root ls ++ (spelled v l ++ 10 ∷ [])
+
+-- the moments that a line of the version may tell: it is 0 where the version tells none
+abbrev pub IsTold : Version → ℕ → Type 0
+IsTold First at = at ≡ 0
+IsTold Second at = IsMoment at
 
 -- what the line of a block tells: 1 to 4,096 bytes, the last of which is not zero
 pub record IsBlock (b : List ℕ) : Type 0 where
@@ -39,39 +45,39 @@ pub record IsBlock (b : List ℕ) : Type 0 where
   pub trims : trimmed b ≡ b
 
 -- a line that may stand in some image
-abbrev pub IsLine : Line → Type 0
-IsLine (DirectoryLine p) = IsPath p × (p ≢ [])
-IsLine (FileLine p n) = IsPath p × (p ≢ []) × (n ≤ 2 ^ 40)
-IsLine (BlockLine i b) = (i < 2 ^ 28) × IsBlock b
+abbrev pub IsLine : Version → Line → Type 0
+IsLine v (DirectoryLine p at) = IsPath p × (p ≢ []) × IsTold v at
+IsLine v (FileLine p n at) = IsPath p × (p ≢ []) × (n ≤ 2 ^ 40) × IsTold v at
+IsLine v (BlockLine i b) = (i < 2 ^ 28) × IsBlock b
 
 -- ---- what lines tell
 
 -- the path of the last entry; the root's where there is none
 abbrev pub last_path : Lines → Path
 last_path [] = []
-last_path (DirectoryLine p ∷ ls) = p
-last_path (FileLine p n ∷ ls) = p
+last_path (DirectoryLine p at ∷ ls) = p
+last_path (FileLine p n at ∷ ls) = p
 last_path (BlockLine i b ∷ ls) = last_path ls
 
 -- the length of the file whose lines come last; none where a directory's does
 abbrev pub last_len : Lines → Option ℕ
 last_len [] = None
-last_len (DirectoryLine p ∷ ls) = None
-last_len (FileLine p n ∷ ls) = Some n
+last_len (DirectoryLine p at ∷ ls) = None
+last_len (FileLine p n at ∷ ls) = Some n
 last_len (BlockLine i b ∷ ls) = last_len ls
 
 -- the first block that the next line may tell
 abbrev pub next_block : Lines → ℕ
 next_block [] = 0
-next_block (DirectoryLine p ∷ ls) = 0
-next_block (FileLine p n ∷ ls) = 0
+next_block (DirectoryLine p at ∷ ls) = 0
+next_block (FileLine p n at ∷ ls) = 0
 next_block (BlockLine i b ∷ ls) = i + 1
 
 -- there is a line of a directory at that path
 abbrev pub HasDirectory : Lines → Path → Type 0
 HasDirectory [] q = q ≡ []
-HasDirectory (DirectoryLine p ∷ ls) q = (q ≡ p) ⊎ HasDirectory ls q
-HasDirectory (FileLine p n ∷ ls) q = HasDirectory ls q
+HasDirectory (DirectoryLine p at ∷ ls) q = (q ≡ p) ⊎ HasDirectory ls q
+HasDirectory (FileLine p n at ∷ ls) q = HasDirectory ls q
 HasDirectory (BlockLine i b ∷ ls) q = HasDirectory ls q
 
 -- ---- lines of an image
@@ -92,30 +98,43 @@ pub record IsNewBlock (i : ℕ) (b : List ℕ) (ls : Lines) : Type 0 where
   pub inside : 4096 * i + length b ≤ len
 
 -- the line may follow these lines
-abbrev pub MayFollow : Line → Lines → Type 0
-MayFollow (DirectoryLine p) ls = IsNewEntry p ls
-MayFollow (FileLine p n) ls = IsNewEntry p ls × (n ≤ 2 ^ 40)
-MayFollow (BlockLine i b) ls = IsNewBlock i b ls
+abbrev pub MayFollow : Version → Line → Lines → Type 0
+MayFollow v (DirectoryLine p at) ls = IsNewEntry p ls × IsTold v at
+MayFollow v (FileLine p n at) ls = IsNewEntry p ls × (n ≤ 2 ^ 40) × IsTold v at
+MayFollow v (BlockLine i b) ls = IsNewBlock i b ls
 
 -- each line may follow those before it
-abbrev pub AreLines : Lines → Type 0
-AreLines [] = Unit {0}
-AreLines (l ∷ ls) = MayFollow l ls × AreLines ls
+abbrev pub AreLines : Version → Lines → Type 0
+AreLines v [] = Unit {0}
+AreLines v (l ∷ ls) = MayFollow v l ls × AreLines v ls
 
--- a text is an image where it is the root's line and lines of which each may follow those before it
-pub record IsImage (text : Text) : Type 0 where
+-- a text is an image of a version where it is the root's line and lines of which each may follow those before it
+pub record IsImage (v : Version) (text : Text) : Type 0 where
+  pub root : ℕ
+  pub told : IsTold v root
   pub lines : Lines
-  pub are : AreLines lines
-  pub is : text ≡ image_of_lines lines
+  pub are : AreLines v lines
+  pub is : text ≡ image_of_lines v root lines
+
+-- a text is an image of either version
+abbrev pub IsSomeImage : Text → Type 0
+IsSomeImage text = (v : Version) × IsImage v text
 
 -- ---- the tree of an image
 
--- the tree that lines make, one after the other: an entry is put, and a block's bytes are laid over its file
-abbrev pub tree_of_lines : Lines → Tree
-tree_of_lines [] = Dir nothing
-tree_of_lines (DirectoryLine p ∷ ls) = with_entry (tree_of_lines ls) p (Dir nothing)
-tree_of_lines (FileLine p n ∷ ls) = with_entry (tree_of_lines ls) p (File (replicate n 0))
-tree_of_lines (BlockLine i b ∷ ls) = with_entry (tree_of_lines ls) (last_path ls) (File (over (bytes_of (entry_at (tree_of_lines ls) (last_path ls))) (4096 * i) b))
+-- the tree that lines make, one after the other, under a root with that moment: an entry is put, and a block's bytes
+-- are laid over its file, which keeps its moment
+abbrev pub tree_of_lines : ℕ → Lines → Tree
+tree_of_lines root [] = Dir root nothing
+tree_of_lines root (DirectoryLine p at ∷ ls) = with_entry (tree_of_lines root ls) p (Dir at nothing)
+tree_of_lines root (FileLine p n at ∷ ls) = with_entry (tree_of_lines root ls) p (File at (replicate n 0))
+tree_of_lines root (BlockLine i b ∷ ls) =
+    let here : At = entry_at (tree_of_lines root ls) (last_path ls) in
+    with_entry (tree_of_lines root ls) (last_path ls) (File (moment_there here) (over (bytes_of here) (4096 * i) b))
+
+-- every moment of the tree is one that the version may tell
+abbrev pub AllTold : Version → Tree → Type 0
+AllTold v t = (p : Path) (x : Tree) → entry_at t p ≡ Found x → IsTold v (moment x)
 
 -- ---- texts cut at lines
 
@@ -127,22 +146,27 @@ first_lines (suc n) (b ∷ text) = b ∷ cond (b == 10) (first_lines n text) (fi
 
 -- the first n lines of the text are no image, and those before the last of them are one, or n is 1
 abbrev pub IsBadAt : ℕ → Text → Type 0
-IsBadAt n text = ((n ≡ 1) ⊎ IsImage (first_lines (n - 1) text)) × (IsImage (first_lines n text) → ⊥)
+IsBadAt n text = ((n ≡ 1) ⊎ IsSomeImage (first_lines (n - 1) text)) × (IsSomeImage (first_lines n text) → ⊥)
 
 -- ---- laws
 
--- lines of an image make a directory tree, of which they are the image
+-- lines of an image make a directory tree, of which they are the image, with the moments that they tell
 abbrev pub LinesLaw : Type 0
-LinesLaw = (ls : Lines) → AreLines ls → IsTree (tree_of_lines ls) × (image (tree_of_lines ls) ≡ image_of_lines ls)
+LinesLaw = (v : Version) (root : ℕ) (ls : Lines) → IsTold v root → AreLines v ls
+    → IsTree (tree_of_lines root ls) × (image v (tree_of_lines root ls) ≡ image_of_lines v root ls) × AllTold v (tree_of_lines root ls)
 
--- the images are exactly the texts that directory trees have for images
+-- the images of a version are exactly the texts that directory trees have for images of it
 abbrev pub ImageLaw : Type 0
-ImageLaw = (text : Text) → IsImage text ↔ ((t : Tree) × IsTree t × (text ≡ image t))
+ImageLaw = (v : Version) (text : Text) → IsImage v text ↔ ((t : Tree) × IsTree t × (text ≡ image v t))
 
--- lines of an image are known from it
+-- a text is an image of one version at most
+abbrev pub OneVersionLaw : Type 0
+OneVersionLaw = (v w : Version) (text : Text) → IsImage v text → IsImage w text → v ≡ w
+
+-- lines of an image, and the root's moment, are known from it
 abbrev pub OneLineLaw : Type 0
-OneLineLaw = (ls ks : Lines) → AreLines ls → AreLines ks → image_of_lines ls ≡ image_of_lines ks → ls ≡ ks
+OneLineLaw = (v : Version) (root top : ℕ) (ls ks : Lines) → IsTold v root → IsTold v top → AreLines v ls → AreLines v ks → image_of_lines v root ls ≡ image_of_lines v top ks → (root ≡ top) × (ls ≡ ks)
 
 -- the first lines of an image, one or more, are an image
 abbrev pub BeginningLaw : Type 0
-BeginningLaw = (ls : Lines) (n : ℕ) → AreLines ls → 0 < n → n ≤ length ls + 1 → IsImage (first_lines n (image_of_lines ls))
+BeginningLaw = (v : Version) (root : ℕ) (ls : Lines) (n : ℕ) → IsTold v root → AreLines v ls → 0 < n → n ≤ length ls + 1 → IsImage v (first_lines n (image_of_lines v root ls))

@@ -1,13 +1,13 @@
--- When two indexes mean a tree: one gives the metadata of each path's key, the other the bytes of each block's
--- key (full-path indexing: Jannen et al., FAST 2015).
-use Rattle.std.specs.Prelude.{◌++◌, ◌≡◌, ◌⊎◌, max, ℕ, ◌+◌, ◌-◌, ◌*◌, ◌<◌, List, [], length, take, drop, Bool, cond, ◌&&◌, nat_lt, nat_le, Option, Some, None, option_map, slice_index}
+-- When two indexes mean a tree: one gives the metadata of each path's key, with the moment of last change, the other the
+-- bytes of each block's key (full-path indexing: Jannen et al., FAST 2015).
+use Rattle.std.specs.Prelude.{◌++◌, ◌≡◌, ◌⊎◌, max, ℕ, ◌+◌, ◌-◌, ◌*◌, ◌<◌, List, [], ◌∷◌, length, take, drop, Bool, cond, ◌&&◌, nat_lt, nat_le, Option, Some, None, option_map, slice_index}
 use Rattle.pathkey.specs.Names.{IsPath}
 use Rattle.pathkey.specs.Enc.{enc}
 use Rattle.pathkey.specs.Keys.{Key, block_key, is_in, subtree}
 use Rattle.pathkey.specs.declared.range.KeyRange.{KeyRange}
 use Rattle.reference.specs.Tree.{Path, Tree, same, over}
 use Rattle.reference.specs.Shape.{IsTree}
-use Rattle.reference.specs.Looks.{Look, Directory, Bytes, look}
+use Rattle.reference.specs.Looks.{Directory, Bytes, look, Sight, Seen, sight}
 use Rattle.reference.specs.declared.reply.Meta.{Meta}
 use Rattle.reference.specs.declared.reply.Meta.TheVariants.{Dir as DirMeta, File as FileMeta}
 
@@ -20,10 +20,10 @@ abbrev pub Blocks : Type 0
 Blocks = Key → Option (List ℕ)
 
 -- the metadata of what is seen
-abbrev pub meta_of : Option Look → Option Meta
+abbrev pub meta_of : Option Sight → Option Meta
 meta_of None = None
-meta_of (Some Directory) = Some DirMeta
-meta_of (Some (Bytes b)) = Some (FileMeta (length b))
+meta_of (Some (Seen Directory date)) = Some (DirMeta date)
+meta_of (Some (Seen (Bytes b) date)) = Some (FileMeta (length b) date)
 
 -- k is the key of a path
 pub record PathOf (k : Key) : Type 0 where
@@ -33,7 +33,7 @@ pub record PathOf (k : Key) : Type 0 where
 
 -- the metadata half: each path's key has the metadata of what is seen there, and no other key has a value
 pub record MetaMeans (t : Tree) (m : Metadata) : Type 0 where
-  pub paths : (p : Path) → IsPath p → m (enc p) ≡ meta_of (look t p)
+  pub paths : (p : Path) → IsPath p → m (enc p) ≡ meta_of (sight t p)
   pub only_paths : (k : Key) (v : Meta) → m k ≡ Some v → PathOf k
 
 -- how many blocks of 4,096 bytes the longest file has
@@ -93,17 +93,28 @@ edit_at k f m j = cond (same k j) (f (m j)) (m j)
 abbrev pub moved : {V : Type 0} → Path → Path → (Key → Option V) → Key → Option V
 moved o n m k = cond (is_in (subtree n) k) (m (enc o ++ drop (length (enc n)) k)) (cond (is_in (subtree o) k) None (m k))
 
--- a file's length raised to n, where it is less
-abbrev pub grow : ℕ → Option Meta → Option Meta
-grow n None = None
-grow n (Some DirMeta) = Some DirMeta
-grow n (Some (FileMeta l)) = Some (FileMeta (max l n))
+-- a file's length raised to n, where it is less, and its moment set; a directory stays
+abbrev pub grow : ℕ → ℕ → Option Meta → Option Meta
+grow n at None = None
+grow n at (Some (DirMeta date)) = Some (DirMeta date)
+grow n at (Some (FileMeta l date)) = Some (FileMeta (max l n) at)
 
--- a file's length made n
-abbrev pub set_len : ℕ → Option Meta → Option Meta
-set_len n None = None
-set_len n (Some DirMeta) = Some DirMeta
-set_len n (Some (FileMeta l)) = Some (FileMeta n)
+-- a file's length made n, and its moment set; a directory stays
+abbrev pub set_len : ℕ → ℕ → Option Meta → Option Meta
+set_len n at None = None
+set_len n at (Some (DirMeta date)) = Some (DirMeta date)
+set_len n at (Some (FileMeta l date)) = Some (FileMeta n at)
+
+-- the moment of a directory or a file set; none stays none
+abbrev pub touch : ℕ → Option Meta → Option Meta
+touch at None = None
+touch at (Some (DirMeta date)) = Some (DirMeta at)
+touch at (Some (FileMeta l date)) = Some (FileMeta l at)
+
+-- the same at the keys of the paths, one after the other
+abbrev pub touch_at : ℕ → List Path → Metadata → Metadata
+touch_at at [] m = m
+touch_at at (p ∷ ps) m = touch_at at ps (edit_at (enc p) (touch at) m)
 
 -- the bytes of a block; none where it is absent
 abbrev pub held : Option (List ℕ) → List ℕ

@@ -1,16 +1,17 @@
 -- Laws of the definitions: what an edit changes, what a call keeps, what is seen at the paths of a tree, and
 -- which changes of two indexes mean which call.
-use Rattle.std.specs.Prelude.{◌≡◌, ◌≢◌, ◌↔◌, ℕ, ◌+◌, ◌≤◌, false, length, List, [], ◌∷◌, ◌++◌, Option, Some, None, Contains}
+use Rattle.std.specs.Prelude.{◌≡◌, ◌≢◌, ◌↔◌, ℕ, ◌+◌, ◌≤◌, false, length, List, [], ◌∷◌, ◌++◌, Option, Some, None, option_map, Contains}
 use Rattle.pathkey.specs.Enc.{enc}
+use Rattle.pathkey.specs.Names.{IsPath}
 use Rattle.pathkey.specs.Keys.{subtree, blocks_from}
 use Rattle.pathkey.specs.declared.errno.Errno.{Errno}
 use Rattle.pathkey.specs.declared.errno.Errno.TheVariants.{ENOMEM}
-use Rattle.reference.specs.Tree.{Name, Path, Tree, Dir, Entries, nothing, edited, Found, Missing, Blocked, found, named, entry_at}
-use Rattle.reference.specs.Calls.{Outcome, same_path, is_empty, parent_fault, listing, does}
-use Rattle.reference.specs.Shape.{Rising, IsTree, IsCall}
-use Rattle.reference.specs.Image.{image}
-use Rattle.reference.specs.Looks.{Directory, Bytes, seen, look, kind_at, rest_of, look_after}
-use Rattle.reference.specs.Indexes.{Metadata, Blocks, IndexesMean, put_at, deleted_at, cleared, edit_at, moved, grow, set_len, patched, cut_block, BlocksChange}
+use Rattle.reference.specs.Tree.{Name, Path, Tree, Dir, Entries, nothing, edited, touched, all_touched, Found, Missing, Blocked, found, named, entry_at}
+use Rattle.reference.specs.Calls.{Outcome, same_path, is_empty, parent_fault, listing, changed, parents_of, does}
+use Rattle.reference.specs.Shape.{IsMoment, Rising, IsTree, IsCall}
+use Rattle.reference.specs.Image.{Version, Second, image, as_told}
+use Rattle.reference.specs.Looks.{Directory, Bytes, seen, look, kind_at, rest_of, look_of, sight, sight_after, sight_touched}
+use Rattle.reference.specs.Indexes.{Metadata, Blocks, IndexesMean, put_at, deleted_at, cleared, edit_at, moved, grow, set_len, touch, touch_at, patched, cut_block, BlocksChange}
 use Rattle.reference.specs.declared.call.Call.{Call}
 use Rattle.reference.specs.declared.call.Call.TheVariants.{Mkdir, Create, Write, Truncate, Unlink, Rmdir, Rename, Rmtree, Read, Stat as AskStat, Readdir}
 use Rattle.reference.specs.declared.reply.Reply.TheVariants.{Done, Count, Fault}
@@ -21,7 +22,11 @@ use Rattle.reference.specs.declared.reply.Meta.TheVariants.{Dir as DirMeta, File
 
 -- what is seen in a tree after one entry was put or taken out, its parent being a directory
 abbrev pub EditLaw : Type 0
-EditLaw = (t : Tree) (p : Path) (o : Option Tree) (q : Path) → p ≢ [] → parent_fault t p ≡ None → look (edited t p o) q ≡ look_after (rest_of p q) o (look t q)
+EditLaw = (t : Tree) (p : Path) (o : Option Tree) (q : Path) → p ≢ [] → parent_fault t p ≡ None → sight (edited t p o) q ≡ sight_after (rest_of p q) o (sight t q)
+
+-- what is seen in a tree after the moment was set at a path: that moment there, and all else as it was
+abbrev pub TouchedLaw : Type 0
+TouchedLaw = (at : ℕ) (t : Tree) (p q : Path) → sight (touched at t p) q ≡ sight_touched at (rest_of p q) (sight t q)
 
 -- an entry that is put keeps the names of each directory rising
 abbrev pub PutRisesLaw : Type 0
@@ -35,26 +40,35 @@ OutRisesLaw = (t : Tree) (p : Path) → Rising t → Rising (edited t p None)
 
 -- each of the eleven calls makes a directory tree of a directory tree
 abbrev pub CallLaw : Type 0
-CallLaw = (t : Tree) (c : Call) → IsTree t → IsCall c → IsTree (does t c).0
+CallLaw = (at : ℕ) (t : Tree) (c : Call) → IsMoment at → IsTree t → IsCall c → IsTree (does at t c).0
 
 -- a call that is refused changes nothing
 abbrev pub FaultLaw : Type 0
-FaultLaw = (t : Tree) (c : Call) (e : Errno) → (does t c).1 ≡ Fault e → (does t c).0 ≡ t
+FaultLaw = (at : ℕ) (t : Tree) (c : Call) (e : Errno) → (does at t c).1 ≡ Fault e → (does at t c).0 ≡ t
 
--- a call that reads, and a write of no bytes, change nothing
+-- a call that reads, a write of no bytes, and a rename onto itself change nothing
 abbrev pub ReadingLaw : Type 0
-ReadingLaw = (t : Tree) (p : Path) (off n : ℕ) →
-    ((does t (Read p off n)).0 ≡ t) × ((does t (AskStat p)).0 ≡ t) × ((does t (Readdir p)).0 ≡ t) × ((does t (Write p off [])).0 ≡ t)
+ReadingLaw = (at : ℕ) (t : Tree) (p : Path) (off n : ℕ) →
+    ((does at t (Read p off n)).0 ≡ t) × ((does at t (AskStat p)).0 ≡ t) × ((does at t (Readdir p)).0 ≡ t) × ((does at t (Write p off [])).0 ≡ t) × ((does at t (Rename p p)).0 ≡ t)
 
 -- the table of calls never answers want of memory: that comes only from memory that was really refused
 abbrev pub NeverLacksLaw : Type 0
-NeverLacksLaw = (t : Tree) (c : Call) → (does t c).1 ≢ Fault ENOMEM
+NeverLacksLaw = (at : ℕ) (t : Tree) (c : Call) → (does at t c).1 ≢ Fault ENOMEM
+
+-- a call that is done changes the tree but for its directories' moments, and those get the moment of the call
+abbrev pub DoneLaw : Type 0
+DoneLaw = (at : ℕ) (t t' : Tree) (c : Call) → ◌≡◌ {A = Outcome} (does at t c) (t', Done)
+    → (u : Tree) × (◌≡◌ {A = Outcome} (changed at t c) (u, Done)) × (t' ≡ all_touched at u (parents_of c))
 
 -- ---- what is seen
 
--- two trees in order that look alike at each path are one
+-- two trees in order that look alike at each path, moments too, are one
 abbrev pub OneTreeLaw : Type 0
-OneTreeLaw = (t u : Tree) → Rising t → Rising u → ((p : Path) → look t p ≡ look u p) → t ≡ u
+OneTreeLaw = (t u : Tree) → Rising t → Rising u → ((p : Path) → sight t p ≡ sight u p) → t ≡ u
+
+-- what is seen without its moment is seen
+abbrev pub SightLaw : Type 0
+SightLaw = (t : Tree) (p : Path) → look t p ≡ option_map look_of (sight t p)
 
 -- below a file the way is blocked
 abbrev pub BlockedLaw : Type 0
@@ -66,17 +80,21 @@ MissingLaw = (t : Tree) (p : Path) (n : Name) (r : Path) → look t p ≡ Some D
 
 -- what is seen one name below a directory is its entry of that name
 abbrev pub ChildLaw : Type 0
-ChildLaw = (t : Tree) (p : Path) (es : Entries) (n : Name) → entry_at t p ≡ Found (Dir es) → look t (p ++ n ∷ []) ≡ seen (found (named n es))
+ChildLaw = (t : Tree) (p : Path) (date : ℕ) (es : Entries) (n : Name) → entry_at t p ≡ Found (Dir date es) → look t (p ++ n ∷ []) ≡ seen (found (named n es))
 
 -- a directory lists exactly the names at which something is seen, each with its kind
 abbrev pub ListingLaw : Type 0
-ListingLaw = (t : Tree) (p : Path) (es : Entries) (k : Kind) (n : Name) → Rising t → entry_at t p ≡ Found (Dir es) → Contains (listing es) (k, n) ↔ (kind_at t (p ++ n ∷ []) ≡ Some k)
+ListingLaw = (t : Tree) (p : Path) (date : ℕ) (es : Entries) (k : Kind) (n : Name) → Rising t → entry_at t p ≡ Found (Dir date es) → Contains (listing es) (k, n) ↔ (kind_at t (p ++ n ∷ []) ≡ Some k)
 
 -- ---- images
 
--- two directory trees of one image are one tree
+-- two directory trees of one image are one tree, as far as its version tells: in version 1 but for moments
 abbrev pub OneImageLaw : Type 0
-OneImageLaw = (t u : Tree) → IsTree t → IsTree u → image t ≡ image u → t ≡ u
+OneImageLaw = (v : Version) (t u : Tree) → IsTree t → IsTree u → image v t ≡ image v u → as_told v t ≡ as_told v u
+
+-- version 2 tells the whole tree
+abbrev pub ToldLaw : Type 0
+ToldLaw = (t : Tree) → as_told Second t ≡ t
 
 -- ---- indexes
 
@@ -86,36 +104,47 @@ OneMeaningLaw = (t u : Tree) (m : Metadata) (d : Blocks) → IndexesMean t m d �
 
 -- the root's metadata alone, and no block, mean the empty tree
 abbrev pub FreshLaw : Type 0
-FreshLaw = IndexesMean (Dir nothing) (put_at (enc []) DirMeta (λ k. None)) (λ k. None)
+FreshLaw = IndexesMean (Dir 0 nothing) (put_at (enc []) (DirMeta 0) (λ k. None)) (λ k. None)
 
--- where two indexes mean a tree, these changes of them mean these calls when they are done
+-- where two indexes mean a tree, a moment set in the metadata is one set in the tree
+abbrev pub TouchLaw : Type 0
+TouchLaw = (at : ℕ) (t : Tree) (p : Path) (m : Metadata) (d : Blocks) → IsMoment at → IndexesMean t m d → IsPath p → IndexesMean (touched at t p) (edit_at (enc p) (touch at) m) d
+
+-- where two indexes mean a tree, these changes of them mean these calls when they are done: what the call itself
+-- changes, and then the moment of its directories
 abbrev pub MkdirLaw : Type 0
-MkdirLaw = (t t' : Tree) (p : Path) (m : Metadata) (d : Blocks) → IndexesMean t m d → IsCall (Mkdir p) → ◌≡◌ {A = Outcome} (does t (Mkdir p)) (t', Done) → IndexesMean t' (put_at (enc p) DirMeta m) d
+MkdirLaw = (at : ℕ) (t t' : Tree) (p : Path) (m : Metadata) (d : Blocks) → IsMoment at → IndexesMean t m d → IsCall (Mkdir p) → ◌≡◌ {A = Outcome} (does at t (Mkdir p)) (t', Done)
+    → IndexesMean t' (touch_at at (parents_of (Mkdir p)) (put_at (enc p) (DirMeta at) m)) d
 
 abbrev pub CreateLaw : Type 0
-CreateLaw = (t t' : Tree) (p : Path) (m : Metadata) (d : Blocks) → IndexesMean t m d → IsCall (Create p) → ◌≡◌ {A = Outcome} (does t (Create p)) (t', Done) → IndexesMean t' (put_at (enc p) (FileMeta 0) m) d
+CreateLaw = (at : ℕ) (t t' : Tree) (p : Path) (m : Metadata) (d : Blocks) → IsMoment at → IndexesMean t m d → IsCall (Create p) → ◌≡◌ {A = Outcome} (does at t (Create p)) (t', Done)
+    → IndexesMean t' (touch_at at (parents_of (Create p)) (put_at (enc p) (FileMeta 0 at) m)) d
 
 abbrev pub WriteLaw : Type 0
-WriteLaw = (t t' : Tree) (p : Path) (off : ℕ) (w : List ℕ) (m : Metadata) (d d' : Blocks) → IndexesMean t m d → IsCall (Write p off w) → is_empty w ≡ false → BlocksChange (patched off w) p d d'
-    → ◌≡◌ {A = Outcome} (does t (Write p off w)) (t', Count (length w)) → IndexesMean t' (edit_at (enc p) (grow (off + length w)) m) d'
+WriteLaw = (at : ℕ) (t t' : Tree) (p : Path) (off : ℕ) (w : List ℕ) (m : Metadata) (d d' : Blocks) → IsMoment at → IndexesMean t m d → IsCall (Write p off w) → is_empty w ≡ false → BlocksChange (patched off w) p d d'
+    → ◌≡◌ {A = Outcome} (does at t (Write p off w)) (t', Count (length w)) → IndexesMean t' (edit_at (enc p) (grow (off + length w) at) m) d'
 
 abbrev pub TruncateLaw : Type 0
-TruncateLaw = (t t' : Tree) (p : Path) (n : ℕ) (m : Metadata) (d d' : Blocks) → IndexesMean t m d → IsCall (Truncate p n) → BlocksChange (cut_block n) p d d'
-    → ◌≡◌ {A = Outcome} (does t (Truncate p n)) (t', Done) → IndexesMean t' (edit_at (enc p) (set_len n) m) d'
+TruncateLaw = (at : ℕ) (t t' : Tree) (p : Path) (n : ℕ) (m : Metadata) (d d' : Blocks) → IsMoment at → IndexesMean t m d → IsCall (Truncate p n) → BlocksChange (cut_block n) p d d'
+    → ◌≡◌ {A = Outcome} (does at t (Truncate p n)) (t', Done) → IndexesMean t' (edit_at (enc p) (set_len n at) m) d'
 
 -- to lengthen a file changes no block
 abbrev pub LengthenLaw : Type 0
-LengthenLaw = (t t' : Tree) (p : Path) (n : ℕ) (b : List ℕ) (m : Metadata) (d : Blocks) → IndexesMean t m d → IsCall (Truncate p n) → look t p ≡ Some (Bytes b) → length b ≤ n
-    → ◌≡◌ {A = Outcome} (does t (Truncate p n)) (t', Done) → IndexesMean t' (edit_at (enc p) (set_len n) m) d
+LengthenLaw = (at : ℕ) (t t' : Tree) (p : Path) (n : ℕ) (b : List ℕ) (m : Metadata) (d : Blocks) → IsMoment at → IndexesMean t m d → IsCall (Truncate p n) → look t p ≡ Some (Bytes b) → length b ≤ n
+    → ◌≡◌ {A = Outcome} (does at t (Truncate p n)) (t', Done) → IndexesMean t' (edit_at (enc p) (set_len n at) m) d
 
 abbrev pub UnlinkLaw : Type 0
-UnlinkLaw = (t t' : Tree) (p : Path) (m : Metadata) (d : Blocks) → IndexesMean t m d → IsCall (Unlink p) → ◌≡◌ {A = Outcome} (does t (Unlink p)) (t', Done) → IndexesMean t' (deleted_at (enc p) m) (cleared (blocks_from p 0) d)
+UnlinkLaw = (at : ℕ) (t t' : Tree) (p : Path) (m : Metadata) (d : Blocks) → IsMoment at → IndexesMean t m d → IsCall (Unlink p) → ◌≡◌ {A = Outcome} (does at t (Unlink p)) (t', Done)
+    → IndexesMean t' (touch_at at (parents_of (Unlink p)) (deleted_at (enc p) m)) (cleared (blocks_from p 0) d)
 
 abbrev pub RmdirLaw : Type 0
-RmdirLaw = (t t' : Tree) (p : Path) (m : Metadata) (d : Blocks) → IndexesMean t m d → IsCall (Rmdir p) → ◌≡◌ {A = Outcome} (does t (Rmdir p)) (t', Done) → IndexesMean t' (deleted_at (enc p) m) d
+RmdirLaw = (at : ℕ) (t t' : Tree) (p : Path) (m : Metadata) (d : Blocks) → IsMoment at → IndexesMean t m d → IsCall (Rmdir p) → ◌≡◌ {A = Outcome} (does at t (Rmdir p)) (t', Done)
+    → IndexesMean t' (touch_at at (parents_of (Rmdir p)) (deleted_at (enc p) m)) d
 
 abbrev pub RmtreeLaw : Type 0
-RmtreeLaw = (t t' : Tree) (p : Path) (m : Metadata) (d : Blocks) → IndexesMean t m d → IsCall (Rmtree p) → ◌≡◌ {A = Outcome} (does t (Rmtree p)) (t', Done) → IndexesMean t' (cleared (subtree p) m) (cleared (subtree p) d)
+RmtreeLaw = (at : ℕ) (t t' : Tree) (p : Path) (m : Metadata) (d : Blocks) → IsMoment at → IndexesMean t m d → IsCall (Rmtree p) → ◌≡◌ {A = Outcome} (does at t (Rmtree p)) (t', Done)
+    → IndexesMean t' (touch_at at (parents_of (Rmtree p)) (cleared (subtree p) m)) (cleared (subtree p) d)
 
 abbrev pub RenameLaw : Type 0
-RenameLaw = (t t' : Tree) (o n : Path) (m : Metadata) (d : Blocks) → IndexesMean t m d → IsCall (Rename o n) → same_path o n ≡ false → ◌≡◌ {A = Outcome} (does t (Rename o n)) (t', Done) → IndexesMean t' (moved o n m) (moved o n d)
+RenameLaw = (at : ℕ) (t t' : Tree) (o n : Path) (m : Metadata) (d : Blocks) → IsMoment at → IndexesMean t m d → IsCall (Rename o n) → same_path o n ≡ false → ◌≡◌ {A = Outcome} (does at t (Rename o n)) (t', Done)
+    → IndexesMean t' (touch_at at (parents_of (Rename o n)) (moved o n m)) (moved o n d)

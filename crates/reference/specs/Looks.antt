@@ -1,4 +1,5 @@
--- What is seen of a tree at a path: a directory, or a file with its bytes, but not what a directory holds.
+-- What is seen of a tree at a path: a directory, or a file with its bytes, but not what a directory holds; and the same
+-- with its moment of last change.
 -- An edit changes what is seen at its path and below it, and nowhere else.
 use Rattle.std.specs.Prelude.{ℕ, List, [], ◌∷◌, cond, Option, Some, None, option_map, fold}
 use Rattle.reference.specs.Tree.{Path, Tree, Dir, File, At, Found, Missing, Blocked, entry_at, found, onward, same}
@@ -10,12 +11,12 @@ pub data Look : Type 0 where
   Bytes : List ℕ → Look
 
 abbrev pub seen : At → Option Look
-seen (Found (Dir es)) = Some Directory
-seen (Found (File b)) = Some (Bytes b)
+seen (Found (Dir date es)) = Some Directory
+seen (Found (File date b)) = Some (Bytes b)
 seen Missing = None
 seen Blocked = None
 
--- what is seen at a path
+-- what is seen at a path, but for its moment
 abbrev pub look : Tree → Path → Option Look
 look t p = seen (entry_at t p)
 
@@ -37,3 +38,40 @@ rest_of (n ∷ p) (k ∷ q) = cond (same n k) (rest_of p q) None
 abbrev pub look_after : Option Path → Option Tree → Option Look → Option Look
 look_after (Some r) o old = seen (fold onward (found o) r)
 look_after None o old = old
+
+-- ---- with moments
+-- what is seen, and its moment of last change
+pub data Sight : Type 0 where
+  Seen : Look → ℕ → Sight
+
+abbrev pub look_of : Sight → Look
+look_of (Seen l date) = l
+
+abbrev pub date_of : Sight → ℕ
+date_of (Seen l date) = date
+
+abbrev pub sighted : At → Option Sight
+sighted (Found (Dir date es)) = Some (Seen Directory date)
+sighted (Found (File date b)) = Some (Seen (Bytes b) date)
+sighted Missing = None
+sighted Blocked = None
+
+-- what is seen at a path, with its moment
+abbrev pub sight : Tree → Path → Option Sight
+sight t p = sighted (entry_at t p)
+
+-- the same after an edit at or above the path by o
+abbrev pub sight_after : Option Path → Option Tree → Option Sight → Option Sight
+sight_after (Some r) o old = sighted (fold onward (found o) r)
+sight_after None o old = old
+
+-- the same with another moment
+abbrev pub redated : ℕ → Option Sight → Option Sight
+redated at None = None
+redated at (Some (Seen l date)) = Some (Seen l at)
+
+-- the same after the moment was set at the path, or elsewhere
+abbrev pub sight_touched : ℕ → Option Path → Option Sight → Option Sight
+sight_touched at (Some []) old = redated at old
+sight_touched at (Some (n ∷ r)) old = old
+sight_touched at None old = old

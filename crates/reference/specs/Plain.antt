@@ -16,8 +16,8 @@ use Rattle.reference.specs.declared.plain.effect.Effect.TheVariants.{Kept, Chang
 -- a tree of the program, and the entries of a directory
 abbrev mutual
   pub tree_of : PlainTree → Tree
-  tree_of (Dir' p es) = Dir (entries_of es)
-  tree_of (PlainFile v) = File v.items
+  tree_of (Dir' date p es) = Dir date (entries_of es)
+  tree_of (PlainFile date v) = File date v.items
 
   pub entries_of : PlainEntries → Entries
   entries_of Nothing = nothing

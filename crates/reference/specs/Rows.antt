@@ -8,7 +8,7 @@ use Rattle.pathkey.specs.declared.errno.Errno.{Errno}
 use Rattle.pathkey.specs.declared.errno.Errno.TheVariants.{ENOENT, ENOTDIR, EISDIR, EEXIST, ENOTEMPTY, EPERM, EINVAL, ENAMETOOLONG, EFBIG, EBUSY, ENOSPC}
 use Rattle.reference.specs.Tree.{Name, Path, Tree, Dir, nothing}
 use Rattle.reference.specs.Calls.{does}
-use Rattle.reference.specs.Image.{Text, image}
+use Rattle.reference.specs.Image.{Text, First, Second, image}
 use Rattle.reference.specs.Worlds.{World, Event, Ask, TakeSnapshot, DropSnapshot, RestoreSnapshot, Answer, Replied, Settled, outcome}
 use Rattle.reference.specs.declared.call.Call.{Call}
 use Rattle.reference.specs.declared.call.Call.TheVariants.{Mkdir, Create, Write, Truncate, Unlink, Rmdir, Rename, Rmtree, Read, Stat as AskStat, Readdir}
@@ -29,18 +29,18 @@ path text = or_root (parsed (codes text))
 abbrev pub answer_first : Reply → Tree × List Reply → Tree × List Reply
 answer_first r o = (o.0, r ∷ o.1)
 
--- the tree after a list of calls, and their answers
+-- the tree after a list of calls at the moment 0, and their answers
 abbrev pub does_all : Tree → List Call → Tree × List Reply
 does_all t [] = (t, [])
-does_all t (c ∷ cs) = answer_first (does t c).1 (does_all (does t c).0 cs)
+does_all t (c ∷ cs) = answer_first (does 0 t c).1 (does_all (does 0 t c).0 cs)
 
 -- the answers of a list of calls, from the empty tree on
 abbrev pub answers : List Call → List Reply
-answers cs = (does_all (Dir nothing) cs).1
+answers cs = (does_all (Dir 0 nothing) cs).1
 
 -- a new directory is seen, with length 0
 abbrev pub NewDirectory : Type 0
-NewDirectory = answers (Mkdir (path "/a") ∷ AskStat (path "/a") ∷ []) ≡ Done ∷ Stat Directory 0 ∷ []
+NewDirectory = answers (Mkdir (path "/a") ∷ AskStat (path "/a") ∷ []) ≡ Done ∷ Stat Directory 0 0 ∷ []
 
 -- a missing parent is told from a file in its place
 abbrev pub PrefixFaults : Type 0
@@ -58,7 +58,7 @@ SubtreeIsNotSibling =
 abbrev pub GapReadsAsZeros : Type 0
 GapReadsAsZeros =
     answers (Create (path "/f") ∷ Write (path "/f") 4095 (170 ∷ 187 ∷ []) ∷ Read (path "/f") 4094 4 ∷ AskStat (path "/f") ∷ [])
-    ≡ Done ∷ Count 2 ∷ Data (0 ∷ 170 ∷ 187 ∷ []) ∷ Stat Plain 4097 ∷ []
+    ≡ Done ∷ Count 2 ∷ Data (0 ∷ 170 ∷ 187 ∷ []) ∷ Stat Plain 4097 0 ∷ []
 
 -- a file that is cut and lengthened again has zeros where its bytes were
 abbrev pub cut_and_lengthened : List Call
@@ -70,21 +70,21 @@ CutAndLengthened = answers cut_and_lengthened ≡ Done ∷ Count 10 ∷ Done ∷
 
 -- the image of the tree after a list of calls, from the empty tree on
 abbrev pub image_after : List Call → Text
-image_after cs = image (does_all (Dir nothing) cs).0
+image_after cs = image Second (does_all (Dir 0 nothing) cs).0
 
 -- the empty tree's image has one line
 abbrev pub EmptyImage : Type 0
-EmptyImage = image_after [] ≡ codes "d /" ++ 10 ∷ []
+EmptyImage = image_after [] ≡ codes "D / 0" ++ 10 ∷ []
 
 -- the image has a file's length, and of its blocks those alone that hold a byte other than zero
 abbrev pub CutAndLengthenedImage : Type 0
-CutAndLengthenedImage = image_after cut_and_lengthened ≡ codes "d /" ++ 10 ∷ [] ++ codes "f /f 9000" ++ 10 ∷ [] ++ codes "b 0 ffffffffff" ++ 10 ∷ []
+CutAndLengthenedImage = image_after cut_and_lengthened ≡ codes "D / 0" ++ 10 ∷ [] ++ codes "F /f 9000 0" ++ 10 ∷ [] ++ codes "b 0 ffffffffff" ++ 10 ∷ []
 
 -- a file has at most 2^40 bytes: a write that ends past them is refused, and one of no bytes there is not
 abbrev pub AtTheGreatestFile : Type 0
 AtTheGreatestFile =
     answers (Create (path "/f") ∷ Write (path "/f") 1099511627775 (1 ∷ []) ∷ Write (path "/f") 1099511627776 (1 ∷ []) ∷ Write (path "/f") 1099511627776 [] ∷ AskStat (path "/f") ∷ Read (path "/f") 1099511627775 2 ∷ [])
-    ≡ Done ∷ Count 1 ∷ Fault EFBIG ∷ Count 0 ∷ Stat Plain 1099511627776 ∷ Data (1 ∷ []) ∷ []
+    ≡ Done ∷ Count 1 ∷ Fault EFBIG ∷ Count 0 ∷ Stat Plain 1099511627776 0 ∷ Data (1 ∷ []) ∷ []
 
 -- a directory cannot be moved below itself; to move it onto itself does nothing
 abbrev pub RenameBelowItself : Type 0
@@ -131,6 +131,50 @@ FaultsOfEachKind =
     ∷ Read (path "/a") 0 1 ∷ Read (path "/f") 0 1048577 ∷ Read (path "/f") 9 1 ∷ [])
     ≡ Done ∷ Fault EPERM ∷ Fault EPERM ∷ Fault EBUSY ∷ Done ∷ Fault ENOTDIR ∷ Fault ENOTDIR ∷ Fault EISDIR ∷ Fault EINVAL ∷ Data [] ∷ []
 
+-- ---- moments
+-- the tree after a list of calls, each at its moment, and their answers
+abbrev pub does_each : Tree → List (ℕ × Call) → Tree × List Reply
+does_each t [] = (t, [])
+does_each t (c ∷ cs) = answer_first (does c.0 t c.1).1 (does_each (does c.0 t c.1).0 cs)
+
+-- the answers of a list of calls, each at its moment, from the empty tree on
+abbrev pub answers_at : List (ℕ × Call) → List Reply
+answers_at cs = (does_each (Dir 0 nothing) cs).1
+
+-- a directory with a file that was written at a moment before those of the directory
+abbrev pub written_early : List (ℕ × Call)
+written_early = (5, Mkdir (path "/a")) ∷ (9, Create (path "/a/f")) ∷ (7, Write (path "/a/f") 0 (170 ∷ [])) ∷ []
+
+-- what asks for the moments of those three
+abbrev pub asked_each : ℕ → String → String → String → List (ℕ × Call)
+asked_each at p q r = (at, AskStat (path p)) ∷ (at, AskStat (path q)) ∷ (at, AskStat (path r)) ∷ []
+
+-- a new entry and its directory get the moment of the call, a write gives it to the file alone, and moments may fall
+abbrev pub MomentsOfCalls : Type 0
+MomentsOfCalls =
+    answers_at (written_early ++ asked_each 8 "/a" "/a/f" "/")
+    ≡ Done ∷ Done ∷ Count 1 ∷ Stat Directory 0 9 ∷ Stat Plain 1 7 ∷ Stat Directory 0 5 ∷ []
+
+-- a rename gives it to both directories, and what is moved keeps its own
+abbrev pub MomentsOfRename : Type 0
+MomentsOfRename =
+    answers_at (written_early ++ (11, Rename (path "/a/f") (path "/g")) ∷ asked_each 12 "/g" "/a" "/")
+    ≡ Done ∷ Done ∷ Count 1 ∷ Done ∷ Stat Plain 1 7 ∷ Stat Directory 0 11 ∷ Stat Directory 0 11 ∷ []
+
+-- what takes an entry out gives it to the directory; refusals, an empty write and a rename onto itself to none
+abbrev pub MomentsThatStay : Type 0
+MomentsThatStay =
+    answers_at (written_early ++ (20, Mkdir (path "/a")) ∷ (21, Write (path "/a/f") 3 []) ∷ (22, Rename (path "/a/f") (path "/a/f")) ∷ (23, Rmdir (path "/a")) ∷ asked_each 24 "/a" "/a/f" "/"
+    ++ (3, Unlink (path "/a/f")) ∷ (25, AskStat (path "/a")) ∷ (2, Rmtree (path "/a")) ∷ (26, AskStat (path "/")) ∷ [])
+    ≡ Done ∷ Done ∷ Count 1 ∷ Fault EEXIST ∷ Count 0 ∷ Done ∷ Fault ENOTEMPTY ∷ Stat Directory 0 9 ∷ Stat Plain 1 7 ∷ Stat Directory 0 5
+    ∷ Done ∷ Stat Directory 0 3 ∷ Done ∷ Stat Directory 0 2 ∷ []
+
+-- the image of version 2 has the moments, that of version 1 has not
+abbrev pub MomentsInImages : Type 0
+MomentsInImages =
+    (image Second (does_each (Dir 0 nothing) written_early).0 ≡ codes "D / 5" ++ 10 ∷ codes "D /a 9" ++ 10 ∷ codes "F /a/f 1 7" ++ 10 ∷ codes "b 0 aa" ++ 10 ∷ [])
+    × (image First (does_each (Dir 0 nothing) written_early).0 ≡ codes "d /" ++ 10 ∷ codes "d /a" ++ 10 ∷ codes "f /a/f 1" ++ 10 ∷ codes "b 0 aa" ++ 10 ∷ [])
+
 -- ---- texts of paths
 -- a name of 255 bytes is read, a longer one is not, and neither are texts that are no paths
 abbrev pub NamesAtTheLimit : Type 0
@@ -141,7 +185,7 @@ NamesAtTheLimit =
 -- ---- snapshots
 -- the world with an empty tree and no snapshots
 abbrev pub new_world : World
-new_world = record { live = Dir nothing; snapshots = finmap.empty }
+new_world = record { live = Dir 0 nothing; snapshots = finmap.empty }
 
 -- the answer before those of the events that follow
 abbrev pub told_first : Answer → World × List Answer → World × List Answer
@@ -158,16 +202,16 @@ told es = (happens_all new_world es).1
 
 -- what a reading call answers in the snapshot of that name, after a list of events
 abbrev pub told_in_snapshot : List Event → List ℕ → Call → Option Reply
-told_in_snapshot es s c = option_map (λ t. (does t c).1) (finmap.get (happens_all new_world es).0.snapshots s)
+told_in_snapshot es s c = option_map (λ t. (does 0 t c).1) (finmap.get (happens_all new_world es).0.snapshots s)
 
 -- `/a` with a file was kept under the name `s` and then removed
 abbrev pub kept_and_removed : List Event
-kept_and_removed = Ask (Mkdir (path "/a")) ∷ Ask (Create (path "/a/x")) ∷ TakeSnapshot (codes "s") ∷ Ask (Rmtree (path "/a")) ∷ []
+kept_and_removed = Ask (Mkdir (path "/a")) 0 ∷ Ask (Create (path "/a/x")) 0 ∷ TakeSnapshot (codes "s") ∷ Ask (Rmtree (path "/a")) 0 ∷ []
 
 -- a snapshot keeps its tree, whatever is done to the live one
 abbrev pub SnapshotKeepsItsTree : Type 0
 SnapshotKeepsItsTree =
-    told (kept_and_removed ++ Ask (AskStat (path "/a")) ∷ RestoreSnapshot (codes "s") ∷ Ask (Readdir (path "/a")) ∷ [])
+    told (kept_and_removed ++ Ask (AskStat (path "/a")) 0 ∷ RestoreSnapshot (codes "s") ∷ Ask (Readdir (path "/a")) 0 ∷ [])
     ≡ Replied Done ∷ Replied Done ∷ Settled (Ok tt) ∷ Replied Done ∷ Replied (Fault ENOENT) ∷ Settled (Ok tt) ∷ Replied (Names ((Plain, codes "x") ∷ [])) ∷ []
 
 -- and it is read as it was

@@ -6,11 +6,11 @@ use Rattle.std.specs.declared.cmp.Ordering.TheVariants.{Less, Equal, Greater}
 pub use Rattle.pathkey.specs.Order.{by_bytes, same}
 pub use Rattle.pathkey.specs.Names.{Name, Path}
 
--- a directory of named entries, or a file of bytes
+-- a directory of named entries, or a file of bytes, each with its moment of last change
 mutual
   pub data Tree : Type 0 where
-    Dir : Entries → Tree
-    File : List ℕ → Tree
+    Dir : ℕ → Entries → Tree
+    File : ℕ → List ℕ → Tree
 
   pub data Entries : Type 0 where
     nothing : Entries
@@ -49,8 +49,8 @@ found (Some x) = Found x
 
 -- one name further
 abbrev pub onward : At → Name → At
-onward (Found (Dir es)) n = found (named n es)
-onward (Found (File b)) n = Blocked
+onward (Found (Dir date es)) n = found (named n es)
+onward (Found (File date b)) n = Blocked
 onward Missing n = Missing
 onward Blocked n = Blocked
 
@@ -63,12 +63,12 @@ abbrev pub set_entry : Name → Option Tree → Entries → Entries
 set_entry n (Some x) es = put n x es
 set_entry n None es = take_out n es
 
--- the tree with the entry at a path put or taken out; as it was at the root, and where no directory stands above the path
+-- the tree with the entry at a path put or taken out, each directory on the way with its own moment; as it was at the root, and where no directory stands above the path
 abbrev pub edited : Tree → Path → Option Tree → Tree
 edited t [] o = t
-edited (File b) (n ∷ p) o = File b
-edited (Dir es) (n ∷ []) o = Dir (set_entry n o es)
-edited (Dir es) (n ∷ m ∷ p) o = Dir (set_entry n (option_map (λ x. edited x (m ∷ p) o) (named n es)) es)
+edited (File date b) (n ∷ p) o = File date b
+edited (Dir date es) (n ∷ []) o = Dir date (set_entry n o es)
+edited (Dir date es) (n ∷ m ∷ p) o = Dir date (set_entry n (option_map (λ x. edited x (m ∷ p) o) (named n es)) es)
 
 abbrev pub with_entry : Tree → Path → Tree → Tree
 with_entry t p x = edited t p (Some x)
@@ -76,6 +76,34 @@ with_entry t p x = edited t p (Some x)
 abbrev pub without : Tree → Path → Tree
 without t p = edited t p None
 
+-- ---- moments
+-- the moment of last change
+abbrev pub moment : Tree → ℕ
+moment (Dir date es) = date
+moment (File date b) = date
+
+-- the moment of what stands there; 0 where nothing does
+abbrev pub moment_there : At → ℕ
+moment_there (Found x) = moment x
+moment_there _ = 0
+
+-- the same directory or file with another moment
+abbrev pub dated : ℕ → Tree → Tree
+dated at (Dir date es) = Dir at es
+dated at (File date b) = File at b
+
+-- the tree with another moment at a path, of the root too; as it was where nothing stands there
+abbrev pub touched : ℕ → Tree → Path → Tree
+touched at t [] = dated at t
+touched at (File date b) (n ∷ p) = File date b
+touched at (Dir date es) (n ∷ p) = Dir date (set_entry n (option_map (λ x. touched at x p) (named n es)) es)
+
+-- the same at each of the paths, one after the other
+abbrev pub all_touched : ℕ → Tree → List Path → Tree
+all_touched at t [] = t
+all_touched at t (p ∷ ps) = all_touched at (touched at t p) ps
+
+-- ---- bytes
 -- b lengthened by zeros to off where it is shorter, then v laid over it from off on
 abbrev pub over : List ℕ → ℕ → List ℕ → List ℕ
 over b off v = take off b ++ replicate (off - length b) 0 ++ v ++ drop (off + length v) b

@@ -36,9 +36,9 @@ restored w (Some t) = (record w { live = t }, Ok tt)
 abbrev pub restore : World → List ℕ → World × Snapped
 restore w s = restored w (map.get w.snapshots s)
 
--- what is asked of a world: a file call, or a snapshot call with a name
+-- what is asked of a world: a file call at a moment, or a snapshot call with a name
 pub data Event : Type 0 where
-  Ask : Call → Event
+  Ask : Call → ℕ → Event
   TakeSnapshot : List ℕ → Event
   DropSnapshot : List ℕ → Event
   RestoreSnapshot : List ℕ → Event
@@ -55,7 +55,7 @@ settled o = (o.0, Settled o.1)
 
 -- the world after an event, and its answer, with ample memory
 abbrev pub outcome : World → Event → World × Answer
-outcome w (Ask c) = called w (does w.live c)
+outcome w (Ask c at) = called w (does at w.live c)
 outcome w (TakeSnapshot s) = settled (snapshot w s)
 outcome w (DropSnapshot s) = settled (drop_snapshot w s)
 outcome w (RestoreSnapshot s) = settled (restore w s)
@@ -68,7 +68,7 @@ is_lack _ = false
 
 -- the event may be answered by want of memory: every file call, a snapshot or a restore that would succeed, no drop
 abbrev pub MayLack : World → Event → Answer → Type 0
-MayLack w (Ask c) a = a ≡ Replied (Fault ENOMEM)
+MayLack w (Ask c at) a = a ≡ Replied (Fault ENOMEM)
 MayLack w (TakeSnapshot s) a = (a ≡ Settled (Err ENOMEM)) × IsOk (snapshot w s).1
 MayLack w (DropSnapshot s) a = ⊥
 MayLack w (RestoreSnapshot s) a = (a ≡ Settled (Err ENOMEM)) × IsOk (restore w s).1

@@ -16,6 +16,7 @@ mod making;
 mod moving;
 pub mod reading;
 mod removing;
+mod touching;
 pub mod tree;
 mod walk;
 pub mod world;

@@ -17,11 +17,16 @@ pub enum Kind {
 #[derive(Clone, Copy, Debug, PartialEq, Eq)]
 pub enum Meta {
     /// A directory.
-    Dir,
+    Dir {
+        /// The moment of last change.
+        modified: u64,
+    },
     /// A file of `len` bytes.
     File {
         /// The file's length in bytes.
         len: u64,
+        /// The moment of last change.
+        modified: u64,
     },
 }
 
@@ -112,8 +117,8 @@ pub enum Reply {
     Count(u64),
     /// The bytes that were read.
     Data(FileBytes),
-    /// What stands at the path, and a file's length in bytes (0 for a directory).
-    Stat(Kind, u64),
+    /// What stands at the path, a file's length in bytes (0 for a directory), and the moment of last change.
+    Stat(Kind, u64, u64),
     /// The entries of the directory.
     Names(Listing),
     /// The call was refused, and changed nothing.

@@ -6,6 +6,7 @@ use crate::live::Line;
 use crate::looks::{Freeze, Past, put_found, put_frozen};
 use crate::standing::{NAMES, put_live, put_past};
 use crate::told::{put, put_answer, put_number, put_report};
+use crate::values::AT;
 use crate::window;
 use engine::{Between, Client, Flusher, Naming, TurnReply};
 use pathkey::{Errno, NoMemory, SnapName};
@@ -68,7 +69,7 @@ fn act<J: Naming, R: Wait>(
     request: &Request,
 ) -> Answer {
     match request {
-        Request::Wanted(call) => Answer::Call(served.client.call(served.rt, alloc, call)),
+        Request::Wanted(call) => Answer::Call(served.client.call(served.rt, alloc, call, AT)),
         Request::Snapshot(name) => Answer::Snap(served.client.snapshot(served.rt, alloc, name)),
         Request::DropSnapshot(name) => Answer::Snap(served.client.drop_snapshot(served.rt, name)),
         Request::Restore(name) => Answer::Snap(served.client.restore(served.rt, name)),

@@ -5,6 +5,7 @@ ghost use Rattle.volume.specs.Volumes.{live_of};
 use crate::frame::Deed;
 use crate::standing::{Measures, measures_of, put_measures};
 use crate::told::{put_answer, put_ok, put_relief, put_settled, put_step, put_taking, reply_of};
+use crate::values::AT;
 use jobs::Ticket;
 use node::StepReply;
 use pathkey::{Errno, Path};
@@ -25,7 +26,7 @@ pub fn act(alloc: Global, volume: &mut Volume, request: &Request) -> Answer
     ensures { KeepsMarks (live_of volume.old) (live_of volume.new) }
 {
     match request {
-        Request::Wanted(call) => Answer::Call(volume.call(alloc, call)),
+        Request::Wanted(call) => Answer::Call(volume.call(alloc, call, AT)),
         Request::Snapshot(name) => Answer::Snap(volume.snapshot(alloc, name)),
         Request::DropSnapshot(name) => Answer::Snap(volume.drop_snapshot(name)),
         Request::Restore(name) => Answer::Snap(volume.restore(name)),

@@ -1,6 +1,7 @@
 //! A run of ten events of all kinds.
 use crate::frame::Deed;
 use crate::told::{put_answer, put_no_memory};
+use crate::values::AT;
 use jobs::Ticket;
 use node::{Place, StepKind, TreeStep};
 use pathkey::{NoMemory, SnapName};
@@ -37,7 +38,7 @@ const ACTS: [Act; 10] = [
 /// The event of a file call.
 fn call_event(alloc: Global, ask: Ask<'static>) -> Option<Event> {
     match ask.call(alloc) {
-        Ok(call) => Some(Event::Call(call)),
+        Ok(call) => Some(Event::Call(call, AT)),
         Err(_) => None,
     }
 }

@@ -109,8 +109,14 @@ fn range_of(alloc: Global, text: &str) -> Option<KeyRange> {
 /// One of four messages.
 fn message(alloc: Global, number: u8) -> Option<Msg<MetaUpdate>> {
     match number {
-        0 => Some(Msg::Put(key_of(alloc, "/p")?, Meta::File { len: 9 })),
-        1 => Some(Msg::Edit(key_of(alloc, "/p")?, MetaUpdate::SetLen(7))),
+        0 => Some(Msg::Put(
+            key_of(alloc, "/p")?,
+            Meta::File {
+                len: 9,
+                modified: 0,
+            },
+        )),
+        1 => Some(Msg::Edit(key_of(alloc, "/p")?, MetaUpdate::SetLen(7, 0))),
         2 => Some(Msg::Del(key_of(alloc, "/e/f01")?)),
         _ => Some(Msg::DelRange(range_of(alloc, "/e")?)),
     }

@@ -5,6 +5,9 @@ use reference::Meta;
 use std::alloc::Global;
 use volume::{Index, Step};
 
+/// The moment at which calls are done, and entries planted, behind an opening at moment 0.
+pub const AT: u64 = 7;
+
 /// The word at this place.
 pub fn word_at<'a>(words: &'a [&'a str], at: usize) -> Option<&'a str> {
     words.get(at).copied()
@@ -82,9 +85,10 @@ pub fn path_of(alloc: Global, word: &str) -> Option<Path> {
 /// What an entry is that two words plant: `d`, or `f` and its length.
 pub fn meta_of(word: &str) -> Option<Meta> {
     if word == "d" {
-        return Some(Meta::Dir);
+        return Some(Meta::Dir { modified: AT });
     }
     Some(Meta::File {
         len: word.parse::<u64>().ok()?,
+        modified: AT,
     })
 }

@@ -108,10 +108,10 @@ impl<'a> Told<'a> {
     /// Whether this is the reply.
     pub fn is(self, reply: &Reply) -> bool {
         match (self, reply) {
-            (Told::Done, Reply::Done) | (Told::Dir, Reply::Stat(Kind::Dir, 0)) => true,
+            (Told::Done, Reply::Done) | (Told::Dir, Reply::Stat(Kind::Dir, 0, _)) => true,
             (Told::Count(wanted), Reply::Count(count)) => wanted == *count,
             (Told::Data(wanted), Reply::Data(bytes)) => bytes.as_slice() == wanted,
-            (Told::File(wanted), Reply::Stat(Kind::File, len)) => wanted == *len,
+            (Told::File(wanted), Reply::Stat(Kind::File, len, _)) => wanted == *len,
             (Told::Names(wanted), Reply::Names(listing)) => are_named(listing.as_slice(), wanted),
             (Told::Fault(wanted), Reply::Fault(fault)) => wanted == *fault,
             _ => false,

@@ -3,73 +3,90 @@ use Rattle.std.proofs.Common.{◌≡◌, inl, inr, ℕ, ◌<◌, List, [], ◌�
 use Rattle.reference.specs.Worlds.{World, Event, Ask, Replied, Settled, Snapped, Fits, next}
 use Rattle.reference.specs.declared.call.Call.{Call}
 use Rattle.reference.specs.declared.reply.Reply.{Reply}
+use Rattle.reference.specs.declared.reply.Reply.TheVariants.{Done}
 use Rattle.shell.specs.declared.request.Request.{Request}
 use Rattle.shell.specs.declared.request.Look.{Look}
-use Rattle.shell.specs.declared.request.Request.TheVariants.{Wanted, Past}
+use Rattle.shell.specs.declared.request.Request.TheVariants.{Moment, Wanted, Past}
 use Rattle.shell.specs.Requests.{request_of, IsReadAs}
 use Rattle.shell.specs.Replies.{reply_text}
-use Rattle.shell.specs.Script.{Answers, Does, Script, Settles, Tells, settled_reply}
-use Rattle.shell.specs.Runs.{Leads, Worlds}
+use Rattle.shell.specs.Script.{State, in_world, Answers, Does, Script, Settles, Tells, settled_reply}
+use Rattle.shell.specs.Runs.{Leads, Left, Meant, States, Worlds}
 use Rattle.shell.specs.Progress.{last_line}
 use Rattle.shell.proofs.Progress.{script_one}
 
--- a request that keeps the world was answered
-pub answers_kept : (means : Worlds) (Wrote : List ℕ → Type 0) (q wanted : Request) (text : List ℕ) → q ≡ wanted → ((w : World) → Answers w wanted text w) → Wrote text
+-- a request that changes nothing was answered
+pub answers_kept : (means : States) (Wrote : List ℕ → Type 0) (q wanted : Request) (text : List ℕ) → q ≡ wanted → ((s : State) → Answers s wanted text s) → Wrote text
     → Leads means means (λ first. Answers first q) Wrote
 answers_kept means Wrote q wanted text is answers wrote first m =
     (text, first, subst (λ (r : Request). Answers first r text first) (sym is) (answers first), m, wrote)
 
+-- a moment was set
+pub answers_moment : (means : Worlds) (before at : ℕ) (Wrote : List ℕ → Type 0) (q : Request) → q ≡ Moment at → Wrote (reply_text Done)
+    → Leads (Meant means before) (Meant means at) (λ first. Answers first q) Wrote
+answers_moment means before at Wrote q is wrote first m =
+    let after : State = record first { at = at } in
+    (reply_text Done, after, subst (λ (r : Request). Answers first r (reply_text Done) after) (sym is) (refl, refl), (m.0, refl), wrote)
+
 -- a call was done and answered
-pub answers_call : (means means' : Worlds) (Wrote : List ℕ → Type 0) (q : Request) (call : Call) (reply : Reply) → q ≡ Wanted call
-    → ((w : World) → means w → Fits w (Ask call) (Replied reply) × means' (next w (Ask call) (Replied reply))) → Wrote (reply_text reply)
-    → Leads means means' (λ first. Answers first q) Wrote
-answers_call means means' Wrote q call reply is does wrote first m =
-    let done = does first m in
-    let after = next first (Ask call) (Replied reply) in
-    (reply_text reply, after, subst (λ (r : Request). Answers first r (reply_text reply) after) (sym is) (reply, done.0, refl, refl), done.1, wrote)
+pub answers_call : (means means' : Worlds) (at : ℕ) (Wrote : List ℕ → Type 0) (q : Request) (call : Call) (reply : Reply) → q ≡ Wanted call
+    → ((w : World) → means w → Fits w (Ask call at) (Replied reply) × means' (next w (Ask call at) (Replied reply))) → Wrote (reply_text reply)
+    → Leads (Meant means at) (Meant means' at) (λ first. Answers first q) Wrote
+answers_call means means' at Wrote q call reply is does wrote first m =
+    let done = does first.world m.0 in
+    let fits : Fits first.world (Ask call first.at) (Replied reply) = subst (λ (n : ℕ). Fits first.world (Ask call n) (Replied reply)) (sym m.1) done.0 in
+    let after : State = in_world first (next first.world (Ask call first.at) (Replied reply)) in
+    let there : means' after.world = subst (λ (n : ℕ). means' (next first.world (Ask call n) (Replied reply))) (sym m.1) done.1 in
+    (reply_text reply, after, subst (λ (r : Request). Answers first r (reply_text reply) after) (sym is) (reply, fits, refl, refl), (there, m.1), wrote)
 
 -- what is answered to a request is answered to the same one
-pub answers_as : (q wanted : Request) (w : World) (text : List ℕ) (w' : World) → q ≡ wanted → Answers w wanted text w' → Answers w q text w'
-answers_as q wanted w text w' is answers = subst (λ (r : Request). Answers w r text w') (sym is) answers
+pub answers_as : (q wanted : Request) (s : State) (text : List ℕ) (s' : State) → q ≡ wanted → Answers s wanted text s' → Answers s q text s'
+answers_as q wanted s text s' is answers = subst (λ (r : Request). Answers s r text s') (sym is) answers
 
 -- a snapshot call was done and answered
-pub answers_settled : (means means' : Worlds) (Wrote : List ℕ → Type 0) (q : Request) (e : Event) (r : Snapped)
-    → ((w : World) (text : List ℕ) (w' : World) → Settles w e text w' → Answers w q text w')
+pub answers_settled : (means means' : Worlds) (at : ℕ) (Wrote : List ℕ → Type 0) (q : Request) (e : Event) (r : Snapped)
+    → ((s : State) (text : List ℕ) (s' : State) → Settles s e text s' → Answers s q text s')
     → ((w : World) → means w → Fits w e (Settled r) × means' (next w e (Settled r))) → Wrote (reply_text (settled_reply r))
-    → Leads means means' (λ first. Answers first q) Wrote
-answers_settled means means' Wrote q e r is does wrote first m =
-    let done = does first m in
-    let after = next first e (Settled r) in
-    (reply_text (settled_reply r), after, is first (reply_text (settled_reply r)) after (r, done.0, refl, refl), done.1, wrote)
+    → Leads (Meant means at) (Meant means' at) (λ first. Answers first q) Wrote
+answers_settled means means' at Wrote q e r is does wrote first m =
+    let done = does first.world m.0 in
+    let after : State = in_world first (next first.world e (Settled r)) in
+    (reply_text (settled_reply r), after, is first (reply_text (settled_reply r)) after (r, done.0, refl, refl), (done.1, m.1), wrote)
 
 -- a look into a snapshot was answered
-pub answers_look : (means means' : Worlds) (Wrote : List ℕ → Type 0) (q : Request) (s : List ℕ) (l : Look) (r : Reply) → q ≡ Past s l
-    → ((w : World) → means w → Tells w s l r × means' w) → Wrote (reply_text r)
-    → Leads means means' (λ first. Answers first q) Wrote
-answers_look means means' Wrote q s l r is tells wrote first m =
-    let told = tells first m in
-    (reply_text r, first, subst (λ (x : Request). Answers first x (reply_text r) first) (sym is) (r, told.0, refl, refl), told.1, wrote)
+pub answers_look : (means means' : Worlds) (at : ℕ) (Wrote : List ℕ → Type 0) (q : Request) (name : List ℕ) (l : Look) (r : Reply) → q ≡ Past name l
+    → ((w : World) → means w → Tells w name l r × means' w) → Wrote (reply_text r)
+    → Leads (Meant means at) (Meant means' at) (λ first. Answers first q) Wrote
+answers_look means means' at Wrote q name l r is tells wrote first m =
+    let told = tells first.world m.0 in
+    (reply_text r, first, subst (λ (x : Request). Answers first x (reply_text r) first) (sym is) (r, told.0, refl, refl), (told.1, m.1), wrote)
 
 -- what a line asks for was read and answered
-pub line_done : (means means' : Worlds) (Wrote : List ℕ → Type 0) (line : List ℕ) (q : Request) → IsReadAs (request_of line) q
+pub line_done : (means means' : States) (Wrote : List ℕ → Type 0) (line : List ℕ) (q : Request) → IsReadAs (request_of line) q
     → Leads means means' (λ first. Answers first q) Wrote → Leads means means' (λ first. Does first line) Wrote
 line_done means means' Wrote line q read f first m =
     let (out, after, answers, m', wrote) = f first m in
     (out, after, does read first out after answers, m', wrote)
   where
-    does : IsReadAs (request_of line) q → (first : World) (out : List ℕ) (after : World) → Answers first q out after → Does first line out after
+    does : IsReadAs (request_of line) q → (first : State) (out : List ℕ) (after : State) → Answers first q out after → Does first line out after
     does (inl is) first out after answers = inl (subst (λ (r : Request). Answers first r out after) is answers)
     does (inr lacks) first out after answers = inr (lacks.1, subst (λ (r : Request). Answers first r out after) lacks.0 answers)
 
 -- what was meant after a line is meant after the steps that follow it
-pub then_kept : (means mid means' : Worlds) (step : World → List ℕ → World → Type 0) (Wrote : List ℕ → Type 0)
-    → Leads means mid step Wrote → ((w : World) → mid w → means' w) → Leads means means' step Wrote
-then_kept means mid means' step Wrote f kept first m =
+pub then_kept : (means : States) (mid means' : Worlds) (at : ℕ) (step : State → List ℕ → State → Type 0) (Wrote : List ℕ → Type 0)
+    → Leads means (Meant mid at) step Wrote → ((w : World) → mid w → means' w) → Leads means (Meant means' at) step Wrote
+then_kept means mid means' at step Wrote f kept first m =
     let (out, after, did, m', wrote) = f first m in
-    (out, after, did, kept after m', wrote)
+    (out, after, did, (kept after.world m'.0, m'.1), wrote)
+
+-- whatever the moment at the end
+pub left_at_end : (means : States) (means' : Worlds) (at : ℕ) (step : State → List ℕ → State → Type 0) (Wrote : List ℕ → Type 0)
+    → Leads means (Meant means' at) step Wrote → Leads means (Left means') step Wrote
+left_at_end means means' at step Wrote f first m =
+    let (out, after, did, m', wrote) = f first m in
+    (out, after, did, m'.0, wrote)
 
 -- a last line without its line feed was done
-pub last_done : (means means' : Worlds) (Wrote Known : List ℕ → Type 0) (line : List ℕ) → 0 < length line → ((out : List ℕ) → Wrote out → Known out)
+pub last_done : (means means' : States) (Wrote Known : List ℕ → Type 0) (line : List ℕ) → 0 < length line → ((out : List ℕ) → Wrote out → Known out)
     → Leads means means' (λ first. Does first line) Wrote → Leads means means' (λ first. Script first (last_line line)) Known
 last_done means means' Wrote Known [] some known f first m = absurd (omega arith)
 last_done means means' Wrote Known (x ∷ line) some known f first m =
@@ -77,7 +94,7 @@ last_done means means' Wrote Known (x ∷ line) some known f first m =
     (out, after, script_one (x ∷ line) first after out does, m', known out wrote)
 
 -- no last line
-pub none_done : (means : Worlds) (Wrote : List ℕ → Type 0) (line : List ℕ) → length line ≡ 0 → Wrote []
+pub none_done : (means : States) (Wrote : List ℕ → Type 0) (line : List ℕ) → length line ≡ 0 → Wrote []
     → Leads means means (λ first. Script first (last_line line)) Wrote
 none_done means Wrote [] none wrote first m = ([], first, (refl, refl), m, wrote)
 none_done means Wrote (x ∷ line) none wrote first m = absurd (omega (arith, none))

@@ -5,7 +5,7 @@ use Rattle.std.specs.Prelude.{Option}
 use Rattle.std.specs.Io.KnownBytes.{Appends}
 use Rattle.std.proofs.KnownBytes.{Appends-nil, Appends-trans}
 use Rattle.lines.specs.Parts.{AppendsPart}
-use Rattle.shell.specs.Runs.{Leads, Worlds}
+use Rattle.shell.specs.Runs.{Leads, States}
 use Rattle.shell.specs.Script.{Does}
 use Rattle.shell.specs.Progress.{FailedIn, Went}
 use Rattle.lines.specs.Held.{Holds}
@@ -13,24 +13,24 @@ use Rattle.shell.proofs.Progress.{does_held, failed_line, failed_then, went_line
 use Rattle.lines.proofs.HeldFacts.{hold_more, holds_nothing, line_cut}
 
 -- the lines that end in a piece were done, and what follows them is held
-abbrev pub TakesIn : Worlds → Worlds → Option (List ℕ) → Option (List ℕ) → List ℕ → List ℕ → List ℕ → Type 0
+abbrev pub TakesIn : States → States → Option (List ℕ) → Option (List ℕ) → List ℕ → List ℕ → List ℕ → Type 0
 TakesIn means means' old new piece items now = (held : List ℕ) → Holds held items
     → Leads means means' (λ first out after. (left : List ℕ) × Holds left now × Went held piece first out left after) (Appends old new)
 
 -- a write failed within a piece
-abbrev pub FailsIn : Worlds → Worlds → Option (List ℕ) → Option (List ℕ) → List ℕ → List ℕ → Type 0
+abbrev pub FailsIn : States → States → Option (List ℕ) → Option (List ℕ) → List ℕ → List ℕ → Type 0
 FailsIn means means' old new piece items = (held : List ℕ) → Holds held items → Leads means means' (FailedIn held piece) (Appends old new)
 
 -- at the head of the loop: a beginning of the piece was taken
-abbrev pub TakesFront : Worlds → Worlds → Option (List ℕ) → Option (List ℕ) → List ℕ → List ℕ → List ℕ → List ℕ → Type 0
+abbrev pub TakesFront : States → States → Option (List ℕ) → Option (List ℕ) → List ℕ → List ℕ → List ℕ → List ℕ → Type 0
 TakesFront means means' old new piece rest items now = (front : List ℕ) × (piece ≡ front ++ rest) × TakesIn means means' old new front items now
 
 -- before the first line
-pub takes_nothing : (means : Worlds) (old : Option (List ℕ)) (piece items : List ℕ) → TakesFront means means old old piece piece items items
+pub takes_nothing : (means : States) (old : Option (List ℕ)) (piece items : List ℕ) → TakesFront means means old old piece piece items items
 takes_nothing means old piece items = ([], refl, λ held holds first m. ([], first, (held, holds, went_nothing held first), m, Appends-nil old))
 
 -- a piece after another
-takes_then : (means mid means' : Worlds) (old now new : Option (List ℕ)) (text piece items between items' : List ℕ) → TakesIn means mid old now text items between
+takes_then : (means mid means' : States) (old now new : Option (List ℕ)) (text piece items between items' : List ℕ) → TakesIn means mid old now text items between
     → TakesIn mid means' now new piece between items' → TakesIn means means' old new (text ++ piece) items items'
 takes_then means mid means' old now new text piece items between items' f g held holds first m =
     let (out, before, (left, holds', went), m', wrote) = f held holds first m in
@@ -43,7 +43,7 @@ takes_then means mid means' old now new text piece items between items' f g held
     )
 
 -- one line more
-pub takes_line : (means mid means' : Worlds) (old now new : Option (List ℕ)) (piece rest end after items between items' : List ℕ)
+pub takes_line : (means mid means' : States) (old now new : Option (List ℕ)) (piece rest end after items between items' : List ℕ)
     → TakesFront means mid old now piece rest items between → rest ≡ end ++ 10 ∷ after → TakesIn mid means' now new (end ++ 10 ∷ []) between items'
     → TakesFront means means' old new piece after items items'
 takes_line means mid means' old now new piece rest end after items between items' (front, is, f) cut g = (
@@ -53,7 +53,7 @@ takes_line means mid means' old now new piece rest end after items between items
 )
 
 -- a write failed at the next line
-pub fails_at_line : (means mid means' : Worlds) (old now new : Option (List ℕ)) (piece rest end after items between : List ℕ)
+pub fails_at_line : (means mid means' : States) (old now new : Option (List ℕ)) (piece rest end after items between : List ℕ)
     → TakesFront means mid old now piece rest items between → rest ≡ end ++ 10 ∷ after → FailsIn mid means' now new (end ++ 10 ∷ []) between
     → FailsIn means means' old new piece items
 fails_at_line means mid means' old now new piece rest end after items between (front, is, f) cut g held holds first m =
@@ -68,7 +68,7 @@ fails_at_line means mid means' old now new piece rest end after items between (f
     )
 
 -- what is left has no line feed, and is held
-pub takes_rest : (means means' : Worlds) (old new : Option (List ℕ)) (piece rest items between items' : List ℕ)
+pub takes_rest : (means means' : States) (old new : Option (List ℕ)) (piece rest items between items' : List ℕ)
     → TakesFront means means' old new piece rest items between → All (λ b. b ≢ 10) rest
     → (length between + length rest ≤ 65536 → items' ≡ between ++ rest) → (65536 < length between + length rest → 65536 < length items')
     → TakesIn means means' old new piece items items'
@@ -78,7 +78,7 @@ takes_rest means means' old new piece rest items between items' (front, is, f) f
     (λ held holds first m. ([], first, (held ++ rest, hold_more held between items' rest holds free short long, went_on held rest first), m, Appends-nil new)))
 
 -- the line was done
-pub does_line : (means means' : Worlds) (old new : Option (List ℕ)) (end items line now : List ℕ)
+pub does_line : (means means' : States) (old new : Option (List ℕ)) (end items line now : List ℕ)
     → ((held : List ℕ) → Holds held items → Holds (held ++ end) line) → now ≡ [] → Leads means means' (λ first. Does first line) (Appends old new)
     → TakesIn means means' old new (end ++ 10 ∷ []) items now
 does_line means means' old new end items line now whole none f held holds first m =
@@ -96,7 +96,7 @@ does_line means means' old new end items line now whole none f held holds first 
     )
 
 -- or a write failed at its reply
-pub fails_line : (means means' : Worlds) (old new : Option (List ℕ)) (end items line : List ℕ)
+pub fails_line : (means means' : States) (old new : Option (List ℕ)) (end items line : List ℕ)
     → ((held : List ℕ) → Holds held items → Holds (held ++ end) line) → Leads means means' (λ first. Does first line) (AppendsPart old new)
     → FailsIn means means' old new (end ++ 10 ∷ []) items
 fails_line means means' old new end items line whole f held holds first m =

@@ -17,12 +17,12 @@ use Rattle.reference.specs.declared.reply.Reply.{Reply}
 use Rattle.reference.specs.declared.reply.Reply.TheVariants.{Done, Count, Data, Stat, Names, Fault}
 use Rattle.shell.specs.declared.request.Request.{Request}
 use Rattle.shell.specs.declared.request.Look.{Look}
-use Rattle.shell.specs.declared.request.Request.TheVariants.{Silent, Overlong, Malformed, Refused, Wanted, Snapshot, DropSnapshot, Restore, Past}
+use Rattle.shell.specs.declared.request.Request.TheVariants.{Silent, Overlong, Malformed, Refused, Moment, Wanted, Snapshot, DropSnapshot, Restore, Past}
 use Rattle.lines.specs.Lines.{lines_of}
 use Rattle.shell.specs.Replies.{entry_line, name_word, reply_text, stat_word}
 use Rattle.lines.specs.Texts.{hex_text, number_line}
 use Rattle.shell.specs.Requests.{request_of}
-use Rattle.shell.specs.Script.{Answers, Does, Script, LacksNothing, Settles, Tells, settled_reply, told_of}
+use Rattle.shell.specs.Script.{State, in_world, Answers, Does, Script, LacksNothing, Settles, Tells, settled_reply, told_of}
 
 -- ---- texts that end with a line feed
 
@@ -53,24 +53,25 @@ ended_reply : (r : Reply) → IsEnded (reply_text r)
 ended_reply Done = inr (codes "ok", refl)
 ended_reply (Count n) = ended_line (codes "count ") (decimal n)
 ended_reply (Data bytes) = ended_line (codes "bytes ") (hex_text bytes)
-ended_reply (Stat kind n) = ended_line (stat_word kind) (decimal n)
+ended_reply (Stat kind n at) = inr (stat_word kind ++ decimal n ++ (codes " " ++ decimal at), sym (append_assoc (stat_word kind ++ decimal n) (codes " " ++ decimal at) (codes "\n")))
 ended_reply (Names entries) =
     ended_both (number_line (codes "names ") (length entries)) (flat_map entry_line entries) (ended_line (codes "names ") (decimal (length entries))) (ended_entries entries)
 ended_reply (Fault e) = ended_line (codes "fault ") (word_of e)
 
 -- so is what a request is answered
-ended_answer : (w : World) (q : Request) (text : List ℕ) (w' : World) → Answers w q text w' → IsEnded text
+ended_answer : (w : State) (q : Request) (text : List ℕ) (w' : State) → Answers w q text w' → IsEnded text
 ended_answer w Silent text w' a = inl a.0
 ended_answer w Overlong text w' a = inr (codes "error line", a.0)
 ended_answer w Malformed text w' a = inr (codes "error syntax", a.0)
 ended_answer w (Refused e) text w' a = subst IsEnded (sym a.0) (ended_reply (Fault e))
+ended_answer w (Moment at) text w' a = subst IsEnded (sym a.0) (ended_reply Done)
 ended_answer w (Wanted c) text w' (r, fits, is, then) = subst IsEnded (sym is) (ended_reply r)
 ended_answer w (Snapshot s) text w' (r, fits, is, then) = subst IsEnded (sym is) (ended_reply (settled_reply r))
 ended_answer w (DropSnapshot s) text w' (r, fits, is, then) = subst IsEnded (sym is) (ended_reply (settled_reply r))
 ended_answer w (Restore s) text w' (r, fits, is, then) = subst IsEnded (sym is) (ended_reply (settled_reply r))
 ended_answer w (Past s l) text w' (r, tells, is, then) = subst IsEnded (sym is) (ended_reply r)
 
-ended_does : (w : World) (line text : List ℕ) (w' : World) → Does w line text w' → IsEnded text
+ended_does : (w : State) (line text : List ℕ) (w' : State) → Does w line text w' → IsEnded text
 ended_does w line text w' (inl a) = ended_answer w (request_of line) text w' a
 ended_does w line text w' (inr (asked, a)) = ended_answer w (Refused ENOMEM) text w' a
 
@@ -110,7 +111,7 @@ lack_seen text rest is lacks = All-head IsOther (codes "fault ENOMEM") (lines_of
 -- ---- one answer
 
 -- two answers, and the worlds after them
-abbrev Same : List ℕ → List ℕ → World → World → Type 0
+abbrev Same : List ℕ → List ℕ → State → State → Type 0
 Same text text' v v' = (text ≡ text') × (v ≡ v')
 
 abbrev reply_in : Answer → Reply
@@ -118,9 +119,9 @@ reply_in (Replied r) = r
 reply_in (Settled s) = Done
 
 -- the reply to a call that memory was there for
-replied : (w : World) (c : Call) (r : Reply) (text rest : List ℕ) → Fits w (Ask c) (Replied r) → text ≡ reply_text r → LacksNothing (text ++ rest) → r ≡ (does w.live c).1
-replied w c r text rest (inl is) told lacks = ap reply_in is
-replied w c r text rest (inr is) told lacks = absurd (lack_seen text rest (told ∙ ap (λ a. reply_text (reply_in a)) is) lacks)
+replied : (w : World) (c : Call) (at : ℕ) (r : Reply) (text rest : List ℕ) → Fits w (Ask c at) (Replied r) → text ≡ reply_text r → LacksNothing (text ++ rest) → r ≡ (does at w.live c).1
+replied w c at r text rest (inl is) told lacks = ap reply_in is
+replied w c at r text rest (inr is) told lacks = absurd (lack_seen text rest (told ∙ ap (λ a. reply_text (reply_in a)) is) lacks)
 
 abbrev settled_in : Answer → Snapped
 settled_in (Replied r) = Ok tt
@@ -137,52 +138,53 @@ settles w e r text rest (inl is) told lacks = ap settled_in is
 settles w e r text rest (inr lack) told lacks = absurd (lack_seen text rest (told ∙ ap (λ (x : Snapped). reply_text (settled_reply x)) (ap settled_in (lack_is w e r lack))) lacks)
   where
     lack_is : (w : World) (e : Event) (r : Snapped) → MayLack w e (Settled r) → Settled r ≡ Settled (Err ENOMEM)
-    lack_is w (Ask c) r is = absurd (subst IsSettled is tt)
+    lack_is w (Ask c at) r is = absurd (subst IsSettled is tt)
     lack_is w (TakeSnapshot s) r lack = lack.0
     lack_is w (DropNamed s) r lack = absurd lack
     lack_is w (RestoreSnapshot s) r lack = lack.0
 
-settled_once : (w : World) (e : Event) (text text' rest rest' : List ℕ) (v v' : World) → Settles w e text v → Settles w e text' v' → LacksNothing (text ++ rest) → LacksNothing (text' ++ rest')
+settled_once : (w : State) (e : Event) (text text' rest rest' : List ℕ) (v v' : State) → Settles w e text v → Settles w e text' v' → LacksNothing (text ++ rest) → LacksNothing (text' ++ rest')
     → Same text text' v v'
 settled_once w e text text' rest rest' v v' (r, fits, is, then) (r', fits', is', then') l l' =
-    let same : r ≡ r' = settles w e r text rest fits is l ∙ sym (settles w e r' text' rest' fits' is' l') in
-    (is ∙ ap (λ (x : Snapped). reply_text (settled_reply x)) same ∙ sym is', then ∙ ap (λ (x : Snapped). next w e (Settled x)) same ∙ sym then')
+    let same : r ≡ r' = settles w.world e r text rest fits is l ∙ sym (settles w.world e r' text' rest' fits' is' l') in
+    (is ∙ ap (λ (x : Snapped). reply_text (settled_reply x)) same ∙ sym is', then ∙ ap (λ (x : Snapped). in_world w (next w.world e (Settled x))) same ∙ sym then')
 
 -- what a look tells that memory was there for
 told : (w : World) (s : List ℕ) (l : Look) (r : Reply) (text rest : List ℕ) → Tells w s l r → text ≡ reply_text r → LacksNothing (text ++ rest) → r ≡ told_of (map.get w.snapshots s) l
 told w s l r text rest (inl is) written lacks = is
 told w s l r text rest (inr is) written lacks = absurd (lack_seen text rest (written ∙ ap reply_text is) lacks)
 
-once : (w : World) (q : Request) (text text' rest rest' : List ℕ) (v v' : World) → Answers w q text v → Answers w q text' v' → LacksNothing (text ++ rest) → LacksNothing (text' ++ rest')
+once : (w : State) (q : Request) (text text' rest rest' : List ℕ) (v v' : State) → Answers w q text v → Answers w q text' v' → LacksNothing (text ++ rest) → LacksNothing (text' ++ rest')
     → Same text text' v v'
 once w Silent text text' rest rest' v v' a b l l' = (a.0 ∙ sym b.0, a.1 ∙ sym b.1)
 once w Overlong text text' rest rest' v v' a b l l' = (a.0 ∙ sym b.0, a.1 ∙ sym b.1)
 once w Malformed text text' rest rest' v v' a b l l' = (a.0 ∙ sym b.0, a.1 ∙ sym b.1)
 once w (Refused e) text text' rest rest' v v' a b l l' = (a.0 ∙ sym b.0, a.1 ∙ sym b.1)
+once w (Moment at) text text' rest rest' v v' a b l l' = (a.0 ∙ sym b.0, a.1 ∙ sym b.1)
 once w (Wanted c) text text' rest rest' v v' (r, fits, is, then) (r', fits', is', then') l l' =
-    let same : r ≡ r' = replied w c r text rest fits is l ∙ sym (replied w c r' text' rest' fits' is' l') in
-    (is ∙ ap reply_text same ∙ sym is', then ∙ ap (λ (x : Reply). next w (Ask c) (Replied x)) same ∙ sym then')
+    let same : r ≡ r' = replied w.world c w.at r text rest fits is l ∙ sym (replied w.world c w.at r' text' rest' fits' is' l') in
+    (is ∙ ap reply_text same ∙ sym is', then ∙ ap (λ (x : Reply). in_world w (next w.world (Ask c w.at) (Replied x))) same ∙ sym then')
 once w (Snapshot s) text text' rest rest' v v' a b l l' = settled_once w (TakeSnapshot s) text text' rest rest' v v' a b l l'
 once w (DropSnapshot s) text text' rest rest' v v' a b l l' = settled_once w (DropNamed s) text text' rest rest' v v' a b l l'
 once w (Restore s) text text' rest rest' v v' a b l l' = settled_once w (RestoreSnapshot s) text text' rest rest' v v' a b l l'
 once w (Past s k) text text' rest rest' v v' (r, tells, is, then) (r', tells', is', then') l l' =
-    let same : r ≡ r' = told w s k r text rest tells is l ∙ sym (told w s k r' text' rest' tells' is' l') in
+    let same : r ≡ r' = told w.world s k r text rest tells is l ∙ sym (told w.world s k r' text' rest' tells' is' l') in
     (is ∙ ap reply_text same ∙ sym is', then ∙ sym then')
 
-line_once : (w : World) (line text text' rest rest' : List ℕ) (v v' : World) → Does w line text v → Does w line text' v' → LacksNothing (text ++ rest) → LacksNothing (text' ++ rest')
+line_once : (w : State) (line text text' rest rest' : List ℕ) (v v' : State) → Does w line text v → Does w line text' v' → LacksNothing (text ++ rest) → LacksNothing (text' ++ rest')
     → Same text text' v v'
 line_once w line text text' rest rest' v v' (inl a) (inl b) l l' = once w (request_of line) text text' rest rest' v v' a b l l'
 line_once w line text text' rest rest' v v' (inl a) (inr (asked, b)) l l' = absurd (lack_seen text' rest' b.0 l')
 line_once w line text text' rest rest' v v' (inr (asked, a)) b l l' = absurd (lack_seen text rest a.0 l)
 
-pub answered_once : (w : World) (lines : List (List ℕ)) (out out' : List ℕ) (last last' : World) → Script w lines out last → Script w lines out' last' → LacksNothing out → LacksNothing out'
+pub answered_once : (w : State) (lines : List (List ℕ)) (out out' : List ℕ) (last last' : State) → Script w lines out last → Script w lines out' last' → LacksNothing out → LacksNothing out'
     → Same out out' last last'
 answered_once w [] out out' last last' a b l l' = (a.0 ∙ sym b.0, a.1 ∙ sym b.1)
 answered_once w (line ∷ lines) out out' last last' (v, text, rest, does, is, more) (v', text', rest', does', is', more') l l' =
     let lacks = subst LacksNothing is l in
     let lacks' = subst LacksNothing is' l' in
     let (same, then) = line_once w line text text' rest rest' v v' does does' lacks lacks' in
-    let more'' = subst (λ (x : World). Script x lines rest' last') (sym then) more' in
+    let more'' = subst (λ (x : State). Script x lines rest' last') (sym then) more' in
     let (same', then') = answered_once v lines rest rest' last last' more more'' (lacks_behind text rest (ended_does w line text v does) lacks)
     (lacks_behind text' rest' (ended_does w line text' v' does') lacks') in
     (is ∙ ap (λ t. t ++ rest) same ∙ ap (λ r. text' ++ r) same' ∙ sym is', then')

@@ -3,12 +3,11 @@ use Rattle.std.proofs.Common.{◌≡◌, ◌⊎◌, ℕ, ◌≤◌, ◌<◌, ◌
 use Rattle.std.proofs.lemmas.Bool.{ne_eqb, cases_lt, lt-ltb}
 use Rattle.pathkey.specs.Texts.{onto_first}
 use Rattle.pathkey.specs.declared.errno.Errno.TheVariants.{ENOMEM}
-use Rattle.reference.specs.Worlds.{World}
 use Rattle.shell.specs.declared.request.Request.{Request}
 use Rattle.shell.specs.declared.request.Request.TheVariants.{Overlong, Refused}
 use Rattle.lines.specs.Lines.{lines_of, kept_before, whole}
 use Rattle.shell.specs.Requests.{request_of, IsAsked}
-use Rattle.shell.specs.Script.{Answers, Does, Script, Stopped}
+use Rattle.shell.specs.Script.{State, Answers, Does, Script, Stopped}
 use Rattle.shell.specs.Progress.{AreFree, FailedIn, Went, last_line, text_of_lines}
 use Rattle.lines.specs.Held.{Holds, IsFree}
 
@@ -82,14 +81,14 @@ whole_after (l ∷ ls) rest free last =
 -- ---- scripts
 
 -- some lines, and then some more
-pub script_then : (ls ks : List (List ℕ)) (a b c : World) (out more : List ℕ) → Script a ls out b → Script b ks more c → Script a (ls ++ ks) (out ++ more) c
+pub script_then : (ls ks : List (List ℕ)) (a b c : State) (out more : List ℕ) → Script a ls out b → Script b ks more c → Script a (ls ++ ks) (out ++ more) c
 script_then [] ks a b c out more first second =
-    subst (λ (w : World). Script w ks (out ++ more) c) first.1 (subst (λ (o : List ℕ). Script b ks (o ++ more) c) (sym first.0) second)
+    subst (λ (w : State). Script w ks (out ++ more) c) first.1 (subst (λ (o : List ℕ). Script b ks (o ++ more) c) (sym first.0) second)
 script_then (l ∷ ls) ks a b c out more (after, reply, rest, does, is, first) second =
     (after, reply, rest ++ more, does, ap (λ o. o ++ more) is ∙ append_assoc reply rest more, script_then ls ks after b c rest more first second)
 
 -- one line is a script
-pub script_one : (line : List ℕ) (a b : World) (reply : List ℕ) → Does a line reply b → Script a (line ∷ []) reply b
+pub script_one : (line : List ℕ) (a b : State) (reply : List ℕ) → Does a line reply b → Script a (line ∷ []) reply b
 script_one line a b reply does = (b, reply, [], does, sym (append-nil reply), (refl, refl))
 
 -- ---- the line so far
@@ -101,7 +100,7 @@ too_long xs long =
     rw e refl
 
 -- what was held of a line is answered as the line itself
-pub does_held : (held items : List ℕ) (a b : World) (reply : List ℕ) → Holds held items → Does a items reply b → Does a held reply b
+pub does_held : (held items : List ℕ) (a b : State) (reply : List ℕ) → Holds held items → Does a items reply b → Does a held reply b
 does_held held items a b reply holds does = go (cases_lt 65536 (length held))
   where
     go : (65536 < length held) ⊎ (length held ≤ 65536) → Does a held reply b
@@ -112,7 +111,7 @@ does_held held items a b reply holds does = go (cases_lt 65536 (length held))
     go (inr short) = subst (λ (l : List ℕ). Does a l reply b) (holds.short short) does
 
 -- bytes of the line
-went_bytes : (held piece bytes : List ℕ) (first after : World) (out left : List ℕ) → Went held piece first out left after → Went held (piece ++ bytes) first out (left ++ bytes) after
+went_bytes : (held piece bytes : List ℕ) (first after : State) (out left : List ℕ) → Went held piece first out left after → Went held (piece ++ bytes) first out (left ++ bytes) after
 went_bytes held piece bytes first after out left w = record {
   lines = w.lines;
   cut = sym (append_assoc held piece bytes) ∙ ap (λ l. l ++ bytes) w.cut ∙ append_assoc (text_of_lines w.lines) left bytes;
@@ -121,7 +120,7 @@ went_bytes held piece bytes first after out left w = record {
 }
 
 -- no bytes yet
-pub went_nothing : (held : List ℕ) (first : World) → Went held [] first [] held first
+pub went_nothing : (held : List ℕ) (first : State) → Went held [] first [] held first
 went_nothing held first = record {
   lines = [];
   cut = append-nil held;
@@ -130,11 +129,11 @@ went_nothing held first = record {
 }
 
 -- bytes alone, and no line is done
-pub went_on : (held bytes : List ℕ) (first : World) → Went held bytes first [] (held ++ bytes) first
+pub went_on : (held bytes : List ℕ) (first : State) → Went held bytes first [] (held ++ bytes) first
 went_on held bytes first = went_bytes held [] bytes first first [] held (went_nothing held first)
 
 -- the end of a line and its line feed, and the line is done
-pub went_line : (held end : List ℕ) (first after : World) (reply : List ℕ) → IsFree (held ++ end) → Does first (held ++ end) reply after
+pub went_line : (held end : List ℕ) (first after : State) (reply : List ℕ) → IsFree (held ++ end) → Does first (held ++ end) reply after
     → Went held (end ++ 10 ∷ []) first reply [] after
 went_line held end first after reply free does = record {
   lines = (held ++ end) ∷ [];
@@ -144,7 +143,7 @@ went_line held end first after reply free does = record {
 }
 
 -- and a write failed at its reply
-pub failed_line : (held end : List ℕ) (first after : World) (part rest : List ℕ) → IsFree (held ++ end) → Does first (held ++ end) (part ++ rest) after
+pub failed_line : (held end : List ℕ) (first after : State) (part rest : List ℕ) → IsFree (held ++ end) → Does first (held ++ end) (part ++ rest) after
     → FailedIn held (end ++ 10 ∷ []) first part after
 failed_line held end first after part rest free does = record {
   front = end;
@@ -162,7 +161,7 @@ failed_line held end first after part rest free does = record {
 }
 
 -- a piece after a text
-pub went_then : (held text piece : List ℕ) (first before after : World) (out left more rest : List ℕ) → Went held text first out left before
+pub went_then : (held text piece : List ℕ) (first before after : State) (out left more rest : List ℕ) → Went held text first out left before
     → Went left piece before more rest after → Went held (text ++ piece) first (out ++ more) rest after
 went_then held text piece first before after out left more rest a b = record {
   lines = a.lines ++ b.lines;
@@ -181,7 +180,7 @@ went_then held text piece first before after out left more rest a b = record {
     free_both (l ∷ ls) ks p q = (p.0, free_both ls ks p.1 q)
 
 -- a piece in which a write failed, after a text and before another
-pub failed_then : (held text piece later : List ℕ) (first before after : World) (out left written : List ℕ) → Went held text first out left before
+pub failed_then : (held text piece later : List ℕ) (first before after : State) (out left written : List ℕ) → Went held text first out left before
     → FailedIn left piece before written after → FailedIn held ((text ++ piece) ++ later) first (out ++ written) after
 failed_then held text piece later first before after out left written w f = record {
   front = text ++ f.front;
@@ -200,7 +199,7 @@ failed_then held text piece later first before after out left written w f = reco
 }
 
 -- the lines of a text that was read to its end
-pub script_at_end : (text : List ℕ) (first before after : World) (out left reply : List ℕ) → Went [] text first out left before → IsFree left
+pub script_at_end : (text : List ℕ) (first before after : State) (out left reply : List ℕ) → Went [] text first out left before → IsFree left
     → Script before (last_line left) reply after → Script first (lines_of text) (out ++ reply) after
 script_at_end text first before after out left reply w free last =
     let is : lines_of text ≡ w.lines ++ last_line left =
@@ -208,7 +207,7 @@ script_at_end text first before after out left reply w free last =
     rw is (script_then w.lines (last_line left) first before after out reply w.did last)
 
 -- the whole lines of what was read
-pub script_of_whole : (text : List ℕ) (first after : World) (out left : List ℕ) → Went [] text first out left after → IsFree left → Script first (lines_of (whole text)) out after
+pub script_of_whole : (text : List ℕ) (first after : State) (out left : List ℕ) → Went [] text first out left after → IsFree left → Script first (lines_of (whole text)) out after
 script_of_whole text first after out left w free =
     let is : lines_of (whole text) ≡ w.lines =
     ap (λ t. lines_of (whole t)) w.cut ∙ ap lines_of (whole_after w.lines left w.free free) ∙ ap lines_of (sym (append-nil (text_of_lines w.lines)))
@@ -221,7 +220,7 @@ at_most_one [] = omega arith
 at_most_one (x ∷ l) = omega arith
 
 -- where a failed write leaves a script that was read to its end
-pub stopped_at_end : (text : List ℕ) (first before after : World) (out left part rest : List ℕ) → Went [] text first out left before → IsFree left
+pub stopped_at_end : (text : List ℕ) (first before after : State) (out left part rest : List ℕ) → Went [] text first out left before → IsFree left
     → Script before (last_line left) (part ++ rest) after → Stopped first text (out ++ part) after
 stopped_at_end text first before after out left part rest w free last = record {
   done = w.lines;
@@ -239,7 +238,7 @@ stopped_at_end text first before after out left part rest w free last = record {
 }
 
 -- between two lines
-pub stopped_between : (text later : List ℕ) (first after : World) (out left : List ℕ) → Went [] text first out left after → Stopped first (text ++ later) out after
+pub stopped_between : (text later : List ℕ) (first after : State) (out left : List ℕ) → Went [] text first out left after → Stopped first (text ++ later) out after
 stopped_between text later first after out left w = record {
   done = w.lines;
   last = [];
@@ -256,7 +255,7 @@ stopped_between text later first after out left w = record {
 }
 
 -- within a piece
-pub stopped_in : (text piece later : List ℕ) (first before after : World) (out left written : List ℕ) → Went [] text first out left before
+pub stopped_in : (text piece later : List ℕ) (first before after : State) (out left written : List ℕ) → Went [] text first out left before
     → FailedIn left piece before written after → Stopped first ((text ++ piece) ++ later) (out ++ written) after
 stopped_in text piece later first before after out left written w f =
     let both = went_then [] text f.front first before f.before out left f.replies f.line w f.went in
@@ -282,12 +281,12 @@ stopped_in text piece later first before after out left written w f =
     }
 
 -- what one line alone is answered, another may be too
-script_of_one : (line other : List ℕ) (a b : World) (out : List ℕ) → ((reply : List ℕ) (after : World) → Does a line reply after → Does a other reply after)
+script_of_one : (line other : List ℕ) (a b : State) (out : List ℕ) → ((reply : List ℕ) (after : State) → Does a line reply after → Does a other reply after)
     → Script a (line ∷ []) out b → Script a (other ∷ []) out b
 script_of_one line other a b out f (after, reply, rest, does, is, end) = (after, reply, rest, f reply after does, is, end)
 
 -- a last line of which no more is held than shows that it is too long
-pub script_held : (held items : List ℕ) (a b : World) (out : List ℕ) → Holds held items → Script a (last_line items) out b → Script a (last_line held) out b
+pub script_held : (held items : List ℕ) (a b : State) (out : List ℕ) → Holds held items → Script a (last_line items) out b → Script a (last_line held) out b
 script_held held items a b out holds did = go (cases_lt 65536 (length held))
   where
     long_line : (h i : List ℕ) → 65536 < length h → 65536 < length i → Holds h i → Script a (last_line i) out b → Script a (last_line h) out b

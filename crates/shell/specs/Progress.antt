@@ -1,7 +1,6 @@
 -- How far a script has come within its text.
 use Rattle.std.specs.Prelude.{◌≡◌, ℕ, List, [], ◌∷◌, ◌++◌, ⊤}
-use Rattle.reference.specs.Worlds.{World}
-use Rattle.shell.specs.Script.{Does, Script}
+use Rattle.shell.specs.Script.{State, Does, Script}
 use Rattle.lines.specs.Held.{IsFree}
 
 -- the lines, each with its line feed
@@ -15,18 +14,18 @@ AreFree [] = ⊤
 AreFree (l ∷ ls) = IsFree l × AreFree ls
 
 -- after a piece more the script has done these lines, and `left` is the line so far
-pub record Went (held piece : List ℕ) (first : World) (out left : List ℕ) (after : World) : Type 0 where
+pub record Went (held piece : List ℕ) (first : State) (out left : List ℕ) (after : State) : Type 0 where
   pub lines : List (List ℕ)
   pub cut : held ++ piece ≡ text_of_lines lines ++ left
   pub free : AreFree lines
   pub did : Script first lines out after
 
 -- within a piece a write failed, at the reply to `line`
-pub record FailedIn (held piece : List ℕ) (first : World) (written : List ℕ) (after : World) : Type 0 where
+pub record FailedIn (held piece : List ℕ) (first : State) (written : List ℕ) (after : State) : Type 0 where
   pub front : List ℕ
   pub more : List ℕ
   pub line : List ℕ
-  pub before : World
+  pub before : State
   pub replies : List ℕ
   pub part : List ℕ
   pub rest : List ℕ

@@ -1,5 +1,5 @@
 -- The replies as text.
-use Rattle.std.specs.Prelude.{ℕ, List, ◌++◌, length, codes, flat_map}
+use Rattle.std.specs.Prelude.{ℕ, List, ◌++◌, length, codes, decimal, flat_map}
 use Rattle.pathkey.specs.Names.{Name}
 use Rattle.pathkey.specs.Numbers.{word_of}
 use Rattle.reference.specs.Image.{percent}
@@ -9,7 +9,7 @@ use Rattle.reference.specs.declared.reply.Reply.TheVariants.{Done, Count, Data, 
 use Rattle.reference.specs.declared.reply.Kind.{Kind}
 use Rattle.reference.specs.declared.reply.Kind.TheVariants.{Dir, File}
 
--- what stands before the length that `stat` tells
+-- what stands before the length and the moment that `stat` tells
 abbrev pub stat_word : Kind → List ℕ
 stat_word Dir = codes "dir "
 stat_word File = codes "file "
@@ -28,6 +28,6 @@ abbrev pub reply_text : Reply → List ℕ
 reply_text Done = codes "ok\n"
 reply_text (Count n) = number_line (codes "count ") n
 reply_text (Data bytes) = codes "bytes " ++ hex_text bytes ++ codes "\n"
-reply_text (Stat kind n) = number_line (stat_word kind) n
+reply_text (Stat kind n at) = stat_word kind ++ decimal n ++ number_line (codes " ") at
 reply_text (Names entries) = number_line (codes "names ") (length entries) ++ flat_map entry_line entries
 reply_text (Fault e) = codes "fault " ++ word_of e ++ codes "\n"

@@ -13,7 +13,7 @@ use Rattle.shell.specs.declared.command.PathCall.TheVariants as on
 use Rattle.shell.specs.declared.request.Look.{Look}
 use Rattle.shell.specs.declared.request.Look.TheVariants as look
 use Rattle.shell.specs.declared.request.Request.{Request}
-use Rattle.shell.specs.declared.request.Request.TheVariants.{Silent, Overlong, Malformed, Refused, Wanted, Snapshot, DropSnapshot, Restore, Past}
+use Rattle.shell.specs.declared.request.Request.TheVariants.{Silent, Overlong, Malformed, Refused, Moment, Wanted, Snapshot, DropSnapshot, Restore, Past}
 
 -- the call on a path
 abbrev pub call_at : PathCall → Path → Call
@@ -56,12 +56,14 @@ past_path_command name p =
     else if bytes_eq name.0 (codes "readdir") then past name.1 (looking look.Readdir (path_of p))
     else Malformed
 
--- the commands of a snapshot's name; the name stands behind an `@` where another tree than the live one is asked
+-- the commands of a snapshot's name, and that of a moment; the name stands behind an `@` where another tree than the live one is
+-- asked
 abbrev pub named_command : List ℕ → List ℕ → Request
 named_command name s =
     if bytes_eq name (codes "snapshot") then with_named Snapshot (snap_parsed s)
     else if bytes_eq name (codes "drop") then with_named DropSnapshot (snap_parsed s)
     else if bytes_eq name (codes "restore") then with_named Restore (snap_parsed s)
+    else if bytes_eq name (codes "at") then with_value Moment (number_of s)
     else with_value (λ cut. past_path_command cut s) (at_sign name)
 
 -- the commands of two words

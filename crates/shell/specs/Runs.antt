@@ -1,26 +1,38 @@
--- What a run of a script comes to: from the worlds that its state meant to those that it means after it.
+-- What a run of a script comes to: from the worlds and moments that it may begin with to those that it may go on from.
 use Rattle.std.specs.Prelude.{◌≡◌, ℕ, List, Option, IfSome}
 use Rattle.std.specs.Io.KnownBytes.{Consumes, IsAtEnd}
 use Rattle.reference.specs.Worlds.{World}
 use Rattle.lines.specs.Lines.{lines_of, whole}
-use Rattle.shell.specs.Script.{Script, Stopped}
+use Rattle.shell.specs.Script.{State, Script, Stopped}
 
--- the worlds that a state means
+-- the worlds that a volume, or a client of one, means
 abbrev pub Worlds : Type 1
 Worlds = World → Type 0
 
--- from each world that was meant a step leads to one that is meant now, and this was written of its text
-abbrev pub Leads : Worlds → Worlds → (World → List ℕ → World → Type 0) → (List ℕ → Type 0) → Type 0
-Leads meant means step wrote = (first : World) → meant first → (text : List ℕ) × (after : World) × step first text after × means after × wrote text
+-- what a script may go on from
+abbrev pub States : Type 1
+States = State → Type 0
+
+-- one of these worlds, and this moment
+abbrev pub Meant : Worlds → ℕ → States
+Meant means at s = means s.world × (s.at ≡ at)
+
+-- one of these worlds, and any moment
+abbrev pub Left : Worlds → States
+Left means s = means s.world
+
+-- from each state that was meant a step leads to one that is meant now, and this was written of its text
+abbrev pub Leads : States → States → (State → List ℕ → State → Type 0) → (List ℕ → Type 0) → Type 0
+Leads meant means step wrote = (first : State) → meant first → (text : List ℕ) × (after : State) × step first text after × means after × wrote text
 
 -- the reader is at its end, and all the lines of what it gave were done
-abbrev pub DoesAll : Option (List ℕ) → Option (List ℕ) → World → List ℕ → World → Type 0
+abbrev pub DoesAll : Option (List ℕ) → Option (List ℕ) → State → List ℕ → State → Type 0
 DoesAll had has first out after = (text : List ℕ) × Consumes had has text × IsAtEnd has × Script first (lines_of text) out after
 
 -- of what the reader gave the whole lines were done
-abbrev pub DoesGiven : Option (List ℕ) → Option (List ℕ) → World → List ℕ → World → Type 0
+abbrev pub DoesGiven : Option (List ℕ) → Option (List ℕ) → State → List ℕ → State → Type 0
 DoesGiven had has first out after = (text : List ℕ) × Consumes had has text × Script first (lines_of (whole text)) out after
 
 -- of all that the reader had the lines were done up to a failed write
-abbrev pub DoesUntil : Option (List ℕ) → World → List ℕ → World → Type 0
+abbrev pub DoesUntil : Option (List ℕ) → State → List ℕ → State → Type 0
 DoesUntil had first written after = (text : List ℕ) × IfSome had (λ all. all ≡ text) × Stopped first text written after

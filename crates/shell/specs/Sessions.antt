@@ -1,8 +1,8 @@
 -- What is asked of a state that means worlds.
-use Rattle.call_compiler.specs.declared.indexes.Indexes.{Indexes}
 use Rattle.reference.specs.Worlds.{World, Event, Answer, Fits, next}
 use Rattle.reference.specs.declared.reply.Reply.{Reply}
 use Rattle.volume.specs.Told.{Tells}
+use Rattle.volume.specs.declared.rooted.Rooted.{Rooted}
 use Rattle.shell.specs.declared.request.Look.{Look}
 use Rattle.shell.specs.Runs.{Worlds}
 use Rattle.shell.specs.Script.{call_of}
@@ -11,6 +11,6 @@ use Rattle.shell.specs.Script.{call_of}
 abbrev pub Goes : Worlds → Worlds → Event → Answer → Type 0
 Goes meant means e a = (w : World) → meant w → Fits w e a × means (next w e a)
 
--- the reply to a look is that of the tree that the indexes mean, or want of memory
-abbrev pub IsTold : Look → Reply → Indexes → Type 0
+-- the reply to a look is that of the tree that is meant, or want of memory
+abbrev pub IsTold : Look → Reply → Rooted → Type 0
 IsTold look r i = Tells (call_of look) r i

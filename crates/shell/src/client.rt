@@ -23,8 +23,8 @@ struct Served<'a, J: Naming, H: Wait> {
 impl<'a, J: Naming, H: Wait> Session for Served<'a, J, H> {
     ghost means = { λ s w. ⊥ };
 
-    fn call(&mut self, alloc: Global, call: &Call) -> Reply {
-        self.client.call(self.rt, alloc, call)
+    fn call(&mut self, alloc: Global, call: &Call, at: u64) -> Reply {
+        self.client.call(self.rt, alloc, call, at)
     }
 
     fn snapshot(&mut self, alloc: Global, name: &SnapName) -> Result<(), Errno> {
@@ -63,5 +63,12 @@ pub fn run_client<J: Naming, H: Wait, R: Read, W: Write>(
     writer: &mut W,
 ) -> Result<(), ScriptFault> {
     let mut served = Served { rt, client };
-    run_lines(alloc, &mut served, reader, writer, &mut Tidy::new(0))
+    run_lines(
+        alloc,
+        &mut served,
+        &mut 0,
+        reader,
+        writer,
+        &mut Tidy::new(0),
+    )
 }

@@ -3,8 +3,8 @@ ghost use Rattle.std.specs.Prelude.{◌≡◌, ◌⊎◌, ℕ, List, Err, MatchO
 ghost use Rattle.pathkey.specs.declared.errno.Errno.TheVariants.{ENOMEM};
 ghost use Rattle.lines.specs.Lines.{words_of};
 ghost use Rattle.pathkey.specs.SnapNames.{snap_parsed};
-ghost use Rattle.shell.specs.Requests.{IsReadAs, call_at, command_of, looking, named_command, offset_command, on_path, past, past_path_command, past_read_command, path_command, read_command, rename_of, request_of, third_command, truncate_command, write_command};
-ghost use Rattle.lines.specs.Values.{path_of};
+ghost use Rattle.shell.specs.Requests.{IsReadAs, call_at, command_of, looking, named_command, offset_command, on_path, past, past_path_command, past_read_command, path_command, read_command, rename_of, request_of, third_command, truncate_command, with_value, write_command};
+ghost use Rattle.lines.specs.Values.{number_of, path_of};
 
 use crate::request::{Look, Request};
 use lines::held::LONGEST_LINE;
@@ -122,7 +122,8 @@ fn call_at(call: PathCall, path: Path) -> Call
     }
 }
 
-// What a command of two words asks for with a snapshot's name: it is the second word, or stands behind an `@` in the first.
+// What a command of two words asks for with a snapshot's name or a moment: it is the second word, or a name stands behind an `@` in
+// the first.
 fn read_named_command(alloc: Global, name: &[u8], word: &[u8]) -> Request
     ensures { IsReadAs (named_command name.now word.now) result }
 {
@@ -135,10 +136,23 @@ fn read_named_command(alloc: Global, name: &[u8], word: &[u8]) -> Request
     if name == b"restore".as_slice() {
         return with_named(SnapName::parse(alloc, word).map(Request::Restore));
     }
+    if name == b"at".as_slice() {
+        return read_moment(word);
+    }
     match cut_at_sign(name) {
         Some((call, snapshot)) => read_past_path_command(alloc, call, snapshot, word),
         None => Request::Malformed,
     }
+}
+
+// The moment that a word writes.
+fn read_moment(word: &[u8]) -> Request
+    ensures { result ≡ with_value Request.Moment (number_of word.now) }
+{
+    let Some(at) = read_number(word) else {
+        return Request::Malformed;
+    };
+    Request::Moment(at)
 }
 
 // What a look of two words into a snapshot asks for.

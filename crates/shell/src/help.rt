@@ -14,7 +14,8 @@ Scripts:
 
   A path P is / or names behind slashes, as /a/x; a space in it is written %20.
   OFF, LEN and N are numbers of bytes. HEX is bytes in hexadecimal, or - for
-  none. S is the name of a snapshot: letters, digits, '.', '_' and '-'.
+  none. S is the name of a snapshot: letters, digits, '.', '_' and '-'. M is a
+  moment, a number: the time of last change.
 
   Line              Reply           What is done
   mkdir P           ok              make a directory
@@ -22,8 +23,8 @@ Scripts:
   write P OFF HEX   count N         write bytes into a file, from OFF on
   read P OFF N      bytes HEX       read at most N bytes of a file, from OFF on
   truncate P LEN    ok              cut a file, or lengthen it by zeros, to LEN
-  stat P            dir 0           tell that a directory stands there,
-                    file N          or a file of N bytes
+  stat P            dir 0 M         tell that a directory stands there,
+                    file N M        or a file of N bytes, and when it changed
   readdir P         names K         list a directory of K entries:
                     d NAME          one line for each directory in it,
                     f NAME          and for each file
@@ -31,6 +32,8 @@ Scripts:
   unlink P          ok              remove a file
   rmdir P           ok              remove an empty directory
   rmtree P          ok              remove a file, or a directory with all below
+  at M              ok              set the moment of the lines that follow,
+                                    which is 0 before
   snapshot S        ok              keep the tree as it is now, under a name
   restore S         ok              make the tree the kept one again
   drop S            ok              forget a kept tree
@@ -44,11 +47,11 @@ Scripts:
   script, 1000 steps each, and --steps has no effect.
 
 Images:
-  --image prints the whole tree as text after the replies, from the line 'd /'
+  --image prints the whole tree as text after the replies, from the line 'D / M'
   on, and --load starts with the tree of such a text: so a tree is kept in a
   file, and had back, without its snapshots.
 
-  betr --image first | sed -n '/^d \\/$/,$p' > kept
+  betr --image first | sed -n '/^D \\/ /,$p' > kept
   betr --load kept second
 
 Example:

@@ -4,12 +4,12 @@ ghost use Rattle.std.specs.Io.KnownBytes.{Appends};
 ghost use Rattle.pathkey.specs.Numbers.{word_of};
 ghost use Rattle.reference.specs.Pairs.{pairs_of};
 ghost use Rattle.lines.specs.Parts.{AppendsPart};
-ghost use Rattle.reference.specs.declared.reply.Reply.TheVariants.{Names};
-ghost use Rattle.shell.specs.Replies.{entry_line, reply_text, name_word};
-ghost use Rattle.lines.specs.Texts.{hex_text, number_line};
+ghost use Rattle.reference.specs.declared.reply.Reply.TheVariants.{Names, Stat};
+ghost use Rattle.shell.specs.Replies.{entry_line, reply_text, name_word, stat_word};
+ghost use Rattle.lines.specs.Texts.{hex_text};
 
 use lines::output::{WriteFailed, put};
-use lines::text::{put_hex, put_number_line, put_percent};
+use lines::text::{put_hex, put_number, put_number_line, put_percent};
 use pathkey::Errno;
 use reference::{Kind, Reply};
 use std::io::Write;
@@ -23,8 +23,7 @@ pub fn write_reply<W: Write>(writer: &mut W, reply: &Reply) -> Result<(), WriteF
         Reply::Done => put(writer, b"ok\n"),
         Reply::Count(n) => put_number_line(writer, b"count ", *n),
         Reply::Data(bytes) => put_data(writer, bytes.as_slice()),
-        Reply::Stat(Kind::Dir, n) => put_number_line(writer, b"dir ", *n),
-        Reply::Stat(Kind::File, n) => put_number_line(writer, b"file ", *n),
+        Reply::Stat(kind, len, modified) => put_stat(writer, *kind, *len, *modified),
         Reply::Names(entries) => put_names(writer, entries.as_slice()),
         Reply::Fault(fault) => put_fault(writer, *fault),
     }
@@ -39,6 +38,32 @@ pub fn put_fault<W: Write>(writer: &mut W, fault: Errno) -> Result<(), WriteFail
     put(writer, fault.name().as_bytes())?;
     put(writer, b"\n")?;
     Ok(())
+}
+
+// Writes the line of what stands at a path, or a beginning of it.
+fn put_stat<W: Write>(
+    writer: &mut W,
+    kind: Kind,
+    len: u64,
+    modified: u64,
+) -> Result<(), WriteFailed>
+    ensures ok { OnOk result (Appends (W.contents writer.old) (W.contents writer.new) (reply_text (Stat kind len modified))) }
+    ensures err { OnErr result (AppendsPart (W.contents writer.old) (W.contents writer.new) (reply_text (Stat kind len modified))) }
+{
+    put(writer, stat_word(kind))?;
+    put_number(writer, len)?;
+    put_number_line(writer, b" ", modified)?;
+    Ok(())
+}
+
+// What stands before the length of what stands at a path.
+fn stat_word(kind: Kind) -> &'static [u8]
+    ensures { result.now ≡ stat_word kind }
+{
+    match kind {
+        Kind::Dir => b"dir ",
+        Kind::File => b"file ",
+    }
 }
 
 // Writes the line of bytes that were read, or a beginning of it.

@@ -14,6 +14,8 @@ pub enum Request {
     Malformed,
     /// A call that is refused before it is done.
     Refused(Errno),
+    /// The moment of the calls that follow.
+    Moment(u64),
     /// A file call.
     Wanted(Call),
     /// The live tree is to be kept under the name.

@@ -6,7 +6,7 @@ ghost use Rattle.shell.specs.Replies.{reply_text};
 ghost use Rattle.shell.specs.Script.{Answers, Does, Script, Tells, settled_reply};
 ghost use Rattle.reference.specs.Worlds.{World};
 ghost use Rattle.volume.specs.Volumes.{Means};
-ghost use Rattle.shell.specs.Runs.{DoesAll, DoesGiven, DoesUntil, Leads};
+ghost use Rattle.shell.specs.Runs.{DoesAll, DoesGiven, DoesUntil, Leads, Left, Meant};
 ghost use Rattle.shell.specs.Progress.{FailedIn, Went, last_line};
 ghost use Rattle.lines.specs.Held.{Holds};
 
@@ -40,8 +40,9 @@ pub enum ScriptFault {
     Write,
 }
 
-/// Runs all the lines of the reader on the volume, and writes a reply to each as it is done. After each line the pace picks tree
-/// steps; whatever they are, the replies and what the volume means are the same.
+/// Runs all the lines of the reader on the volume, and writes a reply to each as it is done. The calls before the first line that
+/// sets the moment are done at 0. After each line the pace picks tree steps; whatever they are, the replies and what the volume
+/// means are the same.
 ///
 /// At most one line is held, and of a line that is too long no more than shows that it is. The writer is flushed before each
 /// read and at the end.
@@ -54,31 +55,33 @@ pub fn run_script<R: Read, W: Write, P: Pace>(
 ) -> Result<(), ScriptFault>
     ensures memory { result ≡ Err ScriptFault.Memory → (volume.new ≡ volume.old) × (reader.new ≡ reader.old)
         × (writer.new ≡ writer.old) }
-    ensures done { OnOk result (Leads (Means volume.old) (Means volume.new) (DoesAll (R.remaining reader.old) (R.remaining reader.new))
+    ensures done { OnOk result (Leads (Meant (Means volume.old) 0) (Left (Means volume.new)) (DoesAll (R.remaining reader.old) (R.remaining reader.new))
         (Appends (W.contents writer.old) (W.contents writer.new))) }
-    ensures read { result ≡ Err ScriptFault.Read → Leads (Means volume.old) (Means volume.new)
+    ensures read { result ≡ Err ScriptFault.Read → Leads (Meant (Means volume.old) 0) (Left (Means volume.new))
         (DoesGiven (R.remaining reader.old) (R.remaining reader.new)) (Appends (W.contents writer.old) (W.contents writer.new)) }
-    ensures write { result ≡ Err ScriptFault.Write → Leads (Means volume.old) (Means volume.new)
+    ensures write { result ≡ Err ScriptFault.Write → Leads (Meant (Means volume.old) 0) (Left (Means volume.new))
         (DoesUntil (R.remaining reader.old)) (Appends (W.contents writer.old) (W.contents writer.new)) }
 {
-    run_lines(alloc, volume, reader, writer, pace)
+    let mut at = 0;
+    run_lines(alloc, volume, &mut at, reader, writer, pace)
 }
 
 // The same on a session: one that others share means no world that a contract could name, and then nothing is said.
 pub(crate) fn run_lines<S: Session, R: Read, W: Write, P: Pace>(
     alloc: Global,
     session: &mut S,
+    at: &mut u64,
     reader: &mut R,
     writer: &mut W,
     pace: &mut P,
 ) -> Result<(), ScriptFault>
-    ensures memory { result ≡ Err ScriptFault.Memory → (session.new ≡ session.old) × (reader.new ≡ reader.old)
+    ensures memory { result ≡ Err ScriptFault.Memory → (session.new ≡ session.old) × (at.new ≡ at.old) × (reader.new ≡ reader.old)
         × (writer.new ≡ writer.old) }
-    ensures done { OnOk result (Leads (S.means session.old) (S.means session.new) (DoesAll (R.remaining reader.old) (R.remaining reader.new))
+    ensures done { OnOk result (Leads (Meant (S.means session.old) at.old) (Meant (S.means session.new) at.new) (DoesAll (R.remaining reader.old) (R.remaining reader.new))
         (Appends (W.contents writer.old) (W.contents writer.new))) }
-    ensures read { result ≡ Err ScriptFault.Read → Leads (S.means session.old) (S.means session.new)
+    ensures read { result ≡ Err ScriptFault.Read → Leads (Meant (S.means session.old) at.old) (Meant (S.means session.new) at.new)
         (DoesGiven (R.remaining reader.old) (R.remaining reader.new)) (Appends (W.contents writer.old) (W.contents writer.new)) }
-    ensures write { result ≡ Err ScriptFault.Write → Leads (S.means session.old) (S.means session.new)
+    ensures write { result ≡ Err ScriptFault.Write → Leads (Meant (S.means session.old) at.old) (Meant (S.means session.new) at.new)
         (DoesUntil (R.remaining reader.old)) (Appends (W.contents writer.old) (W.contents writer.new)) }
 {
     let Ok(mut piece) = Vec::from_elem(alloc, 0u8, PIECE) else {
@@ -90,6 +93,7 @@ pub(crate) fn run_lines<S: Session, R: Read, W: Write, P: Pace>(
     run_over(
         alloc,
         session,
+        at,
         reader,
         writer,
         pace,
@@ -102,6 +106,7 @@ pub(crate) fn run_lines<S: Session, R: Read, W: Write, P: Pace>(
 fn run_over<S: Session, R: Read, W: Write, P: Pace>(
     alloc: Global,
     session: &mut S,
+    at: &mut u64,
     reader: &mut R,
     writer: &mut W,
     pace: &mut P,
@@ -112,11 +117,11 @@ fn run_over<S: Session, R: Read, W: Write, P: Pace>(
     requires room { 65536 < vec_capacity line.old }
     requires empty { line.old.items ≡ [] }
     ensures kinds { result ≢ Err ScriptFault.Memory }
-    ensures done { OnOk result (Leads (S.means session.old) (S.means session.new) (DoesAll (R.remaining reader.old) (R.remaining reader.new))
+    ensures done { OnOk result (Leads (Meant (S.means session.old) at.old) (Meant (S.means session.new) at.new) (DoesAll (R.remaining reader.old) (R.remaining reader.new))
         (Appends (W.contents writer.old) (W.contents writer.new))) }
-    ensures read { result ≡ Err ScriptFault.Read → Leads (S.means session.old) (S.means session.new)
+    ensures read { result ≡ Err ScriptFault.Read → Leads (Meant (S.means session.old) at.old) (Meant (S.means session.new) at.new)
         (DoesGiven (R.remaining reader.old) (R.remaining reader.new)) (Appends (W.contents writer.old) (W.contents writer.new)) }
-    ensures write { result ≡ Err ScriptFault.Write → Leads (S.means session.old) (S.means session.new)
+    ensures write { result ≡ Err ScriptFault.Write → Leads (Meant (S.means session.old) at.old) (Meant (S.means session.new) at.new)
         (DoesUntil (R.remaining reader.old)) (Appends (W.contents writer.old) (W.contents writer.new)) }
 {
     for _ in 0..u64::MAX {
@@ -127,12 +132,12 @@ fn run_over<S: Session, R: Read, W: Write, P: Pace>(
             return Err(ScriptFault::Read);
         };
         if n == 0 {
-            return match finish(alloc, session, line.as_slice(), writer, pace) {
+            return match finish(alloc, session, at, line.as_slice(), writer, pace) {
                 Ok(()) => Ok(()),
                 Err(WriteFailed) => Err(ScriptFault::Write),
             };
         }
-        if let Err(WriteFailed) = take_piece(alloc, session, line, &piece[..n], writer, pace) {
+        if let Err(WriteFailed) = take_piece(alloc, session, at, line, &piece[..n], writer, pace) {
             return Err(ScriptFault::Write);
         }
     }
@@ -143,6 +148,7 @@ fn run_over<S: Session, R: Read, W: Write, P: Pace>(
 fn take_piece<S: Session, W: Write, P: Pace>(
     alloc: Global,
     session: &mut S,
+    at: &mut u64,
     line: &mut Vec<u8>,
     piece: &[u8],
     writer: &mut W,
@@ -150,15 +156,15 @@ fn take_piece<S: Session, W: Write, P: Pace>(
 ) -> Result<(), WriteFailed>
     requires room { 65536 < vec_capacity line.old }
     ensures room { 65536 < vec_capacity line.new }
-    ensures ok { OnOk result ((held : List ℕ) → Holds held line.old.items → Leads (S.means session.old) (S.means session.new)
+    ensures ok { OnOk result ((held : List ℕ) → Holds held line.old.items → Leads (Meant (S.means session.old) at.old) (Meant (S.means session.new) at.new)
         (λ first out after. (left : List ℕ) × Holds left line.new.items × Went held piece.now first out left after)
         (Appends (W.contents writer.old) (W.contents writer.new))) }
-    ensures err { OnErr result ((held : List ℕ) → Holds held line.old.items → Leads (S.means session.old) (S.means session.new)
+    ensures err { OnErr result ((held : List ℕ) → Holds held line.old.items → Leads (Meant (S.means session.old) at.old) (Meant (S.means session.new) at.new)
         (FailedIn held piece.now) (Appends (W.contents writer.old) (W.contents writer.new))) }
 {
     let mut rest = piece;
     while let Some((end, after)) = cut_line(rest) {
-        end_line(alloc, session, line, end, writer, pace)?;
+        end_line(alloc, session, at, line, end, writer, pace)?;
         rest = after;
     }
     hold(line, rest);
@@ -169,6 +175,7 @@ fn take_piece<S: Session, W: Write, P: Pace>(
 fn end_line<S: Session, W: Write, P: Pace>(
     alloc: Global,
     session: &mut S,
+    at: &mut u64,
     start: &mut Vec<u8>,
     end: &[u8],
     writer: &mut W,
@@ -177,17 +184,17 @@ fn end_line<S: Session, W: Write, P: Pace>(
     requires room { 65536 < vec_capacity start.old }
     requires free { All (λ b. b ≢ 10) end.now }
     ensures room { 65536 < vec_capacity start.new }
-    ensures ok { OnOk result ((held : List ℕ) → Holds held start.old.items → Leads (S.means session.old) (S.means session.new)
+    ensures ok { OnOk result ((held : List ℕ) → Holds held start.old.items → Leads (Meant (S.means session.old) at.old) (Meant (S.means session.new) at.new)
         (λ first out after. (left : List ℕ) × Holds left start.new.items × Went held (end.now ++ 10 ∷ []) first out left after)
         (Appends (W.contents writer.old) (W.contents writer.new))) }
-    ensures err { OnErr result ((held : List ℕ) → Holds held start.old.items → Leads (S.means session.old) (S.means session.new)
+    ensures err { OnErr result ((held : List ℕ) → Holds held start.old.items → Leads (Meant (S.means session.old) at.old) (Meant (S.means session.new) at.new)
         (FailedIn held (end.now ++ 10 ∷ [])) (Appends (W.contents writer.old) (W.contents writer.new))) }
 {
     if start.is_empty() {
-        return do_line(alloc, session, end, writer, pace);
+        return do_line(alloc, session, at, end, writer, pace);
     }
     hold(start, end);
-    do_line(alloc, session, start.as_slice(), writer, pace)?;
+    do_line(alloc, session, at, start.as_slice(), writer, pace)?;
     start.clear();
     Ok(())
 }
@@ -196,19 +203,20 @@ fn end_line<S: Session, W: Write, P: Pace>(
 fn finish<S: Session, W: Write, P: Pace>(
     alloc: Global,
     session: &mut S,
+    at: &mut u64,
     line: &[u8],
     writer: &mut W,
     pace: &mut P,
 ) -> Result<(), WriteFailed>
-    ensures ok { OnOk result (Leads (S.means session.old) (S.means session.new) (λ first. Script first (last_line line.now))
+    ensures ok { OnOk result (Leads (Meant (S.means session.old) at.old) (Meant (S.means session.new) at.new) (λ first. Script first (last_line line.now))
         (Appends (W.contents writer.old) (W.contents writer.new))) }
-    ensures err { OnErr result (Leads (S.means session.old) (S.means session.new) (λ first. Script first (last_line line.now))
+    ensures err { OnErr result (Leads (Meant (S.means session.old) at.old) (Meant (S.means session.new) at.new) (λ first. Script first (last_line line.now))
         (AppendsPart (W.contents writer.old) (W.contents writer.new))) }
 {
     if line.is_empty() {
         return flush(writer);
     }
-    do_line(alloc, session, line, writer, pace)?;
+    do_line(alloc, session, at, line, writer, pace)?;
     flush(writer)
 }
 
@@ -216,16 +224,17 @@ fn finish<S: Session, W: Write, P: Pace>(
 fn do_line<S: Session, W: Write, P: Pace>(
     alloc: Global,
     session: &mut S,
+    at: &mut u64,
     line: &[u8],
     writer: &mut W,
     pace: &mut P,
 ) -> Result<(), WriteFailed>
-    ensures ok { OnOk result (Leads (S.means session.old) (S.means session.new) (λ first. Does first line.now)
+    ensures ok { OnOk result (Leads (Meant (S.means session.old) at.old) (Meant (S.means session.new) at.new) (λ first. Does first line.now)
         (Appends (W.contents writer.old) (W.contents writer.new))) }
-    ensures err { OnErr result (Leads (S.means session.old) (S.means session.new) (λ first. Does first line.now)
+    ensures err { OnErr result (Leads (Meant (S.means session.old) at.old) (Meant (S.means session.new) at.new) (λ first. Does first line.now)
         (AppendsPart (W.contents writer.old) (W.contents writer.new))) }
 {
-    answer_line(alloc, session, line, writer)?;
+    answer_line(alloc, session, at, line, writer)?;
     session.keep_pace(alloc, pace);
     Ok(())
 }
@@ -234,16 +243,17 @@ fn do_line<S: Session, W: Write, P: Pace>(
 fn answer_line<S: Session, W: Write>(
     alloc: Global,
     session: &mut S,
+    at: &mut u64,
     line: &[u8],
     writer: &mut W,
 ) -> Result<(), WriteFailed>
-    ensures ok { OnOk result (Leads (S.means session.old) (S.means session.new) (λ first. Does first line.now)
+    ensures ok { OnOk result (Leads (Meant (S.means session.old) at.old) (Meant (S.means session.new) at.new) (λ first. Does first line.now)
         (Appends (W.contents writer.old) (W.contents writer.new))) }
-    ensures err { OnErr result (Leads (S.means session.old) (S.means session.new) (λ first. Does first line.now)
+    ensures err { OnErr result (Leads (Meant (S.means session.old) at.old) (Meant (S.means session.new) at.new) (λ first. Does first line.now)
         (AppendsPart (W.contents writer.old) (W.contents writer.new))) }
 {
     let request = read_request(alloc, line);
-    let told = answer(alloc, session, &request, writer);
+    let told = answer(alloc, session, at, &request, writer);
     drop(request);
     told
 }
@@ -252,12 +262,13 @@ fn answer_line<S: Session, W: Write>(
 fn answer<S: Session, W: Write>(
     alloc: Global,
     session: &mut S,
+    at: &mut u64,
     request: &Request,
     writer: &mut W,
 ) -> Result<(), WriteFailed>
-    ensures ok { OnOk result (Leads (S.means session.old) (S.means session.new) (λ first. Answers first request.now)
+    ensures ok { OnOk result (Leads (Meant (S.means session.old) at.old) (Meant (S.means session.new) at.new) (λ first. Answers first request.now)
         (Appends (W.contents writer.old) (W.contents writer.new))) }
-    ensures err { OnErr result (Leads (S.means session.old) (S.means session.new) (λ first. Answers first request.now)
+    ensures err { OnErr result (Leads (Meant (S.means session.old) at.old) (Meant (S.means session.new) at.new) (λ first. Answers first request.now)
         (AppendsPart (W.contents writer.old) (W.contents writer.new))) }
 {
     match request {
@@ -265,8 +276,12 @@ fn answer<S: Session, W: Write>(
         Request::Overlong => put(writer, b"error line\n"),
         Request::Malformed => put(writer, b"error syntax\n"),
         Request::Refused(fault) => put_fault(writer, *fault),
+        Request::Moment(moment) => {
+            *at = *moment;
+            put(writer, b"ok\n")
+        }
         Request::Wanted(call) => {
-            let reply = session.call(alloc, call);
+            let reply = session.call(alloc, call, *at);
             put_reply(writer, reply)
         }
         Request::Snapshot(name) => {

@@ -18,9 +18,9 @@ pub trait Session {
     /// The worlds that it means.
     ghost means: { Self → World → Type 0 };
 
-    /// Does a file call.
-    fn call(&mut self, alloc: Global, call: &Call) -> Reply
-        ensures { Goes (means self.old) (means self.new) (Ask call.now) (Replied result) };
+    /// Does a file call at a moment.
+    fn call(&mut self, alloc: Global, call: &Call, at: u64) -> Reply
+        ensures { Goes (means self.old) (means self.new) (Ask call.now at) (Replied result) };
 
     /// Keeps the live tree under the name.
     fn snapshot(&mut self, alloc: Global, name: &SnapName) -> Result<(), Errno>
@@ -46,8 +46,8 @@ pub trait Session {
 impl Session for Volume {
     ghost means = { λ v w. Means v w };
 
-    fn call(&mut self, alloc: Global, call: &Call) -> Reply {
-        self.call(alloc, call)
+    fn call(&mut self, alloc: Global, call: &Call, at: u64) -> Reply {
+        self.call(alloc, call, at)
     }
 
     fn snapshot(&mut self, alloc: Global, name: &SnapName) -> Result<(), Errno> {

@@ -1,6 +1,6 @@
 -- From what a call did to a volume to what it means: the answer fits each world that was meant, and the next one is meant.
 use Rattle.std.proofs.Common.{◌≡◌, ℕ, ◌+◌, ◌<◌, ◌≤◌, List, Bool, true, false, cond, refl, sym, ap, subst, ◌∙◌, inl, inr, Option, Some, None, Ok, Err, arith, ◌-◌, [], ◌∷◌}
-use Rattle.std.specs.Prelude.{IsOk, IfSome, IfNone}
+use Rattle.std.specs.Prelude.{◌&&◌, Result, IsOk, IfOk, OnErr, IfSome, IfNone}
 use Rattle.std.specs.Result.{IsErrAnd}
 use Rattle.std.specs.FinMap as finite
 use Rattle.std.proofs.lemmas.Bool.{lt-leb, le-leb}
@@ -8,13 +8,14 @@ use Rattle.std.proofs.lemmas.Cmp.{nat_list_cmp_total}
 use Rattle.pathkey.specs.declared.errno.Errno.{Errno}
 use Rattle.pathkey.specs.declared.errno.Errno.TheVariants.{ENOMEM, ENOSPC}
 use Rattle.call_compiler.specs.declared.indexes.Indexes.{Indexes}
-use Rattle.reference.specs.Calls.{does}
-use Rattle.reference.specs.Tree.{Tree}
+use Rattle.reference.specs.Calls.{is_done, does}
+use Rattle.reference.specs.Tree.{Tree, moment}
 use Rattle.reference.specs.Worlds.{World, Snapped, Event, Ask, TakeSnapshot, DropSnapshot, RestoreSnapshot, Answer, Replied, Settled, settled, restored, snapshot, outcome, is_lack, Fits, next}
 use Rattle.reference.specs.declared.call.Call.{Call}
 use Rattle.reference.specs.declared.reply.Reply.{Reply}
 use Rattle.reference.specs.declared.reply.Reply.TheVariants.{Fault}
 use Rattle.reference.proofs.NeverLacks.{no_lack}
+use Rattle.reference.proofs.Touching.{reply_is}
 use Rattle.reference.proofs.Snapshots.{takes, takes_no_more, drops}
 use Rattle.jobs.specs.Marks.{PMarked, Each, KeepsContent, kept_in}
 use Rattle.jobs.specs.declared.mark.Mark.{Mark}
@@ -34,16 +35,19 @@ use Rattle.volume.specs.declared.event.Index.TheVariants.{Meta, Block}
 use Rattle.volume.specs.declared.event.Relief.{Relief}
 use Rattle.volume.specs.declared.event.Step.{Step}
 use Rattle.node.specs.declared.step.StepReply.{StepReply}
-use Rattle.call_compiler.specs.Compiled.{no_messages, MeanTree}
+use Rattle.call_compiler.specs.Compiled.{no_messages, touches_root, MeanTree}
+use Rattle.call_compiler.proofs.RootMoment.{root_moment}
 use Rattle.call_compiler.proofs.Compiling.{nothing_sent}
-use Rattle.volume.specs.Volumes.{Kept, PVolume, Alike, Means, IsVolume, live_of}
+use Rattle.volume.specs.Rooted.{after_call, reply_to}
+use Rattle.volume.specs.Volumes.{Kept, PVolume, Alike, MeanRooted, Means, IsVolume, live_of}
+use Rattle.volume.specs.declared.rooted.Rooted.{Rooted}
 use Rattle.volume.specs.Changes.{Leads, Does, Batched, Called, Settles, KeptAs, Dropped, Restored, StepsLive, Stepped}
 use Rattle.volume.proofs.Pairs.{same_names, alike_insert, alike_remove, found_alike, same_len}
 use Rattle.volume.proofs.Trees.{tree_kept, tree_same_values, step_same, unless_then}
 
 -- a volume of these parts
-abbrev pub volume : PLive → Kept → PVolume
-volume l m = record { live = l.indexes; snapshots = m; marks = l.marks }
+abbrev pub volume : PLive → ℕ → Kept → PVolume
+volume l modified m = record { live = record { indexes = l.indexes; modified = modified }; snapshots = m; marks = l.marks }
 
 -- where nothing changes, each mark keeps its content
 pub kept_all : (l : PLive) → KeepsMarks l l
@@ -65,12 +69,21 @@ lasts old new e a is leads few stands = record { world = next is.world e a; mean
 
 -- ---- file calls
 
-pub called : (v : PVolume) (c : Call) (r : Reply) (l : PLive) → Does c r v.live l.indexes → Leads (Ask c) (Replied r) v (volume l v.snapshots)
-called v c r l does_it w m =
-    let d : (r ≡ (does w.live c).1) × MeanTree l.indexes (does w.live c).0 = does_it w.live m.live in
-    let given : is_lack (Replied r) ≡ false = ap (λ (x : Reply). is_lack (Replied x)) d.0 ∙ no_lack w.live c in
-    let there : Means (volume l v.snapshots) (outcome w (Ask c)).0 = record { live = d.1; snapshots = m.snapshots } in
-    (inl (ap Replied d.0), subst (λ (b : Bool). Means (volume l v.snapshots) (cond b w (outcome w (Ask c)).0)) (sym given) there)
+-- the moment that stands beside the indexes is that of the root after the call
+root_after : (c : Call) (at modified : ℕ) (r : Reply) (t : Tree) → r ≡ (does at t c).1 → moment t ≡ modified → moment (does at t c).0 ≡ after_call (touches_root c) r at modified
+root_after c at modified r t reply same =
+    root_moment at t c
+    ∙ ap (λ (q : Reply). cond (is_done q && touches_root c) at (moment t)) (sym reply)
+    ∙ ap (λ (n : ℕ). cond (is_done r && touches_root c) at n) same
+
+pub called : (v : PVolume) (c : Call) (at : ℕ) (r : Reply) (l : PLive) → Does c at r v.live.indexes l.indexes → Leads (Ask c at) (Replied r) v (volume l (after_call (touches_root c) r at v.live.modified) v.snapshots)
+called v c at r l does_it w m =
+    let new : PVolume = volume l (after_call (touches_root c) r at v.live.modified) v.snapshots in
+    let d : (r ≡ (does at w.live c).1) × MeanTree l.indexes (does at w.live c).0 = does_it w.live m.live.indexes in
+    let given : is_lack (Replied r) ≡ false = ap (λ (x : Reply). is_lack (Replied x)) (d.0 ∙ reply_is at w.live c) ∙ no_lack at w.live c in
+    let live : MeanRooted new.live (does at w.live c).0 = record { indexes = d.1; root = root_after c at v.live.modified r w.live d.0 m.live.root } in
+    let there : Means new (outcome w (Ask c at)).0 = record { live = live; snapshots = m.snapshots } in
+    (inl (ap Replied d.0), subst (λ (b : Bool). Means new (cond b w (outcome w (Ask c at)).0)) (sym given) there)
 
 -- where nothing changes and no message came, each list stays
 pub nothing_comes : (l m : PLive) → m ≡ l → KeepMarkedLists no_messages l m
@@ -79,11 +92,11 @@ nothing_comes l m e = subst (λ (x : PLive). KeepMarkedLists no_messages l x) (s
   block = keeps_nothing l.indexes.block.tree.shape 0 (kept_in l.marks.block l.indexes.block.tree.root) [] l.indexes.block.tree l.indexes.block.tree.root refl refl;
 })
 
-pub lacks_call : (v : PVolume) (c : Call) (l : PLive) → l ≡ live_of v → Called c (Fault ENOMEM) v (volume l v.snapshots)
-lacks_call v c l e = record {
-  leads = λ w m. (inr refl, subst (λ (k : PLive). Means (volume k v.snapshots) w) (sym e) m);
-  refused = λ x h. ap (λ (k : PLive). volume k v.snapshots) e;
-  batch = record { msgs = no_messages; sends = nothing_sent v.live c; meta = ap (λ (k : PLive). k.indexes.meta.tree) e; block = ap (λ (k : PLive). k.indexes.block.tree) e; lists = nothing_comes (live_of v) l e };
+pub lacks_call : (v : PVolume) (c : Call) (at : ℕ) (l : PLive) → l ≡ live_of v → Called c at (Fault ENOMEM) v (volume l v.live.modified v.snapshots)
+lacks_call v c at l e = record {
+  leads = λ w m. (inr refl, subst (λ (k : PLive). Means (volume k v.live.modified v.snapshots) w) (sym e) m);
+  refused = λ x h. ap (λ (k : PLive). volume k v.live.modified v.snapshots) e;
+  batch = record { msgs = no_messages; sends = nothing_sent v.live.indexes c at; meta = ap (λ (k : PLive). k.indexes.meta.tree) e; block = ap (λ (k : PLive). k.indexes.block.tree) e; lists = nothing_comes (live_of v) l e };
   snapshots = refl;
   marks = ap (λ (k : PLive). k.marks) e;
   kept = kept_same (live_of v) l e;
@@ -93,15 +106,36 @@ lacks_call v c l e = record {
 pub same_live : (a b : PLive) → b.indexes ≡ a.indexes → b.marks ≡ a.marks → b ≡ a
 same_live a b i m = λ k. record { indexes = i k; marks = m k }
 
-pub call_done : (v : PVolume) (c : Call) (r : Reply) (l : PLive) → Does c r v.live l.indexes → ((e : Errno) → r ≡ Fault e → l.indexes ≡ v.live) → Batched c (live_of v) l → l.marks ≡ v.marks → KeepsMarks (live_of v) l → Called c r v (volume l v.snapshots)
-call_done v c r l does_it refused batch marks kept = record {
-  leads = called v c r l does_it;
-  refused = λ e h. ap (λ (k : PLive). volume k v.snapshots) (same_live (live_of v) l (refused e h) marks);
+-- a refusal gives the root no moment
+not_touched : (c : Call) (r : Reply) (at modified : ℕ) (e : Errno) → r ≡ Fault e → after_call (touches_root c) r at modified ≡ modified
+not_touched c r at modified e h = ap (λ (q : Reply). after_call (touches_root c) q at modified) h
+
+pub call_done : (v : PVolume) (c : Call) (at : ℕ) (r : Reply) (l : PLive) → Does c at r v.live.indexes l.indexes → ((e : Errno) → r ≡ Fault e → l.indexes ≡ v.live.indexes) → Batched c at (live_of v) l → l.marks ≡ v.marks → KeepsMarks (live_of v) l → Called c at r v (volume l (after_call (touches_root c) r at v.live.modified) v.snapshots)
+call_done v c at r l does_it refused batch marks kept = record {
+  leads = called v c at r l does_it;
+  refused = λ e h. ap (λ (k : PLive). volume k (after_call (touches_root c) r at v.live.modified) v.snapshots) (same_live (live_of v) l (refused e h) marks) ∙ ap (λ (n : ℕ). volume (live_of v) n v.snapshots) (not_touched c r at v.live.modified e h);
   batch = batch;
   snapshots = refl;
   marks = marks;
   kept = kept;
 }
+
+-- what the live indexes answered to a call
+pub record Answered {E : Type 0} (c : Call) (at : ℕ) (a : Result Reply E) (old new : PLive) : Type 0 where
+  pub done : IfOk a (λ r. Does c at r old.indexes new.indexes)
+  pub refused : IfOk a (λ r. (e : Errno) → r ≡ Fault e → new.indexes ≡ old.indexes)
+  pub batch : IfOk a (λ _. Batched c at old new)
+  pub err : OnErr a (new ≡ old)
+  pub marks : new.marks ≡ old.marks
+  pub kept : KeepsMarks old new
+
+pub answered : {E : Type 0} (v : PVolume) (c : Call) (at : ℕ) (a : Result Reply E) (l : PLive) → Answered c at a (live_of v) l → Called c at (reply_to a) v (volume l (after_call (touches_root c) (reply_to a) at v.live.modified) v.snapshots)
+answered v c at (Ok r) l h = call_done v c at r l h.done h.refused h.batch h.marks h.kept
+answered v c at (Err e) l h = lacks_call v c at l h.err
+
+pub answered_lasts : {E : Type 0} (v : PVolume) (c : Call) (at : ℕ) (a : Result Reply E) (l : PLive) → IsVolume v → Answered c at a (live_of v) l → Stands l → IsVolume (volume l (after_call (touches_root c) (reply_to a) at v.live.modified) v.snapshots)
+answered_lasts v c at a l is h stands =
+    lasts v (volume l (after_call (touches_root c) (reply_to a) at v.live.modified) v.snapshots) (Ask c at) (Replied (reply_to a)) is (answered v c at a l h).leads is.few stands
 
 -- ---- snapshot calls
 
@@ -119,34 +153,34 @@ record IsNewName (v : PVolume) (s : List ℕ) : Type 0 where
 
 takes_one : (v : PVolume) (s : List ℕ) → IsNewName v s → (w : World) → Means v w → ◌≡◌ {A = World × Snapped} (snapshot w s) (record w { snapshots = finite.insert w.snapshots s w.live }, Ok tt)
 takes_one v s n w m =
-    let few : finite.len w.snapshots < 64 = subst (λ (k : ℕ). k < 64) (same_len MeanTree v.snapshots w.snapshots m.snapshots) n.few in
-    takes w.live w.snapshots s (sym (same_names MeanTree v.snapshots w.snapshots m.snapshots s) ∙ n.new) (lt-leb 64 (finite.len w.snapshots) few)
+    let few : finite.len w.snapshots < 64 = subst (λ (k : ℕ). k < 64) (same_len MeanRooted v.snapshots w.snapshots m.snapshots) n.few in
+    takes w.live w.snapshots s (sym (same_names MeanRooted v.snapshots w.snapshots m.snapshots s) ∙ n.new) (lt-leb 64 (finite.len w.snapshots) few)
 
-taken : (v : PVolume) (s : List ℕ) (kept : Kept) → IsNewName v s → kept ≡ finite.insert v.snapshots s v.live → Leads (TakeSnapshot s) (Settled (Ok tt)) v (volume (live_of v) kept)
+taken : (v : PVolume) (s : List ℕ) (kept : Kept) → IsNewName v s → kept ≡ finite.insert v.snapshots s v.live → Leads (TakeSnapshot s) (Settled (Ok tt)) v (volume (live_of v) v.live.modified kept)
 taken v s kept n e w m =
-    fits_as (volume (live_of v) kept) w (record w { snapshots = finite.insert w.snapshots s w.live }) (TakeSnapshot s) (Ok tt) (ap settled (takes_one v s n w m)) refl (record {
+    fits_as (volume (live_of v) v.live.modified kept) w (record w { snapshots = finite.insert w.snapshots s w.live }) (TakeSnapshot s) (Ok tt) (ap settled (takes_one v s n w m)) refl (record {
       live = m.live;
-      snapshots = subst (λ (k : Kept). Alike MeanTree k (finite.insert w.snapshots s w.live)) (sym e) (alike_insert MeanTree v.snapshots w.snapshots s v.live w.live m.snapshots m.live);
+      snapshots = subst (λ (k : Kept). Alike MeanRooted k (finite.insert w.snapshots s w.live)) (sym e) (alike_insert MeanRooted v.snapshots w.snapshots s v.live w.live m.snapshots m.live);
     })
 
-pub snapshot_taken : (v : PVolume) (s : List ℕ) (kept : Kept) → finite.contains_key v.snapshots s ≡ false → finite.len v.snapshots < 64 → kept ≡ finite.insert v.snapshots s v.live → Settles (TakeSnapshot s) (KeptAs s) (Ok tt) v (volume (live_of v) kept)
-snapshot_taken v s kept new few e = record { leads = taken v s kept (record { new = new; few = few }) e; done = ap (volume (live_of v)) e; refused = tt; kept = kept_all (live_of v) }
+pub snapshot_taken : (v : PVolume) (s : List ℕ) (kept : Kept) → finite.contains_key v.snapshots s ≡ false → finite.len v.snapshots < 64 → kept ≡ finite.insert v.snapshots s v.live → Settles (TakeSnapshot s) (KeptAs s) (Ok tt) v (volume (live_of v) v.live.modified kept)
+snapshot_taken v s kept new few e = record { leads = taken v s kept (record { new = new; few = few }) e; done = ap (volume (live_of v) v.live.modified) e; refused = tt; kept = kept_all (live_of v) }
 
-one_more : (m : Kept) (s : List ℕ) (i : Indexes) → finite.contains_key m s ≡ false → finite.len m < 64 → finite.len (finite.insert m s i) ≤ 64
+one_more : (m : Kept) (s : List ℕ) (i : Rooted) → finite.contains_key m s ≡ false → finite.len m < 64 → finite.len (finite.insert m s i) ≤ 64
 one_more m s i new few =
     let l : finite.len (finite.insert m s i) ≡ finite.len m + 1 = finite.len-insert nat_list_cmp_total m s i ∙ ap (λ (b : Bool). cond b (finite.len m) (finite.len m + 1)) new in
     omega (arith, l, few)
 
-pub snapshot_lasts : (v : PVolume) (s : List ℕ) (kept : Kept) → IsVolume v → finite.contains_key v.snapshots s ≡ false → finite.len v.snapshots < 64 → kept ≡ finite.insert v.snapshots s v.live → IsVolume (volume (live_of v) kept)
+pub snapshot_lasts : (v : PVolume) (s : List ℕ) (kept : Kept) → IsVolume v → finite.contains_key v.snapshots s ≡ false → finite.len v.snapshots < 64 → kept ≡ finite.insert v.snapshots s v.live → IsVolume (volume (live_of v) v.live.modified kept)
 snapshot_lasts v s kept is new few e =
-    lasts v (volume (live_of v) kept) (TakeSnapshot s) (Settled (Ok tt)) is (taken v s kept (record { new = new; few = few }) e)
+    lasts v (volume (live_of v) v.live.modified kept) (TakeSnapshot s) (Settled (Ok tt)) is (taken v s kept (record { new = new; few = few }) e)
     (subst (λ (k : Kept). finite.len k ≤ 64) (sym e) (one_more v.snapshots s v.live new few)) is.stands
 
 pub snapshot_full : (v : PVolume) (s : List ℕ) → finite.contains_key v.snapshots s ≡ false → 64 ≤ finite.len v.snapshots → Settles (TakeSnapshot s) (KeptAs s) (Err ENOSPC) v v
 snapshot_full v s new many = record {
   leads = λ w m.
-      let full : 64 ≤ finite.len w.snapshots = subst (λ (k : ℕ). 64 ≤ k) (same_len MeanTree v.snapshots w.snapshots m.snapshots) many in
-      fits_as v w w (TakeSnapshot s) (Err ENOSPC) (ap settled (takes_no_more w.live w.snapshots s (sym (same_names MeanTree v.snapshots w.snapshots m.snapshots s) ∙ new) (le-leb 64 (finite.len w.snapshots) full))) refl m;
+      let full : 64 ≤ finite.len w.snapshots = subst (λ (k : ℕ). 64 ≤ k) (same_len MeanRooted v.snapshots w.snapshots m.snapshots) many in
+      fits_as v w w (TakeSnapshot s) (Err ENOSPC) (ap settled (takes_no_more w.live w.snapshots s (sym (same_names MeanRooted v.snapshots w.snapshots m.snapshots s) ∙ new) (le-leb 64 (finite.len w.snapshots) full))) refl m;
   done = tt;
   refused = refl;
   kept = kept_all (live_of v);
@@ -160,38 +194,39 @@ snapshot_lacks v now s new few e = record {
   kept = subst (λ (x : PVolume). KeepsMarks (live_of v) (live_of x)) (sym e) (kept_all (live_of v));
 }
 
-dropped : (v : PVolume) (s : List ℕ) (kept : Kept) → finite.contains_key v.snapshots s ≡ true → kept ≡ finite.remove v.snapshots s → Leads (DropSnapshot s) (Settled (Ok tt)) v (volume (live_of v) kept)
+dropped : (v : PVolume) (s : List ℕ) (kept : Kept) → finite.contains_key v.snapshots s ≡ true → kept ≡ finite.remove v.snapshots s → Leads (DropSnapshot s) (Settled (Ok tt)) v (volume (live_of v) v.live.modified kept)
 dropped v s kept old e w m =
-    fits_as (volume (live_of v) kept) w (record w { snapshots = finite.remove w.snapshots s }) (DropSnapshot s) (Ok tt) (ap settled (drops w.live w.snapshots s (sym (same_names MeanTree v.snapshots w.snapshots m.snapshots s) ∙ old))) refl (record {
+    fits_as (volume (live_of v) v.live.modified kept) w (record w { snapshots = finite.remove w.snapshots s }) (DropSnapshot s) (Ok tt) (ap settled (drops w.live w.snapshots s (sym (same_names MeanRooted v.snapshots w.snapshots m.snapshots s) ∙ old))) refl (record {
       live = m.live;
-      snapshots = subst (λ (k : Kept). Alike MeanTree k (finite.remove w.snapshots s)) (sym e) (alike_remove MeanTree v.snapshots w.snapshots s m.snapshots);
+      snapshots = subst (λ (k : Kept). Alike MeanRooted k (finite.remove w.snapshots s)) (sym e) (alike_remove MeanRooted v.snapshots w.snapshots s m.snapshots);
     })
 
-pub snapshot_dropped : (v : PVolume) (s : List ℕ) (kept : Kept) → finite.contains_key v.snapshots s ≡ true → kept ≡ finite.remove v.snapshots s → Settles (DropSnapshot s) (Dropped s) (Ok tt) v (volume (live_of v) kept)
-snapshot_dropped v s kept old e = record { leads = dropped v s kept old e; done = ap (volume (live_of v)) e; refused = tt; kept = kept_all (live_of v) }
+pub snapshot_dropped : (v : PVolume) (s : List ℕ) (kept : Kept) → finite.contains_key v.snapshots s ≡ true → kept ≡ finite.remove v.snapshots s → Settles (DropSnapshot s) (Dropped s) (Ok tt) v (volume (live_of v) v.live.modified kept)
+snapshot_dropped v s kept old e = record { leads = dropped v s kept old e; done = ap (volume (live_of v) v.live.modified) e; refused = tt; kept = kept_all (live_of v) }
 
 one_less : (m : Kept) (s : List ℕ) → finite.contains_key m s ≡ true → finite.len m ≤ 64 → finite.len (finite.remove m s) ≤ 64
 one_less m s old few =
     let l : finite.len (finite.remove m s) ≡ finite.len m - 1 = finite.len-remove nat_list_cmp_total m s ∙ ap (λ (b : Bool). cond b (finite.len m - 1) (finite.len m)) old in
     omega (arith, l, few)
 
-pub drop_lasts : (v : PVolume) (s : List ℕ) (kept : Kept) → IsVolume v → finite.contains_key v.snapshots s ≡ true → kept ≡ finite.remove v.snapshots s → IsVolume (volume (live_of v) kept)
+pub drop_lasts : (v : PVolume) (s : List ℕ) (kept : Kept) → IsVolume v → finite.contains_key v.snapshots s ≡ true → kept ≡ finite.remove v.snapshots s → IsVolume (volume (live_of v) v.live.modified kept)
 drop_lasts v s kept is old e =
-    lasts v (volume (live_of v) kept) (DropSnapshot s) (Settled (Ok tt)) is (dropped v s kept old e)
+    lasts v (volume (live_of v) v.live.modified kept) (DropSnapshot s) (Settled (Ok tt)) is (dropped v s kept old e)
     (subst (λ (k : Kept). finite.len k ≤ 64) (sym e) (one_less v.snapshots s old is.few)) is.stands
 
-pub put_back : (v : PVolume) (s : List ℕ) (l : PLive) → finite.get v.snapshots s ≡ Some l.indexes → Leads (RestoreSnapshot s) (Settled (Ok tt)) v (volume l v.snapshots)
-put_back v s l e w m =
-    let f : (t : Tree) × (finite.get w.snapshots s ≡ Some t) × MeanTree l.indexes t = found_alike MeanTree v.snapshots w.snapshots s l.indexes m.snapshots e in
-    fits_as (volume l v.snapshots) w (record w { live = f.0 }) (RestoreSnapshot s) (Ok tt) (ap (λ (o : Option Tree). settled (restored w o)) f.1) refl (record { live = f.2; snapshots = m.snapshots })
+pub put_back : (v : PVolume) (s : List ℕ) (l : PLive) (modified : ℕ) → finite.get v.snapshots s ≡ Some (record { indexes = l.indexes; modified = modified }) → Leads (RestoreSnapshot s) (Settled (Ok tt)) v (volume l modified v.snapshots)
+put_back v s l modified e w m =
+    let new : PVolume = volume l modified v.snapshots in
+    let f : (t : Tree) × (finite.get w.snapshots s ≡ Some t) × MeanRooted new.live t = found_alike MeanRooted v.snapshots w.snapshots s new.live m.snapshots e in
+    fits_as new w (record w { live = f.0 }) (RestoreSnapshot s) (Ok tt) (ap (λ (o : Option Tree). settled (restored w o)) f.1) refl (record { live = f.2; snapshots = m.snapshots })
 
-pub snapshot_restored : (v : PVolume) (s : List ℕ) (l : PLive) → finite.get v.snapshots s ≡ Some l.indexes → l.marks ≡ no_marks v.marks.given → KeepsMarks (live_of v) l → Settles (RestoreSnapshot s) (Restored s) (Ok tt) v (volume l v.snapshots)
-snapshot_restored v s l e marks kept = record { leads = put_back v s l e; done = (e, refl, marks); refused = tt; kept = kept }
+pub snapshot_restored : (v : PVolume) (s : List ℕ) (l : PLive) (modified : ℕ) → finite.get v.snapshots s ≡ Some (record { indexes = l.indexes; modified = modified }) → l.marks ≡ no_marks v.marks.given → KeepsMarks (live_of v) l → Settles (RestoreSnapshot s) (Restored s) (Ok tt) v (volume l modified v.snapshots)
+snapshot_restored v s l modified e marks kept = record { leads = put_back v s l modified e; done = (e, refl, marks); refused = tt; kept = kept }
 
-pub restore_lacks : (v now : PVolume) (s : List ℕ) (i : Indexes) → finite.get v.snapshots s ≡ Some i → now ≡ v → Settles (RestoreSnapshot s) (Restored s) (Err ENOMEM) v now
+pub restore_lacks : (v now : PVolume) (s : List ℕ) (i : Rooted) → finite.get v.snapshots s ≡ Some i → now ≡ v → Settles (RestoreSnapshot s) (Restored s) (Err ENOMEM) v now
 restore_lacks v now s i e same = record {
   leads = λ w m.
-      let f : (t : Tree) × (finite.get w.snapshots s ≡ Some t) × MeanTree i t = found_alike MeanTree v.snapshots w.snapshots s i m.snapshots e in
+      let f : (t : Tree) × (finite.get w.snapshots s ≡ Some t) × MeanRooted i t = found_alike MeanRooted v.snapshots w.snapshots s i m.snapshots e in
       (inr (refl, subst (λ (o : Option Tree). IsOk (restored w o).1) (sym f.1) refl), subst (λ (x : PVolume). Means x w) (sym same) m);
   done = tt;
   refused = same;
@@ -225,11 +260,12 @@ live_same s r a b is = both r (λ e m. same_live a b e (is.marks ∙ m)) (step_s
 pub stepped_after : (s t : Step) (r q : StepReply) (a b d : PLive) → r ≡ StepNoRoom → StepsLive s r a b → StepsLive t q b d → StepsLive t q a d
 stepped_after s t r q a b d e first later = subst (λ (x : PLive). StepsLive t q x d) (subst (λ (z : StepReply). UnlessDid z (b ≡ a)) e (live_same s r a b first)) later
 
-pub stepped : (v : PVolume) (s : Step) (r : StepReply) (l : PLive) → StepsLive s r (live_of v) l → Stepped s r v (volume l v.snapshots)
+pub stepped : (v : PVolume) (s : Step) (r : StepReply) (l : PLive) → StepsLive s r (live_of v) l → Stepped s r v (volume l v.live.modified v.snapshots)
 stepped v s r l is = record {
-  keeps = λ w m. record { live = tree_kept s.index s.step r v.live l.indexes is.index w.live m.live; snapshots = m.snapshots };
-  refused = unless_then r (l ≡ live_of v) (volume l v.snapshots ≡ v) (live_same s r (live_of v) l is) (λ e. ap (λ (k : PLive). volume k v.snapshots) e);
+  keeps = λ w m. record { live = record { indexes = tree_kept s.index s.step r v.live.indexes l.indexes is.index w.live m.live.indexes; root = m.live.root }; snapshots = m.snapshots };
+  refused = unless_then r (l ≡ live_of v) (volume l v.live.modified v.snapshots ≡ v) (live_same s r (live_of v) l is) (λ e. ap (λ (k : PLive). volume k v.live.modified v.snapshots) e);
   live = is;
+  root = refl;
   snapshots = refl;
 }
 
@@ -240,30 +276,30 @@ refused_as (Ok x) e h = absurd h
 refused_as (Err x) e h = ap {B = Snapped} (λ (y : Errno). Err y) h
 
 -- a step, or none, where nothing changed
-pub relieved : (v : PVolume) (r : Option Relief) (l : PLive) → IfSome r (λ t. StepsLive t.step t.reply (live_of v) l) → IfSome r (λ t. Stepped t.step t.reply v (volume l v.snapshots))
+pub relieved : (v : PVolume) (r : Option Relief) (l : PLive) → IfSome r (λ t. StepsLive t.step t.reply (live_of v) l) → IfSome r (λ t. Stepped t.step t.reply v (volume l v.live.modified v.snapshots))
 relieved v None l some = some
 relieved v (Some t) l some = stepped v t.step t.reply l some
 
 pub relief_keeps : (v : PVolume) (r : Option Relief) (l : PLive) → IfSome r (λ t. StepsLive t.step t.reply (live_of v) l) → IfNone r (l ≡ live_of v)
-    → (w : World) → Means v w → Means (volume l v.snapshots) w
-relief_keeps v None l some none w m = subst (λ (k : PLive). Means (volume k v.snapshots) w) (sym none) m
+    → (w : World) → Means v w → Means (volume l v.live.modified v.snapshots) w
+relief_keeps v None l some none w m = subst (λ (k : PLive). Means (volume k v.live.modified v.snapshots) w) (sym none) m
 relief_keeps v (Some t) l some none w m = (stepped v t.step t.reply l some).keeps w m
 
 -- ---- jobs
 
 -- the volume means what it meant where each key has the value that it had
-pub means_same : (v : PVolume) (l : PLive) → SameValues v.live l.indexes → (w : World) → Means v w → Means (volume l v.snapshots) w
-means_same v l same w m = record { live = tree_same_values v.live l.indexes same w.live m.live; snapshots = m.snapshots }
+pub means_same : (v : PVolume) (l : PLive) → SameValues v.live.indexes l.indexes → (w : World) → Means v w → Means (volume l v.live.modified v.snapshots) w
+means_same v l same w m = record { live = record { indexes = tree_same_values v.live.indexes l.indexes same w.live m.live.indexes; root = m.live.root }; snapshots = m.snapshots }
 
 -- and where the indexes are the same
-pub means_with : (v : PVolume) (l : PLive) → l.indexes ≡ v.live → (w : World) → Means v w → Means (volume l v.snapshots) w
-means_with v l e w m = record { live = subst (λ (i : Indexes). MeanTree i w.live) (sym e) m.live; snapshots = m.snapshots }
+pub means_with : (v : PVolume) (l : PLive) → l.indexes ≡ v.live.indexes → (w : World) → Means v w → Means (volume l v.live.modified v.snapshots) w
+means_with v l e w m = record { live = record { indexes = subst (λ (i : Indexes). MeanTree i w.live) (sym e) m.live.indexes; root = m.live.root }; snapshots = m.snapshots }
 
 -- which they are where a job was taken, or none
-pub taken_same : (v : PVolume) (index : Index) (i : ℕ) (r : TakeReply) (l : PLive) → AnswersTaking index i r (live_of v) l → l.indexes ≡ v.live
+pub taken_same : (v : PVolume) (index : Index) (i : ℕ) (r : TakeReply) (l : PLive) → AnswersTaking index i r (live_of v) l → l.indexes ≡ v.live.indexes
 taken_same v index i (Taken job) l h = of index job h.taken
   where
-    of : (x : Index) (job : Job) → Takes x i job (live_of v) l → l.indexes ≡ v.live
+    of : (x : Index) (job : Job) → Takes x i job (live_of v) l → l.indexes ≡ v.live.indexes
     of Meta (MetaJob j) q = q.1
     of Meta (BlockJob j) q = absurd q
     of Block (MetaJob j) q = absurd q
@@ -272,5 +308,5 @@ taken_same v index i NotThere l h = ap (λ (k : PLive). k.indexes) h.unchanged
 taken_same v index i NoRoom l h = ap (λ (k : PLive). k.indexes) h.unchanged
 taken_same v index i NoMemory l h = ap (λ (k : PLive). k.indexes) h.unchanged
 
-pub taken_means : (v : PVolume) (index : Index) (i : ℕ) (r : TakeReply) (l : PLive) → AnswersTaking index i r (live_of v) l → (w : World) → Means v w → Means (volume l v.snapshots) w
+pub taken_means : (v : PVolume) (index : Index) (i : ℕ) (r : TakeReply) (l : PLive) → AnswersTaking index i r (live_of v) l → (w : World) → Means v w → Means (volume l v.live.modified v.snapshots) w
 taken_means v index i r l h w m = means_with v l (taken_same v index i r l h) w m

@@ -13,57 +13,57 @@ use Rattle.std.specs.BTreeMap.{BTreeMap, is_at}
 use Rattle.std.specs.BTreeMap as tree
 use Rattle.std.proofs.lemmas.Cmp.{nat_list_cmp_total}
 use Rattle.pathkey.specs.Order.{by_bytes}
-use Rattle.call_compiler.specs.declared.indexes.Indexes.{Indexes}
 use Rattle.volume.specs.Volumes.{Kept, kept}
+use Rattle.volume.specs.declared.rooted.Rooted.{Rooted}
 
 -- a look-up among the entries is the map's
-find-lookup : (q : List ℕ) (es : List (List ℕ × Indexes)) → finite.find by_bytes q es ≡ lookup (is_at (by_bytes q)) es
+find-lookup : (q : List ℕ) (es : List (List ℕ × Rooted)) → finite.find by_bytes q es ≡ lookup (is_at (by_bytes q)) es
 find-lookup q [] = refl
-find-lookup q (e ∷ es) = ap (λ (o : Option Indexes). cond (is_eq (by_bytes q e.0)) (Some e.1) o) (find-lookup q es)
+find-lookup q (e ∷ es) = ap (λ (o : Option Rooted). cond (is_eq (by_bytes q e.0)) (Some e.1) o) (find-lookup q es)
 
-pub get-kept : (m : BTreeMap (List ℕ) Indexes) (q : List ℕ) → finite.get (kept m) q ≡ tree.get by_bytes m q
+pub get-kept : (m : BTreeMap (List ℕ) Rooted) (q : List ℕ) → finite.get (kept m) q ≡ tree.get by_bytes m q
 get-kept m q = finite.get-from_entries nat_list_cmp_total m.entries q ∙ find-lookup q m.entries
 
 -- one name that has other indexes, or none
-updated : (m n : BTreeMap (List ℕ) Indexes) (s : List ℕ) (w : Option Indexes) → tree.Updates by_bytes m n s w → (q : List ℕ) → finite.get (kept n) q ≡ cond (eq_by_cmp by_bytes q s) w (finite.get (kept m) q)
+updated : (m n : BTreeMap (List ℕ) Rooted) (s : List ℕ) (w : Option Rooted) → tree.Updates by_bytes m n s w → (q : List ℕ) → finite.get (kept n) q ≡ cond (eq_by_cmp by_bytes q s) w (finite.get (kept m) q)
 updated m n s w u q =
     get-kept n q
     ∙ u.0 q
     ∙ ap (λ (b : Bool). cond b w (tree.get by_bytes m q)) ((eq_by_cmp_equiv nat_list_cmp_total).symm s q)
-    ∙ ap (λ (o : Option Indexes). cond (eq_by_cmp by_bytes q s) w o) (sym (get-kept m q))
+    ∙ ap (λ (o : Option Rooted). cond (eq_by_cmp by_bytes q s) w o) (sym (get-kept m q))
 
 -- names that byte order does not tell apart are one
 pub bytes_differ : finite.IsAntisymmetric by_bytes
 bytes_differ = finite.slice_cmp-IsAntisymmetric finite.nat_cmp-IsAntisymmetric
 
 -- a name that is given indexes
-pub inserted : (m n : BTreeMap (List ℕ) Indexes) (s : List ℕ) (x : Indexes) → tree.Updates by_bytes m n s (Some x) → kept n ≡ finite.insert (kept m) s x
+pub inserted : (m n : BTreeMap (List ℕ) Rooted) (s : List ℕ) (x : Rooted) → tree.Updates by_bytes m n s (Some x) → kept n ≡ finite.insert (kept m) s x
 inserted m n s x u =
     finite.same_map nat_list_cmp_total bytes_differ (kept n) (finite.insert (kept m) s x)
     (λ q. updated m n s (Some x) u q ∙ sym (finite.get-insert nat_list_cmp_total (kept m) s x q))
 
 -- a name that is taken out
-pub removed : (m n : BTreeMap (List ℕ) Indexes) (s : List ℕ) → tree.Updates by_bytes m n s None → kept n ≡ finite.remove (kept m) s
+pub removed : (m n : BTreeMap (List ℕ) Rooted) (s : List ℕ) → tree.Updates by_bytes m n s None → kept n ≡ finite.remove (kept m) s
 removed m n s u =
     finite.same_map nat_list_cmp_total bytes_differ (kept n) (finite.remove (kept m) s)
     (λ q. updated m n s None u q ∙ sym (finite.get-remove nat_list_cmp_total (kept m) s q))
 
 -- a name below all others is not among them
-find-above : (s : List ℕ) (es : List (List ℕ × Indexes)) → AllByRecursion (λ k. by_bytes s k ≡ Less) (keys_of es) → finite.find by_bytes s es ≡ None
+find-above : (s : List ℕ) (es : List (List ℕ × Rooted)) → AllByRecursion (λ k. by_bytes s k ≡ Less) (keys_of es) → finite.find by_bytes s es ≡ None
 find-above s [] h = refl
 find-above s (e ∷ es) h = ap (λ (o : Ordering). cond (is_eq o) (Some e.1) (finite.find by_bytes s es)) h.0 ∙ find-above s es h.1
 
 -- as many names as entries, where the names rise
-len-from_entries : (es : List (List ℕ × Indexes)) → IsStrictlySortedBy by_bytes (keys_of es) → finite.len (finite.from_entries {R = by_bytes} es) ≡ length es
+len-from_entries : (es : List (List ℕ × Rooted)) → IsStrictlySortedBy by_bytes (keys_of es) → finite.len (finite.from_entries {R = by_bytes} es) ≡ length es
 unfolding IsStrictlySortedBy
-len-from_entries [] h = finite.len-empty by_bytes Indexes
+len-from_entries [] h = finite.len-empty by_bytes Rooted
 len-from_entries (e ∷ es) h =
     let rest : Kept = finite.from_entries es in
     let fresh : finite.get rest e.0 ≡ None = finite.get-from_entries nat_list_cmp_total es e.0 ∙ find-above e.0 es h.0 in
     let grown : finite.len (finite.insert rest e.0 e.1) ≡ finite.len rest + 1 =
-    finite.len-insert nat_list_cmp_total rest e.0 e.1 ∙ ap (λ (o : Option Indexes). cond (is_some o) (finite.len rest) (finite.len rest + 1)) fresh
+    finite.len-insert nat_list_cmp_total rest e.0 e.1 ∙ ap (λ (o : Option Rooted). cond (is_some o) (finite.len rest) (finite.len rest + 1)) fresh
     in
     omega (arith, grown, len-from_entries es h.1)
 
-pub len-kept : (m : BTreeMap (List ℕ) Indexes) → tree.IsOrdered by_bytes m → finite.len (kept m) ≡ length m.entries
+pub len-kept : (m : BTreeMap (List ℕ) Rooted) → tree.IsOrdered by_bytes m → finite.len (kept m) ≡ length m.entries
 len-kept m o = len-from_entries m.entries o

@@ -3,8 +3,6 @@ use Rattle.std.proofs.Common.{◌≡◌, ℕ, ◌+◌, ◌≤◌, List, [], ◌�
 use Rattle.std.specs.FinMap as finite
 use Rattle.std.proofs.lemmas.Cmp.{nat_list_cmp_total}
 use Rattle.block_index.specs.Means.{blocks}
-use Rattle.call_compiler.specs.Compiled.{MeanTree}
-use Rattle.call_compiler.specs.declared.indexes.Indexes.{Indexes}
 use Rattle.jobs.specs.declared.ticket.Ticket.{Ticket}
 use Rattle.meta_index.specs.Means.{metadata}
 use Rattle.node.specs.declared.step.StepReply.{StepReply}
@@ -29,23 +27,24 @@ use Rattle.volume.specs.declared.job.TakeReply.TheVariants.{Taken, NotThere, NoR
 use Rattle.volume.specs.Changes.{Leads, Called, Settles, KeptAs, Dropped, Restored, Stepped}
 use Rattle.volume.specs.Held.{others}
 use Rattle.volume.specs.Runs.{told, takings, with_taken, PRun, Beside, Takes, Finishes, Link, Chain, calls_alone, begun, ended, Ran}
-use Rattle.volume.specs.Volumes.{PVolume, Both, Means, IsVolume}
+use Rattle.volume.specs.Volumes.{PVolume, Both, MeanRooted, Means, IsVolume}
+use Rattle.volume.specs.declared.rooted.Rooted.{Rooted}
 use Rattle.volume.proofs.Holding.{one_less}
 use Rattle.volume.proofs.Maps.{bytes_differ}
 
 -- ---- a volume means at most one world
 
-same_tree : (i : Option Indexes) (t u : Option Tree) → Both MeanTree i t → Both MeanTree i u → t ≡ u
+same_tree : (r : Option Rooted) (t u : Option Tree) → Both MeanRooted r t → Both MeanRooted r u → t ≡ u
 same_tree None None None m n = refl
 same_tree None None (Some u) m n = absurd n
 same_tree None (Some t) u m n = absurd m
-same_tree (Some i) None u m n = absurd m
-same_tree (Some i) (Some t) None m n = absurd n
-same_tree (Some i) (Some t) (Some u) m n = ap (λ (x : Tree). Some x) (one_meaning t u (metadata i.meta) (blocks i.block) m n)
+same_tree (Some r) None u m n = absurd m
+same_tree (Some r) (Some t) None m n = absurd n
+same_tree (Some r) (Some t) (Some u) m n = ap (λ (x : Tree). Some x) (one_meaning t u (metadata r.indexes.meta) (blocks r.indexes.block) m.indexes n.indexes)
 
 pub one_world : (v : PVolume) (w x : World) → Means v w → Means v x → w ≡ x
 one_world v w x m n =
-    let live : w.live ≡ x.live = one_meaning w.live x.live (metadata v.live.meta) (blocks v.live.block) m.live n.live in
+    let live : w.live ≡ x.live = one_meaning w.live x.live (metadata v.live.indexes.meta) (blocks v.live.indexes.block) m.live.indexes n.live.indexes in
     let kept : w.snapshots ≡ x.snapshots = finite.same_map nat_list_cmp_total bytes_differ w.snapshots x.snapshots (λ s. same_tree (finite.get v.snapshots s) (finite.get w.snapshots s) (finite.get x.snapshots s) (m.snapshots s) (n.snapshots s)) in
     λ i. record { live = live i; snapshots = kept i }
 
@@ -53,7 +52,7 @@ one_world v w x m n =
 
 -- what follows of each kind of link
 record OfEach (P : Event → Answer → Type 0) (a b : PRun) : Type 0 where
-  call : (c : Call) (r : Reply) → Beside (Called c r) a b → P (CallEvent c) (CallAnswer r)
+  call : (c : Call) (at : ℕ) (r : Reply) → Beside (Called c at r) a b → P (CallEvent c at) (CallAnswer r)
   snapshot : (s : List ℕ) (r : Snapped) → Beside (Settles (TakeSnapshot s) (KeptAs s) r) a b → P (Snapshot s) (Snap r)
   drop : (s : List ℕ) (r : Snapped) → Beside (Settles (DropNamed s) (Dropped s) r) a b → P (DropSnapshot s) (Snap r)
   restore : (s : List ℕ) (r : Snapped) → Beside (Settles (RestoreSnapshot s) (Restored s) r) a b → P (Restore s) (Snap r)
@@ -63,11 +62,11 @@ record OfEach (P : Event → Answer → Type 0) (a b : PRun) : Type 0 where
 
 -- follows of any
 link_cases : (P : Event → Answer → Type 0) (a b : PRun) → OfEach P a b → (e : Event) (r : Answer) → Link e r a b → P e r
-link_cases P a b f (CallEvent c) (CallAnswer r) link = f.call c r link
-link_cases P a b f (CallEvent c) (Snap r) link = absurd link
-link_cases P a b f (CallEvent c) (StepAnswer r) link = absurd link
-link_cases P a b f (CallEvent c) (TakeAnswered r) link = absurd link
-link_cases P a b f (CallEvent c) (FinishAnswered r) link = absurd link
+link_cases P a b f (CallEvent c at) (CallAnswer r) link = f.call c at r link
+link_cases P a b f (CallEvent c at) (Snap r) link = absurd link
+link_cases P a b f (CallEvent c at) (StepAnswer r) link = absurd link
+link_cases P a b f (CallEvent c at) (TakeAnswered r) link = absurd link
+link_cases P a b f (CallEvent c at) (FinishAnswered r) link = absurd link
 link_cases P a b f (Snapshot s) (CallAnswer r) link = absurd link
 link_cases P a b f (Snapshot s) (Snap r) link = f.snapshot s r link
 link_cases P a b f (Snapshot s) (StepAnswer r) link = absurd link
@@ -127,7 +126,7 @@ finish_count t FinishNoMemory a b f = omega (arith, one_less t a.held f.job f.ha
 -- a taking adds one at most, and no other event any
 pub link_count : (e : Event) (r : Answer) (a b : PRun) → Link e r a b → length b.held ≤ length a.held + takings (e ∷ [])
 link_count e r a b link = link_cases (λ e r. length b.held ≤ length a.held + takings (e ∷ [])) a b (record {
-  call = λ c r l. omega (arith, same_count a.held b.held l.1);
+  call = λ c at r l. omega (arith, same_count a.held b.held l.1);
   snapshot = λ s r l. omega (arith, same_count a.held b.held l.1);
   drop = λ s r l. omega (arith, same_count a.held b.held l.1);
   restore = λ s r l. omega (arith, same_count a.held b.held l.1);
@@ -138,7 +137,7 @@ link_count e r a b link = link_cases (λ e r. length b.held ≤ length a.held + 
 
 -- an event is one taking at most
 pub one_taking : (e : Event) → takings (e ∷ []) ≤ 1
-one_taking (CallEvent c) = omega arith
+one_taking (CallEvent c at) = omega arith
 one_taking (Snapshot s) = omega arith
 one_taking (DropSnapshot s) = omega arith
 one_taking (Restore s) = omega arith
@@ -148,7 +147,7 @@ one_taking (Finish t) = omega arith
 
 -- the takings of the first and of the others
 pub takings_first : (e : Event) (es : List Event) → takings (e ∷ es) ≡ takings (e ∷ []) + takings es
-takings_first (CallEvent c) es = omega arith
+takings_first (CallEvent c at) es = omega arith
 takings_first (Snapshot s) es = omega arith
 takings_first (DropSnapshot s) es = omega arith
 takings_first (Restore s) es = omega arith
@@ -178,7 +177,7 @@ finish_means t FinishNoMemory a b f w m = subst (λ (x : PVolume). Means x w) (s
 -- one link before what is known of the others
 link_leaves : (e : Event) (r : Answer) (a b : PRun) (c : PVolume) (h : History) → Link e r a b → ((w : World) → Means b.volume w → Leaves c w h) → (w : World) → Means a.volume w → Leaves c w (told e r ++ h)
 link_leaves e r a b c h link rest w m = link_cases (λ e r. Leaves c w (told e r ++ h)) a b (record {
-  call = λ d r l. one_first a.volume b.volume c (Ask d) (Replied r) h l.0.leads rest w m;
+  call = λ d at r l. one_first a.volume b.volume c (Ask d at) (Replied r) h l.0.leads rest w m;
   snapshot = λ s r l. one_first a.volume b.volume c (TakeSnapshot s) (Settled r) h l.0.leads rest w m;
   drop = λ s r l. one_first a.volume b.volume c (DropNamed s) (Settled r) h l.0.leads rest w m;
   restore = λ s r l. one_first a.volume b.volume c (RestoreSnapshot s) (Settled r) h l.0.leads rest w m;

@@ -44,8 +44,8 @@ same_halves : (a b : Indexes) → b.meta ≡ a.meta → b.block ≡ a.block → 
 same_halves a b m d = λ i. record { meta = m i; block = d i }
 
 -- a compiled call whose messages were appended
-pub compiled_does : (a b : Indexes) (c : Call) (r : Reply) (msgs : Messages) → IsCompiled a c r msgs → HaveTaken msgs a b → Does c r a b
-compiled_does a b c r msgs compiled taken t m = (compiled.reply t m, meant_after (does t c).0 a b msgs (compiled.tree t m) taken)
+pub compiled_does : (a b : Indexes) (c : Call) (at : ℕ) (r : Reply) (msgs : Messages) → IsCompiled a c at r msgs → HaveTaken msgs a b → Does c at r a b
+compiled_does a b c at r msgs compiled taken t m = (compiled.reply t m, meant_after (does at t c).0 a b msgs (compiled.tree t m) taken)
 
 -- a tree to which messages were appended, and which is not touched where there are none
 receives : {U V : Type 0} (means : U → Option V → Option V) (msgs : List (Msg U V)) (a b : PTree U V) → Appended means msgs a b → (msgs ≡ [] → b ≡ a) → Receives means msgs a b
@@ -58,8 +58,8 @@ pub record Appends (msgs : Messages) (a b : Indexes) : Type 0 where
   pub no_meta : msgs.meta ≡ [] → b.meta ≡ a.meta
   pub no_block : msgs.block ≡ [] → b.block ≡ a.block
 
-pub compiled_batched : (a b : PLive) (c : Call) (r : Reply) (msgs : Messages) → IsCompiled a.indexes c r msgs → Appends msgs a.indexes b.indexes → KeepMarkedLists msgs a b → Batched c a b
-compiled_batched a b c r msgs compiled appends lists = record {
+pub compiled_batched : (a b : PLive) (c : Call) (at : ℕ) (r : Reply) (msgs : Messages) → IsCompiled a.indexes c at r msgs → Appends msgs a.indexes b.indexes → KeepMarkedLists msgs a b → Batched c at a b
+compiled_batched a b c at r msgs compiled appends lists = record {
   msgs = msgs;
   sends = compiled.sends;
   meta = receives meta_means msgs.meta a.indexes.meta.tree b.indexes.meta.tree appends.taken.meta (λ e. ap (λ (x : MetaIndex). x.tree) (appends.no_meta e));

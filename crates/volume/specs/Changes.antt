@@ -38,23 +38,23 @@ Receives means [] old new = new ≡ old
 Receives means (m ∷ ms) old new = Appended means (m ∷ ms) old new
 
 -- each index took its half of one batch, which has no more messages than the call may send, and marked lists stay in front
-pub record Batched (c : Call) (old new : PLive) : Type 0 where
+pub record Batched (c : Call) (at : ℕ) (old new : PLive) : Type 0 where
   pub msgs : Messages
-  pub sends : Sends old.indexes c msgs
+  pub sends : Sends old.indexes c at msgs
   pub meta : Receives meta_means msgs.meta old.indexes.meta.tree new.indexes.meta.tree
   pub block : Receives block_means msgs.block old.indexes.block.tree new.indexes.block.tree
   pub lists : KeepMarkedLists msgs old new
 
 -- the reply is that of the table of calls for each tree that the indexes meant, and they now mean the tree that the table makes
-abbrev pub Does : Call → Reply → Indexes → Indexes → Type 0
-Does c r old new = (t : Tree) → MeanTree old t → (r ≡ (does t c).1) × MeanTree new (does t c).0
+abbrev pub Does : Call → ℕ → Reply → Indexes → Indexes → Type 0
+Does c at r old new = (t : Tree) → MeanTree old t → (r ≡ (does at t c).1) × MeanTree new (does at t c).0
 
--- a file call: it is answered as the world says, changes nothing where it is refused, each live index takes its half of one
+-- a file call at a moment: it is answered as the world says, changes nothing where it is refused, each live index takes its half of one
 -- batch, no snapshot changes, and all marks stay
-pub record Called (c : Call) (r : Reply) (old new : PVolume) : Type 0 where
-  pub leads : Leads (Ask c) (Replied r) old new
+pub record Called (c : Call) (at : ℕ) (r : Reply) (old new : PVolume) : Type 0 where
+  pub leads : Leads (Ask c at) (Replied r) old new
   pub refused : (e : Errno) → r ≡ Fault e → new ≡ old
-  pub batch : Batched c (live_of old) (live_of new)
+  pub batch : Batched c at (live_of old) (live_of new)
   pub snapshots : new.snapshots ≡ old.snapshots
   pub marks : new.marks ≡ old.marks
   pub kept : KeepsMarks (live_of old) (live_of new)
@@ -68,7 +68,7 @@ pub record Settles (e : Event) (Done : PVolume → PVolume → Type 0) (r : Snap
   pub refused : IfErr r (λ _. new ≡ old)
   pub kept : KeepsMarks (live_of old) (live_of new)
 
--- the live indexes are kept under the name too
+-- the live indexes are kept under the name too, with the moment of their root
 abbrev pub KeptAs : List ℕ → PVolume → PVolume → Type 0
 KeptAs s old new = new ≡ record old { snapshots = finite.insert old.snapshots s old.live }
 
@@ -76,7 +76,7 @@ KeptAs s old new = new ≡ record old { snapshots = finite.insert old.snapshots 
 abbrev pub Dropped : List ℕ → PVolume → PVolume → Type 0
 Dropped s old new = new ≡ record old { snapshots = finite.remove old.snapshots s }
 
--- the live indexes are those under the name, which stay there, and all marks are gone
+-- the live indexes and the moment of their root are those under the name, which stay there, and all marks are gone
 abbrev pub Restored : List ℕ → PVolume → PVolume → Type 0
 Restored s old new = (finite.get old.snapshots s ≡ Some new.live) × (new.snapshots ≡ old.snapshots) × (new.marks ≡ no_marks old.marks.given)
 
@@ -93,9 +93,11 @@ pub record StepsLive (s : Step) (r : StepReply) (old new : PLive) : Type 0 where
   pub marks : new.marks ≡ marks_left s.index s.step r old
   pub kept : KeepsMarks old new
 
--- a tree step: the volume means each world that it meant, is as it was where the step is not done, and no snapshot changes
+-- a tree step: the volume means each world that it meant, is as it was where the step is not done, and neither the moment of
+-- the root nor a snapshot changes
 pub record Stepped (s : Step) (r : StepReply) (old new : PVolume) : Type 0 where
   pub keeps : (w : World) → Means old w → Means new w
   pub refused : UnlessDid r (new ≡ old)
   pub live : StepsLive s r (live_of old) (live_of new)
+  pub root : new.live.modified ≡ old.live.modified
   pub snapshots : new.snapshots ≡ old.snapshots

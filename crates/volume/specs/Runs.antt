@@ -25,7 +25,7 @@ use Rattle.volume.specs.Changes.{Called, Settles, KeptAs, Dropped, Restored, Ste
 
 -- what an event with its answer is in a history of calls: a step is not in it, nor a job
 abbrev pub told : Event → Answer → History
-told (CallEvent c) (CallAnswer r) = (Ask c, Replied r) ∷ []
+told (CallEvent c at) (CallAnswer r) = (Ask c at, Replied r) ∷ []
 told (Snapshot s) (Snap r) = (TakeSnapshot s, Settled r) ∷ []
 told (DropSnapshot s) (Snap r) = (DropNamed s, Settled r) ∷ []
 told (Restore s) (Snap r) = (RestoreSnapshot s, Settled r) ∷ []
@@ -72,6 +72,7 @@ pub record Takes (index : Index) (i : ℕ) (a : TakeAnswer) (old new : PRun) : T
   pub reply : TakeReply
   pub told : a ≡ take_answer reply
   pub answers : AnswersTaking index i reply (live_of old.volume) (live_of new.volume)
+  pub root : new.volume.live.modified ≡ old.volume.live.modified
   pub snapshots : new.volume.snapshots ≡ old.volume.snapshots
   pub means : (w : World) → Means old.volume w → Means new.volume w
   pub held : new.held ≡ with_taken old.held reply
@@ -83,6 +84,7 @@ pub record InstalledAs (job : Held) (r : InstallReply) (old new : PVolume) : Typ
   pub done : Done
   pub built : MayInstall job done
   pub answers : AnswersInstalling done r (live_of old) (live_of new)
+  pub root : new.live.modified ≡ old.live.modified
   pub snapshots : new.snapshots ≡ old.snapshots
   pub means : (w : World) → Means old w → Means new w
 
@@ -132,7 +134,7 @@ Finishes t FinishNoMemory old new = Refused t old new
 
 -- what the contract of the event's own call says of its answer, and of the volume and the jobs before and after
 abbrev pub Link : Event → Answer → PRun → PRun → Type 0
-Link (CallEvent c) (CallAnswer r) old new = Beside (Called c r) old new
+Link (CallEvent c at) (CallAnswer r) old new = Beside (Called c at r) old new
 Link (Snapshot s) (Snap r) old new = Beside (Settles (TakeSnapshot s) (KeptAs s) r) old new
 Link (DropSnapshot s) (Snap r) old new = Beside (Settles (DropNamed s) (Dropped s) r) old new
 Link (Restore s) (Snap r) old new = Beside (Settles (RestoreSnapshot s) (Restored s) r) old new

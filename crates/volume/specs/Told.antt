@@ -1,7 +1,6 @@
 -- What is told of a volume, and of a tree that stands still.
 use Rattle.std.specs.Prelude.{◌≡◌, ◌⊎◌, ◌↔◌, List, ℕ, Option, Some, None, Result, Err, [], true, if◌then◌else◌, nat_le, MatchResult, IfSome}
 use Rattle.std.specs.FinMap as finite
-use Rattle.call_compiler.specs.Compiled.{MeanTree}
 use Rattle.call_compiler.specs.declared.indexes.Indexes.{Indexes}
 use Rattle.flush.specs.Heaviest.{loads, FlushesHeaviest}
 use Rattle.node.specs.Places.{way}
@@ -19,16 +18,18 @@ use Rattle.reference.specs.Worlds.{World}
 use Rattle.reference.specs.declared.call.Call.{Call}
 use Rattle.reference.specs.declared.reply.Reply.{Reply}
 use Rattle.reference.specs.declared.reply.Reply.TheVariants.{Fault}
+use Rattle.volume.specs.Volumes.{MeanRooted}
 use Rattle.volume.specs.declared.event.Index.{Index}
 use Rattle.volume.specs.declared.event.Index.TheVariants.{Meta, Block}
+use Rattle.volume.specs.declared.rooted.Rooted.{Rooted}
 
--- the reply of a call that reads: that of the table of calls for the tree that the indexes mean, or want of memory
-abbrev pub Tells : Call → Reply → Indexes → Type 0
-Tells c r i = (t : Tree) → MeanTree i t → (r ≡ (does t c).1) ⊎ (r ≡ Fault ENOMEM)
+-- the reply of a call that reads: that of the table of calls for the tree that is meant, whatever the moment, or want of memory
+abbrev pub Tells : Call → Reply → Rooted → Type 0
+Tells c r i = (t : Tree) (at : ℕ) → MeanRooted i t → (r ≡ (does at t c).1) ⊎ (r ≡ Fault ENOMEM)
 
 -- indexes that mean the world's snapshot of that name; there is none exactly where the answer is ENOENT, and else memory was refused
-pub record Finds (s : List ℕ) (answer : Result Indexes Errno) (w : World) : Type 0 where
-  pub found : MatchResult answer (λ i. (t : Tree) × (finite.get w.snapshots s ≡ Some t) × MeanTree i t) (λ e. (e ≡ ENOENT) ⊎ (e ≡ ENOMEM))
+pub record Finds (s : List ℕ) (answer : Result Rooted Errno) (w : World) : Type 0 where
+  pub found : MatchResult answer (λ i. (t : Tree) × (finite.get w.snapshots s ≡ Some t) × MeanRooted i t) (λ e. (e ≡ ENOENT) ⊎ (e ≡ ENOMEM))
   pub none : (answer ≡ Err ENOENT) ↔ (finite.get w.snapshots s ≡ None)
 
 -- the flush of the first slot than which none has more messages, and it can be done there; none exactly where nothing is pending

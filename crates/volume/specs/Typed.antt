@@ -1,6 +1,6 @@
 -- Answers of a call's own type, and the replies that they tell.
-use Rattle.std.specs.Prelude.{Result, Ok, Err, IfOk, ⊤}
-use Rattle.call_compiler.specs.Compiled.{IsCompiled, messages}
+use Rattle.std.specs.Prelude.{◌≡◌, ℕ, Bool, Result, Ok, Err, IfOk, ⊤}
+use Rattle.call_compiler.specs.Compiled.{IsCompiled, messages, touches_root}
 use Rattle.call_compiler.specs.declared.batch.Batch.{Batch}
 use Rattle.call_compiler.specs.declared.indexes.Indexes.{Indexes}
 use Rattle.pathkey.specs.declared.errno.Errno.{Errno}
@@ -37,7 +37,7 @@ IsData _ = ⊥
 
 -- what stands at a path
 abbrev pub IsStat : Reply → Type 0
-IsStat (Stat kind n) = ⊤
+IsStat (Stat kind n modified) = ⊤
 IsStat (Fault e) = ⊤
 IsStat _ = ⊥
 
@@ -64,6 +64,11 @@ Looks (AskStat p) = ⊤
 Looks (Readdir p) = ⊤
 Looks _ = ⊥
 
--- what the call is compiled to, unless memory was refused
-abbrev pub Compiles : Indexes → Call → Result (Reply × Batch) NoMemory → Type 0
-Compiles i c compiled = IfOk compiled (λ x. IsCompiled i c x.0 (messages x.1))
+-- what the call at the moment is compiled to, unless memory was refused
+abbrev pub Compiles : Indexes → Call → ℕ → Result (Reply × Batch) NoMemory → Type 0
+Compiles i c at compiled = IfOk compiled (λ x. IsCompiled i c at x.0 (messages x.1))
+
+-- what the call at the moment is compiled to, and whether it gives the root its moment where it is done
+pub record Asks (i : Indexes) (c : Call) (at : ℕ) (compiled : Result (Reply × Batch) NoMemory) (in_root : Bool) : Type 0 where
+  pub compiles : Compiles i c at compiled
+  pub root : in_root ≡ touches_root c

@@ -3,35 +3,41 @@ use Rattle.std.specs.Prelude.{◌≡◌, ℕ, ◌≤◌, List, Option, Some, Non
 use Rattle.std.specs.BTreeMap.{BTreeMap}
 use Rattle.std.specs.FinMap as finite
 use Rattle.call_compiler.specs.Compiled.{MeanTree}
-use Rattle.call_compiler.specs.declared.indexes.Indexes.{Indexes}
 use Rattle.node.specs.declared.shape.Shape.{Shape}
 use Rattle.pathkey.specs.Order.{by_bytes}
-use Rattle.reference.specs.Tree.{Tree, Dir, nothing}
+use Rattle.reference.specs.Tree.{Tree, Dir, nothing, moment}
 use Rattle.reference.specs.Worlds.{World}
 use Rattle.volume.specs.Marked.{PMarks, PLive, Stands, no_marks}
+use Rattle.volume.specs.declared.rooted.Rooted.{Rooted}
 
--- indexes under names
+-- indexes under names, each with the moment of its root
 abbrev pub Kept : Type 0
-Kept = finite.FinMap by_bytes Indexes
+Kept = finite.FinMap by_bytes Rooted
 
--- a volume: its live indexes, those of each named snapshot, and the marks of the jobs taken from the live ones
+-- a volume: its live indexes and those of each named snapshot, with the moments of their roots, and the marks of the jobs taken from
+-- the live ones
 pub record PVolume : Type 0 where
-  pub live : Indexes
+  pub live : Rooted
   pub snapshots : Kept
   pub marks : PMarks
 
 -- the live indexes with their marks
 abbrev pub live_of : PVolume → PLive
-live_of v = record { indexes = v.live; marks = v.marks }
+live_of v = record { indexes = v.live.indexes; marks = v.marks }
 
 -- the entries of a map, as a finite map
-abbrev pub kept : BTreeMap (List ℕ) Indexes → Kept
+abbrev pub kept : BTreeMap (List ℕ) Rooted → Kept
 kept m = finite.from_entries m.entries
 
--- the indexes mean some directory tree
-pub record MeanSome (i : Indexes) : Type 0 where
+-- the indexes mean the directory tree, and the moment is that of its root
+pub record MeanRooted (r : Rooted) (t : Tree) : Type 0 where
+  pub indexes : MeanTree r.indexes t
+  pub root : moment t ≡ r.modified
+
+-- they mean some directory tree
+pub record MeanSome (r : Rooted) : Type 0 where
   pub tree : Tree
-  pub means : MeanTree i tree
+  pub means : MeanRooted r tree
 
 -- neither is there, or both are and R holds of them
 abbrev pub Both : {A B : Type 0} → (A → B → Type 0) → Option A → Option B → Type 0
@@ -47,8 +53,8 @@ Alike R m n = (s : List ℕ) → Both R (finite.get m s) (finite.get n s)
 -- the volume means the world: its live indexes mean the live tree, it has the world's snapshots and no others, and each
 -- of its snapshots means the world's of that name
 pub record Means (v : PVolume) (w : World) : Type 0 where
-  pub live : MeanTree v.live w.live
-  pub snapshots : Alike MeanTree v.snapshots w.snapshots
+  pub live : MeanRooted v.live w.live
+  pub snapshots : Alike MeanRooted v.snapshots w.snapshots
 
 -- the most named snapshots
 abbrev pub most_snapshots : ℕ
@@ -62,13 +68,13 @@ pub record IsVolume (v : PVolume) : Type 0 where
   pub few : finite.len v.snapshots ≤ most_snapshots
   pub stands : Stands (live_of v)
 
--- the world of the empty root directory, without snapshots
+-- the world of the empty root directory of moment 0, without snapshots
 abbrev pub empty_world : World
-empty_world = record { live = Dir nothing; snapshots = finite.empty }
+empty_world = record { live = Dir 0 nothing; snapshots = finite.empty }
 
--- a new volume of the shape: it means the empty root directory, without snapshots, and no job was taken
+-- a new volume of the shape: it means the empty root directory of moment 0, without snapshots, and no job was taken
 pub record IsNew (shape : Shape) (v : PVolume) : Type 0 where
-  pub meta_shape : v.live.meta.tree.shape ≡ shape
-  pub block_shape : v.live.block.tree.shape ≡ shape
+  pub meta_shape : v.live.indexes.meta.tree.shape ≡ shape
+  pub block_shape : v.live.indexes.block.tree.shape ≡ shape
   pub means : Means v empty_world
   pub marks : v.marks ≡ no_marks 0

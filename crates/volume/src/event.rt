@@ -35,8 +35,8 @@ pub struct Relief {
 /// What is asked of a volume.
 #[derive(Drop)]
 pub enum Event {
-    /// A file call.
-    Call(Call),
+    /// A file call at a moment.
+    Call(Call, u64),
     /// The live tree is to be kept under the name.
     Snapshot(SnapName),
     /// The snapshot of that name is to go.

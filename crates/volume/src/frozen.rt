@@ -3,6 +3,7 @@ ghost use Rattle.std.specs.Prelude.{◌≡◌, IfOk, []};
 ghost use Rattle.volume.specs.Told.{Tells};
 ghost use Rattle.volume.specs.Volumes.{MeanSome};
 
+use crate::rooted::Rooted;
 use call_compiler::reading::{read, readdir, stat};
 use call_compiler::{Call, Indexes, Reply};
 use pathkey::{Errno, NoMemory, Path};
@@ -10,56 +11,62 @@ use reference::Kind;
 use std::alloc::Global;
 use std::marker::Model;
 
-/// A tree that stands still: later changes of the volume do not touch it. Contracts see its indexes.
+/// A tree that stands still: later changes of the volume do not touch it. Contracts see its indexes with the moment of its root.
 #[derive(Drop)]
 pub struct Frozen {
-    indexes: Indexes,
+    rooted: Rooted,
 }
 
 impl Model for Frozen {
-    ghost use Rattle.call_compiler.specs.contracts.indexes.Indexes as held;
-    ghost use Rattle.call_compiler.specs.declared.indexes.Indexes.{Indexes};
+    ghost use Rattle.volume.specs.Codes.{coded_rooted};
+    ghost use Rattle.volume.specs.declared.rooted.Rooted.{Rooted};
 
-    ghost Value = { Indexes };
+    ghost Value = { Rooted };
 
-    ghost coded = { held.the_row.coded };
+    ghost coded = { coded_rooted };
 
     ghost use Rattle.volume.specs.Volumes.{MeanSome};
 
-    ghost view = { λ f. f.indexes };
+    ghost view = { λ f. f.rooted };
 
-    ghost invariant = { λ f. MeanSome f.indexes };
+    ghost invariant = { λ f. MeanSome f.rooted };
 }
 
 impl Frozen {
-    /// The tree that these indexes mean now.
-    pub(crate) fn of(indexes: &Indexes) -> Result<Frozen, NoMemory>
-        requires { MeanSome indexes.now }
-        ensures { IfOk result (λ f. f ≡ indexes.now) }
+    /// The tree that these indexes mean.
+    pub(crate) fn new(rooted: Rooted) -> Frozen
+        requires { MeanSome rooted }
+        ensures { result ≡ rooted }
     {
-        let indexes = indexes.share()?;
-        Ok(Frozen { indexes })
+        Frozen { rooted }
     }
 
     /// What its type keeps: it means a directory tree. It does nothing.
     pub fn means_a_tree(&self)
         ensures { MeanSome self.now }
     {
-        let _ = &self.indexes;
+        let _ = &self.rooted;
     }
 
     /// Its indexes, to go through all of the tree.
     pub fn indexes(&self) -> &Indexes
-        ensures { result.now ≡ self.now }
+        ensures { result.now ≡ self.now.indexes }
     {
-        &self.indexes
+        &self.rooted.indexes
+    }
+
+    /// The moment of its root. It takes no memory.
+    pub fn modified(&self) -> u64
+        ensures { result ≡ self.now.modified }
+    {
+        self.rooted.modified
     }
 
     /// At most `count` bytes of the file at the path from the offset on, none past its end (POSIX.1-2017, pread).
     pub fn read(&self, alloc: Global, path: &Path, offset: u64, count: u64) -> Reply
         ensures { Tells (Call.Read path.now offset count) result self.now }
     {
-        match read(alloc, &self.indexes, path, offset, count) {
+        match read(alloc, &self.rooted.indexes, path, offset, count) {
             Ok((reply, _)) => reply,
             Err(NoMemory) => Reply::Fault(Errno::ENOMEM),
         }
@@ -68,12 +75,12 @@ impl Frozen {
     /// What stands at the path (stat). It takes no memory at the root.
     pub fn stat(&self, alloc: Global, path: &Path) -> Reply
         ensures reply { Tells (Call.Stat path.now) result self.now }
-        ensures root { path.now ≡ [] → result ≡ Reply.Stat Kind.Dir 0 }
+        ensures root { path.now ≡ [] → result ≡ Reply.Stat Kind.Dir 0 self.now.modified }
     {
         if path.is_root() {
-            return Reply::Stat(Kind::Dir, 0);
+            return Reply::Stat(Kind::Dir, 0, self.modified());
         }
-        match stat(alloc, &self.indexes, path) {
+        match stat(alloc, &self.rooted.indexes, path) {
             Ok((reply, _)) => reply,
             Err(NoMemory) => Reply::Fault(Errno::ENOMEM),
         }
@@ -83,7 +90,7 @@ impl Frozen {
     pub fn readdir(&self, alloc: Global, path: &Path) -> Reply
         ensures { Tells (Call.Readdir path.now) result self.now }
     {
-        match readdir(alloc, &self.indexes, path) {
+        match readdir(alloc, &self.rooted.indexes, path) {
             Ok((reply, _)) => reply,
             Err(NoMemory) => Reply::Fault(Errno::ENOMEM),
         }

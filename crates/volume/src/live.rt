@@ -1,5 +1,5 @@
 //! The live indexes of a volume, with the marks of the jobs taken from their trees.
-ghost use Rattle.std.specs.Prelude.{◌≡◌, ◌↔◌, [], None, IfOk, IfNone, IfSome, OnErr, OnOk};
+ghost use Rattle.std.specs.Prelude.{◌≡◌, ◌↔◌, ℕ, [], None, IfOk, IfNone, IfSome, OnErr, OnOk};
 ghost use Rattle.call_compiler.specs.Compiled.{MeanTree, messages};
 ghost use Rattle.call_compiler.specs.Laws.{HaveTaken};
 ghost use Rattle.pathkey.specs.declared.errno.Errno.{Errno as Refusal};
@@ -113,10 +113,10 @@ impl Live {
         alloc: Global,
         compiled: Result<(Reply, Batch), NoMemory>,
     ) -> Result<Reply, NoMemory>
-        ensures done { (c : FileCall) → Compiles self.old.indexes c compiled → IfOk result (λ r. Does c r self.old.indexes self.new.indexes) }
-        ensures kind { (c : FileCall) → Compiles self.old.indexes c compiled → (t : Tree) → MeanTree self.old.indexes t → IfOk result (λ r. IsOfKind c r) }
-        ensures refused { (c : FileCall) → Compiles self.old.indexes c compiled → IfOk result (λ r. (e : Refusal) → r ≡ Reply.Fault e → self.new.indexes ≡ self.old.indexes) }
-        ensures batch { (c : FileCall) → Compiles self.old.indexes c compiled → IfOk result (λ r. Batched c self.old self.new) }
+        ensures done { (c : FileCall) (at : ℕ) → Compiles self.old.indexes c at compiled → IfOk result (λ r. Does c at r self.old.indexes self.new.indexes) }
+        ensures kind { (c : FileCall) (at : ℕ) → Compiles self.old.indexes c at compiled → (t : Tree) → MeanTree self.old.indexes t → IfOk result (λ r. IsOfKind c r) }
+        ensures refused { (c : FileCall) (at : ℕ) → Compiles self.old.indexes c at compiled → IfOk result (λ r. (e : Refusal) → r ≡ Reply.Fault e → self.new.indexes ≡ self.old.indexes) }
+        ensures batch { (c : FileCall) (at : ℕ) → Compiles self.old.indexes c at compiled → IfOk result (λ r. Batched c at self.old self.new) }
         ensures err { OnErr result (self.new ≡ self.old) }
         ensures marks { self.new.marks ≡ self.old.marks }
         ensures kept { KeepsMarks self.old self.new }

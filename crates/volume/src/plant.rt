@@ -1,15 +1,18 @@
-//! Entries that are planted whole: an empty directory, or a file of so many zeros, as an image tells them.
-ghost use Rattle.std.specs.Prelude.{◌≡◌, IfOk};
+//! Entries that are planted whole, as an image tells them: an empty directory, or a file of so many zeros; and the root's moment.
+ghost use Rattle.std.specs.Prelude.{◌≡◌, ◌++◌, ◌∷◌, [], IfOk};
 ghost use Rattle.call_compiler.specs.Compiled.{messages};
 ghost use Rattle.meta_index.specs.Means.{IsMeantBy};
 ghost use Rattle.pathkey.specs.Names.{IsPath};
-ghost use Rattle.reference.specs.Calls.{first_fault};
+ghost use Rattle.pathkey.specs.Outcomes.{when};
+ghost use Rattle.pathkey.specs.declared.errno.Errno.{Errno as Refusal};
+ghost use Rattle.reference.specs.Calls.{faults_of_new, first_fault, is_root};
 ghost use Rattle.reference.specs.Plant.{faults_of_plant, is_too_long};
 ghost use Rattle.reference.specs.Tree.{Tree};
 ghost use Rattle.volume.specs.Marked.{KeepMarkedLists, KeepsMarks};
-ghost use Rattle.volume.specs.Plants.{PlantsIn, one_put};
+ghost use Rattle.volume.specs.Plants.{PlantsIn, is_directory, one_put};
 
 use crate::live::Live;
+use crate::rooted::moment_of;
 use call_compiler::Batch;
 use message::Msg;
 use meta_index::MetaIndex;
@@ -27,6 +30,7 @@ pub(crate) fn plant(alloc: Global, live: &mut Live, path: &Path, meta: Meta) -> 
     if let Some(fault) = fault_of_plant(alloc, &live.indexes().meta, path, meta)? {
         return Err(fault);
     }
+    let _early = moment_of(meta);
     let batch = one_put(alloc, path, meta)?;
     live.append(alloc, batch)?;
     Ok(())
@@ -41,6 +45,21 @@ fn fault_of_plant(
 ) -> Result<Option<Errno>, NoMemory>
     ensures { IfOk result (λ fault. (t : Tree) → IsMeantBy t index.now → fault ≡ first_fault (faults_of_plant t path.now meta)) }
 {
+    if path.is_root() && is_directory(meta) {
+        return Ok(None);
+    }
+    fault_of_entry(alloc, index, path, meta)
+}
+
+/// Why a new entry is not planted at the path; none where it is. It fails only for want of memory.
+fn fault_of_entry(
+    alloc: Global,
+    index: &MetaIndex,
+    path: &Path,
+    meta: Meta,
+) -> Result<Option<Errno>, NoMemory>
+    ensures { IfOk result (λ fault. (t : Tree) → IsMeantBy t index.now → fault ≡ first_fault (faults_of_new t path.now ++ when (is_too_long meta) Refusal.EFBIG ∷ [])) }
+{
     if let Some(fault) = index.fault_of_parent(alloc, path)? {
         return Ok(Some(fault));
     }
@@ -53,13 +72,26 @@ fn fault_of_plant(
     Ok(None)
 }
 
+/// Whether it is a directory.
+fn is_directory(meta: Meta) -> bool
+    ensures { result ≡ is_directory meta }
+{
+    match meta {
+        Meta::Dir { modified: _ } => true,
+        Meta::File {
+            len: _,
+            modified: _,
+        } => false,
+    }
+}
+
 /// Whether a file would be too long.
 fn is_too_long(meta: Meta) -> bool
     ensures { result ≡ is_too_long meta }
 {
     match meta {
-        Meta::Dir => false,
-        Meta::File { len } => len > GREATEST_FILE,
+        Meta::Dir { modified: _ } => false,
+        Meta::File { len, modified: _ } => len > GREATEST_FILE,
     }
 }
 

@@ -19,7 +19,7 @@ fn taking(event: &Event) -> usize
 {
     match event {
         Event::Take(_, _) => 1,
-        Event::Call(_)
+        Event::Call(_, _)
         | Event::Snapshot(_)
         | Event::DropSnapshot(_)
         | Event::Restore(_)
@@ -109,7 +109,7 @@ impl Volume {
         ensures room { vec_capacity held.new ≡ vec_capacity held.old }
     {
         match event {
-            Event::Call(call) => Answer::Call(self.call(alloc, call)),
+            Event::Call(call, at) => Answer::Call(self.call(alloc, call, *at)),
             Event::Snapshot(name) => Answer::Snap(self.snapshot(alloc, name)),
             Event::DropSnapshot(name) => Answer::Snap(self.drop_snapshot(name)),
             Event::Restore(name) => Answer::Snap(self.restore(name)),

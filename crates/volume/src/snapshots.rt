@@ -1,10 +1,10 @@
-//! The named snapshots of a volume: names with the indexes that stood when they were taken.
+//! The named snapshots of a volume: names with the indexes that stood when they were taken, and the moments of their roots.
 ghost use Rattle.std.specs.Prelude.{◌≡◌, ◌≤◌, ◌<◌, true, false, OnOk, OnErr, IfOk, IfErr, Some, None, is_some, IfSome};
 ghost use Rattle.std.specs.FinMap as finite;
 ghost use Rattle.std.specs.Option.{option_copied};
 ghost use Rattle.volume.specs.Volumes.{most_snapshots};
 
-use call_compiler::Indexes;
+use crate::rooted::Rooted;
 use pathkey::{NoMemory, SnapName};
 use std::alloc::Global;
 use std::collections::BTreeMap;
@@ -16,18 +16,16 @@ const MOST: usize = 64;
 /// Indexes under names, which contracts see as a finite map.
 #[derive(Drop)]
 pub struct Snapshots {
-    named: BTreeMap<SnapName, Indexes>,
+    named: BTreeMap<SnapName, Rooted>,
 }
 
 impl Model for Snapshots {
+    ghost use Rattle.volume.specs.Codes.{coded_kept};
     ghost use Rattle.volume.specs.Volumes.{Kept, kept};
-    ghost use Rattle.std.specs.Coded.{coded_list, coded_ℕ};
-    ghost use Rattle.std.specs.FinMap as finite;
-    ghost use Rattle.call_compiler.specs.contracts.indexes.Indexes as indexes;
 
     ghost Value = { Kept };
 
-    ghost coded = { finite.code (coded_list coded_ℕ) indexes.the_row.coded };
+    ghost coded = { coded_kept };
 
     ghost view = { λ s. kept s.named };
 }
@@ -43,10 +41,16 @@ impl Snapshots {
     }
 
     /// The indexes under a name. It takes no memory.
-    pub fn get(&self, name: &SnapName) -> Option<&Indexes>
+    pub fn get(&self, name: &SnapName) -> Option<&Rooted>
         ensures { option_copied result ≡ finite.get self.now name.now }
     {
         self.named.get(name)
+    }
+
+    /// The snapshots' name with this number, in the order of names; none past the last. It takes no memory, and no claim
+    /// rests on it.
+    pub fn name(&self, number: usize) -> Option<&SnapName> {
+        self.named.keys().nth(number)
     }
 
     /// Whether there is a snapshot of that name. It takes no memory.
@@ -65,12 +69,12 @@ impl Snapshots {
     }
 
     /// Puts indexes under a name.
-    pub fn keep(&mut self, alloc: Global, name: &SnapName, indexes: Indexes) -> Result<(), NoMemory>
-        ensures kept { OnOk result (self.new ≡ finite.insert self.old name.now indexes) }
+    pub fn keep(&mut self, alloc: Global, name: &SnapName, rooted: Rooted) -> Result<(), NoMemory>
+        ensures kept { OnOk result (self.new ≡ finite.insert self.old name.now rooted) }
         ensures err { OnErr result (self.new ≡ self.old) }
     {
         let name = name.copy(alloc)?;
-        self.named.insert(name, indexes)?;
+        self.named.insert(name, rooted)?;
         Ok(())
     }
 

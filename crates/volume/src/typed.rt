@@ -1,8 +1,9 @@
 //! Each file call by a name and an answer of its own: a refusal is an `Err`, so that `?` serves.
 //!
-//! Each has the contract of `Volume::call`, and no path is copied on its way. A volume and a frozen tree are asked alike; on a
+//! Each has the contract of `Volume::call`, and no path is copied on its way. One that changes something is asked at a moment,
+//! and one that only looks has its answer at every moment. A volume and a frozen tree are asked alike; on a
 //! frozen tree the names begin with `try_`, since `read`, `stat` and `readdir` give the replies themselves there.
-ghost use Rattle.std.specs.Prelude.{◌≡◌};
+ghost use Rattle.std.specs.Prelude.{◌≡◌, ℕ};
 ghost use Rattle.reference.specs.Pairs.{pairs_of};
 ghost use Rattle.reference.specs.declared.call.Call.{Call as FileCall};
 ghost use Rattle.volume.specs.Changes.{Called};
@@ -12,6 +13,7 @@ ghost use Rattle.volume.specs.Typed.{Compiles, IsCount, IsData, IsNames, IsOfKin
 use crate::frozen::Frozen;
 use crate::volume::Volume;
 use bytes::Bytes;
+use call_compiler::touching::{moves_in_root, stands_in_root};
 use call_compiler::{Batch, Call, Indexes, Reply, making, moving, reading, removing, writing};
 use pathkey::{Errno, NoMemory, Path};
 use reference::Kind;
@@ -19,19 +21,19 @@ use std::alloc::Global;
 
 impl Volume {
     /// Makes an empty directory (POSIX.1-2017, mkdir).
-    pub fn mkdir(&mut self, alloc: Global, path: &Path) -> Result<(), Errno>
-        ensures { Called (Call.Mkdir path.now) (replied (λ _. Reply.Done) result) self.old self.new }
+    pub fn mkdir(&mut self, alloc: Global, path: &Path, at: u64) -> Result<(), Errno>
+        ensures { Called (Call.Mkdir path.now) at (replied (λ _. Reply.Done) result) self.old self.new }
     {
-        let compiled = making::mkdir(alloc, self.indexes(), path);
-        settled(self.send(alloc, compiled))
+        let compiled = making::mkdir(alloc, self.indexes(), path, at);
+        settled(self.send(alloc, compiled, at, stands_in_root(path)))
     }
 
     /// Makes an empty file, where none stands (open with O_CREAT and O_EXCL, without a descriptor).
-    pub fn create(&mut self, alloc: Global, path: &Path) -> Result<(), Errno>
-        ensures { Called (Call.Create path.now) (replied (λ _. Reply.Done) result) self.old self.new }
+    pub fn create(&mut self, alloc: Global, path: &Path, at: u64) -> Result<(), Errno>
+        ensures { Called (Call.Create path.now) at (replied (λ _. Reply.Done) result) self.old self.new }
     {
-        let compiled = making::create(alloc, self.indexes(), path);
-        settled(self.send(alloc, compiled))
+        let compiled = making::create(alloc, self.indexes(), path, at);
+        settled(self.send(alloc, compiled, at, stands_in_root(path)))
     }
 
     /// Lays the bytes over a file from the offset on, all of them or none (pwrite): how many they are.
@@ -41,51 +43,58 @@ impl Volume {
         path: &Path,
         offset: u64,
         bytes: &[u8],
+        at: u64,
     ) -> Result<u64, Errno>
-        ensures { Called (Call.Write path.now offset bytes.now) (replied (λ n. Reply.Count n) result) self.old self.new }
+        ensures { Called (Call.Write path.now offset bytes.now) at (replied (λ n. Reply.Count n) result) self.old self.new }
     {
-        let compiled = compile_write(alloc, self.indexes(), path, offset, bytes);
-        counted(self.send(alloc, compiled))
+        let compiled = compile_write(alloc, self.indexes(), path, offset, bytes, at);
+        counted(self.send(alloc, compiled, at, false))
     }
 
     /// Cuts a file to so many bytes, or lengthens it to them by zeros (truncate).
-    pub fn truncate(&mut self, alloc: Global, path: &Path, length: u64) -> Result<(), Errno>
-        ensures { Called (Call.Truncate path.now length) (replied (λ _. Reply.Done) result) self.old self.new }
+    pub fn truncate(
+        &mut self,
+        alloc: Global,
+        path: &Path,
+        length: u64,
+        at: u64,
+    ) -> Result<(), Errno>
+        ensures { Called (Call.Truncate path.now length) at (replied (λ _. Reply.Done) result) self.old self.new }
     {
-        let compiled = writing::truncate(alloc, self.indexes(), path, length);
-        settled(self.send(alloc, compiled))
+        let compiled = writing::truncate(alloc, self.indexes(), path, length, at);
+        settled(self.send(alloc, compiled, at, false))
     }
 
     /// Takes a file out (unlink).
-    pub fn unlink(&mut self, alloc: Global, path: &Path) -> Result<(), Errno>
-        ensures { Called (Call.Unlink path.now) (replied (λ _. Reply.Done) result) self.old self.new }
+    pub fn unlink(&mut self, alloc: Global, path: &Path, at: u64) -> Result<(), Errno>
+        ensures { Called (Call.Unlink path.now) at (replied (λ _. Reply.Done) result) self.old self.new }
     {
-        let compiled = removing::unlink(alloc, self.indexes(), path);
-        settled(self.send(alloc, compiled))
+        let compiled = removing::unlink(alloc, self.indexes(), path, at);
+        settled(self.send(alloc, compiled, at, stands_in_root(path)))
     }
 
     /// Takes an empty directory out (rmdir).
-    pub fn rmdir(&mut self, alloc: Global, path: &Path) -> Result<(), Errno>
-        ensures { Called (Call.Rmdir path.now) (replied (λ _. Reply.Done) result) self.old self.new }
+    pub fn rmdir(&mut self, alloc: Global, path: &Path, at: u64) -> Result<(), Errno>
+        ensures { Called (Call.Rmdir path.now) at (replied (λ _. Reply.Done) result) self.old self.new }
     {
-        let compiled = removing::rmdir(alloc, self.indexes(), path);
-        settled(self.send(alloc, compiled))
+        let compiled = removing::rmdir(alloc, self.indexes(), path, at);
+        settled(self.send(alloc, compiled, at, stands_in_root(path)))
     }
 
     /// Moves what stands at the first path to the second (rename).
-    pub fn rename(&mut self, alloc: Global, old: &Path, new: &Path) -> Result<(), Errno>
-        ensures { Called (Call.Rename old.now new.now) (replied (λ _. Reply.Done) result) self.old self.new }
+    pub fn rename(&mut self, alloc: Global, old: &Path, new: &Path, at: u64) -> Result<(), Errno>
+        ensures { Called (Call.Rename old.now new.now) at (replied (λ _. Reply.Done) result) self.old self.new }
     {
-        let compiled = moving::rename(alloc, self.indexes(), old, new);
-        settled(self.send(alloc, compiled))
+        let compiled = moving::rename(alloc, self.indexes(), old, new, at);
+        settled(self.send(alloc, compiled, at, moves_in_root(old, new)))
     }
 
     /// Takes a file out, or a directory with all below it.
-    pub fn rmtree(&mut self, alloc: Global, path: &Path) -> Result<(), Errno>
-        ensures { Called (Call.Rmtree path.now) (replied (λ _. Reply.Done) result) self.old self.new }
+    pub fn rmtree(&mut self, alloc: Global, path: &Path, at: u64) -> Result<(), Errno>
+        ensures { Called (Call.Rmtree path.now) at (replied (λ _. Reply.Done) result) self.old self.new }
     {
-        let compiled = removing::rmtree(alloc, self.indexes(), path);
-        settled(self.send(alloc, compiled))
+        let compiled = removing::rmtree(alloc, self.indexes(), path, at);
+        settled(self.send(alloc, compiled, at, stands_in_root(path)))
     }
 
     /// The bytes of a file from the offset on, at most `count` and none past its end (pread).
@@ -96,15 +105,15 @@ impl Volume {
         offset: u64,
         count: u64,
     ) -> Result<Vec<u8>, Errno>
-        ensures { Called (Call.Read path.now offset count) (replied (λ bytes. Reply.Data bytes.items) result) self.now self.now }
+        ensures { (at : ℕ) → Called (Call.Read path.now offset count) at (replied (λ bytes. Reply.Data bytes.items) result) self.now self.now }
     {
         let compiled = reading::read(alloc, self.indexes(), path, offset, count);
         data(self.look(compiled))
     }
 
-    /// What stands at a path, and a file's length in bytes (0 for a directory) (stat).
-    pub fn stat(&self, alloc: Global, path: &Path) -> Result<(Kind, u64), Errno>
-        ensures { Called (Call.Stat path.now) (replied (λ s. Reply.Stat s.0 s.1) result) self.now self.now }
+    /// What stands at a path, a file's length in bytes (0 for a directory), and the moment of last change (stat).
+    pub fn stat(&self, alloc: Global, path: &Path) -> Result<(Kind, u64, u64), Errno>
+        ensures { (at : ℕ) → Called (Call.Stat path.now) at (replied (λ s. Reply.Stat s.0 s.1 s.2) result) self.now self.now }
     {
         let compiled = reading::stat(alloc, self.indexes(), path);
         status(self.look(compiled))
@@ -112,7 +121,7 @@ impl Volume {
 
     /// The entries of a directory: kind and name of each, in byte order of names (readdir).
     pub fn readdir(&self, alloc: Global, path: &Path) -> Result<Vec<(Kind, Vec<u8>)>, Errno>
-        ensures { Called (Call.Readdir path.now) (replied (λ es. Reply.Names (pairs_of es.items)) result) self.now self.now }
+        ensures { (at : ℕ) → Called (Call.Readdir path.now) at (replied (λ es. Reply.Names (pairs_of es.items)) result) self.now self.now }
     {
         let compiled = reading::readdir(alloc, self.indexes(), path);
         names(self.look(compiled))
@@ -120,8 +129,8 @@ impl Volume {
 
     /// The reply of a call that only looks, which was compiled.
     fn look(&self, compiled: Result<(Reply, Batch), NoMemory>) -> Reply
-        ensures called { (c : FileCall) → Looks c → Compiles self.now.live c compiled → Called c result self.now self.now }
-        ensures kind { (c : FileCall) → Compiles self.now.live c compiled → IsOfKind c result }
+        ensures called { (c : FileCall) (at : ℕ) → Looks c → Compiles self.now.live.indexes c at compiled → Called c at result self.now self.now }
+        ensures kind { (c : FileCall) (at : ℕ) → Compiles self.now.live.indexes c at compiled → IsOfKind c result }
     {
         self.means_a_world();
         match compiled {
@@ -147,8 +156,8 @@ impl Frozen {
     }
 
     /// What `stat` replies, as what stands there or the refusal.
-    pub fn try_stat(&self, alloc: Global, path: &Path) -> Result<(Kind, u64), Errno>
-        ensures { Tells (Call.Stat path.now) (replied (λ s. Reply.Stat s.0 s.1) result) self.now }
+    pub fn try_stat(&self, alloc: Global, path: &Path) -> Result<(Kind, u64, u64), Errno>
+        ensures { Tells (Call.Stat path.now) (replied (λ s. Reply.Stat s.0 s.1 s.2) result) self.now }
     {
         self.means_a_tree();
         status(self.stat(alloc, path))
@@ -170,11 +179,12 @@ fn compile_write(
     path: &Path,
     offset: u64,
     bytes: &[u8],
+    at: u64,
 ) -> Result<(Reply, Batch), NoMemory>
-    ensures { Compiles indexes.now (Call.Write path.now offset bytes.now) result }
+    ensures { Compiles indexes.now (Call.Write path.now offset bytes.now) at result }
 {
     let own = Bytes::copy_from_slice(alloc, bytes)?;
-    writing::write(alloc, indexes, path, offset, &own)
+    writing::write(alloc, indexes, path, offset, &own, at)
 }
 
 // The answer that tells a reply of which only a refusal counts.
@@ -213,12 +223,12 @@ fn data(reply: Reply) -> Result<Vec<u8>, Errno>
 }
 
 // The answer that tells the reply to a stat.
-fn status(reply: Reply) -> Result<(Kind, u64), Errno>
+fn status(reply: Reply) -> Result<(Kind, u64, u64), Errno>
     requires { IsStat reply }
-    ensures { replied (λ s. Reply.Stat s.0 s.1) result ≡ reply }
+    ensures { replied (λ s. Reply.Stat s.0 s.1 s.2) result ≡ reply }
 {
     match reply {
-        Reply::Stat(kind, length) => Ok((kind, length)),
+        Reply::Stat(kind, length, modified) => Ok((kind, length, modified)),
         Reply::Fault(fault) => Err(fault),
         _ => Err(Errno::EINVAL),
     }

@@ -1,16 +1,17 @@
 //! A volume, and what is asked of it.
 ghost use Rattle.std.specs.Prelude.{◌≡◌, ◌⊎◌, ◌↔◌, false, MatchResult, IfOk, IfNone, IfSome, None, Some};
-ghost use Rattle.call_compiler.specs.Compiled.{MeanTree};
 ghost use Rattle.node.specs.Shapes.{is_shape};
 ghost use Rattle.std.specs.FinMap as finite;
 ghost use Rattle.reference.specs.declared.call.Call.{Call as FileCall};
+ghost use Rattle.std.specs.Option.{option_copied};
 ghost use Rattle.reference.specs.Worlds.{World, TakeSnapshot, DropSnapshot, RestoreSnapshot};
 ghost use Rattle.volume.specs.Changes.{Called, Settles, KeptAs, Dropped, Restored, Stepped};
 ghost use Rattle.volume.specs.Plants.{Plants};
+ghost use Rattle.volume.specs.Rooted.{reply_to};
 ghost use Rattle.volume.specs.Jobs.{AnswersInstalling, AnswersTaking, DoneFits};
 ghost use Rattle.volume.specs.Marked.{KeepsMarks, no_marks, without_mark};
-ghost use Rattle.volume.specs.Volumes.{IsNew, IsVolume, Means, live_of};
-ghost use Rattle.volume.specs.Typed.{Compiles, IsOfKind};
+ghost use Rattle.volume.specs.Volumes.{IsNew, IsVolume, MeanRooted, Means, live_of};
+ghost use Rattle.volume.specs.Typed.{Asks, Compiles, IsOfKind};
 ghost use Rattle.volume.specs.Told.{Finds, HeaviestIn, busier, pending_in, report_in};
 
 use crate::event::{Index, Relief, Step};
@@ -18,7 +19,9 @@ use crate::frozen::Frozen;
 use crate::job::{Done, InstallReply, TakeReply};
 use crate::live::Live;
 use crate::plant::plant;
+use crate::rooted::{Rooted, after_call, after_planting, share};
 use crate::snapshots::Snapshots;
+use call_compiler::touching::touches_root;
 use call_compiler::{Batch, Call, Indexes, Reply, compile};
 use jobs::{Load, Ticket};
 use node::{Shape, ShapeReport, StepReply, TreeStep};
@@ -27,10 +30,11 @@ use reference::Meta;
 use std::alloc::Global;
 use std::marker::Model;
 
-/// The live indexes of a file system, and those of its named snapshots.
+/// The live indexes of a file system with the moment of the root, and those of its named snapshots.
 #[derive(Drop)]
 pub struct Volume {
     live: Live,
+    modified: u64,
     snapshots: Snapshots,
 }
 
@@ -42,13 +46,23 @@ impl Model for Volume {
 
     ghost coded = { coded_volume };
 
-    ghost view = { λ v. record { live = v.live.indexes; snapshots = v.snapshots; marks = v.live.marks } };
+    ghost view = { λ v. record { live = record { indexes = v.live.indexes; modified = v.modified }; snapshots = v.snapshots; marks = v.live.marks } };
 
-    ghost invariant = { λ v. IsVolume (record { live = v.live.indexes; snapshots = v.snapshots; marks = v.live.marks }) };
+    ghost invariant = { λ v. IsVolume (record { live = record { indexes = v.live.indexes; modified = v.modified }; snapshots = v.snapshots; marks = v.live.marks }) };
+}
+
+/// The reply; ENOMEM where memory was refused.
+fn reply_to(answer: Result<Reply, NoMemory>) -> Reply
+    ensures { result ≡ reply_to answer }
+{
+    match answer {
+        Ok(reply) => reply,
+        Err(NoMemory) => Reply::Fault(Errno::ENOMEM),
+    }
 }
 
 impl Volume {
-    /// The empty root directory, without snapshots, in new trees of this shape. EINVAL where the shape is not ok
+    /// The empty root directory of moment 0, without snapshots, in new trees of this shape. EINVAL where the shape is not ok
     /// (`Shape::ok`), ENOMEM where memory is refused.
     pub fn new(alloc: Global, shape: Shape) -> Result<Volume, Errno>
         ensures new { MatchResult result (IsNew shape) (λ e. (e ≡ Errno.EINVAL) ⊎ (e ≡ Errno.ENOMEM)) }
@@ -62,54 +76,52 @@ impl Volume {
         live.stands();
         Ok(Volume {
             live,
+            modified: 0,
             snapshots: Snapshots::new(alloc),
         })
     }
 
-    /// Does a file call. A refusal changes nothing; ENOMEM comes only where memory is refused.
+    /// Does a file call at a moment: what is new, a file whose bytes are set, and each directory that gets or loses an entry then has
+    /// that moment. Moments need not rise. A refusal changes nothing; ENOMEM comes only where memory is refused.
     ///
     /// Whatever lies in the trees, a call only puts messages into their roots: steps bring them down (Jannen et al., FAST
     /// 2015).
-    pub fn call(&mut self, alloc: Global, call: &Call) -> Reply
-        ensures { Called call.now result self.old self.new }
+    pub fn call(&mut self, alloc: Global, call: &Call, at: u64) -> Reply
+        ensures { Called call.now at result self.old self.new }
     {
-        let compiled = compile(alloc, self.indexes(), call);
-        self.send(alloc, compiled)
+        let compiled = compile(alloc, self.indexes(), call, at);
+        self.send(alloc, compiled, at, touches_root(call))
     }
 
-    /// The live indexes.
-    pub(crate) fn indexes(&self) -> &Indexes
-        ensures { result.now ≡ self.now.live }
-    {
-        self.live.indexes()
-    }
-
-    /// Does a file call that was compiled.
+    /// Does a file call at a moment that was compiled, and gives the root the moment where the call is done and puts an entry into
+    /// the root or takes one out.
     pub(crate) fn send(
         &mut self,
         alloc: Global,
         compiled: Result<(Reply, Batch), NoMemory>,
+        at: u64,
+        in_root: bool,
     ) -> Reply
-        requires { (c : FileCall) × Compiles self.old.live c compiled }
-        ensures called { (c : FileCall) → Compiles self.old.live c compiled → Called c result self.old self.new }
-        ensures kind { (c : FileCall) → Compiles self.old.live c compiled → IsOfKind c result }
+        requires { (c : FileCall) × Asks self.old.live.indexes c at compiled in_root }
+        ensures called { (c : FileCall) → Asks self.old.live.indexes c at compiled in_root → Called c at result self.old self.new }
+        ensures kind { (c : FileCall) → Compiles self.old.live.indexes c at compiled → IsOfKind c result }
     {
         let answer = self.live.send(alloc, compiled);
         self.live.stands();
-        match answer {
-            Ok(reply) => reply,
-            Err(NoMemory) => Reply::Fault(Errno::ENOMEM),
-        }
+        let reply = reply_to(answer);
+        self.modified = after_call(&reply, in_root, at, self.modified);
+        reply
     }
 
-    /// Plants an entry, as an image that is loaded tells it: an empty directory, or a file of so many zeros. EEXIST at the root, ENOENT
-    /// or ENOTDIR where the parent is no directory, EEXIST where something stands at the path, EFBIG where the file would be longer than
-    /// 2^40 bytes, ENOMEM where memory is refused. A refusal changes nothing.
+    /// Plants an entry with its moment, as an image that is loaded tells it: an empty directory, or a file of so many zeros. A directory
+    /// at the root gives the root its moment, and the root keeps what it holds. EEXIST for a file at the root, ENOENT or ENOTDIR where
+    /// the parent is no directory, EEXIST where something stands at the path, EFBIG where the file would be longer than 2^40 bytes, ENOMEM where memory is refused. A refusal changes nothing.
     pub fn plant_entry(&mut self, alloc: Global, path: &Path, meta: Meta) -> Result<(), Errno>
         ensures { Plants path.now meta result self.old self.new }
     {
         let answer = plant(alloc, &mut self.live, path, meta);
         self.live.stands();
+        self.modified = after_planting(&answer, path, meta, self.modified);
         answer
     }
 
@@ -124,7 +136,7 @@ impl Volume {
         if self.snapshots.is_full() {
             return Err(Errno::ENOSPC);
         }
-        let copy = self.live.indexes().share()?;
+        let copy = share(self.live.indexes(), self.modified)?;
         self.snapshots.keep(alloc, name, copy)?;
         Ok(())
     }
@@ -148,9 +160,11 @@ impl Volume {
         let Some(kept) = self.snapshots.get(name) else {
             return Err(Errno::ENOENT);
         };
-        let copy = kept.share()?;
+        let modified = kept.modified;
+        let copy = kept.indexes.share()?;
         self.live.replace(copy);
         self.live.stands();
+        self.modified = modified;
         Ok(())
     }
 
@@ -175,9 +189,10 @@ impl Volume {
     /// The live tree as it stands. It fails only where a further owner of its nodes is refused.
     pub fn freeze(&self) -> Result<Frozen, NoMemory>
         ensures same { IfOk result (λ f. f ≡ self.now.live) }
-        ensures means { IfOk result (λ f. (w : World) → Means self.now w → MeanTree f w.live) }
+        ensures means { IfOk result (λ f. (w : World) → Means self.now w → MeanRooted f w.live) }
     {
-        Frozen::of(self.live.indexes())
+        let rooted = share(self.live.indexes(), self.modified)?;
+        Ok(Frozen::new(rooted))
     }
 
     /// The tree of the snapshot of that name; ENOENT where there is none, ENOMEM where a further owner of its nodes is
@@ -189,20 +204,40 @@ impl Volume {
         let Some(kept) = self.snapshots.get(name) else {
             return Err(Errno::ENOENT);
         };
-        Ok(Frozen::of(kept)?)
+        Ok(Frozen::new(kept.share()?))
+    }
+
+    /// Its live indexes, to go through all of the live tree.
+    pub fn indexes(&self) -> &Indexes
+        ensures { result.now ≡ self.now.live.indexes }
+    {
+        self.live.indexes()
+    }
+
+    /// The snapshot of that name, to go through all of its tree; none where there is none of that name.
+    pub fn kept(&self, name: &SnapName) -> Option<&Rooted>
+        ensures { option_copied result ≡ finite.get self.now.snapshots name.now }
+    {
+        self.snapshots.get(name)
+    }
+
+    /// The snapshots' name with this number, in the order of names; none past the last. It takes no memory, and no claim
+    /// rests on it.
+    pub fn snapshot_name(&self, number: usize) -> Option<&SnapName> {
+        self.snapshots.name(number)
     }
 
     /// The flush of the slot of a live index than which none has more pending messages; none where nothing is pending.
     /// It takes no memory.
     pub fn heaviest(&self, index: Index) -> Option<TreeStep>
-        ensures { HeaviestIn index result self.now.live }
+        ensures { HeaviestIn index result self.now.live.indexes }
     {
         self.live.heaviest(index)
     }
 
     /// How large the tree of a live index is. It takes no memory.
     pub fn shape_report(&self, index: Index) -> ShapeReport
-        ensures { result ≡ report_in index self.now.live }
+        ensures { result ≡ report_in index self.now.live.indexes }
     {
         match index {
             Index::Meta => self.live.indexes().meta.tree.shape_report(),
@@ -212,7 +247,7 @@ impl Volume {
 
     /// How many pieces wait in a live index. It costs a look at the slots of its tree's root, and takes no memory.
     pub fn pending(&self, index: Index) -> u128
-        ensures { result ≡ pending_in index self.now.live }
+        ensures { result ≡ pending_in index self.now.live.indexes }
     {
         match index {
             Index::Meta => self.live.indexes().meta.tree.pending(),
@@ -223,9 +258,9 @@ impl Volume {
     /// Does a tree step in the index with more pending pieces, that of the metadata where both have as many: the heaviest flush
     /// or, where that has no room, what makes room for it. `None` exactly where nothing is pending in either.
     pub fn relieve(&mut self, alloc: Global) -> Option<Relief>
-        ensures nothing { (result ≡ None) ↔ ((pending_in Index.Meta self.old.live ≡ 0) × (pending_in Index.Block self.old.live ≡ 0)) }
+        ensures nothing { (result ≡ None) ↔ ((pending_in Index.Meta self.old.live.indexes ≡ 0) × (pending_in Index.Block self.old.live.indexes ≡ 0)) }
         ensures unchanged { IfNone result (self.new ≡ self.old) }
-        ensures busier { IfSome result (λ r. r.step.index ≡ busier self.old.live) }
+        ensures busier { IfSome result (λ r. r.step.index ≡ busier self.old.live.indexes) }
         ensures stepped { IfSome result (λ r. Stepped r.step r.reply self.old self.new) }
         ensures means { (w : World) → Means self.old w → Means self.new w }
     {
@@ -237,8 +272,8 @@ impl Volume {
 
     /// The index with more pending pieces, that of the metadata where both have as many. It takes no memory.
     pub fn busier(&self) -> Index
-        ensures index { result ≡ busier self.now.live }
-        ensures nothing { (pending_in result self.now.live ≡ 0) → (pending_in Index.Meta self.now.live ≡ 0) × (pending_in Index.Block self.now.live ≡ 0) }
+        ensures index { result ≡ busier self.now.live.indexes }
+        ensures nothing { (pending_in result self.now.live.indexes ≡ 0) → (pending_in Index.Meta self.now.live.indexes ≡ 0) × (pending_in Index.Block self.now.live.indexes ≡ 0) }
     {
         let meta = self.pending(Index::Meta);
         let block = self.pending(Index::Block);
@@ -271,6 +306,7 @@ impl Volume {
     /// mark; and `NoRoom` where the first message has no room in the child, 64 marks stand, or no ticket is left.
     pub fn take_job(&mut self, alloc: Global, index: Index, slot: u8) -> TakeReply
         ensures answers { AnswersTaking index slot result (live_of self.old) (live_of self.new) }
+        ensures root { self.new.live.modified ≡ self.old.live.modified }
         ensures snapshots { self.new.snapshots ≡ self.old.snapshots }
         ensures means { (w : World) → Means self.old w → Means self.new w }
     {
@@ -286,6 +322,7 @@ impl Volume {
     pub fn install(&mut self, done: Done) -> InstallReply
         requires { DoneFits done (live_of self.old) }
         ensures answers { AnswersInstalling done result (live_of self.old) (live_of self.new) }
+        ensures root { self.new.live.modified ≡ self.old.live.modified }
         ensures snapshots { self.new.snapshots ≡ self.old.snapshots }
         ensures means { (w : World) → Means self.old w → Means self.new w }
     {

@@ -57,7 +57,7 @@ impl<'a> Snap<'a> {
 
 /// The reply to a file call.
 fn reply_to(alloc: Global, volume: &mut Volume, call: &Call) -> Reply {
-    volume.call(alloc, call)
+    volume.call(alloc, call, 0)
 }
 
 /// Whether a file call is answered so.

@@ -1,4 +1,4 @@
-//! What waits for a file that is written byte by byte.
+//! What waits for a file that is written byte by byte, and for a directory that gets many files.
 
 use crate::asked::{USUAL, answers, new_volume, waiting};
 use samples::{Ask, Told};
@@ -41,4 +41,54 @@ fn condenses_anew(alloc: Global) -> bool {
 #[test]
 fn a_thousand_writes_of_a_byte_wait_as_one_message(rt: HostRuntime) {
     assert!(rt; condenses_anew(rt.alloc()));
+}
+
+/// Relieves a volume, at most so many times; whether nothing waits in the metadata then.
+fn settles(alloc: Global, volume: &mut Volume) -> bool {
+    for _ in 0..100 {
+        if volume.relieve(alloc).is_none() {
+            return waiting(volume, Index::Meta) == 0;
+        }
+    }
+    false
+}
+
+/// Whether the file with this number is made.
+fn is_created(alloc: Global, volume: &mut Volume, number: u32) -> bool {
+    match format!(in alloc; "/a/f{number:03}") {
+        Ok(text) => answers(alloc, volume, Ask::Create(text.as_str()), Told::Done),
+        Err(_) => false,
+    }
+}
+
+/// Whether a thousand files are made in one directory.
+fn create_all(alloc: Global, volume: &mut Volume) -> bool {
+    for number in 0..1_000 {
+        if !is_created(alloc, volume, number) {
+            return false;
+        }
+    }
+    true
+}
+
+/// Whether a message waits then for each file, and one alone for their directory, which stands in a leaf.
+fn touches_once(alloc: Global, volume: &mut Volume) -> bool {
+    answers(alloc, volume, Ask::Mkdir("/a"), Told::Done)
+        && settles(alloc, volume)
+        && create_all(alloc, volume)
+        && waiting(volume, Index::Meta) == 1_001
+        && waiting(volume, Index::Block) == 0
+}
+
+/// The same of a new volume.
+fn touches_once_anew(alloc: Global) -> bool {
+    match new_volume(alloc, USUAL) {
+        Ok(mut volume) => touches_once(alloc, &mut volume),
+        Err(_) => false,
+    }
+}
+
+#[test]
+fn a_thousand_files_leave_one_touch_of_their_directory(rt: HostRuntime) {
+    assert!(rt; touches_once_anew(rt.alloc()));
 }

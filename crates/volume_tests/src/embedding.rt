@@ -6,13 +6,13 @@ use volume::{Call, Errno, Kind, Path, Reply, SnapName, Volume};
 
 fn create(alloc: Global, volume: &mut Volume) -> Result<Reply, Errno> {
     let path = Path::parse(alloc, b"/notes")?;
-    Ok(volume.call(alloc, &Call::Create(path)))
+    Ok(volume.call(alloc, &Call::Create(path), 0))
 }
 
 fn write(alloc: Global, volume: &mut Volume) -> Result<Reply, Errno> {
     let path = Path::parse(alloc, b"/notes")?;
     let hello = Bytes::from_static(b"hello");
-    Ok(volume.call(alloc, &Call::Write(path, 0, hello)))
+    Ok(volume.call(alloc, &Call::Write(path, 0, hello), 0))
 }
 
 fn keep(alloc: Global, volume: &mut Volume) -> Result<(), Errno> {
@@ -22,13 +22,13 @@ fn keep(alloc: Global, volume: &mut Volume) -> Result<(), Errno> {
 
 fn unlink(alloc: Global, volume: &mut Volume) -> Result<Reply, Errno> {
     let path = Path::parse(alloc, b"/notes")?;
-    Ok(volume.call(alloc, &Call::Unlink(path)))
+    Ok(volume.call(alloc, &Call::Unlink(path), 0))
 }
 
 fn length_before(alloc: Global, volume: &Volume) -> Result<u64, Errno> {
     let before = volume.frozen(&SnapName::parse(alloc, b"before")?)?;
     match before.stat(alloc, &Path::parse(alloc, b"/notes")?) {
-        Reply::Stat(Kind::File, length) => Ok(length),
+        Reply::Stat(Kind::File, length, _) => Ok(length),
         _ => Err(Errno::ENOENT),
     }
 }

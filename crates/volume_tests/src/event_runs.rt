@@ -2,7 +2,7 @@
 use crate::asked::{SMALL, new_volume};
 use crate::look_alike::{is_reply, look_alike};
 use crate::runs::{Act, add, run};
-use crate::some_events::{some_ask, some_index, some_snap, some_step};
+use crate::some_events::{some_ask, some_index, some_moment, some_snap, some_step};
 use node::{Place, Shape, StepKind, StepReply, TreeStep};
 use pathkey::{Errno, NoMemory, SnapName};
 use reference::plain::World;
@@ -144,7 +144,7 @@ fn some_act(random: &mut Random, first: u32) -> Act<'static> {
         1 => some_finishing(random, first),
         2 | 3 => Act::Step(some_step(random)),
         _ if random.below(8) == 0 => Act::Snap(some_snap(random)),
-        _ => Act::Live(some_ask(random)),
+        _ => Act::Live(some_ask(random), some_moment(random)),
     }
 }
 
@@ -170,8 +170,8 @@ fn add_all(alloc: Global, events: &mut Vec<Event>, random: &mut Random, first: u
 
 /// What the plain program replies to a call; none where memory is refused. It ensures nothing, so that no proof of a test reads what a
 /// call means; nor do the next ones.
-fn plain_call(alloc: Global, plain: &mut World, call: &Call) -> Option<Reply> {
-    plain.call(alloc, call).ok()
+fn plain_call(alloc: Global, plain: &mut World, call: &Call, at: u64) -> Option<Reply> {
+    plain.call(alloc, call, at).ok()
 }
 
 /// What it replies to a snapshot.
@@ -190,8 +190,8 @@ fn plain_restore(alloc: Global, plain: &mut World, name: &SnapName) -> Result<()
 }
 
 /// Whether the plain program replies so to a call.
-fn replies(alloc: Global, plain: &mut World, call: &Call, reply: &Reply) -> bool {
-    match plain_call(alloc, plain, call) {
+fn replies(alloc: Global, plain: &mut World, call: &Call, at: u64, reply: &Reply) -> bool {
+    match plain_call(alloc, plain, call, at) {
         Some(wanted) => is_reply(reply, &wanted),
         None => false,
     }
@@ -206,7 +206,7 @@ fn is_answer(
     answer: &Answer,
 ) -> bool {
     match (event, answer) {
-        (Event::Call(call), Answer::Call(reply)) => replies(alloc, plain, call, reply),
+        (Event::Call(call, at), Answer::Call(reply)) => replies(alloc, plain, call, *at, reply),
         (Event::Snapshot(name), Answer::Snap(told)) => plain_snapshot(alloc, plain, name) == *told,
         (Event::DropSnapshot(name), Answer::Snap(told)) => plain_drop(plain, name) == *told,
         (Event::Restore(name), Answer::Snap(told)) => plain_restore(alloc, plain, name) == *told,
@@ -235,12 +235,12 @@ fn are_answers(
 
 /// Adds a write of one byte to each of many blocks of a file.
 fn add_blocks(alloc: Global, events: &mut Vec<Event>) -> bool {
-    let mut are_added = add(alloc, events, Act::Live(Ask::Create("/k")));
+    let mut are_added = add(alloc, events, Act::Live(Ask::Create("/k"), 0));
     for number in 0..BLOCKS {
         are_added &= add(
             alloc,
             events,
-            Act::Live(Ask::Write("/k", number * 4_096, b"k")),
+            Act::Live(Ask::Write("/k", number * 4_096, b"k"), number),
         );
     }
     are_added

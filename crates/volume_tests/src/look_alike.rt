@@ -21,8 +21,8 @@ pub fn is_reply(reply: &Reply, wanted: &Reply) -> bool {
         (Reply::Done, Reply::Done) => true,
         (Reply::Count(count), Reply::Count(wanted)) => count == wanted,
         (Reply::Data(bytes), Reply::Data(wanted)) => bytes.as_slice() == wanted.as_slice(),
-        (Reply::Stat(kind, length), Reply::Stat(other, wanted)) => {
-            kind == other && length == wanted
+        (Reply::Stat(kind, length, modified), Reply::Stat(other, wanted, moment)) => {
+            kind == other && length == wanted && modified == moment
         }
         (Reply::Names(names), Reply::Names(wanted)) => are_one(names, wanted),
         (Reply::Fault(fault), Reply::Fault(wanted)) => fault == wanted,

@@ -65,7 +65,7 @@ fn told_once(alloc: Global, volume: &mut Volume) -> Option<StepReply> {
         alloc,
         volume,
         b"mkdir /a\nstat /a\n",
-        b"ok\ndir 0\n",
+        b"ok\ndir 0 0\n",
         &mut pace,
     ) {
         return None;
@@ -144,7 +144,7 @@ fn done_in(
         done: 0,
     };
     if answers(alloc, volume, script, wanted, &mut pace)
-        && has_image(alloc, volume, b"d /\nd /d\nf /d/n 0\n")
+        && has_image(alloc, volume, b"D / 0\nD /d 0\nF /d/n 0 0\n")
     {
         Some(pace.done)
     } else {

@@ -81,8 +81,8 @@ fn writes_each_reply(rt: HostRuntime) {
     );
     assert!(rt; are_told(alloc, b"", "bytes -\n"));
     assert!(rt; are_told(alloc, b"\x00\x1f\xa9", "bytes 001fa9\n"));
-    assert!(rt; is_told(alloc, Reply::Stat(Kind::Dir, 0), "dir 0\n"));
-    assert!(rt; is_told(alloc, Reply::Stat(Kind::File, 4096), "file 4096\n"));
+    assert!(rt; is_told(alloc, Reply::Stat(Kind::Dir, 0, 7), "dir 0 7\n"));
+    assert!(rt; is_told(alloc, Reply::Stat(Kind::File, 4096, 0), "file 4096 0\n"));
     assert!(rt; is_listed(alloc, &[], "names 0\n"));
     assert!(rt; is_listed(alloc, NAMES, "names 2\nf %20%25a%7F%FF~\nd b\n"));
     assert!(rt; is_told(alloc, Reply::Fault(Errno::ENOTEMPTY), "fault ENOTEMPTY\n"));

@@ -11,8 +11,8 @@ use volume::{Answer, Event, FinishAnswer, Index, Step, TakeAnswer, Volume};
 /// What an event is to be, as a number or a text can say it.
 #[derive(Clone, Copy)]
 pub enum Act<'a> {
-    /// A file call.
-    Live(Ask<'a>),
+    /// A file call at a moment.
+    Live(Ask<'a>, u64),
     /// A call on snapshots.
     Snap(Snap<'a>),
     /// A tree step.
@@ -49,10 +49,10 @@ fn snap_event(snap: Snap<'_>, name: SnapName) -> Event {
     }
 }
 
-/// The event of a file call.
-fn call_event(alloc: Global, ask: Ask<'_>) -> Option<Event> {
+/// The event of a file call at a moment.
+fn call_event(alloc: Global, ask: Ask<'_>, at: u64) -> Option<Event> {
     match ask.call(alloc) {
-        Ok(call) => Some(Event::Call(call)),
+        Ok(call) => Some(Event::Call(call, at)),
         Err(_) => None,
     }
 }
@@ -68,7 +68,7 @@ fn named_event(alloc: Global, snap: Snap<'_>) -> Option<Event> {
 /// The event of an act; none where memory is refused.
 fn event_of(alloc: Global, act: Act<'_>) -> Option<Event> {
     match act {
-        Act::Live(ask) => call_event(alloc, ask),
+        Act::Live(ask, at) => call_event(alloc, ask, at),
         Act::Snap(snap) => named_event(alloc, snap),
         Act::Step(step) => Some(Event::Step(step)),
         Act::Take(index, slot) => Some(Event::Take(index, slot)),
@@ -80,7 +80,7 @@ impl<'a> Turn<'a> {
     /// What its event is to be.
     fn act(&self) -> Act<'a> {
         match self {
-            Turn::Live(ask, _) => Act::Live(*ask),
+            Turn::Live(ask, _) => Act::Live(*ask, 0),
             Turn::Snap(snap, _) => Act::Snap(*snap),
             Turn::Flush(index, _) => Act::Step(first_leaf(*index)),
             Turn::Step(index, kind, _, _) => Act::Step(at_first_slot(*index, *kind)),

@@ -1,4 +1,4 @@
-//! What looks random: file calls at few paths, calls on three snapshots, steps of all eight kinds.
+//! What looks random: file calls at few paths and their moments, calls on three snapshots, steps of all eight kinds.
 use crate::asked::Snap;
 use node::{Place, StepKind, TreeStep};
 use samples::{Ask, Random};
@@ -49,6 +49,9 @@ const WRITTEN: [&[u8]; 8] = [
     &[0x6c; 8_192],
     &[0x7d; 8_200],
 ];
+
+/// Moments, the least and the greatest too.
+const MOMENTS: [u64; 6] = [0, 1, 2, 9, 1_700_000_000, u64::MAX];
 
 fn some_directory(random: &mut Random) -> &'static str {
     DIRECTORIES[random.below(16) as usize]
@@ -137,6 +140,11 @@ pub fn some_ask(random: &mut Random) -> Ask<'static> {
         5..=9 => some_directory_call(random),
         _ => some_file_call(random),
     }
+}
+
+/// The moment of a call, which may be below that of the call before.
+pub fn some_moment(random: &mut Random) -> u64 {
+    MOMENTS[random.below(6) as usize]
 }
 
 /// A call on a snapshot: they are kept more often than dropped.

@@ -230,7 +230,7 @@ const WAITING: &[(&str, &str, u128)] = &[
     ("create /a/x\n", "ok\n", 3),
     (
         "stat /a/x\nreaddir /a\nmkdir /a\nrmdir /a\n",
-        "file 0\nnames 1\nf x\nfault EEXIST\nfault ENOTEMPTY\n",
+        "file 0 0\nnames 1\nf x\nfault EEXIST\nfault ENOTEMPTY\n",
         3,
     ),
     // what makes a directory gives way to what removes it
@@ -264,9 +264,9 @@ fn a_done_call_waits_as_one_message(rt: HostRuntime) {
 
 /// What can be read before the read that fails, what was answered by then, and how many messages wait.
 const CUT: &[(&str, &str, u128)] = &[
-    ("mkdir /a\nstat /a\nmkdir /b", "ok\ndir 0\n", 2),
-    ("mkdir /a\nstat /a\nmkdir /", "ok\ndir 0\n", 2),
-    ("mkdir /a\nstat /a\n", "ok\ndir 0\n", 2),
+    ("mkdir /a\nstat /a\nmkdir /b", "ok\ndir 0 0\n", 2),
+    ("mkdir /a\nstat /a\nmkdir /", "ok\ndir 0 0\n", 2),
+    ("mkdir /a\nstat /a\n", "ok\ndir 0 0\n", 2),
     ("mkdir /a\nstat /a", "ok\n", 2),
     ("mkdir /a\n", "ok\n", 2),
     ("mkdir /a", "", 1),
@@ -290,7 +290,7 @@ fn stops_at_a_failing_read(rt: HostRuntime) {
 }
 
 /// What a script of four lines is answered where everything is written.
-const ANSWERS: &[u8] = b"ok\ndir 0\nfault EEXIST\nok\n";
+const ANSWERS: &[u8] = b"ok\ndir 0 0\nfault EEXIST\nok\n";
 
 /// Whether a script stops where no more than so many bytes are written, and then has done so many lines.
 fn stops_at_write(alloc: Global, most: usize) -> bool {
@@ -300,7 +300,7 @@ fn stops_at_write(alloc: Global, most: usize) -> bool {
     if most < ANSWERS.len() {
         stream.fault = Some(Fault::Write);
     }
-    stream.waiting = Some(if most < 22 { 2 } else { 3 });
+    stream.waiting = Some(if most < 24 { 2 } else { 3 });
     new_ends_so(alloc, SMALL, &stream)
 }
 
@@ -352,7 +352,7 @@ fn stops_at_a_failing_flush(rt: HostRuntime) {
 
 /// Whether a script goes on after a signal at the first read and at the first write.
 fn goes_on(alloc: Global) -> bool {
-    let mut stream = whole(b"mkdir /a\nstat /a\n", b"ok\ndir 0\n");
+    let mut stream = whole(b"mkdir /a\nstat /a\n", b"ok\ndir 0 0\n");
     stream.signal = true;
     new_ends_so(alloc, SMALL, &stream)
 }
@@ -382,8 +382,8 @@ fn stops_after<'a>(alloc: Global, script: &'a [u8], written: &'a [u8], image: &'
 
 #[test]
 fn keeps_the_whole_lines_before_what_fails(rt: HostRuntime) {
-    assert!(rt; stops_behind(rt.alloc(), b"mkdir /a\nmkd", b"ok\n", "d /\nd /a\n"));
-    assert!(rt; stops_after(rt.alloc(), b"mkdir /a\nmkdir /b\n", b"o", "d /\nd /a\n"));
+    assert!(rt; stops_behind(rt.alloc(), b"mkdir /a\nmkd", b"ok\n", "D / 0\nD /a 0\n"));
+    assert!(rt; stops_after(rt.alloc(), b"mkdir /a\nmkdir /b\n", b"o", "D / 0\nD /a 0\n"));
 }
 
 /// A script, and what it is answered.
@@ -394,21 +394,25 @@ const TOLD: &[u8] = b"ok\nok\nok\nok\nnames 1\nf x\nfault ENOENT\nok\nnames 1\nf
 
 /// Each of its lines, what that is answered, and the image of the tree after it.
 const DONE: &[Left] = &[
-    ("mkdir /a\n", "ok\n", "d /\nd /a\n"),
-    ("create /a/x\n", "ok\n", "d /\nd /a\nf /a/x 0\n"),
-    ("snapshot s\n", "ok\n", "d /\nd /a\nf /a/x 0\n"),
-    ("rmtree /a\n", "ok\n", "d /\n"),
-    ("readdir@s /a\n", "names 1\nf x\n", "d /\n"),
-    ("stat /a\n", "fault ENOENT\n", "d /\n"),
-    ("restore s\n", "ok\n", "d /\nd /a\nf /a/x 0\n"),
-    ("readdir /a\n", "names 1\nf x\n", "d /\nd /a\nf /a/x 0\n"),
+    ("mkdir /a\n", "ok\n", "D / 0\nD /a 0\n"),
+    ("create /a/x\n", "ok\n", "D / 0\nD /a 0\nF /a/x 0 0\n"),
+    ("snapshot s\n", "ok\n", "D / 0\nD /a 0\nF /a/x 0 0\n"),
+    ("rmtree /a\n", "ok\n", "D / 0\n"),
+    ("readdir@s /a\n", "names 1\nf x\n", "D / 0\n"),
+    ("stat /a\n", "fault ENOENT\n", "D / 0\n"),
+    ("restore s\n", "ok\n", "D / 0\nD /a 0\nF /a/x 0 0\n"),
+    (
+        "readdir /a\n",
+        "names 1\nf x\n",
+        "D / 0\nD /a 0\nF /a/x 0 0\n",
+    ),
 ];
 
 /// At how many places the script stops as the lines before say, where it cannot be read further.
 fn stops_everywhere(alloc: Global) -> usize {
     let mut place = 0usize;
     let mut told = 0usize;
-    let mut image = "d /\n";
+    let mut image = "D / 0\n";
     for row in DONE {
         let answers = TOLD.get(..told).unwrap_or(b"");
         for _ in 0..row.0.len() {
@@ -450,7 +454,7 @@ fn stops_at_each_byte_that_cannot_be_written(rt: HostRuntime) {
 const CUT_SCRIPT: &[u8] =
     b"create /f\nwrite /f 0 ffffffffffffffffffff\ntruncate /f 5\ntruncate /f 9000\n";
 
-const CUT_IMAGE: &str = "d /\nf /f 9000\nb 0 ffffffffff\n";
+const CUT_IMAGE: &str = "D / 0\nF /f 9000 0\nb 0 ffffffffff\n";
 
 /// Up to how many bytes each beginning of the image is printed where no more are taken.
 fn prints_beginnings(alloc: Global, frozen: &Frozen) -> usize {

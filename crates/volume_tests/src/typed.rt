@@ -20,52 +20,67 @@ fn path(alloc: Global, text: &str) -> Result<Path, Errno> {
     Path::parse(alloc, text.as_bytes())
 }
 
-/// Does a change: how many bytes were written.
-fn does(alloc: Global, volume: &mut Volume, at: &Path, change: Change<'_>) -> Result<u64, Errno> {
+/// Does a change of the path at a moment: how many bytes were written.
+fn does(
+    alloc: Global,
+    volume: &mut Volume,
+    of: &Path,
+    change: Change<'_>,
+    at: u64,
+) -> Result<u64, Errno> {
     match change {
-        Change::Mkdir => volume.mkdir(alloc, at)?,
-        Change::Create => volume.create(alloc, at)?,
+        Change::Mkdir => volume.mkdir(alloc, of, at)?,
+        Change::Create => volume.create(alloc, of, at)?,
         Change::Write(offset, text) => {
-            return volume.write(alloc, at, offset, text.as_bytes());
+            return volume.write(alloc, of, offset, text.as_bytes(), at);
         }
-        Change::Truncate(length) => volume.truncate(alloc, at, length)?,
-        Change::Rename(to) => return moves(alloc, volume, at, to),
-        Change::Unlink => volume.unlink(alloc, at)?,
-        Change::Rmdir => volume.rmdir(alloc, at)?,
-        Change::Rmtree => volume.rmtree(alloc, at)?,
+        Change::Truncate(length) => volume.truncate(alloc, of, length, at)?,
+        Change::Rename(to) => return moves(alloc, volume, of, to, at),
+        Change::Unlink => volume.unlink(alloc, of, at)?,
+        Change::Rmdir => volume.rmdir(alloc, of, at)?,
+        Change::Rmtree => volume.rmtree(alloc, of, at)?,
     }
     Ok(0)
 }
 
-fn moves(alloc: Global, volume: &mut Volume, from: &Path, to: &str) -> Result<u64, Errno> {
-    volume.rename(alloc, from, &path(alloc, to)?)?;
+fn moves(alloc: Global, volume: &mut Volume, from: &Path, to: &str, at: u64) -> Result<u64, Errno> {
+    volume.rename(alloc, from, &path(alloc, to)?, at)?;
     Ok(0)
 }
 
-fn outcome(alloc: Global, volume: &mut Volume, at: &str, change: Change<'_>) -> Result<u64, Errno> {
-    does(alloc, volume, &path(alloc, at)?, change)
+fn outcome(
+    alloc: Global,
+    volume: &mut Volume,
+    text: &str,
+    change: Change<'_>,
+    at: u64,
+) -> Result<u64, Errno> {
+    does(alloc, volume, &path(alloc, text)?, change, at)
 }
 
-/// What is done in a new volume, in this order, and what is answered.
-const ROWS: [(&str, Change<'static>, Result<u64, Errno>); 12] = [
-    ("/a", Change::Mkdir, Ok(0)),
-    ("/a", Change::Create, Err(Errno::EEXIST)),
-    ("/a/f", Change::Create, Ok(0)),
-    ("/a/f", Change::Write(3, "words"), Ok(5)),
-    ("/a", Change::Write(0, "words"), Err(Errno::EISDIR)),
-    ("/a/f", Change::Truncate(6), Ok(0)),
-    ("/a/f", Change::Rename("/a/g"), Ok(0)),
-    ("/a", Change::Rmdir, Err(Errno::ENOTEMPTY)),
-    ("/a", Change::Unlink, Err(Errno::EPERM)),
-    ("/a/d", Change::Mkdir, Ok(0)),
-    ("/a/d", Change::Rmdir, Ok(0)),
-    ("/a/f", Change::Unlink, Err(Errno::ENOENT)),
+/// A moment, a path, what is done there, and what is answered.
+type Row = (u64, &'static str, Change<'static>, Result<u64, Errno>);
+
+/// What is done in a new volume, in this order. The moments do not rise.
+const ROWS: [Row; 12] = [
+    (1, "/a", Change::Mkdir, Ok(0)),
+    (2, "/a", Change::Create, Err(Errno::EEXIST)),
+    (3, "/a/f", Change::Create, Ok(0)),
+    (9, "/a/f", Change::Write(3, "words"), Ok(5)),
+    (4, "/a", Change::Write(0, "words"), Err(Errno::EISDIR)),
+    (7, "/a/f", Change::Truncate(6), Ok(0)),
+    (5, "/a/f", Change::Rename("/a/g"), Ok(0)),
+    (6, "/a", Change::Rmdir, Err(Errno::ENOTEMPTY)),
+    (6, "/a", Change::Unlink, Err(Errno::EPERM)),
+    (8, "/a/d", Change::Mkdir, Ok(0)),
+    (4, "/a/d", Change::Rmdir, Ok(0)),
+    (6, "/a/f", Change::Unlink, Err(Errno::ENOENT)),
 ];
 
 /// Whether each row is answered so.
 fn goes(alloc: Global, volume: &mut Volume) -> bool {
-    for (at, what, wanted) in ROWS {
-        if outcome(alloc, volume, at, what) != wanted {
+    for (at, text, what, wanted) in ROWS {
+        if outcome(alloc, volume, text, what, at) != wanted {
             return false;
         }
     }
@@ -96,13 +111,13 @@ fn is_listed(answer: Result<Vec<(Kind, Vec<u8>)>, Errno>, wanted: &[u8]) -> bool
     }
 }
 
-/// Whether `/a` has the one file `/a/g` with these bytes, as all looks tell.
+/// Whether `/a` has the one file `/a/g` with these bytes, each with its moment of last change, as all looks tell.
 fn looks(alloc: Global, volume: &Volume, tree: &Frozen) -> Result<bool, Errno> {
     let (directory, file) = (path(alloc, "/a")?, path(alloc, "/a/g")?);
     Ok(
         reads(alloc, volume, tree, &file, b"\0\0\0wor")
-            && volume.stat(alloc, &file) == Ok((Kind::File, 6))
-            && tree.try_stat(alloc, &directory) == Ok((Kind::Dir, 0))
+            && volume.stat(alloc, &file) == Ok((Kind::File, 6, 7))
+            && tree.try_stat(alloc, &directory) == Ok((Kind::Dir, 0, 4))
             && is_listed(volume.readdir(alloc, &directory), b"g")
             && is_listed(tree.try_readdir(alloc, &directory), b"g"),
     )
@@ -110,8 +125,8 @@ fn looks(alloc: Global, volume: &Volume, tree: &Frozen) -> Result<bool, Errno> {
 
 /// Whether a tree goes with all below it.
 fn goes_whole(alloc: Global, volume: &mut Volume) -> bool {
-    outcome(alloc, volume, "/a", Change::Rmtree) == Ok(0)
-        && outcome(alloc, volume, "/a", Change::Rmtree) == Err(Errno::ENOENT)
+    outcome(alloc, volume, "/a", Change::Rmtree, 5) == Ok(0)
+        && outcome(alloc, volume, "/a", Change::Rmtree, 5) == Err(Errno::ENOENT)
 }
 
 /// Whether all rows are answered, looks tell what they left, and the whole goes.

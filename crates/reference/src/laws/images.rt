@@ -1,8 +1,9 @@
 //! Laws of images, line by line.
 
-ghost use Rattle.reference.specs.ImageLines.{BeginningLaw, ImageLaw, LinesLaw, OneLineLaw};
+ghost use Rattle.reference.specs.ImageLines.{BeginningLaw, ImageLaw, LinesLaw, OneLineLaw, OneVersionLaw};
 
-/// Lines of which each may follow those before it make a directory tree, and are its image.
+/// Lines of which each may follow those before it make a directory tree, and are its image; its moments are those that
+/// the version tells.
 pub fn lines()
     ensures { LinesLaw }
 {}
@@ -13,8 +14,10 @@ pub fn images()
     ensures { ImageLaw }
 {}
 
-/// Lines are known from their text, and the first lines of an image, one or more, are an image.
+/// Lines, and the root's moment, are known from their text; a text has one version; and the first lines of an image, one
+/// or more, are an image.
 pub fn one_line()
+    ensures version { OneVersionLaw }
     ensures known { OneLineLaw }
     ensures beginnings { BeginningLaw }
 {}

@@ -1,7 +1,7 @@
 //! Laws of the two indexes: which changes of them mean which call, and that they mean at most one tree.
 
 ghost use Rattle.reference.specs.Plant.{PlantLaw};
-ghost use Rattle.reference.specs.Laws.{CreateLaw, FreshLaw, LengthenLaw, MkdirLaw, OneMeaningLaw, RenameLaw, RmdirLaw, RmtreeLaw, TruncateLaw, UnlinkLaw, WriteLaw};
+ghost use Rattle.reference.specs.Laws.{CreateLaw, FreshLaw, LengthenLaw, MkdirLaw, OneMeaningLaw, RenameLaw, RmdirLaw, RmtreeLaw, TouchLaw, TruncateLaw, UnlinkLaw, WriteLaw};
 
 /// What the two indexes of an empty tree are.
 pub fn fresh_indexes()
@@ -10,6 +10,7 @@ pub fn fresh_indexes()
 
 /// Where two indexes mean a tree, the changes that each law names mean the tree after the call.
 pub fn calls_on_indexes()
+    ensures touch { TouchLaw }
     ensures mkdir { MkdirLaw }
     ensures create { CreateLaw }
     ensures write { WriteLaw }

@@ -1,6 +1,6 @@
 //! Worked rows: what the definitions answer to short scripts of calls.
 
-ghost use Rattle.reference.specs.Rows.{NewDirectory, AtTheGreatestFile, CutAndLengthenedImage, EmptyImage, CutAndLengthened, FaultsOfEachKind, GapReadsAsZeros, NamesAtTheLimit, PrefixFaults, RenameBelowItself, RenameOntoAncestors, RenameOntoDirectories, ReplacedFile, SnapshotIsRead, SnapshotKeepsItsTree, SnapshotNames, SubtreeIsNotSibling, TooDeepToRename};
+ghost use Rattle.reference.specs.Rows.{NewDirectory, AtTheGreatestFile, CutAndLengthenedImage, EmptyImage, CutAndLengthened, FaultsOfEachKind, GapReadsAsZeros, MomentsInImages, MomentsOfCalls, MomentsOfRename, MomentsThatStay, NamesAtTheLimit, PrefixFaults, RenameBelowItself, RenameOntoAncestors, RenameOntoDirectories, ReplacedFile, SnapshotIsRead, SnapshotKeepsItsTree, SnapshotNames, SubtreeIsNotSibling, TooDeepToRename};
 
 /// The definitions give the answers of the worked rows.
 pub fn rows()
@@ -18,6 +18,10 @@ pub fn rows()
     ensures too_deep_to_rename { TooDeepToRename }
     ensures replaced_file { ReplacedFile }
     ensures faults_of_each_kind { FaultsOfEachKind }
+    ensures moments_of_calls { MomentsOfCalls }
+    ensures moments_of_rename { MomentsOfRename }
+    ensures moments_that_stay { MomentsThatStay }
+    ensures moments_in_images { MomentsInImages }
     ensures names_at_the_limit { NamesAtTheLimit }
     ensures snapshot_keeps_its_tree { SnapshotKeepsItsTree }
     ensures snapshot_is_read { SnapshotIsRead }

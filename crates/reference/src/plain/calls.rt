@@ -1,6 +1,6 @@
 //! The eleven file calls on a tree.
 ghost use Rattle.std.specs.Prelude.{◌≡◌, IfOk, OnErr};
-ghost use Rattle.reference.specs.Calls.{Outcome, does as outcome};
+ghost use Rattle.reference.specs.Calls.{Outcome, changed, does as outcome};
 ghost use Rattle.reference.specs.Plain.{tree_of, HasEffect};
 
 use super::effect::Effect;
@@ -8,22 +8,23 @@ use super::making::{make_directory, make_file, truncate_file, write_file};
 use super::moving::rename;
 use super::reading::{list_directory, read_file, stat};
 use super::removing::{remove_directory, remove_tree, unlink};
+use super::touching::{touch_parent, touch_parents};
 use super::tree::Tree;
 use crate::call::Call;
 use crate::reply::Reply;
 use pathkey::NoMemory;
 use std::alloc::Global;
 
-/// What a call does to a tree.
-#[tactic(auto, unfolding(crate::specs::Calls::does))]
-fn effect_on(alloc: Global, tree: &Tree, call: &Call) -> Result<Effect, NoMemory>
-    ensures { HasEffect result (tree_of tree.now) (outcome (tree_of tree.now) call.now) }
+/// What a call at a moment changes of a tree, but for the moments of its directories.
+#[tactic(auto, unfolding(crate::specs::Calls::changed))]
+fn change(alloc: Global, tree: &Tree, call: &Call, at: u64) -> Result<Effect, NoMemory>
+    ensures { HasEffect result (tree_of tree.now) (changed at (tree_of tree.now) call.now) }
 {
     match call {
-        Call::Mkdir(path) => make_directory(alloc, tree, path),
-        Call::Create(path) => make_file(alloc, tree, path),
-        Call::Write(path, offset, new) => write_file(alloc, tree, path, *offset, new),
-        Call::Truncate(path, len) => truncate_file(alloc, tree, path, *len),
+        Call::Mkdir(path) => make_directory(alloc, tree, path, at),
+        Call::Create(path) => make_file(alloc, tree, path, at),
+        Call::Write(path, offset, new) => write_file(alloc, tree, path, *offset, new, at),
+        Call::Truncate(path, len) => truncate_file(alloc, tree, path, *len, at),
         Call::Unlink(path) => unlink(alloc, tree, path),
         Call::Rmdir(path) => remove_directory(alloc, tree, path),
         Call::Rename(old, new) => rename(alloc, tree, old, new),
@@ -36,12 +37,29 @@ fn effect_on(alloc: Global, tree: &Tree, call: &Call) -> Result<Effect, NoMemory
     }
 }
 
-/// Does a call on a tree, and answers it. Where memory is refused the tree stays as it was.
-pub fn does(alloc: Global, tree: &mut Tree, call: &Call) -> Result<Reply, NoMemory>
-    ensures value { IfOk result (λ r. ◌≡◌ {A = Outcome} (tree_of tree.new, r) (outcome (tree_of tree.old) call.now)) }
+/// What a call at a moment does to a tree.
+#[tactic(auto, unfolding(crate::specs::Calls::does))]
+fn effect_on(alloc: Global, tree: &Tree, call: &Call, at: u64) -> Result<Effect, NoMemory>
+    ensures { HasEffect result (tree_of tree.now) (outcome at (tree_of tree.now) call.now) }
+{
+    let effect = change(alloc, tree, call, at)?;
+    match call {
+        Call::Mkdir(path)
+        | Call::Create(path)
+        | Call::Unlink(path)
+        | Call::Rmdir(path)
+        | Call::Rmtree(path) => touch_parent(alloc, tree, effect, path, at),
+        Call::Rename(old, new) => touch_parents(alloc, tree, effect, old, new, at),
+        _ => Ok(effect),
+    }
+}
+
+/// Does a call at a moment on a tree, and answers it. Where memory is refused the tree stays as it was.
+pub fn does(alloc: Global, tree: &mut Tree, call: &Call, at: u64) -> Result<Reply, NoMemory>
+    ensures value { IfOk result (λ r. ◌≡◌ {A = Outcome} (tree_of tree.new, r) (outcome at (tree_of tree.old) call.now)) }
     ensures unchanged { OnErr result (tree.new ≡ tree.old) }
 {
-    match effect_on(alloc, tree, call)? {
+    match effect_on(alloc, tree, call, at)? {
         Effect::Kept(reply) => Ok(reply),
         Effect::Changed(after, reply) => {
             *tree = after;

@@ -11,8 +11,8 @@ pub fn is_within(tree: &Tree, room: usize) -> bool
     ensures { result ≡ nat_le (deepest (tree_of tree.now)) room }
 {
     match tree {
-        Tree::File(_) => true,
-        Tree::Dir(entries) => are_within(entries, room),
+        Tree::File(_, _) => true,
+        Tree::Dir(_, entries) => are_within(entries, room),
     }
 }
 

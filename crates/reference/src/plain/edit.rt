@@ -34,11 +34,11 @@ fn edit_below(
     ensures { IfOk result (λ t. tree_of t ≡ edited (tree_of tree.now) (name.now ∷ rest.entry) (tree_given entry)) }
 {
     match tree {
-        Tree::File(_) => copy_tree(alloc, tree),
-        Tree::Dir(entries) => match rest.split_first() {
+        Tree::File(_, _) => copy_tree(alloc, tree),
+        Tree::Dir(date, entries) => match rest.split_first() {
             None => {
                 let entries = set_name(alloc, entries, name, entry)?;
-                Tree::directory(alloc, entries)
+                Tree::directory(alloc, *date, entries)
             }
             Some((next, after)) => {
                 let Some(child) = entry_named(entries, name) else {
@@ -46,7 +46,7 @@ fn edit_below(
                 };
                 let child = edit_below(alloc, child, next, after, entry)?;
                 let entries = put_entry(alloc, entries, name, child)?;
-                Tree::directory(alloc, entries)
+                Tree::directory(alloc, *date, entries)
             }
         },
     }

@@ -1,8 +1,8 @@
 //! The image of a tree as text: one line for each entry in byte order of its key, and for a file the blocks
 //! that hold a byte other than zero.
-ghost use Rattle.std.specs.Prelude.{◌≡◌, ◌≤◌, ◌∷◌, [], ◌++◌, ◌+◌, ◌/◌, length, take, codes, decimal, flat_map, IfOk, OnOk};
+ghost use Rattle.std.specs.Prelude.{◌≡◌, ◌≤◌, ◌∷◌, [], ◌++◌, ◌+◌, ◌/◌, length, take, flat_map, IfOk, OnOk};
 ghost use Rattle.reference.specs.Tree.{Path};
-ghost use Rattle.reference.specs.Image.{percent, path_text, trimmed, block_line, block_lines, lines, lines_of, image};
+ghost use Rattle.reference.specs.Image.{percent, path_text, trimmed, block_line, block_lines, Second, directory_line, file_line, lines, lines_of, image};
 ghost use Rattle.reference.specs.Plain.{tree_of, entries_of};
 
 use super::contents::{bytes_from, bytes_up_to};
@@ -59,24 +59,34 @@ fn put_blocks(alloc: Global, out: &mut Vec<u8>, bytes: &[u8]) -> Result<(), NoMe
     Ok(())
 }
 
-/// The line of a file, and those of its blocks.
-fn put_file(alloc: Global, out: &mut Vec<u8>, text: &[u8], bytes: &[u8]) -> Result<(), NoMemory>
-    ensures { OnOk result (out.new.items ≡ out.old.items ++ (codes "f " ++ text.now ++ 32 ∷ decimal (length bytes.now) ++ 10 ∷ block_lines bytes.now (length bytes.now / 4096 + 1))) }
+/// The line of a file of so many bytes, and those of its blocks.
+fn put_file(
+    alloc: Global,
+    out: &mut Vec<u8>,
+    text: &[u8],
+    date: u64,
+    bytes: &[u8],
+) -> Result<(), NoMemory>
+    ensures { OnOk result (out.new.items ≡ out.old.items ++ ((file_line Second text.now (length bytes.now) date ++ 10 ∷ []) ++ block_lines bytes.now (length bytes.now / 4096 + 1))) }
 {
-    out.extend_from_slice(b"f ")?;
+    out.extend_from_slice(b"F ")?;
     out.extend_from_slice(text)?;
     out.push(32)?;
     put_number(alloc, out, bytes.len() as u64)?;
+    out.push(32)?;
+    put_number(alloc, out, date)?;
     out.push(10)?;
     put_blocks(alloc, out, bytes)
 }
 
 /// The line of a directory.
-fn put_directory(out: &mut Vec<u8>, text: &[u8]) -> Result<(), NoMemory>
-    ensures { OnOk result (out.new.items ≡ out.old.items ++ (codes "d " ++ text.now ++ 10 ∷ [])) }
+fn put_directory(alloc: Global, out: &mut Vec<u8>, text: &[u8], date: u64) -> Result<(), NoMemory>
+    ensures { OnOk result (out.new.items ≡ out.old.items ++ (directory_line Second text.now date ++ 10 ∷ [])) }
 {
-    out.extend_from_slice(b"d ")?;
+    out.extend_from_slice(b"D ")?;
     out.extend_from_slice(text)?;
+    out.push(32)?;
+    put_number(alloc, out, date)?;
     out.push(10)?;
     Ok(())
 }
@@ -94,12 +104,12 @@ fn text_below(alloc: Global, text: &[u8], name: &[u8]) -> Result<Vec<u8>, NoMemo
 /// The lines of a tree whose path has the text.
 #[cycle(image)]
 fn put_tree(alloc: Global, out: &mut Vec<u8>, text: &[u8], tree: &Tree) -> Result<(), NoMemory>
-    ensures { (p : Path) → text.now ≡ path_text p → OnOk result (out.new.items ≡ out.old.items ++ lines p (tree_of tree.now)) }
+    ensures { (p : Path) → text.now ≡ path_text p → OnOk result (out.new.items ≡ out.old.items ++ lines Second p (tree_of tree.now)) }
 {
     match tree {
-        Tree::File(bytes) => put_file(alloc, out, text, bytes.as_slice()),
-        Tree::Dir(entries) => {
-            put_directory(out, text)?;
+        Tree::File(date, bytes) => put_file(alloc, out, text, *date, bytes.as_slice()),
+        Tree::Dir(date, entries) => {
+            put_directory(alloc, out, text, *date)?;
             put_entries(alloc, out, text, entries)
         }
     }
@@ -113,7 +123,7 @@ fn put_entries(
     text: &[u8],
     entries: &Entries,
 ) -> Result<(), NoMemory>
-    ensures { (p : Path) → text.now ≡ path_text p → OnOk result (out.new.items ≡ out.old.items ++ lines_of p (entries_of entries.now)) }
+    ensures { (p : Path) → text.now ≡ path_text p → OnOk result (out.new.items ≡ out.old.items ++ lines_of Second p (entries_of entries.now)) }
 {
     match entries {
         Entries::Nothing => Ok(()),
@@ -125,13 +135,13 @@ fn put_entries(
     }
 }
 
-/// The image of a tree whose root is a directory.
+/// The image of a tree whose root is a directory, in version 2.
 pub fn image_of(alloc: Global, tree: &Tree) -> Result<Vec<u8>, NoMemory>
-    ensures { IfOk result (λ v. v.items ≡ image (tree_of tree.now)) }
+    ensures { IfOk result (λ v. v.items ≡ image Second (tree_of tree.now)) }
 {
     let mut out = Vec::new(alloc);
-    if let Tree::Dir(entries) = tree {
-        out.extend_from_slice(b"d /\n")?;
+    if let Tree::Dir(date, entries) = tree {
+        put_directory(alloc, &mut out, b"/", *date)?;
         put_entries(alloc, &mut out, &[], entries)?;
     }
     Ok(out)

@@ -55,37 +55,38 @@ fn make(alloc: Global, tree: &Tree, path: &Path, new: Tree) -> Result<Effect, No
     }
 }
 
-/// `mkdir`: a new empty directory.
-pub fn make_directory(alloc: Global, tree: &Tree, path: &Path) -> Result<Effect, NoMemory>
-    ensures { HasEffect result (tree_of tree.now) (made (tree_of tree.now) path.now (Dir nothing)) }
+/// `mkdir` at a moment: a new empty directory.
+pub fn make_directory(alloc: Global, tree: &Tree, path: &Path, at: u64) -> Result<Effect, NoMemory>
+    ensures { HasEffect result (tree_of tree.now) (made (tree_of tree.now) path.now (Dir at nothing)) }
 {
-    let new = Tree::directory(alloc, Entries::Nothing)?;
+    let new = Tree::directory(alloc, at, Entries::Nothing)?;
     make(alloc, tree, path, new)
 }
 
-/// `create`: a new empty file.
-pub fn make_file(alloc: Global, tree: &Tree, path: &Path) -> Result<Effect, NoMemory>
-    ensures { HasEffect result (tree_of tree.now) (made (tree_of tree.now) path.now (File [])) }
+/// `create` at a moment: a new empty file.
+pub fn make_file(alloc: Global, tree: &Tree, path: &Path, at: u64) -> Result<Effect, NoMemory>
+    ensures { HasEffect result (tree_of tree.now) (made (tree_of tree.now) path.now (File at [])) }
 {
-    make(alloc, tree, path, Tree::File(Vec::new(alloc)))
+    make(alloc, tree, path, Tree::File(at, Vec::new(alloc)))
 }
 
-/// `write`: the bytes laid over the file from the offset on; no bytes change nothing.
+/// `write` at a moment: the bytes laid over the file from the offset on; no bytes change nothing.
 pub fn write_file(
     alloc: Global,
     tree: &Tree,
     path: &Path,
     offset: u64,
     new: &Bytes,
+    at: u64,
 ) -> Result<Effect, NoMemory>
-    ensures { HasEffect result (tree_of tree.now) (written (tree_of tree.now) path.now offset new.now) }
+    ensures { HasEffect result (tree_of tree.now) (written at (tree_of tree.now) path.now offset new.now) }
 {
     match find(tree, path) {
         At::Missing => Ok(Effect::refused(Errno::ENOENT)),
         At::Blocked => Ok(Effect::refused(Errno::ENOTDIR)),
         At::Found(found) => match found {
-            Tree::Dir(_) => Ok(Effect::refused(Errno::EISDIR)),
-            Tree::File(bytes) => {
+            Tree::Dir(_, _) => Ok(Effect::refused(Errno::EISDIR)),
+            Tree::File(_, bytes) => {
                 if new.is_empty() {
                     return Ok(Effect::Kept(Reply::Count(0)));
                 }
@@ -97,7 +98,7 @@ pub fn write_file(
                     alloc,
                     tree,
                     path,
-                    Tree::File(laid),
+                    Tree::File(at, laid),
                     Reply::Count(new.len() as u64),
                 )
             }
@@ -105,21 +106,27 @@ pub fn write_file(
     }
 }
 
-/// `truncate`: the file cut to a length, or lengthened by zeros to it.
-pub fn truncate_file(alloc: Global, tree: &Tree, path: &Path, len: u64) -> Result<Effect, NoMemory>
-    ensures { HasEffect result (tree_of tree.now) (truncated (tree_of tree.now) path.now len) }
+/// `truncate` at a moment: the file cut to a length, or lengthened by zeros to it.
+pub fn truncate_file(
+    alloc: Global,
+    tree: &Tree,
+    path: &Path,
+    len: u64,
+    at: u64,
+) -> Result<Effect, NoMemory>
+    ensures { HasEffect result (tree_of tree.now) (truncated at (tree_of tree.now) path.now len) }
 {
     match find(tree, path) {
         At::Missing => Ok(Effect::refused(Errno::ENOENT)),
         At::Blocked => Ok(Effect::refused(Errno::ENOTDIR)),
         At::Found(found) => match found {
-            Tree::Dir(_) => Ok(Effect::refused(Errno::EISDIR)),
-            Tree::File(bytes) => {
+            Tree::Dir(_, _) => Ok(Effect::refused(Errno::EISDIR)),
+            Tree::File(_, bytes) => {
                 if len > GREATEST_FILE {
                     return Ok(Effect::refused(Errno::EFBIG));
                 }
                 let sized = copy_sized(alloc, bytes.as_slice(), len as usize)?;
-                put_at(alloc, tree, path, Tree::File(sized), Reply::Done)
+                put_at(alloc, tree, path, Tree::File(at, sized), Reply::Done)
             }
         },
     }

@@ -24,10 +24,10 @@ fn fault_of_replacing(from: &Tree, to: &At<'_>) -> Option<Errno>
         At::Missing => None,
         At::Blocked => None,
         At::Found(found) => match (from, *found) {
-            (Tree::File(_), Tree::File(_)) => None,
-            (Tree::File(_), Tree::Dir(_)) => Some(Errno::EISDIR),
-            (Tree::Dir(_), Tree::File(_)) => Some(Errno::ENOTDIR),
-            (Tree::Dir(_), Tree::Dir(entries)) => match **entries {
+            (Tree::File(_, _), Tree::File(_, _)) => None,
+            (Tree::File(_, _), Tree::Dir(_, _)) => Some(Errno::EISDIR),
+            (Tree::Dir(_, _), Tree::File(_, _)) => Some(Errno::ENOTDIR),
+            (Tree::Dir(_, _), Tree::Dir(_, entries)) => match **entries {
                 Entries::Nothing => None,
                 Entries::Entry(_, _, _) => Some(Errno::ENOTEMPTY),
             },
@@ -79,7 +79,7 @@ fn move_entry(
 }
 
 /// Whether the two paths are one.
-fn are_same(first: &Path, second: &Path) -> bool
+pub fn are_same(first: &Path, second: &Path) -> bool
     ensures { result ≡ same_path first.now second.now }
 {
     second.is_under(first) && first.is_under(second)

@@ -26,8 +26,8 @@ pub fn read_file(
         At::Missing => Ok(Reply::Fault(Errno::ENOENT)),
         At::Blocked => Ok(Reply::Fault(Errno::ENOTDIR)),
         At::Found(found) => match found {
-            Tree::Dir(_) => Ok(Reply::Fault(Errno::EISDIR)),
-            Tree::File(bytes) => {
+            Tree::Dir(_, _) => Ok(Reply::Fault(Errno::EISDIR)),
+            Tree::File(_, bytes) => {
                 if count > GREATEST_READ {
                     return Ok(Reply::Fault(Errno::EINVAL));
                 }
@@ -38,7 +38,7 @@ pub fn read_file(
     }
 }
 
-/// `stat`: whether a directory or a file stands there, and a file's length.
+/// `stat`: whether a directory or a file stands there, a file's length, and the moment.
 pub fn stat(tree: &Tree, path: &Path) -> Reply
     ensures { ◌≡◌ {A = Outcome} (tree_of tree.now, result) (asked (tree_of tree.now) path.now) }
 {
@@ -46,8 +46,8 @@ pub fn stat(tree: &Tree, path: &Path) -> Reply
         At::Missing => Reply::Fault(Errno::ENOENT),
         At::Blocked => Reply::Fault(Errno::ENOTDIR),
         At::Found(found) => match found {
-            Tree::Dir(_) => Reply::Stat(Kind::Dir, 0),
-            Tree::File(bytes) => Reply::Stat(Kind::File, bytes.len() as u64),
+            Tree::Dir(date, _) => Reply::Stat(Kind::Dir, 0, *date),
+            Tree::File(date, bytes) => Reply::Stat(Kind::File, bytes.len() as u64, *date),
         },
     }
 }
@@ -60,8 +60,8 @@ pub fn list_directory(alloc: Global, tree: &Tree, path: &Path) -> Result<Reply, 
         At::Missing => Ok(Reply::Fault(Errno::ENOENT)),
         At::Blocked => Ok(Reply::Fault(Errno::ENOTDIR)),
         At::Found(found) => match found {
-            Tree::File(_) => Ok(Reply::Fault(Errno::ENOTDIR)),
-            Tree::Dir(entries) => Ok(Reply::Names(list_entries(alloc, entries)?)),
+            Tree::File(_, _) => Ok(Reply::Fault(Errno::ENOTDIR)),
+            Tree::Dir(_, entries) => Ok(Reply::Names(list_entries(alloc, entries)?)),
         },
     }
 }

@@ -28,8 +28,8 @@ pub fn unlink(alloc: Global, tree: &Tree, path: &Path) -> Result<Effect, NoMemor
         At::Missing => Ok(Effect::refused(Errno::ENOENT)),
         At::Blocked => Ok(Effect::refused(Errno::ENOTDIR)),
         At::Found(found) => match found {
-            Tree::Dir(_) => Ok(Effect::refused(Errno::EPERM)),
-            Tree::File(_) => take_out_at(alloc, tree, path),
+            Tree::Dir(_, _) => Ok(Effect::refused(Errno::EPERM)),
+            Tree::File(_, _) => take_out_at(alloc, tree, path),
         },
     }
 }
@@ -45,8 +45,8 @@ fn fault_of_rmdir(tree: &Tree, path: &Path) -> Option<Errno>
         At::Missing => Some(Errno::ENOENT),
         At::Blocked => Some(Errno::ENOTDIR),
         At::Found(found) => match found {
-            Tree::File(_) => Some(Errno::ENOTDIR),
-            Tree::Dir(entries) => match **entries {
+            Tree::File(_, _) => Some(Errno::ENOTDIR),
+            Tree::Dir(_, entries) => match **entries {
                 Entries::Nothing => None,
                 Entries::Entry(_, _, _) => Some(Errno::ENOTEMPTY),
             },

@@ -4,7 +4,7 @@
 //! two are then read one for one, constructor by constructor, and each function below is the definition's
 //! recursion written in Rust.
 ghost use Rattle.std.specs.Prelude.{◌≡◌, IfOk};
-ghost use Rattle.reference.specs.Tree.{Dir, entry};
+ghost use Rattle.reference.specs.Tree.{Dir, entry, dated};
 ghost use Rattle.reference.specs.Calls.{kind_of};
 ghost use Rattle.reference.specs.Plain.{tree_of, entries_of};
 
@@ -12,14 +12,14 @@ use crate::reply::Kind;
 use pathkey::NoMemory;
 use std::alloc::Global;
 
-/// A directory of entries, or a file of bytes.
+/// A directory of entries, or a file of bytes, each with its moment of last change.
 #[derive(Drop)]
 #[cycle(tree)]
 pub enum Tree {
     /// A directory.
-    Dir(Box<Entries>),
+    Dir(u64, Box<Entries>),
     /// A file.
-    File(Vec<u8>),
+    File(u64, Vec<u8>),
 }
 
 /// The entries of a directory, in byte order of their names.
@@ -33,11 +33,11 @@ pub enum Entries {
 }
 
 impl Tree {
-    /// A directory of these entries.
-    pub fn directory(alloc: Global, entries: Entries) -> Result<Tree, NoMemory>
-        ensures { IfOk result (λ t. tree_of t ≡ Dir (entries_of entries)) }
+    /// A directory of these entries, with that moment.
+    pub fn directory(alloc: Global, date: u64, entries: Entries) -> Result<Tree, NoMemory>
+        ensures { IfOk result (λ t. tree_of t ≡ Dir date (entries_of entries)) }
     {
-        Ok(Tree::Dir(Box::new(alloc, entries)?))
+        Ok(Tree::Dir(date, Box::new(alloc, entries)?))
     }
 
     /// Whether the tree is a directory or a file.
@@ -45,8 +45,8 @@ impl Tree {
         ensures { result ≡ kind_of (tree_of self.now) }
     {
         match self {
-            Tree::Dir(_) => Kind::Dir,
-            Tree::File(_) => Kind::File,
+            Tree::Dir(_, _) => Kind::Dir,
+            Tree::File(_, _) => Kind::File,
         }
     }
 }
@@ -57,10 +57,10 @@ pub fn copy_tree(alloc: Global, tree: &Tree) -> Result<Tree, NoMemory>
     ensures { IfOk result (λ t. tree_of t ≡ tree_of tree.now) }
 {
     match tree {
-        Tree::File(bytes) => Ok(Tree::File(Vec::from_slice(alloc, bytes.as_slice())?)),
-        Tree::Dir(entries) => {
+        Tree::File(date, bytes) => Ok(Tree::File(*date, Vec::from_slice(alloc, bytes.as_slice())?)),
+        Tree::Dir(date, entries) => {
             let entries = copy_entries(alloc, entries)?;
-            Tree::directory(alloc, entries)
+            Tree::directory(alloc, *date, entries)
         }
     }
 }
@@ -76,6 +76,19 @@ pub fn copy_entries(alloc: Global, entries: &Entries) -> Result<Entries, NoMemor
             let tree = copy_tree(alloc, tree)?;
             let rest = copy_entries(alloc, rest)?;
             Entries::with_first(alloc, name.as_slice(), tree, rest)
+        }
+    }
+}
+
+/// An equal tree with another moment.
+pub fn copy_dated(alloc: Global, tree: &Tree, at: u64) -> Result<Tree, NoMemory>
+    ensures { IfOk result (λ t. tree_of t ≡ dated at (tree_of tree.now)) }
+{
+    match tree {
+        Tree::File(_, bytes) => Ok(Tree::File(at, Vec::from_slice(alloc, bytes.as_slice())?)),
+        Tree::Dir(_, entries) => {
+            let entries = copy_entries(alloc, entries)?;
+            Tree::directory(alloc, at, entries)
         }
     }
 }

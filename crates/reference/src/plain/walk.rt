@@ -27,8 +27,8 @@ pub fn step<'a>(at: At<'a>, name: &[u8]) -> At<'a>
         At::Missing => At::Missing,
         At::Blocked => At::Blocked,
         At::Found(tree) => match tree {
-            Tree::File(_) => At::Blocked,
-            Tree::Dir(entries) => match entry_named(entries, name) {
+            Tree::File(_, _) => At::Blocked,
+            Tree::Dir(_, entries) => match entry_named(entries, name) {
                 None => At::Missing,
                 Some(child) => At::Found(child),
             },
@@ -80,8 +80,8 @@ fn fault_of_directory(at: &At<'_>) -> Option<Errno>
 {
     match at {
         At::Found(tree) => match tree {
-            Tree::Dir(_) => None,
-            Tree::File(_) => Some(Errno::ENOTDIR),
+            Tree::Dir(_, _) => None,
+            Tree::File(_, _) => Some(Errno::ENOTDIR),
         },
         At::Missing => Some(Errno::ENOENT),
         At::Blocked => Some(Errno::ENOTDIR),

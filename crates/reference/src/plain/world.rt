@@ -26,11 +26,11 @@ pub struct World {
 }
 
 impl World {
-    /// An empty directory, and no snapshots.
+    /// An empty directory of moment 0, and no snapshots.
     pub fn new(alloc: Global) -> Result<World, NoMemory>
-        ensures { IfOk result (λ w. world_of w ≡ record { live = Dir nothing; snapshots = finite.empty }) }
+        ensures { IfOk result (λ w. world_of w ≡ record { live = Dir 0 nothing; snapshots = finite.empty }) }
     {
-        let live = Tree::directory(alloc, Entries::Nothing)?;
+        let live = Tree::directory(alloc, 0, Entries::Nothing)?;
         Ok(World {
             live,
             snapshots: BTreeMap::new(alloc),
@@ -65,12 +65,12 @@ impl World {
         self.snapshots.len()
     }
 
-    /// Does a file call on the live tree. Where memory is refused the world stays as it was.
-    pub fn call(&mut self, alloc: Global, call: &Call) -> Result<Reply, NoMemory>
-        ensures value { IfOk result (λ r. ◌≡◌ {A = Worlds × Answer} (world_of self.new, Replied r) (outcome (world_of self.old) (Ask call.now))) }
+    /// Does a file call at a moment on the live tree. Where memory is refused the world stays as it was.
+    pub fn call(&mut self, alloc: Global, call: &Call, at: u64) -> Result<Reply, NoMemory>
+        ensures value { IfOk result (λ r. ◌≡◌ {A = Worlds × Answer} (world_of self.new, Replied r) (outcome (world_of self.old) (Ask call.now at))) }
         ensures unchanged { OnErr result (world_of self.new ≡ world_of self.old) }
     {
-        does(alloc, &mut self.live, call)
+        does(alloc, &mut self.live, call, at)
     }
 
     // Keeps a copy of the live tree under the name.

@@ -8,7 +8,7 @@ use Rattle.byte_calls.specs.Upkeep.{Relieved, Relieves}
 use Rattle.byte_calls.proofs.upkeep.relieve.Goals as goal
 
 -- a step that was picked was tried
-tried : (o : Option Relief) (old new : PVolume) → is_some o ≡ not false → IfSome o (λ r. r.step.index ≡ busier old.live) → IfSome o (λ r. Stepped r.step r.reply old new) → Relieved old new
+tried : (o : Option Relief) (old new : PVolume) → is_some o ≡ not false → IfSome o (λ r. r.step.index ≡ busier old.live.indexes) → IfSome o (λ r. Stepped r.step r.reply old new) → Relieved old new
 tried None old new e i s = absurd (cc)
 tried (Some r) old new e i s = record { relief = r; index = i; stepped = s }
 

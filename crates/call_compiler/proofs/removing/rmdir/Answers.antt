@@ -1,17 +1,18 @@
-use Rattle.std.proofs.Common.{[], ◌∷◌, ap, ◌∙◌}
+use Rattle.std.proofs.Common.{arith, [], ◌∷◌, ap, ◌∙◌}
 use Rattle.message.specs.declared.msg.Msg.TheVariants.{Del}
 use Rattle.pathkey.specs.Keys.{Key}
-use Rattle.call_compiler.specs.Compiled.{messages}
+use Rattle.call_compiler.specs.Compiled.{messages, touches}
+use Rattle.reference.specs.Calls.{parent}
 use Rattle.call_compiler.proofs.Compiling.{if_ok_both, halves}
 use Rattle.call_compiler.proofs.Entries.{rmdir_is_refused, rmdir_is_done}
 use Rattle.call_compiler.proofs.removing.rmdir.Goals as goal
 
 pub returns-in-Some : goal.returns-in-Some
-returns-in-Some c = rmdir_is_refused c.args.indexes.now c.args.path.now c.refused.result.0 (messages c.refused.result.1)
+returns-in-Some c = rmdir_is_refused c.args.indexes.now c.args.path.now c.args.at c.refused.result.0 (messages c.refused.result.1)
     c.in_ok-fault.field-0 c.in_ok-fault.ensures c.in-Some.fault c.in-Some.is c.refused.ensures.reply c.refused.ensures.messages
 
 pub returns : goal.returns
-returns c = if_ok_both c.done.result _ _ _
-    (λ a reply sent. rmdir_is_done c.args.indexes.now c.args.path.now a.0 (messages a.1) c.in_ok-fault.field-0 c.in_ok-fault.ensures c.in_default.is c.key-key.ensures.valid reply
-    (sent ∙ halves _ _ _ _ (ap (λ (k : Key). Del k ∷ []) (c.in_ok-copy.ensures ∙ c.key-key.ensures.value)) c.new.ensures.items))
-    c.done.ensures.reply c.done.ensures.messages
+returns c = if_ok_both c.done_in_directory.result _ _ _
+    (λ a reply sent. rmdir_is_done c.args.indexes.now c.args.path.now c.args.at a.0 (messages a.1) c.in_ok-fault.field-0 c.in_ok-fault.ensures c.in_default.is (omega (arith, c.ranges.at.fits)) c.key-key.ensures.valid reply
+    (sent ∙ halves _ _ _ _ (ap (λ (k : Key). Del k ∷ touches c.args.at (parent c.args.path.now ∷ [])) (c.in_ok-copy.ensures ∙ c.key-key.ensures.value)) c.new.ensures.items))
+    c.done_in_directory.ensures.reply c.done_in_directory.ensures.messages

@@ -8,14 +8,14 @@ use Rattle.images.proofs.ImageBlocks.{lines_part}
 use Rattle.images.proofs.image.print_blocks.Goals as goal
 
 pub returns-in_err-rest-clause-err : goal.returns-in_err-rest-clause-err
-returns-in_err-rest-clause-err g c = λ t b is means there. on_err _ _ (lines_part _ _ b 0 (Appends-nil _))
+returns-in_err-rest-clause-err g c = λ t date b is means there. on_err _ _ (lines_part _ _ b 0 (Appends-nil _))
 
 pub returns-clause-ok : goal.returns-clause-ok
-returns-clause-ok g c = λ t b is means there.
-    c.print_rest-told.ensures.ok t c.args.path.now b is means there
+returns-clause-ok g c = λ t date b is means there.
+    c.print_rest-told.ensures.ok t c.args.path.now date b is means there
     (subst (λ (r : KeyRange). BeginsAt (blocks c.args.index.now) c.args.path.now 0 r) (sym c.in_ok-rest.ensures) (refl, λ r h. h))
 
 pub returns-clause-err : goal.returns-clause-err
-returns-clause-err g c = λ t b is means there.
-    c.print_rest-told.ensures.err t c.args.path.now b is means there
+returns-clause-err g c = λ t date b is means there.
+    c.print_rest-told.ensures.err t c.args.path.now date b is means there
     (subst (λ (r : KeyRange). BeginsAt (blocks c.args.index.now) c.args.path.now 0 r) (sym c.in_ok-rest.ensures) (refl, λ r h. h))

@@ -13,6 +13,6 @@ use Rattle.images.proofs.image.print_rest.Given as goal
 abbrev pub invariant-loop : goal.invariant-loop
 invariant-loop g l = record {
   ahead : AreAhead (blocks l.index) l.rest.lo l.rest.hi l.pieces.all l.pieces.pairs.items;
-  lines : (t : Tree) (p : List (List ℕ)) (b : List ℕ) → IsTree t → BlocksMean t (blocks l.index) → entry_at t p ≡ Found (File b) → BeginsAt (blocks l.index) p 0 l.fn.rest
+  lines : (t : Tree) (p : List (List ℕ)) (date : ℕ) (b : List ℕ) → IsTree t → BlocksMean t (blocks l.index) → entry_at t p ≡ Found (File date b) → BeginsAt (blocks l.index) p 0 l.fn.rest
       → (i : ℕ) × (i ≤ most_blocks) × BeginsAt (blocks l.index) p i l.rest × Appends (g.W.Write.contents l.fn.writer) (g.W.Write.contents l.writer) (block_lines b i);
 }

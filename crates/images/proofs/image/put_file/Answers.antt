@@ -1,18 +1,36 @@
-use Rattle.std.proofs.Common.{◌++◌, codes}
-use Rattle.reference.specs.Image.{path_text}
-use Rattle.lines.specs.Texts.{number_line}
+use Rattle.std.proofs.Common.{◌∷◌, ◌++◌, [], ℕ, List, decimal, subst}
+use Rattle.std.specs.Io.KnownBytes.{Appends}
+use Rattle.std.proofs.KnownBytes.{Appends-trans}
+use Rattle.reference.specs.Image.{file_letter, moment_text, path_text}
+use Rattle.images.specs.Image.{version_of}
+use Rattle.lines.specs.Parts.{AppendsPart}
 use Rattle.lines.proofs.Known.{on_err, part_after, part_before}
 use Rattle.images.proofs.image.put_file.Goals as goal
 
 pub returns-in_err-put-clause-err : goal.returns-in_err-put-clause-err
 returns-in_err-put-clause-err g c =
-    on_err _ _ (part_before _ _ (codes "f ") (path_text c.args.path.now ++ number_line (codes " ") c.args.len) c.in_err-put.ensures.err)
+    let v = version_of c.args.version in
+    let end : List ℕ = 32 ∷ (decimal c.args.len ++ (moment_text v c.args.modified ++ 10 ∷ [])) in
+    let part = subst (AppendsPart _ _) c.file_word.ensures c.in_err-put.ensures.err in
+    on_err _ _ (part_before _ _ (file_letter v ∷ 32 ∷ []) (path_text c.args.path.now ++ end) part)
 
 pub returns-in_err-put_path-clause-err : goal.returns-in_err-put_path-clause-err
 returns-in_err-put_path-clause-err g c =
-    on_err _ _ (part_after _ _ _ (codes "f ") _ c.in_ok-put.ensures.ok (part_before _ _ (path_text c.args.path.now) (number_line (codes " ") c.args.len) c.in_err-put_path.ensures.err))
+    let v = version_of c.args.version in
+    let end : List ℕ = 32 ∷ (decimal c.args.len ++ (moment_text v c.args.modified ++ 10 ∷ [])) in
+    let word = subst (Appends _ _) c.file_word.ensures c.in_ok-put.ensures.ok in
+    on_err _ _ (part_after _ _ _ (file_letter v ∷ 32 ∷ []) _ word (part_before _ _ (path_text c.args.path.now) end c.in_err-put_path.ensures.err))
 
-pub returns-in_err-put_number_line-clause-err : goal.returns-in_err-put_number_line-clause-err
-returns-in_err-put_number_line-clause-err g c =
-    on_err _ _ (part_after _ _ _ (codes "f ") _ c.in_ok-put.ensures.ok
-    (part_after _ _ _ (path_text c.args.path.now) (number_line (codes " ") c.args.len) c.in_ok-put_path.ensures.ok c.in_err-put_number_line.ensures.err))
+pub returns-in_err-put_len-clause-err : goal.returns-in_err-put_len-clause-err
+returns-in_err-put_len-clause-err g c =
+    let v = version_of c.args.version in
+    let end : List ℕ = 32 ∷ (decimal c.args.len ++ (moment_text v c.args.modified ++ 10 ∷ [])) in
+    let word = subst (Appends _ _) c.file_word.ensures c.in_ok-put.ensures.ok in
+    on_err _ _ (part_after _ _ _ (file_letter v ∷ 32 ∷ []) _ word (part_after _ _ _ (path_text c.args.path.now) end c.in_ok-put_path.ensures.ok c.in_err-put_len.ensures.err))
+
+pub returns-clause-ok : goal.returns-clause-ok
+returns-clause-ok g c =
+    let v = version_of c.args.version in
+    let end : List ℕ = 32 ∷ (decimal c.args.len ++ (moment_text v c.args.modified ++ 10 ∷ [])) in
+    let word = subst (Appends _ _) c.file_word.ensures c.in_ok-put.ensures.ok in
+    Appends-trans _ _ _ (file_letter v ∷ 32 ∷ []) _ word (Appends-trans _ _ _ (path_text c.args.path.now) end c.in_ok-put_path.ensures.ok c.in_ok-put_len.ensures.ok)

@@ -8,7 +8,7 @@ use Rattle.images.proofs.load.load_into.Goals as goal
 pub take_all-requires-clause-start : goal.take_all-requires-clause-start
 take_all-requires-clause-start g c =
     rw c.in-Ok-with_capacity.ensures.items
-    (nothing_read c.new-loading.result (subst (λ v. Means v (alone (Dir nothing))) (sym c.new-loading.ensures.volume) c.requires) c.new-loading.ensures.nothing.0 c.new-loading.ensures.nothing.1 c.new-loading.ensures.nothing.2 c.new-loading.ensures.nothing.3)
+    (nothing_read c.new-loading.result (subst (λ v. Means v (alone (Dir 0 nothing))) (sym c.new-loading.ensures.volume) c.requires) c.new-loading.ensures.nothing.0 c.new-loading.ensures.nothing.1 c.new-loading.ensures.nothing.2 c.new-loading.ensures.nothing.3 c.new-loading.ensures.nothing.4)
 
 pub returns-in-Err-clause-bad : goal.returns-in-Err-clause-bad
 returns-in-Err-clause-bad g c = λ n e. c.take_all.ensures.bad n (c.in-Err.is ∙ same_fault c.in-Err.fault n e)

@@ -1,6 +1,6 @@
 use Rattle.std.proofs.Common.{◌≡◌, ◌<◌, length, vec_capacity}
 use Rattle.std.specs.Io.KnownBytes.{Appends}
-use Rattle.shell.specs.Runs.{Leads}
+use Rattle.shell.specs.Runs.{Leads, Meant}
 use Rattle.shell.proofs.Reading.{Reads}
 use Rattle.shell.proofs.script.run_over.Given as goal
 
@@ -8,7 +8,7 @@ abbrev pub invariant-loop : goal.invariant-loop
 invariant-loop g l = record {
   room : 65536 < vec_capacity l.line;
   size : length l.piece ≡ length l.initial.piece;
-  went : Leads (g.S.Session.means l.initial.session) (g.S.Session.means l.session)
+  went : Leads (Meant (g.S.Session.means l.initial.session) l.initial.at) (Meant (g.S.Session.means l.session) l.at)
       (Reads (g.R.Read.remaining l.initial.reader) (g.R.Read.remaining l.reader) l.line.items)
       (Appends (g.W.Write.contents l.initial.writer) (g.W.Write.contents l.writer));
 }

@@ -1,11 +1,12 @@
 use Rattle.std.proofs.Common.{◌<◌, length, vec_capacity}
+use Rattle.shell.specs.Runs.{Meant}
 use Rattle.shell.proofs.Cutting.{TakesFront}
 use Rattle.shell.proofs.script.take_piece.Given as goal
 
 abbrev pub invariant-loop-end : goal.invariant-loop-end
 invariant-loop-end g l = record {
   room : 65536 < vec_capacity l.line;
-  takes : TakesFront (g.S.Session.means l.initial.session) (g.S.Session.means l.session) (g.W.Write.contents l.initial.writer) (g.W.Write.contents l.writer)
+  takes : TakesFront (Meant (g.S.Session.means l.initial.session) l.initial.at) (Meant (g.S.Session.means l.session) l.at) (g.W.Write.contents l.initial.writer) (g.W.Write.contents l.writer)
       l.piece l.rest l.initial.line.items l.line.items;
 }
 

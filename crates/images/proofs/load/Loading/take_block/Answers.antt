@@ -16,4 +16,4 @@ returns-clause-ok c = block_at c.args.self.now c.write_bytes.new.volume c.args.i
     (c.write_bytes.ensures (search rules))
 
 pub returns-clause-form : goal.returns-clause-form
-returns-clause-form c = counted_form _ _ _ (c.write_bytes.ensures (search rules))
+returns-clause-form c = counted_form _ _ _ _ (c.write_bytes.ensures (search rules))

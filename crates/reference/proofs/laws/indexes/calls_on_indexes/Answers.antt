@@ -1,5 +1,8 @@
-use Rattle.reference.proofs.IndexLaws.{mkdir_law, create_law, write_law, truncate_law, lengthen_law, unlink_law, rmdir_law, rmtree_law, rename_law}
+use Rattle.reference.proofs.IndexLaws.{touch_law, mkdir_law, create_law, write_law, truncate_law, lengthen_law, unlink_law, rmdir_law, rmtree_law, rename_law}
 use Rattle.reference.proofs.laws.indexes.calls_on_indexes.Goals as goal
+
+pub returns-clause-touch : goal.returns-clause-touch
+returns-clause-touch c = touch_law
 
 pub returns-clause-mkdir : goal.returns-clause-mkdir
 returns-clause-mkdir c = mkdir_law

@@ -1,5 +1,6 @@
 use Rattle.reference.proofs.CallTrees.{call_law, fault_law, reading_law}
 use Rattle.reference.proofs.NeverLacks.{never_lacks}
+use Rattle.reference.proofs.Touching.{done_law}
 use Rattle.reference.proofs.laws.trees.calls.Goals as goal
 
 pub returns-clause-trees : goal.returns-clause-trees
@@ -13,3 +14,6 @@ returns-clause-reading c = reading_law
 
 pub returns-clause-memory : goal.returns-clause-memory
 returns-clause-memory c = never_lacks
+
+pub returns-clause-done : goal.returns-clause-done
+returns-clause-done c = done_law

@@ -13,5 +13,5 @@ returns-in_default t c =
     ap (λ (x : PlainEntries). named c.args.name.now (entries_of x)) (sym c.deref-in-Some.ensures) ∙ sym c.entry_named.ensures ∙ ap tree_found c.in_default.is
     in
     IfOk-weaker c.copy_tree-in_default.result _ _ (λ x same.
-    same ∙ sym (edited_nowhere (tree_of c.args.tree.now) (entries_of c.in-Dir.entries.value) c.args.name.now c.in-Some.next.now c.in-Some.after c.args.rest (tree_given c.args.entry) (ap tree_of c.in-Dir.is) rest none))
+    same ∙ sym (edited_nowhere (tree_of c.args.tree.now) c.in-Dir.date (entries_of c.in-Dir.entries.value) c.args.name.now c.in-Some.next.now c.in-Some.after c.args.rest (tree_given c.args.entry) (ap tree_of c.in-Dir.is) rest none))
     c.copy_tree-in_default.ensures

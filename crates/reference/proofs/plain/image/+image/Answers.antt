@@ -1,7 +1,7 @@
 use Rattle.std.proofs.Common.{◌≡◌, List, ℕ, [], ◌∷◌, ◌++◌, sym, ap, ◌∙◌, subst}
 use Rattle.std.specs.Prelude.{OnOk, flat_map}
 use Rattle.reference.specs.Tree.{Tree, Entries, entry}
-use Rattle.reference.specs.Image.{path_text, lines, lines_of, percent}
+use Rattle.reference.specs.Image.{path_text, Second, lines, lines_of, percent}
 use Rattle.reference.specs.Plain.{tree_of, entries_of}
 use Rattle.reference.proofs.Images.{path_text_below, lines_of_more}
 use Rattle.reference.proofs.plain.image.+image.Goals as goal
@@ -22,13 +22,13 @@ put_entries-returns-in_ok-put_tree-in-Entry t c p h =
     ∙ ap (λ (s : List ℕ). s ++ 47 ∷ flat_map percent name) h
     ∙ sym (path_text_below p name)
     in
-    let first : mid ≡ out ++ lines (p ++ name ∷ []) held =
-    c.in_ok-put_tree-in-Entry.ensures (p ++ name ∷ []) text ∙ ap (λ x. out ++ lines (p ++ name ∷ []) (tree_of x)) c.deref.ensures
+    let first : mid ≡ out ++ lines Second (p ++ name ∷ []) held =
+    c.in_ok-put_tree-in-Entry.ensures (p ++ name ∷ []) text ∙ ap (λ x. out ++ lines Second (p ++ name ∷ []) (tree_of x)) c.deref.ensures
     in
-    let others : mid ++ lines_of p (entries_of c.deref-in-Entry.result.now) ≡ mid ++ lines_of p rest =
-    ap (λ es. mid ++ lines_of p (entries_of es)) c.deref-in-Entry.ensures
+    let others : mid ++ lines_of Second p (entries_of c.deref-in-Entry.result.now) ≡ mid ++ lines_of Second p rest =
+    ap (λ es. mid ++ lines_of Second p (entries_of es)) c.deref-in-Entry.ensures
     in
-    let all : mid ++ lines_of p (entries_of c.deref-in-Entry.result.now) ≡ out ++ lines_of p (entries_of c.args.entries.now) =
-    others ∙ lines_of_more out mid p name held rest first ∙ ap (λ (es : Entries). out ++ lines_of p es) (sym whole)
+    let all : mid ++ lines_of Second p (entries_of c.deref-in-Entry.result.now) ≡ out ++ lines_of Second p (entries_of c.args.entries.now) =
+    others ∙ lines_of_more Second out mid p name held rest first ∙ ap (λ (es : Entries). out ++ lines_of Second p es) (sym whole)
     in
     subst (λ (b : List ℕ). OnOk c.put_entries.result (c.put_entries.new.out.items ≡ b)) all (c.put_entries.ensures p h)

@@ -4,7 +4,7 @@ use Rattle.volume.specs.Typed.{Compiles}
 use Rattle.volume.proofs.volume.Volume.call.Goals as goal
 
 pub send-requires : goal.send-requires
-send-requires c = (c.args.call.now, subst (λ (i : Indexes). Compiles i c.args.call.now c.compile-compiled.result) c.indexes.ensures c.compile-compiled.ensures)
+send-requires c = (c.args.call.now, record { compiles = subst (λ (i : Indexes). Compiles i c.args.call.now c.args.at c.compile-compiled.result) c.indexes.ensures c.compile-compiled.ensures; root = c.touches_root.ensures })
 
 pub returns : goal.returns
-returns c = c.send.ensures.called c.args.call.now (subst (λ (i : Indexes). Compiles i c.args.call.now c.compile-compiled.result) c.indexes.ensures c.compile-compiled.ensures)
+returns c = c.send.ensures.called c.args.call.now (record { compiles = subst (λ (i : Indexes). Compiles i c.args.call.now c.args.at c.compile-compiled.result) c.indexes.ensures c.compile-compiled.ensures; root = c.touches_root.ensures })

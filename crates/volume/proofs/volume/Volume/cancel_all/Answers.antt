@@ -4,7 +4,7 @@ use Rattle.volume.proofs.volume.Volume.cancel_all.Goals as goal
 
 pub invariant_of-self : goal.invariant_of-self
 invariant_of-self c =
-    let old : PVolume = volume c.self.inside.live c.self.inside.snapshots in
+    let old : PVolume = volume c.self.inside.live c.self.inside.modified c.self.inside.snapshots in
     record {
       world = c.self.invariant.world;
       means = means_with old c.cancel_all.new.self c.cancel_all.ensures.indexes c.self.invariant.world c.self.invariant.means;

@@ -10,7 +10,7 @@ install-reply-requires c = subst (λ (v : PVolume). DoneFits c.args.done (live_o
 
 pub invariant_of-self : goal.invariant_of-self
 invariant_of-self c =
-    let old : PVolume = volume c.self.inside.live c.self.inside.snapshots in
+    let old : PVolume = volume c.self.inside.live c.self.inside.modified c.self.inside.snapshots in
     record {
       world = c.self.invariant.world;
       means = means_same old c.install-reply.new.self c.install-reply.ensures.values c.self.invariant.world c.self.invariant.means;
@@ -23,6 +23,6 @@ returns-clause-answers c = subst (λ (v : PVolume). AnswersInstalling c.args.don
 
 pub returns-clause-means : goal.returns-clause-means
 returns-clause-means c =
-    let old : PVolume = volume c.self.inside.live c.self.inside.snapshots in
-    subst (λ (v : PVolume). (w : World) → Means v w → Means (volume c.install-reply.new.self c.self.inside.snapshots) w) c.self.view_is
+    let old : PVolume = volume c.self.inside.live c.self.inside.modified c.self.inside.snapshots in
+    subst (λ (v : PVolume). (w : World) → Means v w → Means (volume c.install-reply.new.self c.self.inside.modified c.self.inside.snapshots) w) c.self.view_is
     (means_same old c.install-reply.new.self c.install-reply.ensures.values)

@@ -8,15 +8,15 @@ use Rattle.volume.proofs.Typing.{compiled_kind, looked, refusal}
 use Rattle.volume.proofs.volume.Volume.look.Goals as goal
 
 pub returns-in-Ok-clause-called : goal.returns-in-Ok-clause-called
-returns-in-Ok-clause-called c = λ k l h. looked k c.in-Ok.reply (messages c.in-Ok.field-0-1) c.args.self.now l (subst (Compiles c.args.self.now.live k) c.in-Ok.is h)
+returns-in-Ok-clause-called c = λ k at l h. looked k at c.in-Ok.reply (messages c.in-Ok.field-0-1) c.args.self.now l (subst (Compiles c.args.self.now.live.indexes k at) c.in-Ok.is h)
 
 pub returns-in-Ok-clause-kind : goal.returns-in-Ok-clause-kind
-returns-in-Ok-clause-kind c = λ k h.
-    compiled_kind k c.in-Ok.reply (messages c.in-Ok.field-0-1) c.args.self.now.live c.means_a_world.ensures.world.live c.means_a_world.ensures.means.live
-    (subst (Compiles c.args.self.now.live k) c.in-Ok.is h)
+returns-in-Ok-clause-kind c = λ k at h.
+    compiled_kind k at c.in-Ok.reply (messages c.in-Ok.field-0-1) c.args.self.now.live.indexes c.means_a_world.ensures.world.live c.means_a_world.ensures.means.live.indexes
+    (subst (Compiles c.args.self.now.live.indexes k at) c.in-Ok.is h)
 
 pub returns-clause-called : goal.returns-clause-called
-returns-clause-called c = λ k l h. lacks_call c.args.self.now k (live_of c.args.self.now) refl
+returns-clause-called c = λ k at l h. lacks_call c.args.self.now k at (live_of c.args.self.now) refl
 
 pub returns-clause-kind : goal.returns-clause-kind
-returns-clause-kind c = λ k h. refusal k ENOMEM
+returns-clause-kind c = λ k at h. refusal k ENOMEM

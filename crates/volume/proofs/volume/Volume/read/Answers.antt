@@ -7,9 +7,9 @@ use Rattle.volume.specs.Typed.{Compiles}
 use Rattle.volume.proofs.volume.Volume.read.Goals as goal
 
 pub data-requires : goal.data-requires
-data-requires c = c.look.ensures.kind (Read c.args.path.now c.args.offset c.args.count) (subst (λ (i : Indexes). Compiles i (Read c.args.path.now c.args.offset c.args.count) c.read-compiled.result) c.indexes.ensures c.read-compiled.ensures)
+data-requires c = c.look.ensures.kind (Read c.args.path.now c.args.offset c.args.count) 0 (subst (λ (i : Indexes). Compiles i (Read c.args.path.now c.args.offset c.args.count) 0 c.read-compiled.result) c.indexes.ensures (c.read-compiled.ensures 0))
 
 pub returns : goal.returns
-returns c =
-    subst (λ (r : Reply). Called (Read c.args.path.now c.args.offset c.args.count) r c.args.self.now c.args.self.now) (sym c.data.ensures)
-    (c.look.ensures.called (Read c.args.path.now c.args.offset c.args.count) tt (subst (λ (i : Indexes). Compiles i (Read c.args.path.now c.args.offset c.args.count) c.read-compiled.result) c.indexes.ensures c.read-compiled.ensures))
+returns c = λ at.
+    subst (λ (r : Reply). Called (Read c.args.path.now c.args.offset c.args.count) at r c.args.self.now c.args.self.now) (sym c.data.ensures)
+    (c.look.ensures.called (Read c.args.path.now c.args.offset c.args.count) at tt (subst (λ (i : Indexes). Compiles i (Read c.args.path.now c.args.offset c.args.count) at c.read-compiled.result) c.indexes.ensures (c.read-compiled.ensures at)))

@@ -7,9 +7,9 @@ use Rattle.volume.specs.Typed.{Compiles}
 use Rattle.volume.proofs.volume.Volume.readdir.Goals as goal
 
 pub names-requires : goal.names-requires
-names-requires c = c.look.ensures.kind (Readdir c.args.path.now) (subst (λ (i : Indexes). Compiles i (Readdir c.args.path.now) c.readdir-compiled.result) c.indexes.ensures c.readdir-compiled.ensures)
+names-requires c = c.look.ensures.kind (Readdir c.args.path.now) 0 (subst (λ (i : Indexes). Compiles i (Readdir c.args.path.now) 0 c.readdir-compiled.result) c.indexes.ensures (c.readdir-compiled.ensures 0))
 
 pub returns : goal.returns
-returns c =
-    subst (λ (r : Reply). Called (Readdir c.args.path.now) r c.args.self.now c.args.self.now) (sym c.names.ensures)
-    (c.look.ensures.called (Readdir c.args.path.now) tt (subst (λ (i : Indexes). Compiles i (Readdir c.args.path.now) c.readdir-compiled.result) c.indexes.ensures c.readdir-compiled.ensures))
+returns c = λ at.
+    subst (λ (r : Reply). Called (Readdir c.args.path.now) at r c.args.self.now c.args.self.now) (sym c.names.ensures)
+    (c.look.ensures.called (Readdir c.args.path.now) at tt (subst (λ (i : Indexes). Compiles i (Readdir c.args.path.now) at c.readdir-compiled.result) c.indexes.ensures (c.readdir-compiled.ensures at)))

@@ -9,7 +9,7 @@ use Rattle.volume.proofs.volume.Volume.relieve.Goals as goal
 
 pub invariant_of-self : goal.invariant_of-self
 invariant_of-self c =
-    let old : PVolume = volume c.self.inside.live c.self.inside.snapshots in
+    let old : PVolume = volume c.self.inside.live c.self.inside.modified c.self.inside.snapshots in
     let r : Option Relief = c.relieve-relief.result in
     record {
       world = c.self.invariant.world;
@@ -20,13 +20,13 @@ invariant_of-self c =
 
 pub returns-clause-stepped : goal.returns-clause-stepped
 returns-clause-stepped c =
-    let old : PVolume = volume c.self.inside.live c.self.inside.snapshots in
+    let old : PVolume = volume c.self.inside.live c.self.inside.modified c.self.inside.snapshots in
     let r : Option Relief = c.relieve-relief.result in
-    subst (λ (v : PVolume). IfSome r (λ t. Stepped t.step t.reply v (volume c.relieve-relief.new.self c.self.inside.snapshots))) c.self.view_is (relieved old r c.relieve-relief.new.self c.relieve-relief.ensures.stepped)
+    subst (λ (v : PVolume). IfSome r (λ t. Stepped t.step t.reply v (volume c.relieve-relief.new.self c.self.inside.modified c.self.inside.snapshots))) c.self.view_is (relieved old r c.relieve-relief.new.self c.relieve-relief.ensures.stepped)
 
 pub returns-clause-means : goal.returns-clause-means
 returns-clause-means c =
-    let old : PVolume = volume c.self.inside.live c.self.inside.snapshots in
+    let old : PVolume = volume c.self.inside.live c.self.inside.modified c.self.inside.snapshots in
     let r : Option Relief = c.relieve-relief.result in
-    subst (λ (v : PVolume). (w : World) → Means v w → Means (volume c.relieve-relief.new.self c.self.inside.snapshots) w) c.self.view_is
+    subst (λ (v : PVolume). (w : World) → Means v w → Means (volume c.relieve-relief.new.self c.self.inside.modified c.self.inside.snapshots) w) c.self.view_is
     (relief_keeps old r c.relieve-relief.new.self c.relieve-relief.ensures.stepped c.relieve-relief.ensures.unchanged)

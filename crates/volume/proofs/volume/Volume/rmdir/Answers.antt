@@ -7,12 +7,12 @@ use Rattle.volume.specs.Typed.{Compiles}
 use Rattle.volume.proofs.volume.Volume.rmdir.Goals as goal
 
 pub send-requires : goal.send-requires
-send-requires c = (Rmdir c.args.path.now, subst (λ (i : Indexes). Compiles i (Rmdir c.args.path.now) c.rmdir-compiled.result) c.indexes.ensures c.rmdir-compiled.ensures)
+send-requires c = (Rmdir c.args.path.now, record { compiles = subst (λ (i : Indexes). Compiles i (Rmdir c.args.path.now) c.args.at c.rmdir-compiled.result) c.indexes.ensures c.rmdir-compiled.ensures; root = c.stands_in_root.ensures })
 
 pub settled-requires : goal.settled-requires
-settled-requires c = c.send.ensures.kind (Rmdir c.args.path.now) (subst (λ (i : Indexes). Compiles i (Rmdir c.args.path.now) c.rmdir-compiled.result) c.indexes.ensures c.rmdir-compiled.ensures)
+settled-requires c = c.send.ensures.kind (Rmdir c.args.path.now) (subst (λ (i : Indexes). Compiles i (Rmdir c.args.path.now) c.args.at c.rmdir-compiled.result) c.indexes.ensures c.rmdir-compiled.ensures)
 
 pub returns : goal.returns
 returns c =
-    subst (λ (r : Reply). Called (Rmdir c.args.path.now) r c.args.self.now c.send.new.self) (sym c.settled.ensures)
-    (c.send.ensures.called (Rmdir c.args.path.now) (subst (λ (i : Indexes). Compiles i (Rmdir c.args.path.now) c.rmdir-compiled.result) c.indexes.ensures c.rmdir-compiled.ensures))
+    subst (λ (r : Reply). Called (Rmdir c.args.path.now) c.args.at r c.args.self.now c.send.new.self) (sym c.settled.ensures)
+    (c.send.ensures.called (Rmdir c.args.path.now) (record { compiles = subst (λ (i : Indexes). Compiles i (Rmdir c.args.path.now) c.args.at c.rmdir-compiled.result) c.indexes.ensures c.rmdir-compiled.ensures; root = c.stands_in_root.ensures }))

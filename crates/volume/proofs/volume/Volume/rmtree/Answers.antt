@@ -7,12 +7,12 @@ use Rattle.volume.specs.Typed.{Compiles}
 use Rattle.volume.proofs.volume.Volume.rmtree.Goals as goal
 
 pub send-requires : goal.send-requires
-send-requires c = (Rmtree c.args.path.now, subst (λ (i : Indexes). Compiles i (Rmtree c.args.path.now) c.rmtree-compiled.result) c.indexes.ensures c.rmtree-compiled.ensures)
+send-requires c = (Rmtree c.args.path.now, record { compiles = subst (λ (i : Indexes). Compiles i (Rmtree c.args.path.now) c.args.at c.rmtree-compiled.result) c.indexes.ensures c.rmtree-compiled.ensures; root = c.stands_in_root.ensures })
 
 pub settled-requires : goal.settled-requires
-settled-requires c = c.send.ensures.kind (Rmtree c.args.path.now) (subst (λ (i : Indexes). Compiles i (Rmtree c.args.path.now) c.rmtree-compiled.result) c.indexes.ensures c.rmtree-compiled.ensures)
+settled-requires c = c.send.ensures.kind (Rmtree c.args.path.now) (subst (λ (i : Indexes). Compiles i (Rmtree c.args.path.now) c.args.at c.rmtree-compiled.result) c.indexes.ensures c.rmtree-compiled.ensures)
 
 pub returns : goal.returns
 returns c =
-    subst (λ (r : Reply). Called (Rmtree c.args.path.now) r c.args.self.now c.send.new.self) (sym c.settled.ensures)
-    (c.send.ensures.called (Rmtree c.args.path.now) (subst (λ (i : Indexes). Compiles i (Rmtree c.args.path.now) c.rmtree-compiled.result) c.indexes.ensures c.rmtree-compiled.ensures))
+    subst (λ (r : Reply). Called (Rmtree c.args.path.now) c.args.at r c.args.self.now c.send.new.self) (sym c.settled.ensures)
+    (c.send.ensures.called (Rmtree c.args.path.now) (record { compiles = subst (λ (i : Indexes). Compiles i (Rmtree c.args.path.now) c.args.at c.rmtree-compiled.result) c.indexes.ensures c.rmtree-compiled.ensures; root = c.stands_in_root.ensures }))

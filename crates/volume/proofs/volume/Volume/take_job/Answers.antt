@@ -7,7 +7,7 @@ use Rattle.volume.proofs.volume.Volume.take_job.Goals as goal
 
 pub invariant_of-self : goal.invariant_of-self
 invariant_of-self c =
-    let old : PVolume = volume c.self.inside.live c.self.inside.snapshots in
+    let old : PVolume = volume c.self.inside.live c.self.inside.modified c.self.inside.snapshots in
     record {
       world = c.self.invariant.world;
       means = taken_means old c.args.index c.args.slot c.take_job-reply.result c.take_job-reply.new.self c.take_job-reply.ensures c.self.invariant.world c.self.invariant.means;
@@ -20,6 +20,6 @@ returns-clause-answers c = subst (λ (v : PVolume). AnswersTaking c.args.index c
 
 pub returns-clause-means : goal.returns-clause-means
 returns-clause-means c =
-    let old : PVolume = volume c.self.inside.live c.self.inside.snapshots in
-    subst (λ (v : PVolume). (w : World) → Means v w → Means (volume c.take_job-reply.new.self c.self.inside.snapshots) w) c.self.view_is
+    let old : PVolume = volume c.self.inside.live c.self.inside.modified c.self.inside.snapshots in
+    subst (λ (v : PVolume). (w : World) → Means v w → Means (volume c.take_job-reply.new.self c.self.inside.modified c.self.inside.snapshots) w) c.self.view_is
     (taken_means old c.args.index c.args.slot c.take_job-reply.result c.take_job-reply.new.self c.take_job-reply.ensures)

@@ -1,4 +1,4 @@
-use Rattle.std.proofs.Common.{sym, subst}
+use Rattle.std.proofs.Common.{refl, sym, subst}
 use Rattle.call_compiler.specs.declared.indexes.Indexes.{Indexes}
 use Rattle.reference.specs.declared.call.Call.TheVariants.{Truncate}
 use Rattle.reference.specs.declared.reply.Reply.{Reply}
@@ -7,12 +7,12 @@ use Rattle.volume.specs.Typed.{Compiles}
 use Rattle.volume.proofs.volume.Volume.truncate.Goals as goal
 
 pub send-requires : goal.send-requires
-send-requires c = (Truncate c.args.path.now c.args.length, subst (λ (i : Indexes). Compiles i (Truncate c.args.path.now c.args.length) c.truncate-compiled.result) c.indexes.ensures c.truncate-compiled.ensures)
+send-requires c = (Truncate c.args.path.now c.args.length, record { compiles = subst (λ (i : Indexes). Compiles i (Truncate c.args.path.now c.args.length) c.args.at c.truncate-compiled.result) c.indexes.ensures c.truncate-compiled.ensures; root = refl })
 
 pub settled-requires : goal.settled-requires
-settled-requires c = c.send.ensures.kind (Truncate c.args.path.now c.args.length) (subst (λ (i : Indexes). Compiles i (Truncate c.args.path.now c.args.length) c.truncate-compiled.result) c.indexes.ensures c.truncate-compiled.ensures)
+settled-requires c = c.send.ensures.kind (Truncate c.args.path.now c.args.length) (subst (λ (i : Indexes). Compiles i (Truncate c.args.path.now c.args.length) c.args.at c.truncate-compiled.result) c.indexes.ensures c.truncate-compiled.ensures)
 
 pub returns : goal.returns
 returns c =
-    subst (λ (r : Reply). Called (Truncate c.args.path.now c.args.length) r c.args.self.now c.send.new.self) (sym c.settled.ensures)
-    (c.send.ensures.called (Truncate c.args.path.now c.args.length) (subst (λ (i : Indexes). Compiles i (Truncate c.args.path.now c.args.length) c.truncate-compiled.result) c.indexes.ensures c.truncate-compiled.ensures))
+    subst (λ (r : Reply). Called (Truncate c.args.path.now c.args.length) c.args.at r c.args.self.now c.send.new.self) (sym c.settled.ensures)
+    (c.send.ensures.called (Truncate c.args.path.now c.args.length) (record { compiles = subst (λ (i : Indexes). Compiles i (Truncate c.args.path.now c.args.length) c.args.at c.truncate-compiled.result) c.indexes.ensures c.truncate-compiled.ensures; root = refl }))

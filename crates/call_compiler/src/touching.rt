@@ -1,0 +1,110 @@
+//! The moments of directories: the messages that set them, and whether the root gets one.
+ghost use Rattle.std.specs.Prelude.{◌≡◌, ◌∷◌, [], ◌++◌, IfOk, OnOk};
+ghost use Rattle.std.specs.List.{list_any};
+ghost use Rattle.call_compiler.specs.Compiled.{touches, touches_root};
+ghost use Rattle.reference.specs.Calls.{is_root, once, parent, same_path};
+
+use message::Msg;
+use meta_index::MetaUpdate;
+use pathkey::{NoMemory, Path};
+use reference::Call;
+use std::alloc::Global;
+
+/// Whether the two paths are one.
+pub(crate) fn are_same(first: &Path, second: &Path) -> bool
+    ensures { result ≡ same_path first.now second.now }
+{
+    second.is_under(first) && first.is_under(second)
+}
+
+/// The directory of a path; the root is its own.
+fn directory_of(alloc: Global, path: &Path) -> Result<Path, NoMemory>
+    ensures { IfOk result (λ p. p ≡ parent path.now) }
+{
+    match path.parent(alloc)? {
+        Some(directory) => Ok(directory),
+        None => Ok(Path::root(alloc)),
+    }
+}
+
+/// Puts the message that sets the moment at the path behind the others.
+fn touch(
+    alloc: Global,
+    msgs: &mut Vec<Msg<MetaUpdate>>,
+    path: &Path,
+    at: u64,
+) -> Result<(), NoMemory>
+    ensures { OnOk result (msgs.new.items ≡ msgs.old.items ++ touches at (path.now ∷ [])) }
+{
+    let key = path.key().copy(alloc)?;
+    msgs.push(Msg::Edit(key, MetaUpdate::Touch(at)))?;
+    Ok(())
+}
+
+/// Puts the message that sets the moment of the path's directory behind the others.
+pub(crate) fn touch_directory(
+    alloc: Global,
+    msgs: &mut Vec<Msg<MetaUpdate>>,
+    path: &Path,
+    at: u64,
+) -> Result<(), NoMemory>
+    ensures { OnOk result (msgs.new.items ≡ msgs.old.items ++ touches at (parent path.now ∷ [])) }
+{
+    let directory = directory_of(alloc, path)?;
+    touch(alloc, msgs, &directory, at)
+}
+
+/// Puts those for the directories of two paths behind the others, one where they are one.
+pub(crate) fn touch_directories(
+    alloc: Global,
+    msgs: &mut Vec<Msg<MetaUpdate>>,
+    old: &Path,
+    new: &Path,
+    at: u64,
+) -> Result<(), NoMemory>
+    ensures { OnOk result (msgs.new.items ≡ msgs.old.items ++ touches at (once (parent old.now) (parent new.now))) }
+{
+    let from = directory_of(alloc, old)?;
+    let to = directory_of(alloc, new)?;
+    touch(alloc, msgs, &from, at)?;
+    if are_same(&from, &to) {
+        return Ok(());
+    }
+    touch(alloc, msgs, &to, at)
+}
+
+/// Whether the call, where it is done, gives the root its moment: it puts or takes out an entry of it. It takes no memory.
+pub fn touches_root(call: &Call) -> bool
+    ensures { result ≡ touches_root call.now }
+{
+    match call {
+        Call::Mkdir(path)
+        | Call::Create(path)
+        | Call::Unlink(path)
+        | Call::Rmdir(path)
+        | Call::Rmtree(path) => stands_in_root(path),
+        Call::Rename(old, new) => moves_in_root(old, new),
+        Call::Write(_, _, _)
+        | Call::Truncate(_, _)
+        | Call::Read(_, _, _)
+        | Call::Stat(_)
+        | Call::Readdir(_) => false,
+    }
+}
+
+/// Whether a call that puts or takes out the path's entry gives the root its moment. It takes no memory.
+pub fn stands_in_root(path: &Path) -> bool
+    ensures { result ≡ list_any is_root (parent path.now ∷ []) }
+{
+    let Some((_, rest)) = path.names().split_first() else {
+        return true;
+    };
+    rest.split_first().is_none()
+}
+
+/// Whether a rename gives the root its moment. It takes no memory.
+pub fn moves_in_root(old: &Path, new: &Path) -> bool
+    ensures { result ≡ touches_root (Call.Rename old.now new.now) }
+{
+    !are_same(old, new) && (stands_in_root(old) || stands_in_root(new))
+}
