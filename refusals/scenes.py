@@ -49,6 +49,8 @@ WITH_BLOCKS = (*WITH_FILES, "create /b", *(f"write /b {number * 4_096} {number +
 REST = ("stat /",)
 # The same with a tree of the blocks of two levels, of which jobs can be taken; and with leaves of blocks that are nearly empty.
 WITH_SETTLED_BLOCKS = (*WITH_BLOCKS, *REST * 300)
+# A covered subtree waits.
+WITH_COVERED = (*WITH_SETTLED_BLOCKS, "rmtree /e")
 WITH_DEEP_BLOCKS = (*WITH_SETTLED_BLOCKS, *(f"write /b {number * 4_096} 61" for number in range(120)))
 WITH_FEW_BLOCKS = (*WITH_SETTLED_BLOCKS, "truncate /b 1", *REST * 3)
 # Four names of the greatest length below one another.
@@ -166,19 +168,18 @@ SCRIPT = (
 STEPS = (
     ("meta", "flush_inner", WITH_BLOCKS, "-", "0"),
     ("block", "flush_inner", WITH_DEEP_BLOCKS, "-", "0"),
-    ("block", "flush_leaf", WITH_BLOCKS, "-", "0"),
+    ("block", "flush_leaf", WITH_BLOCKS, "2", "1"),
     ("meta", "split_inner", WITH_BLOCKS, "-", "1"),
-    ("block", "merge_leaves", WITH_FEW_BLOCKS, "-", "0"),
-    ("meta", "merge_inner", WITH_BLOCKS, "00", "0"),
+    ("block", "merge_leaves", WITH_FEW_BLOCKS, "000", "0"),
+    ("meta", "merge_inner", WITH_BLOCKS, "0", "0"),
     ("meta", "root_up", WITH_BLOCKS, "-", "0"),
     ("block", "root_up", WITH_SETTLED_BLOCKS, "-", "0"),
     ("meta", "root_down", WITH_BLOCKS, "-", "0"),
     ("block", "root_down", WITH_DEEP_BLOCKS, "-", "0"),
-    ("meta", "drop_covered", WITH_BLOCKS, "1", "0"),
-    ("block", "drop_covered", WITH_FEW_BLOCKS, "-", "1"),
+    ("meta", "drop_covered", WITH_COVERED, "-", "1"),
 )
 # The same of a tree that shares its nodes.
-TREE_STEPS = (("flush_inner", "1", "0"), ("split_inner", "-", "1"), ("merge_inner", "12", "0"), ("root_up", "-", "0"), ("drop_covered", "1", "0"))
+TREE_STEPS = (("flush_inner", "-", "0"), ("split_inner", "-", "1"), ("merge_inner", "0", "0"), ("root_up", "-", "0"))
 # A script of 200 lines with one line of answer each, for a whole run.
 WHOLE = tuple(
     line
@@ -266,7 +267,8 @@ def steps():
             yield Scene("steps", ("step", index, kind, "-", "200"), WITH_BLOCKS, free=True, wanted="not there")
     for kind, at, slot in TREE_STEPS:
         yield Scene("trees", ("tree", "step", kind, at, slot), WITH_BLOCKS, wanted="did")
-    yield Scene("steps", ("relieve",), WITH_FILES, wanted="no room")
+    yield Scene("trees", ("tree", "step", "drop_covered", "-", "1"), WITH_COVERED, wanted="did")
+    yield Scene("steps", ("relieve",), WITH_FILES, wanted="did")
     yield Scene("steps", ("relieve",), WITH_BLOCKS, wanted="did")
     for name in ("append", "share", "relieve"):
         yield Scene("trees", ("tree", name), WITH_FILES)
