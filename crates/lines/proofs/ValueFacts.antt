@@ -1,19 +1,19 @@
 -- Words that write numbers and bytes.
-use Rattle.std.proofs.Common.{◌≡◌, ℕ, ◌%◌, ◌^◌, ◌<◌, nat_lt, List, [], ◌∷◌, length, ◌==◌, true, false, Bool, cond, refl, sym, ap, inl, inr, arith, rules, codes, get_or, Some, Result, Ok, Err}
+use Rattle.std.proofs.Common.{◌≡◌, ℕ, ◌%◌, ◌^◌, ◌<◌, nat_lt, List, [], ◌∷◌, length, ◌==◌, true, false, Bool, cond, refl, ap, inl, inr, arith, rules, codes, get_or, Some, Result, Ok, Err}
 use Rattle.std.specs.Prelude.{bytes_eq, is_some}
 use Rattle.std.specs.List.{list_all}
 use Rattle.std.specs.Char.{is_ascii_digit, is_ascii_hexdigit}
 use Rattle.std.specs.Result.{OkIff, result_ok}
 use Rattle.std.specs.Str.{IsAscii, IsUtf8}
 use Rattle.std.specs.Str.Parse.{ParsesUnsigned, digits_value}
-use Rattle.std.proofs.lemmas.Bool.{and_parts, cases_lt, lt-ltb, le-ltb, false≢true, eqb-true}
-use Rattle.std.proofs.lemmas.List.Sums.{AllPass-from_list_all}
+use Rattle.std.proofs.lemmas.Bool.{and_parts, and_from, cases_lt, lt-ltb, le-ltb, false≢true, eqb-true}
+use Rattle.std.proofs.lemmas.List.Sums.{AllPass-from_list_all, list_all-from_AllPass}
 use Rattle.std.proofs.lemmas.Str.{IsUtf8-from_ascii}
 use Rattle.std.proofs.lemmas.Str.Ascii.{IsAscii-nil, IsAscii-cons}
 use Rattle.std.proofs.lemmas.Str.Parse.{IsNumeralModel, numerals_by_value, parse_digits}
 use Rattle.std.proofs.lemmas.Bool.Decides.{nat_tests}
 use Rattle.hex.specs.Hex.{decode_of, is_hex_digit}
-use Rattle.hex.proofs.HexLemmas.{decode_of-digits}
+use Rattle.hex.proofs.HexLemmas.{decode_of-digits, decode_of-ok}
 use Rattle.lines.specs.Values.{bytes_of, is_decimal, is_hex, number_of}
 
 -- ---- numbers
@@ -80,7 +80,24 @@ hex_decodes word h =
     let (bytes, is) = decode_of-digits word even (λ k d lt. hex_digit (get_or word k d) (digits k d lt)) in
     rw is refl
 
--- whether a word writes bytes
-pub writes : (word : List ℕ) (b : Bool) → is_hex word ≡ b → bytes_eq word (codes "-") ≡ false → b ≡ is_some (bytes_of word)
-writes word true is other = rw (other, is) (sym (hex_decodes word is))
-writes word false is other = rw (other, is) refl
+hex_digit_of : (c : ℕ) → is_hex_digit c ≡ true → is_ascii_hexdigit c ≡ true
+hex_digit_of c h = grind (arith, nat_tests)
+
+-- a word that decodes is digits, and not none of them where it has bytes
+pub decoded_is_hex : (word bytes : List ℕ) → 0 < length word → decode_of word ≡ Ok bytes → is_hex word ≡ true
+decoded_is_hex word bytes some is =
+    let ok = decode_of-ok word bytes is in
+    let even : (length word % 2 == 0) ≡ true = rw ok.0 refl in
+    let digits = list_all-from_AllPass is_ascii_hexdigit word (λ k d lt. hex_digit_of (get_or word k d) (ok.1 k d lt)) in
+    and_from _ _ (and_from _ _ (lt-ltb _ _ some) even) digits
+
+-- the bytes of a word that decodes
+pub bytes_decoded : (word bytes : List ℕ) → bytes_eq word (codes "-") ≡ false → 0 < length word → decode_of word ≡ Ok bytes → Some bytes ≡ bytes_of word
+bytes_decoded word bytes other some is = rw (other, decoded_is_hex word bytes some is, is) refl
+
+pub has_bytes : (word bytes : List ℕ) → Some bytes ≡ bytes_of word → is_some (bytes_of word) ≡ true
+has_bytes word bytes is = rw (← is) refl
+
+-- a word of digits writes bytes
+pub writes : (word : List ℕ) → bytes_eq word (codes "-") ≡ false → is_hex word ≡ true → is_some (bytes_of word) ≡ true
+writes word other is = rw (other, is) (hex_decodes word is)

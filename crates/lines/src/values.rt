@@ -1,11 +1,12 @@
 //! Numbers, bytes and paths as words of a line.
-ghost use Rattle.std.specs.Prelude.{◌≡◌, ◌⊎◌, Err, IsTrue, IfOk, Some, is_some};
+ghost use Rattle.std.specs.Prelude.{◌≡◌, ◌⊎◌, Err, IsTrue, IfOk, OnErr, is_some};
 ghost use Rattle.std.specs.List.{list_all};
 ghost use Rattle.std.specs.Char.{is_ascii_digit, is_ascii_hexdigit};
 ghost use Rattle.lines.specs.Values.{bytes_of, is_decimal, is_hex, number_of, path_of};
 ghost use Rattle.pathkey.specs.declared.errno.Errno.TheVariants.{ENOMEM};
 
 use bytes::Bytes;
+use hex::FromHexError;
 use pathkey::{Errno, NoMemory, Path};
 use percent_encoding::percent_decode;
 use std::alloc::Global;
@@ -41,13 +42,6 @@ fn has_digits(word: &[u8]) -> bool
     word.iter().all(|byte| byte.is_ascii_digit())
 }
 
-/// Whether a word writes bytes in hexadecimal: an even number of digits, and not none, or a dash for no bytes.
-pub fn writes_bytes(word: &[u8]) -> bool
-    ensures { result ≡ is_some (bytes_of word.now) }
-{
-    word == b"-".as_slice() || is_hex(word)
-}
-
 // Whether a word is an even number of hexadecimal digits, and not none.
 fn is_hex(word: &[u8]) -> bool
     ensures { result ≡ is_hex word.now }
@@ -62,27 +56,31 @@ fn has_hex_digits(word: &[u8]) -> bool
     word.iter().all(|byte| byte.is_ascii_hexdigit())
 }
 
-/// The bytes that such a word writes. It fails only for want of memory.
-pub fn read_bytes(alloc: Global, word: &[u8]) -> Result<Bytes, NoMemory>
-    requires { IsTrue (is_some (bytes_of word.now)) }
-    ensures { IfOk result (λ bytes. bytes_of word.now ≡ Some bytes) }
+/// The bytes that a word writes in hexadecimal: an even number of digits, and not none, or a dash for no bytes. None where it
+/// writes none. It fails for want of memory, and only where it does write bytes.
+pub fn read_bytes(alloc: Global, word: &[u8]) -> Result<Option<Bytes>, NoMemory>
+    ensures read { IfOk result (λ bytes. bytes ≡ bytes_of word.now) }
+    ensures written { OnErr result (IsTrue (is_some (bytes_of word.now))) }
 {
     if word == b"-".as_slice() {
-        return Ok(Bytes::from_vec(Vec::new(alloc))?);
+        return Ok(Some(Bytes::from_vec(Vec::new(alloc))?));
     }
-    let Ok(bytes) = hex::decode(alloc, word) else {
-        return Err(NoMemory);
-    };
-    Ok(Bytes::from_vec(bytes)?)
+    if word.is_empty() {
+        return Ok(None);
+    }
+    match hex::decode(alloc, word) {
+        Ok(bytes) => Ok(Some(Bytes::from_vec(bytes)?)),
+        Err(FromHexError::OutOfMemory) if is_hex(word) => Err(NoMemory),
+        Err(_) => Ok(None),
+    }
 }
 
-/// The path that a word names, in percent form.
+/// The path that a word names, in percent form. A word without escapes is not copied.
 pub fn read_path(alloc: Global, word: &[u8]) -> Result<Path, Errno>
     ensures { (result ≡ path_of word.now) ⊎ (result ≡ Err ENOMEM) }
 {
-    let mut text = Vec::new(alloc);
-    if percent_decode(word).append_to(&mut text).is_err() {
+    let Ok(text) = percent_decode(word).into_cow(alloc) else {
         return Err(Errno::ENOMEM);
-    }
+    };
     Path::parse(alloc, text.as_slice())
 }

@@ -8,7 +8,7 @@ ghost use Rattle.lines.specs.Values.{number_of, path_of};
 
 use crate::request::{Look, Request};
 use lines::held::LONGEST_LINE;
-use lines::values::{read_bytes, read_number, read_path, writes_bytes};
+use lines::values::{read_bytes, read_number, read_path};
 use lines::words::{cut_at_sign, cut_word};
 use pathkey::{Errno, NoMemory, Path, SnapName};
 use reference::Call;
@@ -292,18 +292,16 @@ fn read_write(alloc: Global, path: &[u8], offset: &[u8], hex: &[u8]) -> Request
     let Some(offset) = read_number(offset) else {
         return Request::Malformed;
     };
-    if !writes_bytes(hex) {
-        return Request::Malformed;
-    }
-    let path = match read_path(alloc, path) {
-        Ok(path) => path,
-        Err(fault) => return Request::Refused(fault),
+    let bytes = match read_bytes(alloc, hex) {
+        Ok(Some(bytes)) => bytes,
+        Ok(None) => return Request::Malformed,
+        Err(NoMemory) => return Request::Refused(Errno::ENOMEM),
     };
-    match read_bytes(alloc, hex) {
-        Ok(bytes) => Request::Wanted(Call::Write(path, offset, bytes)),
-        Err(NoMemory) => {
-            drop(path);
-            Request::Refused(Errno::ENOMEM)
+    match read_path(alloc, path) {
+        Ok(path) => Request::Wanted(Call::Write(path, offset, bytes)),
+        Err(fault) => {
+            drop(bytes);
+            Request::Refused(fault)
         }
     }
 }

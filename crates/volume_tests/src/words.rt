@@ -1,5 +1,5 @@
 //! Numbers and bytes as words of a line.
-use lines::values::{read_bytes, read_number, writes_bytes};
+use lines::values::{read_bytes, read_number};
 use std::alloc::Global;
 
 const NUMBERS: &[(&str, Option<u64>)] = &[
@@ -28,13 +28,18 @@ fn reads_numbers(rt: HostRuntime) {
     }
 }
 
-/// Whether a word that writes bytes is read as these.
+/// Whether a word is read as these bytes.
 fn is_read_as(alloc: Global, word: &[u8], wanted: &[u8]) -> bool {
-    if !writes_bytes(word) {
-        return false;
-    }
     match read_bytes(alloc, word) {
-        Ok(bytes) => bytes.as_slice() == wanted,
+        Ok(Some(bytes)) => bytes.as_slice() == wanted,
+        Ok(None) | Err(_) => false,
+    }
+}
+
+/// Whether a word is found to write no bytes.
+fn is_no_bytes(alloc: Global, word: &[u8]) -> bool {
+    match read_bytes(alloc, word) {
+        Ok(bytes) => bytes.is_none(),
         Err(_) => false,
     }
 }
@@ -54,6 +59,6 @@ fn reads_bytes(rt: HostRuntime) {
         assert!(rt; is_read_as(rt.alloc(), row.0.as_bytes(), row.1), "{row:?}");
     }
     for word in NO_BYTES {
-        assert!(rt; !writes_bytes(word.as_bytes()), "{word:?}");
+        assert!(rt; is_no_bytes(rt.alloc(), word.as_bytes()), "{word:?}");
     }
 }
