@@ -1,11 +1,12 @@
-//! The pace of the program: the heaviest slot is flushed, and what makes room for that is done.
+//! The pace of the program: where enough waits, the heaviest slot is flushed, and what makes room for that is done.
 //!
 //! No claim rests on its choices.
 use crate::pace::Pace;
 use node::StepReply;
 use volume::{Step, TRIES, Volume};
 
-/// So many steps after each line, of the index in which more pieces wait.
+/// At most so many steps after each line, of the index in which more pieces wait. As long as less than a quarter of what a node may
+/// hold waits there, none is done: a flush of few messages costs about as much as one of many.
 #[derive(Drop)]
 pub struct Tidy {
     turns: u16,
@@ -19,7 +20,7 @@ pub struct Tidy {
 }
 
 impl Tidy {
-    /// A pace of so many steps after each line.
+    /// A pace of at most so many steps after each line.
     pub fn new(turns: u16) -> Tidy {
         Tidy {
             turns,
@@ -62,10 +63,18 @@ impl Pace for Tidy {
     }
 }
 
-/// The heaviest flush of the index in which more pieces wait, that of the metadata where both have as many; none where
-/// nothing waits.
+/// The heaviest flush of the index in which more pieces wait, that of the metadata where both have as many; none where too few
+/// wait there.
 fn heaviest(volume: &Volume) -> Option<Step> {
     let index = volume.busier();
+    if volume.pending(index) < u128::from(enough(volume)) {
+        return None;
+    }
     let step = volume.heaviest(index)?;
     Some(Step { index, step })
+}
+
+/// How many pieces have to wait in an index before its heaviest slot is flushed.
+fn enough(volume: &Volume) -> u16 {
+    volume.indexes().meta.tree.shape().pending / 4
 }
