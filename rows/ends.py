@@ -42,6 +42,8 @@ REFUSED = [
     ["--leaf", "4x"],
     ["--leaf", ""],
     ["--leaf"],
+    ["--trees"],
+    ["--trees", "/dev/null", "--trees", "/dev/null"],
     ["--leaf", "5", "--leaf", "6"],
     ["--flushers", "9"],
     ["--flushers", "-1"],

@@ -29,6 +29,8 @@ pub struct Options<'a> {
     pub load: Option<&'a str>,
     /// Whether the image of the tree is printed after the replies.
     pub image: bool,
+    /// The file for a drawing of the trees, which is written last; none where there is none.
+    pub trees: Option<&'a str>,
     /// The file with the script; standard input where there is none.
     pub script: Option<&'a str>,
 }
@@ -43,6 +45,7 @@ pub fn read_words<'a>(alloc: Global, words: &'a [&'a str]) -> Result<Options<'a>
     ensures leaf { IfOk result (λ o. (o.leaf ≡ number (codes "leaf") 256 (texts words.entry.now)) × IsInRange 4 1024 o.leaf) }
     ensures load { IfOk result (λ o. option_map (λ s. s.now) o.load ≡ text (codes "load") (texts words.entry.now)) }
     ensures image { IfOk result (λ o. o.image ≡ is_on (codes "image") (texts words.entry.now)) }
+    ensures trees { IfOk result (λ o. option_map (λ s. s.now) o.trees ≡ text (codes "trees") (texts words.entry.now)) }
     ensures script { IfOk result (λ o. option_map (λ s. s.now) o.script ≡ text (codes "SCRIPT") (texts words.entry.now)) }
     ensures memory { IfErr result (λ e. takes betr (texts words.entry.now) ≡ true → kind_of e ≡ ErrorKind.OutOfMemory) }
     ensures kinds { FailsBy (fault_of betr (texts words.entry.now)) result }
@@ -56,6 +59,7 @@ pub fn read_words<'a>(alloc: Global, words: &'a [&'a str]) -> Result<Options<'a>
         leaf: matches.get_one::<u16>("leaf").unwrap_or(256),
         load: matches.get_str("load"),
         image: matches.get_flag("image"),
+        trees: matches.get_str("trees"),
         script: matches.get_str("SCRIPT"),
     };
     drop(matches);
@@ -79,7 +83,8 @@ fn command<'a>(alloc: Global) -> Result<Command<'a>, AllocError>
 {
     let loading = with_load(alloc, with_shape(alloc));
     let printing = with_image(alloc, loading);
-    with_script(alloc, printing)
+    let drawing = with_trees(alloc, printing);
+    with_script(alloc, drawing)
 }
 
 /// The command with the option that names an image.
@@ -111,6 +116,22 @@ fn with_image<'a>(
         "Print the whole tree as text after the replies",
     );
     with_arg(command, image)
+}
+
+/// The command with the option that names the file of a drawing.
+fn with_trees<'a>(
+    alloc: Global,
+    command: Result<Command<'a>, AllocError>,
+) -> Result<Command<'a>, AllocError>
+    ensures { (app : App) → IfOk command.entry (λ c. app_of c ≡ app) → IfOk result (λ c. app_of c ≡ with_rule app (text_rule (codes "trees"))) }
+{
+    let trees = text_option(
+        alloc,
+        "trees",
+        "FILE",
+        "Draw the trees into the file at the end, for Graphviz's dot",
+    );
+    with_arg(command, trees)
 }
 
 /// The command with the argument that names a script.

@@ -54,6 +54,11 @@ Images:
   betr --image first | sed -n '/^D \\/ /,$p' > kept
   betr --load kept second
 
+Drawings:
+  --trees draws both trees into a file, with the snapshots that share them.
+
+  betr --trees trees.dot script && dot -Tsvg trees.dot > trees.svg
+
 Example:
   printf 'mkdir /a\\ncreate /a/x\\nwrite /a/x 0 6869\\nreaddir /a\\n' | betr
 

@@ -18,6 +18,7 @@ mod request;
 mod script;
 pub mod session;
 mod tidy;
+mod trees;
 
 pub use client::run_client;
 pub use command::read_request;
@@ -31,3 +32,4 @@ pub use request::{Look, Request};
 pub use script::{ScriptFault, run_script};
 pub use session::Session;
 pub use tidy::Tidy;
+pub use trees::{draw_alone, draw_volume};

@@ -3,10 +3,11 @@ use crate::command_line::{Options, read_words};
 use crate::flushers::run_beside_flushers;
 use crate::script::{ScriptFault, run_script};
 use crate::tidy::Tidy;
+use crate::trees::{draw_alone, draw_volume};
 use clap::error::ErrorKind;
 use images::{ImageFault, LoadFault, load_image, print_image};
 use node::Shape;
-use pathkey::Errno;
+use pathkey::{Errno, NoMemory};
 use std::alloc::Global;
 use std::fs::Files;
 use std::io::{BufWriter, Read, Write};
@@ -52,7 +53,7 @@ enum Failure {
     /// The image was not printed to its end.
     #[error(transparent)]
     Image(ImageFault),
-    /// What was to be printed last was not.
+    /// What was to be printed or drawn last was not.
     #[error("betr: write failed")]
     Write,
 }
@@ -187,7 +188,7 @@ fn open<F: Files>(rt: &F, path: &str) -> Result<F::File, Failure> {
 }
 
 /// Prints the replies to a script, gathered into large writes, and then the image if the options ask for it.
-fn print<H: Threads + Wait + Sync, R: Read, W: Write>(
+fn print<H: Files + Threads + Wait + Sync, R: Read, W: Write>(
     rt: &H,
     alloc: Global,
     volume: Volume,
@@ -205,7 +206,7 @@ fn print<H: Threads + Wait + Sync, R: Read, W: Write>(
 }
 
 /// Prints the replies to a script, and then the image if the options ask for it.
-fn print_all<H: Threads + Wait + Sync, R: Read, W: Write>(
+fn print_all<H: Files + Threads + Wait + Sync, R: Read, W: Write>(
     rt: &H,
     alloc: Global,
     volume: Volume,
@@ -213,26 +214,76 @@ fn print_all<H: Threads + Wait + Sync, R: Read, W: Write>(
     script: &mut R,
     writer: &mut W,
 ) -> Result<(), Failure> {
-    let tree = if options.flushers > 0 {
-        print_beside(rt, alloc, volume, options.flushers, script, writer)?
-    } else {
-        print_replies(alloc, volume, options.steps, script, writer)?
-    };
-    let ended = print_end(alloc, &tree, options.image, writer);
-    drop(tree);
+    if options.flushers > 0 {
+        return print_beside(rt, alloc, volume, options, script, writer);
+    }
+    let mut volume = volume;
+    let ended = print_lines(rt, alloc, &mut volume, options, script, writer);
+    drop(volume);
     ended
 }
 
-/// Prints the replies to a script while so many flushers tidy. Answers the tree that is live at the end.
-fn print_beside<H: Threads + Wait + Sync, R: Read, W: Write>(
+/// Prints the replies to a script while flushers tidy, and what the options ask for behind them.
+fn print_beside<H: Files + Threads + Wait + Sync, R: Read, W: Write>(
     rt: &H,
     alloc: Global,
     volume: Volume,
-    flushers: u8,
+    options: &Options<'_>,
     script: &mut R,
     writer: &mut W,
-) -> Result<Frozen, Failure> {
-    run_beside_flushers(rt, alloc, volume, flushers, script, writer).map_err(Failure::Script)
+) -> Result<(), Failure> {
+    match run_beside_flushers(rt, alloc, volume, options.flushers, script, writer) {
+        Ok(tree) => {
+            let ended = print_tree(rt, alloc, &tree, options, writer);
+            drop(tree);
+            ended
+        }
+        Err(fault) => Err(Failure::Script(fault)),
+    }
+}
+
+/// Prints the image of a tree if that is asked for, and then draws it.
+fn print_tree<F: Files, W: Write>(
+    rt: &F,
+    alloc: Global,
+    tree: &Frozen,
+    options: &Options<'_>,
+    writer: &mut W,
+) -> Result<(), Failure> {
+    print_end(alloc, tree, options.image, writer)?;
+    match options.trees {
+        Some(path) => save(rt, path, draw_alone(alloc, tree.indexes())),
+        None => Ok(()),
+    }
+}
+
+/// Prints the replies to a script on a volume, and what the options ask for behind them.
+fn print_lines<F: Files, R: Read, W: Write>(
+    rt: &F,
+    alloc: Global,
+    volume: &mut Volume,
+    options: &Options<'_>,
+    script: &mut R,
+    writer: &mut W,
+) -> Result<(), Failure> {
+    print_replies(alloc, volume, options.steps, script, writer)?;
+    print_live(alloc, volume, options.image, writer)?;
+    match options.trees {
+        Some(path) => save(rt, path, draw_volume(alloc, volume)),
+        None => Ok(()),
+    }
+}
+
+/// Writes a drawing into a file.
+fn save<F: Files>(rt: &F, path: &str, drawing: Result<Vec<u8>, NoMemory>) -> Result<(), Failure> {
+    match drawing {
+        Ok(text) => {
+            let saved = fs::write(rt, path, text.as_slice());
+            drop(text);
+            saved.map_err(|_| Failure::Write)
+        }
+        Err(NoMemory) => Err(Failure::Memory),
+    }
 }
 
 /// Prints the image of a tree if that is asked for, and writes out what is gathered.
@@ -248,30 +299,33 @@ fn print_end<W: Write>(
     flush(writer)
 }
 
-/// Prints the replies to a script; so many steps of tidying follow each line. Answers the tree that is live at the end.
+/// Prints the replies to a script; so many steps of tidying follow each line.
 fn print_replies<R: Read, W: Write>(
-    alloc: Global,
-    mut volume: Volume,
-    steps: u16,
-    script: &mut R,
-    writer: &mut W,
-) -> Result<Frozen, Failure> {
-    let tree = print_to_end(alloc, &mut volume, steps, script, writer);
-    drop(volume);
-    tree
-}
-
-/// The same on a volume that is lent.
-fn print_to_end<R: Read, W: Write>(
     alloc: Global,
     volume: &mut Volume,
     steps: u16,
     script: &mut R,
     writer: &mut W,
-) -> Result<Frozen, Failure> {
+) -> Result<(), Failure> {
     let mut pace = Tidy::new(steps);
-    run_script(alloc, volume, script, writer, &mut pace).map_err(Failure::Script)?;
-    volume.freeze().map_err(|_| Failure::Memory)
+    run_script(alloc, volume, script, writer, &mut pace).map_err(Failure::Script)
+}
+
+/// Prints the image of the live tree if that is asked for, and writes out what is gathered.
+fn print_live<W: Write>(
+    alloc: Global,
+    volume: &Volume,
+    image: bool,
+    writer: &mut W,
+) -> Result<(), Failure> {
+    match volume.freeze() {
+        Ok(tree) => {
+            let ended = print_end(alloc, &tree, image, writer);
+            drop(tree);
+            ended
+        }
+        Err(_) => Err(Failure::Memory),
+    }
 }
 
 /// Writes out what is gathered.

@@ -25,7 +25,8 @@ returns c =
       leaf = rw c.unwrap_or-5.ensures leaf;
       load = c.get_str.ensures ∙ first_value-rows (found_of m) (codes "load") ∙ ap (first_of (codes "load")) same;
       image = is_on_is m ws parse same (codes "image") refl c.get_flag.result c.get_flag.ensures.none c.get_flag.ensures.value c.get_flag.ensures.other;
-      script = c.get_str-2.ensures ∙ first_value-rows (found_of m) (codes "SCRIPT") ∙ ap (first_of (codes "SCRIPT")) same;
+      trees = c.get_str-2.ensures ∙ first_value-rows (found_of m) (codes "trees") ∙ ap (first_of (codes "trees")) same;
+      script = c.get_str-3.ensures ∙ first_value-rows (found_of m) (codes "SCRIPT") ∙ ap (first_of (codes "SCRIPT")) same;
       memory = tt;
       kinds = c.in_ok-matches.ensures.kinds;
     }
