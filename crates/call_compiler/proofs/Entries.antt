@@ -1,5 +1,6 @@
 -- The calls that make an entry or take one out: `mkdir`, `create`, `rmdir` and `rmtree`.
-use Rattle.std.proofs.Common.{◌≡◌, ℕ, [], ◌∷◌, sym, ◌∙◌, arith, Option, Some, None}
+use Rattle.std.proofs.Common.{◌≡◌, ℕ, [], ◌∷◌, subst, sym, ◌∙◌, arith, Option, Some, None}
+use Rattle.std.specs.Prelude.{Result, Ok, IfOk}
 use Rattle.block_index.specs.Means.{blocks}
 use Rattle.message.specs.declared.msg.Msg.TheVariants.{Put, Del, DelRange}
 use Rattle.meta_index.specs.Means.{metadata, IsMeantBy}
@@ -19,6 +20,10 @@ use Rattle.call_compiler.specs.declared.indexes.Indexes.{Indexes}
 use Rattle.call_compiler.specs.Compiled.{Messages, no_messages, touches, IsCompiled}
 use Rattle.call_compiler.proofs.Compiling.{meta_meant, compiled_refused, compiled_done}
 use Rattle.call_compiler.proofs.Faults.{mkdir_refused, mkdir_done, create_refused, create_done, rmdir_refused, rmdir_done, rmtree_refused, rmtree_done}
+
+-- the directory that was found is the path's
+pub directory_is : (found : Result Path Errno) (d p : Path) → found ≡ Ok d → IfOk found (λ q. q ≡ parent p) → d ≡ parent p
+directory_is found d p is at_path = subst (λ (r : Result Path Errno). IfOk r (λ q. q ≡ parent p)) is at_path
 
 module _ (i : Indexes) (p : Path) (at : ℕ) (reply : Reply) (msgs : Messages) where
   -- the first fault is the same in every tree that the indexes mean

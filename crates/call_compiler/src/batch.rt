@@ -3,7 +3,7 @@ ghost use Rattle.std.specs.Prelude.{◌≡◌, [], ◌∷◌, IfOk};
 ghost use Rattle.call_compiler.specs.Compiled.{messages, no_messages, touches};
 ghost use Rattle.reference.specs.Calls.{parent};
 
-use crate::touching::touch_directory;
+use crate::touching::{directory_of, touch};
 use block_index::BlockUpdate;
 use message::Msg;
 use meta_index::MetaUpdate;
@@ -53,8 +53,25 @@ pub(crate) fn done(
     Ok((reply, Batch { meta, block }))
 }
 
-/// What a call that puts an entry at the path, or takes one out, by a message for the metadata and messages for blocks
-/// comes to: it is done, and the path's directory gets the moment.
+/// What a call that puts an entry into a directory, or takes one out, by a message for the metadata and messages for blocks
+/// comes to: it is done, and the directory gets the moment.
+pub(crate) fn done_in(
+    alloc: Global,
+    directory: &Path,
+    at: u64,
+    msg: Msg<MetaUpdate>,
+    block: Vec<Msg<BlockUpdate>>,
+) -> Result<(Reply, Batch), NoMemory>
+    ensures reply { IfOk result (λ c. c.0 ≡ Reply.Done) }
+    ensures messages { IfOk result (λ c. messages c.1 ≡ record { meta = msg ∷ touches at (directory.now ∷ []); block = block.items }) }
+{
+    let mut meta = Vec::with_capacity(alloc, 2)?;
+    meta.push(msg)?;
+    touch(alloc, &mut meta, directory, at)?;
+    Ok((Reply::Done, Batch { meta, block }))
+}
+
+/// Likewise, of a call that puts an entry at the path or takes it out: its directory gets the moment.
 pub(crate) fn done_in_directory(
     alloc: Global,
     path: &Path,
@@ -65,8 +82,6 @@ pub(crate) fn done_in_directory(
     ensures reply { IfOk result (λ c. c.0 ≡ Reply.Done) }
     ensures messages { IfOk result (λ c. messages c.1 ≡ record { meta = msg ∷ touches at (parent path.now ∷ []); block = block.items }) }
 {
-    let mut meta = Vec::with_capacity(alloc, 2)?;
-    meta.push(msg)?;
-    touch_directory(alloc, &mut meta, path, at)?;
-    Ok((Reply::Done, Batch { meta, block }))
+    let directory = directory_of(alloc, path)?;
+    done_in(alloc, &directory, at, msg, block)
 }

@@ -1,11 +1,12 @@
 //! Calls that make an entry: `mkdir` and `create`.
-ghost use Rattle.std.specs.Prelude.{◌≡◌, [], ◌∷◌, IfOk};
+ghost use Rattle.std.specs.Prelude.{◌≡◌, IfOk};
+ghost use Rattle.std.specs.Result.{result_err};
 ghost use Rattle.call_compiler.specs.Compiled.{IsCompiled, messages};
 ghost use Rattle.meta_index.specs.Means.{IsMeantBy};
-ghost use Rattle.reference.specs.Calls.{faults_of_new, first_fault};
+ghost use Rattle.reference.specs.Calls.{faults_of_new, first_fault, parent};
 ghost use Rattle.reference.specs.Tree.{Tree};
 
-use crate::batch::{Batch, done_in_directory, refused};
+use crate::batch::{Batch, done_in, refused};
 use crate::indexes::Indexes;
 use message::Msg;
 use meta_index::Meta;
@@ -23,11 +24,12 @@ pub fn mkdir(
     ensures { IfOk result (λ c. IsCompiled indexes.now (Call.Mkdir path.now) at c.0 (messages c.1)) }
 {
     let key = path.key();
-    if let Some(fault) = fault_of_new(alloc, indexes, path)? {
-        return Ok(refused(alloc, fault));
-    }
+    let directory = match directory_of_new(alloc, indexes, path)? {
+        Ok(directory) => directory,
+        Err(fault) => return Ok(refused(alloc, fault)),
+    };
     let put = Msg::Put(key.copy(alloc)?, Meta::Dir { modified: at });
-    done_in_directory(alloc, path, at, put, Vec::new(alloc))
+    done_in(alloc, &directory, at, put, Vec::new(alloc))
 }
 
 /// Makes an empty file (open with O_CREAT and O_EXCL, without a descriptor).
@@ -40,9 +42,10 @@ pub fn create(
     ensures { IfOk result (λ c. IsCompiled indexes.now (Call.Create path.now) at c.0 (messages c.1)) }
 {
     let key = path.key();
-    if let Some(fault) = fault_of_new(alloc, indexes, path)? {
-        return Ok(refused(alloc, fault));
-    }
+    let directory = match directory_of_new(alloc, indexes, path)? {
+        Ok(directory) => directory,
+        Err(fault) => return Ok(refused(alloc, fault)),
+    };
     let put = Msg::Put(
         key.copy(alloc)?,
         Meta::File {
@@ -50,18 +53,24 @@ pub fn create(
             modified: at,
         },
     );
-    done_in_directory(alloc, path, at, put, Vec::new(alloc))
+    done_in(alloc, &directory, at, put, Vec::new(alloc))
 }
 
-/// Why no new entry can be made at the path; none where one can.
-fn fault_of_new(alloc: Global, indexes: &Indexes, path: &Path) -> Result<Option<Errno>, NoMemory>
-    ensures { IfOk result (λ fault. (t : Tree) → IsMeantBy t indexes.now.meta → fault ≡ first_fault (faults_of_new t path.now)) }
+/// The directory of the path, where a new entry can be made there; or why none can.
+fn directory_of_new(
+    alloc: Global,
+    indexes: &Indexes,
+    path: &Path,
+) -> Result<Result<Path, Errno>, NoMemory>
+    ensures directory { IfOk result (λ found. IfOk found (λ p. p ≡ parent path.now)) }
+    ensures fault { IfOk result (λ found. (t : Tree) → IsMeantBy t indexes.now.meta → result_err found ≡ first_fault (faults_of_new t path.now)) }
 {
-    if let Some(fault) = indexes.meta.fault_of_parent(alloc, path)? {
-        return Ok(Some(fault));
+    let directory = indexes.meta.find_parent(alloc, path)?;
+    if directory.is_err() {
+        return Ok(directory);
     }
     if indexes.meta.has(alloc, path)? {
-        return Ok(Some(Errno::EEXIST));
+        return Ok(Err(Errno::EEXIST));
     }
-    Ok(None)
+    Ok(directory)
 }

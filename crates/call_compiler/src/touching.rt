@@ -18,7 +18,7 @@ pub(crate) fn are_same(first: &Path, second: &Path) -> bool
 }
 
 /// The directory of a path; the root is its own.
-fn directory_of(alloc: Global, path: &Path) -> Result<Path, NoMemory>
+pub(crate) fn directory_of(alloc: Global, path: &Path) -> Result<Path, NoMemory>
     ensures { IfOk result (λ p. p ≡ parent path.now) }
 {
     match path.parent(alloc)? {
@@ -28,7 +28,7 @@ fn directory_of(alloc: Global, path: &Path) -> Result<Path, NoMemory>
 }
 
 /// Puts the message that sets the moment at the path behind the others.
-fn touch(
+pub(crate) fn touch(
     alloc: Global,
     msgs: &mut Vec<Msg<MetaUpdate>>,
     path: &Path,
@@ -41,20 +41,7 @@ fn touch(
     Ok(())
 }
 
-/// Puts the message that sets the moment of the path's directory behind the others.
-pub(crate) fn touch_directory(
-    alloc: Global,
-    msgs: &mut Vec<Msg<MetaUpdate>>,
-    path: &Path,
-    at: u64,
-) -> Result<(), NoMemory>
-    ensures { OnOk result (msgs.new.items ≡ msgs.old.items ++ touches at (parent path.now ∷ [])) }
-{
-    let directory = directory_of(alloc, path)?;
-    touch(alloc, msgs, &directory, at)
-}
-
-/// Puts those for the directories of two paths behind the others, one where they are one.
+/// Puts the messages for the directories of two paths behind the others, one where they are one.
 pub(crate) fn touch_directories(
     alloc: Global,
     msgs: &mut Vec<Msg<MetaUpdate>>,

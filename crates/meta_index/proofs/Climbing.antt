@@ -5,7 +5,6 @@ use Rattle.pathkey.specs.Names.{Name, Path, IsPath, parent, parent_path}
 use Rattle.pathkey.specs.Enc.{enc}
 use Rattle.reference.specs.Tree.{Tree, Dir, File, entry_at, named, found, onward}
 use Rattle.reference.specs.Tree.{At, Found, Missing, Blocked}
-use Rattle.reference.specs.Calls.{no_directory_fault, parent_fault}
 use Rattle.reference.specs.Shape.{IsDirectory}
 use Rattle.reference.specs.Looks.{Directory, Bytes, seen, look, Sight, Seen, sighted, sight}
 use Rattle.reference.specs.Indexes.{meta_of}
@@ -98,15 +97,3 @@ parent_decides_for m p q is_path e decides t means none =
 pub decided : (m : MetaIndex) (p q : Path) (v : Meta) (at : meta.At) → IsPath q → Some v ≡ metadata m (enc q) → Decides m p (Some q) → ((here : At) → meta.TheVariants.Found v ≡ told here → at ≡ told (beyond here))
     → (t : Tree) → IsMeantBy t m → look t p ≡ None → at ≡ told (entry_at t p)
 decided m p q v at is_path e decides tells t means none = tells (entry_at t q) (found_told t m q v is_path e means) ∙ ap told (sym (decides t means none))
-
--- ---- parents
-
--- the root has no parent's fault
-pub root_faultless : (t : Tree) (p : Path) → None ≡ parent_path p → None ≡ parent_fault t p
-root_faultless t [] e = refl
-root_faultless t (n ∷ p) e = absurd (cc)
-
--- any other path has those of what stands at its parent
-pub fault_at_parent : (t : Tree) (p q : Path) → Some q ≡ parent_path p → no_directory_fault (entry_at t q) ≡ parent_fault t p
-fault_at_parent t [] q e = absurd (cc)
-fault_at_parent t (n ∷ p) q e = let f : q ≡ parent (n ∷ p) = cc in ap (λ (r : Path). no_directory_fault (entry_at t r)) f

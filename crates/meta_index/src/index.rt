@@ -1,9 +1,10 @@
 //! The metadata index, and what stands at a path.
 ghost use Rattle.std.specs.Prelude.{◌≡◌, ◌+◌, IfOk, OnOk, IsTrue, None, length, not};
+ghost use Rattle.std.specs.Result.{result_err};
 ghost use Rattle.meta_index.specs.Means.{IsMeantBy, metadata, told};
 ghost use Rattle.node.specs.Shapes.{is_shape};
 ghost use Rattle.pathkey.specs.Keys.{subtree};
-ghost use Rattle.reference.specs.Calls.{is_found, is_full, names_of, parent_fault};
+ghost use Rattle.reference.specs.Calls.{is_found, is_full, names_of, parent, parent_fault};
 ghost use Rattle.reference.specs.Looks.{look};
 ghost use Rattle.reference.specs.Pairs.{pairs_of};
 ghost use Rattle.reference.specs.Tree.{Dir, Tree as DirectoryTree, entry_at, nothing};
@@ -75,15 +76,27 @@ impl MetaIndex {
         Ok(At::Missing)
     }
 
+    /// The parent of the path, where a directory stands there, or why no entry can be made at the path; the root is its own
+    /// parent. It fails only for want of memory.
+    pub fn find_parent(&self, alloc: Global, path: &Path) -> Result<Result<Path, Errno>, NoMemory>
+        ensures parent { IfOk result (λ found. IfOk found (λ p. p ≡ parent path.now)) }
+        ensures fault { IfOk result (λ found. (t : DirectoryTree) → IsMeantBy t self.now → result_err found ≡ parent_fault t path.now) }
+    {
+        let Some(parent) = path.parent(alloc)? else {
+            return Ok(Ok(Path::root(alloc)));
+        };
+        match self.find(alloc, &parent)?.fault_of_directory() {
+            Some(fault) => Ok(Err(fault)),
+            None => Ok(Ok(parent)),
+        }
+    }
+
     /// Why no entry can be made at the path: its parent is no directory; none where it is one, and at the root. It fails
     /// only for want of memory.
     pub fn fault_of_parent(&self, alloc: Global, path: &Path) -> Result<Option<Errno>, NoMemory>
         ensures { IfOk result (λ fault. (t : DirectoryTree) → IsMeantBy t self.now → fault ≡ parent_fault t path.now) }
     {
-        let Some(parent) = path.parent(alloc)? else {
-            return Ok(None);
-        };
-        Ok(self.find(alloc, &parent)?.fault_of_directory())
+        Ok(self.find_parent(alloc, path)?.err())
     }
 
     /// Whether nothing stands below the path: so it is at an empty directory, and where no directory stands. It fails only

@@ -1,19 +1,26 @@
 use Rattle.std.proofs.Common.{arith, [], ◌∷◌, ap, ◌∙◌}
+use Rattle.std.specs.Result.{result_err}
 use Rattle.message.specs.declared.msg.Msg.TheVariants.{Put}
-use Rattle.pathkey.specs.Keys.{Key}
+use Rattle.pathkey.specs.Keys.{Key, enc}
+use Rattle.pathkey.specs.Names.{Path}
 use Rattle.reference.specs.declared.reply.Meta.TheVariants.{File as FileMeta}
 use Rattle.call_compiler.specs.Compiled.{messages, touches}
-use Rattle.reference.specs.Calls.{parent}
 use Rattle.call_compiler.proofs.Compiling.{if_ok_both, halves}
-use Rattle.call_compiler.proofs.Entries.{create_is_refused, create_is_done}
+use Rattle.call_compiler.proofs.Entries.{directory_is, create_is_refused, create_is_done}
 use Rattle.call_compiler.proofs.making.create.Goals as goal
 
-pub returns-in-Some : goal.returns-in-Some
-returns-in-Some c = create_is_refused c.args.indexes.now c.args.path.now c.args.at c.refused.result.0 (messages c.refused.result.1)
-    c.in_ok-fault.field-0 c.in_ok-fault.ensures c.in-Some.fault c.in-Some.is c.refused.ensures.reply c.refused.ensures.messages
+pub returns-in-Err : goal.returns-in-Err
+returns-in-Err c = create_is_refused c.args.indexes.now c.args.path.now c.args.at c.refused.result.0 (messages c.refused.result.1)
+    (result_err c.in_ok-directory.field-0) c.in_ok-directory.ensures.fault c.in-Err.fault (ap result_err c.in-Err.is) c.refused.ensures.reply c.refused.ensures.messages
 
 pub returns : goal.returns
-returns c = if_ok_both c.done_in_directory.result _ _ _
-    (λ a reply sent. create_is_done c.args.indexes.now c.args.path.now c.args.at a.0 (messages a.1) c.in_ok-fault.field-0 c.in_ok-fault.ensures c.in_default.is (omega (arith, c.ranges.at.fits)) c.key-key.ensures.valid reply
-    (sent ∙ halves _ _ _ _ (ap (λ (k : Key). Put k (FileMeta 0 c.args.at) ∷ touches c.args.at (parent c.args.path.now ∷ [])) (c.in_ok-copy.ensures ∙ c.key-key.ensures.value)) c.new.ensures.items))
-    c.done_in_directory.ensures.reply c.done_in_directory.ensures.messages
+returns c =
+    let at_parent = directory_is c.in_ok-directory.field-0 c.in-Ok.directory c.args.path.now c.in-Ok.is c.in_ok-directory.ensures.directory in
+    if_ok_both c.done_in.result _ _ _
+    (λ a reply sent. create_is_done c.args.indexes.now c.args.path.now c.args.at a.0 (messages a.1)
+    (result_err c.in_ok-directory.field-0) c.in_ok-directory.ensures.fault (ap result_err c.in-Ok.is) (omega (arith, c.ranges.at.fits)) c.key-key.ensures.valid reply
+    (sent ∙ halves _ _ _ _
+    (ap (λ (k : Key). Put k (FileMeta 0 c.args.at) ∷ touches c.args.at (c.in-Ok.directory ∷ [])) (c.in_ok-copy.ensures ∙ c.key-key.ensures.value)
+    ∙ ap (λ (d : Path). Put (enc c.args.path.now) (FileMeta 0 c.args.at) ∷ touches c.args.at (d ∷ [])) at_parent)
+    c.new.ensures.items))
+    c.done_in.ensures.reply c.done_in.ensures.messages
