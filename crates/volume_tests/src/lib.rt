@@ -37,4 +37,6 @@ mod told;
 #[cfg(test)]
 mod typed;
 #[cfg(test)]
+mod walked;
+#[cfg(test)]
 mod words;
