@@ -1,29 +1,19 @@
--- The lines of a file's blocks, from those that an index holds.
-use Rattle.std.proofs.Common.{◌≡◌, ◌≢◌, ⊎_elim, ℕ, zero, suc, ◌+◌, ◌-◌, ◌*◌, ◌/◌, ◌%◌, ◌^◌, ◌<◌, ◌≤◌, min, List, [], ◌∷◌, ◌++◌, length, take, drop, get_or, true, false, refl, sym, ap, subst, ◌∙◌, append_assoc, append-nil, add-one, arith, Option, Some, None, length-take, length-drop}
-use Rattle.std.proofs.lemmas.List.{take_more, get_or-take, get_or-drop, get_or-append_right, get_or_past, length-append}
-use Rattle.std.proofs.lemmas.Bool.{cases_lt, and_parts}
-use Rattle.pathkey.specs.Names.{Path, IsPath}
-use Rattle.std.specs.Int.{w32, to_be_bytes}
-use Rattle.pathkey.specs.Keys.{Key, block_key, blocks_from, enc, is_below, next_key}
-use Rattle.pathkey.proofs.KeyFacts.{block_in_blocks, block_in_blocks_from, block_key_injective}
-use Rattle.message.specs.Ranges.{before, reaches, within}
-use Rattle.message.proofs.KeyOrder.{le_le, reaches-refl, reaches-from_before, reaches-from_not_before, not_before_from_reaches}
-use Rattle.scan.specs.Pairs.{HasNone, IsFirst}
-use Rattle.message.proofs.NextKey.{by_bool, in_range, one_key, reaches-next}
-use Rattle.pathkey.specs.declared.range.KeyRange.{KeyRange}
-use Rattle.reference.specs.Tree.{Tree, File, Found, entry_at}
-use Rattle.reference.specs.Shape.{IsTree}
-use Rattle.reference.specs.Looks.{Bytes, look, seen}
-use Rattle.reference.specs.Indexes.{BlockOf, Blocks, BlocksMean, Hold, held, most_blocks}
-use Rattle.reference.specs.Image.{block_line, block_lines, trimmed}
-use Rattle.reference.proofs.FileBlocks.{byte-held}
-use Rattle.reference.proofs.ImageBytes.{keep, trimmed_is}
+-- The lines of a file's blocks, from those that a walk lists.
+use Rattle.std.proofs.Common.{◌≡◌, ◌≢◌, ⊎_elim, inl, inr, ℕ, zero, suc, ◌+◌, ◌-◌, ◌/◌, ◌<◌, ◌≤◌, min, List, [], ◌∷◌, ◌++◌, length, take, get_or, replicate, false, refl, sym, ap, subst, ◌∙◌, append_assoc, append-nil, add-one, arith, Option, length-take}
+use Rattle.std.proofs.lemmas.List.{take_more, get_or-take, get_or-append_right, get_or-replicate, get_or_append_left, get_or_past, length-replicate}
+use Rattle.std.proofs.lemmas.Bool.{cases_lt}
 use Rattle.std.specs.Io.KnownBytes.{Appends}
-use Rattle.images.specs.Image.{BeginsAt}
+use Rattle.std.proofs.KnownBytes.{Appends-trans}
+use Rattle.std.specs.Prelude.{◌==◌, Any, codes, decimal}
+use Rattle.images.specs.Image.{behind, listed_blocks}
+use Rattle.lines.proofs.Known.{part_after, part_before}
 use Rattle.lines.specs.Parts.{AppendsPart}
 use Rattle.lines.specs.Texts.{hex_text}
-use Rattle.std.specs.Prelude.{◌==◌, codes, decimal}
-use Rattle.lines.proofs.Known.{part_after, part_before}
+use Rattle.reference.specs.Image.{block_line, block_lines, trimmed}
+use Rattle.reference.specs.Indexes.{most_blocks}
+use Rattle.reference.proofs.ImageBytes.{keep, trimmed_is}
+use Rattle.volume.specs.Walks.{AreBlocks, IsBlock, block_bytes}
+use Rattle.volume.proofs.Walks.{past_bytes}
 
 -- ---- trailing zeros
 
@@ -79,41 +69,31 @@ line_of_kept i block kept e some = ap (block_line i) (sym e) ∙ line_text i kep
     has_some [] f = absurd (cc)
     has_some (x ∷ xs) f = omega arith
 
--- ---- the bytes of a block
+-- ---- blocks as a walk lists them
 
-abbrev block_bytes : List ℕ → ℕ → List ℕ
-block_bytes b i = take 4096 (drop (4096 * i) b)
+abbrev zeros_of : ℕ → List ℕ
+zeros_of n = replicate n 0
+
+zero_at : (n k : ℕ) → get_or (zeros_of n) k 0 ≡ 0
+zero_at n k = ⊎_elim
+    (λ (h : k < n). get_or-replicate n k 0 0 h)
+    (λ (h : n ≤ k). get_or_past (zeros_of n) k 0 (let l : length (zeros_of n) ≡ n = length-replicate n 0 in omega arith))
+    (cases_lt k n)
+
+-- zeros behind bytes are trimmed away
+trimmed_zeros : (v : List ℕ) (n : ℕ) → trimmed (v ++ zeros_of n) ≡ trimmed v
+trimmed_zeros v n = same_trimmed (v ++ zeros_of n) v (λ j. ⊎_elim
+    (λ (h : j < length v). get_or_append_left v (zeros_of n) 0 j h)
+    (λ (h : length v ≤ j). get_or-append_right v (zeros_of n) (length v) j 0 refl h ∙ zero_at n (j - length v) ∙ sym (get_or_past v j 0 h))
+    (cases_lt j (length v)))
+
+-- so the line of a block is that of what is stored of it
+block_trimmed : (b : List ℕ) (i : ℕ) (v : List ℕ) → IsBlock b i v → trimmed (block_bytes b i) ≡ trimmed v
+block_trimmed b i v (zeros, e) = ap trimmed e ∙ trimmed_zeros v zeros
 
 -- a block whose bytes are all zero has no line
 abbrev Blank : List ℕ → ℕ → Type 0
 Blank b i = trimmed (block_bytes b i) ≡ []
-
-few_bytes : (b : List ℕ) (i j : ℕ) → min 4096 (length b - 4096 * i) ≤ j → get_or (block_bytes b i) j 0 ≡ 0
-few_bytes b i j h = get_or_past (block_bytes b i) j 0 (
-    let l : length (block_bytes b i) ≡ min 4096 (length (drop (4096 * i) b)) = length-take 4096 (drop (4096 * i) b) in
-    let m : length (drop (4096 * i) b) ≡ length b - 4096 * i = length-drop (4096 * i) b in
-    omega arith)
-
-module _ (block : ℕ → Option (List ℕ)) (b : List ℕ) (hold : Hold block b) where
-  held_past : (i j : ℕ) (o : Option (List ℕ)) → i < most_blocks → block i ≡ o → 4096 ≤ j → get_or (held o) j 0 ≡ 0
-  held_past i j None li e h = get_or_past [] j 0 (omega arith)
-  held_past i j (Some v) li e h = ⊎_elim
-      (λ (g : j < length v). let s : (j < 4096) × (4096 * i + j < length b) = hold.within i v j li e g in let f : j < 4096 = s.0 in absurd (omega arith))
-      (λ (g : length v ≤ j). get_or_past v j 0 g)
-      (cases_lt j (length v))
-
-  -- what an index holds of a block has its bytes
-  held_trimmed : (i : ℕ) → i < most_blocks → trimmed (held (block i)) ≡ trimmed (block_bytes b i)
-  held_trimmed i li = same_trimmed (held (block i)) (block_bytes b i) (λ j. ⊎_elim
-      (λ (h : j < 4096). sym (byte-held (block i) j) ∙ hold.byte i j li h ∙ sym (get_or-take 4096 (drop (4096 * i) b) j 0 h ∙ get_or-drop (4096 * i) b j 0))
-      (λ (h : 4096 ≤ j). held_past i j (block i) li refl h ∙ sym (few_bytes b i j (omega arith)))
-      (cases_lt j 4096))
-
-  absent_blank : (i : ℕ) → i < most_blocks → block i ≡ None → Blank b i
-  absent_blank i li e = sym (held_trimmed i li) ∙ ap (λ (o : Option (List ℕ)). trimmed (held o)) e
-
-past_blank : (b : List ℕ) (i : ℕ) → length b ≤ 4096 * i → Blank b i
-past_blank b i h = same_trimmed (block_bytes b i) [] (λ j. few_bytes b i j (omega arith) ∙ sym (get_or_past [] j 0 (omega arith)))
 
 -- ---- the lines of blocks
 
@@ -137,7 +117,7 @@ abbrev pub count : List ℕ → ℕ
 count b = length b / 4096 + 1
 
 behind_all : (b : List ℕ) (j : ℕ) → count b ≤ j → Blank b j
-behind_all b j h = past_blank b j (omega arith)
+behind_all b j h = block_trimmed b j [] (past_bytes b j (omega arith))
 
 more_lines : (b : List ℕ) (i d : ℕ) → (rest : List ℕ) × (block_lines b (i + d) ≡ block_lines b i ++ rest)
 more_lines b i zero = ([], ap (block_lines b) (let e : i + 0 ≡ i = omega arith in e) ∙ sym (append-nil (block_lines b i)))
@@ -157,181 +137,112 @@ begins b i = ⊎_elim
     (λ (h : count b ≤ i). ([], sym (none_between b (count b) i h (λ j g f. behind_all b j g)) ∙ sym (append-nil (block_lines b i))))
     (cases_lt i (count b))
 
--- ---- the blocks of a file in an index
+-- ---- a walk from block to block
 
-low_key : (p : Path) (l : ℕ) → (blocks_from p l).lo ≡ block_key p l
-unfolding blocks_from
-low_key p l = refl
+-- the number behind that of the last block
+pub behind_last : (i : ℕ) (xs : List (ℕ × List ℕ)) (x : ℕ × List ℕ) → 0 < length xs → x ≡ get_or xs (length xs - 1) x → behind i xs ≡ x.0 + 1
+behind_last i [] x some is = absurd (omega (arith, some))
+behind_last i (y ∷ []) x some is = sym (ap (λ (z : ℕ × List ℕ). z.0 + 1) is)
+behind_last i (y ∷ z ∷ zs) x some is =
+    let e : length (y ∷ z ∷ zs) - 1 ≡ suc (length (z ∷ zs) - 1) = omega arith in
+    behind_last (y.0 + 1) (z ∷ zs) x (omega arith) (is ∙ ap (λ (k : ℕ). get_or (y ∷ z ∷ zs) k x) e)
 
--- the first block from number i on
-pub record FirstBlock (d : Blocks) (p : Path) (b : List ℕ) (i : ℕ) (k : Key) (v : List ℕ) : Type 0 where
-  pub number : ℕ
-  pub few : number < most_blocks
-  pub key : k ≡ block_key p number
-  pub lines : block_lines b (number + 1) ≡ block_lines b i ++ block_line number (trimmed v)
+module _ (b : List ℕ) (i n : ℕ) (x : ℕ × List ℕ) (xs : List (ℕ × List ℕ)) (are : AreBlocks b i n (x ∷ xs)) where
+  first : (i ≤ x.0) × (x.0 < most_blocks) × IsBlock b x.0 x.1
+  first = are.sound 0 x (omega arith)
 
-module _ (t : Tree) (d : Blocks) (p : Path) (b : List ℕ) (is_path : IsPath p) (means : BlocksMean t d) (there : look t p ≡ Some (Bytes b)) (i : ℕ) (few : i ≤ most_blocks) where
-  abbrev block : ℕ → Option (List ℕ)
-  block j = d (block_key p j)
+  later : (k : ℕ) (d : ℕ × List ℕ) → k < length xs → x.0 < (get_or xs k d).0
+  later k d l = are.rising 0 (suc k) d (omega arith) (omega (arith, l))
 
-  hold : Hold (λ j. d (block_key p j)) b
-  hold = means.blocks p b is_path there
-
-  -- where none is left, all lines are written
-  pub all_printed : length b ≤ 2 ^ 40 → HasNone d (blocks_from p i).lo (blocks_from p i).hi → block_lines b i ≡ block_lines b (count b)
-  all_printed short none = ⊎_elim
-      (λ (h : i < count b). sym (none_between b i (count b) (omega arith) (λ j g f. blank j g)))
-      (λ (h : count b ≤ i). none_between b (count b) i h (λ j g f. behind_all b j g))
-      (cases_lt i (count b))
+  -- a block before the first has only zeros
+  skipped : (j : ℕ) → i ≤ j → j < x.0 → Blank b j
+  skipped j g f = elim (are.complete j g) [
+    | inl a ↦ absurd (listed a)
+    | inr c ↦ elim c [
+      | inl z ↦ block_trimmed b j [] z
+      | inr m ↦ absurd (let s : x.0 < j = m.1 0 x (omega arith) in omega arith)
+    ]
+  ]
     where
-      blank : (j : ℕ) → i ≤ j → Blank b j
-      blank j g = ⊎_elim
-          (λ (h : j < most_blocks). absent_blank (λ l. d (block_key p l)) b hold j h (none (block_key p j) (block_in_blocks_from p p i j (omega arith) (omega arith) (refl, g))))
-          (λ (h : most_blocks ≤ j). past_blank b j (omega arith))
-          (cases_lt j most_blocks)
+      listed : Any (λ y. y.0 ≡ j) (x ∷ xs) → ⊥
+      listed (zero, y, l, e, is) = let s : x.0 ≡ y.0 = ap (λ (z : ℕ × List ℕ). z.0) e in let r : y.0 ≡ j = is in omega arith
+      listed (suc k, y, l, e, is) =
+          let s : (get_or xs k y).0 ≡ y.0 = ap (λ (z : ℕ × List ℕ). z.0) e in
+          let r : y.0 ≡ j = is in
+          let t : x.0 < (get_or xs k y).0 = later k y (omega (arith, l)) in
+          omega arith
 
-  -- the line of the first block comes next
-  pub next_printed : (k : Key) (v : List ℕ) → IsFirst d (blocks_from p i).lo (blocks_from p i).hi (Some (k, v)) → FirstBlock d p b i k v
-  next_printed k v h =
-      let of : BlockOf t k = means.only_blocks k v h.1 in
-      let lf : of.index < most_blocks = of.few in
-      let at : (of.path ≡ p) × (i ≤ of.index) = block_in_blocks p of.path i of.index is_path.names of.is_path.names (omega arith) (omega arith) (subst (λ (j : Key). within (blocks_from p i).lo (blocks_from p i).hi j ≡ true) of.key h.0) in
-      let key : k ≡ block_key p of.index = of.key ∙ ap (λ (q : Path). block_key q of.index) at.0 in
-      let held_there : d (block_key p of.index) ≡ Some v = ap d (sym key) ∙ h.1 in
-      let others : block_lines b of.index ≡ block_lines b i = none_between b i of.index at.1 (λ l g f. absent_blank (λ j. d (block_key p j)) b hold l (omega arith) (absent of.index lf key l g f)) in
-      let line : trimmed (block_bytes b of.index) ≡ trimmed v = sym (held_trimmed (λ j. d (block_key p j)) b hold of.index lf) ∙ ap (λ (o : Option (List ℕ)). trimmed (held o)) held_there in
-      record {
-        number = of.index;
-        few = lf;
-        key = key;
-        lines = ap (block_lines b) (add-one of.index) ∙ ap (λ (l : List ℕ). l ++ block_line of.index (trimmed (block_bytes b of.index))) others ∙ ap (λ (l : List ℕ). block_lines b i ++ block_line of.index l) line;
-      }
+  first_line : block_lines b (x.0 + 1) ≡ block_lines b i ++ block_line x.0 (trimmed x.1)
+  first_line =
+      ap (block_lines b) (add-one x.0)
+      ∙ ap (λ (l : List ℕ). l ++ block_line x.0 (trimmed (block_bytes b x.0))) (none_between b i x.0 first.0 skipped)
+      ∙ ap (λ (l : List ℕ). block_lines b i ++ block_line x.0 l) (block_trimmed b x.0 x.1 first.2)
+
+  -- those behind the first are a walk from the next number on
+  others : AreBlocks b (x.0 + 1) (n - 1) xs
+  others = record {
+    few = omega (arith, are.few);
+    sound = λ k d l.
+        let h = are.sound (suc k) d (omega (arith, l)) in
+        let s : x.0 < (get_or xs k d).0 = later k d l in
+        (omega arith, h.1, h.2);
+    rising = λ k j d a l. are.rising (suc k) (suc j) d (omega (arith, a)) (omega (arith, l));
+    complete = λ j g. let at : i ≤ x.0 = first.0 in elim (are.complete j (omega arith)) [
+      | inl a ↦ inl (listed j g a)
+      | inr c ↦ elim c [
+        | inl z ↦ inr (inl z)
+        | inr m ↦ inr (inr (omega (arith, m.0), λ k d l. m.1 (suc k) d (omega (arith, l))))
+      ]
+    ];
+  }
     where
-      absent : (j : ℕ) → j < most_blocks → k ≡ block_key p j → (l : ℕ) → i ≤ l → l < j → d (block_key p l) ≡ None
-      absent j lj key l g f =
-          let low : reaches (blocks_from p i).lo (block_key p l) ≡ true = (and_parts _ _ (block_in_blocks_from p p i l (omega arith) (omega arith) (refl, g))).0 in
-          let near : reaches (block_key p l) (block_key p j) ≡ true = subst (λ (z : Key). reaches z (block_key p j) ≡ true) (low_key p l) (and_parts _ _ (block_in_blocks_from p p l j (omega arith) (omega arith) (refl, omega arith))).0 in
-          let less : before (block_key p l) k ≡ true = by_bool (before (block_key p l) k) (before (block_key p l) k ≡ true) (λ s. s) (λ s. absurd (
-          let back : reaches (block_key p j) (block_key p l) ≡ true = subst (λ (z : Key). reaches z (block_key p l) ≡ true) key (reaches-from_not_before (block_key p l) k s) in
-          let one : (p ≡ p) × (l ≡ j) = block_key_injective p p l j is_path.names is_path.names (omega arith) (omega arith) (one_key (block_key p l) (block_key p j) near back) in
-          let same : l ≡ j = one.1 in
-          omega arith)) in
-          h.2 (block_key p l) (in_range (blocks_from p i).lo (block_key p l) (Some k) low less)
+      listed : (j : ℕ) → x.0 + 1 ≤ j → Any (λ y. y.0 ≡ j) (x ∷ xs) → Any (λ y. y.0 ≡ j) xs
+      listed j g (zero, y, l, e, is) = absurd (let s : x.0 ≡ y.0 = ap (λ (z : ℕ × List ℕ). z.0) e in let r : y.0 ≡ j = is in omega arith)
+      listed j g (suc k, y, l, e, is) = (k, y, omega (arith, l), e, is)
 
--- ---- behind a block
+-- the lines of the blocks that were listed follow those before them
+pub lines_so_far : (b : List ℕ) (i n : ℕ) (bs : List (ℕ × List ℕ)) → AreBlocks b i n bs → block_lines b (behind i bs) ≡ block_lines b i ++ listed_blocks bs
+lines_so_far b i n [] are = sym (append-nil (block_lines b i))
+lines_so_far b i n (x ∷ xs) are =
+    lines_so_far b (x.0 + 1) (n - 1) xs (others b i n x xs are)
+    ∙ ap (λ (l : List ℕ). l ++ listed_blocks xs) (first_line b i n x xs are)
+    ∙ append_assoc (block_lines b i) (block_line x.0 (trimmed x.1)) (listed_blocks xs)
 
-high_key : (p : Path) (i j : ℕ) → (blocks_from p i).hi ≡ (blocks_from p j).hi
-unfolding blocks_from
-high_key p i j = refl
+-- where fewer were listed than were asked for, all lines are written
+pub all_lines : (b : List ℕ) (i n : ℕ) (bs : List (ℕ × List ℕ)) → AreBlocks b i n bs → length bs < n → block_lines b (behind i bs) ≡ block_lines b (count b)
+all_lines b i n (x ∷ xs) are few = all_lines b (x.0 + 1) (n - 1) xs (others b i n x xs are) (omega (arith, few))
+all_lines b i n [] are few = ⊎_elim
+    (λ (h : i < count b). sym (none_between b i (count b) (omega arith) (λ j g f. blank j g)))
+    (λ (h : count b ≤ i). none_between b (count b) i h (λ j g f. behind_all b j g))
+    (cases_lt i (count b))
+  where
+    blank : (j : ℕ) → i ≤ j → Blank b j
+    blank j g = elim (are.complete j g) [
+      | inl a ↦ absurd (let l = a.2 in omega (arith, l))
+      | inr c ↦ elim c [
+        | inl z ↦ block_trimmed b j [] z
+        | inr m ↦ absurd (omega (arith, m.0, few))
+      ]
+    ]
 
-module _ (t : Tree) (d : Blocks) (p : Path) (is_path : IsPath p) (means : BlocksMean t d) (n : ℕ) (few : n < most_blocks) where
-  -- the next block's key stands behind
-  rises : before (block_key p n) (block_key p (n + 1)) ≡ true
-  rises =
-      let near : reaches (block_key p n) (block_key p (n + 1)) ≡ true = subst (λ (z : Key). reaches z (block_key p (n + 1)) ≡ true) (low_key p n) (and_parts _ _ (block_in_blocks_from p p n (n + 1) (omega arith) (omega arith) (refl, omega arith))).0 in
-      by_bool (before (block_key p n) (block_key p (n + 1))) (before (block_key p n) (block_key p (n + 1)) ≡ true) (λ s. s) (λ s. absurd (
-      let back : reaches (block_key p (n + 1)) (block_key p n) ≡ true = reaches-from_not_before (block_key p n) (block_key p (n + 1)) s in
-      let one : (p ≡ p) × (n ≡ n + 1) = block_key_injective p p n (n + 1) is_path.names is_path.names (omega arith) (omega arith) (one_key (block_key p n) (block_key p (n + 1)) near back) in
-      let same : n ≡ n + 1 = one.1 in
-      omega arith))
-
-  -- so that the key right behind the block's stands at it or before it
-  passes : reaches (next_key (block_key p n)) (blocks_from p (n + 1)).lo ≡ true
-  passes = subst (λ (z : Key). reaches (next_key (block_key p n)) z ≡ true) (sym (low_key p (n + 1))) (reaches-next (block_key p n) (block_key p (n + 1)) ∙ rises)
-
-  -- and no block stands between
-  lands : (k : Key) (v : List ℕ) → within (next_key (block_key p n)) (blocks_from p n).hi k ≡ true → d k ≡ Some v → within (blocks_from p (n + 1)).lo (blocks_from p (n + 1)).hi k ≡ true
-  lands k v w e =
-      let of : BlockOf t k = means.only_blocks k v e in
-      let lf : of.index < most_blocks = of.few in
-      let q : (reaches (next_key (block_key p n)) k ≡ true) × (is_below k (blocks_from p n).hi ≡ true) = and_parts _ _ w in
-      let after : before (block_key p n) k ≡ true = sym (reaches-next (block_key p n) k) ∙ q.0 in
-      let low : reaches (blocks_from p n).lo k ≡ true = subst (λ (z : Key). reaches z k ≡ true) (sym (low_key p n)) (reaches-from_before (block_key p n) k after) in
-      let at : (of.path ≡ p) × (n ≤ of.index) = block_in_blocks p of.path n of.index is_path.names of.is_path.names (omega arith) (omega arith) (subst (λ (j : Key). within (blocks_from p n).lo (blocks_from p n).hi j ≡ true) of.key (in_range (blocks_from p n).lo k (blocks_from p n).hi low q.1)) in
-      let key : k ≡ block_key p of.index = of.key ∙ ap (λ (q : Path). block_key q of.index) at.0 in
-      let later : n + 1 ≤ of.index = ⊎_elim
-      (λ (h : n < of.index). (let g : n < of.index = h in omega arith))
-      (λ (h : of.index ≤ n). absurd (
-      let same : of.index ≡ n = omega (arith, h, at.1) in
-      let is : k ≡ block_key p n = key ∙ ap (block_key p) same in
-      let not : before (block_key p n) k ≡ false = ap (before (block_key p n)) is ∙ not_before_from_reaches (block_key p n) (block_key p n) (reaches-refl (block_key p n)) in
-      cc))
-      (cases_lt n of.index) in
-      subst (λ (j : Key). within (blocks_from p (n + 1)).lo (blocks_from p (n + 1)).hi j ≡ true) (sym key) (block_in_blocks_from p p (n + 1) of.index (omega arith) (omega arith) (refl, later))
-
-  -- the range behind the block begins with the next one
-  pub begins_behind : (rest : KeyRange) → rest.lo ≡ next_key (block_key p n) → rest.hi ≡ (blocks_from p n).hi → BeginsAt d p (n + 1) rest
-  begins_behind rest low high = (high ∙ high_key p n (n + 1), λ r h. moved r (subst (λ (l : Key). IsFirst d l (blocks_from p n).hi r) low (subst (λ (o : Option Key). IsFirst d rest.lo o r) high h)))
-    where
-      none : (end : Option Key) → HasNone d (next_key (block_key p n)) end → HasNone d (blocks_from p (n + 1)).lo end
-      none end h k w =
-          let q : (reaches (blocks_from p (n + 1)).lo k ≡ true) × (is_below k end ≡ true) = and_parts _ _ w in
-          h k (in_range (next_key (block_key p n)) k end (le_le (next_key (block_key p n)) (blocks_from p (n + 1)).lo k passes q.0) q.1)
-
-      moved : (r : Option (Key × List ℕ)) → IsFirst d (next_key (block_key p n)) (blocks_from p n).hi r → IsFirst d (blocks_from p (n + 1)).lo (blocks_from p (n + 1)).hi r
-      moved None h = subst (λ (o : Option Key). HasNone d (blocks_from p (n + 1)).lo o) (high_key p n (n + 1)) (none (blocks_from p n).hi h)
-      moved (Some x) h = (lands x.0 x.1 h.0 h.1, h.1, none (Some x.0) h.2)
-
--- ---- the steps of a walk from block to block
+-- ---- parts of the lines
 
 -- the lines of the first blocks, as a part of all
 pub lines_part : (a c : Option (List ℕ)) (b : List ℕ) (i : ℕ) → Appends a c (block_lines b i) → AppendsPart a c (block_lines b (count b))
 lines_part a c b i w = (block_lines b i, (begins b i).0, (begins b i).1, w)
 
--- a part of the next line
-pub line_part : (a m c : Option (List ℕ)) (b : List ℕ) (i j : ℕ) (v : List ℕ) → block_lines b (j + 1) ≡ block_lines b i ++ block_line j (trimmed v) → Appends a m (block_lines b i)
-    → AppendsPart m c (block_line j (trimmed v)) → AppendsPart a c (block_lines b (count b))
-line_part a m c b i j v e w part =
-    let rest : List ℕ = (begins b (j + 1)).0 in
-    let whole : block_lines b (count b) ≡ (block_lines b i ++ block_line j (trimmed v)) ++ rest = (begins b (j + 1)).1 ∙ ap (λ (l : List ℕ). l ++ rest) e in
-    subst (AppendsPart a c) (sym whole) (part_before a c _ rest (part_after a m c (block_lines b i) (block_line j (trimmed v)) w part))
+module _ (a m c : Option (List ℕ)) (b : List ℕ) (i n : ℕ) (bs : List (ℕ × List ℕ)) (are : AreBlocks b i n bs) (so_far : Appends a m (block_lines b i)) where
+  -- the lines of the blocks that come next
+  pub piece_more : Appends m c (listed_blocks bs) → Appends a c (block_lines b (behind i bs))
+  piece_more w = subst (Appends a c) (sym (lines_so_far b i n bs are)) (Appends-trans a m c (block_lines b i) (listed_blocks bs) so_far w)
 
-module _ (t : Tree) (d : Blocks) (p : Path) (date : ℕ) (b : List ℕ) (is : IsTree t) (means : BlocksMean t d) (there : entry_at t p ≡ Found (File date b)) (i : ℕ) (few : i ≤ most_blocks) (r : KeyRange) (range : BeginsAt d p i r) (first : Option (Key × List ℕ)) (h : IsFirst d r.lo r.hi first) where
-  first_at : IsFirst d (blocks_from p i).lo (blocks_from p i).hi first
-  first_at = range.1 first h
+  -- which are the last where the piece is short
+  pub piece_all : length bs < n → Appends m c (listed_blocks bs) → Appends a c (block_lines b (count b))
+  piece_all few w = subst (Appends a c) (all_lines b i n bs are few) (piece_more w)
 
-  -- no block is left
-  pub blocks_end : first ≡ None → block_lines b i ≡ block_lines b (count b)
-  blocks_end e = all_printed t d p b (is.paths p (File date b) there) means (ap seen there) i few (is.files p date b there).few (subst (λ (o : Option (Key × List ℕ)). IsFirst d (blocks_from p i).lo (blocks_from p i).hi o) e first_at)
-
-  -- or this one is the next
-  pub blocks_next : (k : Key) (v : List ℕ) → first ≡ Some (k, v) → FirstBlock d p b i k v
-  blocks_next k v e = next_printed t d p b (is.paths p (File date b) there) means (ap seen there) i few k v (subst (λ (o : Option (Key × List ℕ)). IsFirst d (blocks_from p i).lo (blocks_from p i).hi o) e first_at)
-
-  -- and the range behind it begins with the one after it
-  pub blocks_behind : (k : Key) (n : ℕ) → n < most_blocks → k ≡ block_key p n → (rest : KeyRange) → rest.lo ≡ next_key k → rest.hi ≡ r.hi → BeginsAt d p (n + 1) rest
-  blocks_behind k n lt key rest low high = begins_behind t d p (is.paths p (File date b) there) means n lt rest (low ∙ ap next_key key) (high ∙ range.0 ∙ high_key p i n)
-
--- ---- the number in a block's key
-
--- one of its four last bytes
-digit_at : (p : Path) (i m : ℕ) → m ≤ 4 → get_or (block_key p i) (length (block_key p i) - m) 0 ≡ get_or (0 ∷ to_be_bytes w32 i) (5 - m) 0
-unfolding block_key
-digit_at p i m le =
-    let l : length (enc p ++ 0 ∷ to_be_bytes w32 i) ≡ length (enc p) + length (0 ∷ to_be_bytes w32 i) = length-append (enc p) (0 ∷ to_be_bytes w32 i) in
-    let five : length (0 ∷ to_be_bytes w32 i) ≡ 5 = refl in
-    let e : length (enc p ++ 0 ∷ to_be_bytes w32 i) - m - length (enc p) ≡ 5 - m = omega arith in
-    get_or-append_right (enc p) (0 ∷ to_be_bytes w32 i) (length (enc p)) (length (enc p ++ 0 ∷ to_be_bytes w32 i) - m) 0 refl (omega arith)
-    ∙ ap (λ (x : ℕ). get_or (0 ∷ to_be_bytes w32 i) x 0) e
-
-long_key : (p : Path) (i : ℕ) → 5 ≤ length (block_key p i)
-unfolding block_key
-long_key p i =
-    let l : length (enc p ++ 0 ∷ to_be_bytes w32 i) ≡ length (enc p) + length (0 ∷ to_be_bytes w32 i) = length-append (enc p) (0 ∷ to_be_bytes w32 i) in
-    let five : length (0 ∷ to_be_bytes w32 i) ≡ 5 = refl in
-    omega arith
-
-number_of_key : (p : Path) (i : ℕ) → i < 2 ^ 32 → (k : ℕ → ℕ) → ((m : ℕ) → m ≤ 4 → k m ≡ get_or (0 ∷ to_be_bytes w32 i) (5 - m) 0) → k 4 * 16777216 + k 3 * 65536 + k 2 * 256 + k 1 ≡ i
-number_of_key p i fits k is =
-    let a : k 4 ≡ i / 16777216 % 256 = is 4 (omega arith) in
-    let b : k 3 ≡ i / 65536 % 256 = is 3 (omega arith) in
-    let c : k 2 ≡ i / 256 % 256 = is 2 (omega arith) in
-    let d : k 1 ≡ i % 256 = is 1 (omega arith) in
-    omega arith
-
-pub number_read : (bytes : List ℕ) (p : Path) (i : ℕ) → i < 2 ^ 32 → bytes ≡ block_key p i
-    → get_or bytes (length bytes - 4) 0 * 16777216 + get_or bytes (length bytes - 3) 0 * 65536 + get_or bytes (length bytes - 2) 0 * 256 + get_or bytes (length bytes - 1) 0 ≡ i
-number_read bytes p i fits e = number_of_key p i fits (λ m. get_or bytes (length bytes - m) 0) (λ m le. ap (λ (l : List ℕ). get_or l (length l - m) 0) e ∙ digit_at p i m le)
-
-pub short_key : (bytes : List ℕ) (p : Path) (i : ℕ) → bytes ≡ block_key p i → length bytes < 4 → ⊥
-short_key bytes p i e h = let l : length bytes ≡ length (block_key p i) = ap (λ (b : List ℕ). length b) e in let g : 5 ≤ length (block_key p i) = long_key p i in omega arith
+  -- a part of them
+  pub piece_part : AppendsPart m c (listed_blocks bs) → AppendsPart a c (block_lines b (count b))
+  piece_part part =
+      let rest : List ℕ = (begins b (behind i bs)).0 in
+      let whole : block_lines b (count b) ≡ (block_lines b i ++ listed_blocks bs) ++ rest = (begins b (behind i bs)).1 ∙ ap (λ (l : List ℕ). l ++ rest) (lines_so_far b i n bs are) in
+      subst (AppendsPart a c) (sym whole) (part_before a c _ rest (part_after a m c (block_lines b i) (listed_blocks bs) so_far part))

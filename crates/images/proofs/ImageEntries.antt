@@ -1,6 +1,10 @@
--- The lines of an image from a key on: how they begin with those of the first entry there.
-use Rattle.std.proofs.Common.{◌≡◌, ℕ, List, [], ◌∷◌, ◌++◌, Bool, true, false, cond, refl, sym, ap, subst, ◌∙◌, append_assoc, append-nil, Option, Some, None, length, ◌+◌, ◌/◌}
-use Rattle.std.specs.Prelude.{fold, codes, decimal}
+-- The lines of an image from a key on: how they begin with those of the entries that a walk lists.
+use Rattle.std.proofs.Common.{◌≡◌, ◌⊎◌, inl, inr, ℕ, zero, suc, List, [], ◌∷◌, ◌++◌, Bool, true, false, cond, refl, sym, ap, subst, ◌∙◌, append_assoc, append-nil, Option, Some, None, length, drop, get_or, ◌+◌, ◌-◌, ◌/◌, ◌<◌, ◌≤◌, arith}
+use Rattle.std.specs.Io.KnownBytes.{Appends}
+use Rattle.std.specs.Prelude.{All, AllPairs, Contains, fold, codes, decimal}
+use Rattle.std.proofs.KnownBytes.{Appends-trans}
+use Rattle.lines.proofs.Known.{part_after, part_before}
+use Rattle.lines.specs.Parts.{AppendsPart}
 use Rattle.std.specs.declared.cmp.Ordering.TheVariants.{Less}
 use Rattle.std.proofs.lemmas.Bool.{and_parts, false_from_ne_true}
 use Rattle.pathkey.specs.Order.{by_bytes, same}
@@ -9,24 +13,22 @@ use Rattle.pathkey.specs.Keys.{Key, enc, next_key}
 use Rattle.pathkey.proofs.OrderFacts.{same_true}
 use Rattle.message.specs.Ranges.{before, reaches, within}
 use Rattle.message.proofs.KeyOrder.{before_from_not_reaches, from_start, le_le, not_before_from_reaches, reaches-from_before, reaches-refl}
-use Rattle.scan.specs.Pairs.{HasNone, IsFirst}
 use Rattle.message.proofs.NextKey.{by_bool, in_range, not_reaches, reaches-next}
 use Rattle.reference.specs.Tree.{Tree, Dir, File, Entries, nothing, entry, entry_at, named, found, onward, At, Found, Missing, Blocked, moment}
 use Rattle.reference.specs.Image.{Text, Second, block_lines, directory_line, file_line, image, lines, lines_of, path_text}
 use Rattle.reference.specs.Shape.{AllAbove, IsTree, Rising, RisingEntries}
-use Rattle.reference.specs.Looks.{Sight, sight, sighted}
-use Rattle.reference.specs.Indexes.{Metadata, MetaMeans, PathOf, meta_of}
+use Rattle.reference.specs.Looks.{sighted}
+use Rattle.reference.specs.Indexes.{meta_of}
 use Rattle.reference.specs.declared.reply.Meta.{Meta}
 use Rattle.reference.specs.declared.reply.Meta.TheVariants.{Dir as DirMeta, File as FileMeta}
 use Rattle.reference.proofs.Edits.{fold-Missing, fold-Blocked}
 use Rattle.reference.proofs.ShownTrees.{first_at as first_stands, later_at}
-use Rattle.meta_index.proofs.BelowPath.{in_below, seen_some}
+use Rattle.meta_index.proofs.BelowPath.{in_below}
 use Rattle.meta_index.proofs.ChildOrder.{child_before}
-use Rattle.call_compiler.specs.Compiled.{MeanTree}
-use Rattle.call_compiler.specs.declared.indexes.Indexes.{Indexes}
-use Rattle.meta_index.specs.Means.{metadata}
-use Rattle.images.specs.Image.{directory_text, entry_lines, file_text}
+use Rattle.images.specs.Image.{directory_text, entry_lines, file_text, last_of, lines_there, listed_lines}
 use Rattle.lines.specs.Texts.{number_line}
+use Rattle.volume.specs.Walks.{AreEntries, IsEntry}
+use Rattle.volume.proofs.Walks.{stands}
 
 -- ---- what stands in a directory
 
@@ -202,43 +204,30 @@ pub image_starts : (t : Tree) (date : ℕ) → IsTree t → moment t ≡ date �
 image_starts (Dir stamp es) date is same = ap (λ (n : ℕ). image Second (Dir n es)) same ∙ ap (λ (t : Text). number_line (codes "D / ") date ++ t) (sym (same_texts (λ p. reaches (next_key []) (enc p)) (λ _. true) [] es is.rising (λ n r y e. (and_parts _ _ (in_below [] n r)).0) ∙ all_texts [] es))
 image_starts (File stamp b) date is same = absurd is.root
 
-module _ (t : Tree) (m : Metadata) (is : IsTree t) (means : MetaMeans t m) where
-  -- an entry has metadata
-  there : (p : Path) (x : Tree) → entry_at t p ≡ Found x → m (enc p) ≡ meta_of (sighted (Found x))
-  there p x e = means.paths p (is.paths p x e) ∙ ap (λ (a : At). meta_of (sighted a)) e
+-- only the root's key is the empty one
+pub behind_root : (k : Key) → reaches (next_key k) [] ≡ false
+behind_root k = reaches-next k [] ∙ not_before_from_reaches [] k (from_start k)
 
-  -- so no entry's key is in a range without metadata
-  unmarked : (lo : Key) (hi : Option Key) → HasNone m lo hi → (p : Path) (x : Tree) → entry_at t p ≡ Found x → within lo hi (enc p) ≡ false
-  unmarked lo hi none p x e = false_from_ne_true (within lo hi (enc p)) (λ h. seen_some x (sym (there p x e) ∙ none (enc p) h))
+-- of what stands somewhere, metadata are told
+told_of : (x : Tree) → (v : Meta) × (meta_of (sighted (Found x)) ≡ Some v)
+told_of (Dir date es) = (DirMeta date, refl)
+told_of (File date b) = (FileMeta (length b) date, refl)
 
-image_end : (t : Tree) (m : Metadata) (lo : Key) → IsTree t → MetaMeans t m → HasNone m lo None → image_from lo t ≡ []
-image_end (Dir date es) m lo is means none = same_texts (λ p. reaches lo (enc p)) (λ _. false) [] es is.rising
-    (λ n r y e. false_from_ne_true (reaches lo (enc (n ∷ r))) (λ h. let in_it : within lo None (enc (n ∷ r)) ≡ true = in_range lo (enc (n ∷ r)) None h refl in let out : within lo None (enc (n ∷ r)) ≡ false = unmarked (Dir date es) m is means lo None none (n ∷ r) y e in cc))
+-- no entry has a key from lo up to and without hi
+abbrev NoneBetween : Tree → Key → Option Key → Type 0
+NoneBetween t lo hi = (p : Path) (x : Tree) → entry_at t p ≡ Found x → within lo hi (enc p) ≡ false
+
+image_end : (t : Tree) (lo : Key) → IsTree t → NoneBetween t lo None → image_from lo t ≡ []
+image_end (Dir date es) lo is none = same_texts (λ p. reaches lo (enc p)) (λ _. false) [] es is.rising
+    (λ n r y e. false_from_ne_true (reaches lo (enc (n ∷ r))) (λ h. let in_it : within lo None (enc (n ∷ r)) ≡ true = in_range lo (enc (n ∷ r)) None h refl in let out : within lo None (enc (n ∷ r)) ≡ false = none (n ∷ r) y e in cc))
     ∙ no_texts [] es
-image_end (File date b) m lo is means none = refl
+image_end (File date b) lo is none = refl
 
--- the first entry from a key on: its lines, and behind them the lines from the next key on
-pub record FirstEntry (t : Tree) (lo k : Key) (v : Meta) : Type 0 where
-  pub path : Path
-  pub tree : Tree
-  pub stands : entry_at t path ≡ Found tree
-  pub key : k ≡ enc path
-  pub meta : meta_of (sighted (Found tree)) ≡ Some v
-  pub text : image_from lo t ≡ entry_lines path tree ++ image_from (next_key k) t
-
-sighted_found : (a : At) (l : Sight) → sighted a ≡ Some l → (x : Tree) × (a ≡ Found x)
-sighted_found (Found x) l e = (x, refl)
-sighted_found Missing l e = absurd (cc)
-sighted_found Blocked l e = absurd (cc)
-
-sight_from : (o : Option Sight) (v : Meta) → meta_of o ≡ Some v → (l : Sight) × (o ≡ Some l)
-sight_from None v e = absurd (cc)
-sight_from (Some l) v e = (l, refl)
-
-first_text : (t : Tree) (m : Metadata) (lo k : Key) (q : Path) (y : Tree) → IsTree t → MetaMeans t m → reaches lo [] ≡ false → reaches lo k ≡ true → HasNone m lo (Some k) → k ≡ enc q → entry_at t q ≡ Found y → image_from lo t ≡ entry_lines q y ++ image_from (next_key k) t
-first_text (File date b) m lo k q y is means low at none key e = absurd is.root
-first_text (Dir date es) m lo k [] y is means low at none key e = absurd (let f : reaches lo [] ≡ true = subst (λ (j : Key). reaches lo j ≡ true) key at in cc)
-first_text (Dir date es) m lo k (n ∷ r) y is means low at none key e =
+-- the lines from a key on begin with those of the first entry there
+first_text : (t : Tree) (lo k : Key) (q : Path) (y : Tree) → IsTree t → reaches lo [] ≡ false → reaches lo k ≡ true → NoneBetween t lo (Some k) → k ≡ enc q → entry_at t q ≡ Found y → image_from lo t ≡ entry_lines q y ++ image_from (next_key k) t
+first_text (File date b) lo k q y is low at none key e = absurd is.root
+first_text (Dir date es) lo k [] y is low at none key e = absurd (let f : reaches lo [] ≡ true = subst (λ (j : Key). reaches lo j ≡ true) key at in cc)
+first_text (Dir date es) lo k (n ∷ r) y is low at none key e =
     same_texts (λ p. reaches lo (enc p)) (from k) [] es is.rising (λ l s z f. marks l s z f)
     ∙ first_lines k [] es n r y is.rising (λ l s z f. (is.paths (l ∷ s) z f).names) e key
     ∙ ap (λ (t : Text). entry_lines (n ∷ r) y ++ t) (same_texts (behind k) (λ p. reaches (next_key k) (enc p)) [] es is.rising (λ l s z f. sym (reaches-next k (enc (l ∷ s)))))
@@ -248,63 +237,218 @@ first_text (Dir date es) m lo k (n ∷ r) y is means low at none key e =
         (λ h. le_le lo k (enc (l ∷ s)) at h ∙ sym h)
         (λ h. false_from_ne_true (reaches lo (enc (l ∷ s))) (λ g.
         let in_it : within lo (Some k) (enc (l ∷ s)) ≡ true = in_range lo (enc (l ∷ s)) (Some k) g (before_from_not_reaches k (enc (l ∷ s)) h) in
-        let out : within lo (Some k) (enc (l ∷ s)) ≡ false = unmarked (Dir date es) m is means lo (Some k) none (l ∷ s) z f in
+        let out : within lo (Some k) (enc (l ∷ s)) ≡ false = none (l ∷ s) z f in
         cc) ∙ sym h)
 
-first_entry : (t : Tree) (m : Metadata) (lo k : Key) (v : Meta) → IsTree t → MetaMeans t m → reaches lo [] ≡ false → IsFirst m lo None (Some (k, v)) → FirstEntry t lo k v
-first_entry t m lo k v is means low h =
-    let of : PathOf k = means.only_paths k v h.1 in
-    let meta : meta_of (sight t of.path) ≡ Some v = sym (means.paths of.path of.is_path) ∙ ap m (sym of.key) ∙ h.1 in
-    let seen_as : (l : Sight) × (sight t of.path ≡ Some l) = sight_from (sight t of.path) v meta in
-    let at : (x : Tree) × (entry_at t of.path ≡ Found x) = sighted_found (entry_at t of.path) seen_as.0 seen_as.1 in
-    record {
-      path = of.path;
-      tree = at.0;
-      stands = at.1;
-      key = of.key;
-      meta = sym (ap (λ (a : At). meta_of (sighted a)) at.1) ∙ meta;
-      text = first_text t m lo k of.path at.0 is means low (and_parts _ _ h.0).0 h.2 of.key at.1;
-    }
+-- ---- a walk from entry to entry
 
--- ---- the steps of a walk from entry to entry
+-- the first n entries from a key on, or all where there are fewer: what a walk lists, from a key and not from a path
+record AreFrom (t : Tree) (lo : Key) (n : ℕ) (es : List (Path × Meta)) : Type 0 where
+  few : length es ≤ n
+  sound : All (λ e. (reaches lo (enc e.0) ≡ true) × IsEntry t e.0 e.1) es
+  rising : AllPairs (λ d e. before (enc d.0) (enc e.0) ≡ true) es
+  complete : (p : Path) (m : Meta) → reaches lo (enc p) ≡ true → IsEntry t p m → Contains es (p, m) ⊎ ((length es ≡ n) × All (λ e. before (enc e.0) (enc p) ≡ true) es)
 
-module _ (i f : Indexes) (same_indexes : i ≡ f) (t : Tree) (mean : MeanTree f t) (lo : Key) (hi : Option Key) (no_end : hi ≡ None) (first : Option (Key × Meta)) (h : IsFirst (metadata i.meta) lo hi first) where
-  here : MeanTree i t
-  here = subst (λ (z : Indexes). MeanTree z t) (sym same_indexes) mean
+-- the path of the last entry
+pub last_pushed : (p : Path) (es : List (Path × Meta)) (e : Path × Meta) → last_of p (es ++ e ∷ []) ≡ e.0
+last_pushed p [] e = refl
+last_pushed p (d ∷ ds) e = last_pushed d.0 ds e
 
-  first_at : IsFirst (metadata i.meta) lo None first
-  first_at = subst (λ (o : Option Key). IsFirst (metadata i.meta) lo o first) no_end h
+pub none_last : (p : Path) (es : List (Path × Meta)) → length es ≡ 0 → last_of p es ≡ p
+none_last p [] e = refl
+none_last p (d ∷ ds) e = absurd (omega (arith, e))
 
-  -- no entry is left
-  pub walk_ends : first ≡ None → image_from lo t ≡ []
-  walk_ends e = image_end t (metadata i.meta) lo here.tree here.meta (subst (λ (o : Option (Key × Meta)). IsFirst (metadata i.meta) lo None o) e first_at)
+-- no key stands before itself
+itself : (k : Key) → before k k ≡ false
+itself k = not_before_from_reaches k k (reaches-refl k)
 
-  -- or this one is the next
-  pub walk_goes_on : (k : Key) (v : Meta) → first ≡ Some (k, v) → reaches lo [] ≡ false → FirstEntry t lo k v
-  walk_goes_on k v e low = first_entry t (metadata i.meta) lo k v here.tree here.meta low (subst (λ (o : Option (Key × Meta)). IsFirst (metadata i.meta) lo None o) e first_at)
+module _ (t : Tree) (lo : Key) (n : ℕ) (e : Path × Meta) (es : List (Path × Meta)) (are : AreFrom t lo n (e ∷ es)) where
+  head_at : (reaches lo (enc e.0) ≡ true) × IsEntry t e.0 e.1
+  head_at = are.sound 0 e (omega arith)
 
--- only the root's key is the empty one
-pub behind_root : (k : Key) → reaches (next_key k) [] ≡ false
-behind_root k = reaches-next k [] ∙ not_before_from_reaches [] k (from_start k)
+  later : (k : ℕ) (d : Path × Meta) → k < length es → before (enc e.0) (enc (get_or es k d).0) ≡ true
+  later k d l = are.rising 0 (suc k) d (omega arith) (omega (arith, l))
+
+  -- what is listed stands at the first or behind it
+  not_before_first : (p : Path) (m : Meta) → Contains (e ∷ es) (p, m) → before (enc p) (enc e.0) ≡ false
+  not_before_first p m (zero, l, is) = ap (λ (x : Path × Meta). before (enc p) (enc x.0)) is ∙ itself (enc p)
+  not_before_first p m (suc k, l, is) = not_before (enc e.0) (enc p) (subst (λ (x : Path × Meta). before (enc e.0) (enc x.0) ≡ true) is (later k (p, m) (omega (arith, l))))
+
+  none_before : NoneBetween t lo (Some (enc e.0))
+  none_before p x at = false_from_ne_true (within lo (Some (enc e.0)) (enc p)) (λ h.
+      let parts : (reaches lo (enc p) ≡ true) × (before (enc p) (enc e.0) ≡ true) = and_parts _ _ h in
+      let told : (v : Meta) × (meta_of (sighted (Found x)) ≡ Some v) = told_of x in
+      elim (are.complete p told.0 parts.0 (ap (λ (a : At). meta_of (sighted a)) at ∙ told.1)) [
+        | inl c ↦ (let not : before (enc p) (enc e.0) ≡ false = not_before_first p told.0 c in let is : before (enc p) (enc e.0) ≡ true = parts.1 in cc)
+        | inr m ↦ (let not : before (enc p) (enc e.0) ≡ false = not_before (enc e.0) (enc p) (m.1 0 e (omega arith)) in let is : before (enc p) (enc e.0) ≡ true = parts.1 in cc)
+      ])
+
+  first_listed : IsTree t → reaches lo [] ≡ false → image_from lo t ≡ lines_there e.0 (entry_at t e.0) ++ image_from (next_key (enc e.0)) t
+  first_listed is low =
+      let at : (x : Tree) × (entry_at t e.0 ≡ Found x) = stands (entry_at t e.0) e.1 head_at.1 in
+      first_text t lo (enc e.0) e.0 at.0 is low head_at.0 none_before refl at.1
+      ∙ ap (λ (a : At). lines_there e.0 a ++ image_from (next_key (enc e.0)) t) (sym at.1)
+
+  -- those behind the first are a walk from the next key on
+  others : AreFrom t (next_key (enc e.0)) (n - 1) es
+  others = record {
+    few = omega (arith, are.few);
+    sound = λ k d l. (reaches-next (enc e.0) (enc (get_or es k d).0) ∙ later k d l, (are.sound (suc k) d (omega (arith, l))).1);
+    rising = λ k j d a l. are.rising (suc k) (suc j) d (omega (arith, a)) (omega (arith, l));
+    complete = λ p m low is.
+        let after : before (enc e.0) (enc p) ≡ true = sym (reaches-next (enc e.0) (enc p)) ∙ low in
+        elim (are.complete p m (le_le lo (enc e.0) (enc p) head_at.0 (reaches-from_before (enc e.0) (enc p) after)) is) [
+          | inl c ↦ inl (listed p m after c)
+          | inr x ↦ inr (omega (arith, x.0), λ k d l. x.1 (suc k) d (omega (arith, l)))
+        ];
+  }
+    where
+      listed : (p : Path) (m : Meta) → before (enc e.0) (enc p) ≡ true → Contains (e ∷ es) (p, m) → Contains es (p, m)
+      listed p m after (zero, l, is) = absurd (let not : before (enc e.0) (enc p) ≡ false = ap (λ (x : Path × Meta). before (enc x.0) (enc p)) is ∙ itself (enc p) in cc)
+      listed p m after (suc k, l, is) = (k, omega (arith, l), is)
+
+-- the lines of the entries that are listed behind a path come first
+lines_behind : (t : Tree) (p : Path) (n : ℕ) (es : List (Path × Meta)) → IsTree t → AreFrom t (next_key (enc p)) n es → image_from (next_key (enc p)) t ≡ listed_lines t es ++ image_from (next_key (enc (last_of p es))) t
+lines_behind t p n [] is are = refl
+lines_behind t p n (e ∷ es) is are =
+    first_listed t (next_key (enc p)) n e es are is (behind_root (enc p))
+    ∙ ap (λ (l : Text). lines_there e.0 (entry_at t e.0) ++ l) (lines_behind t e.0 (n - 1) es is (others t (next_key (enc p)) n e es are))
+    ∙ sym (append_assoc (lines_there e.0 (entry_at t e.0)) (listed_lines t es) (image_from (next_key (enc (last_of e.0 es))) t))
+
+-- where fewer were listed than were asked for, no line is left
+none_behind : (t : Tree) (p : Path) (n : ℕ) (es : List (Path × Meta)) → IsTree t → AreFrom t (next_key (enc p)) n es → length es < n → image_from (next_key (enc (last_of p es))) t ≡ []
+none_behind t p n (e ∷ es) is are few = none_behind t e.0 (n - 1) es is (others t (next_key (enc p)) n e es are) (omega (arith, few))
+none_behind t p n [] is are few = image_end t (next_key (enc p)) is (λ q x at. false_from_ne_true (within (next_key (enc p)) None (enc q)) (λ h.
+    let told : (v : Meta) × (meta_of (sighted (Found x)) ≡ Some v) = told_of x in
+    elim (are.complete q told.0 ((and_parts _ _ h).0) (ap (λ (a : At). meta_of (sighted a)) at ∙ told.1)) [
+      | inl c ↦ (let l = c.1 in omega (arith, l))
+      | inr m ↦ omega (arith, m.0, few)
+    ]))
+
+-- ---- a piece, which begins with the last entry of the piece before
+
+module _ (t : Tree) (last : Path) (v : Meta) (n : ℕ) (es : List (Path × Meta)) (is : IsTree t) (are : AreEntries t last n es) (there : IsEntry t last v) (some : 0 < n) where
+  from_path : AreFrom t (enc last) n es
+  from_path = record { few = are.few; sound = are.sound; rising = are.rising; complete = are.complete }
+
+  -- its first entry
+  abbrev Begins : List (Path × Meta) → Type 0
+  Begins [] = ⊥
+  Begins (e ∷ es) = e.0 ≡ last
+
+  begins : (ds : List (Path × Meta)) → AreFrom t (enc last) n ds → Begins ds
+  begins [] from = elim (from.complete last v (reaches-refl (enc last)) there) [
+    | inl c ↦ (let l = c.1 in omega (arith, l))
+    | inr m ↦ omega (arith, m.0, some)
+  ]
+  begins (d ∷ ds) from = elim (from.complete last v (reaches-refl (enc last)) there) [
+    | inl c ↦ head c
+    | inr m ↦ absurd (no (m.1 0 d (omega arith)))
+  ]
+    where
+      no : before (enc d.0) (enc last) ≡ true → ⊥
+      no h = let not : before (enc d.0) (enc last) ≡ false = not_before_from_reaches (enc last) (enc d.0) (from.sound 0 d (omega arith)).0 in cc
+
+      head : Contains (d ∷ ds) (last, v) → d.0 ≡ last
+      head (zero, l, e) = ap (λ (x : Path × Meta). x.0) e
+      head (suc k, l, e) = absurd (no (subst (λ (x : Path × Meta). before (enc d.0) (enc x.0) ≡ true) e (from.rising 0 (suc k) (last, v) (omega arith) (omega (arith, l)))))
+
+  pieces : (ds : List (Path × Meta)) → Begins ds → AreFrom t (enc last) n ds → (image_from (next_key (enc last)) t ≡ listed_lines t (drop 1 ds) ++ image_from (next_key (enc (last_of last ds))) t) × (length ds < n → image_from (next_key (enc (last_of last ds))) t ≡ [])
+  pieces [] at from = absurd at
+  pieces (d ∷ ds) at from =
+      let behind_it : AreFrom t (next_key (enc d.0)) (n - 1) ds = others t (enc last) n d ds from in (
+        ap (λ (p : Path). image_from (next_key (enc p)) t) (sym at) ∙ lines_behind t d.0 (n - 1) ds is behind_it,
+        λ few. none_behind t d.0 (n - 1) ds is behind_it (omega (arith, few)),
+      )
+
+  -- the lines of the others follow
+  piece_lines : image_from (next_key (enc last)) t ≡ listed_lines t (drop 1 es) ++ image_from (next_key (enc (last_of last es))) t
+  piece_lines = (pieces es (begins es from_path) from_path).0
+
+  -- and are all where the piece is short
+  piece_ends : length es < n → image_from (next_key (enc (last_of last es))) t ≡ []
+  piece_ends = (pieces es (begins es from_path) from_path).1
+
+  -- the last one's path is an entry's too
+  piece_last : (v : Meta) × IsEntry t (last_of last es) v
+  piece_last = goes es last v there (λ k d l. (are.sound k d l).1)
+    where
+      goes : (ds : List (Path × Meta)) (p : Path) (m : Meta) → IsEntry t p m → All (λ e. IsEntry t e.0 e.1) ds → (w : Meta) × IsEntry t (last_of p ds) w
+      goes [] p m at all = (m, at)
+      goes (d ∷ ds) p m at all = goes ds d.0 d.1 (all 0 d (omega arith)) (λ k e l. all (suc k) e (omega (arith, l)))
+
+-- ---- what is printed of an image
+
+-- of the image, all is written up to the lines of the entry at a path
+abbrev pub PrintedTo : Option (List ℕ) → Option (List ℕ) → Tree → Path → Type 0
+PrintedTo a c t last = (done : Text) × (image Second t ≡ done ++ image_from (next_key (enc last)) t) × Appends a c done × ((v : Meta) × IsEntry t last v)
+
+-- the root's line
+pub printed_root : (a c : Option (List ℕ)) (t : Tree) (date : ℕ) (last : Path) → IsTree t → moment t ≡ date → last ≡ [] → Appends a c (number_line (codes "D / ") date) → PrintedTo a c t last
+printed_root a c t date last is same root w =
+    subst (PrintedTo a c t) (sym root) (number_line (codes "D / ") date, image_starts t date is same, w, told_of t)
+
+-- what is printed is a beginning
+pub printed_part : (a c : Option (List ℕ)) (t : Tree) (last : Path) → PrintedTo a c t last → AppendsPart a c (image Second t)
+printed_part a c t last (done, split, w, there) = (done, image_from (next_key (enc last)) t, split, w)
+
+-- the root's line is the first
+pub root_part : (a c : Option (List ℕ)) (t : Tree) (date : ℕ) → IsTree t → moment t ≡ date → AppendsPart a c (number_line (codes "D / ") date) → AppendsPart a c (image Second t)
+root_part a c t date is same part = subst (AppendsPart a c) (sym (image_starts t date is same)) (part_before a c (number_line (codes "D / ") date) (image_from (next_key []) t) part)
+
+module _ (a m c : Option (List ℕ)) (t : Tree) (last : Path) (n : ℕ) (es : List (Path × Meta)) (is : IsTree t) (are : AreEntries t last n es) (some : 0 < n) (so_far : PrintedTo a m t last) where
+  lines_first : image_from (next_key (enc last)) t ≡ listed_lines t (drop 1 es) ++ image_from (next_key (enc (last_of last es))) t
+  lines_first = piece_lines t last so_far.3.0 n es is are so_far.3.1 some
+
+  pub printed_piece : Appends m c (listed_lines t (drop 1 es)) → PrintedTo a c t (last_of last es)
+  printed_piece w =
+      let lines : Text = listed_lines t (drop 1 es) in
+      let rest : Text = image_from (next_key (enc (last_of last es))) t in (
+        so_far.0 ++ lines,
+        so_far.1 ∙ ap (λ (l : Text). so_far.0 ++ l) lines_first ∙ sym (append_assoc so_far.0 lines rest),
+        Appends-trans a m c so_far.0 lines so_far.2 w,
+        piece_last t last so_far.3.0 n es is are so_far.3.1 some,
+      )
+
+  pub printed_all : length es < n → Appends m c (listed_lines t (drop 1 es)) → Appends a c (image Second t)
+  printed_all few w =
+      let (done, split, written, there) = printed_piece w in
+      subst (Appends a c) (sym (split ∙ ap (λ (l : Text). done ++ l) (piece_ends t last so_far.3.0 n es is are so_far.3.1 some few) ∙ append-nil done)) written
+
+  pub printed_piece_part : AppendsPart m c (listed_lines t (drop 1 es)) → AppendsPart a c (image Second t)
+  printed_piece_part part =
+      let lines : Text = listed_lines t (drop 1 es) in
+      let rest : Text = image_from (next_key (enc (last_of last es))) t in
+      subst (AppendsPart a c) (sym (so_far.1 ∙ ap (λ (l : Text). so_far.0 ++ l) lines_first)) (part_after a m c so_far.0 (lines ++ rest) so_far.2 (part_before m c lines rest part))
+
+-- the entries of a piece are entries
+pub all_entries : (t : Tree) (last : Path) (n : ℕ) (es : List (Path × Meta)) → AreEntries t last n es → All (λ e. IsEntry t e.0 e.1) es
+all_entries t last n es are = λ k d l. (are.sound k d l).1
 
 -- ---- one entry
 
-pub dir_lines : (x : Tree) (q : Path) (date : ℕ) → meta_of (sighted (Found x)) ≡ Some (DirMeta date) → entry_lines q x ≡ directory_text Second q date
-dir_lines (Dir stamp es) q date e = let same : stamp ≡ date = cc in ap (directory_text Second q) same
-dir_lines (File stamp b) q date e = absurd (cc)
+-- a directory's line
+pub directory_there : (a : At) (q : Path) (date : ℕ) → meta_of (sighted a) ≡ Some (DirMeta date) → lines_there q a ≡ directory_text Second q date
+directory_there (Found (Dir stamp es)) q date e = let same : stamp ≡ date = cc in ap (directory_text Second q) same
+directory_there (Found (File stamp b)) q date e = absurd (cc)
+directory_there Missing q date e = absurd (cc)
+directory_there Blocked q date e = absurd (cc)
 
-pub record FileLines (x : Tree) (q : Path) (len date : ℕ) : Type 0 where
+-- a file's lines
+pub record FileThere (a : At) (q : Path) (len date : ℕ) : Type 0 where
   pub bytes : List ℕ
-  pub is : x ≡ File date bytes
-  pub text : entry_lines q x ≡ file_text Second q len date ++ block_lines bytes (length bytes / 4096 + 1)
+  pub is : a ≡ Found (File date bytes)
+  pub text : lines_there q a ≡ file_text Second q len date ++ block_lines bytes (length bytes / 4096 + 1)
 
-pub file_parts : (x : Tree) (q : Path) (len date : ℕ) → meta_of (sighted (Found x)) ≡ Some (FileMeta len date) → FileLines x q len date
-file_parts (Dir stamp es) q len date e = absurd (cc)
-file_parts (File stamp b) q len date e =
+pub file_there : (a : At) (q : Path) (len date : ℕ) → meta_of (sighted a) ≡ Some (FileMeta len date) → FileThere a q len date
+file_there (Found (Dir stamp es)) q len date e = absurd (cc)
+file_there (Found (File stamp b)) q len date e =
     let l : length b ≡ len = cc in
     let d : stamp ≡ date = cc in
     record {
       bytes = b;
-      is = ap (λ (n : ℕ). File n b) d;
+      is = ap (λ (n : ℕ). Found (File n b)) d;
       text = ap (λ (n : ℕ). file_text Second q n stamp ++ block_lines b (length b / 4096 + 1)) l ∙ ap (λ (n : ℕ). file_text Second q len n ++ block_lines b (length b / 4096 + 1)) d;
     }
+file_there Missing q len date e = absurd (cc)
+file_there Blocked q len date e = absurd (cc)

@@ -1,11 +1,8 @@
--- The lines of one entry of an image.
-use Rattle.std.specs.Prelude.{◌≡◌, ℕ, List, [], ◌∷◌, Option, Some, None, ◌+◌, ◌/◌, ◌<◌, ◌++◌, length, decimal}
-use Rattle.pathkey.specs.Keys.{Key, blocks_from}
-use Rattle.pathkey.specs.declared.range.KeyRange.{KeyRange}
-use Rattle.scan.specs.Pairs.{IsFirst}
+-- The lines of the entries of an image.
+use Rattle.std.specs.Prelude.{ℕ, List, [], ◌∷◌, ◌+◌, ◌/◌, ◌++◌, length, decimal, flat_map}
 use Rattle.reference.specs.Image.{Text, Version, First, Second, directory_letter, file_letter, moment_text, block_line, block_lines, path_text, trimmed}
-use Rattle.reference.specs.Indexes.{most_blocks}
-use Rattle.reference.specs.Tree.{Path, Tree, Dir, File}
+use Rattle.reference.specs.Tree.{Path, Tree, Dir, File, At, Found, entry_at}
+use Rattle.reference.specs.declared.reply.Meta.{Meta}
 use Rattle.images.specs.declared.version.ImageVersion.{ImageVersion}
 use Rattle.images.specs.declared.version.ImageVersion.TheVariants as version
 
@@ -26,11 +23,25 @@ abbrev pub entry_lines : Path → Tree → Text
 entry_lines p (Dir date es) = directory_text Second p date
 entry_lines p (File date b) = file_text Second p (length b) date ++ block_lines b (length b / 4096 + 1)
 
--- the block that comes next behind those before number i, whose line follows theirs; none where theirs are all lines
-abbrev pub IsNextBlock : List ℕ → ℕ → Option (ℕ × List ℕ) → Type 0
-IsNextBlock b i None = block_lines b i ≡ block_lines b (length b / 4096 + 1)
-IsNextBlock b i (Some (n, v)) = (n < most_blocks) × (block_lines b (n + 1) ≡ block_lines b i ++ block_line n (trimmed v))
+-- the same of what stands there: none where nothing does
+abbrev pub lines_there : Path → At → Text
+lines_there p (Found x) = entry_lines p x
+lines_there p _ = []
 
--- the first pair of the range is the first block of the path p from number i on
-abbrev pub BeginsAt : (Key → Option (List ℕ)) → Path → ℕ → KeyRange → Type 0
-BeginsAt d p i rest = (rest.hi ≡ (blocks_from p i).hi) × ((r : Option (Key × List ℕ)) → IsFirst d rest.lo rest.hi r → IsFirst d (blocks_from p i).lo (blocks_from p i).hi r)
+-- the lines of entries of a tree, one after the other
+abbrev pub listed_lines : Tree → List (Path × Meta) → Text
+listed_lines t es = flat_map (λ e. lines_there e.0 (entry_at t e.0)) es
+
+-- the path of the last of the entries; p where there is none
+abbrev pub last_of : Path → List (Path × Meta) → Path
+last_of p [] = p
+last_of p (e ∷ es) = last_of e.0 es
+
+-- the number behind that of the last of the blocks; i where there is none
+abbrev pub behind : ℕ → List (ℕ × List ℕ) → ℕ
+behind i [] = i
+behind i (x ∷ xs) = behind (x.0 + 1) xs
+
+-- the lines of blocks, one after the other
+abbrev pub listed_blocks : List (ℕ × List ℕ) → Text
+listed_blocks bs = flat_map (λ x. block_line x.0 (trimmed x.1)) bs

@@ -1,34 +1,24 @@
 //! Prints the image of a tree that stands still: one line for each entry in key order, and for a file one for each block
 //! that holds a byte other than zero. It prints version 2, which tells moments.
-ghost use Rattle.std.specs.Prelude.{◌≡◌, ◌≢◌, ◌<◌, ◌≤◌, ◌^◌, ◌++◌, ◌∷◌, ◌+◌, ◌/◌, [], ℕ, List, Some, None, false, IfOk, IfSome, codes, decimal, flat_map, length, take, OnOk, OnErr};
+ghost use Rattle.std.specs.Prelude.{◌≡◌, ◌<◌, ◌≤◌, ◌++◌, ◌∷◌, ◌+◌, ◌/◌, [], ℕ, List, All, codes, decimal, drop, flat_map, length, take, OnOk, OnErr};
 ghost use Rattle.std.specs.Io.KnownBytes.{Appends};
-ghost use Rattle.block_index.specs.Means.{blocks};
-ghost use Rattle.call_compiler.specs.Compiled.{MeanTree};
-ghost use Rattle.meta_index.specs.Means.{metadata};
-ghost use Rattle.pathkey.specs.Keys.{block_key, enc, next_key};
 ghost use Rattle.reference.specs.Image.{Second, block_line, block_lines, image, moment_text, path_text, percent, trimmed};
-ghost use Rattle.reference.specs.Indexes.{BlocksMean, meta_of, most_blocks};
-ghost use Rattle.reference.specs.Looks.{sighted};
-ghost use Rattle.reference.specs.Shape.{IsTree};
-ghost use Rattle.reference.specs.Tree.{File, Found, Tree, entry_at, moment};
-ghost use Rattle.scan.specs.Pairs.{AreAhead, IsFirst};
-ghost use Rattle.images.specs.Image.{BeginsAt, IsNextBlock, directory_text, entry_lines, file_text, version_of};
+ghost use Rattle.reference.specs.Indexes.{most_blocks};
+ghost use Rattle.reference.specs.Tree.{File, Found, Tree, entry_at};
+ghost use Rattle.images.specs.Image.{behind, directory_text, file_text, last_of, lines_there, listed_blocks, listed_lines, version_of};
 ghost use Rattle.lines.specs.Parts.{AppendsPart};
 ghost use Rattle.volume.specs.Volumes.{MeanRooted};
+ghost use Rattle.volume.specs.Walks.{IsEntry};
 
 use crate::version::{ImageVersion, directory_word, file_word};
-use block_index::{Block, BlockIndex, BlockUpdate};
-use call_compiler::Indexes;
 use lines::output::{WriteFailed, put};
 use lines::text::{put_hex, put_number, put_number_line, put_percent};
-use meta_index::MetaUpdate;
-use pathkey::{Key, KeyRange, NoMemory, Path, blocks_from, dec};
+use pathkey::{NoMemory, Path};
 use reference::Meta;
-use scan::piecewise::Pieces;
 use std::alloc::Global;
 use std::io::Write;
 use thiserror::Error;
-use volume::Frozen;
+use volume::{Block, Frozen};
 
 /// Why an image was not printed to its end.
 #[derive(Debug, Drop, PartialEq, Eq, Error)]
@@ -53,9 +43,15 @@ impl From<WriteFailed> for ImageFault {
     }
 }
 
+/// How many entries, or blocks, the first piece of a walk may have.
+const FIRST: usize = 8;
+
+/// How many a piece may have at most.
+const MOST: usize = 256;
+
 /// Prints the image of a tree that stands still, in version 2; where it fails, what was printed is a beginning of it.
 ///
-/// It goes from entry to entry, and in each file from block to block. It holds a piece of the entries and one block.
+/// It walks through the entries, and in each file through the blocks, piece by piece. It holds a piece of each.
 pub fn print_image<W: Write>(
     alloc: Global,
     frozen: &Frozen,
@@ -64,125 +60,109 @@ pub fn print_image<W: Write>(
     ensures ok { (t : Tree) → MeanRooted frozen.now t → OnOk result (Appends (W.contents writer.old) (W.contents writer.new) (image Second t)) }
     ensures err { (t : Tree) → MeanRooted frozen.now t → OnErr result (AppendsPart (W.contents writer.old) (W.contents writer.new) (image Second t)) }
 {
-    let mut rest = below_root(alloc)?;
-    let mut pieces = Pieces::new(alloc);
-    let indexes = frozen.indexes();
-    let modified = frozen.modified();
-    let told = print_all(alloc, indexes, modified, &mut rest, &mut pieces, writer);
-    drop(pieces);
-    drop(rest);
+    let mut last = Path::root(alloc);
+    let told = print_all(alloc, frozen, &mut last, writer);
+    drop(last);
     told
 }
 
-/// Writes the image of a tree whose root has this moment, or a beginning of it: the range that is left lies behind the root at
-/// first, and no entry is taken yet.
+/// Writes the image of a tree, or a beginning of it. Each piece of its entries begins with the last one before, the first with
+/// the root.
 fn print_all<W: Write>(
     alloc: Global,
-    indexes: &Indexes,
-    modified: u64,
-    rest: &mut KeyRange,
-    pieces: &mut Pieces<MetaUpdate>,
+    frozen: &Frozen,
+    last: &mut Path,
     writer: &mut W,
 ) -> Result<(), ImageFault>
-    requires { (rest.old.lo ≡ next_key []) × (rest.old.hi ≡ None) × (pieces.old.pairs.items ≡ []) × (pieces.old.all ≡ false) }
-    ensures ok { (t : Tree) → MeanTree indexes.now t → moment t ≡ modified → OnOk result (Appends (W.contents writer.old) (W.contents writer.new) (image Second t)) }
-    ensures err { (t : Tree) → MeanTree indexes.now t → moment t ≡ modified → OnErr result (AppendsPart (W.contents writer.old) (W.contents writer.new) (image Second t)) }
+    requires { last.old ≡ [] }
+    ensures ok { (t : Tree) → MeanRooted frozen.now t → OnOk result (Appends (W.contents writer.old) (W.contents writer.new) (image Second t)) }
+    ensures err { (t : Tree) → MeanRooted frozen.now t → OnErr result (AppendsPart (W.contents writer.old) (W.contents writer.new) (image Second t)) }
 {
-    put_number_line(writer, b"D / ", modified)?;
+    put_number_line(writer, b"D / ", frozen.modified())?;
+    let mut most = FIRST;
     // No tree has more entries.
     for _ in 0..u64::MAX {
-        let Some((key, meta)) = next_entry(alloc, indexes, rest, pieces)? else {
+        let piece = frozen.entries(alloc, last, most)?;
+        let count = piece.len();
+        print_piece(alloc, frozen, piece, last, writer)?;
+        if count < most {
             return Ok(());
-        };
-        print_entry(alloc, indexes, key, meta, writer)?;
+        }
+        most = grown(most);
     }
     Err(ImageFault::Memory)
 }
 
-/// The keys behind the root's.
-fn below_root(alloc: Global) -> Result<KeyRange, NoMemory>
-    ensures { IfOk result (λ r. (r.lo ≡ next_key []) × (r.hi ≡ None)) }
+/// How many the piece behind one of so many may have.
+fn grown(most: usize) -> usize
+    requires { (0 < most) × (most ≤ 256) }
+    ensures { (0 < result) × (result ≤ 256) }
 {
-    let lo = Key::new(alloc).next(alloc)?;
-    Ok(KeyRange { lo, hi: None })
+    (most * 2).min(MOST)
 }
 
-/// The first entry of a range, which then begins behind it; none where none is left.
-fn next_entry(
+/// Writes the lines of a piece but for those of its first entry, or a beginning of them. The path is then that of its last.
+fn print_piece<W: Write>(
     alloc: Global,
-    indexes: &Indexes,
-    rest: &mut KeyRange,
-    pieces: &mut Pieces<MetaUpdate>,
-) -> Result<Option<(Key, Meta)>, NoMemory>
-    requires { AreAhead (metadata indexes.now.meta) rest.old.lo rest.old.hi pieces.old.all pieces.old.pairs.items }
-    ensures first { IfOk result (IsFirst (metadata indexes.now.meta) rest.old.lo rest.old.hi) }
-    ensures behind { IfOk result (λ first. IfSome first (λ e. rest.new.lo ≡ next_key e.0)) }
-    ensures end { rest.new.hi ≡ rest.old.hi }
-    ensures ahead { IfOk result (λ first. IfSome first (λ _. AreAhead (metadata indexes.now.meta) rest.new.lo rest.new.hi pieces.new.all pieces.new.pairs.items)) }
+    frozen: &Frozen,
+    mut piece: Vec<(Path, Meta)>,
+    last: &mut Path,
+    writer: &mut W,
+) -> Result<(), ImageFault>
+    ensures ok { (t : Tree) → MeanRooted frozen.now t → All (λ e. IsEntry t e.0 e.1) piece.items → OnOk result (Appends (W.contents writer.old) (W.contents writer.new) (listed_lines t (drop 1 piece.items))) }
+    ensures err { (t : Tree) → MeanRooted frozen.now t → All (λ e. IsEntry t e.0 e.1) piece.items → OnErr result (AppendsPart (W.contents writer.old) (W.contents writer.new) (listed_lines t (drop 1 piece.items))) }
+    ensures last { last.new ≡ last_of last.old piece.items }
 {
-    match pieces.first(alloc, &indexes.meta.tree, rest)? {
-        Some((key, meta)) => {
-            rest.lo = key.next(alloc)?;
-            Ok(Some((key, meta)))
-        }
-        None => Ok(None),
+    let told = print_entries(alloc, frozen, behind_first(piece.as_slice()), writer);
+    if let Some((path, _)) = piece.pop() {
+        *last = path;
+    }
+    drop(piece);
+    told
+}
+
+/// All entries but the first.
+fn behind_first(entries: &[(Path, Meta)]) -> &[(Path, Meta)]
+    ensures { result.now ≡ drop 1 entries.now }
+{
+    match entries.split_first() {
+        Some((_, others)) => others,
+        None => entries,
     }
 }
 
-/// Writes the lines of the entry whose path has the key, or a beginning of them. The key is let go by a call, once.
-fn print_entry<W: Write>(
+/// Writes the lines of entries, or a beginning of them.
+fn print_entries<W: Write>(
     alloc: Global,
-    indexes: &Indexes,
-    key: Key,
-    meta: Meta,
+    frozen: &Frozen,
+    entries: &[(Path, Meta)],
     writer: &mut W,
 ) -> Result<(), ImageFault>
-    requires { key ≢ [] }
-    ensures ok { (t : Tree) (q : List (List ℕ)) (x : Tree) → MeanTree indexes.now t → entry_at t q ≡ Found x → key ≡ enc q → meta_of (sighted (Found x)) ≡ Some meta → OnOk result (Appends (W.contents writer.old) (W.contents writer.new) (entry_lines q x)) }
-    ensures err { (t : Tree) (q : List (List ℕ)) (x : Tree) → MeanTree indexes.now t → entry_at t q ≡ Found x → key ≡ enc q → meta_of (sighted (Found x)) ≡ Some meta → OnErr result (AppendsPart (W.contents writer.old) (W.contents writer.new) (entry_lines q x)) }
+    ensures ok { (t : Tree) → MeanRooted frozen.now t → All (λ e. IsEntry t e.0 e.1) entries.now → OnOk result (Appends (W.contents writer.old) (W.contents writer.new) (listed_lines t entries.now)) }
+    ensures err { (t : Tree) → MeanRooted frozen.now t → All (λ e. IsEntry t e.0 e.1) entries.now → OnErr result (AppendsPart (W.contents writer.old) (W.contents writer.new) (listed_lines t entries.now)) }
 {
-    let told = print_key(alloc, indexes, &key, meta, writer);
-    drop(key);
-    told
-}
-
-/// Writes the lines of the entry whose path has the key, or a beginning of them.
-fn print_key<W: Write>(
-    alloc: Global,
-    indexes: &Indexes,
-    key: &Key,
-    meta: Meta,
-    writer: &mut W,
-) -> Result<(), ImageFault>
-    requires { key.now ≢ [] }
-    ensures ok { (t : Tree) (q : List (List ℕ)) (x : Tree) → MeanTree indexes.now t → entry_at t q ≡ Found x → key.now ≡ enc q → meta_of (sighted (Found x)) ≡ Some meta → OnOk result (Appends (W.contents writer.old) (W.contents writer.new) (entry_lines q x)) }
-    ensures err { (t : Tree) (q : List (List ℕ)) (x : Tree) → MeanTree indexes.now t → entry_at t q ≡ Found x → key.now ≡ enc q → meta_of (sighted (Found x)) ≡ Some meta → OnErr result (AppendsPart (W.contents writer.old) (W.contents writer.new) (entry_lines q x)) }
-{
-    let Some(path) = dec(alloc, key)? else {
-        return Err(ImageFault::Memory);
-    };
-    let told = print_at(alloc, indexes, &path, meta, writer);
-    drop(path);
-    told
+    for (path, meta) in entries {
+        print_entry(alloc, frozen, path, *meta, writer)?;
+    }
+    Ok(())
 }
 
 /// Writes the lines of the entry at a path, or a beginning of them.
-fn print_at<W: Write>(
+fn print_entry<W: Write>(
     alloc: Global,
-    indexes: &Indexes,
+    frozen: &Frozen,
     path: &Path,
     meta: Meta,
     writer: &mut W,
 ) -> Result<(), ImageFault>
-    requires { path.now ≢ [] }
-    ensures ok { (t : Tree) (x : Tree) → MeanTree indexes.now t → entry_at t path.now ≡ Found x → meta_of (sighted (Found x)) ≡ Some meta → OnOk result (Appends (W.contents writer.old) (W.contents writer.new) (entry_lines path.now x)) }
-    ensures err { (t : Tree) (x : Tree) → MeanTree indexes.now t → entry_at t path.now ≡ Found x → meta_of (sighted (Found x)) ≡ Some meta → OnErr result (AppendsPart (W.contents writer.old) (W.contents writer.new) (entry_lines path.now x)) }
+    ensures ok { (t : Tree) → MeanRooted frozen.now t → IsEntry t path.now meta → OnOk result (Appends (W.contents writer.old) (W.contents writer.new) (lines_there path.now (entry_at t path.now))) }
+    ensures err { (t : Tree) → MeanRooted frozen.now t → IsEntry t path.now meta → OnErr result (AppendsPart (W.contents writer.old) (W.contents writer.new) (lines_there path.now (entry_at t path.now))) }
 {
     match meta {
         Meta::Dir { modified } => Ok(put_directory(writer, ImageVersion::Second, path, modified)?),
         Meta::File { len, modified } => {
             put_file(writer, ImageVersion::Second, path, len, modified)?;
-            print_blocks(alloc, &indexes.block, path, writer)
+            print_blocks(alloc, frozen, path, writer)
         }
     }
 }
@@ -190,84 +170,48 @@ fn print_at<W: Write>(
 /// Writes the lines of a file's blocks, or a beginning of them.
 fn print_blocks<W: Write>(
     alloc: Global,
-    index: &BlockIndex,
+    frozen: &Frozen,
     path: &Path,
     writer: &mut W,
 ) -> Result<(), ImageFault>
-    requires { path.now ≢ [] }
-    ensures ok { (t : Tree) (date : ℕ) (b : List ℕ) → IsTree t → BlocksMean t (blocks index.now) → entry_at t path.now ≡ Found (File date b) → OnOk result (Appends (W.contents writer.old) (W.contents writer.new) (block_lines b (length b / 4096 + 1))) }
-    ensures err { (t : Tree) (date : ℕ) (b : List ℕ) → IsTree t → BlocksMean t (blocks index.now) → entry_at t path.now ≡ Found (File date b) → OnErr result (AppendsPart (W.contents writer.old) (W.contents writer.new) (block_lines b (length b / 4096 + 1))) }
+    ensures ok { (t : Tree) (date : ℕ) (b : List ℕ) → MeanRooted frozen.now t → entry_at t path.now ≡ Found (File date b) → OnOk result (Appends (W.contents writer.old) (W.contents writer.new) (block_lines b (length b / 4096 + 1))) }
+    ensures err { (t : Tree) (date : ℕ) (b : List ℕ) → MeanRooted frozen.now t → entry_at t path.now ≡ Found (File date b) → OnErr result (AppendsPart (W.contents writer.old) (W.contents writer.new) (block_lines b (length b / 4096 + 1))) }
 {
-    let mut rest = blocks_from(alloc, path, 0)?;
-    let mut pieces = Pieces::new(alloc);
-    let told = print_rest(alloc, index, &mut rest, &mut pieces, writer);
-    drop(pieces);
-    drop(rest);
-    told
-}
-
-/// Writes the lines of the blocks in a range, which begins with a file's first, or a beginning of them.
-fn print_rest<W: Write>(
-    alloc: Global,
-    index: &BlockIndex,
-    rest: &mut KeyRange,
-    pieces: &mut Pieces<BlockUpdate>,
-    writer: &mut W,
-) -> Result<(), ImageFault>
-    requires { (pieces.old.pairs.items ≡ []) × (pieces.old.all ≡ false) }
-    ensures ok { (t : Tree) (p : List (List ℕ)) (date : ℕ) (b : List ℕ) → IsTree t → BlocksMean t (blocks index.now) → entry_at t p ≡ Found (File date b) → BeginsAt (blocks index.now) p 0 rest.old → OnOk result (Appends (W.contents writer.old) (W.contents writer.new) (block_lines b (length b / 4096 + 1))) }
-    ensures err { (t : Tree) (p : List (List ℕ)) (date : ℕ) (b : List ℕ) → IsTree t → BlocksMean t (blocks index.now) → entry_at t p ≡ Found (File date b) → BeginsAt (blocks index.now) p 0 rest.old → OnErr result (AppendsPart (W.contents writer.old) (W.contents writer.new) (block_lines b (length b / 4096 + 1))) }
-{
+    let mut from = 0;
+    let mut most = FIRST;
     // No file has more blocks.
     for _ in 0..u64::MAX {
-        let Some((number, block)) = next_block(alloc, index, rest, pieces)? else {
+        let piece = frozen.blocks(alloc, path, from, most)?;
+        put_blocks(writer, piece.as_slice())?;
+        if piece.len() < most {
             return Ok(());
-        };
-        print_block(writer, number, block)?;
+        }
+        from = number_behind(piece.as_slice(), from);
+        most = grown(most);
     }
     Err(ImageFault::Memory)
 }
 
-/// Writes the line of a block, or a beginning of it.
-fn print_block<W: Write>(writer: &mut W, number: u32, block: Block) -> Result<(), WriteFailed>
-    ensures ok { OnOk result (Appends (W.contents writer.old) (W.contents writer.new) (block_line number (trimmed block))) }
-    ensures err { OnErr result (AppendsPart (W.contents writer.old) (W.contents writer.new) (block_line number (trimmed block))) }
+/// The number behind that of the last block; `from` where there is none.
+fn number_behind(blocks: &[(u32, Block)], from: u32) -> u32
+    requires { All (λ x. x.0 < most_blocks) blocks.now }
+    ensures { result ≡ behind from blocks.now }
 {
-    let told = put_block(writer, number, block.as_slice());
-    drop(block);
-    told
-}
-
-/// The first block of a range, with its number, where the range then begins behind it; none where none is left.
-fn next_block(
-    alloc: Global,
-    index: &BlockIndex,
-    rest: &mut KeyRange,
-    pieces: &mut Pieces<BlockUpdate>,
-) -> Result<Option<(u32, Block)>, NoMemory>
-    requires { AreAhead (blocks index.now) rest.old.lo rest.old.hi pieces.old.all pieces.old.pairs.items }
-    ensures next { (t : Tree) (p : List (List ℕ)) (date : ℕ) (b : List ℕ) (i : ℕ) → IsTree t → BlocksMean t (blocks index.now) → entry_at t p ≡ Found (File date b) → i ≤ most_blocks → BeginsAt (blocks index.now) p i rest.old → IfOk result (λ r. IsNextBlock b i r × IfSome r (λ x. BeginsAt (blocks index.now) p (x.0 + 1) rest.new)) }
-    ensures ahead { IfOk result (λ r. IfSome r (λ _. AreAhead (blocks index.now) rest.new.lo rest.new.hi pieces.new.all pieces.new.pairs.items)) }
-{
-    match pieces.first(alloc, &index.tree, rest)? {
-        Some((key, block)) => {
-            rest.lo = key.next(alloc)?;
-            let number = number_of(&key);
-            drop(key);
-            Ok(Some((number, block)))
-        }
-        None => Ok(None),
+    match blocks.last() {
+        Some((number, _)) => *number + 1,
+        None => from,
     }
 }
 
-/// The number of the block that has the key.
-fn number_of(key: &Key) -> u32
-    ensures { (p : List (List ℕ)) (i : ℕ) → i < 2 ^ 32 → key.now ≡ block_key p i → result ≡ i }
+/// Writes the lines of blocks, or a beginning of them.
+fn put_blocks<W: Write>(writer: &mut W, blocks: &[(u32, Block)]) -> Result<(), WriteFailed>
+    ensures ok { OnOk result (Appends (W.contents writer.old) (W.contents writer.new) (listed_blocks blocks.now)) }
+    ensures err { OnErr result (AppendsPart (W.contents writer.old) (W.contents writer.new) (listed_blocks blocks.now)) }
 {
-    match key.as_bytes() {
-        [.., a, b, c, d] => u32::from_be_bytes([*a, *b, *c, *d]),
-        _ => 0,
+    for (number, block) in blocks {
+        put_block(writer, *number, block.as_slice())?;
     }
+    Ok(())
 }
 
 /// Writes the line of a directory, or a beginning of it.

@@ -1,9 +1,0 @@
-use Rattle.std.proofs.Common.{◌∙◌}
-use Rattle.images.proofs.ImageBlocks.{number_read, short_key}
-use Rattle.images.proofs.image.number_of.Goals as goal
-
-pub returns-in_default : goal.returns-in_default
-returns-in_default c = λ p i fits is. absurd (short_key _ p i (c.as_bytes.ensures ∙ is) c.in_default.len_below)
-
-pub returns-in-len4-up : goal.returns-in-len4-up
-returns-in-len4-up c = λ p i fits is. c.from_be_bytes.ensures ∙ number_read _ p i fits (c.as_bytes.ensures ∙ is)
