@@ -74,7 +74,13 @@ fn put_named(
     };
     let live = volume.indexes();
     let number = put_snapshot(sketch, name.as_bytes())?;
-    point_to_root(sketch, number, &kept.indexes.meta.tree, &live.meta.tree, roots.meta)?;
+    point_to_root(
+        sketch,
+        number,
+        &kept.indexes.meta.tree,
+        &live.meta.tree,
+        roots.meta,
+    )?;
     point_to_root(
         sketch,
         number,
