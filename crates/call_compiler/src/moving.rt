@@ -13,7 +13,7 @@ use crate::files::find_file;
 use crate::indexes::Indexes;
 use crate::removing::fault_of_rmtree;
 use crate::subtrees::{has_too_long_key, put_moved};
-use crate::touching::{are_same, touch_directories};
+use crate::touching::touch_directories;
 use block_index::BlockUpdate;
 use message::Msg;
 use meta_index::{At, Meta, MetaUpdate};
@@ -42,7 +42,7 @@ pub fn rename(
     if let Some(fault) = fault_of_rmtree(alloc, indexes, old)? {
         return Ok(refused(alloc, fault));
     }
-    if are_same(old, new) {
+    if old.is_same(new) {
         return Ok(without_messages(alloc, Reply::Done));
     }
     if let Some(fault) = fault_of_place(alloc, indexes, old, new)? {

@@ -2,20 +2,13 @@
 ghost use Rattle.std.specs.Prelude.{◌≡◌, ◌∷◌, [], ◌++◌, IfOk, OnOk};
 ghost use Rattle.std.specs.List.{list_any};
 ghost use Rattle.call_compiler.specs.Compiled.{touches, touches_root};
-ghost use Rattle.reference.specs.Calls.{is_root, once, parent, same_path};
+ghost use Rattle.reference.specs.Calls.{is_root, once, parent};
 
 use message::Msg;
 use meta_index::MetaUpdate;
 use pathkey::{NoMemory, Path};
 use reference::Call;
 use std::alloc::Global;
-
-/// Whether the two paths are one.
-pub(crate) fn are_same(first: &Path, second: &Path) -> bool
-    ensures { result ≡ same_path first.now second.now }
-{
-    second.is_under(first) && first.is_under(second)
-}
 
 /// The directory of a path; the root is its own.
 pub(crate) fn directory_of(alloc: Global, path: &Path) -> Result<Path, NoMemory>
@@ -54,7 +47,7 @@ pub(crate) fn touch_directories(
     let from = directory_of(alloc, old)?;
     let to = directory_of(alloc, new)?;
     touch(alloc, msgs, &from, at)?;
-    if are_same(&from, &to) {
+    if from.is_same(&to) {
         return Ok(());
     }
     touch(alloc, msgs, &to, at)
@@ -93,5 +86,5 @@ pub fn stands_in_root(path: &Path) -> bool
 pub fn moves_in_root(old: &Path, new: &Path) -> bool
     ensures { result ≡ touches_root (Call.Rename old.now new.now) }
 {
-    !are_same(old, new) && (stands_in_root(old) || stands_in_root(new))
+    !old.is_same(new) && (stands_in_root(old) || stands_in_root(new))
 }

@@ -1,7 +1,7 @@
 //! Paths, each kept as its key.
 ghost use Rattle.std.specs.Prelude.{◌≡◌, [], IfOk};
 ghost use Rattle.std.specs.Option.{option_copied};
-ghost use Rattle.pathkey.specs.Names.{IsPath, is_root, parent_path, last_name, is_under};
+ghost use Rattle.pathkey.specs.Names.{IsPath, is_root, parent_path, last_name, is_under, same_path};
 ghost use Rattle.pathkey.specs.Enc.{enc};
 ghost use Rattle.pathkey.specs.Texts.{names_of, parsed};
 ghost use Rattle.pathkey.specs.PathKeys.{IsPathKey};
@@ -21,9 +21,15 @@ pub(crate) const LONGEST_TEXT: usize = 1023;
 /// A path from the root, which contracts see as the list of its names.
 ///
 /// It holds its own key, so that a look-up makes no key of its own.
-#[derive(Drop)]
 pub struct Path {
     key: Key,
+}
+
+// Written out, as that of `pathkey::Key`.
+impl Drop for Path {
+    fn drop(self) {
+        let Path { key: _ } = self;
+    }
 }
 
 impl Model for Path {
@@ -135,6 +141,13 @@ impl Path {
         ensures { result ≡ is_under other.now self.now }
     {
         self.key().as_bytes().starts_with(other.key().as_bytes())
+    }
+
+    /// Whether the two paths are one.
+    pub fn is_same(&self, other: &Path) -> bool
+        ensures { result ≡ same_path self.now other.now }
+    {
+        other.is_under(self) && self.is_under(other)
     }
 }
 

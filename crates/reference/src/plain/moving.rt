@@ -1,7 +1,7 @@
 //! `rename`.
 ghost use Rattle.std.specs.Prelude.{◌≡◌, ◌+◌, false, nat_lt};
 ghost use Rattle.reference.specs.Tree.{Found, entry_at, with_entry, without};
-ghost use Rattle.reference.specs.Calls.{deepest, faults_of_rename, faults_of_replacing, first_fault, is_root, renamed, same_path, text_len};
+ghost use Rattle.reference.specs.Calls.{deepest, faults_of_rename, faults_of_replacing, first_fault, is_root, renamed, text_len};
 ghost use Rattle.reference.specs.Plain.{tree_of, at_of, HasEffect};
 
 use super::depth::is_within;
@@ -78,13 +78,6 @@ fn move_entry(
     Ok(Effect::Changed(after, Reply::Done))
 }
 
-/// Whether the two paths are one.
-pub fn are_same(first: &Path, second: &Path) -> bool
-    ensures { result ≡ same_path first.now second.now }
-{
-    second.is_under(first) && first.is_under(second)
-}
-
 /// What is done with the entry that stands at the old path.
 fn rename_entry(
     alloc: Global,
@@ -95,7 +88,7 @@ fn rename_entry(
 ) -> Result<Effect, NoMemory>
     ensures { is_root old.now ≡ false → entry_at (tree_of tree.now) old.now ≡ Found (tree_of from.now) → HasEffect result (tree_of tree.now) (renamed (tree_of tree.now) old.now new.now) }
 {
-    if are_same(old, new) {
+    if old.is_same(new) {
         return Ok(Effect::Kept(Reply::Done));
     }
     match fault_of_move(tree, from, old, new) {

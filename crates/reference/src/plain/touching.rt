@@ -7,7 +7,6 @@ ghost use Rattle.reference.specs.declared.call.Call.TheVariants.{Rename};
 
 use super::effect::Effect;
 use super::entries::{entry_named, put_entry};
-use super::moving::are_same;
 use super::tree::{Tree, copy_dated, copy_tree};
 use crate::reply::Reply;
 use pathkey::{Names, NoMemory, Path};
@@ -102,13 +101,13 @@ pub fn touch_parents(
 ) -> Result<Effect, NoMemory>
     ensures { HasEffect result (tree_of tree.now) (all_touching at (parents_of (Rename old.now new.now)) (effect_of (tree_of tree.now) effect)) }
 {
-    if are_same(old, new) {
+    if old.is_same(new) {
         return Ok(effect);
     }
     let from = directory_of(alloc, old)?;
     let to = directory_of(alloc, new)?;
     let effect = touch_parent(alloc, tree, effect, old, at)?;
-    if are_same(&from, &to) {
+    if from.is_same(&to) {
         return Ok(effect);
     }
     touch_parent(alloc, tree, effect, new, at)

@@ -12,7 +12,7 @@ returns-in-Some c h g =
     → Some c.in-Some.fault ≡ first_fault (faults_of_rename (tree_of c.args.tree.now) c.args.old.now c.args.new.now) = c.in-Some.ensures
     in
     ap (effect_of (tree_of c.args.tree.now)) c.refused.ensures
-    ∙ sym (renamed_refused (tree_of c.args.tree.now) c.args.old.now c.args.new.now (tree_of c.args.from.now) c.in-Some.fault h g (sym c.are_same.ensures ∙ c.if-are_same.false) (sym (known g)))
+    ∙ sym (renamed_refused (tree_of c.args.tree.now) c.args.old.now c.args.new.now (tree_of c.args.from.now) c.in-Some.fault h g (sym c.is_same.ensures ∙ c.if-is_same.false) (sym (known g)))
 
 pub returns-in-None : goal.returns-in-None
 returns-in-None c h g =
@@ -20,5 +20,5 @@ returns-in-None c h g =
     → None ≡ first_fault (faults_of_rename (tree_of c.args.tree.now) c.args.old.now c.args.new.now) = c.in-None.ensures
     in
     subst (λ (o : Outcome). IfOk c.move_entry.result (λ e. ◌≡◌ {A = Outcome} (effect_of (tree_of c.args.tree.now) e) o))
-    (sym (renamed_moved (tree_of c.args.tree.now) c.args.old.now c.args.new.now (tree_of c.args.from.now) h g (sym c.are_same.ensures ∙ c.if-are_same.false) (sym (known g))))
+    (sym (renamed_moved (tree_of c.args.tree.now) c.args.old.now c.args.new.now (tree_of c.args.from.now) h g (sym c.is_same.ensures ∙ c.if-is_same.false) (sym (known g))))
     c.move_entry.ensures
