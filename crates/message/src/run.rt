@@ -1,6 +1,7 @@
 //! What waits at one key.
 ghost use Rattle.std.specs.Prelude.{◌≡◌, ◌+◌, ◌<◌, ◌≤◌, [], ◌∷◌, ◌++◌, List, ℕ, Option, None, Some, if◌then◌else◌, length, OnOk, OnErr, IfOk, IfErr, IfSome, IfNone};
 ghost use Rattle.std.specs.Bool.{OnTrue, OnFalse};
+ghost use Rattle.message.specs.declared.msg.Msg.TheVariants as msg;
 ghost use Rattle.message.specs.declared.run.Run.TheVariants as run;
 ghost use Rattle.message.specs.Settled.{IsToldOf};
 ghost use Rattle.message.specs.Runs.{later_edits, several_effect, several_msgs, run_effect, run_len, run_msgs, AreKeyed, IsRunKeyed, rest_msgs, IsRestKeyed};
@@ -33,6 +34,22 @@ pub struct Several<U: Changes> {
     pub(crate) first: U,
     /// The others.
     pub(crate) more: Vec<(Key, U)>,
+}
+
+/// A copy of the update, as a message at the key.
+fn copied_edit<U: Update>(alloc: Global, key: &Key, update: &U) -> Result<Msg<U>, NoMemory>
+    ensures { IfOk result (λ m. m ≡ msg.Edit key.now update.now) }
+{
+    let key = key.copy(alloc)?;
+    Ok(Msg::Edit(key, update.copy(alloc)?))
+}
+
+/// A copy of an update with the key that it came with.
+fn copied_later<U: Update>(alloc: Global, later: &(Key, U)) -> Result<(Key, U), NoMemory>
+    ensures { IfOk result (λ p. p ≡ later.now) }
+{
+    let key = later.0.copy(alloc)?;
+    Ok((key, later.1.copy(alloc)?))
 }
 
 impl<U: Update> Several<U> {
@@ -86,9 +103,9 @@ impl<U: Update> Several<U> {
     ) -> Result<(), NoMemory>
         ensures { OnOk result (front.new.items ≡ front.old.items ++ several_msgs key.now self.now) }
     {
-        front.push(Msg::Edit(key.copy(alloc)?, self.first.copy(alloc)?))?;
+        front.push(copied_edit(alloc, key, &self.first)?)?;
         for update in &self.more {
-            front.push(Msg::Edit(key.copy(alloc)?, update.1.copy(alloc)?))?;
+            front.push(copied_edit(alloc, key, &update.1)?)?;
         }
         Ok(())
     }
@@ -101,7 +118,7 @@ impl<U: Update> Several<U> {
         let first = self.first.copy(alloc)?;
         let mut more = Vec::new(alloc);
         for update in &self.more {
-            more.push((update.0.copy(alloc)?, update.1.copy(alloc)?))?;
+            more.push(copied_later(alloc, update)?)?;
         }
         Ok(Several { first, more })
     }
@@ -378,21 +395,14 @@ impl<U: Update> Run<U> {
     ) -> Result<(), NoMemory>
         ensures { OnOk result (front.new.items ≡ front.old.items ++ run_msgs key.now self.now) }
     {
-        match self {
-            Run::Put(value) => {
-                front.push(Msg::Put(key.copy(alloc)?, U::copy_value(alloc, value)?))?;
-                Ok(())
-            }
-            Run::Del => {
-                front.push(Msg::Del(key.copy(alloc)?))?;
-                Ok(())
-            }
-            Run::Edit(update) => {
-                front.push(Msg::Edit(key.copy(alloc)?, update.copy(alloc)?))?;
-                Ok(())
-            }
-            Run::Edits(several) => several.copy_into(alloc, key, front),
-        }
+        let msg = match self {
+            Run::Put(value) => Msg::Put(key.copy(alloc)?, U::copy_value(alloc, value)?),
+            Run::Del => Msg::Del(key.copy(alloc)?),
+            Run::Edit(update) => copied_edit(alloc, key, update)?,
+            Run::Edits(several) => return several.copy_into(alloc, key, front),
+        };
+        front.push(msg)?;
+        Ok(())
     }
 
     /// A run of the same messages.
