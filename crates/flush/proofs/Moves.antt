@@ -18,7 +18,7 @@ use Rattle.node.proofs.Appending.{next_lo-taken}
 use Rattle.node.proofs.Placing.{pieces-append}
 use Rattle.node.proofs.Sinking.{pending-taken}
 use Rattle.node.proofs.Wholes.{taken-none}
-use Rattle.flush.specs.Sunk.{GoneInto, Moved, MovedInto, Sunk, spare}
+use Rattle.flush.specs.Sunk.{Moved, MovedInto, Sunk, spare}
 use Rattle.flush.proofs.Counts.{piece_count-append, piece_count-none}
 
 -- what holds, holds where there is an error

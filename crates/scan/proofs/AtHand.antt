@@ -1,12 +1,12 @@
 -- The pairs of a scan, one after the other.
-use Rattle.std.proofs.Common.{◌≡◌, ℕ, zero, suc, ◌+◌, ◌-◌, ◌<◌, ◌≤◌, true, false, List, [], ◌∷◌, ◌++◌, length, get_or, refl, ap, sym, ◌∙◌, subst, Bool, Option, Some, None, arith, ◌⊎◌, inl, inr}
+use Rattle.std.proofs.Common.{◌≡◌, ℕ, zero, suc, ◌-◌, ◌<◌, true, false, List, [], ◌∷◌, ◌++◌, length, get_or, refl, ap, sym, ◌∙◌, subst, Bool, Option, Some, None, arith, ◌⊎◌, inl, inr}
 use Rattle.std.specs.Prelude.{All, Contains}
 use Rattle.std.specs.Option.{option_to_list}
 use Rattle.pathkey.specs.Keys.{is_below, next_key}
 use Rattle.message.specs.Ranges.{reaches, before, within}
 use Rattle.message.proofs.KeyOrder.{both, le_le, reaches-refl, reaches-from_before, reaches-from_not_before, not_before_from_reaches, below_next}
-use Rattle.message.proofs.NextKey.{in_range, before-next, reaches-next}
-use Rattle.scan.specs.Pairs.{HasNone, IsFirst, IsRising, IsScan, AreAhead, IsGiven}
+use Rattle.message.proofs.NextKey.{in_range, reaches-next}
+use Rattle.scan.specs.Pairs.{HasNone, IsFirst, IsScan, AreAhead, IsGiven}
 use Rattle.scan.proofs.Joins.{scan_zero}
 use Rattle.scan.proofs.Pieces.{of_one}
 

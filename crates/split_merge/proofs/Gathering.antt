@@ -1,5 +1,5 @@
 -- Slots from a number on, one by one, with what waits in them.
-use Rattle.std.proofs.Common.{◌≡◌, ℕ, suc, ◌+◌, ◌<◌, ◌≤◌, ◌++◌, List, [], ◌∷◌, length, get_or, drop, ap, sym, ◌∙◌, subst, arith, drop-cons}
+use Rattle.std.proofs.Common.{◌≡◌, ℕ, suc, ◌+◌, ◌<◌, ◌≤◌, ◌++◌, List, [], length, get_or, drop, ap, sym, ◌∙◌, arith, drop-cons}
 use Rattle.std.proofs.lemmas.List.{drop_all}
 use Rattle.node.specs.declared.node.Slot.{Slot}
 use Rattle.node.specs.See.{seen_slots}

@@ -1,5 +1,4 @@
-use Rattle.std.proofs.Common.{ap, sym, ◌∙◌, ◌≡◌, ◌<◌, length, refl, rules, arith}
-use Rattle.std.specs.Prelude.{IfOk}
+use Rattle.std.proofs.Common.{ap, sym, ◌∙◌, ◌≡◌, ◌<◌, length, rules, arith}
 use Rattle.std.proofs.lemmas.Result.{IfOk-weaker}
 use Rattle.node.specs.Meaning.{value, slot_number}
 use Rattle.node.specs.Pure.{inner}

@@ -1,4 +1,4 @@
-use Rattle.std.proofs.Common.{◌≡◌, ◌≤◌, ◌∙◌, ap, subst}
+use Rattle.std.proofs.Common.{◌≤◌, ◌∙◌, ap, subst}
 use Rattle.flush.specs.Sunk.{spare}
 use Rattle.flush.proofs.Moves.{searchable_sunk, sunk_then}
 use Rattle.flush.proofs.inner.sink_front.Goals as goal

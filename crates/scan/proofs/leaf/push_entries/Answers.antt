@@ -16,7 +16,7 @@ pub entries-preserved : goal.entries-preserved
 entries-preserved g c =
     let e = c.index-entries-i.result in
     let pushed : (c.in_ok-key.key, c.in_ok-copy_value.field-0) ≡ e = λ i. (c.in_ok-key.ensures i, c.in_ok-copy_value.ensures i) in
-    take_more c.args.entries.now c.args.lo.now (option_copied c.args.hi) c.args.limit c.entries.i c.args.pairs.now.items c.entries.pairs.items c.entries.invariant e c.requires (omega (arith, c.entries-test.true)) c.index-entries-i.is c.push-in-entries.new.self.items
+    take_more c.args.entries.now c.args.lo.now (option_copied c.args.hi) c.args.limit c.entries.i c.args.pairs.now.items c.entries.pairs.items c.entries.invariant e c.requires (omega (arith, c.entries-test.true)) c.index-entries-i.is c.push.new.self.items
     (sym c.is_before_end.ensures ∙ c.if-not-is_before_end.false)
     (omega (arith, c.len.ensures, c.entries.pairs.ok.0, c.if-len-limit.false))
     (c.in_ok-push.ensures.items ∙ ap (λ (p : List ℕ × g.row.U-Value.Denot). c.entries.pairs.items ++ p ∷ []) pushed)

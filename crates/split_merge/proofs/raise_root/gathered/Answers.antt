@@ -1,5 +1,4 @@
-use Rattle.std.proofs.Common.{◌≡◌, ◌∙◌, ◌+◌, ◌++◌, ap, sym, subst, List, [], drop, arith, add-one}
-use Rattle.message.specs.declared.msg.Msg.{Msg}
+use Rattle.std.proofs.Common.{◌+◌, sym, subst, [], drop, arith}
 use Rattle.message.specs.Effects.{Takes}
 use Rattle.message.proofs.Composing.{takes-none, takes-on}
 use Rattle.node.specs.See.{seen_slots}

@@ -1,4 +1,4 @@
-use Rattle.std.proofs.Common.{◌≡◌, ◌<◌, arith, ap, sym, subst, length, nat_lt, true, [], refl}
+use Rattle.std.proofs.Common.{◌<◌, arith, ap, sym, subst, length, nat_lt, [], refl}
 use Rattle.std.proofs.lemmas.Bool.Decides.{nat_tests}
 use Rattle.node.specs.Meaning.{value}
 use Rattle.scan.specs.Pairs.{IsScan}

@@ -1,4 +1,4 @@
-use Rattle.std.proofs.Common.{◌≡◌, List, ◌∷◌, [], ap, sym, subst, ◌∙◌, false, true, arith}
+use Rattle.std.proofs.Common.{◌≡◌, ap, sym, subst, ◌∙◌, false, true, arith}
 use Rattle.std.specs.Ordering.{is_lt}
 use Rattle.message.specs.Ranges.{before}
 use Rattle.scan.specs.Pairs.{AreAhead}
