@@ -14,9 +14,15 @@ use std::sync::Arc;
 pub const BLOCK: u64 = 4096;
 
 /// At most 4,096 bytes of a file, which contracts see as their list. They are shared: a copy is one more owner.
-#[derive(Drop)]
 pub struct Block {
     stored: Stored,
+}
+
+// Written out, as that of `pathkey::Key`.
+impl Drop for Block {
+    fn drop(self) {
+        let Block { stored: _ } = self;
+    }
 }
 
 impl Model for Block {

@@ -9,10 +9,16 @@ use std::alloc::Global;
 use std::marker::Model;
 
 /// Bytes that are laid over a block from an offset on. They end inside the block.
-#[derive(Drop)]
 pub struct Patch {
     off: u16,
     bytes: Bytes,
+}
+
+// Written out, as that of `pathkey::Key`.
+impl Drop for Patch {
+    fn drop(self) {
+        let Patch { off: _, bytes: _ } = self;
+    }
 }
 
 impl Model for Patch {

@@ -9,11 +9,17 @@ use crate::rule::Naming;
 use std::marker::Model;
 
 /// The clients of an engine, never more than it has. A contract sees what each knows, in their order.
-#[derive(Drop)]
 pub struct Clients<J: Naming> {
     list: Vec<Client<J>>,
     /// How many clients the engine has.
     most: usize,
+}
+
+// Written out, as that of `pathkey::Key`.
+impl<J: Naming> Drop for Clients<J> {
+    fn drop(self) {
+        let Clients { list: _, most: _ } = self;
+    }
 }
 
 impl<J: Naming> Model for Clients<J> {

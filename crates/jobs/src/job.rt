@@ -1,15 +1,19 @@
 //! A job, and what was built of it.
-ghost use Rattle.std.specs.Prelude.{◌≡◌};
+ghost use Rattle.std.specs.Prelude.{◌≡◌, OnOk, OnErr, IfErr};
+ghost use Rattle.jobs.specs.Content.{done_content};
+ghost use Rattle.jobs.specs.Marks.{MarkHas};
+ghost use Rattle.jobs.specs.Replies.{IsPlaced};
 
+use crate::mark::Mark;
+use crate::marks::number_in;
 use crate::ticket::Ticket;
-use message::{Changes, Msg};
-use node::{Node, Shape};
+use message::{Changes, Msg, Update};
+use node::{Node, Shape, Tree};
 use pathkey::KeyRange;
 use std::marker::Model;
 use std::sync::Arc;
 
 /// The oldest messages of a slot of a root, and its child.
-#[derive(Drop)]
 pub struct Job<U: Changes> {
     /// Which job it is.
     pub(crate) ticket: u64,
@@ -21,6 +25,19 @@ pub struct Job<U: Changes> {
     pub(crate) msgs: Vec<Msg<U>>,
     /// The child.
     pub(crate) child: Arc<Node<U>>,
+}
+
+// Written out, as that of `pathkey::Key`.
+impl<U: Changes + Drop> Drop for Job<U> {
+    fn drop(self) {
+        let Job {
+            ticket: _,
+            shape: _,
+            range: _,
+            msgs: _,
+            child: _,
+        } = self;
+    }
 }
 
 impl<U: Changes> Model for Job<U> {
@@ -46,7 +63,6 @@ impl<U: Changes> Job<U> {
 }
 
 /// A subtree that has the messages of a job in it.
-#[derive(Drop)]
 pub struct Done<U: Changes> {
     /// Which job it was.
     pub(crate) ticket: u64,
@@ -58,6 +74,19 @@ pub struct Done<U: Changes> {
     pub(crate) count: u32,
     /// The subtree.
     pub(crate) child: Arc<Node<U>>,
+}
+
+// Written out, as that of `pathkey::Key`.
+impl<U: Changes + Drop> Drop for Done<U> {
+    fn drop(self) {
+        let Done {
+            ticket: _,
+            shape: _,
+            range: _,
+            count: _,
+            child: _,
+        } = self;
+    }
 }
 
 impl<U: Changes> Model for Done<U> {
@@ -79,5 +108,34 @@ impl<U: Changes> Done<U> {
         ensures { result.number ≡ self.now.ticket }
     {
         Ticket::of(self.ticket)
+    }
+}
+
+impl<U: Update> Done<U> {
+    /// Puts what was built in the place of the child of the mark's slot. Where that is refused it comes back.
+    pub(crate) fn place(self, tree: &mut Tree<U>, mark: &Mark) -> Result<(), Done<U>>
+        requires { MarkHas U.means mark.now (done_content U.means self) tree.old }
+        ensures ok { OnOk result (IsPlaced U.means self tree.old tree.new) }
+        ensures err { OnErr result (tree.new ≡ tree.old) }
+        ensures back { IfErr result (λ d. d ≡ self) }
+    {
+        let i = number_in(tree.root(), &mark.range.lo);
+        let Done {
+            ticket,
+            shape,
+            range,
+            count,
+            child,
+        } = self;
+        match tree.graft(i, count as usize, child) {
+            Ok(()) => Ok(()),
+            Err(child) => Err(Done {
+                ticket,
+                shape,
+                range,
+                count,
+                child,
+            }),
+        }
     }
 }

@@ -95,7 +95,7 @@ fn remove_mark(marks: &mut Vec<Mark>, i: usize)
 }
 
 /// The number of the root's slot that holds the key.
-fn number_in<U: Update>(root: &Node<U>, key: &Key) -> usize
+pub(crate) fn number_in<U: Update>(root: &Node<U>, key: &Key) -> usize
     requires { IsRoot root.now }
     ensures { result ≡ number_in root.now key.now }
 {

@@ -30,10 +30,19 @@ use std::marker::Model;
 ///
 /// A message comes into the tail where the slot has a mark, or where it found no memory for its place. The next message that
 /// comes without a mark first folds the tail into the sorted part, so a list whose mark is gone condenses again.
-#[derive(Drop)]
 pub struct Pending<U: Changes> {
     sorted: Sorted<U>,
     fresh: Tail<U>,
+}
+
+// Written out, as that of `pathkey::Key`.
+impl<U: Changes + Drop> Drop for Pending<U> {
+    fn drop(self) {
+        let Pending {
+            sorted: _,
+            fresh: _,
+        } = self;
+    }
 }
 
 impl<U: Changes> Model for Pending<U> {

@@ -25,10 +25,16 @@ pub mod kept;
 pub mod step;
 
 /// A buffered tree. Every tree is lawful, which its type keeps.
-#[derive(Drop)]
 pub struct Tree<U: Changes> {
     shape: Shape,
     root: Arc<Node<U>>,
+}
+
+// Written out, as that of `pathkey::Key`.
+impl<U: Changes + Drop> Drop for Tree<U> {
+    fn drop(self) {
+        let Tree { shape: _, root: _ } = self;
+    }
 }
 
 impl<U: Changes> Model for Tree<U> {

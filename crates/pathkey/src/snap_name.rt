@@ -21,9 +21,15 @@ const LONGEST: usize = 64;
 /// A snapshot's name, which contracts see as its bytes.
 ///
 /// Names are in byte order, so it holds its bytes as a key does.
-#[derive(Drop)]
 pub struct SnapName {
     bytes: Key,
+}
+
+// Written out, as that of `pathkey::Key`.
+impl Drop for SnapName {
+    fn drop(self) {
+        let SnapName { bytes: _ } = self;
+    }
 }
 
 impl Model for SnapName {

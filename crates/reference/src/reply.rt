@@ -31,9 +31,16 @@ pub enum Meta {
 }
 
 /// Bytes that were read. Contracts see them as a list, so that replies are compared by plain equality.
-#[derive(Debug, Drop)]
+#[derive(Debug)]
 pub struct FileBytes {
     bytes: Vec<u8>,
+}
+
+// Written out, as that of `pathkey::Key`.
+impl Drop for FileBytes {
+    fn drop(self) {
+        let FileBytes { bytes: _ } = self;
+    }
 }
 
 impl Model for FileBytes {
@@ -63,14 +70,22 @@ impl FileBytes {
     pub fn into_vec(self) -> Vec<u8>
         ensures { result.items ≡ self }
     {
-        self.bytes
+        let FileBytes { bytes } = self;
+        bytes
     }
 }
 
 /// The entries of a directory: kind and name of each, in byte order of names. Contracts see a list.
-#[derive(Debug, Drop)]
+#[derive(Debug)]
 pub struct Listing {
     entries: Vec<(Kind, Vec<u8>)>,
+}
+
+// Written out, as that of `pathkey::Key`.
+impl Drop for Listing {
+    fn drop(self) {
+        let Listing { entries: _ } = self;
+    }
 }
 
 impl Model for Listing {
@@ -104,7 +119,8 @@ impl Listing {
     pub fn into_vec(self) -> Vec<(Kind, Vec<u8>)>
         ensures { pairs_of result.items ≡ self }
     {
-        self.entries
+        let Listing { entries } = self;
+        entries
     }
 }
 

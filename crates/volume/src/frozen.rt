@@ -12,9 +12,15 @@ use std::alloc::Global;
 use std::marker::Model;
 
 /// A tree that stands still: later changes of the volume do not touch it. Contracts see its indexes with the moment of its root.
-#[derive(Drop)]
 pub struct Frozen {
     rooted: Rooted,
+}
+
+// Written out, as that of `pathkey::Key`.
+impl Drop for Frozen {
+    fn drop(self) {
+        let Frozen { rooted: _ } = self;
+    }
 }
 
 impl Model for Frozen {

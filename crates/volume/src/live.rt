@@ -23,12 +23,23 @@ use std::marker::Model;
 use steps::{TRIES, make_room};
 
 /// Indexes, and the marks of the jobs taken from them: they stand beside the trees, so that no share of a tree has any.
-#[derive(Drop)]
 pub struct Live {
     indexes: Indexes,
     meta_marks: Marks,
     block_marks: Marks,
     given: u128,
+}
+
+// Written out, as that of `pathkey::Key`.
+impl Drop for Live {
+    fn drop(self) {
+        let Live {
+            indexes: _,
+            meta_marks: _,
+            block_marks: _,
+            given: _,
+        } = self;
+    }
 }
 
 impl Model for Live {

@@ -14,9 +14,15 @@ use std::marker::Model;
 const MOST: usize = 64;
 
 /// Indexes under names, which contracts see as a finite map.
-#[derive(Drop)]
 pub struct Snapshots {
     named: BTreeMap<SnapName, Rooted>,
+}
+
+// Written out, as that of `pathkey::Key`.
+impl Drop for Snapshots {
+    fn drop(self) {
+        let Snapshots { named: _ } = self;
+    }
 }
 
 impl Model for Snapshots {

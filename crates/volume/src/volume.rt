@@ -31,11 +31,21 @@ use std::alloc::Global;
 use std::marker::Model;
 
 /// The live indexes of a file system with the moment of the root, and those of its named snapshots.
-#[derive(Drop)]
 pub struct Volume {
     live: Live,
     modified: u64,
     snapshots: Snapshots,
+}
+
+// Written out, as that of `pathkey::Key`.
+impl Drop for Volume {
+    fn drop(self) {
+        let Volume {
+            live: _,
+            modified: _,
+            snapshots: _,
+        } = self;
+    }
 }
 
 impl Model for Volume {

@@ -1,44 +1,15 @@
 //! Installing what was built of a job.
-ghost use Rattle.std.specs.Prelude.{◌≡◌, ◌↔◌, None, List, ℕ, OnOk, OnErr, IfErr};
-ghost use Rattle.jobs.specs.Marks.{AllKept, AreMarks, MarkHas, place_of, without};
-ghost use Rattle.jobs.specs.Content.{done_content};
+ghost use Rattle.std.specs.Prelude.{◌≡◌, ◌↔◌, None, List, ℕ};
+ghost use Rattle.jobs.specs.Marks.{AllKept, AreMarks, place_of, without};
 ghost use Rattle.jobs.specs.Replies.{FitsMark, IsPlaced, IfInstalled, UnlessInstalled, IfGivenBack};
 ghost use Rattle.jobs.specs.declared.reply.InstallReply.TheVariants.{Stale};
 ghost use Rattle.node.specs.Meaning.{value};
 
-use super::{Marks, number_in, place_of, remove_mark};
+use super::{Marks, place_of, remove_mark};
 use crate::job::Done;
-use crate::mark::Mark;
 use crate::reply::InstallReply;
 use message::Update;
 use node::Tree;
-
-/// Puts what was built in the place of the child of the mark's slot. Where that is refused it gives the value back.
-fn place<U: Update>(tree: &mut Tree<U>, mark: &Mark, done: Done<U>) -> Result<(), Done<U>>
-    requires { MarkHas U.means mark.now (done_content U.means done) tree.old }
-    ensures ok { OnOk result (IsPlaced U.means done tree.old tree.new) }
-    ensures err { OnErr result (tree.new ≡ tree.old) }
-    ensures back { IfErr result (λ d. d ≡ done) }
-{
-    let i = number_in(tree.root(), &mark.range.lo);
-    let Done {
-        ticket,
-        shape,
-        range,
-        count,
-        child,
-    } = done;
-    match tree.graft(i, count as usize, child) {
-        Ok(()) => Ok(()),
-        Err(child) => Err(Done {
-            ticket,
-            shape,
-            range,
-            count,
-            child,
-        }),
-    }
-}
 
 impl Marks {
     /// Puts what was built of a job in the place of the child of the mark's slot, and takes away the messages that it has in
@@ -57,7 +28,7 @@ impl Marks {
         let Some(at) = place_of(self.list.as_slice(), done.ticket) else {
             return InstallReply::Stale;
         };
-        match place(tree, &self.list[at], done) {
+        match done.place(tree, &self.list[at]) {
             Err(done) => InstallReply::NoMemory(done),
             Ok(()) => {
                 remove_mark(&mut self.list, at);

@@ -140,7 +140,8 @@ fn job_of<U: Update>(
 
 /// The mark of a job.
 fn mark_of<U: Update>(alloc: Global, job: &Job<U>) -> Result<Mark, NoMemory>
-    ensures { IfOk result (λ m. m ≡ mark_of job.now) }
+    ensures mark { IfOk result (λ m. m ≡ mark_of job.now) }
+    ensures job { IsJob job.now.shape job.now.range job.now.msgs job.now.child }
 {
     let range = job.range.copy(alloc)?;
     Ok(Mark {
@@ -154,6 +155,7 @@ fn mark_of<U: Update>(alloc: Global, job: &Job<U>) -> Result<Mark, NoMemory>
 fn push_mark<U: Update>(alloc: Global, marks: &mut Vec<Mark>, job: &Job<U>) -> Result<(), NoMemory>
     ensures ok { OnOk result (marks.new.items ≡ marks.old.items ++ mark_of job.now ∷ []) }
     ensures err { OnErr result (marks.new.items ≡ marks.old.items) }
+    ensures job { IsJob job.now.shape job.now.range job.now.msgs job.now.child }
 {
     let mark = mark_of(alloc, job)?;
     marks.push(mark)?;

@@ -10,7 +10,7 @@ use Rattle.reference.specs.Tree.{Path}
 use Rattle.reference.specs.declared.reply.Meta.{Meta}
 use Rattle.volume.specs.Walks.{IsEntry}
 use Rattle.images.proofs.image.print_piece.Goals as goal
-use Rattle.images.proofs.image.print_piece.Goals.{in-Some+in-Heap-1, in-Some+in-Inline-1, in_default}
+use Rattle.images.proofs.image.print_piece.Goals.{in-Some, in_default}
 
 pub returns-clause-ok : goal.returns-clause-ok
 returns-clause-ok g c = λ t mean all.
@@ -26,7 +26,6 @@ returns-clause-err g c = λ t mean all.
 
 pub returns-clause-last : goal.returns-clause-last
 returns-clause-last g c = elim c.match-pop.branch [
-  | in-Some+in-Heap-1 w ↦ w.last-is ∙ sym (ap (last_of c.args.last.now) w.in-Some.ensures.items ∙ last_pushed c.args.last.now c.pop.new.self.items (w.in-Some.path, w.in-Some.field-0-1))
-  | in-Some+in-Inline-1 w ↦ w.last-is ∙ sym (ap (last_of c.args.last.now) w.in-Some.ensures.items ∙ last_pushed c.args.last.now c.pop.new.self.items (w.in-Some.path, w.in-Some.field-0-1))
+  | in-Some w ↦ w.last-is ∙ sym (ap (last_of c.args.last.now) w.in-Some.ensures.items ∙ last_pushed c.args.last.now c.pop.new.self.items (w.in-Some.path, w.in-Some.field-0-1))
   | in_default w ↦ w.last-is ∙ sym (none_last c.args.last.now c.args.piece.items (omega (arith, w.in_default.ensures.cases.0, c.args.piece.ok)))
 ]

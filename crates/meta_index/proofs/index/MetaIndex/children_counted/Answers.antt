@@ -23,17 +23,6 @@ returns-in_default-2-clause-listed c = λ t is_meant. absurd
     (always_child t c.args.self.now c.args.path.now is_meant c.entries.entries.items c.entries.rest.lo c.entries.rest.hi (c.entries.invariant.listed t is_meant)
     c.in_ok-key.field-0 (given_first (metadata c.args.self.now) c.entries.rest.lo c.entries.rest.hi c.in_ok-key.field-0 c.first.new.self.all c.first.new.self.pairs.items c.in_ok-key.ensures) c.in-Some.key c.in-Some.meta c.in-Some.is c.in_ok-child.field-0 c.in_ok-child.ensures.entry c.in_default-2.is)
 
-pub entries-preserved-in_ok-push : goal.entries-preserved-in_ok-push
-entries-preserved-in_ok-push c = record {
-  listed = λ t is_meant.
-      listing_goes_on t c.args.self.now c.args.path.now is_meant c.entries.entries.items c.entries.rest.lo c.entries.rest.hi (c.entries.invariant.listed t is_meant)
-      c.in_ok-key.field-0 (given_first (metadata c.args.self.now) c.entries.rest.lo c.entries.rest.hi c.in_ok-key.field-0 c.first.new.self.all c.first.new.self.pairs.items c.in_ok-key.ensures) c.in-Some.key c.in-Some.meta c.in-Some.is c.in_ok-child.field-0 c.in_ok-child.ensures.entry
-      c.in-Some-2.child c.in-Some-2.is c.kind_of.result c.kind_of.ensures c.push.new.self.items c.in_ok-push.ensures.items;
-  ahead = given_ahead (metadata c.args.self.now) c.entries.rest.lo c.entries.rest.hi c.in_ok-key.field-0 (c.in-Some.key, c.in-Some.meta) c.first.new.self.all c.first.new.self.pairs.items c.in-Some.is c.in_ok-key.ensures
-      c.in-Some-2.child.end (reaches-next c.in-Some.key c.in-Some-2.child.end ∙ subst (λ o. IfSome o (λ x. before c.in-Some.key x.end ≡ true)) c.in-Some-2.is c.in_ok-child.ensures.behind);
-  counted = omega (arith, c.entries.invariant.counted, one_longer _ _ _ c.in_ok-push.ensures.items);
-}
-
 pub entries-preserved : goal.entries-preserved
 entries-preserved c = record {
   listed = λ t is_meant.

@@ -9,20 +9,9 @@ use Rattle.meta_index.proofs.index.MetaIndex.find_obstacle.Goals as goal
 pub climb-init : goal.climb-init
 climb-init c = subst (λ (a : Option Path). Decides c.args.self.now c.args.path.now a) (sym c.in_ok-ancestor.ensures) (parent_decides c.args.self.now c.args.path.now)
 
-pub climb-smaller-in_ok-ancestor-2 : goal.climb-smaller-in_ok-ancestor-2
-climb-smaller-in_ok-ancestor-2 c =
-    height_falls c.in_ok-ancestor-2.ancestor c.climb.ancestor c.in-Some.above c.in_ok-ancestor-2.ensures c.in-Some.is
-
 pub climb-smaller : goal.climb-smaller
 climb-smaller c =
     height_falls c.in_ok-ancestor-2.ancestor c.climb.ancestor c.in-Some.above c.in_ok-ancestor-2.ensures c.in-Some.is
-
-pub climb-preserved-in_ok-ancestor-2 : goal.climb-preserved-in_ok-ancestor-2
-climb-preserved-in_ok-ancestor-2 c =
-    let none = sym c.in_default-2.is ∙ c.in_ok-meta.ensures ∙ ap (λ (k : List ℕ). value means c.args.self.now.tree.root k) c.key.ensures.value in
-    let here = subst (λ (a : Option Path). Decides c.args.self.now c.args.path.now a) c.in-Some.is c.climb.invariant in
-    subst (λ (a : Option Path). Decides c.args.self.now c.args.path.now a) (sym c.in_ok-ancestor-2.ensures)
-    (parent_decides_for c.args.self.now c.args.path.now c.in-Some.above c.key.ensures.valid none here)
 
 pub climb-preserved : goal.climb-preserved
 climb-preserved c =
