@@ -1,7 +1,7 @@
 //! A volume on one page: a file is written, kept by a snapshot, written over, read as it is and as it was, and brought back.
-//! The moments at which it is changed are 1, 2 and 3.
 #![tactic(auto)]
 
+use images::print_image;
 use std::alloc::Global;
 use std::str;
 use volume::{Errno, Path, Shape, SnapName, Volume};
@@ -25,8 +25,7 @@ fn bring_back(alloc: Global, volume: &mut Volume) -> Result<(), Errno> {
 }
 
 fn read(alloc: Global, volume: &Volume) -> Result<Vec<u8>, Errno> {
-    let path = Path::parse(alloc, b"/notes/today")?;
-    volume.read(alloc, &path, 0, 1_000)
+    volume.read(alloc, &Path::parse(alloc, b"/notes/today")?, 0, 1_000)
 }
 
 fn read_kept(alloc: Global, volume: &Volume) -> Result<Vec<u8>, Errno> {
@@ -34,9 +33,10 @@ fn read_kept(alloc: Global, volume: &Volume) -> Result<Vec<u8>, Errno> {
     monday.try_read(alloc, &Path::parse(alloc, b"/notes/today")?, 0, 1_000)
 }
 
-fn changed(alloc: Global, volume: &Volume) -> Result<u64, Errno> {
-    let (_, _, moment) = volume.stat(alloc, &Path::parse(alloc, b"/notes/today")?)?;
-    Ok(moment)
+fn image(alloc: Global, volume: &Volume) -> anyhow::Result<Vec<u8>> {
+    let mut text = Vec::new(alloc);
+    print_image(alloc, &volume.freeze()?, &mut text)?;
+    Ok(text)
 }
 
 fn print(rt: &impl Print, when: &str, bytes: Vec<u8>) -> anyhow::Result<()> {
@@ -45,21 +45,15 @@ fn print(rt: &impl Print, when: &str, bytes: Vec<u8>) -> anyhow::Result<()> {
     Ok(())
 }
 
-fn tell(rt: &impl Print, alloc: Global, volume: &mut Volume) -> anyhow::Result<()> {
-    make(alloc, volume)?;
-    write(alloc, volume, b"first words", 2)?;
-    keep(alloc, volume)?;
-    write(alloc, volume, b"other", 3)?;
-    print(rt, "now", read(alloc, volume)?)?;
-    print(rt, "kept", read_kept(alloc, volume)?)?;
-    bring_back(alloc, volume)?;
-    print(rt, "back", read(alloc, volume)?)?;
-    let moment = changed(alloc, volume)?;
-    println!(rt; "changed at {moment}")?;
-    Ok(())
-}
-
 fn main(rt: HostRuntime) -> anyhow::Result<()> {
-    let mut volume = Volume::new(rt.alloc(), Shape::USUAL)?;
-    tell(&rt, rt.alloc(), &mut volume)
+    let alloc = rt.alloc();
+    let mut volume = Volume::new(alloc, Shape::USUAL)?;
+    make(alloc, &mut volume)?;
+    write(alloc, &mut volume, b"first words", 2)?;
+    keep(alloc, &mut volume)?;
+    write(alloc, &mut volume, b"other", 3)?;
+    print(&rt, "now", read(alloc, &volume)?)?;
+    print(&rt, "kept", read_kept(alloc, &volume)?)?;
+    bring_back(alloc, &mut volume)?;
+    print(&rt, "back", image(alloc, &volume)?)
 }

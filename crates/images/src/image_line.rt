@@ -9,6 +9,7 @@ ghost use Rattle.images.specs.ImageLines.{CutsMoment, Guesses, IsRoot, Spells, l
 
 use crate::image::{put_block, put_directory, put_file, trimmed_len};
 use crate::version::{ImageVersion, directory_letter, file_letter};
+use block_index::block::BLOCK;
 use bytes::Bytes;
 use hex::FromHexError;
 use itoa::Buffer;
@@ -16,6 +17,7 @@ use lines::output::WriteFailed;
 use lines::values::{read_number, read_path};
 use lines::words::cut_space;
 use pathkey::{Errno, NoMemory, Path};
+use reference::GREATEST_FILE;
 use std::alloc::Global;
 
 /// A line of an image below the root's.
@@ -29,14 +31,8 @@ pub enum ImageLine {
     Block(u32, Bytes),
 }
 
-/// The most bytes of a file.
-const GREATEST_FILE: u64 = 1 << 40;
-
 /// How many blocks the longest file has.
 const MOST_BLOCKS: u64 = 1 << 28;
-
-/// The most bytes of a block.
-const BLOCK: usize = 4_096;
 
 /// The line of an image of the version that a text spells, without its line feed; none where it spells none. It fails only for want of memory.
 pub fn read_image_line(
@@ -303,5 +299,5 @@ fn guess_bytes(alloc: Global, word: &[u8]) -> Result<Option<Bytes>, NoMemory>
 fn is_block(bytes: &[u8]) -> bool
     ensures { result ≡ true ↔ IsBlock bytes.now }
 {
-    !bytes.is_empty() && bytes.len() <= BLOCK && trimmed_len(bytes) == bytes.len()
+    !bytes.is_empty() && bytes.len() as u64 <= BLOCK && trimmed_len(bytes) == bytes.len()
 }

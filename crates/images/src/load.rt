@@ -19,6 +19,7 @@ ghost use Rattle.images.specs.Loads.{Counts, FitsAt, HasRead, IsBadIn, LoadsAll,
 
 use crate::image_line::{ImageLine, read_image_line, read_root};
 use crate::version::ImageVersion;
+use block_index::block::BLOCK;
 use bytes::Bytes;
 use lines::held::{LONGEST_LINE, PIECE, hold};
 use lines::input::read_some;
@@ -31,9 +32,6 @@ use std::cmp::Ordering;
 use std::io::Read;
 use thiserror::Error;
 use volume::Volume;
-
-/// How many bytes a block holds.
-const BLOCK: u64 = 4_096;
 
 /// Why an image was not loaded.
 #[derive(Debug, Drop, PartialEq, Eq, Error)]
@@ -150,6 +148,7 @@ impl Loading {
         ensures bad { (n : ℕ) → result ≡ Err (LoadFault.Bad n) → IsBadIn (R.remaining reader.old) n }
         ensures shape { result ≢ Err LoadFault.Shape }
     {
+        // No input has more pieces.
         for _ in 0..u64::MAX {
             let Ok(n) = read_some(reader, piece) else {
                 return Err(LoadFault::Read);

@@ -15,6 +15,7 @@ fn write_some<W: Write>(writer: &mut W, bytes: &[u8]) -> Result<usize, WriteFail
     ensures ok { IfOk result (λ n. Appends (W.contents writer.old) (W.contents writer.new) (take n bytes.now)) }
     ensures err { OnErr result (Keeps (W.contents writer.old) (W.contents writer.new)) }
 {
+    // As often as signals interrupt it.
     for _ in 0..u64::MAX {
         match writer.write(bytes) {
             Ok(n) => return Ok(n),
@@ -34,6 +35,7 @@ pub fn put<W: Write>(writer: &mut W, bytes: &[u8]) -> Result<(), WriteFailed>
     ensures err { OnErr result (AppendsPart (W.contents writer.old) (W.contents writer.new) bytes.now) }
 {
     let mut rest = bytes;
+    // No slice has more bytes.
     for _ in 0..u64::MAX {
         if rest.is_empty() {
             return Ok(());

@@ -50,6 +50,7 @@ fn put_digits<W: Write>(writer: &mut W, bytes: &[u8]) -> Result<(), WriteFailed>
     ensures err { OnErr result (AppendsPart (W.contents writer.old) (W.contents writer.new) (flat_map (two_digits 87) bytes.now)) }
 {
     let mut rest = bytes;
+    // No slice has more bytes.
     for _ in 0..u64::MAX {
         if rest.is_empty() {
             return Ok(());

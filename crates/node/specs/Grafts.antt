@@ -1,5 +1,5 @@
 -- A slot by its number, lists that stay as they were while messages come behind them, and a subtree in a child's place.
-use Rattle.std.specs.Prelude.{◌≡◌, ℕ, ◌<◌, ◌≤◌, Bool, true, false, List, [], ◌∷◌, ◌++◌, Option, None, length, take, drop, ⊤}
+use Rattle.std.specs.Prelude.{◌≡◌, ◌↔◌, ℕ, ◌<◌, ◌≤◌, Bool, true, false, List, [], ◌∷◌, ◌++◌, Option, None, length, take, drop, ⊤}
 use Rattle.std.proofs.Common.{zero, suc}
 use Rattle.message.specs.declared.msg.Msg.{Msg}
 use Rattle.message.specs.Ranges.{within}
@@ -14,7 +14,7 @@ use Rattle.node.specs.Site.{Spliced}
 -- whether the first of the numbers is above 0, and the others
 abbrev pub IsFirstKept : List ℕ → Bool → List ℕ → Type 0
 IsFirstKept [] plain rest = (plain ≡ false) × (rest ≡ [])
-IsFirstKept (k ∷ ks) plain rest = (0 < k → plain ≡ true) × (rest ≡ ks)
+IsFirstKept (k ∷ ks) plain rest = ((0 < k) ↔ (plain ≡ true)) × (rest ≡ ks)
 
 -- what may hold of a slot: of its beginning, its end, its messages and its child
 abbrev pub OfSlot : Type 0 → Type 0 → Type 1

@@ -44,7 +44,7 @@ Scripts:
   and one of more than 65536 bytes by 'error line'. --steps, --fanout, --pending
   and --leaf set how the trees behind the file system work; no reply rests on
   them. With --flushers above 0 so many threads tidy the trees beside the
-  script, 1000 steps each, and --steps has no effect.
+  script, 1000 turns each, and --steps has no effect.
 
 Images:
   --image prints the whole tree as text after the replies, from the line 'D / M'

@@ -124,6 +124,7 @@ fn run_over<S: Session, R: Read, W: Write, P: Pace>(
     ensures write { result ≡ Err ScriptFault.Write → Leads (Meant (S.means session.old) at.old) (Meant (S.means session.new) at.new)
         (DoesUntil (R.remaining reader.old)) (Appends (W.contents writer.old) (W.contents writer.new)) }
 {
+    // No input has more pieces.
     for _ in 0..u64::MAX {
         if let Err(WriteFailed) = flush(writer) {
             return Err(ScriptFault::Write);

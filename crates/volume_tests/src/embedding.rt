@@ -1,4 +1,4 @@
-//! The lines of the first page that embed a volume: a file is written, kept by a snapshot and unlinked, and its length is told.
+//! A volume as a program embeds it: a file is written, kept by a snapshot and unlinked, and its length is told.
 use crate::asked::{USUAL, new_volume};
 use bytes::Bytes;
 use std::alloc::Global;

@@ -1,5 +1,5 @@
 //! What a volume tells of its trees, and what a tree that stands still tells.
-use crate::asked::{SMALL, answers, freeze, frozen, new_volume, tells};
+use crate::asked::{SMALL, USUAL, answers, freeze, frozen, new_volume, tells};
 use node::{Place, Shape, StepKind, TreeStep};
 use pathkey::Errno;
 use reference::Kind;
@@ -49,6 +49,45 @@ fn new_is_told_of(alloc: Global) -> bool {
 #[test]
 fn each_index_is_told_of(rt: HostRuntime) {
     assert!(rt; new_is_told_of(rt.alloc()));
+}
+
+/// Whether relief takes this index, once a file is made and bytes are written.
+fn is_relieved(alloc: Global, volume: &mut Volume, bytes: &[u8], index: Index) -> bool {
+    let count = bytes.len() as u64;
+    answers(alloc, volume, Ask::Create("/f"), Told::Done)
+        && answers(
+            alloc,
+            volume,
+            Ask::Write("/f", 0, bytes),
+            Told::Count(count),
+        )
+        && matches!(volume.relieve(alloc), Some(relief) if relief.step.index == index)
+}
+
+/// The same of a new volume.
+fn new_is_relieved(alloc: Global, bytes: &[u8], index: Index) -> bool {
+    match new_volume(alloc, USUAL) {
+        Ok(mut volume) => is_relieved(alloc, &mut volume, bytes, index),
+        Err(_) => false,
+    }
+}
+
+#[test]
+fn relief_takes_the_index_in_which_more_waits(rt: HostRuntime) {
+    // The root and the file wait in the metadata, and each block in the other index.
+    let rows: [(&[u8], Index); 4] = [
+        (b"", Index::Meta),
+        (&[0xaa; 4_096], Index::Meta),
+        (&[0xaa; 8_192], Index::Meta),
+        (&[0xaa; 8_193], Index::Block),
+    ];
+    for (bytes, index) in rows {
+        assert!(rt;
+            new_is_relieved(rt.alloc(), bytes, index),
+            "{}",
+            bytes.len()
+        );
+    }
 }
 
 /// Whether a tree has the file, with its byte.

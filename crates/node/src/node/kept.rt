@@ -1,5 +1,5 @@
 //! New messages in the slots of a root, of which some may keep their lists: those from which a job was taken.
-ghost use Rattle.std.specs.Prelude.{◌≡◌, ◌+◌, ◌<◌, ◌≤◌, ◌++◌, [], ◌∷◌, true, None, OnOk, OnErr, map, length, get_or};
+ghost use Rattle.std.specs.Prelude.{◌≡◌, ◌↔◌, ◌+◌, ◌<◌, ◌≤◌, ◌++◌, [], ◌∷◌, true, None, OnOk, OnErr, map, length, get_or};
 ghost use Rattle.message.specs.Effects.{Takes};
 ghost use Rattle.node.specs.Appended.{parts, HaveTaken, IsAppended};
 ghost use Rattle.node.specs.Batches.{batch_parts, HasRoomFor, HaveRoomEach};
@@ -58,7 +58,7 @@ pub fn put_kept<U: Update>(slots: &mut [Slot<U>], parts: &mut [Vec<Msg<U>>], kep
 
 /// Whether the number at the place is above 0; one that is missing is 0. It takes no memory.
 fn is_kept(kept: &[u32], i: usize) -> bool
-    ensures { 0 < get_or kept.now i 0 → result ≡ true }
+    ensures { (0 < get_or kept.now i 0) ↔ (result ≡ true) }
 {
     match kept.get(i) {
         None => false,

@@ -32,4 +32,4 @@ pub returns-clause-taken : goal.returns-clause-taken
 returns-clause-taken g t c = all_taken g.U.Update.means c.args.msgs.now c.in-Some.msg c.next.new.self c.in-Some-point.key.now c.args.slots.now c.slot_of-i.result c.index-slots-i.result c.put_message.new.pending (seen_slots c.put_points.new.slots) c.in-Some.ensures.moved c.in-Some-point.ensures c.requires.root c.slot_of-i.ensures.number c.slot_of-i.ensures.bound c.put_message.ensures.takes c.put_points.ensures.taken
 
 pub returns-clause-kept : goal.returns-clause-kept
-returns-clause-kept g t c = all_kept g.U.Update.means c.args.msgs.now c.in-Some.msg c.next.new.self c.in-Some-point.key.now c.args.slots.now c.slot_of-i.result c.index-slots-i.result c.args.kept.now c.put_message.new.pending (seen_slots c.put_points.new.slots) c.in-Some.ensures.moved c.in-Some-point.ensures c.requires.root c.slot_of-i.ensures.number c.slot_of-i.ensures.bound c.put_message.ensures.takes (λ z. c.put_message.ensures.kept (c.is_kept-plain.ensures z)) c.put_points.ensures.kept
+returns-clause-kept g t c = all_kept g.U.Update.means c.args.msgs.now c.in-Some.msg c.next.new.self c.in-Some-point.key.now c.args.slots.now c.slot_of-i.result c.index-slots-i.result c.args.kept.now c.put_message.new.pending (seen_slots c.put_points.new.slots) c.in-Some.ensures.moved c.in-Some-point.ensures c.requires.root c.slot_of-i.ensures.number c.slot_of-i.ensures.bound c.put_message.ensures.takes (λ z. c.put_message.ensures.kept (c.is_kept-plain.ensures.0 z)) c.put_points.ensures.kept
