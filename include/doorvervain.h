@@ -162,7 +162,8 @@ static inline uint8_t doorvervain_open(struct doorvervain *fs, uint16_t fanout, 
     return doorvervain_raw_open(fanout, pending, leaf, fs);
 }
 
-// Makes a volume of an image: text that doorvervain_image or `betr --image` wrote. The shape is as doorvervain_open has it.
+// Makes a volume of an image: text that doorvervain_image or `betr --image` wrote. An image of version 1, which tells no
+// moments, is taken too: each is 0 then. The shape is as doorvervain_open has it.
 // EINVAL: no such shape, and `line` is 0; or no image, and `line` is the first line with which it is none. ENOMEM. Where it
 // is refused, the volume is closed. What `fs` held before is not freed.
 static inline uint8_t doorvervain_load(struct doorvervain *fs, uint16_t fanout, uint16_t pending, uint16_t leaf,
@@ -182,7 +183,7 @@ static inline void doorvervain_close(struct doorvervain *fs) {
 }
 
 // ---- calls that change a volume. Each may answer ENOMEM where memory is refused; then nothing has changed.
-// Each is done at the moment `at`, a number that need not rise: what is new, a file whose bytes are set, and each
+// Each is done at the moment `at`, a number that need not rise: what is new, a file that is written or cut (a write of no bytes is no change), and each
 // directory that gets or loses an entry then has that moment.
 // A text that is no path is refused before anything else: ENOENT (empty), EINVAL or ENAMETOOLONG.
 
