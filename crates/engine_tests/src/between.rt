@@ -104,7 +104,7 @@ impl Between for Nothing {
 
 /// Many files, nothing waits; then a snapshot, and one file more. It alone waits in the metadata, since a turn brings the moment of its
 /// directory down.
-fn prepares<J: Naming, R: Wait>(
+pub fn prepares<J: Naming, R: Wait>(
     rt: &R,
     alloc: Global,
     client: &mut Client<J>,

@@ -7,6 +7,8 @@ mod asked;
 #[cfg(test)]
 mod between;
 #[cfg(test)]
+mod closed;
+#[cfg(test)]
 mod crew;
 #[cfg(test)]
 mod depth;

@@ -66,6 +66,16 @@ fn sees_build<R: Wait>(rt: &R, flags: &Flags) -> bool {
     false
 }
 
+/// Looks until the turn has ended.
+fn sees_end<R: Wait>(rt: &R, flags: &Flags) {
+    for _ in 0..u64::MAX {
+        if flags.ended.load(Ordering::SeqCst) {
+            return;
+        }
+        rest(rt);
+    }
+}
+
 /// Builds only once a client has written.
 #[derive(Drop)]
 struct Waits<'a, R: Wait> {
@@ -101,7 +111,7 @@ fn builds<J: Naming, R: Wait>(
     between.is_seen && reply == TurnReply::Installed
 }
 
-/// Writes once the flusher builds, and reads the bytes back.
+/// Writes once the flusher builds, and reads the bytes back once its turn has ended.
 fn writes<J: Naming, R: Wait>(rt: &R, alloc: Global, mut client: Client<J>, flags: &Flags) -> bool {
     let is_built = sees_build(rt, flags);
     let wrote = answers(
@@ -112,6 +122,7 @@ fn writes<J: Naming, R: Wait>(rt: &R, alloc: Global, mut client: Client<J>, flag
         Told::Count(1),
     );
     flags.wrote.store(is_built && wrote, Ordering::SeqCst);
+    sees_end(rt, flags);
     answers(
         rt,
         alloc,

@@ -1,0 +1,89 @@
+//! An engine that ends between the two holds of a turn.
+ghost use Rattle.std.specs.Prelude.{◌≡◌};
+
+use crate::asked::{SMALL, new_room};
+use crate::between::prepares;
+use engine::{Between, Clients, Engine, Flusher, Naming, Room, TurnReply};
+use std::alloc::Global;
+use std::marker::Brand;
+use std::sync::Wait;
+
+/// Ends the engine between the taking and the installing.
+#[derive(Drop)]
+struct Ends<'a, J: Naming, R: Wait> {
+    rt: &'a R,
+    whole: Option<(Engine<J>, Clients<J>)>,
+    is_ended: bool,
+}
+
+impl<'a, J: Naming, R: Wait> Between for Ends<'a, J, R> {
+    fn between(&mut self) {
+        if let Some((engine, clients)) = self.whole.take() {
+            self.is_ended = engine.close(self.rt, clients).is_ok();
+        }
+    }
+}
+
+/// Whether a job can be taken, once the one client has made its calls.
+fn is_ready<J: Naming, R: Wait>(
+    rt: &R,
+    alloc: Global,
+    clients: &mut Clients<J>,
+    flusher: &mut Flusher<J>,
+) -> bool {
+    match clients.pop() {
+        Some(mut client) => {
+            let is_ready = prepares(rt, alloc, &mut client, flusher);
+            clients.push(client).is_ok() && is_ready
+        }
+        None => false,
+    }
+}
+
+/// What the turn answers in whose middle the engine ends, and what the next one.
+fn last_turns<J: Naming, R: Wait>(
+    rt: &R,
+    alloc: Global,
+    engine: Engine<J>,
+    clients: Clients<J>,
+    flusher: &mut Flusher<J>,
+) -> Option<(TurnReply, TurnReply)> {
+    let mut between = Ends {
+        rt,
+        whole: Some((engine, clients)),
+        is_ended: false,
+    };
+    let first = flusher.turn(rt, alloc, &mut between);
+    let second = flusher.turn(rt, alloc, &mut between);
+    between.is_ended.then_some((first, second))
+}
+
+/// The same of an engine with one client in this room.
+fn ends_in<J: Naming, R: Wait>(rt: &R, alloc: Global, room: Room) -> Option<(TurnReply, TurnReply)>
+    requires { (room.0 ≡ J.table) × (room.1 ≡ J.opening) × (J.clients ≡ 1) }
+{
+    let (mut engine, mut clients) = Engine::<J>::open(alloc, room, 1).ok()?;
+    let mut flusher = engine.flusher().ok()?;
+    if !is_ready(rt, alloc, &mut clients, &mut flusher) {
+        return None;
+    }
+    last_turns(rt, alloc, engine, clients, &mut flusher)
+}
+
+/// An engine in this room.
+fn run<R: Wait>(rt: &R, alloc: Global, room: Room) -> Option<(TurnReply, TurnReply)> {
+    ends_in::<Brand, R>(rt, alloc, room)
+}
+
+/// Whether the turn is stale, and the next one idle.
+fn is_stale_then_idle<R: Wait>(rt: &R, alloc: Global) -> bool {
+    match new_room(alloc, SMALL) {
+        Some(room) => run(rt, alloc, room) == Some((TurnReply::Stale, TurnReply::Idle)),
+        None => false,
+    }
+}
+
+#[test]
+fn a_turn_in_whose_middle_the_engine_ends_is_stale(rt: HostRuntime) {
+    assert!(rt; is_stale_then_idle(&rt, rt.alloc()));
+}
