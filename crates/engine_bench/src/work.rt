@@ -58,7 +58,10 @@ impl Store for Volume {
     }
 }
 
-/// A volume that does a step after each call.
+/// How many steps are done after a call.
+const STEPS: u32 = 2;
+
+/// A volume that does two steps after each call: one alone may move the message that this call sent first, and leave what waits behind it.
 #[derive(Drop)]
 pub struct Relieved {
     /// The volume.
@@ -68,7 +71,9 @@ pub struct Relieved {
 impl Store for Relieved {
     fn is_done<R: Wait>(&mut self, rt: &R, alloc: Global, call: &Call) -> bool {
         let is_done = self.volume.is_done(rt, alloc, call);
-        self.volume.relieve(alloc);
+        for _ in 0..STEPS {
+            self.volume.relieve(alloc);
+        }
         is_done
     }
 }
