@@ -20,3 +20,7 @@ pub mod NextKey
 pub mod StretchEnds
 pub mod Searching
 pub mod SortedStretches
+pub mod RowFacts
+pub mod RowChanges
+pub mod PointChanges
+pub mod RowsFacts

@@ -13,6 +13,7 @@ pub mod msg;
 pub mod pending;
 pub(crate) mod points;
 pub(crate) mod ranges;
+pub mod row;
 pub mod run;
 pub mod search;
 pub mod settled;

@@ -1,71 +1,201 @@
 //! The point messages of a sorted list, by their keys.
-ghost use Rattle.std.specs.Prelude.{◌≡◌, ◌+◌, ◌≤◌, ◌<◌, ◌^◌, not, true, false, ℕ, List, length, Option, None, take, ◌++◌, OnOk, OnErr, IfOk, IfErr, IfSome, IfNone};
-ghost use Rattle.std.specs.BTreeMap.{IsOrdered};
-ghost use Rattle.std.specs.List.{filter};
-ghost use Rattle.std.specs.Option.{option_copied};
+ghost use Rattle.std.specs.Prelude.{◌≡◌, ◌+◌, ◌≤◌, ◌<◌, ◌^◌, not, true, false, ℕ, List, [], length, Option, None, take, ◌++◌, OnOk, OnErr, IfOk, IfErr, IfNone};
+ghost use Rattle.std.specs.List.{filter, slice_get};
+ghost use Rattle.std.specs.Map.{keys_of};
+ghost use Rattle.std.specs.Option.{option_copied, option_map, option_to_list};
 ghost use Rattle.pathkey.specs.Keys.{is_below, is_in};
-ghost use Rattle.pathkey.specs.Order.{by_bytes};
+ghost use Rattle.message.specs.Rows.{unboxed, Rises, end_place, IsHolder};
 ghost use Rattle.message.specs.Runs.{run_len, run_effect, run_msgs, IsRunKeyed};
 ghost use Rattle.message.specs.Stretches.{IsStretch};
-ghost use Rattle.message.specs.Settled.{AreRunsKeyed, Lays, look, point_msgs, point_count};
+ghost use Rattle.message.specs.Settled.{AreRunsKeyed, Lays, look, first_behind, point_msgs, point_count};
 
 use crate::ends::earlier;
 use crate::msg::Msg;
-use crate::ranges::{end_of, first_behind, put};
+use crate::row::Row;
 use crate::run::Run;
-use crate::update::Update;
+use crate::update::{Changes, Update};
 use pathkey::{Key, KeyRange, NoMemory};
 use std::alloc::Global;
-use std::collections::BTreeMap;
-use std::ops::Bound;
+use std::marker::Model;
 
-/// Puts one message, which does not ask what was there, in the place of the key's messages, and answers how many they
-/// were. On want of memory it comes back.
-pub(crate) fn overwrite<U: Update>(
-    points: &mut BTreeMap<Key, Run<U>>,
+/// The messages that wait at single keys, those of each key in one place, in the order of the keys.
+#[derive(Drop)]
+pub struct Points<U: Changes> {
+    row: Row<Run<U>>,
+}
+
+impl<U: Changes> Model for Points<U> {
+    ghost use Rattle.std.specs.Prelude.{List, ℕ};
+    ghost use Rattle.message.specs.declared.run.Run.{Run};
+
+    ghost Value = { List (List ℕ × Run U U.Value) };
+
+    ghost view = { λ p. p.row };
+}
+
+impl<U: Update> Points<U> {
+    /// No messages. It takes no memory.
+    pub(crate) fn new(alloc: Global) -> Points<U>
+        ensures { result ≡ [] }
+    {
+        Points {
+            row: Row::new(alloc),
+        }
+    }
+
+    /// The messages of the first key.
+    pub(crate) fn first(&self) -> Option<(&Key, &Run<U>)>
+        ensures { option_map (λ p. (p.0.now, p.1.now)) result ≡ slice_get self.now 0 }
+    {
+        match self.row.entries().first() {
+            None => None,
+            Some(item) => Some((&item.0, &item.1)),
+        }
+    }
+
+    /// Takes the messages of the first key out. It takes no memory.
+    pub(crate) fn pop(&mut self) -> Option<(Key, Run<U>)>
+        ensures moved { self.old ≡ option_to_list result ++ self.new }
+        ensures end { IfNone result (self.old ≡ []) }
+    {
+        self.row.pop()
+    }
+
+    /// Puts one message, which does not ask what was there, in the place of the key's messages, and answers how many they
+    /// were. On want of memory it comes back.
+    pub(crate) fn overwrite(&mut self, key: Key, run: Run<U>) -> Result<usize, (Key, Run<U>)>
+        requires { (v w : Option U.Value) → run_effect U.means run v ≡ run_effect U.means run w }
+        ensures ordered { Rises self.new }
+        ensures was_ordered { Rises self.old }
+        ensures lays { OnOk result (Lays U.means key (run_effect U.means run) self.old self.new) }
+        ensures counted { IfOk result (λ gone. point_count self.new + gone ≡ point_count self.old + run_len run) }
+        ensures keyed { IsRunKeyed key run → AreRunsKeyed self.old → AreRunsKeyed self.new }
+        ensures unchanged { OnErr result (self.new ≡ self.old) }
+        ensures back { IfErr result (λ p. p ≡ (key, run)) }
+    {
+        overwrite_in(&mut self.row, key, run)
+    }
+
+    /// Lays an update over the key, and answers how many messages stood there and how many do now. On want of memory the
+    /// update comes back.
+    pub(crate) fn edit(
+        &mut self,
+        alloc: Global,
+        key: Key,
+        update: U,
+    ) -> Result<(usize, usize), (Key, U)>
+        ensures ordered { Rises self.new }
+        ensures was_ordered { Rises self.old }
+        ensures lays { OnOk result (Lays U.means key (U.means update) self.old self.new) }
+        ensures counted { IfOk result (λ n. point_count self.new + n.0 ≡ point_count self.old + n.1) }
+        ensures bound { IfOk result (λ n. n.1 ≤ n.0 + 1) }
+        ensures within { IfOk result (λ n. n.0 ≤ point_count self.old) }
+        ensures keyed { AreRunsKeyed self.old → AreRunsKeyed self.new }
+        ensures unchanged { OnErr result (point_msgs self.new ≡ point_msgs self.old) }
+        ensures back { IfErr result (λ p. p ≡ (key, update)) }
+    {
+        edit_in(&mut self.row, alloc, key, update)
+    }
+
+    /// Takes away the messages at the keys of a range, and answers how many are left of `count`.
+    pub(crate) fn clear(&mut self, range: &KeyRange, count: usize) -> usize
+        requires some { is_below range.now.lo range.now.hi ≡ true }
+        requires counted { count ≡ point_count self.old }
+        requires small { count < 2 ^ 63 }
+        ensures entries { self.new ≡ filter (λ e. not (is_in range.now e.0)) self.old }
+        ensures ordered { Rises self.new }
+        ensures was_ordered { Rises self.old }
+        ensures counted { result ≡ point_count self.new }
+    {
+        clear_in(&mut self.row, range, count)
+    }
+
+    /// The messages at a key.
+    pub(crate) fn run_at(&self, key: &Key) -> Option<&Run<U>>
+        ensures value { option_copied result ≡ look key.now self.now }
+        ensures ordered { Rises self.now }
+    {
+        run_in(&self.row, key)
+    }
+
+    /// Where the next key behind `from` stands that has messages, if that is before `end`; else `end`. There are none at `from`.
+    pub(crate) fn stretch_end<'a>(&'a self, from: &Key, end: Option<&'a Key>) -> Option<&'a Key>
+        requires none { look from.now self.now ≡ None }
+        requires some { is_below from.now (option_copied end) ≡ true }
+        ensures { IsStretch (point_msgs self.now) from.now (option_copied end.entry) (option_copied result) }
+    {
+        earlier(end, first_behind(&self.row, from))
+    }
+
+    /// Copies of the messages, put behind those in `front`, until it has so many or more.
+    pub(crate) fn copy_into(
+        &self,
+        alloc: Global,
+        count: usize,
+        front: &mut Vec<Msg<U>>,
+    ) -> Result<(), NoMemory>
+        ensures { OnOk result (take count front.new.items ≡ take count (front.old.items ++ point_msgs self.now)) }
+    {
+        copy_runs(self.row.entries(), alloc, count, front)
+    }
+
+    /// The same messages at the same keys.
+    pub(crate) fn copy(&self, alloc: Global) -> Result<Points<U>, NoMemory>
+        ensures same { IfOk result (λ p. point_msgs p ≡ point_msgs self.now) }
+        ensures keyed { IfOk result (λ p. AreRunsKeyed self.now → AreRunsKeyed p) }
+    {
+        Ok(Points {
+            row: copy_row(&self.row, alloc)?,
+        })
+    }
+}
+
+/// Puts one message in the place of the key's messages in a row, as [`Points::overwrite`] does.
+fn overwrite_in<U: Update>(
+    row: &mut Row<Run<U>>,
     key: Key,
     run: Run<U>,
 ) -> Result<usize, (Key, Run<U>)>
     requires { (v w : Option U.Value) → run_effect U.means run v ≡ run_effect U.means run w }
-    ensures ordered { IsOrdered by_bytes points.new }
-    ensures was_ordered { IsOrdered by_bytes points.old }
-    ensures lays { OnOk result (Lays U.means key (run_effect U.means run) points.old.entries points.new.entries) }
-    ensures counted { IfOk result (λ gone. point_count points.new.entries + gone ≡ point_count points.old.entries + run_len run) }
-    ensures keyed { IsRunKeyed key run → AreRunsKeyed points.old.entries → AreRunsKeyed points.new.entries }
-    ensures unchanged { OnErr result (points.new.entries ≡ points.old.entries) }
+    ensures ordered { Rises row.new }
+    ensures was_ordered { Rises row.old }
+    ensures lays { OnOk result (Lays U.means key (run_effect U.means run) row.old row.new) }
+    ensures counted { IfOk result (λ gone. point_count row.new + gone ≡ point_count row.old + run_len run) }
+    ensures keyed { IsRunKeyed key run → AreRunsKeyed row.old → AreRunsKeyed row.new }
+    ensures unchanged { OnErr result (row.new ≡ row.old) }
     ensures back { IfErr result (λ p. p ≡ (key, run)) }
 {
-    match points.insert(key, run) {
-        Ok(None) => Ok(0),
-        Ok(Some(old)) => Ok(old.len()),
-        Err(refused) => Err(refused.value),
+    match row.find(&key) {
+        Ok(i) => Ok(row.swap(i, run).len()),
+        Err(i) => match row.put(i, key, run) {
+            Ok(()) => Ok(0),
+            Err(pair) => Err(pair),
+        },
     }
 }
 
-/// Lays an update over the key, and answers how many messages stood there and how many do now. On want of memory the
-/// update comes back.
-pub(crate) fn edit<U: Update>(
-    points: &mut BTreeMap<Key, Run<U>>,
+/// Lays an update over the key of a row, as [`Points::edit`] does.
+fn edit_in<U: Update>(
+    row: &mut Row<Run<U>>,
     alloc: Global,
     key: Key,
     update: U,
 ) -> Result<(usize, usize), (Key, U)>
-    ensures ordered { IsOrdered by_bytes points.new }
-    ensures was_ordered { IsOrdered by_bytes points.old }
-    ensures lays { OnOk result (Lays U.means key (U.means update) points.old.entries points.new.entries) }
-    ensures counted { IfOk result (λ n. point_count points.new.entries + n.0 ≡ point_count points.old.entries + n.1) }
+    ensures ordered { Rises row.new }
+    ensures was_ordered { Rises row.old }
+    ensures lays { OnOk result (Lays U.means key (U.means update) row.old row.new) }
+    ensures counted { IfOk result (λ n. point_count row.new + n.0 ≡ point_count row.old + n.1) }
     ensures bound { IfOk result (λ n. n.1 ≤ n.0 + 1) }
-    ensures within { IfOk result (λ n. n.0 ≤ point_count points.old.entries) }
-    ensures keyed { AreRunsKeyed points.old.entries → AreRunsKeyed points.new.entries }
-    ensures unchanged { OnErr result (point_msgs points.new.entries ≡ point_msgs points.old.entries) }
+    ensures within { IfOk result (λ n. n.0 ≤ point_count row.old) }
+    ensures keyed { AreRunsKeyed row.old → AreRunsKeyed row.new }
+    ensures unchanged { OnErr result (point_msgs row.new ≡ point_msgs row.old) }
     ensures back { IfErr result (λ p. p ≡ (key, update)) }
 {
-    match points.get_mut(&key) {
-        Some(run) => edit_run(run, alloc, key, update),
-        None => match points.insert(key, Run::Edit(update)) {
-            Ok(_) => Ok((0, 1)),
-            Err(refused) => {
-                let (key, run) = refused.value;
+    match row.find(&key) {
+        Ok(i) => edit_at(row, i, alloc, key, update),
+        Err(i) => match row.put(i, key, Run::Edit(update)) {
+            Ok(()) => Ok((0, 1)),
+            Err((key, run)) => {
                 let Run::Edit(update) = run else {
                     unreachable!()
                 };
@@ -75,165 +205,130 @@ pub(crate) fn edit<U: Update>(
     }
 }
 
-/// Lays an update over a run, as [`edit`] does.
-fn edit_run<U: Update>(
-    run: &mut Run<U>,
+/// Lays an update over the run with this number, whose key it has.
+fn edit_at<U: Update>(
+    row: &mut Row<Run<U>>,
+    i: usize,
     alloc: Global,
     key: Key,
     update: U,
 ) -> Result<(usize, usize), (Key, U)>
-    ensures meaning { OnOk result ((o : Option U.Value) → run_effect U.means run.new o ≡ U.means update (run_effect U.means run.old o)) }
-    ensures counted { IfOk result (λ n. (n.0 ≡ run_len run.old) × (n.1 ≡ run_len run.new)) }
-    ensures bound { run_len run.new ≤ run_len run.old + 1 }
-    ensures keyed { IsRunKeyed key run.old → IsRunKeyed key run.new }
-    ensures unchanged { OnErr result ((k : List ℕ) → run_msgs k run.new ≡ run_msgs k run.old) }
+    requires { IsHolder key row.old i }
+    ensures lays { OnOk result (Lays U.means key (U.means update) row.old row.new) }
+    ensures counted { IfOk result (λ n. point_count row.new + n.0 ≡ point_count row.old + n.1) }
+    ensures bound { IfOk result (λ n. n.1 ≤ n.0 + 1) }
+    ensures within { IfOk result (λ n. n.0 ≤ point_count row.old) }
+    ensures keyed { AreRunsKeyed row.old → AreRunsKeyed row.new }
+    ensures unchanged { OnErr result (point_msgs row.new ≡ point_msgs row.old) }
     ensures back { IfErr result (λ p. p ≡ (key, update)) }
 {
-    let before = run.len();
-    let old = std::mem::replace(run, Run::Del);
+    let old = row.swap(i, Run::Del);
+    let before = old.len();
     let (new, answer) = old.edited(alloc, key, update);
     let after = new.len();
-    *run = new;
+    row.swap(i, new);
     match answer {
         Ok(()) => Ok((before, after)),
         Err(pair) => Err(pair),
     }
 }
 
-/// Takes away the messages at the keys of a range, and answers how many are left of `count`.
-///
-/// It goes from key to key inside the range. Where memory for the copy of a key is refused, it goes through all instead.
-pub(crate) fn clear<U: Update>(
-    points: &mut BTreeMap<Key, Run<U>>,
-    alloc: Global,
-    range: &KeyRange,
-    count: usize,
-) -> usize
+/// Takes away the messages of a row at the keys of a range, and answers how many are left of `count`.
+fn clear_in<U: Update>(row: &mut Row<Run<U>>, range: &KeyRange, count: usize) -> usize
     requires some { is_below range.now.lo range.now.hi ≡ true }
-    requires counted { count ≡ point_count points.old.entries }
+    requires counted { point_count row.old ≤ count }
     requires small { count < 2 ^ 63 }
-    ensures entries { points.new.entries ≡ filter (λ e. not (is_in range.now e.0)) points.old.entries }
-    ensures ordered { IsOrdered by_bytes points.new }
-    ensures was_ordered { IsOrdered by_bytes points.old }
-    ensures counted { result ≡ point_count points.new.entries }
+    ensures entries { row.new ≡ filter (λ e. not (is_in range.now e.0)) row.old }
+    ensures ordered { Rises row.new }
+    ensures was_ordered { Rises row.old }
+    ensures counted { result + point_count row.old ≡ count + point_count row.new }
 {
-    let mut left = count;
-    // What `len` promises says that the keys rise.
-    let _ = points.len();
-    while let Some(run) = take_inside(points, alloc, range) {
-        left -= run.len();
-    }
-    if !has_inside(points, range) {
-        return left;
-    }
-    points.retain(|key, _| !range.contains(key));
-    count_of(points)
+    let from = row.before(&range.lo);
+    let to = before_end(row, range.hi.as_ref());
+    let gone = count_of(&row.entries()[from..to]);
+    row.remove(from, to);
+    count - gone
 }
 
-/// Takes out the first run that stands at a key of the range. There is none to take where memory for a copy of the key is
-/// refused.
-fn take_inside<U: Update>(
-    points: &mut BTreeMap<Key, Run<U>>,
-    alloc: Global,
-    range: &KeyRange,
-) -> Option<Run<U>>
-    requires { is_below range.now.lo range.now.hi ≡ true }
-    ensures same { filter (λ e. not (is_in range.now e.0)) points.new.entries ≡ filter (λ e. not (is_in range.now e.0)) points.old.entries }
-    ensures counted { IfSome result (λ run. point_count points.new.entries + run_len run ≡ point_count points.old.entries) }
-    ensures fewer { IfSome result (λ run. length points.new.entries < length points.old.entries) }
-    ensures none { IfNone result (points.new.entries ≡ points.old.entries) }
+/// How many keys of a row stand before the end; `None` is no end.
+fn before_end<T: Drop>(row: &Row<T>, end: Option<&Key>) -> usize
+    ensures place { result ≡ end_place (option_copied end.entry) row.now }
+    ensures bound { result ≤ length row.now }
 {
-    let mut inside = points.range((Bound::Included(&range.lo), end_of(range)));
-    let (key, _) = inside.next()?;
-    let Ok(key) = key.copy(alloc) else {
-        return None;
-    };
-    points.remove(&key)
-}
-
-/// Whether messages stand at keys of the range.
-fn has_inside<U: Update>(points: &BTreeMap<Key, Run<U>>, range: &KeyRange) -> bool
-    requires { is_below range.now.lo range.now.hi ≡ true }
-    ensures none { result ≡ false → filter (λ e. not (is_in range.now e.0)) points.now.entries ≡ points.now.entries }
-    ensures ordered { IsOrdered by_bytes points.now }
-{
-    let mut inside = points.range((Bound::Included(&range.lo), end_of(range)));
-    inside.next().is_some()
+    match end {
+        None => row.len(),
+        Some(end) => row.before(end),
+    }
 }
 
 /// How many messages there are.
-fn count_of<U: Update>(points: &BTreeMap<Key, Run<U>>) -> usize
-    requires { point_count points.now.entries < 2 ^ 63 }
-    ensures { result ≡ point_count points.now.entries }
+fn count_of<U: Update>(items: &[Box<(Key, Run<U>)>]) -> usize
+    requires { point_count (unboxed items.now) < 2 ^ 63 }
+    ensures { result ≡ point_count (unboxed items.now) }
 {
     let mut count = 0;
-    for (_, run) in points {
-        count += run.len();
+    for item in items {
+        count += item.1.len();
     }
     count
 }
 
-/// The messages at a key.
-pub(crate) fn run_at<'a, U: Update>(
-    points: &'a BTreeMap<Key, Run<U>>,
-    key: &Key,
-) -> Option<&'a Run<U>>
-    ensures value { option_copied result ≡ look key.now points.now.entries }
-    ensures ordered { IsOrdered by_bytes points.now }
+/// The messages of a row at a key.
+fn run_in<'a, U: Update>(row: &'a Row<Run<U>>, key: &Key) -> Option<&'a Run<U>>
+    ensures value { option_copied result ≡ look key.now row.now }
+    ensures ordered { Rises row.now }
 {
-    // What `len` promises says that the keys rise.
-    let _ = points.len();
-    points.get(key)
+    match row.find(key) {
+        Ok(i) => Some(&row.entries()[i].1),
+        Err(_) => None,
+    }
 }
 
-/// Where the next key behind `from` stands that has messages, if that is before `end`; else `end`. There are none at `from`.
-pub(crate) fn stretch_end<'a, U: Update>(
-    points: &'a BTreeMap<Key, Run<U>>,
-    from: &Key,
-    end: Option<&'a Key>,
-) -> Option<&'a Key>
-    requires none { look from.now points.now.entries ≡ None }
-    requires some { is_below from.now (option_copied end) ≡ true }
-    ensures { IsStretch (point_msgs points.now.entries) from.now (option_copied end.entry) (option_copied result) }
+/// The first key of a row behind this one.
+fn first_behind<'a, T: Drop>(row: &'a Row<T>, key: &Key) -> Option<&'a Key>
+    ensures value { option_copied result ≡ first_behind key.now row.now }
+    ensures ordered { Rises row.now }
 {
-    // What `len` promises says that the keys rise.
-    let _ = points.len();
-    earlier(end, first_behind(points, from))
+    let i = match row.find(key) {
+        Ok(i) => i + 1,
+        Err(i) => i,
+    };
+    match row.entries().get(i) {
+        None => None,
+        Some(item) => Some(&item.0),
+    }
 }
 
-/// Copies of the messages, put behind those in `front`, until it has so many or more.
-pub(crate) fn copy_into<U: Update>(
-    points: &BTreeMap<Key, Run<U>>,
+/// Copies of the messages of runs, put behind those in `front`, until it has so many or more.
+fn copy_runs<U: Update>(
+    items: &[Box<(Key, Run<U>)>],
     alloc: Global,
     count: usize,
     front: &mut Vec<Msg<U>>,
 ) -> Result<(), NoMemory>
-    ensures { OnOk result (take count front.new.items ≡ take count (front.old.items ++ point_msgs points.now.entries)) }
+    ensures { OnOk result (take count front.new.items ≡ take count (front.old.items ++ point_msgs (unboxed items.now))) }
 {
-    for (key, run) in points {
+    for item in items {
         if front.len() >= count {
             return Ok(());
         }
-        run.copy_into(alloc, key, front)?;
+        item.1.copy_into(alloc, &item.0, front)?;
     }
     Ok(())
 }
 
 /// The same messages at the same keys.
-pub(crate) fn copy<U: Update>(
-    points: &BTreeMap<Key, Run<U>>,
-    alloc: Global,
-) -> Result<BTreeMap<Key, Run<U>>, NoMemory>
-    ensures same { IfOk result (λ p. point_msgs p.entries ≡ point_msgs points.now.entries) }
-    ensures keyed { IfOk result (λ p. AreRunsKeyed points.now.entries → AreRunsKeyed p.entries) }
+fn copy_row<U: Update>(row: &Row<Run<U>>, alloc: Global) -> Result<Row<Run<U>>, NoMemory>
+    ensures keys { IfOk result (λ p. keys_of p ≡ keys_of row.now) }
+    ensures same { IfOk result (λ p. point_msgs p ≡ point_msgs row.now) }
+    ensures keyed { IfOk result (λ p. AreRunsKeyed row.now → AreRunsKeyed p) }
 {
-    let mut copy = BTreeMap::new(alloc);
-    // What `len` promises says that the keys rise.
-    let _ = points.len();
-    for (key, run) in points {
-        let key = key.copy(alloc)?;
-        let run = run.copy(alloc)?;
-        put(&mut copy, key, run)?;
+    let mut copy = Row::new(alloc);
+    let items = row.entries();
+    for item in items {
+        let key = item.0.copy(alloc)?;
+        let run = item.1.copy(alloc)?;
+        copy.push(key, run)?;
     }
     Ok(copy)
 }

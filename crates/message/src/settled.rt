@@ -14,10 +14,11 @@ ghost use Rattle.std.specs.Option.{option_copied, option_map};
 use crate::eldest::Eldest;
 use crate::ends::is_before_end;
 use crate::msg::Msg;
+use crate::points::Points;
+use crate::ranges;
 use crate::run::Run;
 use crate::told::Told;
 use crate::update::{Changes, Update};
-use crate::{points, ranges};
 use pathkey::{Key, KeyRange, NoMemory};
 use std::alloc::Global;
 use std::collections::BTreeMap;
@@ -33,7 +34,7 @@ pub(crate) const MOST: usize = 1 << 62;
 #[derive(Drop)]
 pub struct Settled<U: Changes> {
     ranges: BTreeMap<Key, Option<Key>>,
-    points: BTreeMap<Key, Run<U>>,
+    points: Points<U>,
     count: usize,
 }
 
@@ -45,9 +46,9 @@ impl<U: Changes> Model for Settled<U> {
 
     ghost use Rattle.message.specs.Settled.{settled_msgs, IsSettled};
 
-    ghost view = { λ p. settled_msgs p.ranges.entries p.points.entries };
+    ghost view = { λ p. settled_msgs p.ranges.entries p.points };
 
-    ghost invariant = { λ p. IsSettled p.ranges.entries p.points.entries p.count };
+    ghost invariant = { λ p. IsSettled p.ranges.entries p.points p.count };
 }
 
 impl<U: Update> Settled<U> {
@@ -57,7 +58,7 @@ impl<U: Update> Settled<U> {
     {
         Settled {
             ranges: BTreeMap::new(alloc),
-            points: BTreeMap::new(alloc),
+            points: Points::new(alloc),
             count: 0,
         }
     }
@@ -84,7 +85,7 @@ impl<U: Update> Settled<U> {
     {
         match self.ranges.first_key_value() {
             Some((lo, hi)) => Some(Eldest::Range(lo, hi.as_ref())),
-            None => match self.points.first_key_value() {
+            None => match self.points.first() {
                 Some((key, run)) => Some(Eldest::Run(key, run)),
                 None => None,
             },
@@ -98,7 +99,7 @@ impl<U: Update> Settled<U> {
         ensures unchanged { OnErr result (self.new ≡ self.old) }
         ensures back { IfErr result (λ m. m ≡ msg.Put key value) }
     {
-        match points::overwrite(&mut self.points, key, Run::Put(value)) {
+        match self.points.overwrite(key, Run::Put(value)) {
             Ok(gone) => {
                 self.count = self.count + 1 - gone;
                 Ok(())
@@ -117,7 +118,7 @@ impl<U: Update> Settled<U> {
         ensures unchanged { OnErr result (self.new ≡ self.old) }
         ensures back { IfErr result (λ m. m ≡ msg.Del key) }
     {
-        match points::overwrite(&mut self.points, key, Run::Del) {
+        match self.points.overwrite(key, Run::Del) {
             Ok(gone) => {
                 self.count = self.count + 1 - gone;
                 Ok(())
@@ -133,7 +134,7 @@ impl<U: Update> Settled<U> {
         ensures unchanged { OnErr result (self.new ≡ self.old) }
         ensures back { IfErr result (λ m. m ≡ msg.Edit key update) }
     {
-        match points::edit(&mut self.points, alloc, key, update) {
+        match self.points.edit(alloc, key, update) {
             Ok((before, after)) => {
                 self.count = self.count - before + after;
                 Ok(())
@@ -156,7 +157,7 @@ impl<U: Update> Settled<U> {
         let Ok(()) = ranges::lay(&mut self.ranges, alloc, &range) else {
             return Err(Msg::DelRange(range));
         };
-        self.count = points::clear(&mut self.points, alloc, &range, self.count);
+        self.count = self.points.clear(&range, self.count);
         Ok(())
     }
 
@@ -186,7 +187,7 @@ impl<U: Update> Settled<U> {
         if let Some((lo, hi)) = self.ranges.pop_first() {
             return Some(Oldest::Range(KeyRange { lo, hi }));
         }
-        let (key, run) = self.points.pop_first()?;
+        let (key, run) = self.points.pop()?;
         self.count -= run.len();
         Some(Oldest::Run(key, run))
     }
@@ -201,7 +202,7 @@ impl<U: Update> Settled<U> {
         ensures { OnOk result (take count front.new.items ≡ take count (front.old.items ++ self.now)) }
     {
         ranges::copy_into(&self.ranges, alloc, count, front)?;
-        points::copy_into(&self.points, alloc, count, front)?;
+        self.points.copy_into(alloc, count, front)?;
         Ok(())
     }
 
@@ -210,7 +211,7 @@ impl<U: Update> Settled<U> {
         ensures { IfOk result (IsTold U.means self.now key.now) }
     {
         let is_covered = ranges::is_covered(&self.ranges, key);
-        match points::run_at(&self.points, key) {
+        match self.points.run_at(key) {
             Some(run) => run.told(alloc, is_covered),
             None => Ok(untouched(is_covered)),
         }
@@ -225,11 +226,11 @@ impl<U: Update> Settled<U> {
         requires { is_below from.now (option_copied end) ≡ true }
         ensures { EndsAhead self.now from.now (option_copied end.entry) (option_map option_copied result) }
     {
-        if points::run_at(&self.points, from).is_some() {
+        if self.points.run_at(from).is_some() {
             return None;
         }
         let stop = ranges::stretch_end::<U>(&self.ranges, from, end);
-        Some(points::stretch_end(&self.points, from, stop))
+        Some(self.points.stretch_end(from, stop))
     }
 
     /// The value at the key after the messages, where `old` was there.
@@ -242,7 +243,7 @@ impl<U: Update> Settled<U> {
         ensures { IfOk result (λ v. v ≡ effects U.means self.now key.now old) }
     {
         let below = unless(ranges::is_covered(&self.ranges, key), old);
-        match points::run_at(&self.points, key) {
+        match self.points.run_at(key) {
             Some(run) => run.apply(alloc, below),
             None => Ok(below),
         }
@@ -253,7 +254,7 @@ impl<U: Update> Settled<U> {
         ensures { IfOk result (λ p. p ≡ self.now) }
     {
         let ranges = ranges::copy(&self.ranges, alloc)?;
-        let points = points::copy(&self.points, alloc)?;
+        let points = self.points.copy(alloc)?;
         Ok(Settled {
             ranges,
             points,

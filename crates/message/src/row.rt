@@ -1,0 +1,165 @@
+//! A row of entries that rise by key, each in a place of its own.
+//!
+//! An entry is made where it comes in. After that only its pointer moves.
+ghost use Rattle.std.specs.Prelude.{◌≡◌, ◌++◌, ◌∷◌, [], ◌<◌, ◌≤◌, length, take, drop, Some, OnOk, OnErr, IfOk, IfErr, IfNone, ℕ, List};
+ghost use Rattle.std.specs.Option.{option_to_list};
+ghost use Rattle.std.specs.List.{remove_range};
+ghost use Rattle.std.specs.Map.{set_value};
+ghost use Rattle.std.specs.BTreeMap.{insert_entry, is_at};
+ghost use Rattle.pathkey.specs.Order.{by_bytes};
+ghost use Rattle.message.specs.Rows.{unboxed, Rises, at_key, place, IsHolder, IsGap, IsFound};
+
+use crate::search::count_passing;
+use pathkey::{Key, NoMemory};
+use std::alloc::Global;
+use std::marker::Model;
+
+/// Entries that rise by key, which contracts see as their list.
+#[derive(Drop)]
+pub struct Row<T> {
+    items: Vec<Box<(Key, T)>>,
+}
+
+impl<T> Model for Row<T> {
+    ghost use Rattle.std.specs.Prelude.{List, ℕ};
+
+    ghost Value = { List (List ℕ × T) };
+
+    ghost use Rattle.message.specs.Rows.{unboxed, Rises};
+
+    ghost view = { λ r. unboxed r.items.items };
+
+    ghost invariant = { λ r. Rises (unboxed r.items.items) };
+}
+
+impl<T: Drop> Row<T> {
+    /// A row without entries. It takes no memory.
+    pub(crate) fn new(alloc: Global) -> Row<T>
+        ensures { result ≡ [] }
+    {
+        Row {
+            items: Vec::new(alloc),
+        }
+    }
+
+    /// How many entries there are.
+    pub(crate) fn len(&self) -> usize
+        ensures { result ≡ length self.now }
+    {
+        self.items.len()
+    }
+
+    /// The entries, in the order of their keys.
+    pub(crate) fn entries(&self) -> &[Box<(Key, T)>]
+        ensures entries { unboxed result.now ≡ self.now }
+        ensures rises { Rises self.now }
+    {
+        self.items.as_slice()
+    }
+
+    /// How many entries stand before the key.
+    pub(crate) fn before(&self, key: &Key) -> usize
+        ensures place { result ≡ place key.now self.now }
+        ensures bound { result ≤ length self.now }
+        ensures rises { Rises self.now }
+    {
+        count_before(self.items.as_slice(), key)
+    }
+
+    /// Where the key stands, or where it would.
+    pub(crate) fn find(&self, key: &Key) -> Result<usize, usize>
+        ensures found { IsFound key.now self.now result }
+        ensures rises { Rises self.now }
+    {
+        find_in(self.items.as_slice(), key)
+    }
+
+    /// Puts a new entry into its place. On want of memory it comes back.
+    pub(crate) fn put(&mut self, i: usize, key: Key, value: T) -> Result<(), (Key, T)>
+        requires { IsGap key self.old i }
+        ensures ok { OnOk result (self.new ≡ insert_entry by_bytes self.old key value) }
+        ensures err { OnErr result (self.new ≡ self.old) }
+        ensures back { IfErr result (λ p. p ≡ (key, value)) }
+    {
+        let item = match Box::new(*self.items.allocator(), (key, value)) {
+            Ok(item) => item,
+            Err(refused) => return Err(refused.value),
+        };
+        match self.items.insert(i, item) {
+            Ok(()) => Ok(()),
+            Err(refused) => Err(Box::into_inner(refused.value)),
+        }
+    }
+
+    /// Gives an entry another value, and answers the one that it had.
+    pub(crate) fn swap(&mut self, i: usize, value: T) -> T
+        requires { i < length self.old }
+        ensures was { (k : List ℕ) → IsHolder k self.old i → at_key k self.old ≡ Some result }
+        ensures is { (k : List ℕ) → IsHolder k self.old i → self.new ≡ set_value (is_at (by_bytes k)) self.old value }
+    {
+        let item = &mut self.items[i];
+        std::mem::replace(&mut item.1, value)
+    }
+
+    /// Puts an entry behind the others. On want of memory it is gone.
+    pub(crate) fn push(&mut self, key: Key, value: T) -> Result<(), NoMemory>
+        requires { Rises (self.old ++ (key, value) ∷ []) }
+        ensures ok { OnOk result (self.new ≡ self.old ++ (key, value) ∷ []) }
+    {
+        let item = Box::new(*self.items.allocator(), (key, value))?;
+        self.items.push(item)?;
+        Ok(())
+    }
+
+    /// Takes the first entry out.
+    pub(crate) fn pop(&mut self) -> Option<(Key, T)>
+        ensures moved { self.old ≡ option_to_list result ++ self.new }
+        ensures end { IfNone result (self.old ≡ []) }
+    {
+        if self.items.is_empty() {
+            return None;
+        }
+        Some(Box::into_inner(self.items.remove(0)))
+    }
+
+    /// Takes the entries away from number `from` up to `to`.
+    pub(crate) fn remove(&mut self, from: usize, to: usize)
+        requires order { from ≤ to }
+        requires bound { to ≤ length self.old }
+        ensures { self.new ≡ remove_range self.old from to }
+    {
+        self.items.drain(from..to);
+    }
+
+    /// Moves the entries from number `at` on into a row of their own.
+    pub(crate) fn split_off(&mut self, at: usize) -> Result<Row<T>, NoMemory>
+        requires { at ≤ length self.old }
+        ensures front { OnOk result (self.new ≡ take at self.old) }
+        ensures back { IfOk result (λ r. r ≡ drop at self.old) }
+        ensures err { OnErr result (self.new ≡ self.old) }
+    {
+        let items = self.items.split_off(at)?;
+        Ok(Row { items })
+    }
+}
+
+/// How many entries stand before the key, found by a search in strides.
+fn count_before<T>(items: &[Box<(Key, T)>], key: &Key) -> usize
+    requires { Rises (unboxed items.now) }
+    ensures place { result ≡ place key.now (unboxed items.now) }
+    ensures bound { result ≤ length items.now }
+{
+    count_passing(items, |item| key.cmp(&item.0).is_gt())
+}
+
+/// Where the key stands among entries, or where it would.
+fn find_in<T>(items: &[Box<(Key, T)>], key: &Key) -> Result<usize, usize>
+    requires { Rises (unboxed items.now) }
+    ensures { IsFound key.now (unboxed items.now) result }
+{
+    let i = count_before(items, key);
+    match items.get(i) {
+        Some(item) if *key == item.0 => Ok(i),
+        _ => Err(i),
+    }
+}
