@@ -23,6 +23,41 @@ use Rattle.message.proofs.RowFacts.{place_bound, rises_cons}
 same_back : (k q : List ℕ) → same q k ≡ same k q
 same_back k q = by_bytes_equiv.symm q k
 
+all_like : (k x : List ℕ) (ks : List (List ℕ)) → by_bytes k x ≡ Equal → AllByRecursion (λ y. by_bytes x y ≡ Less) ks → AllByRecursion (λ y. by_bytes k y ≡ Less) ks
+all_like k x [] p a = tt
+all_like k x (y ∷ ks) p a = (by_bytes_total.congr k x y p ∙ a.0, all_like k x ks p a.1)
+
+stays : (b c : Bool) → c ≡ false → not (b && c) ≡ true
+stays true c h = ap not h
+stays false c h = refl
+
+leaves : (b c : Bool) → b ≡ true → c ≡ true → not (b && c) ≡ false
+leaves b c g h = ap (λ a. not (a && c)) g ∙ ap not h
+
+stays_before : (b c : Bool) → b ≡ false → not (b && c) ≡ true
+stays_before b c h = ap (λ a. not (a && c)) h
+
+reach_rest : (lo x : List ℕ) (ks : List (List ℕ)) → reaches lo x ≡ true → AllByRecursion (λ y. by_bytes x y ≡ Less) ks → AllByRecursion (λ y. reaches lo y ≡ true) ks
+reach_rest lo x [] h a = tt
+reach_rest lo x (y ∷ ks) h a = (reaches-from_before lo y (le_lt lo x y h (ap is_lt a.0)), reach_rest lo x ks h a.1)
+
+before_from : (h x : List ℕ) → by_bytes h x ≡ Greater → before x h ≡ true
+before_from h x p = ap is_lt (by_bytes_total.antisymm x h ∙ ap ordering_reverse p)
+
+left_all : (P : List ℕ → Type 0) (ks ls : List (List ℕ)) → AllByRecursion P (ks ++ ls) → AllByRecursion P ks
+left_all P [] ls a = tt
+left_all P (k ∷ ks) ls a = (a.0, left_all P ks ls a.1)
+
+keys_left : (ks ls : List (List ℕ)) → IsStrictlySortedBy by_bytes (ks ++ ls) → IsStrictlySortedBy by_bytes ks
+unfolding IsStrictlySortedBy
+keys_left [] ls r = tt
+keys_left (k ∷ ks) ls r = (left_all (λ y. by_bytes k y ≡ Less) ks ls r.0, keys_left ks ls r.1)
+
+keys_right : (ks ls : List (List ℕ)) → IsStrictlySortedBy by_bytes (ks ++ ls) → IsStrictlySortedBy by_bytes ls
+unfolding IsStrictlySortedBy
+keys_right [] ls r = r
+keys_right (k ∷ ks) ls r = keys_right ks ls r.1
+
 module _ {X : Type 0} where
   -- ---- what stands at a key after a new entry
 
@@ -97,10 +132,6 @@ module _ {X : Type 0} where
         | Greater ↦ λ s. behind_gap k es s
       ] t
 
-  all_like : (k x : List ℕ) (ks : List (List ℕ)) → by_bytes k x ≡ Equal → AllByRecursion (λ y. by_bytes x y ≡ Less) ks → AllByRecursion (λ y. by_bytes k y ≡ Less) ks
-  all_like k x [] p a = tt
-  all_like k x (y ∷ ks) p a = (by_bytes_total.congr k x y p ∙ a.0, all_like k x ks p a.1)
-
   pub behind_holder : (k : List ℕ) (es : List (List ℕ × X)) → Rises es → is_there k es ≡ true → first_behind k es ≡ option_map (λ (e : List ℕ × X). e.0) (slice_get es (suc (place k es)))
   behind_holder k [] r t = absurd (cc)
   behind_holder k (e ∷ es) r t =
@@ -121,20 +152,6 @@ module _ {X : Type 0} where
   filter_out : (p : List ℕ × X → Bool) (e : List ℕ × X) (es : List (List ℕ × X)) → p e ≡ false → filter p (e ∷ es) ≡ filter p es
   filter_out p e es h = ap (λ c. cond c (e ∷ filter p es) (filter p es)) h
 
-  stays : (b c : Bool) → c ≡ false → not (b && c) ≡ true
-  stays true c h = ap not h
-  stays false c h = refl
-
-  leaves : (b c : Bool) → b ≡ true → c ≡ true → not (b && c) ≡ false
-  leaves b c g h = ap (λ a. not (a && c)) g ∙ ap not h
-
-  stays_before : (b c : Bool) → b ≡ false → not (b && c) ≡ true
-  stays_before b c h = ap (λ a. not (a && c)) h
-
-  reach_rest : (lo x : List ℕ) (ks : List (List ℕ)) → reaches lo x ≡ true → AllByRecursion (λ y. by_bytes x y ≡ Less) ks → AllByRecursion (λ y. reaches lo y ≡ true) ks
-  reach_rest lo x [] h a = tt
-  reach_rest lo x (y ∷ ks) h a = (reaches-from_before lo y (le_lt lo x y h (ap is_lt a.0)), reach_rest lo x ks h a.1)
-
   all_gone : (lo : List ℕ) (es : List (List ℕ × X)) → AllByRecursion (λ y. reaches lo y ≡ true) (keys_of es) → filter (outside lo None) es ≡ drop (length es) es
   all_gone lo [] a = refl
   all_gone lo (e ∷ es) a = filter_out (outside lo None) e es (leaves (reaches lo e.0) true a.0 refl) ∙ all_gone lo es a.1
@@ -142,9 +159,6 @@ module _ {X : Type 0} where
   all_kept : (lo h : List ℕ) (es : List (List ℕ × X)) → AllByRecursion (λ y. reaches h y ≡ true) (keys_of es) → filter (outside lo (Some h)) es ≡ es
   all_kept lo h [] a = refl
   all_kept lo h (e ∷ es) a = filter_in (outside lo (Some h)) e es (stays (reaches lo e.0) (before e.0 h) (not_before_from_reaches h e.0 a.0)) ∙ ap (λ t. e ∷ t) (all_kept lo h es a.1)
-
-  before_from : (h x : List ℕ) → by_bytes h x ≡ Greater → before x h ≡ true
-  before_from h x p = ap is_lt (by_bytes_total.antisymm x h ∙ ap ordering_reverse p)
 
   up_to_end : (lo h : List ℕ) (es : List (List ℕ × X)) → Rises es → AllByRecursion (λ y. reaches lo y ≡ true) (keys_of es) → filter (outside lo (Some h)) es ≡ drop (place h es) es
   up_to_end lo h [] r a = refl
@@ -197,28 +211,7 @@ module _ {X : Type 0} where
         | Greater ↦ λ p. omega (arith, low_first lo (Some h) es b, end_behind lo (Some h) e es b p)
       ] refl
 
-  -- ---- by number, out of their boxes
-
-  pub get-unboxed : (bs : List (Box (List ℕ × X))) (i : ℕ) → slice_get (unboxed bs) i ≡ option_map (λ (b : Box (List ℕ × X)). b.value) (slice_get bs i)
-  get-unboxed [] i = refl
-  get-unboxed (b ∷ bs) zero = refl
-  get-unboxed (b ∷ bs) (suc i) = get-unboxed bs i
-
   -- ---- parts of a row that rises
-
-  left_all : (P : List ℕ → Type 0) (ks ls : List (List ℕ)) → AllByRecursion P (ks ++ ls) → AllByRecursion P ks
-  left_all P [] ls a = tt
-  left_all P (k ∷ ks) ls a = (a.0, left_all P ks ls a.1)
-
-  keys_left : (ks ls : List (List ℕ)) → IsStrictlySortedBy by_bytes (ks ++ ls) → IsStrictlySortedBy by_bytes ks
-  unfolding IsStrictlySortedBy
-  keys_left [] ls r = tt
-  keys_left (k ∷ ks) ls r = (left_all (λ y. by_bytes k y ≡ Less) ks ls r.0, keys_left ks ls r.1)
-
-  keys_right : (ks ls : List (List ℕ)) → IsStrictlySortedBy by_bytes (ks ++ ls) → IsStrictlySortedBy by_bytes ls
-  unfolding IsStrictlySortedBy
-  keys_right [] ls r = r
-  keys_right (k ∷ ks) ls r = keys_right ks ls r.1
 
   pub rises_left : (es fs : List (List ℕ × X)) → Rises (es ++ fs) → Rises es
   rises_left es fs r = keys_left (keys_of es) (keys_of fs) (subst (λ ks. IsStrictlySortedBy by_bytes ks) (map-append (λ (e : List ℕ × X). e.0) es fs) r)
@@ -269,3 +262,21 @@ module _ {X : Type 0} where
       map-append (λ (b : Box (List ℕ × X)). b.value) (take i bs) (drop j bs)
       ∙ ap (λ t. t ++ unboxed (drop j bs)) (unboxed-take i bs)
       ∙ ap (λ t. take i (unboxed bs) ++ t) (unboxed-drop j bs)
+
+  pub rises_cut : (i j : ℕ) (bs cs : List (Box (List ℕ × X))) → cs ≡ take i bs ++ drop j bs → i ≤ j → Rises (unboxed bs) → Rises (unboxed cs)
+  rises_cut i j bs cs e h r = subst (λ (t : List (List ℕ × X)). Rises t) (sym (ap (λ (t : List (Box (List ℕ × X))). unboxed t) e ∙ unboxed-without i j bs)) (rises_without i j (unboxed bs) h r)
+
+  pub cut_is : (i j : ℕ) (bs cs : List (Box (List ℕ × X))) (es : List (List ℕ × X)) → unboxed bs ≡ es → cs ≡ take i bs ++ drop j bs → unboxed cs ≡ take i es ++ drop j es
+  cut_is i j bs cs es v e = ap (λ (t : List (Box (List ℕ × X))). unboxed t) e ∙ unboxed-without i j bs ∙ ap (λ (t : List (List ℕ × X)). take i t ++ drop j t) v
+
+  pub front_is : (n : ℕ) (bs cs : List (Box (List ℕ × X))) (es : List (List ℕ × X)) → unboxed bs ≡ es → cs ≡ take n bs → unboxed cs ≡ take n es
+  front_is n bs cs es v e = ap (λ (t : List (Box (List ℕ × X))). unboxed t) e ∙ unboxed-take n bs ∙ ap (λ (t : List (List ℕ × X)). take n t) v
+
+  pub back_is : (n : ℕ) (bs cs : List (Box (List ℕ × X))) (es : List (List ℕ × X)) → unboxed bs ≡ es → cs ≡ drop n bs → unboxed cs ≡ drop n es
+  back_is n bs cs es v e = ap (λ (t : List (Box (List ℕ × X))). unboxed t) e ∙ unboxed-drop n bs ∙ ap (λ (t : List (List ℕ × X)). drop n t) v
+
+  pub rises_front : (n : ℕ) (bs cs : List (Box (List ℕ × X))) → cs ≡ take n bs → Rises (unboxed bs) → Rises (unboxed cs)
+  rises_front n bs cs e r = subst (λ (t : List (List ℕ × X)). Rises t) (sym (front_is n bs cs (unboxed bs) refl e)) (rises_take n (unboxed bs) r)
+
+  pub rises_back : (n : ℕ) (bs cs : List (Box (List ℕ × X))) → cs ≡ drop n bs → Rises (unboxed bs) → Rises (unboxed cs)
+  rises_back n bs cs e r = subst (λ (t : List (List ℕ × X)). Rises t) (sym (back_is n bs cs (unboxed bs) refl e)) (rises_drop n (unboxed bs) r)

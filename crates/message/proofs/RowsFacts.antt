@@ -2,17 +2,18 @@
 use Rattle.std.proofs.Common.{◌≡◌, ℕ, zero, suc, ◌+◌, ◌<◌, ◌≤◌, Bool, true, false, List, [], ◌∷◌, ◌++◌, length, take, drop, get_or, refl, ap, sym, ◌∙◌, subst, Option, Some, None, cond, arith, Ordering, append_assoc}
 use Rattle.std.specs.declared.cmp.Ordering.TheVariants.{Less, Equal, Greater}
 use Rattle.std.specs.Ordering.{is_lt, is_eq, match_ordering, ordering_reverse}
-use Rattle.std.specs.List.{AllByRecursion, filter}
+use Rattle.std.specs.List.{AllByRecursion, filter, slice_set}
+use Rattle.std.proofs.lemmas.List.{length-drop, length-set}
 use Rattle.std.specs.List.Sorted.{IsPartitionedBy, IsPartitionPoint}
 use Rattle.std.specs.Map.{keys_of, set_value}
 use Rattle.std.specs.BTreeMap.{insert_entry, is_at}
 use Rattle.std.proofs.lemmas.Map.Keys.{sorted_head, sorted_tail}
 use Rattle.pathkey.specs.Order.{by_bytes, by_bytes_total}
 use Rattle.message.specs.Ranges.{reaches, before}
-use Rattle.message.specs.Rows.{Rises, at_key, joined, AreFilled, begins_by, row_number}
+use Rattle.message.specs.Rows.{Rises, at_key, joined, AreFilled, begins_by, row_number, all_of, row_of, with_row, IsRows}
 use Rattle.message.specs.Settled.{first_behind}
 use Rattle.message.proofs.KeyOrder.{lt_le, reaches-from_before, before_from_not_reaches}
-use Rattle.message.proofs.RowFacts.{all_ahead, none_ahead}
+use Rattle.message.proofs.RowFacts.{all_ahead, none_ahead, rises_put}
 use Rattle.message.proofs.RowChanges.{rises_right}
 
 less_from_lt : (o : Ordering) → is_lt o ≡ true → o ≡ Less
@@ -184,3 +185,118 @@ module _ {X : Type 0} where
   number_by_search k (r ∷ rs) (suc i) b p =
       let rest = number_by_search k rs i (omega arith) ((λ j d a h. p.0 (suc j) d (omega arith) (omega arith)), (λ j d a h. p.1 (suc j) d (omega arith) (omega arith))) in
       ap (λ n. suc n) rest ∙ sym (ap (λ c. cond c (suc (row_number k rs)) 0) (p.0 0 r (omega arith) (omega arith)))
+
+  -- ---- a row among the others, by its number
+
+  -- what stands before the row with this number, and behind it
+  abbrev pub front_of : List (List ℕ × X) × List (List (List ℕ × X)) → ℕ → List (List ℕ × X)
+  front_of v zero = []
+  front_of v (suc m) = v.0 ++ joined (take m v.1)
+
+  abbrev pub back_of : List (List ℕ × X) × List (List (List ℕ × X)) → ℕ → List (List ℕ × X)
+  back_of v n = joined (drop n v.1)
+
+  pub whole : (v : List (List ℕ × X) × List (List (List ℕ × X))) (n : ℕ) → n ≤ length v.1 → all_of v ≡ front_of v n ++ (row_of v n ++ back_of v n)
+  whole v zero h = refl
+  whole v (suc m) h =
+      ap (λ t. v.0 ++ t) (joined_cut m v.1 (omega arith))
+      ∙ sym (append_assoc v.0 (joined (take m v.1)) (get_or v.1 m [] ++ joined (drop (suc m) v.1)))
+
+  joined_set : (m : ℕ) (rs : List (List (List ℕ × X))) (r : List (List ℕ × X)) → m < length rs → joined (slice_set rs m r) ≡ joined (take m rs) ++ (r ++ joined (drop (suc m) rs))
+  joined_set m [] r h = absurd (omega arith)
+  joined_set zero (x ∷ rs) r h = refl
+  joined_set (suc m) (x ∷ rs) r h = ap (λ t. x ++ t) (joined_set m rs r (omega arith)) ∙ sym (append_assoc x (joined (take m rs)) (r ++ joined (drop (suc m) rs)))
+
+  pub whole_with : (v : List (List ℕ × X) × List (List (List ℕ × X))) (n : ℕ) (r : List (List ℕ × X)) → n ≤ length v.1 → all_of (with_row v n r) ≡ front_of v n ++ (r ++ back_of v n)
+  whole_with v zero r h = refl
+  whole_with v (suc m) r h =
+      ap (λ t. v.0 ++ t) (joined_set m v.1 r (omega arith))
+      ∙ sym (append_assoc v.0 (joined (take m v.1)) (r ++ joined (drop (suc m) v.1)))
+
+  filled_at : (rs : List (List (List ℕ × X))) (m : ℕ) → AreFilled rs → m < length rs → 0 < length (get_or rs m [])
+  filled_at [] m f h = absurd (omega arith)
+  filled_at (r ∷ rs) zero f h = f.0
+  filled_at (r ∷ rs) (suc m) f h = filled_at rs m f.1 (omega arith)
+
+  filled_drop : (n : ℕ) (rs : List (List (List ℕ × X))) → AreFilled rs → AreFilled (drop n rs)
+  filled_drop zero rs f = f
+  filled_drop (suc n) [] f = tt
+  filled_drop (suc n) (r ∷ rs) f = filled_drop n rs f.1
+
+  pub filled_set : (m : ℕ) (rs : List (List (List ℕ × X))) (r : List (List ℕ × X)) → 0 < length r → AreFilled rs → AreFilled (slice_set rs m r)
+  filled_set m [] r h f = f
+  filled_set zero (x ∷ rs) r h f = (h, f.1)
+  filled_set (suc m) (x ∷ rs) r h f = (f.0, filled_set m rs r h f.1)
+
+  get_drop : (n : ℕ) (rs : List (List (List ℕ × X))) → get_or (drop n rs) 0 [] ≡ get_or rs n []
+  get_drop zero rs = refl
+  get_drop (suc n) [] = refl
+  get_drop (suc n) (r ∷ rs) = get_drop n rs
+
+  before_list : (k : List ℕ) (xs row rest : List (List ℕ × X)) → Rises (xs ++ (row ++ rest)) → begins_by k row ≡ true → AllBefore k xs
+  before_list k xs [] rest r h = absurd (cc)
+  before_list k xs (e ∷ es) rest r h = before_row k xs e (es ++ rest) r h
+
+  behind_rows : (k : List ℕ) (rs : List (List (List ℕ × X))) → Rises (joined rs) → AreFilled rs → (0 < length rs → begins_by k (get_or rs 0 []) ≡ false) → AllBehind k (joined rs)
+  behind_rows k [] r f h = tt
+  behind_rows k ([] ∷ rs) r f h = absurd (let none = f.0 in omega arith)
+  behind_rows k ((e ∷ es) ∷ rs) r f h = behind_row k e (es ++ joined rs) r (h (omega arith))
+
+  -- the row with the key's number stands between entries before the key and entries behind it
+  pub front_before : (k : List ℕ) (v : List (List ℕ × X) × List (List (List ℕ × X))) (n : ℕ) → IsRows v → n ≡ row_number k v.1 → AllBefore k (front_of v n)
+  front_before k v zero w e = tt
+  front_before k v (suc m) w e =
+      let bound = number_bound k v.1 in
+      let here : begins_by k (get_or v.1 m []) ≡ true = begins_at k v.1 m (omega (arith, e)) in
+      before_list k (v.0 ++ joined (take m v.1)) (get_or v.1 m []) (joined (drop (suc m) v.1)) (subst (λ (t : List (List ℕ × X)). Rises t) (whole v (suc m) (omega (arith, e, bound))) w.rises) here
+
+  pub back_behind : (k : List ℕ) (v : List (List ℕ × X) × List (List (List ℕ × X))) (n : ℕ) → IsRows v → n ≡ row_number k v.1 → AllBehind k (back_of v n)
+  back_behind k v n w e =
+      let bound = number_bound k v.1 in
+      let low : n ≤ length v.1 = omega (arith, e, bound) in
+      let parts : Rises ((front_of v n ++ row_of v n) ++ back_of v n) = subst (λ (t : List (List ℕ × X)). Rises t) (whole v n low ∙ sym (append_assoc (front_of v n) (row_of v n) (back_of v n))) w.rises in
+      behind_rows k (drop n v.1) (rises_right (front_of v n ++ row_of v n) (back_of v n) parts) (filled_drop n v.1 w.filled) (λ l.
+          let there : row_number k v.1 < length v.1 = omega (arith, l, e, length-drop n v.1) in
+          get_drop n v.1 ∙ ap (λ m. begins_by k (get_or v.1 m [])) e ∙ stops_at k v.1 there)
+
+  -- ---- what is done in that row
+
+  pub at_number : (k : List ℕ) (v : List (List ℕ × X) × List (List (List ℕ × X))) (n : ℕ) → IsRows v → n ≡ row_number k v.1 → at_key k (all_of v) ≡ at_key k (row_of v n)
+  at_number k v n w e =
+      let bound = number_bound k v.1 in
+      ap (λ t. at_key k t) (whole v n (omega (arith, e, bound)))
+      ∙ at_between k (front_of v n) (row_of v n) (back_of v n) (front_before k v n w e) (back_behind k v n w e)
+
+  pub set_number : (k : List ℕ) (u : X) (v : List (List ℕ × X) × List (List (List ℕ × X))) (n : ℕ) → IsRows v → n ≡ row_number k v.1 → all_of (with_row v n (set_value (is_at (by_bytes k)) (row_of v n) u)) ≡ set_value (is_at (by_bytes k)) (all_of v) u
+  set_number k u v n w e =
+      let bound = number_bound k v.1 in
+      let low : n ≤ length v.1 = omega (arith, e, bound) in
+      whole_with v n (set_value (is_at (by_bytes k)) (row_of v n) u) low
+      ∙ sym (set_between k u (front_of v n) (row_of v n) (back_of v n) (front_before k v n w e) (back_behind k v n w e))
+      ∙ sym (ap (λ t. set_value (is_at (by_bytes k)) t u) (whole v n low))
+
+  pub put_number : (k : List ℕ) (u : X) (v : List (List ℕ × X) × List (List (List ℕ × X))) (n : ℕ) → IsRows v → n ≡ row_number k v.1 → all_of (with_row v n (insert_entry by_bytes (row_of v n) k u)) ≡ insert_entry by_bytes (all_of v) k u
+  put_number k u v n w e =
+      let bound = number_bound k v.1 in
+      let low : n ≤ length v.1 = omega (arith, e, bound) in
+      whole_with v n (insert_entry by_bytes (row_of v n) k u) low
+      ∙ sym (put_between k u (front_of v n) (row_of v n) (back_of v n) (front_before k v n w e) (back_behind k v n w e))
+      ∙ sym (ap (λ t. insert_entry by_bytes t k u) (whole v n low))
+
+  put_filled : (k : List ℕ) (u : X) (es : List (List ℕ × X)) → 0 < length (insert_entry by_bytes es k u)
+  put_filled k u [] = omega arith
+  put_filled k u (e ∷ es) = elim (by_bytes k e.0) as (λ o. 0 < length (match_ordering o ((k, u) ∷ e ∷ es) ((e.0, u) ∷ es) (e ∷ insert_entry by_bytes es k u))) [
+    | Less ↦ omega arith
+    | Equal ↦ omega arith
+    | Greater ↦ omega arith
+  ]
+
+  -- rows of which one got another content that has entries
+  with_rows : (v : List (List ℕ × X) × List (List (List ℕ × X))) (n : ℕ) (r : List (List ℕ × X)) → IsRows v → 0 < length r → Rises (all_of (with_row v n r)) → IsRows (with_row v n r)
+  with_rows v zero r w h s = record { rises = s; filled = w.filled; front = λ z. absurd (omega (arith, z, h)) }
+  with_rows v (suc m) r w h s = record { rises = s; filled = filled_set m v.1 r h w.filled; front = λ z. length-set v.1 m r ∙ w.front z }
+
+  pub rows_put : (k : List ℕ) (u : X) (v : List (List ℕ × X) × List (List (List ℕ × X))) (n : ℕ) → IsRows v → n ≡ row_number k v.1 → IsRows (with_row v n (insert_entry by_bytes (row_of v n) k u))
+  rows_put k u v n w e =
+      with_rows v n (insert_entry by_bytes (row_of v n) k u) w (put_filled k u (row_of v n))
+      (subst (λ (t : List (List ℕ × X)). Rises t) (sym (put_number k u v n w e)) (rises_put k u (all_of v) w.rises))

@@ -1,5 +1,5 @@
 -- Entries that rise by key: where a key stands among them, in one row and in several.
-use Rattle.std.specs.Prelude.{◌≡◌, ℕ, zero, suc, ◌<◌, ◌≤◌, Bool, true, false, List, [], ◌∷◌, ◌++◌, map, length, if◌then◌else◌, Option, Some, None, Result, MatchResult}
+use Rattle.std.specs.Prelude.{◌≡◌, ℕ, zero, suc, ◌<◌, ◌≤◌, Bool, true, false, List, [], ◌∷◌, ◌++◌, map, length, slice_index_or, slice_set, if◌then◌else◌, Option, Some, None, Result, MatchResult}
 use Rattle.std.specs.Global.{Box}
 use Rattle.std.specs.Ordering.{match_ordering}
 use Rattle.std.specs.List.Sorted.{IsStrictlySortedBy}
@@ -73,3 +73,23 @@ module _ {X : Type 0} where
   abbrev pub row_number : List ℕ → List (List (List ℕ × X)) → ℕ
   row_number k [] = 0
   row_number k (r ∷ rs) = if begins_by k r then suc (row_number k rs) else 0
+
+  -- all entries of a first row and of others
+  abbrev pub all_of : List (List ℕ × X) × List (List (List ℕ × X)) → List (List ℕ × X)
+  all_of v = v.0 ++ joined v.1
+
+  -- the row with this number, of which the first has 0
+  abbrev pub row_of : List (List ℕ × X) × List (List (List ℕ × X)) → ℕ → List (List ℕ × X)
+  row_of v zero = v.0
+  row_of v (suc m) = slice_index_or v.1 m []
+
+  -- the same rows but for that one
+  abbrev pub with_row : List (List ℕ × X) × List (List (List ℕ × X)) → ℕ → List (List ℕ × X) → List (List ℕ × X) × List (List (List ℕ × X))
+  with_row v zero r = (r, v.1)
+  with_row v (suc m) r = (v.0, slice_set v.1 m r)
+
+  -- all entries rise, and none of the rows is empty but the first where there is no other
+  pub record IsRows (v : List (List ℕ × X) × List (List (List ℕ × X))) : Type 0 where
+    pub rises : Rises (all_of v)
+    pub filled : AreFilled v.1
+    pub front : length v.0 ≡ 0 → length v.1 ≡ 0

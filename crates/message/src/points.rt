@@ -4,7 +4,7 @@ ghost use Rattle.std.specs.List.{filter, slice_get};
 ghost use Rattle.std.specs.Map.{keys_of};
 ghost use Rattle.std.specs.Option.{option_copied, option_map, option_to_list};
 ghost use Rattle.pathkey.specs.Keys.{is_below, is_in};
-ghost use Rattle.message.specs.Rows.{unboxed, Rises, end_place, IsHolder};
+ghost use Rattle.message.specs.Rows.{unboxed, Rises, place, end_place, IsHolder, IsGap};
 ghost use Rattle.message.specs.Runs.{run_len, run_effect, run_msgs, IsRunKeyed};
 ghost use Rattle.message.specs.Stretches.{IsStretch};
 ghost use Rattle.message.specs.Settled.{AreRunsKeyed, Lays, look, first_behind, point_msgs, point_count};
@@ -47,10 +47,7 @@ impl<U: Update> Points<U> {
     pub(crate) fn first(&self) -> Option<(&Key, &Run<U>)>
         ensures { option_map (λ p. (p.0.now, p.1.now)) result ≡ slice_get self.now 0 }
     {
-        match self.row.entries().first() {
-            None => None,
-            Some(item) => Some((&item.0, &item.1)),
-        }
+        self.row.entry(0)
     }
 
     /// Takes the messages of the first key out. It takes no memory.
@@ -165,12 +162,10 @@ fn overwrite_in<U: Update>(
     ensures unchanged { OnErr result (row.new ≡ row.old) }
     ensures back { IfErr result (λ p. p ≡ (key, run)) }
 {
-    match row.find(&key) {
-        Ok(i) => Ok(row.swap(i, run).len()),
-        Err(i) => match row.put(i, key, run) {
-            Ok(()) => Ok(0),
-            Err(pair) => Err(pair),
-        },
+    match row.insert(key, run) {
+        Ok(None) => Ok(0),
+        Ok(Some(old)) => Ok(old.len()),
+        Err(pair) => Err(pair),
     }
 }
 
@@ -193,15 +188,7 @@ fn edit_in<U: Update>(
 {
     match row.find(&key) {
         Ok(i) => edit_at(row, i, alloc, key, update),
-        Err(i) => match row.put(i, key, Run::Edit(update)) {
-            Ok(()) => Ok((0, 1)),
-            Err((key, run)) => {
-                let Run::Edit(update) = run else {
-                    unreachable!()
-                };
-                Err((key, update))
-            }
-        },
+        Err(i) => put_edit(row, i, key, update),
     }
 }
 
@@ -214,6 +201,7 @@ fn edit_at<U: Update>(
     update: U,
 ) -> Result<(usize, usize), (Key, U)>
     requires { IsHolder key row.old i }
+    ensures ordered { Rises row.new }
     ensures lays { OnOk result (Lays U.means key (U.means update) row.old row.new) }
     ensures counted { IfOk result (λ n. point_count row.new + n.0 ≡ point_count row.old + n.1) }
     ensures bound { IfOk result (λ n. n.1 ≤ n.0 + 1) }
@@ -222,14 +210,62 @@ fn edit_at<U: Update>(
     ensures unchanged { OnErr result (point_msgs row.new ≡ point_msgs row.old) }
     ensures back { IfErr result (λ p. p ≡ (key, update)) }
 {
-    let old = row.swap(i, Run::Del);
-    let before = old.len();
+    let mut run = row.swap(i, Run::Del);
+    let answer = edit_run(&mut run, alloc, key, update);
+    row.swap(i, run);
+    answer
+}
+
+/// Lays an update over a run, as [`Points::edit`] does.
+fn edit_run<U: Update>(
+    run: &mut Run<U>,
+    alloc: Global,
+    key: Key,
+    update: U,
+) -> Result<(usize, usize), (Key, U)>
+    ensures meaning { OnOk result ((o : Option U.Value) → run_effect U.means run.new o ≡ U.means update (run_effect U.means run.old o)) }
+    ensures counted { IfOk result (λ n. (n.0 ≡ run_len run.old) × (n.1 ≡ run_len run.new)) }
+    ensures bound { run_len run.new ≤ run_len run.old + 1 }
+    ensures keyed { IsRunKeyed key run.old → IsRunKeyed key run.new }
+    ensures unchanged { OnErr result ((k : List ℕ) → run_msgs k run.new ≡ run_msgs k run.old) }
+    ensures back { IfErr result (λ p. p ≡ (key, update)) }
+{
+    let before = run.len();
+    let old = std::mem::replace(run, Run::Del);
     let (new, answer) = old.edited(alloc, key, update);
     let after = new.len();
-    row.swap(i, new);
+    *run = new;
     match answer {
         Ok(()) => Ok((before, after)),
         Err(pair) => Err(pair),
+    }
+}
+
+/// Puts an update at a key that has no messages.
+fn put_edit<U: Update>(
+    row: &mut Row<Run<U>>,
+    i: usize,
+    key: Key,
+    update: U,
+) -> Result<(usize, usize), (Key, U)>
+    requires { IsGap key row.old i }
+    ensures ordered { Rises row.new }
+    ensures lays { OnOk result (Lays U.means key (U.means update) row.old row.new) }
+    ensures counted { IfOk result (λ n. point_count row.new + n.0 ≡ point_count row.old + n.1) }
+    ensures bound { IfOk result (λ n. n.1 ≤ n.0 + 1) }
+    ensures within { IfOk result (λ n. n.0 ≤ point_count row.old) }
+    ensures keyed { AreRunsKeyed row.old → AreRunsKeyed row.new }
+    ensures unchanged { OnErr result (row.new ≡ row.old) }
+    ensures back { IfErr result (λ p. p ≡ (key, update)) }
+{
+    match row.put(i, key, Run::Edit(update)) {
+        Ok(()) => Ok((0, 1)),
+        Err((key, run)) => {
+            let Run::Edit(update) = run else {
+                unreachable!()
+            };
+            Err((key, update))
+        }
     }
 }
 
@@ -243,11 +279,24 @@ fn clear_in<U: Update>(row: &mut Row<Run<U>>, range: &KeyRange, count: usize) ->
     ensures was_ordered { Rises row.old }
     ensures counted { result + point_count row.old ≡ count + point_count row.new }
 {
-    let from = row.before(&range.lo);
-    let to = before_end(row, range.hi.as_ref());
+    let (from, to) = inside(row, range);
     let gone = count_of(&row.entries()[from..to]);
     row.remove(from, to);
     count - gone
+}
+
+/// The numbers from which and up to which the entries of a row stand inside the range.
+fn inside<T: Drop>(row: &Row<T>, range: &KeyRange) -> (usize, usize)
+    requires { is_below range.now.lo range.now.hi ≡ true }
+    ensures from { result.0 ≡ place range.now.lo row.now }
+    ensures to { result.1 ≡ end_place range.now.hi row.now }
+    ensures order { result.0 ≤ result.1 }
+    ensures bound { result.1 ≤ length row.now }
+    ensures rises { Rises row.now }
+{
+    let from = row.before(&range.lo);
+    let to = before_end(row, range.hi.as_ref());
+    (from, to)
 }
 
 /// How many keys of a row stand before the end; `None` is no end.
@@ -268,7 +317,8 @@ fn count_of<U: Update>(items: &[Box<(Key, Run<U>)>]) -> usize
 {
     let mut count = 0;
     for item in items {
-        count += item.1.len();
+        let entry = item.as_ref();
+        count += entry.1.len();
     }
     count
 }
@@ -279,7 +329,7 @@ fn run_in<'a, U: Update>(row: &'a Row<Run<U>>, key: &Key) -> Option<&'a Run<U>>
     ensures ordered { Rises row.now }
 {
     match row.find(key) {
-        Ok(i) => Some(&row.entries()[i].1),
+        Ok(i) => Some(row.value(i)),
         Err(_) => None,
     }
 }
@@ -289,13 +339,21 @@ fn first_behind<'a, T: Drop>(row: &'a Row<T>, key: &Key) -> Option<&'a Key>
     ensures value { option_copied result ≡ first_behind key.now row.now }
     ensures ordered { Rises row.now }
 {
-    let i = match row.find(key) {
-        Ok(i) => i + 1,
-        Err(i) => i,
-    };
-    match row.entries().get(i) {
+    // What `len` promises says that the number behind is one.
+    let _ = row.len();
+    match row.find(key) {
+        Ok(i) => key_at(row, i + 1),
+        Err(i) => key_at(row, i),
+    }
+}
+
+/// The key of the entry with this number, if there is one.
+fn key_at<T: Drop>(row: &Row<T>, i: usize) -> Option<&Key>
+    ensures { option_copied result ≡ option_map (λ e. e.0) (slice_get row.now i) }
+{
+    match row.entry(i) {
         None => None,
-        Some(item) => Some(&item.0),
+        Some((key, _)) => Some(key),
     }
 }
 
@@ -312,7 +370,8 @@ fn copy_runs<U: Update>(
         if front.len() >= count {
             return Ok(());
         }
-        item.1.copy_into(alloc, &item.0, front)?;
+        let entry = item.as_ref();
+        entry.1.copy_into(alloc, &entry.0, front)?;
     }
     Ok(())
 }
@@ -326,8 +385,9 @@ fn copy_row<U: Update>(row: &Row<Run<U>>, alloc: Global) -> Result<Row<Run<U>>, 
     let mut copy = Row::new(alloc);
     let items = row.entries();
     for item in items {
-        let key = item.0.copy(alloc)?;
-        let run = item.1.copy(alloc)?;
+        let entry = item.as_ref();
+        let key = entry.0.copy(alloc)?;
+        let run = entry.1.copy(alloc)?;
         copy.push(key, run)?;
     }
     Ok(copy)

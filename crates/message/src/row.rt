@@ -1,9 +1,9 @@
 //! A row of entries that rise by key, each in a place of its own.
 //!
 //! An entry is made where it comes in. After that only its pointer moves.
-ghost use Rattle.std.specs.Prelude.{◌≡◌, ◌++◌, ◌∷◌, [], ◌<◌, ◌≤◌, length, take, drop, Some, OnOk, OnErr, IfOk, IfErr, IfNone, ℕ, List};
-ghost use Rattle.std.specs.Option.{option_to_list};
-ghost use Rattle.std.specs.List.{remove_range};
+ghost use Rattle.std.specs.Prelude.{◌≡◌, ◌++◌, ◌∷◌, [], ◌<◌, ◌≤◌, ◌^◌, length, take, drop, Some, OnOk, OnErr, IfOk, IfErr, IfNone, ℕ, List};
+ghost use Rattle.std.specs.Option.{option_map, option_to_list};
+ghost use Rattle.std.specs.List.{remove_range, slice_get};
 ghost use Rattle.std.specs.Map.{set_value};
 ghost use Rattle.std.specs.BTreeMap.{insert_entry, is_at};
 ghost use Rattle.pathkey.specs.Order.{by_bytes};
@@ -44,7 +44,8 @@ impl<T: Drop> Row<T> {
 
     /// How many entries there are.
     pub(crate) fn len(&self) -> usize
-        ensures { result ≡ length self.now }
+        ensures len { result ≡ length self.now }
+        ensures small { result < 2 ^ 63 }
     {
         self.items.len()
     }
@@ -52,6 +53,7 @@ impl<T: Drop> Row<T> {
     /// The entries, in the order of their keys.
     pub(crate) fn entries(&self) -> &[Box<(Key, T)>]
         ensures entries { unboxed result.now ≡ self.now }
+        ensures len { length result.now ≡ length self.now }
         ensures rises { Rises self.now }
     {
         self.items.as_slice()
@@ -66,6 +68,28 @@ impl<T: Drop> Row<T> {
         count_before(self.items.as_slice(), key)
     }
 
+    /// The entry with this number, if there is one.
+    pub(crate) fn entry(&self, i: usize) -> Option<(&Key, &T)>
+        ensures { option_map (λ p. (p.0.now, p.1.now)) result ≡ slice_get self.now i }
+    {
+        match self.items.get(i) {
+            None => None,
+            Some(item) => {
+                let entry = item.as_ref();
+                Some((&entry.0, &entry.1))
+            }
+        }
+    }
+
+    /// The value of the entry with this number.
+    pub(crate) fn value(&self, i: usize) -> &T
+        requires { i < length self.now }
+        ensures { (k : List ℕ) → IsHolder k self.now i → at_key k self.now ≡ Some result.now }
+    {
+        let item = &self.items[i];
+        &item.1
+    }
+
     /// Where the key stands, or where it would.
     pub(crate) fn find(&self, key: &Key) -> Result<usize, usize>
         ensures found { IsFound key.now self.now result }
@@ -74,21 +98,34 @@ impl<T: Drop> Row<T> {
         find_in(self.items.as_slice(), key)
     }
 
+    /// Puts a value at the key, and answers the one that stood there. On want of memory both come back.
+    pub(crate) fn insert(&mut self, key: Key, value: T) -> Result<Option<T>, (Key, T)>
+        ensures entries { OnOk result (self.new ≡ insert_entry by_bytes self.old key value) }
+        ensures was { IfOk result (λ old. old ≡ at_key key self.old) }
+        ensures rises { Rises self.new }
+        ensures was_rising { Rises self.old }
+        ensures err { OnErr result (self.new ≡ self.old) }
+        ensures back { IfErr result (λ p. p ≡ (key, value)) }
+    {
+        match self.find(&key) {
+            Ok(i) => Ok(Some(self.swap(i, value))),
+            Err(i) => match self.put(i, key, value) {
+                Ok(()) => Ok(None),
+                Err(pair) => Err(pair),
+            },
+        }
+    }
+
     /// Puts a new entry into its place. On want of memory it comes back.
     pub(crate) fn put(&mut self, i: usize, key: Key, value: T) -> Result<(), (Key, T)>
         requires { IsGap key self.old i }
         ensures ok { OnOk result (self.new ≡ insert_entry by_bytes self.old key value) }
+        ensures rises { Rises self.new }
+        ensures was_rising { Rises self.old }
         ensures err { OnErr result (self.new ≡ self.old) }
         ensures back { IfErr result (λ p. p ≡ (key, value)) }
     {
-        let item = match Box::new(*self.items.allocator(), (key, value)) {
-            Ok(item) => item,
-            Err(refused) => return Err(refused.value),
-        };
-        match self.items.insert(i, item) {
-            Ok(()) => Ok(()),
-            Err(refused) => Err(Box::into_inner(refused.value)),
-        }
+        put_item(&mut self.items, i, key, value)
     }
 
     /// Gives an entry another value, and answers the one that it had.
@@ -96,6 +133,7 @@ impl<T: Drop> Row<T> {
         requires { i < length self.old }
         ensures was { (k : List ℕ) → IsHolder k self.old i → at_key k self.old ≡ Some result }
         ensures is { (k : List ℕ) → IsHolder k self.old i → self.new ≡ set_value (is_at (by_bytes k)) self.old value }
+        ensures rises { Rises self.new }
     {
         let item = &mut self.items[i];
         std::mem::replace(&mut item.1, value)
@@ -104,7 +142,7 @@ impl<T: Drop> Row<T> {
     /// Puts an entry behind the others. On want of memory it is gone.
     pub(crate) fn push(&mut self, key: Key, value: T) -> Result<(), NoMemory>
         requires { Rises (self.old ++ (key, value) ∷ []) }
-        ensures ok { OnOk result (self.new ≡ self.old ++ (key, value) ∷ []) }
+        ensures { OnOk result (self.new ≡ self.old ++ (key, value) ∷ []) }
     {
         let item = Box::new(*self.items.allocator(), (key, value))?;
         self.items.push(item)?;
@@ -126,7 +164,8 @@ impl<T: Drop> Row<T> {
     pub(crate) fn remove(&mut self, from: usize, to: usize)
         requires order { from ≤ to }
         requires bound { to ≤ length self.old }
-        ensures { self.new ≡ remove_range self.old from to }
+        ensures cut { self.new ≡ remove_range self.old from to }
+        ensures rises { Rises self.new }
     {
         self.items.drain(from..to);
     }
@@ -143,11 +182,34 @@ impl<T: Drop> Row<T> {
     }
 }
 
+/// Puts a new entry into its place among others. On want of memory it comes back.
+fn put_item<T: Drop>(
+    items: &mut Vec<Box<(Key, T)>>,
+    i: usize,
+    key: Key,
+    value: T,
+) -> Result<(), (Key, T)>
+    requires { IsGap key (unboxed items.old.items) i }
+    ensures ok { OnOk result (unboxed items.new.items ≡ insert_entry by_bytes (unboxed items.old.items) key value) }
+    ensures rises { Rises (unboxed items.old.items) → Rises (unboxed items.new.items) }
+    ensures err { OnErr result (items.new.items ≡ items.old.items) }
+    ensures back { IfErr result (λ p. p ≡ (key, value)) }
+{
+    let item = match Box::new(*items.allocator(), (key, value)) {
+        Ok(item) => item,
+        Err(refused) => return Err(refused.value),
+    };
+    match items.insert(i, item) {
+        Ok(()) => Ok(()),
+        Err(refused) => Err(Box::into_inner(refused.value)),
+    }
+}
+
 /// How many entries stand before the key, found by a search in strides.
 fn count_before<T>(items: &[Box<(Key, T)>], key: &Key) -> usize
     requires { Rises (unboxed items.now) }
     ensures place { result ≡ place key.now (unboxed items.now) }
-    ensures bound { result ≤ length items.now }
+    ensures bound { result ≤ length (unboxed items.now) }
 {
     count_passing(items, |item| key.cmp(&item.0).is_gt())
 }
