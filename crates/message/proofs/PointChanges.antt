@@ -6,9 +6,9 @@ use Rattle.std.specs.List.{slice_range}
 use Rattle.std.specs.List.Sorted.{IsStrictlySortedBy}
 use Rattle.std.specs.Map.{keys_of, values_of, set_value}
 use Rattle.std.specs.BTreeMap.{insert_entry, is_at}
-use Rattle.std.proofs.lemmas.List.{map-append, drop_more, drop_all}
+use Rattle.std.proofs.lemmas.List.{map-append, drop_more, drop_all, take_all}
 use Rattle.std.proofs.lemmas.List.Sums.{sum_by-cons}
-use Rattle.std.proofs.lemmas.Map.Entries.{lookup-set_value, length-set_value, keys-set_value}
+use Rattle.std.proofs.lemmas.Map.{lookup-set_value, length-set_value, keys-set_value}
 use Rattle.pathkey.specs.Order.{by_bytes, by_bytes_equiv, same}
 use Rattle.message.specs.declared.msg.Msg.{Msg}
 use Rattle.message.specs.declared.run.Run.{Run}
@@ -65,7 +65,7 @@ module _ {U V : Type 0} where
       counted_front [] (suc j) = refl
       counted_front (b ∷ bs) (suc j) = omega (arith, counted_front bs j, sum_by-cons run_len b.value.1 (values_of (unboxed bs)), sum_by-cons run_len b.value.1 (values_of (unboxed (take j bs))))
   counted_between bs (suc i) zero h = absurd (omega arith)
-  counted_between [] (suc i) (suc j) h = refl
+  counted_between [] (suc i) (suc j) h = omega (arith, ap (λ (t : List (Box (List ℕ × Run U V))). point_count (unboxed t)) (take_all (suc j - suc i) [] (omega arith)))
   counted_between (b ∷ bs) (suc i) (suc j) h =
       let one : suc j - suc i ≡ j - i = omega arith in
       let rest = counted_between bs i j (omega arith) in
