@@ -24,3 +24,4 @@ pub mod RowFacts
 pub mod RowChanges
 pub mod PointChanges
 pub mod RowsFacts
+pub mod PointRows

@@ -119,7 +119,7 @@ module _ {X : Type 0} where
 
   -- ---- the next key
 
-  all_behind : (k : List ℕ) (es : List (List ℕ × X)) → AllByRecursion (λ y. by_bytes k y ≡ Less) (keys_of es) → first_behind k es ≡ option_map (λ (e : List ℕ × X). e.0) (slice_get es 0)
+  pub all_behind : (k : List ℕ) (es : List (List ℕ × X)) → AllByRecursion (λ y. by_bytes k y ≡ Less) (keys_of es) → first_behind k es ≡ option_map (λ (e : List ℕ × X). e.0) (slice_get es 0)
   all_behind k [] a = refl
   all_behind k (e ∷ es) a = ap (λ o. cond (is_lt o) (Some e.0) (first_behind k es)) a.0
 

@@ -1,12 +1,17 @@
 -- Entries that rise by key: where a key stands among them, in one row and in several.
-use Rattle.std.specs.Prelude.{◌≡◌, ℕ, zero, suc, ◌<◌, ◌≤◌, Bool, true, false, List, [], ◌∷◌, ◌++◌, map, length, slice_index_or, slice_set, if◌then◌else◌, Option, Some, None, Result, MatchResult}
+use Rattle.std.specs.Prelude.{◌≡◌, ◌⊎◌, ℕ, zero, suc, ◌<◌, ◌≤◌, Bool, true, false, List, [], ◌∷◌, ◌++◌, map, length, if◌then◌else◌, Option, Some, None, Result, MatchResult}
 use Rattle.std.specs.Global.{Box}
 use Rattle.std.specs.Ordering.{match_ordering}
 use Rattle.std.specs.List.Sorted.{IsStrictlySortedBy}
 use Rattle.std.specs.Map.{keys_of, lookup}
-use Rattle.std.specs.BTreeMap.{is_at}
+use Rattle.std.specs.BTreeMap.{is_at, insert_entry}
 use Rattle.pathkey.specs.Order.{by_bytes}
 use Rattle.message.specs.Ranges.{reaches}
+
+-- the one, or where it is none the other
+abbrev pub or_next : Option (List ℕ) → Option (List ℕ) → Option (List ℕ)
+or_next None t = t
+or_next (Some k) t = Some k
 
 module _ {X : Type 0} where
   -- each key stands before the later ones
@@ -64,6 +69,11 @@ module _ {X : Type 0} where
   AreFilled [] = Unit {0}
   AreFilled (r ∷ rs) = (0 < length r) × AreFilled rs
 
+  -- whether it has one
+  abbrev pub is_filled : List (List ℕ × X) → Bool
+  is_filled [] = false
+  is_filled (e ∷ es) = true
+
   -- it begins at the key or before it
   abbrev pub begins_by : List ℕ → List (List ℕ × X) → Bool
   begins_by k [] = false
@@ -74,22 +84,26 @@ module _ {X : Type 0} where
   row_number k [] = 0
   row_number k (r ∷ rs) = if begins_by k r then suc (row_number k rs) else 0
 
-  -- all entries of a first row and of others
-  abbrev pub all_of : List (List ℕ × X) × List (List (List ℕ × X)) → List (List ℕ × X)
-  all_of v = v.0 ++ joined v.1
+  -- each later row has an entry, and so has the first where there are others
+  abbrev pub LaterFilled : List (List (List ℕ × X)) → Type 0
+  LaterFilled [] = Unit {0}
+  LaterFilled (r ∷ rs) = AreFilled rs × (length r ≡ 0 → length rs ≡ 0)
 
-  -- the row with this number, of which the first has 0
-  abbrev pub row_of : List (List ℕ × X) × List (List (List ℕ × X)) → ℕ → List (List ℕ × X)
-  row_of v zero = v.0
-  row_of v (suc m) = slice_index_or v.1 m []
+  -- each later row has one
+  abbrev pub TailFilled : List (List (List ℕ × X)) → Type 0
+  TailFilled [] = Unit {0}
+  TailFilled (r ∷ rs) = AreFilled rs
 
-  -- the same rows but for that one
-  abbrev pub with_row : List (List ℕ × X) × List (List (List ℕ × X)) → ℕ → List (List ℕ × X) → List (List ℕ × X) × List (List (List ℕ × X))
-  with_row v zero r = (r, v.1)
-  with_row v (suc m) r = (v.0, slice_set v.1 m r)
+  -- the number of the row in which the key stands or would
+  abbrev pub number_in : List ℕ → List (List (List ℕ × X)) → ℕ
+  number_in k [] = 0
+  number_in k (r ∷ rs) = row_number k rs
 
-  -- all entries rise, and none of the rows is empty but the first where there is no other
-  pub record IsRows (v : List (List ℕ × X) × List (List (List ℕ × X))) : Type 0 where
-    pub rises : Rises (all_of v)
-    pub filled : AreFilled v.1
-    pub front : length v.0 ≡ 0 → length v.1 ≡ 0
+  -- rows whose entries rise in one list
+  pub record AreRows (rs : List (List (List ℕ × X))) : Type 0 where
+    pub rises : Rises (joined rs)
+    pub later : LaterFilled rs
+
+  -- a value was put at the key, if anything changed
+  abbrev pub IsWritten : List ℕ → List (List ℕ × X) → List (List ℕ × X) → Type 0
+  IsWritten k es fs = (fs ≡ es) ⊎ ((w : X) × (fs ≡ insert_entry by_bytes es k w))

@@ -4,7 +4,7 @@ ghost use Rattle.std.specs.List.{filter, slice_get};
 ghost use Rattle.std.specs.Map.{keys_of};
 ghost use Rattle.std.specs.Option.{option_copied, option_map, option_to_list};
 ghost use Rattle.pathkey.specs.Keys.{is_below, is_in};
-ghost use Rattle.message.specs.Rows.{unboxed, Rises, place, end_place, IsHolder, IsGap};
+ghost use Rattle.message.specs.Rows.{unboxed, Rises, place, end_place, joined, AreFilled, AreRows, or_next, IsHolder, IsGap, IsWritten};
 ghost use Rattle.message.specs.Runs.{run_len, run_effect, run_msgs, IsRunKeyed};
 ghost use Rattle.message.specs.Stretches.{IsStretch};
 ghost use Rattle.message.specs.Settled.{AreRunsKeyed, Lays, look, first_behind, point_msgs, point_count};
@@ -12,6 +12,7 @@ ghost use Rattle.message.specs.Settled.{AreRunsKeyed, Lays, look, first_behind, 
 use crate::ends::earlier;
 use crate::msg::Msg;
 use crate::row::Row;
+use crate::rows::{drop_empty, first_in, number_in, pop_in, prepare};
 use crate::run::Run;
 use crate::update::{Changes, Update};
 use pathkey::{Key, KeyRange, NoMemory};
@@ -21,7 +22,7 @@ use std::marker::Model;
 /// The messages that wait at single keys, those of each key in one place, in the order of the keys.
 #[derive(Drop)]
 pub struct Points<U: Changes> {
-    row: Row<Run<U>>,
+    rows: Vec<Row<Run<U>>>,
 }
 
 impl<U: Changes> Model for Points<U> {
@@ -30,7 +31,11 @@ impl<U: Changes> Model for Points<U> {
 
     ghost Value = { List (List ℕ × Run U U.Value) };
 
-    ghost view = { λ p. p.row };
+    ghost use Rattle.message.specs.Rows.{joined, AreRows};
+
+    ghost view = { λ p. joined p.rows.items };
+
+    ghost invariant = { λ p. AreRows p.rows.items };
 }
 
 impl<U: Update> Points<U> {
@@ -39,7 +44,7 @@ impl<U: Update> Points<U> {
         ensures { result ≡ [] }
     {
         Points {
-            row: Row::new(alloc),
+            rows: Vec::new(alloc),
         }
     }
 
@@ -47,7 +52,7 @@ impl<U: Update> Points<U> {
     pub(crate) fn first(&self) -> Option<(&Key, &Run<U>)>
         ensures { option_map (λ p. (p.0.now, p.1.now)) result ≡ slice_get self.now 0 }
     {
-        self.row.entry(0)
+        first_in(self.rows.as_slice())
     }
 
     /// Takes the messages of the first key out. It takes no memory.
@@ -55,7 +60,7 @@ impl<U: Update> Points<U> {
         ensures moved { self.old ≡ option_to_list result ++ self.new }
         ensures end { IfNone result (self.old ≡ []) }
     {
-        self.row.pop()
+        pop_in(&mut self.rows)
     }
 
     /// Puts one message, which does not ask what was there, in the place of the key's messages, and answers how many they
@@ -70,7 +75,10 @@ impl<U: Update> Points<U> {
         ensures unchanged { OnErr result (self.new ≡ self.old) }
         ensures back { IfErr result (λ p. p ≡ (key, run)) }
     {
-        overwrite_in(&mut self.row, key, run)
+        if !prepare(&mut self.rows, &key) {
+            return Err((key, run));
+        }
+        overwrite_among(&mut self.rows, key, run)
     }
 
     /// Lays an update over the key, and answers how many messages stood there and how many do now. On want of memory the
@@ -91,7 +99,10 @@ impl<U: Update> Points<U> {
         ensures unchanged { OnErr result (point_msgs self.new ≡ point_msgs self.old) }
         ensures back { IfErr result (λ p. p ≡ (key, update)) }
     {
-        edit_in(&mut self.row, alloc, key, update)
+        if !prepare(&mut self.rows, &key) {
+            return Err((key, update));
+        }
+        edit_among(&mut self.rows, alloc, key, update)
     }
 
     /// Takes away the messages at the keys of a range, and answers how many are left of `count`.
@@ -104,7 +115,7 @@ impl<U: Update> Points<U> {
         ensures was_ordered { Rises self.old }
         ensures counted { result ≡ point_count self.new }
     {
-        clear_in(&mut self.row, range, count)
+        clear_rows(&mut self.rows, range, count)
     }
 
     /// The messages at a key.
@@ -112,7 +123,7 @@ impl<U: Update> Points<U> {
         ensures value { option_copied result ≡ look key.now self.now }
         ensures ordered { Rises self.now }
     {
-        run_in(&self.row, key)
+        run_among(self.rows.as_slice(), key)
     }
 
     /// Where the next key behind `from` stands that has messages, if that is before `end`; else `end`. There are none at `from`.
@@ -121,7 +132,7 @@ impl<U: Update> Points<U> {
         requires some { is_below from.now (option_copied end) ≡ true }
         ensures { IsStretch (point_msgs self.now) from.now (option_copied end.entry) (option_copied result) }
     {
-        earlier(end, first_behind(&self.row, from))
+        earlier(end, behind_among(self.rows.as_slice(), from))
     }
 
     /// Copies of the messages, put behind those in `front`, until it has so many or more.
@@ -133,7 +144,7 @@ impl<U: Update> Points<U> {
     ) -> Result<(), NoMemory>
         ensures { OnOk result (take count front.new.items ≡ take count (front.old.items ++ point_msgs self.now)) }
     {
-        copy_runs(self.row.entries(), alloc, count, front)
+        copy_rows_into(self.rows.as_slice(), alloc, count, front)
     }
 
     /// The same messages at the same keys.
@@ -141,10 +152,169 @@ impl<U: Update> Points<U> {
         ensures same { IfOk result (λ p. point_msgs p ≡ point_msgs self.now) }
         ensures keyed { IfOk result (λ p. AreRunsKeyed self.now → AreRunsKeyed p) }
     {
-        Ok(Points {
-            row: copy_row(&self.row, alloc)?,
-        })
+        let rows = copy_rows(self.rows.as_slice(), alloc)?;
+        Ok(Points { rows })
     }
+}
+
+/// Puts one message in the place of the key's messages among rows, as [`Points::overwrite`] does.
+fn overwrite_among<U: Update>(
+    rows: &mut Vec<Row<Run<U>>>,
+    key: Key,
+    run: Run<U>,
+) -> Result<usize, (Key, Run<U>)>
+    requires idle { (v w : Option U.Value) → run_effect U.means run v ≡ run_effect U.means run w }
+    requires rows { AreRows rows.old.items }
+    requires some { 0 < length rows.old.items }
+    ensures rows { AreRows rows.new.items }
+    ensures lays { OnOk result (Lays U.means key (run_effect U.means run) (joined rows.old.items) (joined rows.new.items)) }
+    ensures counted { IfOk result (λ gone. point_count (joined rows.new.items) + gone ≡ point_count (joined rows.old.items) + run_len run) }
+    ensures keyed { IsRunKeyed key run → AreRunsKeyed (joined rows.old.items) → AreRunsKeyed (joined rows.new.items) }
+    ensures unchanged { OnErr result (joined rows.new.items ≡ joined rows.old.items) }
+    ensures back { IfErr result (λ p. p ≡ (key, run)) }
+{
+    let n = number_in(rows.as_slice(), &key);
+    let row = &mut rows[n];
+    overwrite_in(row, key, run)
+}
+
+/// Lays an update over the key among rows, as [`Points::edit`] does.
+fn edit_among<U: Update>(
+    rows: &mut Vec<Row<Run<U>>>,
+    alloc: Global,
+    key: Key,
+    update: U,
+) -> Result<(usize, usize), (Key, U)>
+    requires rows { AreRows rows.old.items }
+    requires some { 0 < length rows.old.items }
+    ensures rows { AreRows rows.new.items }
+    ensures lays { OnOk result (Lays U.means key (U.means update) (joined rows.old.items) (joined rows.new.items)) }
+    ensures counted { IfOk result (λ n. point_count (joined rows.new.items) + n.0 ≡ point_count (joined rows.old.items) + n.1) }
+    ensures bound { IfOk result (λ n. n.1 ≤ n.0 + 1) }
+    ensures within { IfOk result (λ n. n.0 ≤ point_count (joined rows.old.items)) }
+    ensures keyed { AreRunsKeyed (joined rows.old.items) → AreRunsKeyed (joined rows.new.items) }
+    ensures unchanged { OnErr result (point_msgs (joined rows.new.items) ≡ point_msgs (joined rows.old.items)) }
+    ensures back { IfErr result (λ p. p ≡ (key, update)) }
+{
+    let n = number_in(rows.as_slice(), &key);
+    let row = &mut rows[n];
+    edit_in(row, alloc, key, update)
+}
+
+/// Takes away the messages of rows at the keys of a range, and answers how many are left of `count`.
+fn clear_rows<U: Update>(rows: &mut Vec<Row<Run<U>>>, range: &KeyRange, count: usize) -> usize
+    requires some { is_below range.now.lo range.now.hi ≡ true }
+    requires rows { AreRows rows.old.items }
+    requires counted { count ≡ point_count (joined rows.old.items) }
+    requires small { count < 2 ^ 63 }
+    ensures entries { joined rows.new.items ≡ filter (λ e. not (is_in range.now e.0)) (joined rows.old.items) }
+    ensures rows { AreRows rows.new.items }
+    ensures counted { result ≡ point_count (joined rows.new.items) }
+{
+    let left = clear_each(rows, range, count);
+    drop_empty(rows);
+    left
+}
+
+/// Takes away the messages of each row at the keys of a range, and answers how many are left of `count`.
+fn clear_each<U: Update>(rows: &mut Vec<Row<Run<U>>>, range: &KeyRange, count: usize) -> usize
+    requires some { is_below range.now.lo range.now.hi ≡ true }
+    requires counted { count ≡ point_count (joined rows.old.items) }
+    requires small { count < 2 ^ 63 }
+    ensures entries { joined rows.new.items ≡ filter (λ e. not (is_in range.now e.0)) (joined rows.old.items) }
+    ensures counted { result ≡ point_count (joined rows.new.items) }
+{
+    let mut left = count;
+    let mut i = 0;
+    while i < rows.len() {
+        let row = &mut rows[i];
+        left = clear_in(row, range, left);
+        i += 1;
+    }
+    left
+}
+
+/// The messages of rows at a key.
+fn run_among<'a, U: Update>(rows: &'a [Row<Run<U>>], key: &Key) -> Option<&'a Run<U>>
+    requires { AreRows rows.now }
+    ensures { option_copied result ≡ look key.now (joined rows.now) }
+{
+    let n = number_in(rows, key);
+    match rows.get(n) {
+        None => None,
+        Some(row) => run_in(row, key),
+    }
+}
+
+/// The first key of rows behind this one.
+fn behind_among<'a, T: Drop>(rows: &'a [Row<T>], key: &Key) -> Option<&'a Key>
+    requires { AreRows rows.now }
+    ensures { option_copied result ≡ first_behind key.now (joined rows.now) }
+{
+    let n = number_in(rows, key);
+    match rows.get(n) {
+        None => None,
+        Some(row) => behind_from(row, &rows[n + 1..], key),
+    }
+}
+
+/// The first key of a row behind this one, or of the rows behind that row.
+fn behind_from<'a, T: Drop>(
+    row: &'a Row<T>,
+    later: &'a [Row<T>],
+    key: &Key,
+) -> Option<&'a Key>
+    requires { AreFilled later.now }
+    ensures { option_copied result ≡ or_next (first_behind key.now row.now) (option_map (λ e. e.0) (slice_get (joined later.now) 0)) }
+{
+    match first_behind(row, key) {
+        None => first_key(later),
+        Some(next) => Some(next),
+    }
+}
+
+/// The first key of the first row.
+fn first_key<T: Drop>(rows: &[Row<T>]) -> Option<&Key>
+    requires { AreFilled rows.now }
+    ensures { option_copied result ≡ option_map (λ e. e.0) (slice_get (joined rows.now) 0) }
+{
+    match rows.first() {
+        None => None,
+        Some(row) => key_at(row, 0),
+    }
+}
+
+/// Copies of the messages of rows, put behind those in `front`, until it has so many or more.
+fn copy_rows_into<U: Update>(
+    rows: &[Row<Run<U>>],
+    alloc: Global,
+    count: usize,
+    front: &mut Vec<Msg<U>>,
+) -> Result<(), NoMemory>
+    ensures { OnOk result (take count front.new.items ≡ take count (front.old.items ++ point_msgs (joined rows.now))) }
+{
+    for row in rows {
+        copy_runs(row.entries(), alloc, count, front)?;
+    }
+    Ok(())
+}
+
+/// The same messages at the same keys, in rows of the same lengths.
+fn copy_rows<U: Update>(
+    rows: &[Row<Run<U>>],
+    alloc: Global,
+) -> Result<Vec<Row<Run<U>>>, NoMemory>
+    requires { AreRows rows.now }
+    ensures rows { IfOk result (λ p. AreRows p.items) }
+    ensures same { IfOk result (λ p. point_msgs (joined p.items) ≡ point_msgs (joined rows.now)) }
+    ensures keyed { IfOk result (λ p. AreRunsKeyed (joined rows.now) → AreRunsKeyed (joined p.items)) }
+{
+    let mut copy = Vec::new(alloc);
+    for row in rows {
+        let row = copy_row(row, alloc)?;
+        copy.push(row)?;
+    }
+    Ok(copy)
 }
 
 /// Puts one message in the place of the key's messages in a row, as [`Points::overwrite`] does.
@@ -154,8 +324,7 @@ fn overwrite_in<U: Update>(
     run: Run<U>,
 ) -> Result<usize, (Key, Run<U>)>
     requires { (v w : Option U.Value) → run_effect U.means run v ≡ run_effect U.means run w }
-    ensures ordered { Rises row.new }
-    ensures was_ordered { Rises row.old }
+    ensures written { IsWritten key row.old row.new }
     ensures lays { OnOk result (Lays U.means key (run_effect U.means run) row.old row.new) }
     ensures counted { IfOk result (λ gone. point_count row.new + gone ≡ point_count row.old + run_len run) }
     ensures keyed { IsRunKeyed key run → AreRunsKeyed row.old → AreRunsKeyed row.new }
@@ -176,8 +345,7 @@ fn edit_in<U: Update>(
     key: Key,
     update: U,
 ) -> Result<(usize, usize), (Key, U)>
-    ensures ordered { Rises row.new }
-    ensures was_ordered { Rises row.old }
+    ensures written { IsWritten key row.old row.new }
     ensures lays { OnOk result (Lays U.means key (U.means update) row.old row.new) }
     ensures counted { IfOk result (λ n. point_count row.new + n.0 ≡ point_count row.old + n.1) }
     ensures bound { IfOk result (λ n. n.1 ≤ n.0 + 1) }
@@ -201,7 +369,7 @@ fn edit_at<U: Update>(
     update: U,
 ) -> Result<(usize, usize), (Key, U)>
     requires { IsHolder key row.old i }
-    ensures ordered { Rises row.new }
+    ensures written { IsWritten key row.old row.new }
     ensures lays { OnOk result (Lays U.means key (U.means update) row.old row.new) }
     ensures counted { IfOk result (λ n. point_count row.new + n.0 ≡ point_count row.old + n.1) }
     ensures bound { IfOk result (λ n. n.1 ≤ n.0 + 1) }
@@ -249,7 +417,7 @@ fn put_edit<U: Update>(
     update: U,
 ) -> Result<(usize, usize), (Key, U)>
     requires { IsGap key row.old i }
-    ensures ordered { Rises row.new }
+    ensures written { IsWritten key row.old row.new }
     ensures lays { OnOk result (Lays U.means key (U.means update) row.old row.new) }
     ensures counted { IfOk result (λ n. point_count row.new + n.0 ≡ point_count row.old + n.1) }
     ensures bound { IfOk result (λ n. n.1 ≤ n.0 + 1) }

@@ -7,7 +7,7 @@ ghost use Rattle.std.specs.List.{remove_range, slice_get};
 ghost use Rattle.std.specs.Map.{set_value};
 ghost use Rattle.std.specs.BTreeMap.{insert_entry, is_at};
 ghost use Rattle.pathkey.specs.Order.{by_bytes};
-ghost use Rattle.message.specs.Rows.{unboxed, Rises, at_key, place, IsHolder, IsGap, IsFound};
+ghost use Rattle.message.specs.Rows.{unboxed, Rises, at_key, place, begins_by, is_filled, IsHolder, IsGap, IsFound};
 
 use crate::search::count_passing;
 use pathkey::{Key, NoMemory};
@@ -66,6 +66,26 @@ impl<T: Drop> Row<T> {
         ensures rises { Rises self.now }
     {
         count_before(self.items.as_slice(), key)
+    }
+
+    /// Whether the first entry has the key or stands before it.
+    pub(crate) fn begins_by(&self, key: &Key) -> bool
+        ensures { result ≡ begins_by key.now self.now }
+    {
+        match self.entry(0) {
+            None => false,
+            Some((first, _)) => first.cmp(key).is_le(),
+        }
+    }
+
+    /// Whether there is an entry.
+    pub(crate) fn has_entries(&self) -> bool
+        ensures { result ≡ is_filled self.now }
+    {
+        match self.entry(0) {
+            None => false,
+            Some(_) => true,
+        }
     }
 
     /// The entry with this number, if there is one.

@@ -1,10 +1,11 @@
 -- The run is taken out, changed and written back: a value in the place of another.
-use Rattle.std.proofs.Common.{◌≡◌, ◌+◌, ◌≤◌, ap, sym, ◌∙◌, List, ℕ, Option, Some, arith}
+use Rattle.std.proofs.Common.{◌≡◌, ◌+◌, ◌≤◌, ap, sym, ◌∙◌, List, ℕ, Option, Some, inr, arith}
 use Rattle.std.proofs.lemmas.Result.{IfOk-weaker, IfErr-weaker}
 use Rattle.message.specs.declared.run.Run.TheVariants.{Del}
 use Rattle.message.specs.Runs.{run_len, run_effect, run_msgs}
 use Rattle.message.specs.Settled.{look, found_effect, Lays, point_count, point_msgs}
 use Rattle.message.proofs.Writing.{counted_set, counted_look, keyed_written, keyed_look, same_msgs}
+use Rattle.message.proofs.RowFacts.{put-set}
 use Rattle.message.proofs.PointChanges.{lays_set, set_again, again_bound}
 use Rattle.message.proofs.points.edit_at.Goals as goal
 
@@ -72,3 +73,11 @@ returns-clause-unchanged g c =
     IfErr-weaker c.edit_run-answer.result (λ _. (q : List ℕ) → run_msgs q w ≡ run_msgs q v) (λ _. point_msgs fs ≡ point_msgs es)
     (λ _ h. ap (λ t. point_msgs t) is ∙ same_msgs k v w es (c.swap-run.ensures.was k c.requires) h)
     c.edit_run-answer.ensures.unchanged
+
+pub returns-clause-written : goal.returns-clause-written
+returns-clause-written g c =
+    let k = c.args.key in
+    let es = c.args.row.now in
+    let w = c.edit_run-answer.new.run in
+    let is = set_again k Del w es c.swap-run.new.self c.swap.new.self c.args.i c.requires (c.swap-run.ensures.is k c.requires) c.swap.ensures.is in
+    inr (w, is ∙ sym (put-set k w es c.requires.there))

@@ -1,4 +1,4 @@
-use Rattle.std.proofs.Common.{sym, ◌∙◌, refl, Some, None}
+use Rattle.std.proofs.Common.{sym, ◌∙◌, refl, Some, None, inl, inr}
 use Rattle.message.specs.Runs.{run_effect}
 use Rattle.message.specs.Settled.{look, found_effect}
 use Rattle.message.proofs.Writing.{counted_insert, keyed_inserted}
@@ -28,3 +28,12 @@ returns-in-Ok-Some-clause-counted g c = counted_insert c.args.key c.args.run c.a
 
 pub returns-in-Ok-Some-clause-keyed : goal.returns-in-Ok-Some-clause-keyed
 returns-in-Ok-Some-clause-keyed g c h a = keyed_inserted c.args.key c.args.run c.args.row.now c.insert.new.self c.in-Ok-Some.ensures.entries h a
+
+pub returns-in-Ok-None-clause-written : goal.returns-in-Ok-None-clause-written
+returns-in-Ok-None-clause-written g c = inr (c.args.run, c.in-Ok-None.ensures.entries)
+
+pub returns-in-Ok-Some-clause-written : goal.returns-in-Ok-Some-clause-written
+returns-in-Ok-Some-clause-written g c = inr (c.args.run, c.in-Ok-Some.ensures.entries)
+
+pub returns-in-Err-clause-written : goal.returns-in-Err-clause-written
+returns-in-Err-clause-written g c = inl c.in-Err.ensures.err

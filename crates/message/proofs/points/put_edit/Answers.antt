@@ -1,4 +1,4 @@
-use Rattle.std.proofs.Common.{sym, ap, refl, None}
+use Rattle.std.proofs.Common.{sym, ap, refl, None, inl, inr}
 use Rattle.message.specs.declared.run.Run.TheVariants.{Edit}
 use Rattle.message.specs.Settled.{found_effect}
 use Rattle.message.proofs.Writing.{counted_insert, keyed_inserted}
@@ -17,3 +17,9 @@ returns-in-Ok-clause-counted g c = counted_insert c.args.key (Edit c.args.update
 
 pub returns-in-Ok-clause-keyed : goal.returns-in-Ok-clause-keyed
 returns-in-Ok-clause-keyed g c a = keyed_inserted c.args.key (Edit c.args.update) c.args.row.now c.put.new.self c.in-Ok.ensures.ok tt a
+
+pub returns-in-Ok-clause-written : goal.returns-in-Ok-clause-written
+returns-in-Ok-clause-written g c = inr (Edit c.args.update, c.in-Ok.ensures.ok)
+
+pub returns-in-Err-clause-written : goal.returns-in-Err-clause-written
+returns-in-Err-clause-written g c = inl c.in-Err.ensures.err

@@ -1,8 +1,8 @@
-use Rattle.std.proofs.Common.{◌≡◌, ap, ◌∙◌, subst, None}
+use Rattle.std.proofs.Common.{◌≡◌, ap, sym, ◌∙◌, subst, None}
 use Rattle.std.specs.Option.{option_copied}
 use Rattle.message.specs.Ranges.{earlier_end}
-use Rattle.message.specs.Settled.{look, point_msgs}
-use Rattle.message.specs.Stretches.{IsStretch}
+use Rattle.message.specs.Rows.{Rises, joined}
+use Rattle.message.specs.Settled.{first_behind}
 use Rattle.message.proofs.SortedStretches.{points_stretch}
 use Rattle.message.proofs.points.Points.stretch_end.Goals as goal
 
@@ -11,5 +11,6 @@ returns g c =
     let from = c.args.from.now in
     let end = option_copied c.args.end in
     let stop = option_copied c.earlier.result in
-    let none : look from c.self.inside.row ≡ None = ap (look from) c.self.view_is ∙ c.requires.none in
-    subst (λ es. IsStretch (point_msgs es) from end stop) c.self.view_is (points_stretch from end stop c.self.inside.row c.first_behind.ensures.ordered none c.requires.some (c.earlier.ensures ∙ ap (earlier_end end) c.first_behind.ensures.value))
+    let es = c.args.self.now in
+    let behind : option_copied c.behind_among.result ≡ first_behind from es = c.behind_among.ensures ∙ ap (λ t. first_behind from (joined t)) c.as_slice.ensures.value ∙ ap (first_behind from) c.self.view_is in
+    points_stretch from end stop es (subst (λ t. Rises t) c.self.view_is c.self.invariant.rises) c.requires.none c.requires.some (c.earlier.ensures ∙ ap (earlier_end end) behind)

@@ -1,0 +1,13 @@
+use Rattle.std.proofs.Common.{◌≡◌, ◌≤◌, not}
+use Rattle.pathkey.specs.Keys.{is_in}
+use Rattle.message.specs.Rows.{joined}
+use Rattle.message.specs.Settled.{point_count}
+use Rattle.message.proofs.PointRows.{AreCleared}
+use Rattle.message.proofs.points.clear_each.Given as goal
+
+abbrev pub invariant-loop-i : goal.invariant-loop-i
+invariant-loop-i g l = record {
+  cleared : AreCleared (λ e. not (is_in l.range e.0)) l.i l.initial.rows.items l.rows.items;
+  counted : l.left ≡ point_count (joined l.rows.items);
+  few : l.left ≤ l.count;
+}
