@@ -26,6 +26,11 @@ less_from_lt Greater h = (cc)
 greater_from : (k x : List ℕ) → before x k ≡ true → by_bytes k x ≡ Greater
 greater_from k x h = by_bytes_total.antisymm k x ∙ ap ordering_reverse (less_from_lt (by_bytes x k) h)
 
+-- a number that is none only where another is none
+some_from : (a b : ℕ) → 0 < a → (b ≡ 0 → a ≡ 0) → 0 < b
+some_from a zero p h = absurd (omega (arith, p, h refl))
+some_from a (suc b) p h = omega arith
+
 module _ {X : Type 0} where
   -- the keys stand before k, or behind it
   abbrev pub AllBefore : List ℕ → List (List ℕ × X) → Type 0
@@ -303,7 +308,7 @@ module _ {X : Type 0} where
   later_set zero (r ∷ rs) new l h f = (f.0, λ z. f.1 (h z))
   later_set (suc m) (r ∷ rs) new l h f =
       let low : m < length rs = omega arith in
-      let some : 0 < length new = omega (arith, filled_at rs m f.0 low, h) in
+      let some : 0 < length new = some_from (length (get_or rs m [])) (length new) (filled_at rs m f.0 low) h in
       (filled_set m rs new some f.0, λ z. length-set rs m new ∙ f.1 z)
 
   pub rows_written : (k : List ℕ) (rs : List (List (List ℕ × X))) (n : ℕ) (old new : List (List ℕ × X)) → AreRows rs → n ≡ number_in k rs → n < length rs → old ≡ get_or rs n old → IsWritten k old new → AreRows (slice_set rs n new)

@@ -1,5 +1,5 @@
 //! Rows one behind the other, so that an entry that comes in or leaves moves few others.
-ghost use Rattle.std.specs.Prelude.{◌≡◌, ◌++◌, ◌+◌, [], ◌<◌, ◌≤◌, length, take, drop, slice_index_or, slice_set, Some, OnOk, OnErr, IfOk, IfNone};
+ghost use Rattle.std.specs.Prelude.{true, vec_len, vec_capacity, ◌≡◌, ◌++◌, ◌+◌, [], ◌<◌, ◌≤◌, length, take, drop, slice_index_or, slice_set, Some, OnOk, OnErr, IfOk, IfNone};
 ghost use Rattle.std.specs.Option.{option_map, option_to_list};
 ghost use Rattle.std.specs.List.{slice_get};
 ghost use Rattle.message.specs.Rows.{Rises, joined, AreFilled, LaterFilled, TailFilled, row_number, number_in, AreRows};
@@ -129,6 +129,8 @@ fn cut<T: Drop>(rows: &mut Vec<Row<T>>, n: usize, at: usize) -> Result<Row<T>, N
     ensures front { OnOk result (rows.new.items ≡ slice_set rows.old.items n (take at (slice_index_or rows.old.items n []))) }
     ensures back { IfOk result (λ r. r ≡ drop at (slice_index_or rows.old.items n [])) }
     ensures err { OnErr result (rows.new.items ≡ rows.old.items) }
+    ensures len { vec_len rows.new ≡ vec_len rows.old }
+    ensures room { vec_capacity rows.new ≡ vec_capacity rows.old }
 {
     let row = &mut rows[n];
     row.split_off(at)

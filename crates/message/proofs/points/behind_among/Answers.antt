@@ -15,7 +15,7 @@ pub returns-in-Some : goal.returns-in-Some
 returns-in-Some g c =
     let rs = c.args.rows.now in
     let n = c.number_in-n.result in
-    let r = c.in-Some.row'.now in
+    let r = c.in-Some.row.now in
     let low : n < length rs = search rules in
     let at : r ≡ get_or rs n r = search rules in
     c.behind_from.ensures ∙ behind_whole c.args.key.now rs _ n r c.requires c.number_in-n.ensures.number low at (take_rest rs (n + 1))

@@ -10,19 +10,19 @@ loop-i-init g c = record {
   few = omega arith;
 }
 
-pub clear_in-requires-clause-counted : goal.clear_in-requires-clause-counted
-clear_in-requires-clause-counted g c =
+pub clear_in-left-requires-clause-counted : goal.clear_in-left-requires-clause-counted
+clear_in-left-requires-clause-counted g c =
     let low : c.loop-i.i < length c.loop-i.rows.items = search rules in
     omega (arith, count_part c.loop-i.i c.loop-i.rows.items c.index_mut-row.result.now low c.index_mut-row.ensures.value, c.loop-i.invariant.counted)
 
 pub loop-i-preserved : goal.loop-i-preserved
 loop-i-preserved g c =
     let low : c.loop-i.i < length c.loop-i.rows.items = search rules in
-    let one = count_set c.loop-i.i c.loop-i.rows.items c.index_mut-row.result.now c.clear_in.new.row low c.index_mut-row.ensures.value in
+    let one = count_set c.loop-i.i c.loop-i.rows.items c.index_mut-row.result.now c.clear_in-left.new.row low c.index_mut-row.ensures.value in
     let part = count_part c.loop-i.i c.loop-i.rows.items c.index_mut-row.result.now low c.index_mut-row.ensures.value in
     record {
-      cleared = cleared_more (λ e. not (is_in c.args.range.now e.0)) c.loop-i.i c.args.rows.now.items c.loop-i.rows.items _ c.index_mut-row.result.now c.clear_in.new.row low c.index_mut-row.ensures.value c.clear_in.ensures.entries refl c.loop-i.invariant.cleared;
-      counted = omega (arith, one, part, c.clear_in.ensures.counted, c.loop-i.invariant.counted);
+      cleared = cleared_more (λ e. not (is_in c.args.range.now e.0)) c.loop-i.i c.args.rows.now.items c.loop-i.rows.items _ c.index_mut-row.result.now c.clear_in-left.new.row low c.index_mut-row.ensures.value c.clear_in-left.ensures.entries refl c.loop-i.invariant.cleared;
+      counted = omega (arith, one, part, c.clear_in-left.ensures.counted, c.loop-i.invariant.counted);
       few = search rules;
     }
 

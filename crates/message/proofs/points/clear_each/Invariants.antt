@@ -1,4 +1,4 @@
-use Rattle.std.proofs.Common.{◌≡◌, ◌≤◌, not}
+use Rattle.std.proofs.Common.{◌≡◌, ◌≤◌, ◌-◌, not, length}
 use Rattle.pathkey.specs.Keys.{is_in}
 use Rattle.message.specs.Rows.{joined}
 use Rattle.message.specs.Settled.{point_count}
@@ -11,3 +11,6 @@ invariant-loop-i g l = record {
   counted : l.left ≡ point_count (joined l.rows.items);
   few : l.left ≤ l.count;
 }
+
+abbrev pub decreases-loop-i : goal.decreases-loop-i
+decreases-loop-i g l = length l.rows.items - l.i

@@ -6,7 +6,7 @@ pub loop-row-init : goal.loop-row-init
 loop-row-init g c = copies_none c.new-copy.result.items c.args.rows.now c.new-copy.ensures.items
 
 pub loop-row-preserved : goal.loop-row-preserved
-loop-row-preserved g c = copies_more c.loop-row.copy.items c.push.new.self.items c.args.rows.now c.loop-row.row-index c.in_ok-row.row' c.row-item.result c.loop-row-test.true c.row-item.is c.in_ok-push.ensures.items c.in_ok-row.ensures.keys c.in_ok-row.ensures.same c.in_ok-row.ensures.keyed c.loop-row.invariant
+loop-row-preserved g c = copies_more c.loop-row.copy.items c.push.new.self.items c.args.rows.now c.loop-row.row-index c.in_ok-row.row c.row-item.result c.loop-row-test.true c.row-item.is c.in_ok-push.ensures.items c.in_ok-row.ensures.keys c.in_ok-row.ensures.same c.in_ok-row.ensures.keyed c.loop-row.invariant
 
 pub returns-clause-rows : goal.returns-clause-rows
 returns-clause-rows g c =

@@ -21,5 +21,5 @@ returns-in-Ok-clause-keyed g c a = keyed_inserted c.args.key (Edit c.args.update
 pub returns-in-Ok-clause-written : goal.returns-in-Ok-clause-written
 returns-in-Ok-clause-written g c = inr (Edit c.args.update, c.in-Ok.ensures.ok)
 
-pub returns-in-Err-clause-written : goal.returns-in-Err-clause-written
-returns-in-Err-clause-written g c = inl c.in-Err.ensures.err
+pub returns-in-Edit-clause-written : goal.returns-in-Edit-clause-written
+returns-in-Edit-clause-written g c = inl c.in-Err.ensures.err

@@ -11,7 +11,7 @@ pub returns-in-Some : goal.returns-in-Some
 returns-in-Some g c =
     let rs = c.args.rows.now in
     let n = c.number_in-n.result in
-    let r = c.in-Some.row'.now in
+    let r = c.in-Some.row.now in
     let low : n < length rs = search rules in
     let at : r ≡ get_or rs n r = search rules in
     c.run_in.ensures.value ∙ run_found c.args.key.now rs n r c.requires c.number_in-n.ensures.number low at

@@ -10,4 +10,4 @@ pub returns-clause-rows : goal.returns-clause-rows
 returns-clause-rows g c = begun_rows (is_ok c.push.result) c.args.rows.now.items c.push.new.self.items c.new-row.result c.requires c.new-row.ensures c.push.ensures.items
 
 pub returns-clause-some : goal.returns-clause-some
-returns-clause-some g c h = begun_some (is_ok c.push.result) c.args.rows.now.items c.push.new.self.items c.new-row.result c.push.ensures.items (sym c.is_ok.ensures ∙ h)
+returns-clause-some g c h = begun_some (is_ok c.push.result) c.args.rows.now.items c.push.new.self.items c.new-row.result c.push.ensures.items (sym c.is_ok.ensures.value ∙ h)
