@@ -1,5 +1,5 @@
 -- What is written into a row of point messages, and how many they are.
-use Rattle.std.proofs.Common.{◌≡◌, ℕ, zero, suc, ◌+◌, ◌-◌, ◌<◌, ◌≤◌, Bool, true, false, List, [], ◌∷◌, ◌++◌, length, take, drop, get_or, append-nil, refl, ap, sym, ◌∙◌, subst, Option, Some, None, cond, arith, append_assoc}
+use Rattle.std.proofs.Common.{◌≡◌, ℕ, zero, suc, ◌+◌, ◌-◌, ◌<◌, ◌≤◌, List, [], ◌∷◌, ◌++◌, length, take, drop, get_or, append-nil, refl, ap, sym, ◌∙◌, subst, Option, Some, cond, arith, append_assoc}
 use Rattle.std.specs.Prelude.{IsSome}
 use Rattle.std.specs.Global.{Box}
 use Rattle.std.specs.List.{slice_range}
@@ -14,7 +14,7 @@ use Rattle.message.specs.declared.msg.Msg.{Msg}
 use Rattle.message.specs.declared.run.Run.{Run}
 use Rattle.message.specs.Rows.{unboxed, Rises, at_key, IsHolder}
 use Rattle.message.specs.Runs.{run_msgs, run_len, run_effect, IsRunKeyed}
-use Rattle.message.specs.Settled.{look, found_effect, Lays, point_msgs, point_count, AreRunsKeyed}
+use Rattle.message.specs.Settled.{look, found_effect, Lays, point_msgs, point_count}
 use Rattle.message.proofs.Copies.{AreCopies, copied_run}
 use Rattle.message.proofs.Writing.{lays_run}
 use Rattle.message.proofs.RowChanges.{at_put, place-set, there-set, set-set, rises_left}

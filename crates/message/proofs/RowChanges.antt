@@ -1,5 +1,5 @@
 -- What changes of a row's entries say of the keys.
-use Rattle.std.proofs.Common.{◌≡◌, ℕ, zero, suc, ◌+◌, ◌<◌, ◌≤◌, Bool, true, false, not, List, [], ◌∷◌, ◌++◌, length, take, drop, refl, ap, sym, ◌∙◌, subst, Option, Some, None, cond, arith, Ordering}
+use Rattle.std.proofs.Common.{◌≡◌, ℕ, zero, suc, ◌≤◌, Bool, true, false, not, List, [], ◌∷◌, ◌++◌, length, take, drop, refl, ap, sym, ◌∙◌, subst, Option, Some, None, cond, arith, Ordering}
 use Rattle.std.specs.Prelude.{◌&&◌}
 use Rattle.std.specs.declared.cmp.Ordering.TheVariants.{Less, Equal, Greater}
 use Rattle.std.specs.Global.{Box}
@@ -13,9 +13,9 @@ use Rattle.std.specs.Option.{option_map}
 use Rattle.std.proofs.lemmas.Map.Keys.{sorted_head, sorted_tail}
 use Rattle.pathkey.specs.Order.{by_bytes, by_bytes_total, by_bytes_equiv, same}
 use Rattle.pathkey.specs.Keys.{is_below}
-use Rattle.pathkey.proofs.OrderFacts.{equal, same_true, same_false, apart, same_itself}
+use Rattle.pathkey.proofs.OrderFacts.{equal, same_true, same_false, same_itself}
 use Rattle.message.specs.Ranges.{reaches, before, within}
-use Rattle.message.specs.Rows.{unboxed, Rises, at_key, place, end_place, is_there, IsHolder}
+use Rattle.message.specs.Rows.{unboxed, Rises, at_key, place, end_place, is_there}
 use Rattle.message.specs.Settled.{first_behind}
 use Rattle.message.proofs.KeyOrder.{le_lt, reaches-from_before, not_before_from_reaches}
 use Rattle.message.proofs.RowFacts.{place_bound, rises_cons}

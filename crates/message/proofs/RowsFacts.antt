@@ -1,5 +1,5 @@
 -- Rows one behind the other: which of them has a key, and what a change of that one makes of all.
-use Rattle.std.proofs.Common.{◌≡◌, ℕ, zero, suc, ◌+◌, ◌<◌, ◌≤◌, Bool, true, false, List, [], ◌∷◌, ◌++◌, length, take, drop, ◌⊎◌, inl, inr, get_or, refl, ap, sym, ◌∙◌, subst, Option, Some, None, cond, arith, Ordering, append_assoc}
+use Rattle.std.proofs.Common.{◌≡◌, ℕ, zero, suc, ◌+◌, ◌<◌, ◌≤◌, Bool, true, false, List, [], ◌∷◌, ◌++◌, length, take, drop, inl, inr, get_or, refl, ap, sym, ◌∙◌, subst, Some, None, cond, arith, Ordering, append_assoc}
 use Rattle.std.specs.declared.cmp.Ordering.TheVariants.{Less, Equal, Greater}
 use Rattle.std.specs.Ordering.{is_lt, is_eq, match_ordering, ordering_reverse}
 use Rattle.std.specs.List.{AllByRecursion, filter, slice_get, slice_set, insert, remove}

@@ -1,4 +1,4 @@
-use Rattle.std.proofs.Common.{◌≡◌, ◌<◌, ◌≤◌, refl, rules, not, length, sym, subst, arith}
+use Rattle.std.proofs.Common.{◌<◌, ◌≤◌, refl, rules, not, length, sym, subst, arith}
 use Rattle.pathkey.specs.Keys.{is_in}
 use Rattle.message.specs.Settled.{point_count}
 use Rattle.message.proofs.Clearing.{counted_filter}

@@ -1,5 +1,5 @@
-use Rattle.std.proofs.Common.{◌≡◌, ◌+◌, ap, ◌∙◌, take, drop, ◌++◌, arith}
-use Rattle.message.specs.Rows.{place, end_place}
+use Rattle.std.proofs.Common.{◌≡◌, ap, ◌∙◌, take, drop, ◌++◌, arith}
+use Rattle.message.specs.Rows.{place}
 use Rattle.message.specs.Settled.{point_count}
 use Rattle.message.proofs.RowChanges.{cleared}
 use Rattle.message.proofs.PointChanges.{counted_cut}

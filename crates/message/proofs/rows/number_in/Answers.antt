@@ -1,4 +1,4 @@
-use Rattle.std.proofs.Common.{◌≡◌, ◌∷◌, rules, sym, ap, ◌∙◌, length, arith}
+use Rattle.std.proofs.Common.{◌≡◌, ◌∷◌, rules, sym, ap, ◌∙◌}
 use Rattle.message.specs.Rows.{number_in}
 use Rattle.message.proofs.RowsFacts.{rows_tail}
 use Rattle.message.proofs.rows.number_in.Goals as goal

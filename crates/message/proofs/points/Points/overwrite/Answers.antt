@@ -1,4 +1,4 @@
-use Rattle.std.proofs.Common.{◌≡◌, ◌+◌, ◌≤◌, ap, sym, ◌∙◌, subst}
+use Rattle.std.proofs.Common.{◌≡◌, ◌+◌, sym, ◌∙◌, subst}
 use Rattle.std.specs.Prelude.{OnOk, OnErr, IfOk}
 use Rattle.message.specs.Rows.{Rises, joined}
 use Rattle.message.specs.Runs.{run_len, run_effect}
