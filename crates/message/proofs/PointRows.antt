@@ -1,23 +1,33 @@
 -- Point messages in rows: what a change of one row says of all.
-use Rattle.std.proofs.Common.{◌≡◌, ℕ, zero, suc, ◌+◌, ◌<◌, ◌≤◌, inl, inr, Bool, true, false, List, [], ◌∷◌, ◌++◌, length, take, drop, get_or, refl, ap, sym, ◌∙◌, subst, Option, Some, None, cond, arith, append_assoc, append-nil}
+use Rattle.std.proofs.Common.{◌≡◌, ℕ, zero, suc, ◌+◌, ◌<◌, ◌≤◌, ◌⊎◌, inl, inr, Bool, true, false, not, Ordering, List, [], ◌∷◌, ◌++◌, length, take, drop, get_or, refl, ap, sym, ◌∙◌, subst, Option, Some, None, cond, arith, append_assoc, append-nil}
+use Rattle.std.specs.Prelude.{◌&&◌}
+use Rattle.std.specs.Ordering.{is_lt, is_le, ordering_reverse}
+use Rattle.pathkey.specs.Keys.{is_below}
+use Rattle.message.specs.Ranges.{reaches, within}
 use Rattle.std.specs.Global.{Box}
-use Rattle.std.specs.List.{filter, slice_set, AllByRecursion}
+use Rattle.std.specs.List.{filter, slice_get, slice_set, AllByRecursion}
 use Rattle.std.specs.List.Sorted.{IsStrictlySortedBy}
 use Rattle.std.specs.Map.{keys_of}
+use Rattle.std.specs.Option.{option_map}
 use Rattle.std.specs.declared.cmp.Ordering.TheVariants.{Less}
-use Rattle.std.proofs.lemmas.List.{get_or_default, drop_more, take_more, take_more_set, take_all, length-set, length-map, map-append}
+use Rattle.std.proofs.lemmas.List.{get_or_default, drop_more, drop_all, take_more, take_more_set, take_all, take-append-drop, length-set, length-map, map-append}
 use Rattle.std.proofs.lemmas.Map.Keys.{sorted_head, sorted_tail}
-use Rattle.pathkey.specs.Order.{by_bytes, same}
+use Rattle.pathkey.specs.Order.{by_bytes, by_bytes_total, same}
 use Rattle.pathkey.proofs.OrderFacts.{same_true}
 use Rattle.message.specs.declared.msg.Msg.{Msg}
 use Rattle.message.specs.declared.run.Run.{Run}
-use Rattle.message.specs.Rows.{unboxed, Rises, joined, number_in, LaterFilled, AreFilled, AreRows, IsWritten}
-use Rattle.message.specs.Settled.{look, found_effect, Lays, point_msgs, point_count, AreRunsKeyed}
+use Rattle.message.specs.Rows.{unboxed, Rises, at_key, joined, number_in, LaterFilled, AreFilled, AreRows, IsEndRow, IsWritten}
+use Rattle.message.specs.Runs.{run_msgs, run_len, IsRunKeyed}
+use Rattle.message.specs.Settled.{look, found_effect, Lays, point_msgs, point_count, AreRunsKeyed, first_behind}
 use Rattle.message.proofs.SettledMeaning.{split_bool}
 use Rattle.message.proofs.RowFacts.{rises_cons}
 use Rattle.message.proofs.RowChanges.{at_put}
-use Rattle.message.proofs.RowsFacts.{IsCut, cut_at, cut_key, cut_key_new, cut_written, rows_written, joined_set, joined_cut, filter-append}
+use Rattle.message.proofs.RowsFacts.{AllBefore, AllBehind, front_before, back_behind, number_bound, IsCut, cut_at, cut_key, cut_key_new, cut_written, rows_written, joined_set, joined_cut, filter-append}
 use Rattle.message.proofs.PointChanges.{point_count-append, point_msgs-append}
+
+not_both : (b c : Bool) → c ≡ false → not (b && c) ≡ true
+not_both true c h = ap not h
+not_both false c h = refl
 
 module _ {X : Type 0} where
   -- the number that a search through the same rows gave
@@ -60,9 +70,6 @@ module _ {X : Type 0} where
     pub rest : drop i new ≡ drop i old
     pub same_length : length new ≡ length old
 
-  pub cleared_none : (p : List ℕ × X → Bool) (rs : List (List (List ℕ × X))) → AreCleared p 0 rs rs
-  cleared_none p rs = record { done = refl; rest = refl; same_length = refl }
-
   joined_push : (rs : List (List (List ℕ × X))) (r : List (List ℕ × X)) → joined (rs ++ r ∷ []) ≡ joined rs ++ r
   joined_push rs r = joined-append rs (r ∷ []) ∙ ap (λ t. joined rs ++ t) (append-nil r)
 
@@ -96,11 +103,71 @@ module _ {X : Type 0} where
         same_length = ap (λ (t : List (List (List ℕ × X))). length t) n ∙ length-set mid i s ∙ c.same_length;
       }
 
-  pub cleared_all : (p : List ℕ × X → Bool) (i : ℕ) (old new : List (List (List ℕ × X))) → length new ≤ i → AreCleared p i old new → joined new ≡ filter p (joined old)
-  cleared_all p i old new l c =
-      ap (λ (t : List (List (List ℕ × X))). joined t) (sym (take_all i new l))
-      ∙ c.done
-      ∙ ap (λ (t : List (List (List ℕ × X))). filter p (joined t)) (take_all i old (omega (arith, l, c.same_length)))
+  -- ---- rows that lie outside a range
+
+  kept_before : (lo : List ℕ) (hi : Option (List ℕ)) (es : List (List ℕ × X)) → AllBefore lo es → filter (λ e. not (within lo hi e.0)) es ≡ es
+  kept_before lo hi [] a = refl
+  kept_before lo hi (e ∷ es) a =
+      ap (λ o. cond (not (is_le o && is_below e.0 hi)) (e ∷ filter (λ x. not (within lo hi x.0)) es) (filter (λ x. not (within lo hi x.0)) es)) a.0
+      ∙ ap (λ t. e ∷ t) (kept_before lo hi es a.1)
+
+  kept_behind : (lo h : List ℕ) (es : List (List ℕ × X)) → AllBehind h es → filter (λ e. not (within lo (Some h) e.0)) es ≡ es
+  kept_behind lo h [] a = refl
+  kept_behind lo h (e ∷ es) a =
+      let off : is_lt (by_bytes e.0 h) ≡ false = ap is_lt (by_bytes_total.antisymm e.0 h ∙ ap ordering_reverse a.0) in
+      ap (λ c. cond c (e ∷ filter (λ x. not (within lo (Some h) x.0)) es) (filter (λ x. not (within lo (Some h) x.0)) es)) (not_both (reaches lo e.0) (is_lt (by_bytes e.0 h)) off)
+      ∙ ap (λ t. e ∷ t) (kept_behind lo h es a.1)
+
+  right_of : (P : List ℕ → Type 0) (xs ys : List (List ℕ × X)) → AllByRecursion P (keys_of (xs ++ ys)) → AllByRecursion P (keys_of ys)
+  right_of P [] ys a = a
+  right_of P (x ∷ xs) ys a = right_of P xs ys a.1
+
+  all_behind_rows : (P : List ℕ → Type 0) (m j : ℕ) (rs : List (List (List ℕ × X))) → m ≤ j → AllByRecursion P (keys_of (joined (drop m rs))) → AllByRecursion P (keys_of (joined (drop j rs)))
+  all_behind_rows P zero zero rs l a = a
+  all_behind_rows P zero (suc j) [] l a = tt
+  all_behind_rows P zero (suc j) (r ∷ rs) l a = all_behind_rows P zero j rs (omega arith) (right_of P r (joined rs) a)
+  all_behind_rows P (suc m) zero rs l a = absurd (omega arith)
+  all_behind_rows P (suc m) (suc j) [] l a = tt
+  all_behind_rows P (suc m) (suc j) (r ∷ rs) l a = all_behind_rows P m j rs (omega arith) a
+
+  -- the rows before that of the low end are as they would be
+  pub cleared_front : (lo : List ℕ) (hi : Option (List ℕ)) (rs : List (List (List ℕ × X))) (n : ℕ) → AreRows rs → n ≡ number_in lo rs → (0 < length rs → n < length rs) → AreCleared (λ e. not (within lo hi e.0)) n rs rs
+  cleared_front lo hi [] n w e b = record { done = ap (λ (t : List (List (List ℕ × X))). joined t) (take_all n [] (omega arith)) ∙ sym (ap (λ (t : List (List (List ℕ × X))). filter (λ e. not (within lo hi e.0)) (joined t)) (take_all n [] (omega arith))); rest = refl; same_length = refl }
+  cleared_front lo hi (r ∷ rs) n w e b = record { done = sym (kept_before lo hi (joined (take n (r ∷ rs))) (front_before lo (r ∷ rs) n w e (b (omega arith)))); rest = refl; same_length = refl }
+
+  pub end_more : (hi : Option (List ℕ)) (rs : List (List (List ℕ × X))) (i j : ℕ) → i ≤ j → IsEndRow hi rs i → IsEndRow hi rs j
+  end_more None rs i j l e = omega (arith, l, e)
+  end_more (Some h) [] i j l e = tt
+  end_more (Some h) (r ∷ rs) i j l e = omega (arith, l, e)
+
+  pub end_row_is : (h : List ℕ) (rs : List (List (List ℕ × X))) (n i : ℕ) → n ≡ number_in h rs → i ≡ n + 1 → IsEndRow (Some h) rs i
+  end_row_is h [] n i e a = tt
+  end_row_is h (r ∷ rs) n i e a = omega (arith, e, a)
+
+  pub end_row_none : (hi : Option (List ℕ)) (rs : List (List (List ℕ × X))) (i : ℕ) → length rs ≡ 0 → IsEndRow hi rs i
+  end_row_none None rs i z = omega (arith, z)
+  end_row_none (Some h) [] i z = tt
+  end_row_none (Some h) (r ∷ rs) i z = absurd (omega arith)
+
+  pub kept_end : (lo : List ℕ) (hi : Option (List ℕ)) (i : ℕ) (rs : List (List (List ℕ × X))) → AreRows rs → IsEndRow hi rs i → filter (λ e. not (within lo hi e.0)) (joined (drop i rs)) ≡ joined (drop i rs)
+  kept_end lo None i rs w l =
+      let none : joined (drop i rs) ≡ [] = ap (λ (t : List (List (List ℕ × X))). joined t) (drop_all i rs l) in
+      ap (λ (t : List (List ℕ × X)). filter (λ e. not (within lo None e.0)) t) none ∙ sym none
+  kept_end lo (Some h) i [] w l =
+      let none : joined (drop i ([])) ≡ [] = ap (λ (t : List (List (List ℕ × X))). joined t) (drop_all i [] (omega arith)) in
+      ap (λ (t : List (List ℕ × X)). filter (λ e. not (within lo (Some h) e.0)) t) none ∙ sym none
+  kept_end lo (Some h) i (r ∷ rs) w l =
+      kept_behind lo h (joined (drop i (r ∷ rs))) (all_behind_rows (λ y. by_bytes h y ≡ Less) (suc (number_in h (r ∷ rs))) i (r ∷ rs) l (back_behind h (r ∷ rs) (number_in h (r ∷ rs)) w refl (omega (arith, number_bound h rs))))
+
+  pub cleared_until : (p : List ℕ × X → Bool) (i : ℕ) (old new : List (List (List ℕ × X))) → filter p (joined (drop i old)) ≡ joined (drop i old) → AreCleared p i old new → joined new ≡ filter p (joined old)
+  cleared_until p i old new k c =
+      ap (λ (t : List (List (List ℕ × X))). joined t) (sym (take-append-drop i new))
+      ∙ joined-append (take i new) (drop i new)
+      ∙ ap (λ (t : List (List ℕ × X)). t ++ joined (drop i new)) c.done
+      ∙ ap (λ (t : List (List (List ℕ × X))). filter p (joined (take i old)) ++ joined t) c.rest
+      ∙ ap (λ (t : List (List ℕ × X)). filter p (joined (take i old)) ++ t) (sym k)
+      ∙ sym (filter-append p (joined (take i old)) (joined (drop i old)))
+      ∙ ap (λ (t : List (List ℕ × X)). filter p t) (sym (joined-append (take i old) (drop i old)) ∙ ap (λ (t : List (List (List ℕ × X))). joined t) (take-append-drop i old))
 
 module _ {U V : Type 0} where
   keyed_left : (es fs : List (List ℕ × Run U V)) → AreRunsKeyed (es ++ fs) → AreRunsKeyed es

@@ -1,5 +1,5 @@
 -- Entries that rise by key: where a key stands among them, in one row and in several.
-use Rattle.std.specs.Prelude.{◌≡◌, ◌⊎◌, ℕ, suc, ◌<◌, ◌≤◌, Bool, true, false, List, [], ◌∷◌, ◌++◌, map, length, if◌then◌else◌, Option, Some, None, Result, MatchResult}
+use Rattle.std.specs.Prelude.{◌≡◌, ◌⊎◌, ℕ, zero, suc, ◌<◌, ◌≤◌, Bool, true, false, List, [], ◌∷◌, ◌++◌, map, length, if◌then◌else◌, Option, Some, None, Result, MatchResult}
 use Rattle.std.specs.Global.{Box}
 use Rattle.std.specs.Ordering.{match_ordering}
 use Rattle.std.specs.List.Sorted.{IsStrictlySortedBy}
@@ -103,6 +103,12 @@ module _ {X : Type 0} where
   pub record AreRows (rs : List (List (List ℕ × X))) : Type 0 where
     pub rises : Rises (joined rs)
     pub later : LaterFilled rs
+
+  -- the rows from this number on stand behind the end
+  abbrev pub IsEndRow : Option (List ℕ) → List (List (List ℕ × X)) → ℕ → Type 0
+  IsEndRow None rs i = length rs ≤ i
+  IsEndRow (Some h) [] i = Unit {0}
+  IsEndRow (Some h) (r ∷ rs) i = suc (row_number h rs) ≤ i
 
   -- a value was put at the key, if anything changed
   abbrev pub IsWritten : List ℕ → List (List ℕ × X) → List (List ℕ × X) → Type 0

@@ -12,7 +12,7 @@ ghost use Rattle.message.specs.Settled.{AreRunsKeyed, Lays, look, first_behind, 
 use crate::ends::earlier;
 use crate::msg::Msg;
 use crate::row::Row;
-use crate::rows::{drop_empty, first_in, number_in, pop_in, prepare};
+use crate::rows::{drop_empty, end_row, first_in, number_in, pop_in, prepare};
 use crate::run::Run;
 use crate::update::{Changes, Update};
 use pathkey::{Key, KeyRange, NoMemory};
@@ -216,17 +216,20 @@ fn clear_rows<U: Update>(rows: &mut Vec<Row<Run<U>>>, range: &KeyRange, count: u
     left
 }
 
-/// Takes away the messages of each row at the keys of a range, and answers how many are left of `count`.
+/// Takes away the messages of each row at the keys of a range, and answers how many are left of `count`. It goes through
+/// those rows alone that can have such keys.
 fn clear_each<U: Update>(rows: &mut Vec<Row<Run<U>>>, range: &KeyRange, count: usize) -> usize
     requires some { is_below range.now.lo range.now.hi ≡ true }
+    requires rows { AreRows rows.old.items }
     requires counted { count ≡ point_count (joined rows.old.items) }
     requires small { count < 2 ^ 63 }
     ensures entries { joined rows.new.items ≡ filter (λ e. not (is_in range.now e.0)) (joined rows.old.items) }
     ensures counted { result ≡ point_count (joined rows.new.items) }
 {
+    let mut i = number_in(rows.as_slice(), &range.lo);
+    let end = end_row(rows.as_slice(), range.hi.as_ref());
     let mut left = count;
-    let mut i = 0;
-    while i < rows.len() {
+    while i < end {
         let row = &mut rows[i];
         left = clear_in(row, range, left);
         i += 1;

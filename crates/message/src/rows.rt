@@ -1,8 +1,8 @@
 //! Rows one behind the other, so that an entry that comes in or leaves moves few others.
 ghost use Rattle.std.specs.Prelude.{true, vec_len, vec_capacity, ◌≡◌, ◌++◌, ◌+◌, [], ◌<◌, ◌≤◌, length, take, drop, slice_index_or, slice_set, Some, OnOk, OnErr, IfOk, IfNone};
-ghost use Rattle.std.specs.Option.{option_map, option_to_list};
+ghost use Rattle.std.specs.Option.{option_copied, option_map, option_to_list};
 ghost use Rattle.std.specs.List.{slice_get};
-ghost use Rattle.message.specs.Rows.{Rises, joined, AreFilled, LaterFilled, TailFilled, row_number, number_in, AreRows};
+ghost use Rattle.message.specs.Rows.{Rises, joined, AreFilled, LaterFilled, TailFilled, row_number, number_in, AreRows, IsEndRow};
 
 use crate::row::Row;
 use crate::search::count_passing;
@@ -26,11 +26,27 @@ pub(crate) fn number_in<T: Drop>(rows: &[Row<T>], key: &Key) -> usize
     requires { AreRows rows.now }
     ensures number { result ≡ number_in key.now rows.now }
     ensures bound { 0 < length rows.now → result < length rows.now }
+    ensures within { result ≤ length rows.now }
 {
     let Some((_, later)) = rows.split_first() else {
         return 0;
     };
     number_of(later, key)
+}
+
+/// A number from which on the rows stand behind the end; `None` is no end.
+pub(crate) fn end_row<T: Drop>(rows: &[Row<T>], end: Option<&Key>) -> usize
+    requires { AreRows rows.now }
+    ensures end { IsEndRow (option_copied end.entry) rows.now result }
+    ensures bound { result ≤ length rows.now }
+{
+    if rows.len() == 0 {
+        return 0;
+    }
+    match end {
+        None => rows.len(),
+        Some(end) => number_in(rows, end) + 1,
+    }
 }
 
 /// The first entry of all.

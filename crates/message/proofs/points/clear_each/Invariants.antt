@@ -7,10 +7,11 @@ use Rattle.message.proofs.points.clear_each.Given as goal
 
 abbrev pub invariant-loop-i : goal.invariant-loop-i
 invariant-loop-i g l = record {
-  cleared : AreCleared (λ e. not (is_in l.range e.0)) l.i l.initial.rows.items l.rows.items;
+  cleared : AreCleared (λ e. not (is_in l.range e.0)) l.i l.fn.rows.items l.rows.items;
   counted : l.left ≡ point_count (joined l.rows.items);
   few : l.left ≤ l.count;
+  bound : l.end ≤ length l.rows.items;
 }
 
 abbrev pub decreases-loop-i : goal.decreases-loop-i
-decreases-loop-i g l = length l.rows.items - l.i
+decreases-loop-i g l = l.end - l.i
