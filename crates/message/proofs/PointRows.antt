@@ -1,14 +1,13 @@
 -- Point messages in rows: what a change of one row says of all.
-use Rattle.std.proofs.Common.{◌≡◌, ℕ, zero, suc, ◌+◌, ◌<◌, ◌≤◌, ◌⊎◌, inl, inr, Bool, true, false, not, Ordering, List, [], ◌∷◌, ◌++◌, length, take, drop, get_or, refl, ap, sym, ◌∙◌, subst, Option, Some, None, cond, arith, append_assoc, append-nil}
+use Rattle.std.proofs.Common.{◌≡◌, ℕ, zero, suc, ◌+◌, ◌<◌, ◌≤◌, inl, inr, Bool, true, false, not, List, [], ◌∷◌, ◌++◌, length, take, drop, get_or, refl, ap, sym, ◌∙◌, subst, Option, Some, None, cond, arith, append_assoc, append-nil}
 use Rattle.std.specs.Prelude.{◌&&◌}
 use Rattle.std.specs.Ordering.{is_lt, is_le, ordering_reverse}
 use Rattle.pathkey.specs.Keys.{is_below}
 use Rattle.message.specs.Ranges.{reaches, within}
 use Rattle.std.specs.Global.{Box}
-use Rattle.std.specs.List.{filter, slice_get, slice_set, AllByRecursion}
+use Rattle.std.specs.List.{filter, slice_set, AllByRecursion}
 use Rattle.std.specs.List.Sorted.{IsStrictlySortedBy}
 use Rattle.std.specs.Map.{keys_of}
-use Rattle.std.specs.Option.{option_map}
 use Rattle.std.specs.declared.cmp.Ordering.TheVariants.{Less}
 use Rattle.std.proofs.lemmas.List.{get_or_default, drop_more, drop_all, take_more, take_more_set, take_all, take-append-drop, length-set, length-map, map-append}
 use Rattle.std.proofs.lemmas.Map.Keys.{sorted_head, sorted_tail}
@@ -16,9 +15,8 @@ use Rattle.pathkey.specs.Order.{by_bytes, by_bytes_total, same}
 use Rattle.pathkey.proofs.OrderFacts.{same_true}
 use Rattle.message.specs.declared.msg.Msg.{Msg}
 use Rattle.message.specs.declared.run.Run.{Run}
-use Rattle.message.specs.Rows.{unboxed, Rises, at_key, joined, number_in, LaterFilled, AreFilled, AreRows, IsEndRow, IsWritten}
-use Rattle.message.specs.Runs.{run_msgs, run_len, IsRunKeyed}
-use Rattle.message.specs.Settled.{look, found_effect, Lays, point_msgs, point_count, AreRunsKeyed, first_behind}
+use Rattle.message.specs.Rows.{unboxed, Rises, joined, number_in, LaterFilled, AreFilled, AreRows, IsEndRow, IsWritten}
+use Rattle.message.specs.Settled.{look, found_effect, Lays, point_msgs, point_count, AreRunsKeyed}
 use Rattle.message.proofs.SettledMeaning.{split_bool}
 use Rattle.message.proofs.RowFacts.{rises_cons}
 use Rattle.message.proofs.RowChanges.{at_put}

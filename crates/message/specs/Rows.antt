@@ -1,5 +1,5 @@
 -- Entries that rise by key: where a key stands among them, in one row and in several.
-use Rattle.std.specs.Prelude.{◌≡◌, ◌⊎◌, ℕ, zero, suc, ◌<◌, ◌≤◌, Bool, true, false, List, [], ◌∷◌, ◌++◌, map, length, if◌then◌else◌, Option, Some, None, Result, MatchResult}
+use Rattle.std.specs.Prelude.{◌≡◌, ◌⊎◌, ℕ, suc, ◌<◌, ◌≤◌, Bool, true, false, List, [], ◌∷◌, ◌++◌, map, length, if◌then◌else◌, Option, Some, None, Result, MatchResult}
 use Rattle.std.specs.Global.{Box}
 use Rattle.std.specs.Ordering.{match_ordering}
 use Rattle.std.specs.List.Sorted.{IsStrictlySortedBy}

@@ -1,4 +1,4 @@
-use Rattle.std.proofs.Common.{◌≡◌, ◌<◌, ◌≤◌, ap, ◌∙◌, refl, rules, not, length, sym, subst, arith}
+use Rattle.std.proofs.Common.{◌<◌, ◌≤◌, ap, ◌∙◌, refl, rules, not, length, sym, subst, arith}
 use Rattle.pathkey.specs.Keys.{is_in}
 use Rattle.message.specs.Settled.{point_count}
 use Rattle.std.specs.Option.{option_copied}
