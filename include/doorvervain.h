@@ -183,8 +183,8 @@ static inline void doorvervain_close(struct doorvervain *fs) {
 }
 
 // ---- calls that change a volume. Each may answer ENOMEM where memory is refused; then nothing has changed.
-// Each is done at the moment `at`, a number that need not rise: what is new, a file that is written or cut (a write of no bytes is no change), and each
-// directory that gets or loses an entry then has that moment.
+// Each is done at the moment `at`, a number that need not rise: what is new, a file that is written or cut (a write of
+// no bytes is no change), and each directory that gets or loses an entry then has that moment.
 // A text that is no path is refused before anything else: ENOENT (empty), EINVAL or ENAMETOOLONG.
 
 // Makes an empty directory. ENOENT, ENOTDIR: what is above the path; EEXIST.
