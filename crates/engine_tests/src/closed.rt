@@ -8,15 +8,15 @@ use std::alloc::Global;
 use std::marker::Brand;
 use std::sync::Wait;
 
-/// Ends the engine between the taking and the installing.
+/// Closes the engine between the taking and the installing.
 #[derive(Drop)]
-struct Ends<'a, J: Naming, R: Wait> {
+struct Closes<'a, J: Naming, R: Wait> {
     rt: &'a R,
     whole: Option<(Engine<J>, Clients<J>)>,
     is_ended: bool,
 }
 
-impl<'a, J: Naming, R: Wait> Between for Ends<'a, J, R> {
+impl<'a, J: Naming, R: Wait> Between for Closes<'a, J, R> {
     fn between(&mut self) {
         if let Some((engine, clients)) = self.whole.take() {
             self.is_ended = engine.close(self.rt, clients).is_ok();
@@ -48,7 +48,7 @@ fn last_turns<J: Naming, R: Wait>(
     clients: Clients<J>,
     flusher: &mut Flusher<J>,
 ) -> Option<(TurnReply, TurnReply)> {
-    let mut between = Ends {
+    let mut between = Closes {
         rt,
         whole: Some((engine, clients)),
         is_ended: false,

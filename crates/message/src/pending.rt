@@ -299,8 +299,8 @@ impl<U: Update> Pending<U> {
 
     // ---- what is asked
 
-    /// What the list says of the value at the key. It copies nothing but a value that it settles. Where a message that found
-    /// no memory for its place touches the key, it says nothing.
+    /// What the list says of the value at the key. It copies nothing but a value that it settles. Where a message of
+    /// the tail touches the key, it settles none.
     pub fn told(&self, alloc: Global, key: &Key) -> Result<Told<U::Value>, NoMemory>
         ensures { IfOk result (IsTold U.means self.now.0 key.now) }
     {

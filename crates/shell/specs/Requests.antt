@@ -137,7 +137,7 @@ short_request (b ∷ line) = if b == 35 then Silent else command_of (words_of (b
 abbrev pub request_of : List ℕ → Request
 request_of line = if nat_lt 65536 (length line) then Overlong else short_request line
 
--- the request is a call, or the refusal of one
+-- the line is a command: it asks for something, or its words are refused with a number
 abbrev pub IsAsked : Request → Type 0
 IsAsked Silent = ⊥
 IsAsked Overlong = ⊥

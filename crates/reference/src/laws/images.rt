@@ -8,8 +8,8 @@ pub fn lines()
     ensures { LinesLaw }
 {}
 
-/// A text is an image, line by line, exactly where it is that of a directory tree. It is of one tree alone, by
-/// `laws::trees::one_image`.
+/// A text is an image, line by line, exactly where it is that of a directory tree. One of the second version is of one
+/// tree alone, by `laws::trees::one_image`; the first version tells no moments.
 pub fn images()
     ensures { ImageLaw }
 {}
