@@ -3,7 +3,7 @@
 //! Contracts see a list of messages and for how many more there is room. What is added is promised by its
 //! meaning alone (`Takes`): the list is sorted and condenses, so that it holds fewer messages that mean the same, and
 //! callers that rely on the contract do not notice. No call lends a message or asks for one by its number.
-ghost use Rattle.std.specs.Prelude.{◌≡◌, ◌+◌, ◌≤◌, ◌<◌, ◌++◌, [], ◌∷◌, true, length, take, drop, IfOk, IfNone, OnOk, OnErr};
+ghost use Rattle.std.specs.Prelude.{◌≡◌, ◌+◌, ◌≤◌, ◌<◌, ◌++◌, [], ◌∷◌, true, length, take, drop, Some, None, IfOk, IfNone, OnOk, OnErr};
 ghost use Rattle.std.specs.Option.{option_copied, option_map, option_to_list};
 ghost use Rattle.std.specs.List.{slice_get};
 ghost use Rattle.message.specs.Cuts.{pieces};
@@ -272,6 +272,26 @@ impl<U: Update> Pending<U> {
         list.reserve(fresh.len())?;
         list.append_reserved(&mut fresh);
         Ok(list)
+    }
+
+    /// Cuts the list at the pivot, without its `gone` oldest messages: it keeps what lies from `lo` up to the pivot, and answers
+    /// what lies from the pivot on. A range-delete over the pivot is cut too. On want of memory the list is as it was.
+    pub fn split_off(
+        &mut self,
+        alloc: Global,
+        gone: usize,
+        lo: &Key,
+        pivot: &Key,
+    ) -> Result<Pending<U>, NoMemory>
+        requires { gone ≤ length self.old.0 }
+        ensures front { OnOk result (Takes U.means [] (pieces lo.now (Some pivot.now) (drop gone self.old.0)) self.new.0) }
+        ensures back { IfOk result (λ p. Takes U.means [] (pieces pivot.now None (drop gone self.old.0)) p.0) }
+        ensures err { OnErr result (self.new ≡ self.old) }
+    {
+        let back = self.copy_between(alloc, gone, pivot, None)?;
+        let front = self.copy_between(alloc, gone, lo, Some(pivot))?;
+        *self = front;
+        Ok(back)
     }
 
     /// Takes the oldest message out. It takes no memory.

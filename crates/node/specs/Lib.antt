@@ -11,6 +11,7 @@ pub mod Batches
 pub mod Leaves
 pub mod Places
 pub mod Site
+pub mod Cutting
 pub mod Sinks
 pub mod StepRows
 pub mod Steps

@@ -13,6 +13,7 @@ pub mod below;
 pub mod change;
 pub mod copy;
 pub mod count;
+pub mod cut;
 pub mod descend;
 pub mod kept;
 pub mod leaf;
