@@ -17,6 +17,7 @@ pub mod Condensing
 pub mod CountingRanges
 pub mod Telling
 pub mod NextKey
+pub mod Parting
 pub mod StretchEnds
 pub mod Searching
 pub mod SortedStretches

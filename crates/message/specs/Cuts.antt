@@ -25,6 +25,25 @@ module _ {U V : Type 0} where
   pieces lo hi [] = []
   pieces lo hi (m ∷ ms) = option_to_list (cut_to lo hi m) ++ pieces lo hi ms
 
+module _ {U V : Type 0} where
+  -- each message lies whole in the range
+  abbrev pub LieIn : List ℕ → Option (List ℕ) → List (Msg U V) → Type 0
+  LieIn lo hi [] = Unit {0}
+  LieIn lo hi (m ∷ ms) = (cut_to lo hi m ≡ Some m) × LieIn lo hi ms
+
+  -- no message has a part in it
+  abbrev pub LieOut : List ℕ → Option (List ℕ) → List (Msg U V) → Type 0
+  LieOut lo hi [] = Unit {0}
+  LieOut lo hi (m ∷ ms) = (cut_to lo hi m ≡ None) × LieOut lo hi ms
+
+  -- a list from lo on is parted at the pivot, over which no message lies
+  pub record IsParted (lo pivot : List ℕ) (all front back : List (Msg U V)) : Type 0 where
+    pub parts : all ≡ front ++ back
+    pub front_in : LieIn lo (Some pivot) front
+    pub front_out : LieOut pivot None front
+    pub back_in : LieIn pivot None back
+    pub back_out : LieOut lo (Some pivot) back
+
 -- a piece has the message's effect at each key of the range, and touches no key outside it
 pub record IsCut {U V : Type 0} (means : U → Option V → Option V) (m : Msg U V) (range : KeyRange) (piece : Option (Msg U V)) : Type 0 where
   pub inside : (k : List ℕ) (old : Option V) → is_in range k ≡ true → effects means (option_to_list piece) k old ≡ effect means m k old

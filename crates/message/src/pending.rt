@@ -3,7 +3,7 @@
 //! Contracts see a list of messages and for how many more there is room. What is added is promised by its
 //! meaning alone (`Takes`): the list is sorted and condenses, so that it holds fewer messages that mean the same, and
 //! callers that rely on the contract do not notice. No call lends a message or asks for one by its number.
-ghost use Rattle.std.specs.Prelude.{◌≡◌, ◌+◌, ◌≤◌, ◌<◌, ◌++◌, [], ◌∷◌, true, length, take, drop, Some, None, IfOk, IfNone, OnOk, OnErr};
+ghost use Rattle.std.specs.Prelude.{◌≡◌, ◌+◌, ◌≤◌, ◌<◌, ◌++◌, [], ◌∷◌, true, length, take, drop, Some, None, IfOk, IfNone, IfSome, OnOk, OnErr, MatchOption};
 ghost use Rattle.std.specs.Option.{option_copied, option_map, option_to_list};
 ghost use Rattle.std.specs.List.{slice_get};
 ghost use Rattle.message.specs.Cuts.{pieces};
@@ -288,10 +288,40 @@ impl<U: Update> Pending<U> {
         ensures back { IfOk result (λ p. Takes U.means [] (pieces pivot.now None (drop gone self.old.0)) p.0) }
         ensures err { OnErr result (self.new ≡ self.old) }
     {
+        if let Some(back) = self.move_off(alloc, gone, lo, pivot)? {
+            return Ok(back);
+        }
         let back = self.copy_between(alloc, gone, pivot, None)?;
         let front = self.copy_between(alloc, gone, lo, Some(pivot))?;
         *self = front;
         Ok(back)
+    }
+
+    /// The same by moves, where that can be: where the list has no tail and no range-delete, and no message lies before `lo`.
+    fn move_off(
+        &mut self,
+        alloc: Global,
+        gone: usize,
+        lo: &Key,
+        pivot: &Key,
+    ) -> Result<Option<Pending<U>>, NoMemory>
+        requires { gone ≤ length self.old.0 }
+        ensures front { IfOk result (λ o. MatchOption o (self.new ≡ self.old) (λ _. self.new.0 ≡ pieces lo.now (Some pivot.now) (drop gone self.old.0))) }
+        ensures back { IfOk result (λ o. IfSome o (λ p. p.0 ≡ pieces pivot.now None (drop gone self.old.0))) }
+        ensures err { OnErr result (self.new ≡ self.old) }
+    {
+        if self.fresh.len() > 0 {
+            return Ok(None);
+        }
+        let Some(sorted) = self.sorted.split_off(alloc, lo, pivot)? else {
+            return Ok(None);
+        };
+        let fresh = Tail::new(alloc);
+        let mut back = Pending { sorted, fresh };
+        let first = gone.min(self.len());
+        self.drop_front(first);
+        back.drop_front(gone - first);
+        Ok(Some(back))
     }
 
     /// Takes the oldest message out. It takes no memory.

@@ -1,10 +1,12 @@
 //! The point messages of a sorted list, by their keys.
 ghost use Rattle.std.specs.Prelude.{◌≡◌, ◌+◌, ◌≤◌, ◌<◌, ◌^◌, not, true, false, ℕ, List, length, Option, None, take, ◌++◌, OnOk, OnErr, IfOk, IfErr, IfSome, IfNone};
 ghost use Rattle.std.specs.BTreeMap.{IsOrdered};
-ghost use Rattle.std.specs.List.{filter};
+ghost use Rattle.std.specs.List.{filter, All};
+ghost use Rattle.std.specs.Map.{keys_of};
 ghost use Rattle.std.specs.Option.{option_copied};
 ghost use Rattle.pathkey.specs.Keys.{is_below, is_in};
 ghost use Rattle.pathkey.specs.Order.{by_bytes};
+ghost use Rattle.message.specs.Ranges.{before, reaches};
 ghost use Rattle.message.specs.Runs.{run_len, run_effect, run_msgs, IsRunKeyed};
 ghost use Rattle.message.specs.Stretches.{IsStretch};
 ghost use Rattle.message.specs.Settled.{AreRunsKeyed, Lays, look, point_msgs, point_count};
@@ -171,6 +173,35 @@ fn count_of<U: Update>(points: &BTreeMap<Key, Run<U>>) -> usize
         count += run.len();
     }
     count
+}
+
+/// Whether no key stands before `lo`.
+pub(crate) fn begin_from<U: Update>(points: &BTreeMap<Key, Run<U>>, lo: &Key) -> bool
+    ensures { result ≡ true → All (λ k. reaches lo.now k ≡ true) (keys_of points.now.entries) }
+{
+    // What `len` promises says that the keys rise.
+    let _ = points.len();
+    match points.first_key_value() {
+        None => true,
+        Some((first, _)) => lo.cmp(first).is_le(),
+    }
+}
+
+/// Moves the messages at the pivot and behind it out, and counts them.
+pub(crate) fn split_off<U: Update>(
+    points: &mut BTreeMap<Key, Run<U>>,
+    pivot: &Key,
+) -> Result<(BTreeMap<Key, Run<U>>, usize), NoMemory>
+    requires { point_count points.old.entries < 2 ^ 63 }
+    ensures parts { IfOk result (λ r. points.old.entries ≡ points.new.entries ++ r.0.entries) }
+    ensures front { OnOk result (All (λ k. before k pivot.now ≡ true) (keys_of points.new.entries)) }
+    ensures back { IfOk result (λ r. All (λ k. reaches pivot.now k ≡ true) (keys_of r.0.entries)) }
+    ensures counted { IfOk result (λ r. r.1 ≡ point_count r.0.entries) }
+    ensures err { OnErr result (points.new.entries ≡ points.old.entries) }
+{
+    let back = points.split_off(pivot)?;
+    let count = count_of(&back);
+    Ok((back, count))
 }
 
 /// The messages at a key.

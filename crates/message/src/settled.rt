@@ -1,7 +1,8 @@
 //! A sorted list of messages, kept short: what a later message makes idle is taken away.
-ghost use Rattle.std.specs.Prelude.{true, ◌≡◌, ◌+◌, ◌^◌, ◌<◌, ◌≤◌, [], ◌∷◌, length, None, if◌then◌else◌, ◌++◌, take, drop, IfSome, IfNone, IfOk, IfErr, OnOk, OnErr};
+ghost use Rattle.std.specs.Prelude.{true, ◌≡◌, ◌+◌, ◌^◌, ◌<◌, ◌≤◌, [], ◌∷◌, length, None, if◌then◌else◌, ◌++◌, take, drop, IfSome, IfNone, IfOk, IfErr, OnOk, OnErr, MatchOption};
 ghost use Rattle.message.specs.declared.msg.Msg.TheVariants as msg;
 ghost use Rattle.message.specs.declared.told.Told.TheVariants as told;
+ghost use Rattle.message.specs.Cuts.{IsParted};
 ghost use Rattle.message.specs.Effects.{effects, range_count, Takes};
 ghost use Rattle.message.specs.Eldest.{eldest_msg};
 ghost use Rattle.std.specs.List.{slice_get};
@@ -246,6 +247,29 @@ impl<U: Update> Settled<U> {
             Some(run) => run.apply(alloc, below),
             None => Ok(below),
         }
+    }
+
+    /// Moves the messages from the pivot on out of the list. None come where that can't be: where there is a range-delete, or a
+    /// message before `lo`.
+    pub(crate) fn split_off(
+        &mut self,
+        alloc: Global,
+        lo: &Key,
+        pivot: &Key,
+    ) -> Result<Option<Settled<U>>, NoMemory>
+        ensures parted { IfOk result (λ o. MatchOption o (self.new ≡ self.old) (IsParted lo.now pivot.now self.old self.new)) }
+        ensures err { OnErr result (self.new ≡ self.old) }
+    {
+        if self.ranges.len() > 0 || !points::begin_from(&self.points, lo) {
+            return Ok(None);
+        }
+        let (points, count) = points::split_off(&mut self.points, pivot)?;
+        self.count -= count;
+        Ok(Some(Settled {
+            ranges: BTreeMap::new(alloc),
+            points,
+            count,
+        }))
     }
 
     /// A list of the same messages.

@@ -1,7 +1,8 @@
 //! A sorted list from whose front messages leave one by one.
-ghost use Rattle.std.specs.Prelude.{◌≡◌, ◌+◌, ◌-◌, ◌^◌, ◌<◌, ◌≤◌, ◌++◌, [], ◌∷◌, true, false, length, take, drop, IfOk, IfErr, IfNone, OnOk, OnErr};
+ghost use Rattle.std.specs.Prelude.{◌≡◌, ◌+◌, ◌-◌, ◌^◌, ◌<◌, ◌≤◌, ◌++◌, [], ◌∷◌, true, false, length, take, drop, IfOk, IfErr, IfNone, OnOk, OnErr, MatchOption};
 ghost use Rattle.std.specs.Option.{option_copied, option_map, option_to_list};
 ghost use Rattle.std.specs.List.{slice_get};
+ghost use Rattle.message.specs.Cuts.{IsParted};
 ghost use Rattle.message.specs.Effects.{effects, any_touches, range_count, Takes};
 ghost use Rattle.message.specs.Eldest.{eldest_msg};
 ghost use Rattle.message.specs.Stretches.{EndsAhead};
@@ -176,6 +177,26 @@ impl<U: Update> Sorted<U> {
         let (msg, front) = split(first);
         self.front = front;
         Some(msg)
+    }
+
+    /// Moves the messages from the pivot on out of the list. None come where that can't be: where messages of one key are half
+    /// gone, where there is a range-delete, or a message before `lo`.
+    pub(crate) fn split_off(
+        &mut self,
+        alloc: Global,
+        lo: &Key,
+        pivot: &Key,
+    ) -> Result<Option<Sorted<U>>, NoMemory>
+        ensures parted { IfOk result (λ o. MatchOption o (self.new ≡ self.old) (IsParted lo.now pivot.now self.old self.new)) }
+        ensures err { OnErr result (self.new ≡ self.old) }
+    {
+        if self.front.is_some() {
+            return Ok(None);
+        }
+        match self.rest.split_off(alloc, lo, pivot)? {
+            None => Ok(None),
+            Some(rest) => Ok(Some(Sorted { front: None, rest })),
+        }
     }
 
     /// A list of the same messages.
