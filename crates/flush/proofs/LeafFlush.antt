@@ -3,6 +3,7 @@ use Rattle.std.proofs.Common.{◌≡◌, ℕ, suc, ◌+◌, ◌-◌, ◌<◌, �
 use Rattle.std.specs.Prelude.{◌&&◌, nat_le, IsTrue, ◌⊎◌, ⊤, Result, Ok, Err, is_ok, is_err, OnOk, OnErr}
 use Rattle.std.proofs.Math.ListN.{set}
 use Rattle.std.proofs.Math.Seq.{take-length}
+use Rattle.std.proofs.lemmas.List.{length-take-le}
 use Rattle.std.specs.List.{insert}
 use Rattle.pathkey.specs.Order.{same}
 use Rattle.pathkey.proofs.OrderFacts.{same_true}
@@ -40,7 +41,7 @@ use Rattle.node.proofs.StepPlaces.{slots_from-get}
 use Rattle.flush.proofs.Flushable.{seen_from}
 use Rattle.node.proofs.Splice.{slots_from-past, slots-split, slots-set_split, slot_count-take, slots_from-joined, slot_count-joined, pending-joined, lawful-split}
 use Rattle.flush.specs.Sunk.{left}
-use Rattle.flush.specs.Leaf.{AddsNone, Absorbed, HasPlace, Filled, AfterOldest, KeptOne, IsHalved}
+use Rattle.flush.specs.Leaf.{AddsNone, Absorbed, HasPlace, Filled, AfterOldest, MayGo, KeptOldest, IsHalved}
 
 -- what the code reads as the rest of a list
 abbrev pub rest : {T : Type 0} → List T → List T
@@ -100,9 +101,9 @@ module _ {U V : Type 0} (means : U → Option V → Option V) where
   room_within most m es r (inl h) l o = let less = grows_by_one means m es o.after r o.rises o.same in omega (arith, less, h, o.many)
   room_within most m es r (inr h) l o = let less = no_more [] [] None None o.after es o.rises r (λ k n. o.same k ∙ ap (λ z. effect means m k z) n ∙ h k n) in omega (arith, less, l, o.many)
 
-  -- entries with a message that are too many
-  too_many : (most : ℕ) (m : Msg U V) (es new : List (List ℕ × V)) → Applied means (m ∷ []) es new → Rises [] None new → most < length new → Overflows means most es (m ∷ [])
-  too_many most m es new q r l = record { after = new; rises = r; same = q.value; many = l }
+  -- entries with messages that are too many
+  too_many : (most : ℕ) (ms : List (Msg U V)) (es new : List (List ℕ × V)) → Applied means ms es new → Rises [] None new → most < length new → Overflows means most es ms
+  too_many most ms es new q r l = record { after = new; rises = r; same = q.value; many = l }
 
   -- a message that is no put does so only where it edits an absent key
   pub no_put : (most : ℕ) (m : Msg U V) (es : List (List ℕ × V)) → Rises [] None es → ((q : List ℕ) (v : V) → m ≡ Put q v → ⊥) → length es ≤ most → Overflows means most es (m ∷ []) → EditsAbsent (more [] (m ∷ []) (leaf es) none)
@@ -120,7 +121,7 @@ module _ {U V : Type 0} (means : U → Option V → Option V) where
       let new = insert es i (q, v) in
       let a = applied_put means (Put q v) q v v es new refl refl (is_inserted q es i v g) in
       let long = length-insert es i (q, v) g.count.bound in
-      too_many most (Put q v) es new a (rising_applied means (Put q v ∷ []) es new a r) (omega (arith, long, l))
+      too_many most (Put q v ∷ []) es new a (rising_applied means (Put q v ∷ []) es new a r) (omega (arith, long, l))
 
   -- as a search found it
   pub overfull_found : (most : ℕ) (m : Msg U V) (q : List ℕ) (v : V) (es : List (List ℕ × V)) (r : Result ℕ ℕ) → m ≡ Put q v → Rises [] None es → IsPlace es q r → is_err r ≡ true → most ≤ length es → Overflows means most es (m ∷ [])
@@ -148,10 +149,14 @@ module _ {U V : Type 0} (means : U → Option V → Option V) where
   place_is most ms ns m es c ep ec h = subst (λ z. HasPlace means most ms z) ec (subst (λ z. HasPlace means most z (leaf es)) (sym ep) h)
 
   -- and where it was applied within the limit
-  stays_applied : (most : ℕ) (ms : List (Msg U V)) (c : PNode U V) (new : List (List ℕ × V)) → AfterOldest means ms c new → Rises [] None new → length new ≤ most → StaysWithin most ms c
+  stays_applied : (most : ℕ) (ms : List (Msg U V)) (c : PNode U V) (new : List (List ℕ × V)) → AfterOldest means 1 ms c new → Rises [] None new → length new ≤ most → StaysWithin most ms c
   stays_applied most [] c new a r l = tt
-  stays_applied most (m ∷ ms) (leaf es) new a r l = λ _ o. within_after most m es new r a.value l o
+  stays_applied most (m ∷ ms) (leaf es) new a r l = λ _ o. within_after most m es new r a.1.value l o
   stays_applied most (m ∷ ms) (inner cs) new a r l = tt
+
+  -- as where others may go with it, or it went alone
+  stays_gone : (shape : Shape) (root : Bool) (ss : PSlots U V) (n : ℕ) (ms : List (Msg U V)) (c : PNode U V) (new : List (List ℕ × V)) → IsSearchable c → MayGo means shape root ss n ms c → AfterOldest means n ms c new → Rises [] None new → length new ≤ shape.leaf → StaysWithin shape.leaf ms c
+  stays_gone shape root ss n ms c new u may a r l = ⊎_elim (λ e. stays_applied shape.leaf ms c new (subst (λ z. AfterOldest means z ms c new) e a) r l) (λ p. stays_placed shape.leaf ms c u p.0) may.room
 
   -- a node, from which no more leave than wait there, has room for one slot more or not
   pub not_both : (shape : Shape) (root : Bool) (ss : PSlots U V) (gone n : ℕ) → gone ≤ pending ss → CanPart shape root ss gone n → CannotPart shape root ss gone n → ⊥
@@ -203,17 +208,23 @@ module _ {U V : Type 0} (means : U → Option V → Option V) where
 
     -- ---- the leaf cut in two
 
-    module _ (m : Msg U V) (ms lm rm : List (Msg U V)) (es new front back : List (List ℕ × V)) (pivot : List ℕ) (p : Applied means (m ∷ []) es new) (d : IsDivided new front back pivot) where
+    -- a slot whose oldest messages may go into its leaf has room
+    roomy_cut : (z : PSlots U V) (n : ℕ) (ms : List (Msg U V)) (c : PNode U V) (h : ℕ) (e : Option (List ℕ)) → 1 ≤ pending z → IsSearchable c → MayGo means shape root z n ms c → CanPart shape root z n (range_count (drop n ms)) → AreLawfulSlots shape (more lo ms c none) h e → LeafHasNoRoom means shape root z (more lo ms c a) → ⊥
+    roomy_cut z n [] c h e some u may can l f = f
+    roomy_cut z n (m ∷ ms) (inner cs) h e some u may can l f = f
+    roomy_cut z n (m ∷ ms) (leaf es) h e some u may can l f = ⊎_elim (λ one. not_both shape root z 1 (range_count ms) some (subst (λ k. CanPart shape root z k (range_count (drop k (m ∷ ms)))) one can) f.1) (λ p. roomy z (m ∷ ms) (leaf es) h e (stays_placed shape.leaf (m ∷ ms) (leaf es) u p.0) l f) may.room
+
+    module _ (n : ℕ) (ms lm rm : List (Msg U V)) (es new front back : List (List ℕ × V)) (pivot : List ℕ) (p : Applied means (take n ms) es new) (d : IsDivided new front back pivot) where
       -- the slot before
       abbrev old : PSlots U V
-      old = more lo (m ∷ ms) (leaf es) none
+      old = more lo ms (leaf es) none
 
       -- the slots after
       abbrev two : PSlots U V
       two = more lo lm (leaf front) (more pivot rm (leaf back) none)
 
-      -- the oldest message went into the leaf, and the others were cut with it
-      pub leaf_parted : Takes means [] (pieces lo (Some pivot) ms) lm → Takes means [] (pieces pivot None ms) rm → Parted means 1 lo pivot (m ∷ ms) lm rm (leaf es) (leaf front) (leaf back)
+      -- the oldest messages went into the leaf, and the others were cut with it
+      pub leaf_parted : Takes means [] (pieces lo (Some pivot) (drop n ms)) lm → Takes means [] (pieces pivot None (drop n ms)) rm → Parted means n lo pivot ms lm rm (leaf es) (leaf front) (leaf back)
       leaf_parted l r = record {
         left_msgs = l;
         right_msgs = r;
@@ -221,40 +232,39 @@ module _ {U V : Type 0} (means : U → Option V → Option V) where
         above = λ k f. sym (d.above k (not_before_from_reaches pivot k f)) ∙ p.value k;
       }
 
-      module _ (tl : Takes means [] (pieces lo (Some pivot) ms) lm) (tr : Takes means [] (pieces pivot None ms) rm) where
+      module _ (tl : Takes means [] (pieces lo (Some pivot) (drop n ms)) lm) (tr : Takes means [] (pieces pivot None (drop n ms)) rm) (one : 1 ≤ n) (has : n ≤ length ms) where
         -- what became of the slot
-        cut_in_two : Overflows means shape.leaf es (m ∷ []) → length new ≤ shape.leaf + 1 → (h : ℕ) (e : Option (List ℕ)) → AreLawfulSlots shape old h e → Sinks means 1 e old two × Formed means FlushLeaf shape 1 old two × AreLawfulSlots shape two h e
+        cut_in_two : Overflows means shape.leaf es (take n ms) → length new ≤ shape.leaf + shape.leaf → (h : ℕ) (e : Option (List ℕ)) → AreLawfulSlots shape old h e → Sinks means n e old two × Formed means FlushLeaf shape n old two × AreLawfulSlots shape two h e
         cut_in_two over few h e l =
             let q = leaf_parted tl tr in
             let sum : length new ≡ length front + length back = ap length d.parts ∙ length-append front back in
-            let rise = d.rise lo e (p.rises lo e l.2.2 (touch_only-take 1 lo e (m ∷ ms) l.1)) in (
-              parted_sinks means 1 lo pivot (m ∷ ms) lm rm (leaf es) (leaf front) (leaf back) q e,
-              record { lo = lo; msgs = m ∷ ms; entries = es; some = omega arith; has = omega arith; was = refl; leaves = tt; uncut = λ z. absurd (omega arith); cut = λ z. over; pieces_grow = omega (arith, parted_pieces means 1 lo pivot (m ∷ ms) lm rm (leaf es) (leaf front) (leaf back) q) },
-              parted_lawful means 1 lo pivot (m ∷ ms) lm rm (leaf es) (leaf front) (leaf back) q shape h e l.1 rise.0 rise.1 (l.2.0, omega (arith, few, sum, d.back_some), rise.2) (l.2.0, omega (arith, few, sum, d.front_some), rise.3),
+            let rise = d.rise lo e (p.rises lo e l.2.2 (touch_only-take n lo e ms l.1)) in (
+              parted_sinks means n lo pivot ms lm rm (leaf es) (leaf front) (leaf back) q e,
+              record { lo = lo; msgs = ms; entries = es; some = one; has = has; was = refl; leaves = tt; uncut = λ z. absurd (omega arith); cut = λ z. over; pieces_grow = omega (arith, parted_pieces means n lo pivot ms lm rm (leaf es) (leaf front) (leaf back) q) },
+              parted_lawful means n lo pivot ms lm rm (leaf es) (leaf front) (leaf back) q shape h e l.1 rise.0 rise.1 (l.2.0, omega (arith, few, sum, d.halves.0), rise.2) (l.2.0, omega (arith, few, sum, d.halves.1), rise.3),
             )
 
         -- what the cut of a leaf has done to the node
-        pub was_cut : Overflows means shape.leaf es (m ∷ []) → CanPart shape root (joined b (more lo (m ∷ ms) (leaf es) a)) 1 (range_count ms) → Replies means FlushLeaf shape root i (Did 1) (joined b (more lo (m ∷ ms) (leaf es) a)) (joined b (more lo lm (leaf front) (more pivot rm (leaf back) a)))
-        was_cut over room h lp hi l able may =
+        pub was_cut : IsSearchable {U = U} (leaf es) → MayGo means shape root (joined b (more lo ms (leaf es) a)) n ms (leaf es) → Overflows means shape.leaf es (take n ms) → CanPart shape root (joined b (more lo ms (leaf es) a)) n (range_count (drop n ms)) → Replies means FlushLeaf shape root i (Did n) (joined b (more lo ms (leaf es) a)) (joined b (more lo lm (leaf front) (more pivot rm (leaf back) a)))
+        was_cut u go over room h lp hi l able may =
             let all = joined b (joined old a) in
-            let fits : LeafHasNoRoom means shape root all (slots_from i all) → ⊥ = λ f. not_both shape root all 1 (range_count ms) (omega (arith, pending-joined b (joined old a))) room (subst (LeafHasNoRoom means shape root all) (slots_from-joined i b (joined old a) at_i) f).1 in
-            let n = slot_count-joined b (more lo (m ∷ ms) (leaf es) a) in
-            let w = pending-joined b (more lo (m ∷ ms) (leaf es) a) in
-            let q = leaf_parted tl tr in
+            let w = pending-joined b (more lo ms (leaf es) a) in
             let here : AreLawfulSlots shape old h (next_lo hi a) = (lawful-split shape h hi old a (lawful-split shape h hi b (joined old a) l.each).1).0 in
+            let fits : LeafHasNoRoom means shape root all (slots_from i all) → ⊥ = λ f. roomy_cut all n ms (leaf es) h (next_lo hi a) (omega (arith, w, one, has)) u go room here (subst (LeafHasNoRoom means shape root all) (slots_from-joined i b (joined old a) at_i) f) in
+            let count = slot_count-joined b (more lo ms (leaf es) a) in
+            let q = leaf_parted tl tr in
             let small : length es ≤ shape.leaf = here.2.1 in
-            let few : length new ≤ shape.leaf + 1 = omega (arith, small, p.longer) in
-            let grow = parted_pieces means 1 lo pivot (m ∷ ms) lm rm (leaf es) (leaf front) (leaf back) q in
-            replies_did means FlushLeaf shape root i 1 b old two a at_i refl tt tt refl (λ z. omega (arith, room.0, n)) (λ r z. let y = room.1 r in omega (arith, y, w, grow)) (λ g e w able. cut_in_two over few g (next_lo e a) w) (λ _. fits) h lp hi l able may
+            let few : length new ≤ shape.leaf + shape.leaf = omega (arith, small, go.few, p.longer, length-take-le n ms has) in
+            let grow = parted_pieces means n lo pivot ms lm rm (leaf es) (leaf front) (leaf back) q in
+            replies_did means FlushLeaf shape root i n b old two a at_i refl tt tt refl (λ z. omega (arith, room.0, count)) (λ r z. let y = room.1 r in omega (arith, y, w, grow, has, length-drop n ms)) (λ g e w able. cut_in_two over few g (next_lo e a) w) (λ _. fits) h lp hi l able may
 
 -- ---- likewise for the slots as the code writes them
 
 module _ {U V : Type 0} (means : U → Option V → Option V) where
-  -- entries that have the oldest message, as a leaf
-  as_absorbed : (most : ℕ) (ms : List (Msg U V)) (c : PNode U V) (new : List (List ℕ × V)) → AfterOldest means ms c new → length new ≤ most → (1 ≤ length ms) × Absorbed means most (take 1 ms) c (leaf new)
-  as_absorbed most [] c new q l = absurd q
-  as_absorbed most (m ∷ ms) (inner cs) new q l = absurd q
-  as_absorbed most (m ∷ ms) (leaf es) new q l = (omega arith, (q, λ z. l))
+  -- entries that have the oldest messages, as a leaf
+  as_absorbed : (most n : ℕ) (ms : List (Msg U V)) (c : PNode U V) (new : List (List ℕ × V)) → AfterOldest means n ms c new → length new ≤ most → (n ≤ length ms) × Absorbed means most (take n ms) c (leaf new)
+  as_absorbed most n ms (inner cs) new q l = absurd q
+  as_absorbed most n ms (leaf es) new q l = (q.0, (q.1, λ z. l))
 
   module _ (shape : Shape) (root : Bool) (i : ℕ) (xs : List (Slot U V)) (s : Slot U V) (h : i < length xs) (at : s ≡ get_or xs i s) where
     -- the slots before it
@@ -295,40 +305,46 @@ module _ {U V : Type 0} (means : U → Option V → Option V) where
     unfilled : (t : Slot U V) → t.lo ≡ s.lo → t.pending.0 ≡ s.pending.0 → t.child.value ≡ s.child.value → seen_slots (set xs i t) ≡ seen_slots xs
     unfilled t e p c = is t e ∙ (λ j. joined before (more s.lo (p j) (c j) after)) ∙ sym was
 
-    -- entries with the oldest message in the leaf's place
-    pub kept : (t : Slot U V) (r : StepReply) (new : List (List ℕ × V)) → KeptOne r new s t → AfterOldest means s.pending.0 s.child.value new → Rises [] None new → length new ≤ shape.leaf → Replies means FlushLeaf shape root i r (seen_slots xs) (seen_slots (set xs i t))
-    kept t (Did n) new q o u l =
-        let a = as_absorbed shape.leaf s.pending.0 s.child.value new o l in
-        let st = stays_applied means shape.leaf s.pending.0 s.child.value new o u l in
-        let one = did_in_place means shape root i before after s.lo number 1 s.pending.0 s.child.value t.child.value (omega arith) a.0 (subst (λ z. Absorbed means shape.leaf (take 1 s.pending.0) s.child.value z) (sym q.3) a.1) st in
-        subst (λ z. Replies means FlushLeaf shape root i (Did z) (seen_slots xs) (seen_slots (set xs i t))) (sym q.0) (placed t (Did 1) q.1 q.2 one)
-    kept t NotThere new q o u l = absurd q
-    kept t NoRoom new q o u l = absurd q
-    kept t NoMemory new q o u l = unfilled t (ap (λ (x : Slot U V). x.lo) q) (ap (λ (x : Slot U V). x.pending.0) q) (ap (λ (x : Slot U V). x.child.value) q)
+    -- as many wait in all slots as in this one, or more
+    some_wait : (n : ℕ) → n ≤ length s.pending.0 → n ≤ pending (seen_slots xs)
+    some_wait n q = let e = ap pending was in omega (arith, q, e, pending-joined before (more s.lo s.pending.0 s.child.value after))
 
-    -- where the leaf is too large and cannot be cut
-    full : (ms : List (Msg U V)) (c : PNode U V) (new : List (List ℕ × V)) (z : PSlots U V) → AfterOldest means ms c new → Rises [] None new → shape.leaf < length new → CannotPart shape root z 1 (range_count (drop 1 ms)) → LeafHasNoRoom means shape root z (more s.lo ms c after)
-    full [] c new z q r l o = absurd q
-    full (m ∷ ms) (inner cs) new z q r l o = absurd q
-    full (m ∷ ms) (leaf es) new z q r l o = (too_many means shape.leaf m es new q r l, o)
+    -- entries with the oldest messages in the leaf's place
+    pub kept : (n : ℕ) (t : Slot U V) (r : StepReply) (new : List (List ℕ × V)) → KeptOldest n r new s t → IsSearchable s.child.value → MayGo means shape root (seen_slots xs) n s.pending.0 s.child.value → AfterOldest means n s.pending.0 s.child.value new → Rises [] None new → length new ≤ shape.leaf → Replies means FlushLeaf shape root i r (seen_slots xs) (seen_slots (set xs i t))
+    kept n t (Did k) new q u go o up l =
+        let a = as_absorbed shape.leaf n s.pending.0 s.child.value new o l in
+        let st = stays_gone means shape root (seen_slots xs) n s.pending.0 s.child.value new u go o up l in
+        let one = did_in_place means shape root i before after s.lo number n s.pending.0 s.child.value t.child.value go.some a.0 (subst (λ z. Absorbed means shape.leaf (take n s.pending.0) s.child.value z) (sym q.3) a.1) st in
+        subst (λ z. Replies means FlushLeaf shape root i (Did z) (seen_slots xs) (seen_slots (set xs i t))) (sym q.0) (placed t (Did n) q.1 q.2 one)
+    kept n t NotThere new q u go o up l = absurd q
+    kept n t NoRoom new q u go o up l = absurd q
+    kept n t NoMemory new q u go o up l = unfilled t (ap (λ (x : Slot U V). x.lo) q) (ap (λ (x : Slot U V). x.pending.0) q) (ap (λ (x : Slot U V). x.child.value) q)
 
-    -- likewise for all slots
-    pub no_room : (new : List (List ℕ × V)) → AfterOldest means s.pending.0 s.child.value new → Rises [] None new → shape.leaf < length new → CannotPart shape root (seen_slots xs) 1 (range_count (drop 1 s.pending.0)) → LeafHasNoRoom means shape root (seen_slots xs) (slots_from i (seen_slots xs))
-    no_room new q r l o = subst (λ z. LeafHasNoRoom means shape root (seen_slots xs) z) (sym (ap (slots_from i) was ∙ slots_from-joined i before (more s.lo s.pending.0 s.child.value after) number)) (full s.pending.0 s.child.value new (seen_slots xs) q r l o)
+    -- where the leaf is too large after the first message and cannot be cut
+    full : (ms : List (Msg U V)) (c : PNode U V) (new : List (List ℕ × V)) (z : PSlots U V) → AfterOldest means 1 ms c new → Rises [] None new → shape.leaf < length new → CannotPart shape root z 1 (range_count (drop 1 ms)) → LeafHasNoRoom means shape root z (more s.lo ms c after)
+    full ms (inner cs) new z q r l o = absurd q
+    full [] (leaf es) new z q r l o = absurd (let h : 1 ≤ 0 = q.0 in omega (arith, h))
+    full (m ∷ ms) (leaf es) new z q r l o = (too_many means shape.leaf (m ∷ []) es new q.1 r l, o)
+
+    -- likewise for all slots, where others go with it only if the leaf can be cut
+    pub no_room : (n : ℕ) (new : List (List ℕ × V)) → MayGo means shape root (seen_slots xs) n s.pending.0 s.child.value → AfterOldest means n s.pending.0 s.child.value new → Rises [] None new → shape.leaf < length new → CannotPart shape root (seen_slots xs) n (range_count (drop n s.pending.0)) → LeafHasNoRoom means shape root (seen_slots xs) (slots_from i (seen_slots xs))
+    no_room n new go q r l o = subst (λ z. LeafHasNoRoom means shape root (seen_slots xs) z) (sym (ap (slots_from i) was ∙ slots_from-joined i before (more s.lo s.pending.0 s.child.value after) number)) (⊎_elim
+        (λ e. full s.pending.0 s.child.value new (seen_slots xs) (subst (λ z. AfterOldest means z s.pending.0 s.child.value new) e q) r l (subst (λ z. CannotPart shape root (seen_slots xs) z (range_count (drop z s.pending.0))) e o))
+        (λ p. absurd (not_both means shape root (seen_slots xs) n (range_count (drop n s.pending.0)) (some_wait n p.1.0) p.1.1 o))
+        go.room)
 
     -- the leaf cut in two
-    cut : (ms : List (Msg U V)) (c : PNode U V) (new : List (List ℕ × V)) (l r : Slot U V) → AfterOldest means ms c new → Rises [] None new → shape.leaf < length new → IsHalved means s.lo new (drop 1 ms) l r → CanPart shape root (joined before (more s.lo ms c after)) 1 (range_count (drop 1 ms)) → Replies means FlushLeaf shape root i (Did 1) (joined before (more s.lo ms c after)) (joined before (more l.lo l.pending.0 l.child.value (more r.lo r.pending.0 r.child.value after)))
-    cut [] c new l r q up many p o = absurd q
-    cut (m ∷ ms) (inner cs) new l r q up many p o = absurd q
-    cut (m ∷ ms) (leaf es) new l r q up many p o =
-        let core = was_cut means shape root i before after s.lo number m ms l.pending.0 r.pending.0 es new p.front p.back r.lo q p.divided p.left_msgs p.right_msgs (too_many means shape.leaf m es new q up many) o in
-        subst (λ z. Replies means FlushLeaf shape root i (Did 1) (joined before (more s.lo (m ∷ ms) (leaf es) after)) z) (λ j. joined before (more (sym p.left_lo j) l.pending.0 (sym p.left_is j) (more r.lo r.pending.0 (sym p.right_is j) after))) core
+    cut : (n : ℕ) (ms : List (Msg U V)) (c : PNode U V) (new : List (List ℕ × V)) (l r : Slot U V) → IsSearchable c → MayGo means shape root (joined before (more s.lo ms c after)) n ms c → AfterOldest means n ms c new → Rises [] None new → shape.leaf < length new → IsHalved means s.lo new (drop n ms) l r → CanPart shape root (joined before (more s.lo ms c after)) n (range_count (drop n ms)) → Replies means FlushLeaf shape root i (Did n) (joined before (more s.lo ms c after)) (joined before (more l.lo l.pending.0 l.child.value (more r.lo r.pending.0 r.child.value after)))
+    cut n ms (inner cs) new l r u go q up many p o = absurd q
+    cut n ms (leaf es) new l r u go q up many p o =
+        let core = was_cut means shape root i before after s.lo number n ms l.pending.0 r.pending.0 es new p.front p.back r.lo q.1 p.divided p.left_msgs p.right_msgs go.some q.0 u go (too_many means shape.leaf (take n ms) es new q.1 up many) o in
+        subst (λ z. Replies means FlushLeaf shape root i (Did n) (joined before (more s.lo ms (leaf es) after)) z) (λ j. joined before (more (sym p.left_lo j) l.pending.0 (sym p.left_is j) (more r.lo r.pending.0 (sym p.right_is j) after))) core
 
     -- likewise for all slots
-    pub halved : (new : List (List ℕ × V)) (l r : Slot U V) → AfterOldest means s.pending.0 s.child.value new → Rises [] None new → shape.leaf < length new → IsHalved means s.lo new (drop 1 s.pending.0) l r → CanPart shape root (seen_slots xs) 1 (range_count (drop 1 s.pending.0)) → Replies means FlushLeaf shape root i (Did 1) (seen_slots xs) (seen_slots (set (insert xs (suc i) r) i l))
-    halved new l r q up many p o =
-        let core = cut s.pending.0 s.child.value new l r q up many p (subst (λ z. CanPart shape root z 1 (range_count (drop 1 s.pending.0))) was o) in
-        subst (λ z. Replies means FlushLeaf shape root i (Did 1) z (seen_slots (set (insert xs (suc i) r) i l))) (sym was) (subst (λ z. Replies means FlushLeaf shape root i (Did 1) (joined before (more s.lo s.pending.0 s.child.value after)) z) (sym (slots-insert xs i l r h)) core)
+    pub halved : (n : ℕ) (new : List (List ℕ × V)) (l r : Slot U V) → IsSearchable s.child.value → MayGo means shape root (seen_slots xs) n s.pending.0 s.child.value → AfterOldest means n s.pending.0 s.child.value new → Rises [] None new → shape.leaf < length new → IsHalved means s.lo new (drop n s.pending.0) l r → CanPart shape root (seen_slots xs) n (range_count (drop n s.pending.0)) → Replies means FlushLeaf shape root i (Did n) (seen_slots xs) (seen_slots (set (insert xs (suc i) r) i l))
+    halved n new l r u go q up many p o =
+        let core = cut n s.pending.0 s.child.value new l r u (subst (λ z. MayGo means shape root z n s.pending.0 s.child.value) was go) q up many p (subst (λ z. CanPart shape root z n (range_count (drop n s.pending.0))) was o) in
+        subst (λ z. Replies means FlushLeaf shape root i (Did n) z (seen_slots (set (insert xs (suc i) r) i l))) (sym was) (subst (λ z. Replies means FlushLeaf shape root i (Did n) (joined before (more s.lo s.pending.0 s.child.value after)) z) (sym (slots-insert xs i l r h)) core)
 
 -- ---- whether there is room, as the code reads it
 
@@ -338,8 +354,8 @@ module _ {U V : Type 0} (means : U → Option V → Option V) (shape : Shape) (r
   seen = seen_from i xs s m ms (leaf es) h at ep ec
 
   -- some message waits
-  some_wait : 1 ≤ pending (seen_slots xs)
-  some_wait = let e = ap pending (was means shape root i xs s h at) in omega (arith, e, pending-joined (seen_slots (take i xs)) (more s.lo s.pending.0 s.child.value (seen_slots (drop (suc i) xs))), ap length ep)
+  one_waits : 1 ≤ pending (seen_slots xs)
+  one_waits = some_wait means shape root i xs s h at 1 (omega (arith, ap length ep))
 
   -- whether a message edits an absent key rests on the message and the leaf
   same_absent : (m : Msg U V) (lo lp : List ℕ) (ms ns : List (Msg U V)) (a b : PSlots U V) → EditsAbsent (more lo (m ∷ ms) (leaf es) a) → EditsAbsent (more lp (m ∷ ns) (leaf es) b)
@@ -366,7 +382,7 @@ module _ {U V : Type 0} (means : U → Option V → Option V) (shape : Shape) (r
   pub may_cut : CanPart shape root (seen_slots xs) 1 (range_count ms) → MayHaveRoom means FlushLeaf shape root i (seen_slots xs)
   may_cut can full =
       let q = subst (λ z. LeafHasNoRoom means shape root (seen_slots xs) z) seen full in
-      absurd (not_both means shape root (seen_slots xs) 1 (range_count ms) some_wait can q.1)
+      absurd (not_both means shape root (seen_slots xs) 1 (range_count ms) one_waits can q.1)
 
   -- where there is room in neither
   pub cannot : Overflows means shape.leaf es (m ∷ []) → CannotPart shape root (seen_slots xs) 1 (range_count ms) → HasNoRoom means FlushLeaf shape root i (seen_slots xs)

@@ -1,5 +1,5 @@
 -- The oldest message of a list, as the code asks for it, and the oldest few.
-use Rattle.std.proofs.Common.{◌≡◌, ℕ, zero, suc, ◌<◌, ◌≤◌, List, [], ◌∷◌, length, take, refl, ap, sym, ◌∙◌, subst, Option, Some, None, arith, false, true, Result}
+use Rattle.std.proofs.Common.{◌≡◌, ℕ, zero, suc, ◌<◌, ◌≤◌, List, [], ◌∷◌, length, take, refl, ap, sym, ◌∙◌, subst, Option, Some, None, arith, Bool, false, true, Result, ⊎_elim}
 use Rattle.std.proofs.lemmas.Option.{same_Some}
 use Rattle.std.specs.Prelude.{Ok, Err, is_ok, is_err}
 use Rattle.pathkey.specs.Order.{same}
@@ -9,9 +9,10 @@ use Rattle.message.specs.Effects.{touches, made_of}
 use Rattle.message.specs.Oldest.{given_at, put_at}
 use Rattle.node.specs.declared.step.StepReply.{StepReply}
 use Rattle.node.specs.declared.step.StepReply.TheVariants.{Did, NotThere, NoRoom, NoMemory}
-use Rattle.node.specs.Pure.{PNode, leaf, inner}
+use Rattle.node.specs.declared.shape.Shape.{Shape}
+use Rattle.node.specs.Pure.{PNode, PSlots, leaf, inner}
 use Rattle.flush.specs.Sunk.{Sunk, GoneInto}
-use Rattle.flush.specs.Leaf.{AfterOldest, Filled, Absorbed}
+use Rattle.flush.specs.Leaf.{AfterOldest, MayGo, Filled, Absorbed}
 
 -- a list that is not empty has a first element
 pub first_of : {X : Type 0} (xs : List X) → 0 < length xs → (x : X) × (ys : List X) × (xs ≡ x ∷ ys)
@@ -58,10 +59,14 @@ module _ {U V : Type 0} where
   pub put_none : (m : Msg U V) → put_at m ≡ None → (q : List ℕ) (v : V) → m ≡ Put q v → ⊥
   put_none m e q v p = let f : None ≡ Some q = sym e ∙ ap put_at p in (cc)
 
-  -- entries after the oldest message are those of a list that has one
-  pub after_some : (means : U → Option V → Option V) (ms : List (Msg U V)) (c : PNode U V) (es : List (List ℕ × V)) → AfterOldest means ms c es → 1 ≤ length ms
-  after_some means [] c es q = absurd q
-  after_some means (m ∷ ms) c es q = omega arith
+  -- entries after the n oldest messages are those of a list that has as many
+  pub after_some : (means : U → Option V → Option V) (n : ℕ) (ms : List (Msg U V)) (c : PNode U V) (es : List (List ℕ × V)) → AfterOldest means n ms c es → n ≤ length ms
+  after_some means n ms (leaf fs) es q = q.0
+  after_some means n ms (inner cs) es q = absurd q
+
+  -- as many as may go wait, where one does
+  pub may_wait : (means : U → Option V → Option V) (shape : Shape) (root : Bool) (ss : PSlots U V) (n : ℕ) (ms : List (Msg U V)) (c : PNode U V) → MayGo means shape root ss n ms c → 0 < length ms → n ≤ length ms
+  may_wait means shape root ss n ms c go h = ⊎_elim (λ e. omega (arith, e, h)) (λ p. p.1.0) go.room
 
   module _ (means : U → Option V → Option V) (most : ℕ) where
     -- what is done with the oldest few messages is done with the oldest of all

@@ -1,15 +1,26 @@
 -- What becomes of one slot and its leaf when messages are applied to it.
-use Rattle.std.specs.Prelude.{◌≡◌, ℕ, ◌<◌, ◌≤◌, ◌⊎◌, false, List, [], ◌∷◌, Option, Some, None, length, take, drop, slice_index_or}
+use Rattle.std.specs.Prelude.{◌≡◌, ℕ, ◌<◌, ◌≤◌, ◌⊎◌, Bool, false, List, [], ◌∷◌, Option, Some, None, length, take, drop, slice_index_or}
 use Rattle.message.specs.declared.msg.Msg.{Msg}
 use Rattle.message.specs.Cuts.{pieces}
-use Rattle.message.specs.Effects.{effect, Takes}
+use Rattle.message.specs.Effects.{effect, range_count, Takes}
 use Rattle.node.specs.declared.node.Slot.{Slot}
+use Rattle.node.specs.declared.shape.Shape.{Shape}
 use Rattle.node.specs.declared.step.StepReply.{StepReply}
 use Rattle.node.specs.declared.step.StepReply.TheVariants.{Did, NotThere, NoRoom, NoMemory}
 use Rattle.node.specs.Leaves.{Applied, IsDivided}
 use Rattle.node.specs.Meaning.{lookup}
-use Rattle.node.specs.Pure.{PNode, leaf, inner, none, more}
-use Rattle.node.specs.StepRows.{can_flush_leaf}
+use Rattle.node.specs.Pure.{PNode, leaf, inner, PSlots, none, more}
+use Rattle.node.specs.See.{seen_slots}
+use Rattle.node.specs.StepRows.{can_flush_leaf, CanPart}
+
+module _ {U V : Type 0} where
+  -- a node with the slots ss, in one of which these messages wait, has room for one slot more once the n oldest have left
+  abbrev pub MayCut : Shape → Bool → PSlots U V → ℕ → List (Msg U V) → Type 0
+  MayCut shape root ss n ms = (n ≤ length ms) × CanPart shape root ss n (range_count (drop n ms))
+
+  -- likewise for the messages of the slot with this number
+  abbrev pub MayCutAt : Shape → Bool → ℕ → ℕ → List (Slot U V) → Type 0
+  MayCutAt shape root n i xs = (s : Slot U V) → s ≡ slice_index_or xs i s → MayCut shape root (seen_slots xs) n s.pending.0
 
 module _ {U V : Type 0} (means : U → Option V → Option V) where
   -- a key without a value has none after the message either
@@ -36,15 +47,25 @@ module _ {U V : Type 0} (means : U → Option V → Option V) where
   Filled most NoRoom ms c d = ⊥
   Filled most NoMemory ms c d = d ≡ c
 
-  -- these are the entries of the leaf c after the oldest message
-  abbrev pub AfterOldest : List (Msg U V) → PNode U V → List (List ℕ × V) → Type 0
-  AfterOldest [] c new = ⊥
-  AfterOldest (m ∷ ms) (leaf es) new = Applied means (m ∷ []) es new
-  AfterOldest (m ∷ ms) (inner cs) new = ⊥
+  -- these are the entries of the leaf c after the n oldest messages
+  abbrev pub AfterOldest : ℕ → List (Msg U V) → PNode U V → List (List ℕ × V) → Type 0
+  AfterOldest n ms (leaf es) new = (n ≤ length ms) × Applied means (take n ms) es new
+  AfterOldest n ms (inner cs) new = ⊥
 
   -- likewise for the slot with this number
-  abbrev pub AfterOldestAt : ℕ → List (Slot U V) → List (List ℕ × V) → Type 0
-  AfterOldestAt i xs new = (s : Slot U V) → s ≡ slice_index_or xs i s → AfterOldest s.pending.0 s.child.value new
+  abbrev pub AfterOldestAt : ℕ → ℕ → List (Slot U V) → List (List ℕ × V) → Type 0
+  AfterOldestAt n i xs new = (s : Slot U V) → s ≡ slice_index_or xs i s → AfterOldest n s.pending.0 s.child.value new
+
+  -- the n oldest of the messages may go into the leaf c, below a node with the slots ss, though it is then cut: the first
+  -- alone or, where the leaf has room for that one and the node for one slot more, others with it
+  pub record MayGo (shape : Shape) (root : Bool) (ss : PSlots U V) (n : ℕ) (ms : List (Msg U V)) (c : PNode U V) : Type 0 where
+    pub some : 1 ≤ n
+    pub few : n ≤ shape.leaf
+    pub room : (n ≡ 1) ⊎ (HasPlace shape.leaf ms c × MayCut shape root ss n ms)
+
+  -- likewise for the slot with this number
+  abbrev pub MayGoAt : Shape → Bool → ℕ → ℕ → List (Slot U V) → Type 0
+  MayGoAt shape root n i xs = (s : Slot U V) → s ≡ slice_index_or xs i s → MayGo shape root (seen_slots xs) n s.pending.0 s.child.value
 
   -- the slots l and r are a slot from lo on whose leaf has these entries, cut in the middle, with the messages cut there
   pub record IsHalved (lo : List ℕ) (entries : List (List ℕ × V)) (rest : List (Msg U V)) (l r : Slot U V) : Type 0 where
@@ -57,9 +78,9 @@ module _ {U V : Type 0} (means : U → Option V → Option V) where
     pub left_msgs : Takes means [] (pieces lo (Some r.lo) rest) l.pending.0
     pub right_msgs : Takes means [] (pieces r.lo None rest) r.pending.0
 
--- what the reply says of one slot, whose oldest message the entries have
-abbrev pub KeptOne : {U V : Type 0} → StepReply → List (List ℕ × V) → Slot U V → Slot U V → Type 0
-KeptOne (Did n) es s t = (n ≡ 1) × (t.lo ≡ s.lo) × (t.pending.0 ≡ drop 1 s.pending.0) × (t.child.value ≡ leaf es)
-KeptOne NotThere es s t = ⊥
-KeptOne NoRoom es s t = ⊥
-KeptOne NoMemory es s t = t ≡ s
+-- what the reply says of one slot, whose n oldest messages the entries have
+abbrev pub KeptOldest : {U V : Type 0} → ℕ → StepReply → List (List ℕ × V) → Slot U V → Slot U V → Type 0
+KeptOldest n (Did k) es s t = (k ≡ n) × (t.lo ≡ s.lo) × (t.pending.0 ≡ drop n s.pending.0) × (t.child.value ≡ leaf es)
+KeptOldest n NotThere es s t = ⊥
+KeptOldest n NoRoom es s t = ⊥
+KeptOldest n NoMemory es s t = t ≡ s

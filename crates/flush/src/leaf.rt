@@ -1,8 +1,9 @@
 //! A flush into a leaf.
 //!
 //! Messages are applied to the leaf in its place, the oldest first, as many as it has room for. Only where the leaf is
-//! full and the oldest message needs an entry more is the leaf cut in two, on a copy: one message then leaves the slot,
-//! and the next flush finds a leaf with half its room free.
+//! full and a message needs an entry more is the leaf cut in two, on a copy: the messages up to that one then leave the
+//! slot, and the next flush finds a leaf with half its room free. So messages for keys that the full leaf has, of which one
+//! may come with each new entry, do not put the cut off.
 ghost use Rattle.std.specs.Prelude.{◌≡◌, ◌≤◌, ◌<◌, ◌∷◌, [], None, true, false, length, take, drop, ◌⊎◌, ⊤, IsTrue, IfOk, MatchOption};
 ghost use Rattle.std.specs.Option.{option_copied};
 ghost use Rattle.message.specs.Oldest.{given_at, put_at};
@@ -19,7 +20,7 @@ ghost use Rattle.node.specs.Steps.{Answers, Replies};
 ghost use Rattle.node.specs.declared.step.StepKind.TheVariants.{FlushLeaf};
 ghost use Rattle.flush.specs.Merge.{IsFilled};
 ghost use Rattle.flush.specs.Sunk.{left};
-ghost use Rattle.flush.specs.Leaf.{AddsNone, HasPlace, Filled, AfterOldest, AfterOldestAt, KeptOne, IsHalved};
+ghost use Rattle.flush.specs.Leaf.{AddsNone, HasPlace, Filled, AfterOldest, AfterOldestAt, MayGoAt, MayCutAt, KeptOldest, IsHalved};
 
 use crate::inner::few_oldest;
 use crate::merge::fill_in_one_pass;
@@ -181,118 +182,190 @@ fn absorb_oldest<U: Update>(alloc: Global, most: u16, slot: &mut Slot<U>) -> Ste
     reply
 }
 
-/// The entries of the slot's leaf after its oldest message; `None` where it has no message or no leaf.
+/// How many messages there are up to the first for which a leaf has no room, and with it; 0 where it has room for each.
+fn up_to_overfull<U: Update>(entries: &[(Key, U::Value)], msgs: &[Msg<U>], most: u16) -> usize
+    requires { Rises [] None entries.now }
+    ensures { result ≤ length msgs.now }
+{
+    let mut count = 0;
+    for msg in msgs {
+        count += 1;
+        if !has_room::<U>(entries, msg.given(), most as usize) {
+            return count;
+        }
+    }
+    0
+}
+
+/// How many of a slot's oldest messages there are up to the first for which its full leaf has no room, and with it; 0 where
+/// there is none or the leaf is not full. It looks at 255 messages at most, and at no more than a full leaf has entries.
+fn oldest_to_cut<U: Update>(alloc: Global, slot: &Slot<U>, most: u16) -> u8
+    requires { IsSearchable slot.now.child.value }
+    ensures within { result ≤ length slot.now.pending.0 }
+    ensures few { result ≤ most }
+{
+    let Body::Leaf(entries) = slot.child.body() else {
+        return 0;
+    };
+    if entries.len() < most as usize {
+        return 0;
+    }
+    let few = slot.pending.len().min(most as usize).min(255);
+    let Ok(msgs) = slot.pending.copy_front(alloc, few) else {
+        return 0;
+    };
+    up_to_overfull(entries.as_slice(), msgs.as_slice(), most) as u8
+}
+
+/// How many of a slot's oldest messages go down at once with a cut of its full leaf; 0 where it is not to be cut: it has
+/// room for each, or its node has none for one slot more.
+fn count_to_cut<U: Update>(
+    alloc: Global,
+    shape: Shape,
+    root: bool,
+    slots: &[Slot<U>],
+    i: usize,
+) -> u8
+    requires bound { i < length slots.now }
+    requires searchable { IsSearchable (inner (seen_slots slots.now)) }
+    ensures few { result ≤ shape.leaf }
+    ensures room { 0 < result → MayCutAt shape root result i slots.now }
+{
+    let slot = &slots[i];
+    let count = oldest_to_cut(alloc, slot, shape.leaf);
+    if count > 0 && can_part(shape, root, slots, count, &slot.pending) {
+        count
+    } else {
+        0
+    }
+}
+
+/// The entries of the slot's leaf after so many of its oldest messages; `None` where it has no message or no leaf.
 fn after_oldest<U: Update>(
     alloc: Global,
     slot: &Slot<U>,
+    count: u8,
 ) -> Result<Option<Vec<(Key, U::Value)>>, NoMemory>
-    requires { IsSearchable slot.now.child.value }
-    ensures found { IfOk result (λ r. MatchOption r (can_flush_leaf (more [] slot.now.pending.0 slot.now.child.value none) ≡ false) (λ v. AfterOldest U.means slot.now.pending.0 slot.now.child.value v.items)) }
+    requires searchable { IsSearchable slot.now.child.value }
+    requires enough { 0 < length slot.now.pending.0 → count ≤ length slot.now.pending.0 }
+    ensures found { IfOk result (λ r. MatchOption r (can_flush_leaf (more [] slot.now.pending.0 slot.now.child.value none) ≡ false) (λ v. AfterOldest U.means count slot.now.pending.0 slot.now.child.value v.items)) }
     ensures rising { IfOk result (λ r. MatchOption r ⊤ (λ v. Rises [] None v.items)) }
 {
     if slot.pending.len() == 0 {
         return Ok(None);
     }
-    let oldest = slot.pending.copy_front(alloc, 1)?;
+    let oldest = slot.pending.copy_front(alloc, count as usize)?;
     match slot.child.body() {
         Body::Leaf(entries) => Ok(Some(applied(alloc, entries.as_slice(), oldest.as_slice())?)),
         Body::Inner(_) => Ok(None),
     }
 }
 
-/// Puts entries into the place of the slot's leaf, whose oldest message they have.
-fn keep<U: Update>(alloc: Global, slot: &mut Slot<U>, entries: Vec<(Key, U::Value)>) -> StepReply
-    requires { 0 < length slot.old.pending.0 }
-    ensures { KeptOne result entries.items slot.old slot.new }
+/// Puts entries into the place of the slot's leaf, whose `count` oldest messages they have.
+fn keep<U: Update>(
+    alloc: Global,
+    slot: &mut Slot<U>,
+    count: u8,
+    entries: Vec<(Key, U::Value)>,
+) -> StepReply
+    requires { count ≤ length slot.old.pending.0 }
+    ensures { KeptOldest count result entries.items slot.old slot.new }
 {
     let Ok(child) = Arc::new(alloc, Node::of(Body::Leaf(entries))) else {
         return StepReply::NoMemory;
     };
     slot.child = child;
-    slot.pending.drop_front(1);
-    StepReply::Did(1)
+    slot.pending.drop_front(count as usize);
+    StepReply::Did(count as u32)
 }
 
-/// The halves of a slot from `lo` on: over the halves of the entries, each with its part of the messages but the oldest.
+/// The halves of a slot from `lo` on: over the halves of the entries, each with its part of the messages but the `gone`
+/// oldest.
 fn halves<U: Update>(
     alloc: Global,
     lo: &Key,
     entries: Vec<(Key, U::Value)>,
     list: &Pending<U>,
+    gone: usize,
 ) -> Result<(Slot<U>, Slot<U>), NoMemory>
     requires two { 2 ≤ length entries.items }
     requires rising { Rises [] None entries.items }
-    requires some { 1 ≤ length list.now.0 }
-    ensures { IfOk result (λ p. IsHalved U.means lo.now entries.items (drop 1 list.now.0) p.0 p.1) }
+    requires enough { gone ≤ length list.now.0 }
+    ensures { IfOk result (λ p. IsHalved U.means lo.now entries.items (drop gone list.now.0) p.0 p.1) }
 {
     let mut front = entries;
     let (pivot, back) = divide(alloc, &mut front)?;
     let left = Slot {
         lo: lo.copy(alloc)?,
-        pending: list.copy_between(alloc, 1, lo, Some(&pivot))?,
+        pending: list.copy_between(alloc, gone, lo, Some(&pivot))?,
         child: Arc::new(alloc, Node::of(Body::Leaf(front)))?,
     };
     let right = Slot {
-        pending: list.copy_between(alloc, 1, &pivot, None)?,
+        pending: list.copy_between(alloc, gone, &pivot, None)?,
         child: Arc::new(alloc, Node::of(Body::Leaf(back)))?,
         lo: pivot,
     };
     Ok((left, right))
 }
 
-/// Cuts the slot with number `i` in two, over the halves of these entries, which have its oldest message.
+/// Cuts the slot with number `i` in two, over the halves of these entries, which have its `count` oldest messages.
 fn part<U: Update>(
     alloc: Global,
     shape: Shape,
     root: bool,
     slots: &mut Vec<Slot<U>>,
     i: usize,
+    count: u8,
     entries: Vec<(Key, U::Value)>,
 ) -> StepReply
     requires shape { IsTrue (is_shape shape) }
     requires bound { i < length slots.old.items }
+    requires searchable { IsSearchable (inner (seen_slots slots.old.items)) }
+    requires may { MayGoAt U.means shape root count i slots.old.items }
     requires many { shape.leaf < length entries.items }
     requires rising { Rises [] None entries.items }
-    requires after { AfterOldestAt U.means i slots.old.items entries.items }
+    requires after { AfterOldestAt U.means count i slots.old.items entries.items }
     ensures { Replies U.means FlushLeaf shape root i result (seen_slots slots.old.items) (seen_slots slots.new.items) }
 {
     let slot = &slots[i];
-    if !can_part(shape, root, slots.as_slice(), 1, &slot.pending) {
+    if !can_part(shape, root, slots.as_slice(), count, &slot.pending) {
         return StepReply::NoRoom;
     }
-    let Ok((left, right)) = halves(alloc, &slot.lo, entries, &slot.pending) else {
+    let Ok((left, right)) = halves(alloc, &slot.lo, entries, &slot.pending, count as usize) else {
         return StepReply::NoMemory;
     };
     if slots.insert(i + 1, right).is_err() {
         return StepReply::NoMemory;
     }
     slots[i] = left;
-    StepReply::Did(1)
+    StepReply::Did(count as u32)
 }
 
-/// Applies the oldest message of a slot to a copy of its leaf, which is cut in two where it is too large.
+/// Applies the `count` oldest messages of a slot to a copy of its leaf, which is cut in two where it is too large.
 fn apply_oldest<U: Update>(
     alloc: Global,
     shape: Shape,
     root: bool,
     slots: &mut Vec<Slot<U>>,
     i: usize,
+    count: u8,
 ) -> StepReply
     requires shape { IsTrue (is_shape shape) }
     requires bound { i < length slots.old.items }
     requires searchable { IsSearchable (inner (seen_slots slots.old.items)) }
+    requires may { MayGoAt U.means shape root count i slots.old.items }
     ensures { Replies U.means FlushLeaf shape root i result (seen_slots slots.old.items) (seen_slots slots.new.items) }
 {
-    let Ok(after) = after_oldest(alloc, &slots[i]) else {
+    let Ok(after) = after_oldest(alloc, &slots[i], count) else {
         return StepReply::NoMemory;
     };
     let Some(entries) = after else {
         return StepReply::NotThere;
     };
     if entries.len() <= shape.leaf as usize {
-        return keep(alloc, &mut slots[i], entries);
+        return keep(alloc, &mut slots[i], count, entries);
     }
-    part(alloc, shape, root, slots, i, entries)
+    part(alloc, shape, root, slots, i, count, entries)
 }
 
 /// The flush of one slot into a leaf.
@@ -342,7 +415,11 @@ impl<U: Update> Change<U> for LeafFlush {
             return StepReply::NotThere;
         }
         if !takes_oldest(&slots[i], shape.leaf) {
-            return apply_oldest(alloc, shape, root, slots, i);
+            return apply_oldest(alloc, shape, root, slots, i, 1);
+        }
+        let count = count_to_cut(alloc, shape, root, slots.as_slice(), i);
+        if count > 0 {
+            return apply_oldest(alloc, shape, root, slots, i, count);
         }
         absorb_oldest(alloc, shape.leaf, &mut slots[i])
     }
@@ -350,10 +427,10 @@ impl<U: Update> Change<U> for LeafFlush {
 
 /// Applies the oldest messages of a slot to its child, a leaf, which is cut in two where it would be too large.
 ///
-/// It takes as many messages as the leaf has room for, and one where the leaf is cut. It answers `NotThere`, without
-/// memory, where the node, the slot or a message is missing or the child is an inner node, and `NoRoom` where the leaf
-/// would be too large after the first message and the node has no room for one slot more or, below the root, for the
-/// range-deletes that would stand in both slots.
+/// It takes as many messages as the leaf has room for; where the leaf is full, and its node has room for one slot more, also
+/// the first for which the leaf has none, and cuts it. It answers `NotThere`, without memory, where the node, the slot or a
+/// message is missing or the child is an inner node, and `NoRoom` where the leaf would be too large after the first message
+/// and the node has no room for one slot more or, below the root, for the range-deletes that would stand in both slots.
 pub fn flush_leaf<U: Update>(alloc: Global, tree: &mut Tree<U>, at: Place, slot: u8) -> StepReply
     ensures { Answers U.means FlushLeaf (way at) slot result tree.old tree.new }
 {

@@ -135,3 +135,62 @@ const WITH_RANGES: &[Course] = &[
 fn relief_ends_among_range_deletes(rt: HostRuntime) -> Result<(), usize> {
     all_hold(rt.alloc(), WITH_RANGES)
 }
+
+/// An update of the first key, and a number for another.
+fn touch_and_put(alloc: Global, at: u16) -> Result<Vec<Msg<Digit>>, NoMemory> {
+    let first = Key::from_bytes(alloc, &[0, 0])?;
+    let other = Key::from_bytes(alloc, &at.to_be_bytes())?;
+    match Vec::from_array(alloc, [Msg::Edit(first, Digit(1)), Msg::Put(other, 1)]) {
+        Ok(batch) => Ok(batch),
+        Err(_) => Err(NoMemory),
+    }
+}
+
+/// Appends them.
+fn append_with_touch(alloc: Global, tree: &mut Tree<Digit>, at: u16) -> bool {
+    match touch_and_put(alloc, at) {
+        Ok(batch) => tree.append(alloc, batch).is_ok(),
+        Err(_) => false,
+    }
+}
+
+/// A shape, and how many pieces may wait behind each turn.
+struct Touched([u16; 3], u128);
+
+/// Each key comes with an update of the first, before those that came earlier, and then one step relieves the tree: what waits
+/// stays few, and all of it goes in the end.
+impl Touched {
+    fn stays_light(&self, alloc: Global, tree: &mut Tree<Digit>) -> bool {
+        for at in (1..2_000).rev() {
+            if !append_with_touch(alloc, tree, at)
+                || relieve(alloc, tree).is_none()
+                || tree.shape_report().pending > self.1
+            {
+                return false;
+            }
+        }
+        settle(alloc, tree)
+    }
+}
+
+impl Holds for Touched {
+    fn holds(&self, alloc: Global) -> bool {
+        let [fanout, pending, leaf] = self.0;
+        let shape = Shape {
+            fanout,
+            pending,
+            leaf,
+        };
+        match new_tree(alloc, shape) {
+            Ok(mut tree) => self.stays_light(alloc, &mut tree),
+            Err(_) => false,
+        }
+    }
+}
+
+const TOUCHED: &[Touched] = &[Touched([64, 1024, 16], 64), Touched([16, 256, 16], 64)];
+
+#[test]
+fn updates_of_the_first_key_hold_no_others_up(rt: HostRuntime) -> Result<(), usize> {
+    all_hold(rt.alloc(), TOUCHED)
+}

@@ -168,6 +168,41 @@ fn a_full_leaf_is_cut_for_the_oldest_message(rt: HostRuntime) -> Result<(), usiz
     follow_behind(rt.alloc(), &[], CUT_LEAF)
 }
 
+/// Two messages for keys that the full leaf has stand before the first for one that it has not: the three go down at once.
+const TOUCHED_LEAF: &[Row] = &[
+    (
+        Turn::Append(&[
+            Plain::Put(1, 0),
+            Plain::Put(2, 0),
+            Plain::Put(3, 0),
+            Plain::Put(4, 0),
+        ]),
+        [1, 1, 4, 0],
+    ),
+    (
+        Turn::Step(StepKind::FlushLeaf, 0, StepReply::Did(4)),
+        [1, 1, 0, 4],
+    ),
+    (
+        Turn::Append(&[
+            Plain::Edit(1, 5),
+            Plain::Put(4, 1),
+            Plain::Put(5, 0),
+            Plain::Put(6, 0),
+        ]),
+        [1, 1, 4, 4],
+    ),
+    (
+        Turn::Step(StepKind::FlushLeaf, 0, StepReply::Did(3)),
+        [1, 2, 1, 5],
+    ),
+];
+
+#[test]
+fn a_full_leaf_is_cut_behind_messages_for_its_own_keys(rt: HostRuntime) -> Result<(), usize> {
+    follow_behind(rt.alloc(), &[], TOUCHED_LEAF)
+}
+
 /// Puts a value and flushes the last slot; what the flush is answered, and none where memory is refused.
 fn put_and_flush(alloc: Global, tree: &mut Tree<Digit>, at: u8) -> Option<StepReply> {
     if !append(alloc, tree, &[Plain::Put(at, 0)]) {
@@ -177,7 +212,7 @@ fn put_and_flush(alloc: Global, tree: &mut Tree<Digit>, at: u8) -> Option<StepRe
     Some(take(alloc, tree, StepKind::FlushLeaf, slot))
 }
 
-/// Each of ten keys sinks, and the eleventh finds no room.
+/// Each of ten keys sinks, and the eleventh finds no room; an update of a key that the leaf has goes down alone.
 struct FillingUp;
 
 impl Course for FillingUp {
@@ -187,7 +222,11 @@ impl Course for FillingUp {
                 return false;
             }
         }
-        put_and_flush(alloc, tree, 11) == Some(StepReply::NoRoom) && counts(tree) == [1, 4, 1, 10]
+        put_and_flush(alloc, tree, 11) == Some(StepReply::NoRoom)
+            && counts(tree) == [1, 4, 1, 10]
+            && append(alloc, tree, &[Plain::Edit(7, 1)])
+            && take(alloc, tree, StepKind::FlushLeaf, 3) == StepReply::Did(1)
+            && counts(tree) == [1, 4, 1, 10]
     }
 }
 

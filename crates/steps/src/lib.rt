@@ -15,7 +15,7 @@ use std::alloc::Global;
 
 pub mod room;
 
-pub use room::make_room;
+pub use room::{make_room, part_ahead};
 
 /// How many steps that have no room are given up for another before a turn ends.
 pub const TRIES: u8 = 64;
@@ -62,8 +62,22 @@ fn do_with_room<U: Update>(alloc: Global, tree: &mut Tree<U>, step: TreeStep, tr
     do_with_room(alloc, tree, other, tries - 1)
 }
 
+/// Parts the flush's node, or does what makes room for that, where this is better than to try the flush; `None` where it is
+/// not or none of these steps is done, and the tree is as it was.
+fn prepare<U: Update>(alloc: Global, tree: &mut Tree<U>, flush: TreeStep) -> Option<Turn>
+    ensures unchanged { IfNone result (tree.new ≡ tree.old) }
+    ensures answers { IfSome result (λ turn. StepAnswers U.means turn.step.kind (way turn.step.at) turn.step.slot turn.reply tree.old tree.new) }
+{
+    let first = part_ahead(tree, flush)?;
+    let turn = do_with_room(alloc, tree, first, TRIES);
+    match turn.reply {
+        StepReply::Did(_) => Some(turn),
+        _ => None,
+    }
+}
+
 /// Flushes the heaviest slot or, where its flush has no room, does what makes room for it; `None` where nothing is
-/// pending.
+/// pending. Where a full leaf could not be cut, since its node has all slots that it may have, the node is parted first.
 ///
 /// The reply is `NoRoom` only where no step that makes room was found.
 pub fn relieve<U: Update>(alloc: Global, tree: &mut Tree<U>) -> Option<Turn>
@@ -72,5 +86,8 @@ pub fn relieve<U: Update>(alloc: Global, tree: &mut Tree<U>) -> Option<Turn>
     ensures answers { IfSome result (λ turn. StepAnswers U.means turn.step.kind (way turn.step.at) turn.step.slot turn.reply tree.old tree.new) }
 {
     let step = heaviest(tree)?;
+    if let Some(turn) = prepare(alloc, tree, step) {
+        return Some(turn);
+    }
     Some(do_with_room(alloc, tree, step, TRIES))
 }

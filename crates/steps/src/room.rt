@@ -2,7 +2,7 @@
 //!
 //! No claim rests on the choices that are made here: every step keeps what the tree means, and is proved to.
 use message::Update;
-use node::{Node, Place, Slot, StepKind, Tree, TreeStep};
+use node::{Body, Node, Place, Slot, StepKind, Tree, TreeStep};
 
 /// The slots of the node that the numbers lead to; `None` where no inner node is there.
 fn slots_at<'a, U: Update>(root: &'a Node<U>, numbers: &[u8]) -> Option<&'a [Slot<U>]> {
@@ -71,6 +71,25 @@ fn part(at: Place) -> Option<TreeStep> {
         at: place_of(above)?,
         slot: *last,
     })
+}
+
+/// The step that parts a flush's node before the flush is tried; `None` where the flush is to be tried at once.
+///
+/// A full leaf is cut for what a flush brings, but not below a node that has all slots that it may have: there a flush takes
+/// no more than the messages that add no entry. Where others of these come again and again, those behind them would never go.
+pub fn part_ahead<U: Update>(tree: &Tree<U>, flush: TreeStep) -> Option<TreeStep> {
+    let slots = slots_at(tree.root(), flush.at.numbers())?;
+    let slot = slots.get(flush.slot as usize)?;
+    let Body::Leaf(entries) = slot.child.body() else {
+        return None;
+    };
+    let shape = tree.shape();
+    let are_full = slots.len() >= shape.fanout as usize && entries.len() >= shape.leaf as usize;
+    if are_full && slot.pending.len() > 1 {
+        part(flush.at)
+    } else {
+        None
+    }
 }
 
 /// What gives the step's node room for one slot more.
