@@ -33,7 +33,7 @@ use Rattle.node.proofs.Applying.{applied_put, rising_applied}
 use Rattle.node.proofs.LeafChanges.{is_inserted}
 use Rattle.std.proofs.lemmas.List.Edits.{length-insert}
 use Rattle.flush.proofs.Growth.{grows_by_one}
-use Rattle.node.proofs.StepDone.{replies_did, slots-insert}
+use Rattle.node.proofs.StepDone.{replies_did, slots-cut}
 use Rattle.node.proofs.Fewer.{no_more}
 use Rattle.node.proofs.Parting.{Parted, parted_pieces, parted_lawful, parted_sinks}
 use Rattle.node.proofs.Sinking.{touch_only-take, touch_only-drop}
@@ -341,10 +341,10 @@ module _ {U V : Type 0} (means : U → Option V → Option V) where
         subst (λ z. Replies means FlushLeaf shape root i (Did n) (joined before (more s.lo ms (leaf es) after)) z) (λ j. joined before (more (sym p.left_lo j) l.pending.0 (sym p.left_is j) (more r.lo r.pending.0 (sym p.right_is j) after))) core
 
     -- likewise for all slots
-    pub halved : (n : ℕ) (new : List (List ℕ × V)) (l r : Slot U V) → IsSearchable s.child.value → MayGo means shape root (seen_slots xs) n s.pending.0 s.child.value → AfterOldest means n s.pending.0 s.child.value new → Rises [] None new → shape.leaf < length new → IsHalved means s.lo new (drop n s.pending.0) l r → CanPart shape root (seen_slots xs) n (range_count (drop n s.pending.0)) → Replies means FlushLeaf shape root i (Did n) (seen_slots xs) (seen_slots (set (insert xs (suc i) r) i l))
+    pub halved : (n : ℕ) (new : List (List ℕ × V)) (l r : Slot U V) → IsSearchable s.child.value → MayGo means shape root (seen_slots xs) n s.pending.0 s.child.value → AfterOldest means n s.pending.0 s.child.value new → Rises [] None new → shape.leaf < length new → IsHalved means s.lo new (drop n s.pending.0) l r → CanPart shape root (seen_slots xs) n (range_count (drop n s.pending.0)) → Replies means FlushLeaf shape root i (Did n) (seen_slots xs) (seen_slots (insert (set xs i l) (suc i) r))
     halved n new l r u go q up many p o =
         let core = cut n s.pending.0 s.child.value new l r u (subst (λ z. MayGo means shape root z n s.pending.0 s.child.value) was go) q up many p (subst (λ z. CanPart shape root z n (range_count (drop n s.pending.0))) was o) in
-        subst (λ z. Replies means FlushLeaf shape root i (Did n) z (seen_slots (set (insert xs (suc i) r) i l))) (sym was) (subst (λ z. Replies means FlushLeaf shape root i (Did n) (joined before (more s.lo s.pending.0 s.child.value after)) z) (sym (slots-insert xs i l r h)) core)
+        subst (λ z. Replies means FlushLeaf shape root i (Did n) z (seen_slots (insert (set xs i l) (suc i) r))) (sym was) (subst (λ z. Replies means FlushLeaf shape root i (Did n) (joined before (more s.lo s.pending.0 s.child.value after)) z) (sym (slots-cut xs i l r h)) core)
 
 -- ---- whether there is room, as the code reads it
 

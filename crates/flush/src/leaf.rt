@@ -4,7 +4,7 @@
 //! full and a message needs an entry more is the leaf cut in two, on a copy: the messages up to that one then leave the
 //! slot, and the next flush finds a leaf with half its room free. So messages for keys that the full leaf has, of which one
 //! may come with each new entry, do not put the cut off.
-ghost use Rattle.std.specs.Prelude.{◌≡◌, ◌≤◌, ◌<◌, ◌∷◌, [], None, true, false, length, take, drop, ◌⊎◌, ⊤, IsTrue, IfOk, MatchOption};
+ghost use Rattle.std.specs.Prelude.{◌≡◌, ◌≤◌, ◌<◌, ◌∷◌, [], None, true, false, length, take, drop, ◌⊎◌, ⊤, IsTrue, IfOk, OnErr, MatchOption};
 ghost use Rattle.std.specs.Option.{option_copied};
 ghost use Rattle.message.specs.Oldest.{given_at, put_at};
 ghost use Rattle.message.specs.declared.msg.Msg.{Msg};
@@ -25,8 +25,9 @@ ghost use Rattle.flush.specs.Leaf.{AddsNone, HasPlace, Filled, AfterOldest, Afte
 use crate::inner::few_oldest;
 use crate::merge::fill_in_one_pass;
 use crate::room::{apply_within, has_room};
-use message::{Msg, Pending, Update};
+use message::{Msg, Update};
 use node::count::can_part;
+use node::cut::cut_slot;
 use node::leaf::{applied, divide, position};
 use node::{Body, Change, Node, Place, Shape, Slot, StepReply, Tree};
 use pathkey::{Key, NoMemory};
@@ -279,33 +280,25 @@ fn keep<U: Update>(
     StepReply::Did(count as u32)
 }
 
-/// The halves of a slot from `lo` on: over the halves of the entries, each with its part of the messages but the `gone`
-/// oldest.
-fn halves<U: Update>(
+/// Cuts a slot in two over the halves of these entries, without its `gone` oldest messages. On want of memory the slot is as
+/// it was.
+fn cut<U: Update>(
     alloc: Global,
-    lo: &Key,
-    entries: Vec<(Key, U::Value)>,
-    list: &Pending<U>,
+    slot: &mut Slot<U>,
     gone: usize,
-) -> Result<(Slot<U>, Slot<U>), NoMemory>
+    entries: Vec<(Key, U::Value)>,
+) -> Result<Slot<U>, NoMemory>
     requires two { 2 ≤ length entries.items }
     requires rising { Rises [] None entries.items }
-    requires enough { gone ≤ length list.now.0 }
-    ensures { IfOk result (λ p. IsHalved U.means lo.now entries.items (drop gone list.now.0) p.0 p.1) }
+    requires enough { gone ≤ length slot.old.pending.0 }
+    ensures halves { IfOk result (λ back. IsHalved U.means slot.old.lo entries.items (drop gone slot.old.pending.0) slot.new back) }
+    ensures err { OnErr result (slot.new ≡ slot.old) }
 {
     let mut front = entries;
     let (pivot, back) = divide(alloc, &mut front)?;
-    let left = Slot {
-        lo: lo.copy(alloc)?,
-        pending: list.copy_between(alloc, gone, lo, Some(&pivot))?,
-        child: Arc::new(alloc, Node::of(Body::Leaf(front)))?,
-    };
-    let right = Slot {
-        pending: list.copy_between(alloc, gone, &pivot, None)?,
-        child: Arc::new(alloc, Node::of(Body::Leaf(back)))?,
-        lo: pivot,
-    };
-    Ok((left, right))
+    let left = Arc::new(alloc, Node::of(Body::Leaf(front)))?;
+    let right = Arc::new(alloc, Node::of(Body::Leaf(back)))?;
+    cut_slot(alloc, slot, gone, pivot, left, right)
 }
 
 /// Cuts the slot with number `i` in two, over the halves of these entries, which have its `count` oldest messages.
@@ -331,13 +324,16 @@ fn part<U: Update>(
     if !can_part(shape, root, slots.as_slice(), count, &slot.pending) {
         return StepReply::NoRoom;
     }
-    let Ok((left, right)) = halves(alloc, &slot.lo, entries, &slot.pending, count as usize) else {
-        return StepReply::NoMemory;
-    };
-    if slots.insert(i + 1, right).is_err() {
+    if slots.reserve(1).is_err() {
         return StepReply::NoMemory;
     }
-    slots[i] = left;
+    let slot = &mut slots[i];
+    let Ok(back) = cut(alloc, slot, count as usize, entries) else {
+        return StepReply::NoMemory;
+    };
+    let Ok(()) = slots.insert(i + 1, back) else {
+        unreachable!()
+    };
     StepReply::Did(count as u32)
 }
 

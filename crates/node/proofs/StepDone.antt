@@ -1,6 +1,5 @@
 -- What a step that is done says of its node, from what it has done to the slots that it names.
-use Rattle.std.proofs.Common.{◌≡◌, ℕ, zero, suc, ◌+◌, ◌<◌, ◌≤◌, Bool, true, false, List, [], ◌∷◌, length, take, drop, refl, ap, ◌∙◌, arith, cond, Option}
-use Rattle.std.specs.Prelude.{Result, Ok, Err, is_ok, is_err}
+use Rattle.std.proofs.Common.{◌≡◌, ℕ, zero, suc, ◌+◌, ◌<◌, ◌≤◌, Bool, true, false, List, [], ◌∷◌, length, take, drop, refl, ap, ◌∙◌, arith, Option}
 use Rattle.std.proofs.Math.ListN.{set}
 use Rattle.std.specs.List.{insert}
 use Rattle.node.specs.declared.node.Slot.{Slot}
@@ -14,11 +13,6 @@ use Rattle.node.specs.Site.{joined, slots_from}
 use Rattle.node.specs.Sinks.{first_lo, Sinks}
 use Rattle.node.specs.Steps.{can, Formed, HasNoRoom, MayHaveRoom, Replies, width}
 use Rattle.node.proofs.Splice.{IsMore, slot_count-joined, pending-joined, lawful-spliced, lawful-split}
-
--- what an insert leaves where it is not refused
-pub inserted : {T X : Type 0} {Y : Type 0} (r : Result T X) (a b : Y) → is_err r ≡ false → cond (is_ok r) a b ≡ a
-inserted (Ok x) a b h = refl
-inserted (Err e) a b h = (cc)
 
 module _ {U V : Type 0} where
   -- slots that begin alike start alike, also behind others
@@ -46,8 +40,8 @@ module _ {U V : Type 0} where
         fits room,
       )
 
-  -- the slots with two in the place of one
-  pub slots-insert : (xs : List (Slot U V)) (i : ℕ) (l r : Slot U V) → i < length xs → seen_slots (set (insert xs (suc i) r) i l) ≡ joined (seen_slots (take i xs)) (more l.lo l.pending.0 l.child.value (more r.lo r.pending.0 r.child.value (seen_slots (drop (suc i) xs))))
-  slots-insert [] i l r h = absurd (omega arith)
-  slots-insert (x ∷ xs) zero l r h = refl
-  slots-insert (x ∷ xs) (suc i) l r h = ap (more x.lo x.pending.0 x.child.value) (slots-insert xs i l r (omega arith))
+  -- the slots with one cut in place and what was cut off behind it
+  pub slots-cut : (xs : List (Slot U V)) (i : ℕ) (l r : Slot U V) → i < length xs → seen_slots (insert (set xs i l) (suc i) r) ≡ joined (seen_slots (take i xs)) (more l.lo l.pending.0 l.child.value (more r.lo r.pending.0 r.child.value (seen_slots (drop (suc i) xs))))
+  slots-cut [] i l r h = absurd (omega arith)
+  slots-cut (x ∷ xs) zero l r h = refl
+  slots-cut (x ∷ xs) (suc i) l r h = ap (more x.lo x.pending.0 x.child.value) (slots-cut xs i l r (omega arith))

@@ -20,7 +20,7 @@ use Rattle.node.specs.StepRows.{ranges_first, CanPart, CannotPart}
 use Rattle.node.specs.Site.{joined, slots_from}
 use Rattle.node.specs.Sinks.{first_lo, Sinks}
 use Rattle.node.specs.Steps.{Formed, Replies}
-use Rattle.node.proofs.StepDone.{replies_did}
+use Rattle.node.proofs.StepDone.{replies_did, slots-cut}
 use Rattle.node.proofs.Parting.{Parted, pieces-apart, parted_pieces, parted_lawful, parted_sinks}
 use Rattle.node.proofs.Splice.{IsMore, slots-split, slot_count-take, slots_from-joined, slot_count-joined, pending-joined, lawful-split, slots_value-joined, counted-more}
 use Rattle.node.specs.Cutting.{IsCutAt}
@@ -130,12 +130,6 @@ module _ {U V : Type 0} where
   pub first_lo-get : (xs : List (Slot U V)) (d : Slot U V) → 0 < length xs → (get_or xs 0 d).lo ≡ first_lo (seen_slots xs)
   first_lo-get [] d h = absurd (omega arith)
   first_lo-get (x ∷ xs) d h = refl
-
-  -- the slots with one cut in place and what was cut off behind it
-  slots-cut : (xs : List (Slot U V)) (i : ℕ) (l r : Slot U V) → i < length xs → seen_slots (insert (set xs i l) (suc i) r) ≡ joined (seen_slots (take i xs)) (more l.lo l.pending.0 l.child.value (more r.lo r.pending.0 r.child.value (seen_slots (drop (suc i) xs))))
-  slots-cut [] i l r h = absurd (omega arith)
-  slots-cut (x ∷ xs) zero l r h = refl
-  slots-cut (x ∷ xs) (suc i) l r h = ap (more x.lo x.pending.0 x.child.value) (slots-cut xs i l r (omega arith))
 
   -- likewise for the slots as the code writes them: the child is cut in halves, and its slot at the pivot between them
   pub halved : (means : U → Option V → Option V) (shape : Shape) (root : Bool) (i : ℕ) (xs : List (Slot U V)) (halves : Halves U V) (s l r : Slot U V) → i < length xs → s ≡ get_or xs i s → AreHalves s.child.value halves → IsCutAt means 0 halves.pivot halves.left.value halves.right.value s l r → Replies means SplitInner shape root i (Did 0) (seen_slots xs) (seen_slots (insert (set xs i l) (suc i) r))
