@@ -20,7 +20,7 @@ use node::{StepReply, TreeStep};
 use pathkey::NoMemory;
 use std::alloc::Global;
 use std::marker::Model;
-use steps::{TRIES, make_room};
+use steps::{TRIES, make_room, part_ahead};
 
 /// Indexes, and the marks of the jobs taken from them: they stand beside the trees, so that no share of a tree has any.
 pub struct Live {
@@ -199,8 +199,36 @@ impl Live {
         self.step_with_room(alloc, other, tries - 1)
     }
 
+    /// The step that parts a flush's node before the flush is tried; none where the flush is to be tried at once.
+    fn step_ahead(&self, flush: Step) -> Option<Step>
+        ensures { IfSome result (λ other. other.index ≡ flush.index) }
+    {
+        let index = flush.index;
+        let step = match index {
+            Index::Meta => part_ahead(&self.indexes.meta.tree, flush.step)?,
+            Index::Block => part_ahead(&self.indexes.block.tree, flush.step)?,
+        };
+        Some(Step { index, step })
+    }
+
+    /// Parts a flush's node, or does what makes room for that, where this is better than to try the flush. `None` where it is
+    /// not, or where none of these steps was done, and then nothing has changed.
+    fn prepare(&mut self, alloc: Global, flush: Step) -> Option<Relief>
+        ensures unchanged { IfNone result (self.new ≡ self.old) }
+        ensures index { IfSome result (λ r. r.step.index ≡ flush.index) }
+        ensures stepped { IfSome result (λ r. StepsLive r.step r.reply self.old self.new) }
+    {
+        let step = self.step_ahead(flush)?;
+        let relief = self.step_with_room(alloc, step, TRIES);
+        match relief.reply {
+            StepReply::Did(_) => Some(relief),
+            _ => None,
+        }
+    }
+
     /// Flushes the heaviest slot of an index or, where its flush has no room, does what makes room for it; `None` where nothing
-    /// is pending there.
+    /// is pending there. Where a full leaf could not be cut, since its node has all slots that it may have, the node is parted
+    /// first.
     pub fn relieve(&mut self, alloc: Global, index: Index) -> Option<Relief>
         ensures nothing { (result ≡ None) ↔ (pending_in index self.old.indexes ≡ 0) }
         ensures unchanged { IfNone result (self.new ≡ self.old) }
@@ -208,7 +236,11 @@ impl Live {
         ensures stepped { IfSome result (λ r. StepsLive r.step r.reply self.old self.new) }
     {
         let step = self.heaviest(index)?;
-        Some(self.step_with_room(alloc, Step { index, step }, TRIES))
+        let flush = Step { index, step };
+        if let Some(relief) = self.prepare(alloc, flush) {
+            return Some(relief);
+        }
+        Some(self.step_with_room(alloc, flush, TRIES))
     }
 
     /// How many marks stand. It takes no memory.
