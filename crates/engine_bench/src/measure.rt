@@ -98,7 +98,7 @@ pub fn volume_alone<R: Threads + Wait + Clock + Sync>(
     time_all(rt, alloc, volumes.as_mut_slice(), files)
 }
 
-/// A volume that one thread calls, which does two steps after each call.
+/// A volume that one thread calls, which does one step after each call.
 pub fn volume_relieved<R: Threads + Wait + Clock + Sync>(
     rt: &R,
     alloc: Global,

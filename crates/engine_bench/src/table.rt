@@ -19,7 +19,7 @@ const FEW: u64 = 64;
 pub enum Row {
     /// A volume alone.
     Volume,
-    /// A volume alone, with two steps after each call.
+    /// A volume alone, with one step after each call.
     Relieved,
     /// So many threads on a map under a lock.
     Map(usize),
@@ -80,7 +80,7 @@ fn least_of<R: Threads + Wait + Clock + Sync>(
 fn show_name(rt: &impl Print, row: Row) -> anyhow::Result<()> {
     match row {
         Row::Volume => print!(rt; "volume alone: ")?,
-        Row::Relieved => print!(rt; "volume, two steps after each call: ")?,
+        Row::Relieved => print!(rt; "volume, one step after each call: ")?,
         Row::Map(threads) => print!(rt; "map, threads {threads}: ")?,
         Row::Engine(clients, flushers) => {
             print!(rt; "clients {clients}, flushers {flushers}: ")?

@@ -58,10 +58,7 @@ impl Store for Volume {
     }
 }
 
-/// How many steps are done after a call.
-const STEPS: u32 = 2;
-
-/// A volume that does two steps after each call: one alone may move the message that this call sent first, and leave what waits behind it.
+/// A volume that does one step after each call.
 #[derive(Drop)]
 pub struct Relieved {
     /// The volume.
@@ -71,9 +68,7 @@ pub struct Relieved {
 impl Store for Relieved {
     fn is_done<R: Wait>(&mut self, rt: &R, alloc: Global, call: &Call) -> bool {
         let is_done = self.volume.is_done(rt, alloc, call);
-        for _ in 0..STEPS {
-            self.volume.relieve(alloc);
-        }
+        self.volume.relieve(alloc);
         is_done
     }
 }
