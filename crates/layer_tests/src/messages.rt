@@ -328,3 +328,115 @@ fn changes_alone(alloc: Global) -> bool {
 fn takes_messages_at_the_back_and_gives_them_up_at_the_front(rt: HostRuntime) {
     assert!(rt; changes_alone(rt.alloc()));
 }
+
+/// A list that is cut: its messages, how many of the oldest are gone, its low end and the pivot, and what stays and what comes
+/// out.
+struct Parted(
+    &'static [Plain],
+    usize,
+    u8,
+    u8,
+    &'static [Plain],
+    &'static [Plain],
+);
+
+impl Parted {
+    /// Cuts a list of these messages.
+    fn cut(&self, alloc: Global, list: &mut Pending<Digit>) -> Result<Pending<Digit>, NoMemory> {
+        if list.len() < self.1 {
+            return Err(NoMemory);
+        }
+        let lo = key(alloc, self.2)?;
+        let pivot = key(alloc, self.3)?;
+        list.split_off(alloc, self.1, &lo, &pivot)
+    }
+
+    /// Whether both parts are as told.
+    fn parts(&self, alloc: Global, list: &mut Pending<Digit>) -> bool {
+        match self.cut(alloc, list) {
+            Ok(back) => waits(alloc, list, self.4) && waits(alloc, &back, self.5),
+            Err(_) => false,
+        }
+    }
+}
+
+impl Holds for Parted {
+    fn holds(&self, alloc: Global) -> bool {
+        match list_of(alloc, self.0) {
+            Ok(mut list) => self.parts(alloc, &mut list),
+            Err(_) => false,
+        }
+    }
+}
+
+const POINTS: &[Plain] = &[
+    Plain::Put(1, 1),
+    Plain::Edit(3, 3),
+    Plain::Put(5, 5),
+    Plain::Del(7),
+];
+
+const OVER_THE_PIVOT: &[Plain] = &[
+    Plain::Put(1, 1),
+    Plain::DelRange(2, Some(6)),
+    Plain::Put(7, 7),
+];
+
+const PARTED: &[Parted] = &[
+    Parted(
+        POINTS,
+        0,
+        0,
+        4,
+        &[Plain::Put(1, 1), Plain::Edit(3, 3)],
+        &[Plain::Put(5, 5), Plain::Del(7)],
+    ),
+    Parted(
+        POINTS,
+        0,
+        0,
+        5,
+        &[Plain::Put(1, 1), Plain::Edit(3, 3)],
+        &[Plain::Put(5, 5), Plain::Del(7)],
+    ),
+    Parted(
+        POINTS,
+        1,
+        0,
+        4,
+        &[Plain::Edit(3, 3)],
+        &[Plain::Put(5, 5), Plain::Del(7)],
+    ),
+    Parted(POINTS, 3, 0, 4, &[], &[Plain::Del(7)]),
+    Parted(POINTS, 0, 0, 9, POINTS, &[]),
+    Parted(POINTS, 0, 0, 1, &[], POINTS),
+    Parted(
+        POINTS,
+        0,
+        2,
+        4,
+        &[Plain::Edit(3, 3)],
+        &[Plain::Put(5, 5), Plain::Del(7)],
+    ),
+    Parted(
+        OVER_THE_PIVOT,
+        0,
+        0,
+        4,
+        &[Plain::DelRange(2, Some(4)), Plain::Put(1, 1)],
+        &[Plain::DelRange(4, Some(6)), Plain::Put(7, 7)],
+    ),
+    Parted(
+        OVER_THE_PIVOT,
+        1,
+        0,
+        4,
+        &[Plain::Put(1, 1)],
+        &[Plain::Put(7, 7)],
+    ),
+];
+
+#[test]
+fn is_cut_at_a_pivot(rt: HostRuntime) -> Result<(), usize> {
+    all_hold(rt.alloc(), PARTED)
+}
