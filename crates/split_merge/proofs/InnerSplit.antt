@@ -1,5 +1,5 @@
 -- A slot over an inner node cut in two, in the words of its row.
-use Rattle.std.proofs.Common.{◌≡◌, ℕ, suc, ◌+◌, ◌<◌, ◌≤◌, Bool, true, List, [], ◌∷◌, ◌++◌, length, get_or, take, drop, refl, ap, sym, ◌∙◌, subst, arith, cond, Option, Some, None, pred}
+use Rattle.std.proofs.Common.{◌≡◌, ℕ, zero, suc, ◌+◌, ◌<◌, ◌≤◌, Bool, true, List, [], ◌∷◌, ◌++◌, length, get_or, take, drop, refl, ap, sym, ◌∙◌, subst, arith, cond, Option, Some, None, pred}
 use Rattle.std.proofs.Math.ListN.{set}
 use Rattle.std.specs.List.{insert}
 use Rattle.pathkey.specs.Keys.{is_below}
@@ -20,10 +20,12 @@ use Rattle.node.specs.StepRows.{ranges_first, CanPart, CannotPart}
 use Rattle.node.specs.Site.{joined, slots_from}
 use Rattle.node.specs.Sinks.{first_lo, Sinks}
 use Rattle.node.specs.Steps.{Formed, Replies}
-use Rattle.node.proofs.StepDone.{replies_did, slots-insert}
+use Rattle.node.proofs.StepDone.{replies_did}
 use Rattle.node.proofs.Parting.{Parted, pieces-apart, parted_pieces, parted_lawful, parted_sinks}
 use Rattle.node.proofs.Splice.{IsMore, slots-split, slot_count-take, slots_from-joined, slot_count-joined, pending-joined, lawful-split, slots_value-joined, counted-more}
-use Rattle.split_merge.specs.Halves.{IsHalved}
+use Rattle.node.specs.Cutting.{IsCutAt}
+use Rattle.split_merge.specs.declared.split.Halves.{Halves}
+use Rattle.split_merge.specs.Halves.{AreHalves}
 use Rattle.split_merge.proofs.Splittable.{can_part}
 
 module _ {U V : Type 0} where
@@ -129,12 +131,21 @@ module _ {U V : Type 0} where
   first_lo-get [] d h = absurd (omega arith)
   first_lo-get (x ∷ xs) d h = refl
 
-  -- likewise for the slots as the code writes them
-  pub halved : (means : U → Option V → Option V) (shape : Shape) (root : Bool) (i : ℕ) (xs : List (Slot U V)) (s l r : Slot U V) → i < length xs → s ≡ get_or xs i s → IsHalved means s l r → Replies means SplitInner shape root i (Did 0) (seen_slots xs) (seen_slots (set (insert xs (suc i) r) i l))
-  halved means shape root i xs s l r h e p =
+  -- the slots with one cut in place and what was cut off behind it
+  slots-cut : (xs : List (Slot U V)) (i : ℕ) (l r : Slot U V) → i < length xs → seen_slots (insert (set xs i l) (suc i) r) ≡ joined (seen_slots (take i xs)) (more l.lo l.pending.0 l.child.value (more r.lo r.pending.0 r.child.value (seen_slots (drop (suc i) xs))))
+  slots-cut [] i l r h = absurd (omega arith)
+  slots-cut (x ∷ xs) zero l r h = refl
+  slots-cut (x ∷ xs) (suc i) l r h = ap (more x.lo x.pending.0 x.child.value) (slots-cut xs i l r (omega arith))
+
+  -- likewise for the slots as the code writes them: the child is cut in halves, and its slot at the pivot between them
+  pub halved : (means : U → Option V → Option V) (shape : Shape) (root : Bool) (i : ℕ) (xs : List (Slot U V)) (halves : Halves U V) (s l r : Slot U V) → i < length xs → s ≡ get_or xs i s → AreHalves s.child.value halves → IsCutAt means 0 halves.pivot halves.left.value halves.right.value s l r → Replies means SplitInner shape root i (Did 0) (seen_slots xs) (seen_slots (insert (set xs i l) (suc i) r))
+  halved means shape root i xs halves s l r h e p c =
       let b = seen_slots (take i xs) in
       let a = seen_slots (drop (suc i) xs) in
+      let new = seen_slots (insert (set xs i l) (suc i) r) in
       let was : seen_slots xs ≡ joined b (more s.lo s.pending.0 (inner (joined p.left p.right)) a) = slots-split xs i s h ∙ ap (λ (x : Slot U V). joined b (more x.lo x.pending.0 x.child.value a)) (sym e) ∙ ap (λ z. joined b (more s.lo s.pending.0 z a)) p.was in
-      let is : seen_slots (set (insert xs (suc i) r) i l) ≡ joined b (more s.lo l.pending.0 (inner p.left) (more (first_lo p.right) r.pending.0 (inner p.right) a)) = slots-insert xs i l r h ∙ (λ j. joined b (more (p.left_lo j) l.pending.0 (p.left_is j) (more (p.right_lo j) r.pending.0 (p.right_is j) a))) in
-      let core = did means shape s.lo s.pending.0 l.pending.0 r.pending.0 p.left p.right (counted-more p.left p.some_left) (counted-more p.right p.some_right) p.left_msgs p.right_msgs root i b a (slot_count-take xs i (omega arith)) p.some_left p.some_right in
-      subst (λ z. Replies means SplitInner shape root i (Did 0) z (seen_slots (set (insert xs (suc i) r) i l))) (sym was) (subst (λ z. Replies means SplitInner shape root i (Did 0) (joined b (more s.lo s.pending.0 (inner (joined p.left p.right)) a)) z) (sym is) core)
+      let is : new ≡ joined b (more s.lo l.pending.0 (inner p.left) (more (first_lo p.right) r.pending.0 (inner p.right) a)) = slots-cut xs i l r h ∙ (λ j. joined b (more (c.left_lo j) l.pending.0 ((c.left_is ∙ p.left_is) j) (more ((c.right_lo ∙ p.pivot_is) j) r.pending.0 ((c.right_is ∙ p.right_is) j) a))) in
+      let left_msgs = subst (λ z. Takes means [] (pieces s.lo (Some z) s.pending.0) l.pending.0) p.pivot_is c.left_msgs in
+      let right_msgs = subst (λ z. Takes means [] (pieces z None s.pending.0) r.pending.0) p.pivot_is c.right_msgs in
+      let core = did means shape s.lo s.pending.0 l.pending.0 r.pending.0 p.left p.right (counted-more p.left p.some_left) (counted-more p.right p.some_right) left_msgs right_msgs root i b a (slot_count-take xs i (omega arith)) p.some_left p.some_right in
+      subst (λ z. Replies means SplitInner shape root i (Did 0) z new) (sym was) (subst (λ z. Replies means SplitInner shape root i (Did 0) (joined b (more s.lo s.pending.0 (inner (joined p.left p.right)) a)) z) (sym is) core)

@@ -6,15 +6,24 @@ ghost use Rattle.node.specs.StepRows.{is_divisible as is_divided};
 ghost use Rattle.node.specs.See.{seen_slots};
 ghost use Rattle.node.specs.Steps.{Answers};
 ghost use Rattle.node.specs.declared.step.StepKind.TheVariants.{SplitInner};
-ghost use Rattle.split_merge.specs.Halves.{IsHalved, HalvedOr};
+ghost use Rattle.split_merge.specs.Halves.{HalvesOf};
 
-use message::Update;
+use message::{Changes, Update};
 use node::copy::copy_slots;
 use node::count::can_part;
+use node::cut::cut_slot;
 use node::{Body, Change, Node, Place, Shape, Slot, StepReply, Tree};
 use pathkey::{Key, NoMemory};
 use std::alloc::Global;
 use std::sync::Arc;
+
+/// The halves of an inner node, and the pivot between them.
+#[derive(Drop)]
+struct Halves<U: Changes> {
+    pivot: Key,
+    left: Arc<Node<U>>,
+    right: Arc<Node<U>>,
+}
 
 /// A node over copies of the slots, which share the children.
 fn node_over<U: Update>(alloc: Global, slots: &[Slot<U>]) -> Result<Arc<Node<U>>, NoMemory>
@@ -24,31 +33,23 @@ fn node_over<U: Update>(alloc: Global, slots: &[Slot<U>]) -> Result<Arc<Node<U>>
     Ok(Arc::new(alloc, Node::of(body))?)
 }
 
-/// The slot in two, where its child is an inner node with two slots or more.
-fn halves<U: Update>(alloc: Global, slot: &Slot<U>) -> Result<Option<(Slot<U>, Slot<U>)>, NoMemory>
-    ensures { IfOk result (HalvedOr U.means slot.now) }
+/// The halves of a node, where it is an inner node with two slots or more.
+fn halve<U: Update>(alloc: Global, node: &Node<U>) -> Result<Option<Halves<U>>, NoMemory>
+    ensures { IfOk result (HalvesOf node.now) }
 {
-    let child: &Node<U> = &slot.child;
-    let Body::Inner(below) = child.body() else {
+    let Body::Inner(slots) = node.body() else {
         return Ok(None);
     };
-    let half = below.len() / 2;
+    let half = slots.len() / 2;
     if half == 0 {
         return Ok(None);
     }
-    let (first, second) = below.as_slice().split_at(half);
-    let pivot = &second[0].lo;
-    let left = Slot {
-        lo: slot.lo.copy(alloc)?,
-        pending: slot.pending.copy_between(alloc, 0, &slot.lo, Some(pivot))?,
-        child: node_over(alloc, first)?,
-    };
-    let right = Slot {
-        lo: pivot.copy(alloc)?,
-        pending: slot.pending.copy_between(alloc, 0, pivot, None)?,
-        child: node_over(alloc, second)?,
-    };
-    Ok(Some((left, right)))
+    let (first, second) = slots.as_slice().split_at(half);
+    Ok(Some(Halves {
+        pivot: second[0].lo.copy(alloc)?,
+        left: node_over(alloc, first)?,
+        right: node_over(alloc, second)?,
+    }))
 }
 
 /// Whether the node is an inner one with two slots or more.
@@ -94,16 +95,21 @@ impl<U: Update> Change<U> for InnerSplit {
         if i >= slots.len() {
             return StepReply::NotThere;
         }
-        let Ok(parts) = halves(alloc, &slots[i]) else {
+        let Ok(halves) = halve(alloc, &slots[i].child) else {
             return StepReply::NoMemory;
         };
-        let Some((left, right)) = parts else {
+        let Some(Halves { pivot, left, right }) = halves else {
             return StepReply::NotThere;
         };
-        if slots.insert(i + 1, right).is_err() {
+        if slots.reserve(1).is_err() {
             return StepReply::NoMemory;
         }
-        slots[i] = left;
+        let Ok(back) = cut_slot(alloc, &mut slots[i], 0, pivot, left, right) else {
+            return StepReply::NoMemory;
+        };
+        let Ok(()) = slots.insert(i + 1, back) else {
+            unreachable!()
+        };
         StepReply::Did(0)
     }
 }
