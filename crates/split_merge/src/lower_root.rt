@@ -3,34 +3,36 @@ ghost use Rattle.std.specs.Prelude.{◌≡◌, IfOk, IfErr};
 ghost use Rattle.node.specs.Appended.{IsAppended};
 ghost use Rattle.node.specs.Pure.{inner};
 ghost use Rattle.node.specs.RootSteps.{AnswersDown};
+ghost use Rattle.node.specs.Searchable.{IsRoot};
 ghost use Rattle.node.specs.See.{seen_slots};
-ghost use Rattle.split_merge.specs.Lowered.{Lowered, Stays};
+ghost use Rattle.split_merge.specs.Lowered.{CanLower, Lowered, Stays};
 
 use message::{Pending, Update};
-use node::append::append_copies;
 use node::copy::copy_slots;
 use node::{Body, Node, Slot, StepReply, Tree};
 use pathkey::NoMemory;
 use std::alloc::Global;
 use std::sync::Arc;
 
-/// A node over copies of the slots, which share the children, with copies of the list's messages behind what waits in them.
+/// A root over copies of the slots, which share the children, with copies of the list's messages behind what waits in them.
 fn appended<U: Update>(
     alloc: Global,
     slots: &[Slot<U>],
     list: &Pending<U>,
 ) -> Result<Arc<Node<U>>, NoMemory>
+    requires { IsRoot (inner (seen_slots slots.now)) }
     ensures { IfOk result (λ n. IsAppended U.means list.now.0 (inner (seen_slots slots.now)) n.value) }
 {
-    let mut grown = copy_slots(alloc, slots)?;
+    let mut root = Node::of(Body::Inner(copy_slots(alloc, slots)?));
     let msgs = list.copy_front(alloc, list.len())?;
-    append_copies(alloc, grown.as_mut_slice(), msgs.as_slice())?;
-    let body = Body::Inner(grown);
-    Ok(Arc::new(alloc, Node::of(body))?)
+    root.append_kept(alloc, msgs, &[])?;
+    root.weigh();
+    Ok(Arc::new(alloc, root)?)
 }
 
 /// The root's only child with the root's messages, or why there is none.
 fn lowered<U: Update>(alloc: Global, root: &Node<U>) -> Result<Arc<Node<U>>, StepReply>
+    requires { CanLower root.now }
     ensures ok { IfOk result (λ n. Lowered U.means root.now n.value) }
     ensures err { IfErr result (λ e. Stays e root.now) }
 {
