@@ -258,10 +258,10 @@ live_same s r a b is = both r (λ e m. same_live a b e (is.marks ∙ m)) (step_s
 
 -- so they are where the reply is not that it was done
 pub undone_same : (s : Step) (r : StepReply) (a b : PLive) → StepsLive s r a b → ((n : ℕ) → r ≡ Did n → ⊥) → b ≡ a
-undone_same s (Did n) a b is no = absurd (no n refl)
-undone_same s StepNotThere a b is no = live_same s StepNotThere a b is
-undone_same s StepNoRoom a b is no = live_same s StepNoRoom a b is
-undone_same s StepNoMemory a b is no = live_same s StepNoMemory a b is
+undone_same s (Did n) a b is undone = absurd (undone n refl)
+undone_same s StepNotThere a b is undone = live_same s StepNotThere a b is
+undone_same s StepNoRoom a b is undone = live_same s StepNoRoom a b is
+undone_same s StepNoMemory a b is undone = live_same s StepNoMemory a b is
 
 -- a step after one that had no room
 pub stepped_after : (s t : Step) (r q : StepReply) (a b d : PLive) → r ≡ StepNoRoom → StepsLive s r a b → StepsLive t q b d → StepsLive t q a d
