@@ -347,7 +347,7 @@ fn runs_of_small_nodes_answer_as_the_plain_program(rt: HostRuntime) {
 
 #[test]
 fn runs_of_wider_nodes_answer_as_the_plain_program(rt: HostRuntime) {
-    let seen = see(rt.alloc(), 18, WIDER);
+    let seen = see(rt.alloc(), 21, WIDER);
     assert!(rt; is_enough(&seen, 10), "{seen:?}");
 }
 
