@@ -48,7 +48,7 @@ WITH_BLOCKS = (*WITH_FILES, "create /b", *(f"write /b {number * 4_096} {number +
 # Steps without lines that change anything.
 REST = ("stat /",)
 # The same with a tree of the blocks of two levels, of which jobs can be taken; and with leaves of blocks that are nearly empty.
-WITH_SETTLED_BLOCKS = (*WITH_BLOCKS, *REST * 300)
+WITH_SETTLED_BLOCKS = (*WITH_BLOCKS, *(f"write /b {number * 4_096} {number % 250 + 1:02x}" for number in range(120, 300)), *REST * 600)
 # A covered subtree waits.
 WITH_COVERED = (*WITH_SETTLED_BLOCKS, "rmtree /e")
 WITH_DEEP_BLOCKS = (*WITH_SETTLED_BLOCKS, *(f"write /b {number * 4_096} 61" for number in range(120)))
@@ -168,7 +168,7 @@ SCRIPT = (
 STEPS = (
     ("meta", "flush_inner", WITH_BLOCKS, "-", "0"),
     ("block", "flush_inner", WITH_DEEP_BLOCKS, "-", "0"),
-    ("block", "flush_leaf", WITH_BLOCKS, "2", "1"),
+    ("block", "flush_leaf", WITH_BLOCKS, "-", "0"),
     ("meta", "split_inner", WITH_BLOCKS, "-", "1"),
     ("block", "merge_leaves", WITH_FEW_BLOCKS, "000", "0"),
     ("meta", "merge_inner", WITH_BLOCKS, "0", "0"),
@@ -176,7 +176,7 @@ STEPS = (
     ("block", "root_up", WITH_SETTLED_BLOCKS, "-", "0"),
     ("meta", "root_down", WITH_BLOCKS, "-", "0"),
     ("block", "root_down", WITH_DEEP_BLOCKS, "-", "0"),
-    ("meta", "drop_covered", WITH_COVERED, "-", "1"),
+    ("meta", "drop_covered", WITH_COVERED, "1", "0"),
 )
 # The same of a tree that shares its nodes.
 TREE_STEPS = (("flush_inner", "-", "0"), ("split_inner", "-", "1"), ("merge_inner", "0", "0"), ("root_up", "-", "0"))
@@ -267,8 +267,8 @@ def steps():
             yield Scene("steps", ("step", index, kind, "-", "200"), WITH_BLOCKS, free=True, wanted="not there")
     for kind, at, slot in TREE_STEPS:
         yield Scene("trees", ("tree", "step", kind, at, slot), WITH_BLOCKS, wanted="did")
-    yield Scene("trees", ("tree", "step", "drop_covered", "-", "1"), WITH_COVERED, wanted="did")
-    yield Scene("steps", ("relieve",), WITH_FILES, wanted="did")
+    yield Scene("trees", ("tree", "step", "drop_covered", "1", "0"), WITH_COVERED, wanted="did")
+    yield Scene("steps", ("relieve",), BASE, wanted="did")
     yield Scene("steps", ("relieve",), WITH_BLOCKS, wanted="did")
     for name in ("append", "share", "relieve"):
         yield Scene("trees", ("tree", name), WITH_FILES)
