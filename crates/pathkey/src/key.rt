@@ -102,6 +102,13 @@ impl Key {
         self.bytes.as_slice()
     }
 
+    /// The first eight bytes as one number, with zeros behind fewer: of two keys the one with the less head stands first.
+    pub fn head(&self) -> u64
+        ensures { IsHeaded result self.now }
+    {
+        self.head
+    }
+
     /// An equal key.
     pub fn copy(&self, alloc: Global) -> Result<Key, NoMemory>
         ensures { IfOk result (λ k. k ≡ self.now) }
