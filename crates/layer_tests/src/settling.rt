@@ -95,15 +95,20 @@ fn fill_and_settle(alloc: Global, tree: &mut Tree<Digit>, ranges: u32) -> bool {
     settle(alloc, tree)
 }
 
+/// An empty tree with so many slots, pending pieces and entries.
+fn tree_of(alloc: Global, limits: [u16; 3]) -> Result<Tree<Digit>, NoMemory> {
+    let [fanout, pending, leaf] = limits;
+    let shape = Shape {
+        fanout,
+        pending,
+        leaf,
+    };
+    new_tree(alloc, shape)
+}
+
 impl Holds for Course {
     fn holds(&self, alloc: Global) -> bool {
-        let [fanout, pending, leaf] = self.0;
-        let shape = Shape {
-            fanout,
-            pending,
-            leaf,
-        };
-        match new_tree(alloc, shape) {
+        match tree_of(alloc, self.0) {
             Ok(mut tree) => fill_and_settle(alloc, &mut tree, self.1),
             Err(_) => false,
         }
@@ -175,13 +180,7 @@ impl Touched {
 
 impl Holds for Touched {
     fn holds(&self, alloc: Global) -> bool {
-        let [fanout, pending, leaf] = self.0;
-        let shape = Shape {
-            fanout,
-            pending,
-            leaf,
-        };
-        match new_tree(alloc, shape) {
+        match tree_of(alloc, self.0) {
             Ok(mut tree) => self.stays_light(alloc, &mut tree),
             Err(_) => false,
         }

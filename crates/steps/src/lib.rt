@@ -79,7 +79,7 @@ fn prepare<U: Update>(alloc: Global, tree: &mut Tree<U>, flush: TreeStep) -> Opt
 /// Flushes the heaviest slot or, where its flush has no room, does what makes room for it; `None` where nothing is
 /// pending. Where a full leaf could not be cut, since its node has all slots that it may have, the node is parted first.
 ///
-/// The reply is `NoRoom` only where no step that makes room was found.
+/// The reply is `NoRoom` only where no step that makes room was found, or where [`TRIES`] of them had none either.
 pub fn relieve<U: Update>(alloc: Global, tree: &mut Tree<U>) -> Option<Turn>
     ensures nothing { (result ≡ None) ↔ (total Pending tree.old.root ≡ 0) }
     ensures unchanged { IfNone result (tree.new ≡ tree.old) }
