@@ -75,7 +75,7 @@ module _ {U V : Type 0} where
   pieces-out lo hi [] h = refl
   pieces-out lo hi (m ∷ ms) h = ap (λ o. option_to_list o ++ pieces lo hi ms) h.0 ∙ pieces-out lo hi ms h.1
 
-  pieces-append : (lo : List ℕ) (hi : Option (List ℕ)) (xs ys : List (Msg U V)) → pieces lo hi (xs ++ ys) ≡ pieces lo hi xs ++ pieces lo hi ys
+  pub pieces-append : (lo : List ℕ) (hi : Option (List ℕ)) (xs ys : List (Msg U V)) → pieces lo hi (xs ++ ys) ≡ pieces lo hi xs ++ pieces lo hi ys
   pieces-append lo hi [] ys = refl
   pieces-append lo hi (m ∷ xs) ys = ap (λ t. option_to_list (cut_to lo hi m) ++ t) (pieces-append lo hi xs ys) ∙ sym (append_assoc (option_to_list (cut_to lo hi m)) (pieces lo hi xs) (pieces lo hi ys))
 

@@ -13,6 +13,7 @@ use Rattle.message.specs.declared.msg.Msg.TheVariants.{Put, Del, DelRange, Edit}
 use Rattle.message.specs.Ranges.{reaches, before, within}
 use Rattle.message.specs.Effects.{touches, point}
 use Rattle.message.specs.Cuts.{cut_to, pieces}
+use Rattle.message.proofs.Parting.{pieces-append}
 use Rattle.message.proofs.KeyOrder.{le_le, both, from_start, before_from_not_reaches, not_before_from_reaches, reaches-from_before}
 use Rattle.node.specs.declared.node.Slot.{Slot}
 use Rattle.node.specs.declared.shape.Shape.{Shape}
@@ -41,9 +42,6 @@ from : {lo : List ℕ} → lo ≡ [] → (q : List ℕ) → within lo None q ≡
 from e q = ap (λ x. reaches x q && true) e ∙ ap (λ b. b && true) (from_start q)
 
 module _ {U V : Type 0} where
-  pub pieces-append : (lo : List ℕ) (hi : Option (List ℕ)) (xs ys : List (Msg U V)) → pieces lo hi (xs ++ ys) ≡ pieces lo hi xs ++ pieces lo hi ys
-  pieces-append lo hi [] ys = refl
-  pieces-append lo hi (x ∷ xs) ys = ap (λ z. option_to_list (cut_to lo hi x) ++ z) (pieces-append lo hi xs ys) ∙ sym (append_assoc (option_to_list (cut_to lo hi x)) (pieces lo hi xs) (pieces lo hi ys))
 
   -- one message more
   pub placed-parts : (hi : Option (List ℕ)) (ms : List (Msg U V)) (m : Msg U V) (ss : PSlots U V) → placed hi m ss (parts hi ms ss) ≡ parts hi (ms ++ m ∷ []) ss

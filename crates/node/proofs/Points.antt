@@ -18,7 +18,7 @@ use Rattle.node.specs.Pure.{PSlots, inner, none, more, slots}
 use Rattle.node.specs.Searchable.{AreRising, HasRoomAt, IsRoot}
 use Rattle.node.specs.See.{see_slot, seen_slots}
 use Rattle.node.proofs.Appending.{next_lo-taken, starts_at-taken}
-use Rattle.node.proofs.Placing.{pieces-append}
+use Rattle.message.proofs.Parting.{pieces-append}
 use Rattle.node.proofs.Wholes.{at_slot, room-get, room-set, kept-at, kept-none, taken-at, taken-none}
 
 -- ---- one slot gets another list
