@@ -19,6 +19,7 @@ use std::alloc::Global;
 
 pub mod laws;
 mod leaf;
+mod merge;
 pub mod piecewise;
 mod search;
 mod slot;
