@@ -1,13 +1,11 @@
 -- A pending list laid over pairs from below.
-use Rattle.std.proofs.Common.{◌≡◌, ℕ, zero, suc, ◌+◌, ◌-◌, ◌<◌, ◌≤◌, ◌⊎◌, inl, inr, ⊎_elim, ◌++◌, true, false, List, [], ◌∷◌, length, length-append, get_or, append-nil, refl, ap, sym, ◌∙◌, subst, Option, Some, None, cond, arith, Bor}
+use Rattle.std.proofs.Common.{◌≡◌, ℕ, ◌+◌, ◌-◌, ◌<◌, ◌≤◌, ◌⊎◌, inl, inr, ⊎_elim, ◌++◌, true, false, List, [], ◌∷◌, length, get_or, append-nil, refl, ap, sym, ◌∙◌, subst, Option, Some, None, cond, arith, Bor}
 use Rattle.std.specs.Prelude.{All, Contains, IfSome, IfNone}
 use Rattle.std.specs.Option.{option_to_list, option_copied, is_some}
 use Rattle.std.proofs.lemmas.Bool.{cases_order}
 use Rattle.std.proofs.lemmas.List.{get_or_default}
-use Rattle.std.proofs.lemmas.List.Elements.{All-nil}
 use Rattle.pathkey.specs.Keys.{is_below, next_key}
 use Rattle.message.specs.declared.msg.Msg.{Msg}
-use Rattle.message.specs.Effects.{effects}
 use Rattle.message.specs.PointKeys.{has_point, is_cleared, IsNextPoint}
 use Rattle.message.specs.Ranges.{reaches, before, within}
 use Rattle.message.specs.Stretches.{all_ends}

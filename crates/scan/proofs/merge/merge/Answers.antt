@@ -1,4 +1,4 @@
-use Rattle.std.proofs.Common.{◌≡◌, ◌<◌, ◌+◌, arith, ap, refl, sym, subst, ◌∙◌, length, true, Some, None}
+use Rattle.std.proofs.Common.{◌≡◌, ◌<◌, arith, ap, sym, subst, length, true, Some, None}
 use Rattle.std.specs.Option.{option_copied}
 use Rattle.pathkey.specs.Keys.{is_below, next_key}
 use Rattle.message.specs.PointKeys.{IsNextPoint}

@@ -1,4 +1,4 @@
-use Rattle.std.proofs.Common.{◌≡◌, ◌+◌, ◌++◌, ◌∷◌, [], arith, ap, refl, sym, subst, ◌∙◌, length, length-append}
+use Rattle.std.proofs.Common.{◌∷◌, [], arith, ap, refl, sym, subst, length, length-append}
 use Rattle.std.specs.Option.{option_copied}
 use Rattle.scan.specs.Merging.{IsMoved}
 use Rattle.scan.proofs.Merging.{moving_start, moving_on, moving_full, moving_over}

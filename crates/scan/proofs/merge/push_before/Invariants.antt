@@ -1,6 +1,5 @@
-use Rattle.std.proofs.Common.{◌≡◌, ◌+◌, ℕ, List, Option, length, true}
+use Rattle.std.proofs.Common.{◌≡◌, ◌+◌, ℕ, List, Option, length}
 use Rattle.std.specs.Option.{option_copied}
-use Rattle.pathkey.specs.Keys.{is_below}
 use Rattle.scan.specs.Merging.{AreAll}
 use Rattle.scan.proofs.Merging.{IsMoving}
 use Rattle.scan.proofs.merge.push_before.Given as goal
