@@ -24,7 +24,7 @@ module _ {U V : Type 0} where
   count_run k (Edit u) ms = refl
   count_run k (Edits s) ms = count_later k s.value.more.items ms
 
-  count_points : (es : List (List ℕ × Run U V)) → range_count (point_msgs es) ≡ 0
+  pub count_points : (es : List (List ℕ × Run U V)) → range_count (point_msgs es) ≡ 0
   count_points [] = refl
   count_points (e ∷ es) = count_run e.0 e.1 (point_msgs es) ∙ count_points es
 

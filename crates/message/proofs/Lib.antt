@@ -21,3 +21,4 @@ pub mod Parting
 pub mod StretchEnds
 pub mod Searching
 pub mod SortedStretches
+pub mod PointKeys

@@ -91,7 +91,7 @@ behind_above from (e ∷ es) = split_bool (before from e.0)
 
 -- ---- keys outside a stretch
 
-outside_key : (from : List ℕ) (stop : Option (List ℕ)) (q k : List ℕ) → within from stop q ≡ false → within from stop k ≡ true → same q k ≡ false
+pub outside_key : (from : List ℕ) (stop : Option (List ℕ)) (q k : List ℕ) → within from stop q ≡ false → within from stop k ≡ true → same q k ≡ false
 outside_key from stop q k out h = false_from_ne_true (same q k) (λ s. let one : q ≡ k = same_true q k s in absurd (let hit : within from stop q ≡ true = ap (within from stop) one ∙ h in cc))
 
 not_before_itself : (x : List ℕ) → before x x ≡ false

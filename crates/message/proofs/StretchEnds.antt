@@ -191,7 +191,7 @@ module _ {U V : Type 0} where
   stretch_all ms i from end stop new h x is = subst (IsStretch ms from end) (sym is) (subst (λ (xs : List (Msg U V)). IsStretch xs from end stop) (take_all i ms h) x)
 
   -- the key behind one that a message is for alone is an end
-  next_is_end : (m : Msg U V) (k : List ℕ) → is_for m k ≡ true → Contains (ends_of m) (next_key k)
+  pub next_is_end : (m : Msg U V) (k : List ℕ) → is_for m k ≡ true → Contains (ends_of m) (next_key k)
   next_is_end (Put q v) k e = (1, omega arith, ap next_key (same_true q k e))
   next_is_end (Del q) k e = (1, omega arith, ap next_key (same_true q k e))
   next_is_end (DelRange r) k e = (cc)

@@ -6,6 +6,7 @@ pub mod Settled
 pub mod Oldest
 pub mod Told
 pub mod Stretches
+pub mod PointKeys
 pub mod Search
 pub mod Oldests
 pub mod Eldest

@@ -3,8 +3,9 @@ ghost use Rattle.std.specs.Prelude.{◌≡◌, ◌≤◌, ◌++◌, length, IfOk
 ghost use Rattle.std.specs.Option.{option_copied};
 ghost use Rattle.message.specs.Cuts.{pieces};
 ghost use Rattle.message.specs.Effects.{any_touches, effects, range_count};
+ghost use Rattle.message.specs.PointKeys.{is_cleared};
 
-use crate::msg::{Msg, touches};
+use crate::msg::{Msg, clears, touches};
 use crate::update::Update;
 use pathkey::{Key, NoMemory};
 use std::alloc::Global;
@@ -17,6 +18,16 @@ pub(crate) fn is_touched<U: Update>(msgs: &[Msg<U>], key: &Key) -> bool
         return false;
     };
     touches(msg, key) || is_touched(rest, key)
+}
+
+/// Whether a range-delete among the messages holds the key.
+pub(crate) fn is_cleared<U: Update>(msgs: &[Msg<U>], key: &Key) -> bool
+    ensures { result ≡ is_cleared msgs.now key.now }
+{
+    let Some((msg, rest)) = msgs.split_first() else {
+        return false;
+    };
+    clears(msg, key) || is_cleared(rest, key)
 }
 
 /// How many of the messages are range-deletes.

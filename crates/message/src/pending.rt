@@ -10,11 +10,13 @@ ghost use Rattle.message.specs.Cuts.{pieces};
 ghost use Rattle.message.specs.Effects.{effects, range_count, Takes};
 ghost use Rattle.message.specs.Eldest.{eldest_msg};
 ghost use Rattle.message.specs.Oldest.{first_point, first_put, first_given, meets_first, covers_first};
+ghost use Rattle.message.specs.PointKeys.{is_cleared, IsNextPoint, IsClearStretch};
 ghost use Rattle.message.specs.Stretches.{IsStretch};
 ghost use Rattle.message.specs.Told.{IsTold};
 ghost use Rattle.pathkey.specs.Keys.{is_below};
 
 use crate::eldest::Eldest;
+use crate::ends::is_before_end;
 use crate::list::pieces_of;
 use crate::msg::Msg;
 use crate::sorted::Sorted;
@@ -388,6 +390,41 @@ impl<U: Update> Pending<U> {
             None => Ok(Some(from.next(alloc)?)),
             Some(stop) => self.fresh.stretch_stop(alloc, from, stop),
         }
+    }
+
+    /// The first key from `from` up to and without `end` that has a message for it alone, if there is one.
+    pub fn next_point<'a>(&'a self, from: &'a Key, end: Option<&'a Key>) -> Option<&'a Key>
+        ensures { IsNextPoint self.now.0 from.now (option_copied end.entry) (option_copied result) }
+    {
+        let stop = self.sorted.next_point(from, end);
+        let Some(key) = self.fresh.next_point(from, stop) else {
+            return None;
+        };
+        if !is_before_end(key, end) {
+            return None;
+        }
+        Some(key)
+    }
+
+    /// Whether a range-delete holds the key: then no older value is left there.
+    pub fn is_cleared(&self, key: &Key) -> bool
+        ensures { result ≡ is_cleared self.now.0 key.now }
+    {
+        self.sorted.is_cleared(key) || self.fresh.is_cleared(key)
+    }
+
+    /// Up to where the range-deletes hold all keys from `from` on, or none: at `end` or before it.
+    pub fn cleared_end(
+        &self,
+        alloc: Global,
+        from: &Key,
+        end: Option<&Key>,
+    ) -> Result<Option<Key>, NoMemory>
+        requires { is_below from.now (option_copied end) ≡ true }
+        ensures { IfOk result (λ stop. IsClearStretch self.now.0 from.now (option_copied end.entry) stop) }
+    {
+        let stop = self.sorted.cleared_end(from, end);
+        self.fresh.stretch_stop(alloc, from, stop)
     }
 }
 

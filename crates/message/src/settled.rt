@@ -7,6 +7,7 @@ ghost use Rattle.message.specs.Effects.{effects, range_count, Takes};
 ghost use Rattle.message.specs.Eldest.{eldest_msg};
 ghost use Rattle.std.specs.List.{slice_get};
 ghost use Rattle.message.specs.Oldests.{oldest_msgs, IsOldestKeyed};
+ghost use Rattle.message.specs.PointKeys.{is_cleared, IsPointStop, IsClearStretch};
 ghost use Rattle.message.specs.Stretches.{EndsAhead};
 ghost use Rattle.message.specs.Told.{IsTold};
 ghost use Rattle.pathkey.specs.Keys.{is_below};
@@ -231,6 +232,34 @@ impl<U: Update> Settled<U> {
         }
         let stop = ranges::stretch_end::<U>(&self.ranges, from, end);
         Some(points::stretch_end(&self.points, from, stop))
+    }
+
+    /// The first key from `from` on that has a message for it alone, if it stands before `end`; else `end`.
+    pub(crate) fn next_point<'a>(&'a self, from: &'a Key, end: Option<&'a Key>) -> Option<&'a Key>
+        ensures { IsPointStop self.now from.now (option_copied end.entry) (option_copied result) }
+    {
+        if !is_before_end(from, end) {
+            return end;
+        }
+        if points::run_at(&self.points, from).is_some() {
+            return Some(from);
+        }
+        points::stretch_end(&self.points, from, end)
+    }
+
+    /// Whether a range-delete holds the key.
+    pub(crate) fn is_cleared(&self, key: &Key) -> bool
+        ensures { result ≡ is_cleared self.now key.now }
+    {
+        ranges::is_covered(&self.ranges, key)
+    }
+
+    /// Up to where the range-deletes hold all keys from `from` on, or none: at `end` or before it.
+    pub(crate) fn cleared_end<'a>(&'a self, from: &Key, end: Option<&'a Key>) -> Option<&'a Key>
+        requires { is_below from.now (option_copied end) ≡ true }
+        ensures { IsClearStretch self.now from.now (option_copied end.entry) (option_copied result) }
+    {
+        ranges::stretch_end::<U>(&self.ranges, from, end)
     }
 
     /// The value at the key after the messages, where `old` was there.

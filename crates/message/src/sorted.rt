@@ -5,6 +5,7 @@ ghost use Rattle.std.specs.List.{slice_get};
 ghost use Rattle.message.specs.Cuts.{IsParted};
 ghost use Rattle.message.specs.Effects.{effects, any_touches, range_count, Takes};
 ghost use Rattle.message.specs.Eldest.{eldest_msg};
+ghost use Rattle.message.specs.PointKeys.{is_cleared, IsPointStop, IsClearStretch};
 ghost use Rattle.message.specs.Stretches.{EndsAhead};
 ghost use Rattle.message.specs.Told.{IsTold};
 ghost use Rattle.pathkey.specs.Keys.{is_below};
@@ -16,7 +17,7 @@ use crate::ends::earlier;
 use crate::msg::Msg;
 use crate::run::{Run, Several};
 use crate::settled::{MOST, Oldest, Settled};
-use crate::stretch::ahead_of;
+use crate::stretch::{ahead_of, point_stop};
 use crate::told::Told;
 use crate::update::{Changes, Update};
 use pathkey::{Key, NoMemory};
@@ -144,6 +145,29 @@ impl<U: Update> Sorted<U> {
         }
     }
 
+    /// The first key from `from` on that has a message for it alone, if it stands before `end`; else `end`.
+    pub(crate) fn next_point<'a>(&'a self, from: &'a Key, end: Option<&'a Key>) -> Option<&'a Key>
+        ensures { IsPointStop self.now from.now (option_copied end.entry) (option_copied result) }
+    {
+        let stop = left_stop(&self.front, from, end);
+        self.rest.next_point(from, stop)
+    }
+
+    /// Whether a range-delete holds the key.
+    pub(crate) fn is_cleared(&self, key: &Key) -> bool
+        ensures { result ≡ is_cleared self.now key.now }
+    {
+        self.rest.is_cleared(key)
+    }
+
+    /// Up to where the range-deletes hold all keys from `from` on, or none: at `end` or before it.
+    pub(crate) fn cleared_end<'a>(&'a self, from: &Key, end: Option<&'a Key>) -> Option<&'a Key>
+        requires { is_below from.now (option_copied end) ≡ true }
+        ensures { IsClearStretch self.now from.now (option_copied end.entry) (option_copied result) }
+    {
+        self.rest.cleared_end(from, end)
+    }
+
     /// Takes the `count` oldest messages away.
     pub(crate) fn drop_front(&mut self, count: usize)
         requires { count ≤ length self.old }
@@ -228,6 +252,20 @@ fn is_at<U: Update>(front: &Option<(Key, Box<Several<U>>)>, key: &Key) -> bool
     match front {
         None => false,
         Some((at, _)) => at == key,
+    }
+}
+
+/// The key of the messages that are left of one key, if it stands from `from` on and before `end`; else `end`.
+fn left_stop<'a, U: Update>(
+    front: &'a Option<(Key, Box<Several<U>>)>,
+    from: &Key,
+    end: Option<&'a Key>,
+) -> Option<&'a Key>
+    ensures { IsPointStop (rest_msgs front.now) from.now (option_copied end.entry) (option_copied result) }
+{
+    match front {
+        None => end,
+        Some((key, _)) => point_stop(Some(key), from, end),
     }
 }
 

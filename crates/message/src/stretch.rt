@@ -2,9 +2,10 @@
 ghost use Rattle.std.specs.Prelude.{◌≡◌, IfOk, true};
 ghost use Rattle.std.specs.Option.{option_copied};
 ghost use Rattle.pathkey.specs.Keys.{is_below};
+ghost use Rattle.message.specs.PointKeys.{point_stop, IsPointStop};
 ghost use Rattle.message.specs.Stretches.{ahead_of, range_end, is_for, IsNextEnd, IsStretch};
 
-use crate::ends::{copy_end, earlier};
+use crate::ends::{copy_end, earlier, is_within};
 use crate::msg::Msg;
 use crate::update::Update;
 use pathkey::{Key, KeyRange, NoMemory};
@@ -68,4 +69,33 @@ pub fn stretch_end<U: Update>(
         stop = earlier(stop, next_end(from, msg));
     }
     copy_end(alloc, stop)
+}
+
+/// The key, where it lies from `from` up to and without `end`; else `end`.
+pub(crate) fn point_stop<'a>(
+    at: Option<&'a Key>,
+    from: &Key,
+    end: Option<&'a Key>,
+) -> Option<&'a Key>
+    ensures { option_copied result ≡ point_stop (option_copied at.entry) from.now (option_copied end.entry) }
+{
+    match at {
+        Some(key) if is_within(key, from, end) => Some(key),
+        _ => end,
+    }
+}
+
+/// The first key from `from` on that has a message for it alone, if it stands before `end`; else `end`.
+pub(crate) fn next_point<'a, U: Update>(
+    msgs: &'a [Msg<U>],
+    from: &Key,
+    end: Option<&'a Key>,
+) -> Option<&'a Key>
+    ensures { IsPointStop msgs.now from.now (option_copied end.entry) (option_copied result) }
+{
+    let mut stop = end;
+    for msg in msgs {
+        stop = point_stop(msg.point(), from, stop);
+    }
+    stop
 }

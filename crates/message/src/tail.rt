@@ -6,13 +6,14 @@ ghost use Rattle.std.specs.Option.{option_copied, option_map, option_to_list};
 ghost use Rattle.std.specs.List.{slice_get};
 ghost use Rattle.message.specs.Effects.{any_touches, effects, range_count};
 ghost use Rattle.message.specs.Eldest.{eldest_msg};
+ghost use Rattle.message.specs.PointKeys.{is_cleared, IsPointStop};
 ghost use Rattle.message.specs.Stretches.{IsStretch};
 ghost use Rattle.pathkey.specs.Keys.{is_below};
 
 use crate::eldest::Eldest;
-use crate::list::{copy_behind, is_touched, lay_all, ranges_in};
+use crate::list::{copy_behind, is_cleared, is_touched, lay_all, ranges_in};
 use crate::msg::Msg;
-use crate::stretch::stretch_end;
+use crate::stretch::{next_point, stretch_end};
 use crate::update::{Changes, Update};
 use pathkey::{Key, NoMemory};
 use std::alloc::Global;
@@ -208,5 +209,21 @@ impl<U: Update> Tail<U> {
         let (near, far) = self.msgs.as_slices();
         let stop = stretch_end(alloc, near, from, end)?;
         stretch_end(alloc, far, from, stop.as_ref())
+    }
+    /// The first key from `from` on that has a message for it alone, if it stands before `end`; else `end`.
+    pub(crate) fn next_point<'a>(&'a self, from: &Key, end: Option<&'a Key>) -> Option<&'a Key>
+        ensures { IsPointStop self.now.0 from.now (option_copied end.entry) (option_copied result) }
+    {
+        let (near, far) = self.msgs.as_slices();
+        let stop = next_point(near, from, end);
+        next_point(far, from, stop)
+    }
+
+    /// Whether a range-delete holds the key.
+    pub(crate) fn is_cleared(&self, key: &Key) -> bool
+        ensures { result ≡ is_cleared self.now.0 key.now }
+    {
+        let (near, far) = self.msgs.as_slices();
+        is_cleared(near, key) || is_cleared(far, key)
     }
 }

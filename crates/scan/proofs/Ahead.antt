@@ -27,7 +27,7 @@ fewer_by false true m n f h = omega arith
 fewer_by false false m n f h = omega arith
 
 -- what lies after a later key lies after an earlier one
-fewer : (c d : List ℕ) (bs : List (List ℕ)) → before c d ≡ true → ahead d bs ≤ ahead c bs
+pub fewer : (c d : List ℕ) (bs : List (List ℕ)) → before c d ≡ true → ahead d bs ≤ ahead c bs
 fewer c d [] l = omega arith
 fewer c d (b ∷ bs) l = fewer_by (before d b) (before c b) (ahead d bs) (ahead c bs) (λ e. lt_le c d b l (reaches-from_before d b e)) (fewer c d bs l)
 

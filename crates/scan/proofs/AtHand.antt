@@ -34,7 +34,7 @@ module _ {V : Type 0} (f : List ℕ → Option V) where
     tail_behind = λ j d l. s.rising 0 (suc j) d (omega arith) (omega (arith, l))
 
     -- no pair stands before the first
-    all_from : (j : ℕ) (d : List ℕ × V) → j < length (p ∷ ps) → reaches p.0 (get_or (p ∷ ps) j d).0 ≡ true
+    pub all_from : (j : ℕ) (d : List ℕ × V) → j < length (p ∷ ps) → reaches p.0 (get_or (p ∷ ps) j d).0 ≡ true
     all_from zero d l = reaches-refl p.0
     all_from (suc j) d l = reaches-from_before p.0 (get_or ps j d).0 (tail_behind j d (omega (arith, l)))
 
@@ -91,7 +91,7 @@ module _ {V : Type 0} (f : List ℕ → Option V) where
   ahead_given lo hi all p ps b (from, n, low, s, short) = (head_first from hi n p ps s lo low b, (next_key p.0, n - 1, reaches-refl (next_key p.0), tail_scan from hi n p ps s, λ t. omega (arith, short t)))
 
   -- a scan that had room for a pair and found none
-  found_none : (lo : List ℕ) (hi : Option (List ℕ)) (n : ℕ) → 0 < n → IsScan f lo hi n [] → HasNone f lo hi
+  pub found_none : (lo : List ℕ) (hi : Option (List ℕ)) (n : ℕ) → 0 < n → IsScan f lo hi n [] → HasNone f lo hi
   found_none lo hi n some s = λ k w. none_of (f k) (λ v h.
       elim (s.complete k v w h) [
         | inl c ↦ (let l = c.1 in omega (arith, l))

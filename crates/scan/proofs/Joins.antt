@@ -23,7 +23,7 @@ module _ {V : Type 0} where
 
 module _ {V : Type 0} (f : List ℕ → Option V) where
   -- where there is no value
-  scan_none : (lo : List ℕ) (hi : Option (List ℕ)) (n : ℕ) → HasNone f lo hi → IsScan f lo hi n []
+  pub scan_none : (lo : List ℕ) (hi : Option (List ℕ)) (n : ℕ) → HasNone f lo hi → IsScan f lo hi n []
   scan_none lo hi n h = record {
     few = omega arith;
     sound = All-nil _;

@@ -9,4 +9,4 @@ pub mod AtHand
 pub mod Searching
 pub mod LeafFirst
 pub mod LeafWalk
-pub mod SlotWalk
+pub mod Merging

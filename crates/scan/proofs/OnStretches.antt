@@ -3,7 +3,7 @@ use Rattle.std.proofs.Common.{◌≡◌, ℕ, suc, ◌⊎◌, inl, inr, ⊎_elim
 use Rattle.std.specs.Prelude.{All}
 use Rattle.std.proofs.lemmas.Option.{none-some}
 use Rattle.pathkey.specs.Order.{same}
-use Rattle.pathkey.specs.Keys.{is_below, next_key}
+use Rattle.pathkey.specs.Keys.{is_below}
 use Rattle.pathkey.proofs.OrderFacts.{same_true}
 use Rattle.message.specs.declared.msg.Msg.{Msg}
 use Rattle.message.specs.declared.msg.Msg.TheVariants.{Put, Del, DelRange, Edit}
@@ -13,7 +13,7 @@ use Rattle.message.proofs.KeyOrder.{both, le_lt, reaches-refl, reaches-from_not_
 use Rattle.scan.specs.Pairs.{HasNone, IsFirst}
 use Rattle.message.specs.Stretches.{ActAlike}
 use Rattle.scan.specs.Stretches.{changed, pair_of}
-use Rattle.message.proofs.NextKey.{by_bool, in_range, one_key, before-next}
+use Rattle.message.proofs.NextKey.{by_bool, in_range, one_key}
 use Rattle.scan.proofs.Firsts.{none_start, first_along}
 
 -- a key is not two keys
@@ -113,19 +113,3 @@ module _ {U V : Type 0} (means : U → Option V → Option V) where
     pub first_changed : (b : Option (List ℕ × V)) → IsFirst child from stop b → IsFirst made from stop (changed means ms from b)
     first_changed None below = first_of_none below
     first_changed (Some p) below = with_value p below (effects means ms from (Some p.1)) refl
-
-    -- behind a pair that is left the messages leave each value as it is
-    pub kept_behind : (p : List ℕ × V) → IsFirst made from stop (Some p) → (k : List ℕ) → within from stop k ≡ true → before p.0 k ≡ true → made k ≡ child k
-    kept_behind p first k h b =
-        let low : reaches from p.0 ≡ true = (both (reaches from p.0) (is_below p.0 stop) first.0).0 in
-        let there : effects means ms from (child p.0) ≡ Some p.1 = sym (made_is p.0 first.0) ∙ first.1 in
-        made_is k h ∙ ⊎_elim
-        (λ r. r (child k))
-        (λ r. absurd (none-some p.1 (sym (r (child p.0)) ∙ there)))
-        (leaves_or_takes ms from k (le_lt from p.0 k low b) (alike k h))
-
-    -- and where they tell a value, there is no key behind
-    pub told_alone : (v : V) → ((o : Option V) → effects means ms from o ≡ Some v) → (k : List ℕ) → within from stop k ≡ true → before k (next_key from) ≡ true
-    told_alone v told k h = by_bool (before from k) (before k (next_key from) ≡ true)
-        (λ b. absurd (none-some v (sym (⊎_elim (λ r. r None) (λ r. r None) (leaves_or_takes ms from k b (alike k h))) ∙ told None)))
-        (λ b. le_lt k from (next_key from) (reaches-from_not_before from k b) (before-next from))

@@ -11,6 +11,7 @@ use Rattle.node.specs.Meaning.{slot_number, value}
 use Rattle.node.specs.Site.{end_of}
 use Rattle.scan.specs.Pairs.{HasNone, IsFirst, AddsScan}
 use Rattle.message.specs.Stretches.{all_ends, IsStretch}
+use Rattle.message.specs.PointKeys.{IsClearStretch}
 use Rattle.scan.specs.Stretches.{slot_value}
 use Rattle.message.proofs.NextKey.{in_range}
 use Rattle.scan.proofs.Firsts.{none_start, none_join, first_join, first_along}
@@ -45,6 +46,22 @@ module _ {U V : Type 0} (means : U → Option V → Option V) where
       let ends : Option (List ℕ) = earlier_end hi (end_of None (seen_slots items) i) in
       let same : end ≡ ends = ee ∙ ap (λ (zs : List (Slot U V)). earlier_end hi (end_of None (seen_slots zs) i)) ey in
       let stretch : IsStretch s.pending.0 from ends stop = subst (λ e. IsStretch s.pending.0 from e stop) same h in
+      record {
+        seen = seen;
+        bound = subst (λ (zs : List (Slot U V)). i < length zs) ex b;
+        number = number ∙ ap (λ (zs : List (Slot U V)). slot_number (seen_slots zs) from) ex;
+        slot = slot;
+        after = stretch.after;
+        inside = stretch.inside;
+        an_end = stretch.an_end;
+      }
+
+  -- likewise where the stretch is one of range-deletes
+  pub stands_clear : (items xs ys : List (Slot U V)) (n : PNode U V) (hi : Option (List ℕ)) (from : List ℕ) (i : ℕ) (s : Slot U V) (end stop : Option (List ℕ)) → xs ≡ items → ys ≡ items → inner (seen_slots items) ≡ n → i < length xs → i ≡ slot_number (seen_slots xs) from → s ≡ get_or items i s → end ≡ earlier_end hi (end_of None (seen_slots ys) i) → IsClearStretch s.pending.0 from end stop → IsAt items n hi from i s stop
+  stands_clear items xs ys n hi from i s end stop ex ey seen b number slot ee h =
+      let ends : Option (List ℕ) = earlier_end hi (end_of None (seen_slots items) i) in
+      let same : end ≡ ends = ee ∙ ap (λ (zs : List (Slot U V)). earlier_end hi (end_of None (seen_slots zs) i)) ey in
+      let stretch : IsClearStretch s.pending.0 from ends stop = subst (λ e. IsClearStretch s.pending.0 from e stop) same h in
       record {
         seen = seen;
         bound = subst (λ (zs : List (Slot U V)). i < length zs) ex b;

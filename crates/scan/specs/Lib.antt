@@ -1,3 +1,4 @@
 pub mod Pairs
 pub mod Stretches
 pub mod Laws
+pub mod Merging

@@ -2,8 +2,8 @@
 //!
 //! A search goes from one stretch of keys to the next: up to where the next pivot stands, or the next message begins or
 //! ends, each message touches all keys or none. A stretch under a range-delete is passed at once, with all older messages
-//! for its keys, and on any other the first pair of the child decides. A scan of more pairs is one walk: it descends once
-//! for all pairs of a stretch that the messages leave as they are.
+//! for its keys, and on any other the first pair of the child decides. A scan of more pairs is one walk: it takes the pairs
+//! of a child at once, and lays the messages of the slot over them.
 #![tactic(auto)]
 
 ghost use Rattle.std.specs.Prelude.{IfOk};
@@ -19,6 +19,7 @@ use std::alloc::Global;
 
 pub mod laws;
 mod leaf;
+mod merge;
 pub mod piecewise;
 mod search;
 mod slot;

@@ -1,18 +1,22 @@
-//! The walk of a range, from the root down: one descent serves a whole stretch of keys.
-ghost use Rattle.std.specs.Prelude.{◌≡◌, ◌<◌, ◌++◌, OnOk, length, true};
-ghost use Rattle.std.specs.Option.{option_copied, option_to_list};
-ghost use Rattle.pathkey.specs.Keys.{is_below};
-ghost use Rattle.message.specs.Stretches.{ActAlike};
+//! The walk of a range, from the root down: one descent serves a whole slot.
+//!
+//! The pairs that the messages leave as they are come from the child in one walk, and the keys with messages of their own are
+//! laid between them.
+ghost use Rattle.std.specs.Prelude.{◌≡◌, ◌<◌, List, ℕ, OnOk, IfOk, MatchOption, length, true, false};
+ghost use Rattle.std.specs.Option.{option_copied};
+ghost use Rattle.message.specs.PointKeys.{is_cleared};
+ghost use Rattle.message.specs.Ranges.{within};
 ghost use Rattle.node.specs.Meaning.{value as value_at};
 ghost use Rattle.node.specs.Searchable.{IsSearchable};
+ghost use Rattle.scan.specs.Merging.{GoesOn};
 ghost use Rattle.scan.specs.Pairs.{AddsScan};
-ghost use Rattle.scan.specs.Stretches.{pair_of, slot_value};
+ghost use Rattle.scan.specs.Stretches.{slot_value};
 
 use crate::leaf::push_entries;
-use crate::search::first;
-use crate::slot::{changed, slot_end};
+use crate::merge::merge;
+use crate::slot::slot_end;
+use message::Update;
 use message::ends::is_before_end;
-use message::{Told, Update};
 use node::search::slot_of;
 use node::{Body, Node, Slot};
 use pathkey::{Key, NoMemory};
@@ -20,7 +24,7 @@ use std::alloc::Global;
 
 /// Pushes the pairs below a node from `lo` up to and without `hi`, until there are `limit` pairs.
 ///
-/// It goes from one stretch to the next. Where memory is refused, some pairs may have been pushed.
+/// It goes from slot to slot, and in a slot to where its range-deletes next begin or end. Where memory is refused, some pairs may have been pushed.
 #[cycle(walk)]
 pub fn walk<U: Update>(
     alloc: Global,
@@ -50,7 +54,7 @@ pub fn walk<U: Update>(
         let i = slot_of(slots.as_slice(), &from);
         let slot = &slots[i];
         let end = slot_end(slots.as_slice(), i, hi);
-        let stop = slot.pending.stretch_end(alloc, &from, end)?;
+        let stop = slot.pending.cleared_end(alloc, &from, end)?;
         walk_slot(alloc, slot, &from, stop.as_ref(), limit, pairs)?;
         let Some(next) = stop else {
             return Ok(());
@@ -60,9 +64,9 @@ pub fn walk<U: Update>(
     Ok(())
 }
 
-/// Pushes the pairs of a slot on a stretch of its messages, until there are `limit` pairs.
+/// Pushes the pairs of a slot where its range-deletes hold all keys or none, until there are `limit` pairs.
 ///
-/// The child is not asked where the messages tell the values of the stretch.
+/// The child is not asked where they hold all.
 #[cycle(walk)]
 fn walk_slot<U: Update>(
     alloc: Global,
@@ -73,23 +77,24 @@ fn walk_slot<U: Update>(
     pairs: &mut Vec<(Key, U::Value)>,
 ) -> Result<(), NoMemory>
     requires searchable { IsSearchable slot.now.child.value }
-    requires some { is_below from.now (option_copied stop) ≡ true }
-    requires alike { ActAlike slot.now.pending.0 from.now (option_copied stop) }
+    requires alike { (k : List ℕ) → within from.now (option_copied stop) k ≡ true → is_cleared slot.now.pending.0 k ≡ is_cleared slot.now.pending.0 from.now }
     requires room { length pairs.old.items < limit }
     ensures { OnOk result (AddsScan (slot_value U.means slot.now) from.now (option_copied stop.entry) limit pairs.old.items pairs.new.items) }
 {
-    match slot.pending.told(alloc, from)? {
-        Told::Nothing => walk(alloc, &slot.child, from, stop, limit, pairs),
-        Told::Value(value) => push_pair(alloc, from, value, pairs),
-        Told::Change => walk_changed(alloc, slot, from, stop, limit, pairs),
+    if slot.pending.is_cleared(from) {
+        let none = Vec::new(alloc);
+        return merge(alloc, &slot.pending, from, stop, none, limit, pairs);
     }
+    if slot.pending.next_point(from, stop).is_none() {
+        return walk(alloc, &slot.child, from, stop, limit, pairs);
+    }
+    walk_rounds(alloc, slot, from, stop, limit, pairs)
 }
 
-/// The same on a stretch whose values the messages may change.
-///
-/// Only the first pair can be another than the child's: messages that touch two keys leave no value.
+/// The same where no range-delete holds a key, in rounds: messages may take pairs away, so that more of the child's are asked
+/// for.
 #[cycle(walk)]
-fn walk_changed<U: Update>(
+fn walk_rounds<U: Update>(
     alloc: Global,
     slot: &Slot<U>,
     from: &Key,
@@ -98,34 +103,46 @@ fn walk_changed<U: Update>(
     pairs: &mut Vec<(Key, U::Value)>,
 ) -> Result<(), NoMemory>
     requires searchable { IsSearchable slot.now.child.value }
-    requires some { is_below from.now (option_copied stop) ≡ true }
-    requires alike { ActAlike slot.now.pending.0 from.now (option_copied stop) }
+    requires clear { (k : List ℕ) → within from.now (option_copied stop) k ≡ true → is_cleared slot.now.pending.0 k ≡ false }
     requires room { length pairs.old.items < limit }
     ensures { OnOk result (AddsScan (slot_value U.means slot.now) from.now (option_copied stop.entry) limit pairs.old.items pairs.new.items) }
 {
-    let below = first(alloc, &slot.child, from, stop)?;
-    let Some(pair) = changed(alloc, &slot.pending, from, below)? else {
-        return Ok(());
-    };
-    let next = pair.0.next(alloc)?;
-    pairs.push(pair)?;
-    if !is_before_end(&next, stop) {
-        return Ok(());
-    }
-    walk(alloc, &slot.child, &next, stop, limit, pairs)
-}
-
-/// Pushes the key with its value, if there is one.
-fn push_pair<V: Drop>(
-    alloc: Global,
-    key: &Key,
-    value: Option<V>,
-    pairs: &mut Vec<(Key, V)>,
-) -> Result<(), NoMemory>
-    ensures { OnOk result (pairs.new.items ≡ pairs.old.items ++ option_to_list (pair_of key.now value)) }
-{
-    if let Some(value) = value {
-        pairs.push((key.copy(alloc)?, value))?;
+    let mut at = from.copy(alloc)?;
+    'rounds: while let Some(next) = round(alloc, slot, &at, stop, limit, pairs)? {
+        at = next;
     }
     Ok(())
+}
+
+/// One round: the child is asked for as many pairs as are wanted, and the messages are laid over them. Where that gives fewer,
+/// and the child may have more, it answers the key where the next round begins.
+#[cycle(walk)]
+fn round<U: Update>(
+    alloc: Global,
+    slot: &Slot<U>,
+    from: &Key,
+    stop: Option<&Key>,
+    limit: usize,
+    pairs: &mut Vec<(Key, U::Value)>,
+) -> Result<Option<Key>, NoMemory>
+    requires searchable { IsSearchable slot.now.child.value }
+    requires clear { (k : List ℕ) → within from.now (option_copied stop) k ≡ true → is_cleared slot.now.pending.0 k ≡ false }
+    requires room { length pairs.old.items < limit }
+    ensures { IfOk result (λ r. MatchOption r (AddsScan (slot_value U.means slot.now) from.now (option_copied stop.entry) limit pairs.old.items pairs.new.items) (λ next. GoesOn U.means slot.now from.now (option_copied stop.entry) limit pairs.old.items pairs.new.items next)) }
+{
+    let wanted = limit - pairs.len();
+    let mut below = Vec::new(alloc);
+    walk(alloc, &slot.child, from, stop, wanted, &mut below)?;
+    let count = below.len();
+    if count < wanted {
+        merge(alloc, &slot.pending, from, stop, below, limit, pairs)?;
+        return Ok(None);
+    }
+    let last = &below[count - 1];
+    let next = last.0.next(alloc)?;
+    merge(alloc, &slot.pending, from, Some(&next), below, limit, pairs)?;
+    if pairs.len() >= limit {
+        return Ok(None);
+    }
+    Ok(Some(next))
 }

@@ -1,4 +1,4 @@
-use Rattle.std.proofs.Common.{arith, ap, refl, sym, subst, ◌∙◌, ◌≡◌, ◌<◌, ◌+◌, ◌*◌, length, true}
+use Rattle.std.proofs.Common.{arith, ap, refl, sym, subst, ◌∙◌, ◌≡◌, ◌<◌, ◌≤◌, ◌+◌, ◌-◌, ◌*◌, ⊎_elim, ℕ, List, Option, length, true, false, not, Some, None}
 use Rattle.std.specs.Prelude.{OnOk}
 use Rattle.std.specs.Option.{option_copied}
 use Rattle.std.proofs.lemmas.Result.{on_ok_weaker}
@@ -9,13 +9,16 @@ use Rattle.node.specs.See.{see, seen_slots}
 use Rattle.node.specs.declared.node.Slot.{Slot}
 use Rattle.node.proofs.Placing.{searchable_child, depth_child}
 use Rattle.pathkey.specs.Keys.{is_below}
-use Rattle.message.specs.Stretches.{ActAlike}
-use Rattle.scan.specs.Pairs.{IsFirst, AddsScan}
+use Rattle.message.specs.PointKeys.{is_cleared, IsNextPoint}
+use Rattle.message.specs.Ranges.{reaches, before, within}
+use Rattle.message.proofs.KeyOrder.{both, le_le}
+use Rattle.message.proofs.NextKey.{in_range, reaches-next}
+use Rattle.scan.specs.Pairs.{AddsScan, IsScan}
+use Rattle.scan.specs.Merging.{AreAll, LeavesGaps, IsMerged, HasPoint, GoesOn}
 use Rattle.scan.specs.Stretches.{slot_value}
-use Rattle.scan.proofs.Joins.{walk_start, walk_full, walk_past}
-use Rattle.scan.proofs.OnStretches.{first_changed}
-use Rattle.scan.proofs.Searching.{from_below, stands_at, walked_on, walked_out, fewer_ahead}
-use Rattle.scan.proofs.SlotWalk.{adds_untouched, adds_nothing, adds_last, adds_rest, adds_told}
+use Rattle.scan.proofs.Joins.{walk_start, walk_on, walk_end, walk_full, walk_past, scan_added}
+use Rattle.scan.proofs.Merging.{adds_cleared, adds_pointless, adds_enough, all_fewer, gaps_clear, round_is, point_falls, copied_none}
+use Rattle.scan.proofs.Searching.{from_below, stands_clear, walked_on, walked_out, fewer_ahead}
 use Rattle.scan.proofs.walk.+walk.Goals as goal
 
 pub walk-returns-in-Leaf : goal.walk-returns-in-Leaf
@@ -35,11 +38,11 @@ walk-stretches-init g t c = walk_start (value g.U.Update.means c.args.node.now) 
 pub walk-returns-then-len-limit : goal.walk-returns-then-len-limit
 walk-returns-then-len-limit g t c = walk_full (value g.U.Update.means c.args.node.now) c.args.lo.now (option_copied c.args.hi) c.args.limit c.stretches.from c.args.pairs.now.items c.stretches.pairs.items c.stretches.invariant (omega (arith, c.len.ensures, c.stretches.pairs.ok.0, c.if-len-limit.true))
 
-pub walk-stretch_end-requires : goal.walk-stretch_end-requires
-walk-stretch_end-requires g t c = from_below g.U.Update.means c.in-Inner.slots.items c.as_slice-in-stretches.result.now c.as_slice-in-stretches-2.result.now (option_copied c.args.hi) c.stretches.from c.slot_of-i.result (option_copied c.slot_end-end.result) c.as_slice-in-stretches.ensures.value c.as_slice-in-stretches-2.ensures.value c.slot_of-i.ensures.number (sym c.is_before_end.ensures ∙ c.stretches-test.true) c.slot_end-end.ensures
+pub walk-cleared_end-requires : goal.walk-cleared_end-requires
+walk-cleared_end-requires g t c = from_below g.U.Update.means c.in-Inner.slots.items c.as_slice-in-stretches.result.now c.as_slice-in-stretches-2.result.now (option_copied c.args.hi) c.stretches.from c.slot_of-i.result (option_copied c.slot_end-end.result) c.as_slice-in-stretches.ensures.value c.as_slice-in-stretches-2.ensures.value c.slot_of-i.ensures.number (sym c.is_before_end.ensures ∙ c.stretches-test.true) c.slot_end-end.ensures
 
 pub walk-walk_slot-requires : goal.walk-walk_slot-requires
-walk-walk_slot-requires g t c κs within =
+walk-walk_slot-requires g t c κs live =
     let U = g.row.U.Denot in
     let V = g.row.U-Value.Denot in
     let xs = c.in-Inner.slots.items in
@@ -51,14 +54,13 @@ walk-walk_slot-requires g t c κs within =
     let child = subst (λ (x : Slot U V). IsSearchable x.child.value) (sym c.index-slot.ensures) (searchable_child xs i s b all.1) in
     let low = subst (λ (x : Slot U V). depth x.child.value < depth (inner (seen_slots xs))) (sym c.index-slot.ensures) (depth_child xs i s b) in
     let below : depth s.child.value < depth c.args.node.now = subst (λ (n : PNode U V). depth s.child.value < depth n) seen low in
-    let falls : 3 * depth s.child.value + 2 < 3 * depth c.args.node.now = omega (arith, below) in
-    let d : 3 * depth c.args.node.now ≡ t = c.decreases in
+    let falls : 4 * depth s.child.value + 3 < 4 * depth c.args.node.now = omega (arith, below) in
+    let d : 4 * depth c.args.node.now ≡ t = c.decreases in
     let stretch = c.in_ok-stop.ensures in
     let e = sym c.as_ref.ensures.value in
-    let some = subst (λ o. is_below c.stretches.from o ≡ true) e stretch.after in
-    let alike = subst (λ o. ActAlike s.pending.0 c.stretches.from o) e stretch.alike in
+    let alike = subst (λ o. (k : List ℕ) → within c.stretches.from o k ≡ true → is_cleared s.pending.0 k ≡ is_cleared s.pending.0 c.stretches.from) e stretch.alike in
     let room : length c.stretches.pairs.items < c.args.limit = omega (arith, c.len.ensures, c.stretches.pairs.ok.0, c.if-len-limit.false) in
-    (subst (λ m. 3 * depth s.child.value + 2 < m) d falls, (within.0, (within.1, (child, (some, (alike, room))))))
+    (subst (λ m. 4 * depth s.child.value + 3 < m) d falls, (live.0, (live.1, (child, (alike, room)))))
 
 pub walk-returns-in_default : goal.walk-returns-in_default
 walk-returns-in_default g t c =
@@ -71,7 +73,7 @@ walk-returns-in_default g t c =
     let i = c.slot_of-i.result in
     let s = c.index-slot.result.now in
     let stop = c.in_ok-stop.stop in
-    let at = stands_at means items c.as_slice-in-stretches.result.now c.as_slice-in-stretches-2.result.now n hi from i s (option_copied c.slot_end-end.result) stop c.as_slice-in-stretches.ensures.value c.as_slice-in-stretches-2.ensures.value (ap see (sym c.in-Inner.is) ∙ c.body.ensures) c.slot_of-i.ensures.bound c.slot_of-i.ensures.number c.index-slot.ensures c.slot_end-end.ensures c.in_ok-stop.ensures in
+    let at = stands_clear means items c.as_slice-in-stretches.result.now c.as_slice-in-stretches-2.result.now n hi from i s (option_copied c.slot_end-end.result) stop c.as_slice-in-stretches.ensures.value c.as_slice-in-stretches-2.ensures.value (ap see (sym c.in-Inner.is) ∙ c.body.ensures) c.slot_of-i.ensures.bound c.slot_of-i.ensures.number c.index-slot.ensures c.slot_end-end.ensures c.in_ok-stop.ensures in
     let adds = subst (λ o. AddsScan (slot_value means s) from o c.args.limit c.stretches.pairs.items c.walk_slot.new.pairs.items) c.as_ref.ensures.value c.in_ok-walk_slot.ensures in
     walked_out means items n hi from i s stop at lo c.args.limit c.args.pairs.now.items c.stretches.pairs.items c.walk_slot.new.pairs.items c.stretches.invariant adds c.in_default.is
 
@@ -86,7 +88,7 @@ walk-stretches-smaller g t c =
     let i = c.slot_of-i.result in
     let s = c.index-slot.result.now in
     let stop = c.in_ok-stop.stop in
-    let at = stands_at means items c.as_slice-in-stretches.result.now c.as_slice-in-stretches-2.result.now n hi from i s (option_copied c.slot_end-end.result) stop c.as_slice-in-stretches.ensures.value c.as_slice-in-stretches-2.ensures.value (ap see (sym c.in-Inner.is) ∙ c.body.ensures) c.slot_of-i.ensures.bound c.slot_of-i.ensures.number c.index-slot.ensures c.slot_end-end.ensures c.in_ok-stop.ensures in
+    let at = stands_clear means items c.as_slice-in-stretches.result.now c.as_slice-in-stretches-2.result.now n hi from i s (option_copied c.slot_end-end.result) stop c.as_slice-in-stretches.ensures.value c.as_slice-in-stretches-2.ensures.value (ap see (sym c.in-Inner.is) ∙ c.body.ensures) c.slot_of-i.ensures.bound c.slot_of-i.ensures.number c.index-slot.ensures c.slot_end-end.ensures c.in_ok-stop.ensures in
     fewer_ahead means items n hi from i s stop at c.in-Some.next c.in-Some.is
 
 pub walk-stretches-preserved : goal.walk-stretches-preserved
@@ -100,60 +102,131 @@ walk-stretches-preserved g t c =
     let i = c.slot_of-i.result in
     let s = c.index-slot.result.now in
     let stop = c.in_ok-stop.stop in
-    let at = stands_at means items c.as_slice-in-stretches.result.now c.as_slice-in-stretches-2.result.now n hi from i s (option_copied c.slot_end-end.result) stop c.as_slice-in-stretches.ensures.value c.as_slice-in-stretches-2.ensures.value (ap see (sym c.in-Inner.is) ∙ c.body.ensures) c.slot_of-i.ensures.bound c.slot_of-i.ensures.number c.index-slot.ensures c.slot_end-end.ensures c.in_ok-stop.ensures in
+    let at = stands_clear means items c.as_slice-in-stretches.result.now c.as_slice-in-stretches-2.result.now n hi from i s (option_copied c.slot_end-end.result) stop c.as_slice-in-stretches.ensures.value c.as_slice-in-stretches-2.ensures.value (ap see (sym c.in-Inner.is) ∙ c.body.ensures) c.slot_of-i.ensures.bound c.slot_of-i.ensures.number c.index-slot.ensures c.slot_end-end.ensures c.in_ok-stop.ensures in
     let adds = subst (λ o. AddsScan (slot_value means s) from o c.args.limit c.stretches.pairs.items c.walk_slot.new.pairs.items) c.as_ref.ensures.value c.in_ok-walk_slot.ensures in
     walked_on means items n hi from i s stop at lo c.args.limit c.args.pairs.now.items c.stretches.pairs.items c.walk_slot.new.pairs.items c.stretches.invariant adds c.in-Some.next c.in-Some.is
 
 pub walk-returns : goal.walk-returns
 walk-returns g t c = walk_past (value g.U.Update.means c.args.node.now) c.args.lo.now (option_copied c.args.hi) c.args.limit c.stretches.from c.args.pairs.now.items c.stretches.pairs.items c.stretches.invariant (sym c.is_before_end.ensures ∙ c.stretches-test.false)
 
-pub walk_slot-returns-in-Nothing : goal.walk_slot-returns-in-Nothing
-walk_slot-returns-in-Nothing g t c =
+pub walk_slot-returns-then-is_cleared : goal.walk_slot-returns-then-is_cleared
+walk_slot-returns-then-is_cleared g t c =
     let means = g.U.Update.means in
     let s = c.args.slot.now in
     let from = c.args.from.now in
     let stop = option_copied c.args.stop in
-    let told = rw c.in-Nothing.is at c.in_ok-told.ensures in
-    on_ok_weaker c.walk.result (λ a. adds_untouched means s.pending.0 (value means s.child.value) from stop c.requires.some c.requires.alike c.args.limit c.args.pairs.now.items c.walk.new.pairs.items told.1 (subst (λ n. AddsScan (value means n) from stop c.args.limit c.args.pairs.now.items c.walk.new.pairs.items) c.deref.ensures a)) c.walk.ensures
+    on_ok_weaker c.merge.result (λ h. adds_cleared means s.pending.0 (value means s.child.value) from stop c.args.limit c.args.pairs.now.items c.merge.new.pairs.items c.requires.alike (sym c.is_cleared.ensures ∙ c.if-is_cleared.true) (subst (λ (ps : List (List ℕ × g.row.U-Value.Denot)). (f : List ℕ → Option g.row.U-Value.Denot) → AreAll f from stop ps → LeavesGaps means s.pending.0 f from stop → IsMerged means s.pending.0 f from stop c.args.limit ps c.args.pairs.now.items c.merge.new.pairs.items) c.new-none.ensures.items h)) c.merge.ensures
 
-pub walk_slot-returns-in-Value : goal.walk_slot-returns-in-Value
-walk_slot-returns-in-Value g t c =
+pub walk_slot-returns-then-is_none : goal.walk_slot-returns-then-is_none
+walk_slot-returns-then-is_none g t c =
     let means = g.U.Update.means in
     let s = c.args.slot.now in
     let from = c.args.from.now in
     let stop = option_copied c.args.stop in
-    let told = rw c.in-Value.is at c.in_ok-told.ensures in
-    on_ok_weaker c.push_pair.result (λ e. adds_told means s.pending.0 (value means s.child.value) from stop c.requires.some c.requires.alike c.args.limit c.args.pairs.now.items c.in-Value.value c.push_pair.new.pairs.items c.requires.room told e) c.push_pair.ensures
+    let none : IsNextPoint s.pending.0 from stop None = subst (IsNextPoint s.pending.0 from stop) (copied_none c.next_point.result (c.is_none.ensures ∙ ap not c.if-is_none.true)) c.next_point.ensures in
+    on_ok_weaker c.walk.result (λ a. adds_pointless means s.pending.0 (value means s.child.value) from stop c.args.limit c.args.pairs.now.items c.walk.new.pairs.items (λ k w. c.requires.alike k w ∙ sym c.is_cleared.ensures ∙ c.if-is_cleared.false) none (subst (λ n. AddsScan (value means n) from stop c.args.limit c.args.pairs.now.items c.walk.new.pairs.items) c.deref.ensures a)) c.walk.ensures
 
-pub walk_changed-returns-in_default : goal.walk_changed-returns-in_default
-walk_changed-returns-in_default g t c =
-    let means = g.U.Update.means in
-    let s = c.args.slot.now in
-    let from = c.args.from.now in
-    let stop = option_copied c.args.stop in
-    let below = subst (λ n. IsFirst (value means n) from stop c.in_ok-below.below) c.deref.ensures c.in_ok-below.ensures in
-    let first = subst (IsFirst (slot_value means s) from stop) (sym c.in_ok-pair.ensures ∙ c.in_default.is) (first_changed means s.pending.0 (value means s.child.value) from stop c.requires.some c.requires.alike c.in_ok-below.below below) in
-    adds_nothing means s.pending.0 (value means s.child.value) from stop c.requires.some c.requires.alike c.args.limit c.args.pairs.now.items first
+pub walk_rounds-rounds-init : goal.walk_rounds-rounds-init
+walk_rounds-rounds-init g t c = record {
+  walked = walk_start (slot_value g.U.Update.means c.args.slot.now) c.args.from.now (option_copied c.args.stop) c.args.limit c.in_ok-at.at c.args.pairs.now.items c.args.pairs.now.items c.in_ok-at.ensures refl;
+  room = c.requires.room;
+}
 
-pub walk_changed-returns-then-not-is_before_end : goal.walk_changed-returns-then-not-is_before_end
-walk_changed-returns-then-not-is_before_end g t c =
-    let means = g.U.Update.means in
+pub walk_rounds-round-requires : goal.walk_rounds-round-requires
+walk_rounds-round-requires g t c κs live =
     let s = c.args.slot.now in
     let from = c.args.from.now in
     let stop = option_copied c.args.stop in
-    let below = subst (λ n. IsFirst (value means n) from stop c.in_ok-below.below) c.deref.ensures c.in_ok-below.ensures in
-    let first = subst (IsFirst (slot_value means s) from stop) (sym c.in_ok-pair.ensures ∙ c.in-Some.is) (first_changed means s.pending.0 (value means s.child.value) from stop c.requires.some c.requires.alike c.in_ok-below.below below) in
-    adds_last means s.pending.0 (value means s.child.value) from stop c.requires.some c.requires.alike c.args.limit c.args.pairs.now.items c.in-Some.pair c.push.new.self.items first c.requires.room c.in_ok-push.ensures.items (ap (λ k. is_below k stop) (sym c.in_ok-next.ensures) ∙ sym c.is_before_end.ensures ∙ c.if-not-is_before_end.true)
+    let at = c.rounds.at in
+    let d : 4 * depth s.child.value + 2 ≡ t = c.decreases in
+    let falls : 4 * depth s.child.value + 1 < 4 * depth s.child.value + 2 = omega arith in
+    let clear : (k : List ℕ) → within at stop k ≡ true → is_cleared s.pending.0 k ≡ false = λ k w. (let q = both (reaches at k) (is_below k stop) w in c.requires.clear k (in_range from k stop (le_le from at k c.rounds.invariant.walked.reached q.0) q.1)) in
+    (subst (λ m. 4 * depth s.child.value + 1 < m) d falls, (live.0, (live.1, (c.requires.searchable, (clear, c.rounds.invariant.room)))))
 
-pub walk_changed-returns : goal.walk_changed-returns
-walk_changed-returns g t c =
+pub walk_rounds-rounds-smaller : goal.walk_rounds-rounds-smaller
+walk_rounds-rounds-smaller g t c =
+    let s = c.args.slot.now in
+    let at = c.rounds.at in
+    let next = c.in-Some.next in
+    let go : GoesOn g.U.Update.means s at (option_copied c.args.stop) c.args.limit c.rounds.pairs.items c.round.new.pairs.items next = rw c.in-Some.is at c.in_ok-next.ensures in
+    let here = both (reaches at go.passed.0) (before go.passed.0 next) go.passed.1 in
+    point_falls s.pending.0 at go.passed.0 next here.0 go.passed.2 (reaches-next go.passed.0 next ∙ here.1)
+
+pub walk_rounds-rounds-preserved : goal.walk_rounds-rounds-preserved
+walk_rounds-rounds-preserved g t c =
     let means = g.U.Update.means in
     let s = c.args.slot.now in
+    let at = c.rounds.at in
+    let stop = option_copied c.args.stop in
+    let next = c.in-Some.next in
+    let go : GoesOn means s at stop c.args.limit c.rounds.pairs.items c.round.new.pairs.items next = rw c.in-Some.is at c.in_ok-next.ensures in
+    record {
+      walked = walk_on (slot_value means s) c.args.from.now stop c.args.limit at c.args.pairs.now.items c.rounds.pairs.items c.rounds.invariant.walked next c.round.new.pairs.items go.reached go.inside go.added;
+      room = go.room;
+    }
+
+pub walk_rounds-returns : goal.walk_rounds-returns
+walk_rounds-returns g t c =
+    let means = g.U.Update.means in
+    let s = c.args.slot.now in
+    let at = c.rounds.at in
+    let stop = option_copied c.args.stop in
+    let adds : AddsScan (slot_value means s) at stop c.args.limit c.rounds.pairs.items c.round.new.pairs.items = rw c.in_default.is at c.in_ok-next.ensures in
+    walk_end (slot_value means s) c.args.from.now stop c.args.limit at c.args.pairs.now.items c.rounds.pairs.items c.rounds.invariant.walked c.round.new.pairs.items adds
+
+pub round-returns-then-count-wanted : goal.round-returns-then-count-wanted
+round-returns-then-count-wanted g t c =
+    let means = g.U.Update.means in
+    let s = c.args.slot.now in
+    let child = value means s.child.value in
     let from = c.args.from.now in
     let stop = option_copied c.args.stop in
-    let below = subst (λ n. IsFirst (value means n) from stop c.in_ok-below.below) c.deref.ensures c.in_ok-below.ensures in
-    let first = subst (IsFirst (slot_value means s) from stop) (sym c.in_ok-pair.ensures ∙ c.in-Some.is) (first_changed means s.pending.0 (value means s.child.value) from stop c.requires.some c.requires.alike c.in_ok-below.below below) in
-    let newer = c.walk.new.pairs.items in
-    on_ok_weaker c.walk.result (λ a.
-    let there = subst (λ n. AddsScan (value means n) c.in_ok-next.next stop c.args.limit c.push.new.self.items newer) c.deref-2.ensures a in
-    adds_rest means s.pending.0 (value means s.child.value) from stop c.requires.some c.requires.alike c.args.limit c.args.pairs.now.items c.in-Some.pair c.push.new.self.items first c.requires.room c.in_ok-push.ensures.items newer (subst (λ k. AddsScan (value means s.child.value) k stop c.args.limit c.push.new.self.items newer) c.in_ok-next.ensures there)) c.walk.ensures
+    let below = c.walk.new.pairs.items in
+    let wanted = c.args.limit - c.len.result in
+    let scan : IsScan child from stop wanted below = scan_added child from stop wanted c.new-below.result.items below c.new-below.ensures.items (subst (λ n. AddsScan (value means n) from stop wanted c.new-below.result.items below) c.deref.ensures c.in_ok-walk.ensures) in
+    let few = all_fewer child from stop wanted below scan (omega (arith, c.len-count.ensures, c.walk.new.pairs.ok.0, c.if-count-wanted.true)) in
+    (c.in_ok-merge.ensures child few (gaps_clear means s.pending.0 child from stop c.requires.clear)).added
+
+pub round-returns-then-len-limit : goal.round-returns-then-len-limit
+round-returns-then-len-limit g t c =
+    let means = g.U.Update.means in
+    let s = c.args.slot.now in
+    let child = value means s.child.value in
+    let from = c.args.from.now in
+    let stop = option_copied c.args.stop in
+    let below = c.walk.new.pairs.items in
+    let old = c.args.pairs.now.items in
+    let new = c.merge-2.new.pairs.items in
+    let next = c.in_ok-next.next in
+    let count = c.len-count.result in
+    let wanted = c.args.limit - c.len.result in
+    let scan : IsScan child from stop wanted below = scan_added child from stop wanted c.new-below.result.items below c.new-below.ensures.items (subst (λ n. AddsScan (value means n) from stop wanted c.new-below.result.items below) c.deref.ensures c.in_ok-walk.ensures) in
+    let l : count - 1 + 1 ≡ length below = omega (arith, c.len-count.ensures, c.walk.new.pairs.ok.0, c.if-count-wanted.false, c.requires.room, c.len.ensures, c.args.pairs.now.ok.0) in
+    let r = round_is means s.pending.0 child from stop c.args.limit below old new wanted scan (count - 1) c.index-last.result.now l c.index-last.ensures c.requires.clear next c.in_ok-next.ensures c.in_ok-merge-2.ensures in
+    adds_enough (slot_value means s) from next stop c.args.limit old new r.reached r.inside r.merged.added (omega (arith, c.len-2.ensures, c.merge-2.new.pairs.ok.0, c.if-len-limit.true))
+
+pub round-returns : goal.round-returns
+round-returns g t c =
+    let means = g.U.Update.means in
+    let s = c.args.slot.now in
+    let child = value means s.child.value in
+    let from = c.args.from.now in
+    let stop = option_copied c.args.stop in
+    let below = c.walk.new.pairs.items in
+    let old = c.args.pairs.now.items in
+    let new = c.merge-2.new.pairs.items in
+    let next = c.in_ok-next.next in
+    let count = c.len-count.result in
+    let wanted = c.args.limit - c.len.result in
+    let scan : IsScan child from stop wanted below = scan_added child from stop wanted c.new-below.result.items below c.new-below.ensures.items (subst (λ n. AddsScan (value means n) from stop wanted c.new-below.result.items below) c.deref.ensures c.in_ok-walk.ensures) in
+    let l : count - 1 + 1 ≡ length below = omega (arith, c.len-count.ensures, c.walk.new.pairs.ok.0, c.if-count-wanted.false, c.requires.room, c.len.ensures, c.args.pairs.now.ok.0) in
+    let r = round_is means s.pending.0 child from stop c.args.limit below old new wanted scan (count - 1) c.index-last.result.now l c.index-last.ensures c.requires.clear next c.in_ok-next.ensures c.in_ok-merge-2.ensures in
+    let room : length new < c.args.limit = omega (arith, c.len-2.ensures, c.merge-2.new.pairs.ok.0, c.if-len-limit.false) in
+    let enough : c.args.limit ≤ length old + length below = omega (arith, c.len-count.ensures, c.walk.new.pairs.ok.0, c.if-count-wanted.false, c.requires.room, c.len.ensures, c.args.pairs.now.ok.0) in
+    record {
+      reached = r.reached;
+      inside = r.inside;
+      added = r.merged.added;
+      passed = ⊎_elim (λ (x : length old + length below ≤ length new). absurd (omega (arith, x, enough, room))) (λ (x : HasPoint s.pending.0 from (Some next)). x) (r.merged.more room);
+      room = room;
+    }

@@ -1,0 +1,12 @@
+use Rattle.std.proofs.Common.{subst}
+use Rattle.std.specs.Option.{option_copied}
+use Rattle.message.specs.PointKeys.{IsClearStretch}
+use Rattle.message.proofs.PointKeys.{settled_stretch}
+use Rattle.message.proofs.settled.Settled.cleared_end.Goals as goal
+
+pub returns : goal.returns
+returns g c =
+    let from = c.args.from.now in
+    let end = option_copied c.args.end in
+    let stop = option_copied c.stretch_end.result in
+    subst (λ ms. IsClearStretch ms from end stop) c.self.view_is (settled_stretch c.self.inside.ranges.entries c.self.inside.points.entries from end stop c.stretch_end.ensures)
