@@ -21,3 +21,8 @@ pub mod Parting
 pub mod StretchEnds
 pub mod Searching
 pub mod SortedStretches
+pub mod RowFacts
+pub mod RowChanges
+pub mod PointChanges
+pub mod RowsFacts
+pub mod PointRows

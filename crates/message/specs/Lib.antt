@@ -9,3 +9,4 @@ pub mod Stretches
 pub mod Search
 pub mod Oldests
 pub mod Eldest
+pub mod Rows

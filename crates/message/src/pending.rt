@@ -336,6 +336,31 @@ impl<U: Update> Pending<U> {
         }
     }
 
+    /// Moves the oldest messages to another list, where they are newer than all others: those of one key as they lie in
+    /// memory, where there are at most `most` and that can be, else the first. It answers how many moved. On want of memory both
+    /// lists are as they were.
+    pub fn sink_oldest(&mut self, to: &mut Pending<U>, most: usize) -> Result<usize, NoMemory>
+        ensures takes { IfOk result (λ n. Takes U.means to.old.0 (take n self.old.0) to.new.0) }
+        ensures left { IfOk result (λ n. self.new.0 ≡ drop n self.old.0) }
+        ensures within { IfOk result (λ n. (n ≤ most) × (n ≤ length self.old.0)) }
+        ensures err { OnErr result ((self.new.0 ≡ self.old.0) × (to.new.0 ≡ to.old.0)) }
+    {
+        if most == 0 {
+            return Ok(0);
+        }
+        if to.fresh.len() == 0 {
+            if let Some(count) = to.sorted.take_first(&mut self.sorted, most) {
+                return Ok(count);
+            }
+        }
+        to.reserve(1)?;
+        let Some(msg) = self.pop() else {
+            return Ok(0);
+        };
+        to.push_reserved(msg);
+        Ok(1)
+    }
+
     /// Takes the `count` oldest messages away.
     pub fn drop_front(&mut self, count: usize)
         requires { count ≤ length self.old.0 }

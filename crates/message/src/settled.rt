@@ -15,10 +15,11 @@ ghost use Rattle.std.specs.Option.{option_copied, option_map};
 use crate::eldest::Eldest;
 use crate::ends::is_before_end;
 use crate::msg::Msg;
+use crate::points::Points;
+use crate::ranges;
 use crate::run::Run;
 use crate::told::Told;
 use crate::update::{Changes, Update};
-use crate::{points, ranges};
 use pathkey::{Key, KeyRange, NoMemory};
 use std::alloc::Global;
 use std::collections::BTreeMap;
@@ -34,7 +35,7 @@ pub(crate) const MOST: usize = 1 << 62;
 #[derive(Drop)]
 pub struct Settled<U: Changes> {
     ranges: BTreeMap<Key, Option<Key>>,
-    points: BTreeMap<Key, Run<U>>,
+    points: Points<U>,
     count: usize,
 }
 
@@ -46,9 +47,9 @@ impl<U: Changes> Model for Settled<U> {
 
     ghost use Rattle.message.specs.Settled.{settled_msgs, IsSettled};
 
-    ghost view = { λ p. settled_msgs p.ranges.entries p.points.entries };
+    ghost view = { λ p. settled_msgs p.ranges.entries p.points };
 
-    ghost invariant = { λ p. IsSettled p.ranges.entries p.points.entries p.count };
+    ghost invariant = { λ p. IsSettled p.ranges.entries p.points p.count };
 }
 
 impl<U: Update> Settled<U> {
@@ -58,7 +59,7 @@ impl<U: Update> Settled<U> {
     {
         Settled {
             ranges: BTreeMap::new(alloc),
-            points: BTreeMap::new(alloc),
+            points: Points::new(alloc),
             count: 0,
         }
     }
@@ -85,7 +86,7 @@ impl<U: Update> Settled<U> {
     {
         match self.ranges.first_key_value() {
             Some((lo, hi)) => Some(Eldest::Range(lo, hi.as_ref())),
-            None => match self.points.first_key_value() {
+            None => match self.points.first() {
                 Some((key, run)) => Some(Eldest::Run(key, run)),
                 None => None,
             },
@@ -99,7 +100,7 @@ impl<U: Update> Settled<U> {
         ensures unchanged { OnErr result (self.new ≡ self.old) }
         ensures back { IfErr result (λ m. m ≡ msg.Put key value) }
     {
-        match points::overwrite(&mut self.points, key, Run::Put(value)) {
+        match self.points.overwrite(key, Run::Put(value)) {
             Ok(gone) => {
                 self.count = self.count + 1 - gone;
                 Ok(())
@@ -118,7 +119,7 @@ impl<U: Update> Settled<U> {
         ensures unchanged { OnErr result (self.new ≡ self.old) }
         ensures back { IfErr result (λ m. m ≡ msg.Del key) }
     {
-        match points::overwrite(&mut self.points, key, Run::Del) {
+        match self.points.overwrite(key, Run::Del) {
             Ok(gone) => {
                 self.count = self.count + 1 - gone;
                 Ok(())
@@ -134,7 +135,7 @@ impl<U: Update> Settled<U> {
         ensures unchanged { OnErr result (self.new ≡ self.old) }
         ensures back { IfErr result (λ m. m ≡ msg.Edit key update) }
     {
-        match points::edit(&mut self.points, alloc, key, update) {
+        match self.points.edit(alloc, key, update) {
             Ok((before, after)) => {
                 self.count = self.count - before + after;
                 Ok(())
@@ -157,7 +158,7 @@ impl<U: Update> Settled<U> {
         let Ok(()) = ranges::lay(&mut self.ranges, alloc, &range) else {
             return Err(Msg::DelRange(range));
         };
-        self.count = points::clear(&mut self.points, alloc, &range, self.count);
+        self.count = self.points.clear(&range, self.count);
         Ok(())
     }
 
@@ -187,9 +188,27 @@ impl<U: Update> Settled<U> {
         if let Some((lo, hi)) = self.ranges.pop_first() {
             return Some(Oldest::Range(KeyRange { lo, hi }));
         }
-        let (key, run) = self.points.pop_first()?;
+        let (key, run) = self.points.pop()?;
         self.count -= run.len();
         Some(Oldest::Run(key, run))
+    }
+
+    /// Moves the oldest messages of another list, those of one key and at most `most`, into the place of their key, newer than
+    /// all that are here, and counts them. None come where a range-delete stands before them, or where [`Points::take_first`]
+    /// takes none.
+    pub(crate) fn take_first(&mut self, from: &mut Settled<U>, most: usize) -> Option<usize>
+        ensures takes { IfSome result (λ n. Takes U.means self.old (take n from.old) self.new) }
+        ensures left { IfSome result (λ n. from.new ≡ drop n from.old) }
+        ensures within { IfSome result (λ n. (0 < n) × (n ≤ most) × (n ≤ length from.old)) }
+        ensures none { IfNone result ((self.new ≡ self.old) × (from.new ≡ from.old)) }
+    {
+        if from.ranges.len() > 0 || self.len() >= MOST - most.min(MOST) {
+            return None;
+        }
+        let (came, gone) = self.points.take_first(&mut from.points, most)?;
+        from.count -= came;
+        self.count = self.count + came - gone;
+        Some(came)
     }
 
     /// Copies of the messages, put behind those in `front`, until it has so many or more.
@@ -202,7 +221,7 @@ impl<U: Update> Settled<U> {
         ensures { OnOk result (take count front.new.items ≡ take count (front.old.items ++ self.now)) }
     {
         ranges::copy_into(&self.ranges, alloc, count, front)?;
-        points::copy_into(&self.points, alloc, count, front)?;
+        self.points.copy_into(alloc, count, front)?;
         Ok(())
     }
 
@@ -211,7 +230,7 @@ impl<U: Update> Settled<U> {
         ensures { IfOk result (IsTold U.means self.now key.now) }
     {
         let is_covered = ranges::is_covered(&self.ranges, key);
-        match points::run_at(&self.points, key) {
+        match self.points.run_at(key) {
             Some(run) => run.told(alloc, is_covered),
             None => Ok(untouched(is_covered)),
         }
@@ -226,11 +245,11 @@ impl<U: Update> Settled<U> {
         requires { is_below from.now (option_copied end) ≡ true }
         ensures { EndsAhead self.now from.now (option_copied end.entry) (option_map option_copied result) }
     {
-        if points::run_at(&self.points, from).is_some() {
+        if self.points.run_at(from).is_some() {
             return None;
         }
         let stop = ranges::stretch_end::<U>(&self.ranges, from, end);
-        Some(points::stretch_end(&self.points, from, stop))
+        Some(self.points.stretch_end(from, stop))
     }
 
     /// The value at the key after the messages, where `old` was there.
@@ -243,7 +262,7 @@ impl<U: Update> Settled<U> {
         ensures { IfOk result (λ v. v ≡ effects U.means self.now key.now old) }
     {
         let below = unless(ranges::is_covered(&self.ranges, key), old);
-        match points::run_at(&self.points, key) {
+        match self.points.run_at(key) {
             Some(run) => run.apply(alloc, below),
             None => Ok(below),
         }
@@ -260,10 +279,10 @@ impl<U: Update> Settled<U> {
         ensures parted { IfOk result (λ o. MatchOption o (self.new ≡ self.old) (IsParted lo.now pivot.now self.old self.new)) }
         ensures err { OnErr result (self.new ≡ self.old) }
     {
-        if self.ranges.len() > 0 || !points::begin_from(&self.points, lo) {
+        if self.ranges.len() > 0 || !self.points.begin_from(lo) {
             return Ok(None);
         }
-        let (points, count) = points::split_off(&mut self.points, pivot)?;
+        let (points, count) = self.points.split_off(pivot)?;
         self.count -= count;
         Ok(Some(Settled {
             ranges: BTreeMap::new(alloc),
@@ -277,7 +296,7 @@ impl<U: Update> Settled<U> {
         ensures { IfOk result (λ p. p ≡ self.now) }
     {
         let ranges = ranges::copy(&self.ranges, alloc)?;
-        let points = points::copy(&self.points, alloc)?;
+        let points = self.points.copy(alloc)?;
         Ok(Settled {
             ranges,
             points,

@@ -154,6 +154,20 @@ impl<U: Update> Sorted<U> {
         }
     }
 
+    /// Moves the oldest messages of another list, those of one key and at most `most`, into the place of their key, newer than
+    /// all that are here, and counts them. None come where it can't be done without copies.
+    pub(crate) fn take_first(&mut self, from: &mut Sorted<U>, most: usize) -> Option<usize>
+        ensures takes { IfSome result (λ n. Takes U.means self.old (take n from.old) self.new) }
+        ensures left { IfSome result (λ n. from.new ≡ drop n from.old) }
+        ensures within { IfSome result (λ n. (0 < n) × (n ≤ most) × (n ≤ length from.old)) }
+        ensures none { IfNone result ((self.new ≡ self.old) × (from.new ≡ from.old)) }
+    {
+        if from.front.is_some() || self.len() >= MOST - most.min(MOST) {
+            return None;
+        }
+        self.rest.take_first(&mut from.rest, most)
+    }
+
     /// Copies of the `count` oldest messages, or of all where there are fewer.
     pub(crate) fn copy_front(&self, alloc: Global, count: usize) -> Result<Vec<Msg<U>>, NoMemory>
         ensures { IfOk result (λ front. front.items ≡ take count self.now) }
