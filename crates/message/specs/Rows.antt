@@ -113,3 +113,7 @@ module _ {X : Type 0} where
   -- a value was put at the key, if anything changed
   abbrev pub IsWritten : List ℕ → List (List ℕ × X) → List (List ℕ × X) → Type 0
   IsWritten k es fs = (fs ≡ es) ⊎ ((w : X) × (fs ≡ insert_entry by_bytes es k w))
+
+  -- the first entry has left a list for its place in another
+  abbrev pub IsMovedIn : List (List ℕ × X) → List (List ℕ × X) → List (List ℕ × X) → List (List ℕ × X) → Type 0
+  IsMovedIn from es left fs = (e : List ℕ × X) × (from ≡ e ∷ left) × (fs ≡ insert_entry by_bytes es e.0 e.1)
