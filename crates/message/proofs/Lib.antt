@@ -18,6 +18,7 @@ pub mod CountingRanges
 pub mod Telling
 pub mod NextKey
 pub mod Parting
+pub mod Taking
 pub mod StretchEnds
 pub mod Searching
 pub mod SortedStretches

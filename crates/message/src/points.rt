@@ -1,9 +1,10 @@
 //! The point messages of a sorted list, by their keys.
 ghost use Rattle.std.specs.Prelude.{◌≡◌, ◌+◌, ◌≤◌, ◌<◌, ◌^◌, not, true, false, ℕ, List, [], length, Option, None, take, ◌++◌, OnOk, OnErr, IfOk, IfErr, IfNone, IfSome};
-ghost use Rattle.std.specs.List.{filter, slice_get};
+ghost use Rattle.std.specs.List.{All, filter, slice_get};
 ghost use Rattle.std.specs.Map.{keys_of};
 ghost use Rattle.std.specs.Option.{option_copied, option_map, option_to_list};
 ghost use Rattle.pathkey.specs.Keys.{is_below, is_in};
+ghost use Rattle.message.specs.Ranges.{reaches, before};
 ghost use Rattle.message.specs.Rows.{unboxed, Rises, place, end_place, joined, AreFilled, AreRows, or_next, IsHolder, IsGap, IsWritten};
 ghost use Rattle.message.specs.Runs.{run_len, run_effect, run_msgs, IsRunKeyed};
 ghost use Rattle.message.specs.Stretches.{IsStretch};
@@ -56,7 +57,9 @@ impl<U: Update> Points<U> {
     }
 
     /// Whether no key stands before `lo`.
-    pub(crate) fn begin_from(&self, lo: &Key) -> bool {
+    pub(crate) fn begin_from(&self, lo: &Key) -> bool
+        ensures { result ≡ true → All (λ k. reaches lo.now k ≡ true) (keys_of self.now) }
+    {
         match self.first() {
             None => true,
             Some((first, _)) => lo.cmp(first).is_le(),
@@ -64,7 +67,14 @@ impl<U: Update> Points<U> {
     }
 
     /// Moves the messages at the pivot and behind it out, and counts them.
-    pub(crate) fn split_off(&mut self, pivot: &Key) -> Result<(Points<U>, usize), NoMemory> {
+    pub(crate) fn split_off(&mut self, pivot: &Key) -> Result<(Points<U>, usize), NoMemory>
+        requires { point_count self.old < 2 ^ 63 }
+        ensures parts { IfOk result (λ r. self.old ≡ self.new ++ r.0) }
+        ensures front { OnOk result (All (λ k. before k pivot.now ≡ true) (keys_of self.new)) }
+        ensures back { IfOk result (λ r. All (λ k. reaches pivot.now k ≡ true) (keys_of r.0)) }
+        ensures counted { IfOk result (λ r. r.1 ≡ point_count r.0) }
+        ensures err { OnErr result (self.new ≡ self.old) }
+    {
         if self.rows.len() == 0 {
             return Ok((Points { rows: Vec::new(*self.rows.allocator()) }, 0));
         }
@@ -99,6 +109,7 @@ impl<U: Update> Points<U> {
         ensures moved { IfSome result (λ n. TakesFirst U.means n.0 n.1 most from.old self.old from.new self.new) }
         ensures keyed { AreRunsKeyed self.old → AreRunsKeyed self.new }
         ensures ordered { Rises self.new }
+        ensures was_ordered { Rises self.old }
         ensures none { IfNone result ((self.new ≡ self.old) × (from.new ≡ from.old)) }
     {
         let (key, run) = from.first()?;

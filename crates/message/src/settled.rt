@@ -3,9 +3,10 @@ ghost use Rattle.std.specs.Prelude.{true, ◌≡◌, ◌+◌, ◌^◌, ◌<◌, 
 ghost use Rattle.message.specs.declared.msg.Msg.TheVariants as msg;
 ghost use Rattle.message.specs.declared.told.Told.TheVariants as told;
 ghost use Rattle.message.specs.Cuts.{IsParted};
-ghost use Rattle.message.specs.Effects.{effects, range_count, Takes};
+ghost use Rattle.message.specs.Effects.{effects, point, range_count, Takes};
 ghost use Rattle.message.specs.Eldest.{eldest_msg};
-ghost use Rattle.std.specs.List.{slice_get};
+ghost use Rattle.std.specs.List.{All, slice_get};
+ghost use Rattle.message.specs.Oldest.{first_point};
 ghost use Rattle.message.specs.Oldests.{oldest_msgs, IsOldestKeyed};
 ghost use Rattle.message.specs.Stretches.{EndsAhead};
 ghost use Rattle.message.specs.Told.{IsTold};
@@ -200,6 +201,7 @@ impl<U: Update> Settled<U> {
         ensures takes { IfSome result (λ n. Takes U.means self.old (take n from.old) self.new) }
         ensures left { IfSome result (λ n. from.new ≡ drop n from.old) }
         ensures within { IfSome result (λ n. (0 < n) × (n ≤ most) × (n ≤ length from.old)) }
+        ensures alike { IfSome result (λ n. All (λ m. point m ≡ first_point from.old) (take n from.old)) }
         ensures none { IfNone result ((self.new ≡ self.old) × (from.new ≡ from.old)) }
     {
         if from.ranges.len() > 0 || self.len() >= MOST - most.min(MOST) {
