@@ -131,26 +131,26 @@ fn sink_copies<U: Update>(alloc: Global, room: u16, slot: &mut Slot<U>) -> StepR
     reply
 }
 
-/// Moves a list's oldest message into the slot that holds its key, and says whether it did: a range-delete stays, and a
-/// message whose key lies before all slots.
-fn move_oldest<U: Update>(below: &mut [Slot<U>], list: &mut Pending<U>) -> Result<bool, NoMemory>
+/// Moves a list's oldest messages into the slot that holds their key, at most `most`, and counts them: those of one key in one
+/// go, or the first. A range-delete stays, and a message whose key lies before all slots.
+fn move_oldest<U: Update>(
+    below: &mut [Slot<U>],
+    list: &mut Pending<U>,
+    most: usize,
+) -> Result<usize, NoMemory>
     requires { AreRising (seen_slots below.old) }
-    ensures moved { IfOk result (λ moved. Moved U.means (if moved then 1 else 0) list.old.0 list.new.0 (seen_slots below.old) (seen_slots below.new)) }
+    ensures within { IfOk result (λ n. n ≤ most) }
+    ensures moved { IfOk result (λ n. Moved U.means n list.old.0 list.new.0 (seen_slots below.old) (seen_slots below.new)) }
     ensures kept { OnErr result ((list.new.0 ≡ list.old.0) × (seen_slots below.new ≡ seen_slots below.old)) }
 {
     let Some(key) = list.oldest_point() else {
-        return Ok(false);
+        return Ok(0);
     };
     let Some(i) = holder(below, key) else {
-        return Ok(false);
+        return Ok(0);
     };
     let slot = &mut below[i];
-    slot.pending.reserve(1)?;
-    let Some(msg) = list.pop() else {
-        unreachable!()
-    };
-    slot.pending.push_reserved(msg);
-    Ok(true)
+    list.sink_oldest(&mut slot.pending, most)
 }
 
 /// Moves a list's oldest messages into the slots that hold their keys, at most `room`, up to one that stays or finds no
@@ -167,9 +167,9 @@ fn move_points<U: Update>(
 {
     let mut count = 0;
     while count < room {
-        match move_oldest(below, list) {
-            Ok(true) => count += 1,
-            Ok(false) => return Ok(count),
+        match move_oldest(below, list, room - count) {
+            Ok(0) => return Ok(count),
+            Ok(more) => count += more,
             Err(refused) => return if count == 0 { Err(refused) } else { Ok(count) },
         }
     }

@@ -62,7 +62,7 @@ module _ {U V : Type 0} where
     keyed = λ a. (a.0, r.keyed a.1);
   })
 
-  pub copied_run : (es fs new all : List (List ℕ × Run U V)) (k : List ℕ) (v w : Run U V) → IsStrictlySortedBy by_bytes (keys_of all) → AreCopies (es ++ (k, v) ∷ fs) all → new ≡ insert_entry by_bytes es k w → ((q : List ℕ) → run_msgs q w ≡ run_msgs q v) → ((q : List ℕ) → IsRunKeyed q v → IsRunKeyed q w) → AreCopies (new ++ fs) all
-  copied_run es fs new all k v w s a n m h =
-      let sorted = subst (λ ks. IsStrictlySortedBy by_bytes ks) (sym a.keys) s in
-      subst (λ t. AreCopies t all) (sym (inserted es fs new k v w sorted n)) (copies_trans (es ++ (k, w) ∷ fs) (es ++ (k, v) ∷ fs) all (replaced es fs k v w m h) a)
+  -- a copy of the next run is put behind those before it
+  pub copied_run : (es fs new all : List (List ℕ × Run U V)) (k : List ℕ) (v w : Run U V) → AreCopies (es ++ (k, v) ∷ fs) all → new ≡ es ++ (k, w) ∷ [] → ((q : List ℕ) → run_msgs q w ≡ run_msgs q v) → ((q : List ℕ) → IsRunKeyed q v → IsRunKeyed q w) → AreCopies (new ++ fs) all
+  copied_run es fs new all k v w a n m h =
+      subst (λ t. AreCopies t all) (sym (ap (λ t. t ++ fs) n ∙ append_assoc es ((k, w) ∷ []) fs)) (copies_trans (es ++ (k, w) ∷ fs) (es ++ (k, v) ∷ fs) all (replaced es fs k v w m h) a)

@@ -1,5 +1,5 @@
 -- What stands first in a sorted list.
-use Rattle.std.proofs.Common.{◌≡◌, ℕ, ◌<◌, refl, sym, ap, ◌∙◌, List, [], ◌∷◌, ◌++◌, length, Option, Some, false, true, arith}
+use Rattle.std.proofs.Common.{◌≡◌, ℕ, ◌<◌, refl, sym, ap, ◌∙◌, List, [], ◌∷◌, ◌++◌, length, Option, Some, None, false, true, arith}
 use Rattle.std.proofs.lemmas.Bool.{false≢true}
 use Rattle.std.specs.List.{slice_get}
 use Rattle.message.specs.declared.msg.Msg.{Msg}
@@ -28,3 +28,9 @@ module _ {U V : Type 0} where
   first_point (x ∷ rs) es k r none h = absurd (false≢true (none (omega arith)))
   first_point [] [] k r none h = absurd (cc)
   first_point [] (e ∷ es) k r none h = (let is : e ≡ (k, r) = cc in ap (λ x. Some (run_first x.0 x.1)) (sym is) ∙ first_of_run e.0 e.1 _)
+
+  -- and none where there is neither
+  pub first_none : (rs : List Span) (es : List (List ℕ × Run U V)) → (0 < length rs → false ≡ true) → None ≡ slice_get es 0 → None ≡ slice_get (settled_msgs rs es) 0
+  first_none (x ∷ rs) es none h = absurd (false≢true (none (omega arith)))
+  first_none [] [] none h = refl
+  first_none [] (e ∷ es) none h = absurd (cc)

@@ -18,7 +18,13 @@ pub mod CountingRanges
 pub mod Telling
 pub mod NextKey
 pub mod Parting
+pub mod Taking
 pub mod StretchEnds
 pub mod Searching
 pub mod SortedStretches
 pub mod PointKeys
+pub mod RowFacts
+pub mod RowChanges
+pub mod PointChanges
+pub mod RowsFacts
+pub mod PointRows

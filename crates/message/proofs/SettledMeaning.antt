@@ -110,7 +110,7 @@ module _ {U V : Type 0} where
   run_untouched k q (Edit u) e = ap (λ b. b || false) e
   run_untouched k q (Edits s) e = ap (λ b. b || any_touches {U = U} {V = V} (later_msgs k s.value.more.items) q) e ∙ later_untouched V k q s.value.more.items e
 
-  apart_from_untouched : (k q : List ℕ) (r : Run U V) → any_touches (run_msgs k r) q ≡ false → same k q ≡ false
+  pub apart_from_untouched : (k q : List ℕ) (r : Run U V) → any_touches (run_msgs k r) q ≡ false → same k q ≡ false
   apart_from_untouched k q (Put v) h = (or_parts (same k q) false h).0
   apart_from_untouched k q Del h = (or_parts (same k q) false h).0
   apart_from_untouched k q (Edit u) h = (or_parts (same k q) false h).0

@@ -10,3 +10,4 @@ pub mod PointKeys
 pub mod Search
 pub mod Oldests
 pub mod Eldest
+pub mod Rows

@@ -97,6 +97,16 @@ module _ {U V : Type 0} where
       pub meaning : (q : List ℕ) (o : Option V) → found_effect (look q fs) o ≡ (if same k q then f (found_effect (look q es) o) else found_effect (look q es) o)
       pub touched : (q : List ℕ) → same k q ≡ false → look q es ≡ None → look q fs ≡ None
 
+    -- the run of the first key, which is at most `most` messages, has left a list and lies over another, where `gone` messages went
+    pub record TakesFirst (came gone most : ℕ) (from old left new : List (List ℕ × Run U V)) : Type 0 where
+      pub key : List ℕ
+      pub run : Run U V
+      pub parts : from ≡ (key, run) ∷ left
+      pub all : came ≡ run_len run
+      pub few : came ≤ most
+      pub lays : Lays key (run_effect means run) old new
+      pub counted : point_count new + gone ≡ point_count old + came
+
 -- the last entry whose key passes
 abbrev pub last_or : {X : Type 0} → Bool → X → Option X → Option X
 last_or b x None = if b then Some x else None

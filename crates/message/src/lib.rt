@@ -13,6 +13,8 @@ pub mod msg;
 pub mod pending;
 pub(crate) mod points;
 pub(crate) mod ranges;
+pub mod row;
+pub(crate) mod rows;
 pub mod run;
 pub mod search;
 pub mod settled;

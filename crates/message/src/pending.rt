@@ -5,9 +5,9 @@
 //! callers that rely on the contract do not notice. No call lends a message or asks for one by its number.
 ghost use Rattle.std.specs.Prelude.{◌≡◌, ◌+◌, ◌≤◌, ◌<◌, ◌++◌, [], ◌∷◌, true, length, take, drop, Some, None, IfOk, IfNone, IfSome, OnOk, OnErr, MatchOption};
 ghost use Rattle.std.specs.Option.{option_copied, option_map, option_to_list};
-ghost use Rattle.std.specs.List.{slice_get};
+ghost use Rattle.std.specs.List.{All, slice_get};
 ghost use Rattle.message.specs.Cuts.{pieces};
-ghost use Rattle.message.specs.Effects.{effects, range_count, Takes};
+ghost use Rattle.message.specs.Effects.{effects, point, range_count, Takes};
 ghost use Rattle.message.specs.Eldest.{eldest_msg};
 ghost use Rattle.message.specs.Oldest.{first_point, first_put, first_given, meets_first, covers_first};
 ghost use Rattle.message.specs.PointKeys.{is_cleared, IsNextPoint, IsClearStretch};
@@ -327,7 +327,7 @@ impl<U: Update> Pending<U> {
     }
 
     /// Takes the oldest message out. It takes no memory.
-    pub fn pop(&mut self) -> Option<Msg<U>>
+    fn pop(&mut self) -> Option<Msg<U>>
         ensures moved { self.old.0 ≡ option_to_list result ++ self.new.0 }
         ensures end { IfNone result (self.old.0 ≡ []) }
         ensures room { self.old.1 ≤ self.new.1 }
@@ -336,6 +336,61 @@ impl<U: Update> Pending<U> {
             Some(oldest) => Some(oldest),
             None => self.fresh.pop(),
         }
+    }
+
+    /// Moves the oldest messages to another list, where they are newer than all others, and counts them: all of one key as they
+    /// lie in memory, where there are at most `most` and that can be, else the first. On want of memory both lists are as they
+    /// were.
+    pub fn sink_oldest(&mut self, to: &mut Pending<U>, most: usize) -> Result<usize, NoMemory>
+        ensures takes { IfOk result (λ n. Takes U.means to.old.0 (take n self.old.0) to.new.0) }
+        ensures left { IfOk result (λ n. self.new.0 ≡ drop n self.old.0) }
+        ensures within { IfOk result (λ n. (n ≤ most) × (n ≤ length self.old.0)) }
+        ensures some { IfOk result (λ n. 0 < most → 0 < length self.old.0 → 0 < n) }
+        ensures still { IfOk result (λ n. n ≡ 0 → to.new.0 ≡ to.old.0) }
+        ensures alike { IfOk result (λ n. All (λ m. point m ≡ first_point self.old.0) (take n self.old.0)) }
+        ensures err { OnErr result ((self.new.0 ≡ self.old.0) × (to.new.0 ≡ to.old.0)) }
+    {
+        if most == 0 {
+            return Ok(0);
+        }
+        match self.sink_run(to, most) {
+            Some(count) => Ok(count),
+            None => self.sink_one(to),
+        }
+    }
+
+    /// Moves the oldest messages, those of one key and at most `most`, as they lie in memory, and counts them. None move where
+    /// the other list has a tail, or where its sorted part takes none.
+    fn sink_run(&mut self, to: &mut Pending<U>, most: usize) -> Option<usize>
+        ensures takes { IfSome result (λ n. Takes U.means to.old.0 (take n self.old.0) to.new.0) }
+        ensures left { IfSome result (λ n. self.new.0 ≡ drop n self.old.0) }
+        ensures within { IfSome result (λ n. (0 < n) × (n ≤ most) × (n ≤ length self.old.0)) }
+        ensures alike { IfSome result (λ n. All (λ m. point m ≡ first_point self.old.0) (take n self.old.0)) }
+        ensures none { IfNone result ((self.new.0 ≡ self.old.0) × (to.new.0 ≡ to.old.0)) }
+    {
+        if to.fresh.len() > 0 {
+            return None;
+        }
+        let count = to.sorted.take_first(&mut self.sorted, most)?;
+        Some(count)
+    }
+
+    /// Moves the oldest message, if there is one, and answers how many moved.
+    fn sink_one(&mut self, to: &mut Pending<U>) -> Result<usize, NoMemory>
+        ensures takes { IfOk result (λ n. Takes U.means to.old.0 (take n self.old.0) to.new.0) }
+        ensures left { IfOk result (λ n. self.new.0 ≡ drop n self.old.0) }
+        ensures within { IfOk result (λ n. (n ≤ 1) × (n ≤ length self.old.0)) }
+        ensures some { IfOk result (λ n. 0 < length self.old.0 → 0 < n) }
+        ensures still { IfOk result (λ n. n ≡ 0 → to.new.0 ≡ to.old.0) }
+        ensures alike { IfOk result (λ n. All (λ m. point m ≡ first_point self.old.0) (take n self.old.0)) }
+        ensures err { OnErr result ((self.new.0 ≡ self.old.0) × (to.new.0 ≡ to.old.0)) }
+    {
+        to.reserve(1)?;
+        let Some(msg) = self.pop() else {
+            return Ok(0);
+        };
+        to.push_reserved(msg);
+        Ok(1)
     }
 
     /// Takes the `count` oldest messages away.

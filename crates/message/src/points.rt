@@ -1,83 +1,470 @@
 //! The point messages of a sorted list, by their keys.
-ghost use Rattle.std.specs.Prelude.{◌≡◌, ◌+◌, ◌≤◌, ◌<◌, ◌^◌, not, true, false, ℕ, List, length, Option, None, take, ◌++◌, OnOk, OnErr, IfOk, IfErr, IfSome, IfNone};
-ghost use Rattle.std.specs.BTreeMap.{IsOrdered};
-ghost use Rattle.std.specs.List.{filter, All};
+ghost use Rattle.std.specs.Prelude.{◌≡◌, ◌+◌, ◌≤◌, ◌<◌, ◌^◌, not, true, false, ℕ, List, [], length, Option, None, take, ◌++◌, OnOk, OnErr, IfOk, IfErr, IfNone, IfSome};
+ghost use Rattle.std.specs.List.{All, filter, slice_get};
 ghost use Rattle.std.specs.Map.{keys_of};
-ghost use Rattle.std.specs.Option.{option_copied};
+ghost use Rattle.std.specs.Option.{option_copied, option_map, option_to_list};
 ghost use Rattle.pathkey.specs.Keys.{is_below, is_in};
-ghost use Rattle.pathkey.specs.Order.{by_bytes};
-ghost use Rattle.message.specs.Ranges.{before, reaches};
+ghost use Rattle.message.specs.Ranges.{reaches, before};
+ghost use Rattle.message.specs.Rows.{unboxed, Rises, place, end_place, joined, AreFilled, AreRows, or_next, IsHolder, IsGap, IsWritten};
 ghost use Rattle.message.specs.Runs.{run_len, run_effect, run_msgs, IsRunKeyed};
 ghost use Rattle.message.specs.Stretches.{IsStretch};
-ghost use Rattle.message.specs.Settled.{AreRunsKeyed, Lays, look, point_msgs, point_count};
+ghost use Rattle.message.specs.Settled.{AreRunsKeyed, Lays, look, first_behind, point_msgs, point_count, TakesFirst};
 
 use crate::ends::earlier;
 use crate::msg::Msg;
-use crate::ranges::{end_of, first_behind, put};
+use crate::row::{Item, Row};
+use crate::rows::{drop_empty, end_row, first_in, number_in, pop_in, pop_item, prepare};
 use crate::run::Run;
-use crate::update::Update;
+use crate::update::{Changes, Update};
 use pathkey::{Key, KeyRange, NoMemory};
 use std::alloc::Global;
-use std::collections::BTreeMap;
-use std::ops::Bound;
+use std::marker::Model;
 
-/// Puts one message, which does not ask what was there, in the place of the key's messages, and answers how many they
-/// were. On want of memory it comes back.
-pub(crate) fn overwrite<U: Update>(
-    points: &mut BTreeMap<Key, Run<U>>,
-    key: Key,
-    run: Run<U>,
-) -> Result<usize, (Key, Run<U>)>
-    requires { (v w : Option U.Value) → run_effect U.means run v ≡ run_effect U.means run w }
-    ensures ordered { IsOrdered by_bytes points.new }
-    ensures was_ordered { IsOrdered by_bytes points.old }
-    ensures lays { OnOk result (Lays U.means key (run_effect U.means run) points.old.entries points.new.entries) }
-    ensures counted { IfOk result (λ gone. point_count points.new.entries + gone ≡ point_count points.old.entries + run_len run) }
-    ensures keyed { IsRunKeyed key run → AreRunsKeyed points.old.entries → AreRunsKeyed points.new.entries }
-    ensures unchanged { OnErr result (points.new.entries ≡ points.old.entries) }
-    ensures back { IfErr result (λ p. p ≡ (key, run)) }
-{
-    match points.insert(key, run) {
-        Ok(None) => Ok(0),
-        Ok(Some(old)) => Ok(old.len()),
-        Err(refused) => Err(refused.value),
+/// The messages that wait at single keys, those of each key in one place, in the order of the keys.
+#[derive(Drop)]
+pub struct Points<U: Changes> {
+    rows: Vec<Row<Run<U>>>,
+}
+
+impl<U: Changes> Model for Points<U> {
+    ghost use Rattle.std.specs.Prelude.{List, ℕ};
+    ghost use Rattle.message.specs.declared.run.Run.{Run};
+
+    ghost Value = { List (List ℕ × Run U U.Value) };
+
+    ghost use Rattle.message.specs.Rows.{joined, AreRows};
+
+    ghost view = { λ p. joined p.rows.items };
+
+    ghost invariant = { λ p. AreRows p.rows.items };
+}
+
+impl<U: Update> Points<U> {
+    /// No messages. It takes no memory.
+    pub(crate) fn new(alloc: Global) -> Points<U>
+        ensures { result ≡ [] }
+    {
+        Points {
+            rows: Vec::new(alloc),
+        }
+    }
+
+    /// The messages of the first key.
+    pub(crate) fn first(&self) -> Option<(&Key, &Run<U>)>
+        ensures { option_map (λ p. (p.0.now, p.1.now)) result ≡ slice_get self.now 0 }
+    {
+        first_in(self.rows.as_slice())
+    }
+
+    /// Whether no key stands before `lo`.
+    pub(crate) fn begin_from(&self, lo: &Key) -> bool
+        ensures { result ≡ true → All (λ k. reaches lo.now k ≡ true) (keys_of self.now) }
+    {
+        match self.first() {
+            None => true,
+            Some((first, _)) => lo.cmp(first).is_le(),
+        }
+    }
+
+    /// Moves the messages at the pivot and behind it out, and counts them.
+    pub(crate) fn split_off(&mut self, pivot: &Key) -> Result<(Points<U>, usize), NoMemory>
+        requires { point_count self.old < 2 ^ 63 }
+        ensures parts { IfOk result (λ r. self.old ≡ self.new ++ r.0) }
+        ensures front { OnOk result (All (λ k. before k pivot.now ≡ true) (keys_of self.new)) }
+        ensures back { IfOk result (λ r. All (λ k. reaches pivot.now k ≡ true) (keys_of r.0)) }
+        ensures counted { IfOk result (λ r. r.1 ≡ point_count r.0) }
+        ensures err { OnErr result (self.new ≡ self.old) }
+    {
+        if self.rows.len() == 0 {
+            return Ok((Points { rows: Vec::new(*self.rows.allocator()) }, 0));
+        }
+        let n = number_in(self.rows.as_slice(), pivot);
+        let at = self.rows[n].before(pivot);
+        let mut rows = Vec::with_capacity(*self.rows.allocator(), self.rows.len() - n)?;
+        let back = self.rows[n].split_off(at)?;
+        rows.push_reserved(back);
+        let later = self.rows.split_off(n + 1)?;
+        for row in later {
+            rows.push_reserved(row);
+        }
+        let mut count = 0;
+        for row in rows.as_slice() {
+            count += count_of(row.entries());
+        }
+        drop_empty(&mut self.rows);
+        drop_empty(&mut rows);
+        Ok((Points { rows }, count))
+    }
+
+    /// Moves the messages of the first key of another list, at most `most` of them and newer than all that are here, to their
+    /// place as they lie in memory, and answers how many came, how many stood there, and how many do now. None come where
+    /// `from` has none, where they are more, where there is no memory for their place, or where updates would be laid over
+    /// messages that are here.
+    pub(crate) fn take_first(
+        &mut self,
+        from: &mut Points<U>,
+        most: usize,
+    ) -> Option<(usize, usize)>
+        requires keyed { AreRunsKeyed from.old }
+        ensures moved { IfSome result (λ n. TakesFirst U.means n.0 n.1 most from.old self.old from.new self.new) }
+        ensures keyed { AreRunsKeyed self.old → AreRunsKeyed self.new }
+        ensures ordered { Rises self.new }
+        ensures was_ordered { Rises self.old }
+        ensures none { IfNone result ((self.new ≡ self.old) × (from.new ≡ from.old)) }
+    {
+        let (key, run) = from.first()?;
+        let came = run.len();
+        let is_whole = run.is_whole();
+        if came > most || !prepare(&mut self.rows, key) {
+            return None;
+        }
+        let n = number_in(self.rows.as_slice(), key);
+        let row = &mut self.rows[n];
+        match row.find(key) {
+            Ok(i) if is_whole => {
+                let item = pop_item(&mut from.rows)?;
+                let old = row.swap_item(i, item);
+                Some((came, old.value().len()))
+            }
+            Ok(_) => None,
+            Err(i) if row.put_first(i, &mut from.rows) => Some((came, 0)),
+            Err(_) => None,
+        }
+    }
+
+    /// Takes the messages of the first key out. It takes no memory.
+    pub(crate) fn pop(&mut self) -> Option<(Key, Run<U>)>
+        ensures moved { self.old ≡ option_to_list result ++ self.new }
+        ensures end { IfNone result (self.old ≡ []) }
+    {
+        pop_in(&mut self.rows)
+    }
+
+    /// Puts one message, which does not ask what was there, in the place of the key's messages, and answers how many they
+    /// were. On want of memory it comes back.
+    pub(crate) fn overwrite(&mut self, key: Key, run: Run<U>) -> Result<usize, (Key, Run<U>)>
+        requires { (v w : Option U.Value) → run_effect U.means run v ≡ run_effect U.means run w }
+        ensures ordered { Rises self.new }
+        ensures was_ordered { Rises self.old }
+        ensures lays { OnOk result (Lays U.means key (run_effect U.means run) self.old self.new) }
+        ensures counted { IfOk result (λ gone. point_count self.new + gone ≡ point_count self.old + run_len run) }
+        ensures keyed { IsRunKeyed key run → AreRunsKeyed self.old → AreRunsKeyed self.new }
+        ensures unchanged { OnErr result (self.new ≡ self.old) }
+        ensures back { IfErr result (λ p. p ≡ (key, run)) }
+    {
+        if !prepare(&mut self.rows, &key) {
+            return Err((key, run));
+        }
+        overwrite_among(&mut self.rows, key, run)
+    }
+
+    /// Lays an update over the key, and answers how many messages stood there and how many do now. On want of memory the
+    /// update comes back.
+    pub(crate) fn edit(
+        &mut self,
+        alloc: Global,
+        key: Key,
+        update: U,
+    ) -> Result<(usize, usize), (Key, U)>
+        ensures ordered { Rises self.new }
+        ensures was_ordered { Rises self.old }
+        ensures lays { OnOk result (Lays U.means key (U.means update) self.old self.new) }
+        ensures counted { IfOk result (λ n. point_count self.new + n.0 ≡ point_count self.old + n.1) }
+        ensures bound { IfOk result (λ n. n.1 ≤ n.0 + 1) }
+        ensures within { IfOk result (λ n. n.0 ≤ point_count self.old) }
+        ensures keyed { AreRunsKeyed self.old → AreRunsKeyed self.new }
+        ensures unchanged { OnErr result (point_msgs self.new ≡ point_msgs self.old) }
+        ensures back { IfErr result (λ p. p ≡ (key, update)) }
+    {
+        if !prepare(&mut self.rows, &key) {
+            return Err((key, update));
+        }
+        edit_among(&mut self.rows, alloc, key, update)
+    }
+
+    /// Takes away the messages at the keys of a range, and answers how many are left of `count`.
+    pub(crate) fn clear(&mut self, range: &KeyRange, count: usize) -> usize
+        requires some { is_below range.now.lo range.now.hi ≡ true }
+        requires counted { count ≡ point_count self.old }
+        requires small { count < 2 ^ 63 }
+        ensures entries { self.new ≡ filter (λ e. not (is_in range.now e.0)) self.old }
+        ensures ordered { Rises self.new }
+        ensures was_ordered { Rises self.old }
+        ensures counted { result ≡ point_count self.new }
+    {
+        clear_rows(&mut self.rows, range, count)
+    }
+
+    /// The messages at a key.
+    pub(crate) fn run_at(&self, key: &Key) -> Option<&Run<U>>
+        ensures value { option_copied result ≡ look key.now self.now }
+        ensures ordered { Rises self.now }
+    {
+        run_among(self.rows.as_slice(), key)
+    }
+
+    /// Where the next key behind `from` stands that has messages, if that is before `end`; else `end`. There are none at `from`.
+    pub(crate) fn stretch_end<'a>(&'a self, from: &Key, end: Option<&'a Key>) -> Option<&'a Key>
+        requires none { look from.now self.now ≡ None }
+        requires some { is_below from.now (option_copied end) ≡ true }
+        ensures { IsStretch (point_msgs self.now) from.now (option_copied end.entry) (option_copied result) }
+    {
+        earlier(end, behind_among(self.rows.as_slice(), from))
+    }
+
+    /// Copies of the messages, put behind those in `front`, until it has so many or more.
+    pub(crate) fn copy_into(
+        &self,
+        alloc: Global,
+        count: usize,
+        front: &mut Vec<Msg<U>>,
+    ) -> Result<(), NoMemory>
+        ensures { OnOk result (take count front.new.items ≡ take count (front.old.items ++ point_msgs self.now)) }
+    {
+        copy_rows_into(self.rows.as_slice(), alloc, count, front)
+    }
+
+    /// The same messages at the same keys.
+    pub(crate) fn copy(&self, alloc: Global) -> Result<Points<U>, NoMemory>
+        ensures same { IfOk result (λ p. point_msgs p ≡ point_msgs self.now) }
+        ensures keyed { IfOk result (λ p. AreRunsKeyed self.now → AreRunsKeyed p) }
+    {
+        let rows = copy_rows(self.rows.as_slice(), alloc)?;
+        Ok(Points { rows })
     }
 }
 
-/// Lays an update over the key, and answers how many messages stood there and how many do now. On want of memory the
-/// update comes back.
-pub(crate) fn edit<U: Update>(
-    points: &mut BTreeMap<Key, Run<U>>,
+/// Puts one message in the place of the key's messages among rows, as [`Points::overwrite`] does.
+fn overwrite_among<U: Update>(
+    rows: &mut Vec<Row<Run<U>>>,
+    key: Key,
+    run: Run<U>,
+) -> Result<usize, (Key, Run<U>)>
+    requires idle { (v w : Option U.Value) → run_effect U.means run v ≡ run_effect U.means run w }
+    requires rows { AreRows rows.old.items }
+    requires some { 0 < length rows.old.items }
+    ensures rows { AreRows rows.new.items }
+    ensures lays { OnOk result (Lays U.means key (run_effect U.means run) (joined rows.old.items) (joined rows.new.items)) }
+    ensures counted { IfOk result (λ gone. point_count (joined rows.new.items) + gone ≡ point_count (joined rows.old.items) + run_len run) }
+    ensures keyed { IsRunKeyed key run → AreRunsKeyed (joined rows.old.items) → AreRunsKeyed (joined rows.new.items) }
+    ensures unchanged { OnErr result (joined rows.new.items ≡ joined rows.old.items) }
+    ensures back { IfErr result (λ p. p ≡ (key, run)) }
+{
+    let n = number_in(rows.as_slice(), &key);
+    let row = &mut rows[n];
+    overwrite_in(row, key, run)
+}
+
+/// Lays an update over the key among rows, as [`Points::edit`] does.
+fn edit_among<U: Update>(
+    rows: &mut Vec<Row<Run<U>>>,
     alloc: Global,
     key: Key,
     update: U,
 ) -> Result<(usize, usize), (Key, U)>
-    ensures ordered { IsOrdered by_bytes points.new }
-    ensures was_ordered { IsOrdered by_bytes points.old }
-    ensures lays { OnOk result (Lays U.means key (U.means update) points.old.entries points.new.entries) }
-    ensures counted { IfOk result (λ n. point_count points.new.entries + n.0 ≡ point_count points.old.entries + n.1) }
+    requires rows { AreRows rows.old.items }
+    requires some { 0 < length rows.old.items }
+    ensures rows { AreRows rows.new.items }
+    ensures lays { OnOk result (Lays U.means key (U.means update) (joined rows.old.items) (joined rows.new.items)) }
+    ensures counted { IfOk result (λ n. point_count (joined rows.new.items) + n.0 ≡ point_count (joined rows.old.items) + n.1) }
     ensures bound { IfOk result (λ n. n.1 ≤ n.0 + 1) }
-    ensures within { IfOk result (λ n. n.0 ≤ point_count points.old.entries) }
-    ensures keyed { AreRunsKeyed points.old.entries → AreRunsKeyed points.new.entries }
-    ensures unchanged { OnErr result (point_msgs points.new.entries ≡ point_msgs points.old.entries) }
+    ensures within { IfOk result (λ n. n.0 ≤ point_count (joined rows.old.items)) }
+    ensures keyed { AreRunsKeyed (joined rows.old.items) → AreRunsKeyed (joined rows.new.items) }
+    ensures unchanged { OnErr result (point_msgs (joined rows.new.items) ≡ point_msgs (joined rows.old.items)) }
     ensures back { IfErr result (λ p. p ≡ (key, update)) }
 {
-    match points.get_mut(&key) {
-        Some(run) => edit_run(run, alloc, key, update),
-        None => match points.insert(key, Run::Edit(update)) {
-            Ok(_) => Ok((0, 1)),
-            Err(refused) => {
-                let (key, run) = refused.value;
-                let Run::Edit(update) = run else {
-                    unreachable!()
-                };
-                Err((key, update))
-            }
-        },
+    let n = number_in(rows.as_slice(), &key);
+    let row = &mut rows[n];
+    edit_in(row, alloc, key, update)
+}
+
+/// Takes away the messages of rows at the keys of a range, and answers how many are left of `count`.
+fn clear_rows<U: Update>(rows: &mut Vec<Row<Run<U>>>, range: &KeyRange, count: usize) -> usize
+    requires some { is_below range.now.lo range.now.hi ≡ true }
+    requires rows { AreRows rows.old.items }
+    requires counted { count ≡ point_count (joined rows.old.items) }
+    requires small { count < 2 ^ 63 }
+    ensures entries { joined rows.new.items ≡ filter (λ e. not (is_in range.now e.0)) (joined rows.old.items) }
+    ensures rows { AreRows rows.new.items }
+    ensures counted { result ≡ point_count (joined rows.new.items) }
+{
+    let left = clear_each(rows, range, count);
+    drop_empty(rows);
+    left
+}
+
+/// Takes away the messages of each row at the keys of a range, and answers how many are left of `count`. It goes through
+/// those rows alone that can have such keys.
+fn clear_each<U: Update>(rows: &mut Vec<Row<Run<U>>>, range: &KeyRange, count: usize) -> usize
+    requires some { is_below range.now.lo range.now.hi ≡ true }
+    requires rows { AreRows rows.old.items }
+    requires counted { count ≡ point_count (joined rows.old.items) }
+    requires small { count < 2 ^ 63 }
+    ensures entries { joined rows.new.items ≡ filter (λ e. not (is_in range.now e.0)) (joined rows.old.items) }
+    ensures counted { result ≡ point_count (joined rows.new.items) }
+{
+    let mut i = number_in(rows.as_slice(), &range.lo);
+    let end = end_row(rows.as_slice(), range.hi.as_ref());
+    let mut left = count;
+    while i < end {
+        let row = &mut rows[i];
+        left = clear_in(row, range, left);
+        i += 1;
+    }
+    left
+}
+
+/// The messages of rows at a key.
+fn run_among<'a, U: Update>(rows: &'a [Row<Run<U>>], key: &Key) -> Option<&'a Run<U>>
+    requires { AreRows rows.now }
+    ensures { option_copied result ≡ look key.now (joined rows.now) }
+{
+    let n = number_in(rows, key);
+    match rows.get(n) {
+        None => None,
+        Some(row) => run_in(row, key),
     }
 }
 
-/// Lays an update over a run, as [`edit`] does.
+/// The first key of rows behind this one.
+fn behind_among<'a, T: Drop>(rows: &'a [Row<T>], key: &Key) -> Option<&'a Key>
+    requires { AreRows rows.now }
+    ensures { option_copied result ≡ first_behind key.now (joined rows.now) }
+{
+    let n = number_in(rows, key);
+    match rows.get(n) {
+        None => None,
+        Some(row) => behind_from(row, &rows[n + 1..], key),
+    }
+}
+
+/// The first key of a row behind this one, or of the rows behind that row.
+fn behind_from<'a, T: Drop>(
+    row: &'a Row<T>,
+    later: &'a [Row<T>],
+    key: &Key,
+) -> Option<&'a Key>
+    requires { AreFilled later.now }
+    ensures { option_copied result ≡ or_next (first_behind key.now row.now) (option_map (λ e. e.0) (slice_get (joined later.now) 0)) }
+{
+    match first_behind(row, key) {
+        None => first_key(later),
+        Some(next) => Some(next),
+    }
+}
+
+/// The first key of the first row.
+fn first_key<T: Drop>(rows: &[Row<T>]) -> Option<&Key>
+    requires { AreFilled rows.now }
+    ensures { option_copied result ≡ option_map (λ e. e.0) (slice_get (joined rows.now) 0) }
+{
+    match rows.first() {
+        None => None,
+        Some(row) => key_at(row, 0),
+    }
+}
+
+/// Copies of the messages of rows, put behind those in `front`, until it has so many or more.
+fn copy_rows_into<U: Update>(
+    rows: &[Row<Run<U>>],
+    alloc: Global,
+    count: usize,
+    front: &mut Vec<Msg<U>>,
+) -> Result<(), NoMemory>
+    ensures { OnOk result (take count front.new.items ≡ take count (front.old.items ++ point_msgs (joined rows.now))) }
+{
+    for row in rows {
+        copy_runs(row.entries(), alloc, count, front)?;
+    }
+    Ok(())
+}
+
+/// The same messages at the same keys, in rows of the same lengths.
+fn copy_rows<U: Update>(
+    rows: &[Row<Run<U>>],
+    alloc: Global,
+) -> Result<Vec<Row<Run<U>>>, NoMemory>
+    requires { AreRows rows.now }
+    ensures rows { IfOk result (λ p. AreRows p.items) }
+    ensures same { IfOk result (λ p. point_msgs (joined p.items) ≡ point_msgs (joined rows.now)) }
+    ensures keyed { IfOk result (λ p. AreRunsKeyed (joined rows.now) → AreRunsKeyed (joined p.items)) }
+{
+    let mut copy = Vec::new(alloc);
+    for row in rows {
+        let row = copy_row(row, alloc)?;
+        copy.push(row)?;
+    }
+    Ok(copy)
+}
+
+/// Puts one message in the place of the key's messages in a row, as [`Points::overwrite`] does.
+fn overwrite_in<U: Update>(
+    row: &mut Row<Run<U>>,
+    key: Key,
+    run: Run<U>,
+) -> Result<usize, (Key, Run<U>)>
+    requires { (v w : Option U.Value) → run_effect U.means run v ≡ run_effect U.means run w }
+    ensures written { IsWritten key row.old row.new }
+    ensures lays { OnOk result (Lays U.means key (run_effect U.means run) row.old row.new) }
+    ensures counted { IfOk result (λ gone. point_count row.new + gone ≡ point_count row.old + run_len run) }
+    ensures keyed { IsRunKeyed key run → AreRunsKeyed row.old → AreRunsKeyed row.new }
+    ensures unchanged { OnErr result (row.new ≡ row.old) }
+    ensures back { IfErr result (λ p. p ≡ (key, run)) }
+{
+    match row.insert(key, run) {
+        Ok(None) => Ok(0),
+        Ok(Some(old)) => Ok(old.len()),
+        Err(pair) => Err(pair),
+    }
+}
+
+/// Lays an update over the key of a row, as [`Points::edit`] does.
+fn edit_in<U: Update>(
+    row: &mut Row<Run<U>>,
+    alloc: Global,
+    key: Key,
+    update: U,
+) -> Result<(usize, usize), (Key, U)>
+    ensures written { IsWritten key row.old row.new }
+    ensures lays { OnOk result (Lays U.means key (U.means update) row.old row.new) }
+    ensures counted { IfOk result (λ n. point_count row.new + n.0 ≡ point_count row.old + n.1) }
+    ensures bound { IfOk result (λ n. n.1 ≤ n.0 + 1) }
+    ensures within { IfOk result (λ n. n.0 ≤ point_count row.old) }
+    ensures keyed { AreRunsKeyed row.old → AreRunsKeyed row.new }
+    ensures unchanged { OnErr result (point_msgs row.new ≡ point_msgs row.old) }
+    ensures back { IfErr result (λ p. p ≡ (key, update)) }
+{
+    match row.find(&key) {
+        Ok(i) => edit_at(row, i, alloc, key, update),
+        Err(i) => put_edit(row, i, key, update),
+    }
+}
+
+/// Lays an update over the run with this number, whose key it has.
+fn edit_at<U: Update>(
+    row: &mut Row<Run<U>>,
+    i: usize,
+    alloc: Global,
+    key: Key,
+    update: U,
+) -> Result<(usize, usize), (Key, U)>
+    requires { IsHolder key row.old i }
+    ensures written { IsWritten key row.old row.new }
+    ensures lays { OnOk result (Lays U.means key (U.means update) row.old row.new) }
+    ensures counted { IfOk result (λ n. point_count row.new + n.0 ≡ point_count row.old + n.1) }
+    ensures bound { IfOk result (λ n. n.1 ≤ n.0 + 1) }
+    ensures within { IfOk result (λ n. n.0 ≤ point_count row.old) }
+    ensures keyed { AreRunsKeyed row.old → AreRunsKeyed row.new }
+    ensures unchanged { OnErr result (point_msgs row.new ≡ point_msgs row.old) }
+    ensures back { IfErr result (λ p. p ≡ (key, update)) }
+{
+    let mut run = row.swap(i, Run::Del);
+    let answer = edit_run(&mut run, alloc, key, update);
+    row.swap(i, run);
+    answer
+}
+
+/// Lays an update over a run, as [`Points::edit`] does.
 fn edit_run<U: Update>(
     run: &mut Run<U>,
     alloc: Global,
@@ -102,169 +489,151 @@ fn edit_run<U: Update>(
     }
 }
 
-/// Takes away the messages at the keys of a range, and answers how many are left of `count`.
-///
-/// It goes from key to key inside the range. Where memory for the copy of a key is refused, it goes through all instead.
-pub(crate) fn clear<U: Update>(
-    points: &mut BTreeMap<Key, Run<U>>,
-    alloc: Global,
-    range: &KeyRange,
-    count: usize,
-) -> usize
+/// Puts an update at a key that has no messages.
+fn put_edit<U: Update>(
+    row: &mut Row<Run<U>>,
+    i: usize,
+    key: Key,
+    update: U,
+) -> Result<(usize, usize), (Key, U)>
+    requires { IsGap key row.old i }
+    ensures written { IsWritten key row.old row.new }
+    ensures lays { OnOk result (Lays U.means key (U.means update) row.old row.new) }
+    ensures counted { IfOk result (λ n. point_count row.new + n.0 ≡ point_count row.old + n.1) }
+    ensures bound { IfOk result (λ n. n.1 ≤ n.0 + 1) }
+    ensures within { IfOk result (λ n. n.0 ≤ point_count row.old) }
+    ensures keyed { AreRunsKeyed row.old → AreRunsKeyed row.new }
+    ensures unchanged { OnErr result (row.new ≡ row.old) }
+    ensures back { IfErr result (λ p. p ≡ (key, update)) }
+{
+    match row.put(i, key, Run::Edit(update)) {
+        Ok(()) => Ok((0, 1)),
+        Err((key, run)) => {
+            let Run::Edit(update) = run else {
+                unreachable!()
+            };
+            Err((key, update))
+        }
+    }
+}
+
+/// Takes away the messages of a row at the keys of a range, and answers how many are left of `count`.
+fn clear_in<U: Update>(row: &mut Row<Run<U>>, range: &KeyRange, count: usize) -> usize
     requires some { is_below range.now.lo range.now.hi ≡ true }
-    requires counted { count ≡ point_count points.old.entries }
+    requires counted { point_count row.old ≤ count }
     requires small { count < 2 ^ 63 }
-    ensures entries { points.new.entries ≡ filter (λ e. not (is_in range.now e.0)) points.old.entries }
-    ensures ordered { IsOrdered by_bytes points.new }
-    ensures was_ordered { IsOrdered by_bytes points.old }
-    ensures counted { result ≡ point_count points.new.entries }
+    ensures entries { row.new ≡ filter (λ e. not (is_in range.now e.0)) row.old }
+    ensures ordered { Rises row.new }
+    ensures was_ordered { Rises row.old }
+    ensures counted { result + point_count row.old ≡ count + point_count row.new }
 {
-    let mut left = count;
-    // What `len` promises says that the keys rise.
-    let _ = points.len();
-    while let Some(run) = take_inside(points, alloc, range) {
-        left -= run.len();
-    }
-    if !has_inside(points, range) {
-        return left;
-    }
-    points.retain(|key, _| !range.contains(key));
-    count_of(points)
+    let (from, to) = inside(row, range);
+    let gone = count_of(&row.entries()[from..to]);
+    row.remove(from, to);
+    count - gone
 }
 
-/// Takes out the first run that stands at a key of the range. There is none to take where memory for a copy of the key is
-/// refused.
-fn take_inside<U: Update>(
-    points: &mut BTreeMap<Key, Run<U>>,
-    alloc: Global,
-    range: &KeyRange,
-) -> Option<Run<U>>
+/// The numbers from which and up to which the entries of a row stand inside the range.
+fn inside<T: Drop>(row: &Row<T>, range: &KeyRange) -> (usize, usize)
     requires { is_below range.now.lo range.now.hi ≡ true }
-    ensures same { filter (λ e. not (is_in range.now e.0)) points.new.entries ≡ filter (λ e. not (is_in range.now e.0)) points.old.entries }
-    ensures counted { IfSome result (λ run. point_count points.new.entries + run_len run ≡ point_count points.old.entries) }
-    ensures fewer { IfSome result (λ run. length points.new.entries < length points.old.entries) }
-    ensures none { IfNone result (points.new.entries ≡ points.old.entries) }
+    ensures from { result.0 ≡ place range.now.lo row.now }
+    ensures to { result.1 ≡ end_place range.now.hi row.now }
+    ensures order { result.0 ≤ result.1 }
+    ensures bound { result.1 ≤ length row.now }
+    ensures rises { Rises row.now }
 {
-    let mut inside = points.range((Bound::Included(&range.lo), end_of(range)));
-    let (key, _) = inside.next()?;
-    let Ok(key) = key.copy(alloc) else {
-        return None;
-    };
-    points.remove(&key)
+    let from = row.before(&range.lo);
+    let to = before_end(row, range.hi.as_ref());
+    (from, to)
 }
 
-/// Whether messages stand at keys of the range.
-fn has_inside<U: Update>(points: &BTreeMap<Key, Run<U>>, range: &KeyRange) -> bool
-    requires { is_below range.now.lo range.now.hi ≡ true }
-    ensures none { result ≡ false → filter (λ e. not (is_in range.now e.0)) points.now.entries ≡ points.now.entries }
-    ensures ordered { IsOrdered by_bytes points.now }
+/// How many keys of a row stand before the end; `None` is no end.
+fn before_end<T: Drop>(row: &Row<T>, end: Option<&Key>) -> usize
+    ensures place { result ≡ end_place (option_copied end.entry) row.now }
+    ensures bound { result ≤ length row.now }
 {
-    let mut inside = points.range((Bound::Included(&range.lo), end_of(range)));
-    inside.next().is_some()
+    match end {
+        None => row.len(),
+        Some(end) => row.before(end),
+    }
 }
 
 /// How many messages there are.
-fn count_of<U: Update>(points: &BTreeMap<Key, Run<U>>) -> usize
-    requires { point_count points.now.entries < 2 ^ 63 }
-    ensures { result ≡ point_count points.now.entries }
+fn count_of<U: Update>(items: &[Item<Run<U>>]) -> usize
+    requires { point_count (unboxed items.now) < 2 ^ 63 }
+    ensures { result ≡ point_count (unboxed items.now) }
 {
     let mut count = 0;
-    for (_, run) in points {
-        count += run.len();
+    for item in items {
+        count += item.value().len();
     }
     count
 }
 
-/// Whether no key stands before `lo`.
-pub(crate) fn begin_from<U: Update>(points: &BTreeMap<Key, Run<U>>, lo: &Key) -> bool
-    ensures { result ≡ true → All (λ k. reaches lo.now k ≡ true) (keys_of points.now.entries) }
+/// The messages of a row at a key.
+fn run_in<'a, U: Update>(row: &'a Row<Run<U>>, key: &Key) -> Option<&'a Run<U>>
+    ensures value { option_copied result ≡ look key.now row.now }
+    ensures ordered { Rises row.now }
 {
-    // What `len` promises says that the keys rise.
-    let _ = points.len();
-    match points.first_key_value() {
-        None => true,
-        Some((first, _)) => lo.cmp(first).is_le(),
+    match row.find(key) {
+        Ok(i) => Some(row.value(i)),
+        Err(_) => None,
     }
 }
 
-/// Moves the messages at the pivot and behind it out, and counts them.
-pub(crate) fn split_off<U: Update>(
-    points: &mut BTreeMap<Key, Run<U>>,
-    pivot: &Key,
-) -> Result<(BTreeMap<Key, Run<U>>, usize), NoMemory>
-    requires { point_count points.old.entries < 2 ^ 63 }
-    ensures parts { IfOk result (λ r. points.old.entries ≡ points.new.entries ++ r.0.entries) }
-    ensures front { OnOk result (All (λ k. before k pivot.now ≡ true) (keys_of points.new.entries)) }
-    ensures back { IfOk result (λ r. All (λ k. reaches pivot.now k ≡ true) (keys_of r.0.entries)) }
-    ensures counted { IfOk result (λ r. r.1 ≡ point_count r.0.entries) }
-    ensures err { OnErr result (points.new.entries ≡ points.old.entries) }
+/// The first key of a row behind this one.
+fn first_behind<'a, T: Drop>(row: &'a Row<T>, key: &Key) -> Option<&'a Key>
+    ensures value { option_copied result ≡ first_behind key.now row.now }
+    ensures ordered { Rises row.now }
 {
-    let back = points.split_off(pivot)?;
-    let count = count_of(&back);
-    Ok((back, count))
+    // What `len` promises says that the number behind is one.
+    let _ = row.len();
+    match row.find(key) {
+        Ok(i) => key_at(row, i + 1),
+        Err(i) => key_at(row, i),
+    }
 }
 
-/// The messages at a key.
-pub(crate) fn run_at<'a, U: Update>(
-    points: &'a BTreeMap<Key, Run<U>>,
-    key: &Key,
-) -> Option<&'a Run<U>>
-    ensures value { option_copied result ≡ look key.now points.now.entries }
-    ensures ordered { IsOrdered by_bytes points.now }
+/// The key of the entry with this number, if there is one.
+fn key_at<T: Drop>(row: &Row<T>, i: usize) -> Option<&Key>
+    ensures { option_copied result ≡ option_map (λ e. e.0) (slice_get row.now i) }
 {
-    // What `len` promises says that the keys rise.
-    let _ = points.len();
-    points.get(key)
+    match row.entry(i) {
+        None => None,
+        Some((key, _)) => Some(key),
+    }
 }
 
-/// Where the next key behind `from` stands that has messages, if that is before `end`; else `end`. There are none at `from`.
-pub(crate) fn stretch_end<'a, U: Update>(
-    points: &'a BTreeMap<Key, Run<U>>,
-    from: &Key,
-    end: Option<&'a Key>,
-) -> Option<&'a Key>
-    requires none { look from.now points.now.entries ≡ None }
-    requires some { is_below from.now (option_copied end) ≡ true }
-    ensures { IsStretch (point_msgs points.now.entries) from.now (option_copied end.entry) (option_copied result) }
-{
-    // What `len` promises says that the keys rise.
-    let _ = points.len();
-    earlier(end, first_behind(points, from))
-}
-
-/// Copies of the messages, put behind those in `front`, until it has so many or more.
-pub(crate) fn copy_into<U: Update>(
-    points: &BTreeMap<Key, Run<U>>,
+/// Copies of the messages of runs, put behind those in `front`, until it has so many or more.
+fn copy_runs<U: Update>(
+    items: &[Item<Run<U>>],
     alloc: Global,
     count: usize,
     front: &mut Vec<Msg<U>>,
 ) -> Result<(), NoMemory>
-    ensures { OnOk result (take count front.new.items ≡ take count (front.old.items ++ point_msgs points.now.entries)) }
+    ensures { OnOk result (take count front.new.items ≡ take count (front.old.items ++ point_msgs (unboxed items.now))) }
 {
-    for (key, run) in points {
+    for item in items {
         if front.len() >= count {
             return Ok(());
         }
-        run.copy_into(alloc, key, front)?;
+        item.value().copy_into(alloc, item.key(), front)?;
     }
     Ok(())
 }
 
 /// The same messages at the same keys.
-pub(crate) fn copy<U: Update>(
-    points: &BTreeMap<Key, Run<U>>,
-    alloc: Global,
-) -> Result<BTreeMap<Key, Run<U>>, NoMemory>
-    ensures same { IfOk result (λ p. point_msgs p.entries ≡ point_msgs points.now.entries) }
-    ensures keyed { IfOk result (λ p. AreRunsKeyed points.now.entries → AreRunsKeyed p.entries) }
+fn copy_row<U: Update>(row: &Row<Run<U>>, alloc: Global) -> Result<Row<Run<U>>, NoMemory>
+    ensures keys { IfOk result (λ p. keys_of p ≡ keys_of row.now) }
+    ensures same { IfOk result (λ p. point_msgs p ≡ point_msgs row.now) }
+    ensures keyed { IfOk result (λ p. AreRunsKeyed row.now → AreRunsKeyed p) }
 {
-    let mut copy = BTreeMap::new(alloc);
-    // What `len` promises says that the keys rise.
-    let _ = points.len();
-    for (key, run) in points {
-        let key = key.copy(alloc)?;
-        let run = run.copy(alloc)?;
-        put(&mut copy, key, run)?;
+    let mut copy = Row::new(alloc);
+    let items = row.entries();
+    for item in items {
+        let key = item.key().copy(alloc)?;
+        let run = item.value().copy(alloc)?;
+        copy.push(key, run)?;
     }
     Ok(copy)
 }

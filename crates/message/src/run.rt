@@ -222,6 +222,16 @@ fn apply_to_nothing<U: Update>(alloc: Global, update: &U) -> Result<Option<U::Va
 }
 
 impl<U: Update> Run<U> {
+    /// Whether it is one message that does not ask what was there.
+    pub(crate) fn is_whole(&self) -> bool
+        ensures { result ≡ true → (v w : Option U.Value) → run_effect U.means self.now v ≡ run_effect U.means self.now w }
+    {
+        match self {
+            Run::Put(_) | Run::Del => true,
+            Run::Edit(_) | Run::Edits(_) => false,
+        }
+    }
+
     /// How many messages it is.
     pub(crate) fn len(&self) -> usize
         ensures { result ≡ run_len self.now }

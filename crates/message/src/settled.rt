@@ -3,9 +3,10 @@ ghost use Rattle.std.specs.Prelude.{true, ◌≡◌, ◌+◌, ◌^◌, ◌<◌, 
 ghost use Rattle.message.specs.declared.msg.Msg.TheVariants as msg;
 ghost use Rattle.message.specs.declared.told.Told.TheVariants as told;
 ghost use Rattle.message.specs.Cuts.{IsParted};
-ghost use Rattle.message.specs.Effects.{effects, range_count, Takes};
+ghost use Rattle.message.specs.Effects.{effects, point, range_count, Takes};
 ghost use Rattle.message.specs.Eldest.{eldest_msg};
-ghost use Rattle.std.specs.List.{slice_get};
+ghost use Rattle.std.specs.List.{All, slice_get};
+ghost use Rattle.message.specs.Oldest.{first_point};
 ghost use Rattle.message.specs.Oldests.{oldest_msgs, IsOldestKeyed};
 ghost use Rattle.message.specs.PointKeys.{is_cleared, IsPointStop, IsClearStretch};
 ghost use Rattle.message.specs.Stretches.{EndsAhead};
@@ -16,10 +17,11 @@ ghost use Rattle.std.specs.Option.{option_copied, option_map};
 use crate::eldest::Eldest;
 use crate::ends::is_before_end;
 use crate::msg::Msg;
+use crate::points::Points;
+use crate::ranges;
 use crate::run::Run;
 use crate::told::Told;
 use crate::update::{Changes, Update};
-use crate::{points, ranges};
 use pathkey::{Key, KeyRange, NoMemory};
 use std::alloc::Global;
 use std::collections::BTreeMap;
@@ -35,7 +37,7 @@ pub(crate) const MOST: usize = 1 << 62;
 #[derive(Drop)]
 pub struct Settled<U: Changes> {
     ranges: BTreeMap<Key, Option<Key>>,
-    points: BTreeMap<Key, Run<U>>,
+    points: Points<U>,
     count: usize,
 }
 
@@ -47,9 +49,9 @@ impl<U: Changes> Model for Settled<U> {
 
     ghost use Rattle.message.specs.Settled.{settled_msgs, IsSettled};
 
-    ghost view = { λ p. settled_msgs p.ranges.entries p.points.entries };
+    ghost view = { λ p. settled_msgs p.ranges.entries p.points };
 
-    ghost invariant = { λ p. IsSettled p.ranges.entries p.points.entries p.count };
+    ghost invariant = { λ p. IsSettled p.ranges.entries p.points p.count };
 }
 
 impl<U: Update> Settled<U> {
@@ -59,7 +61,7 @@ impl<U: Update> Settled<U> {
     {
         Settled {
             ranges: BTreeMap::new(alloc),
-            points: BTreeMap::new(alloc),
+            points: Points::new(alloc),
             count: 0,
         }
     }
@@ -86,7 +88,7 @@ impl<U: Update> Settled<U> {
     {
         match self.ranges.first_key_value() {
             Some((lo, hi)) => Some(Eldest::Range(lo, hi.as_ref())),
-            None => match self.points.first_key_value() {
+            None => match self.points.first() {
                 Some((key, run)) => Some(Eldest::Run(key, run)),
                 None => None,
             },
@@ -100,7 +102,7 @@ impl<U: Update> Settled<U> {
         ensures unchanged { OnErr result (self.new ≡ self.old) }
         ensures back { IfErr result (λ m. m ≡ msg.Put key value) }
     {
-        match points::overwrite(&mut self.points, key, Run::Put(value)) {
+        match self.points.overwrite(key, Run::Put(value)) {
             Ok(gone) => {
                 self.count = self.count + 1 - gone;
                 Ok(())
@@ -119,7 +121,7 @@ impl<U: Update> Settled<U> {
         ensures unchanged { OnErr result (self.new ≡ self.old) }
         ensures back { IfErr result (λ m. m ≡ msg.Del key) }
     {
-        match points::overwrite(&mut self.points, key, Run::Del) {
+        match self.points.overwrite(key, Run::Del) {
             Ok(gone) => {
                 self.count = self.count + 1 - gone;
                 Ok(())
@@ -135,7 +137,7 @@ impl<U: Update> Settled<U> {
         ensures unchanged { OnErr result (self.new ≡ self.old) }
         ensures back { IfErr result (λ m. m ≡ msg.Edit key update) }
     {
-        match points::edit(&mut self.points, alloc, key, update) {
+        match self.points.edit(alloc, key, update) {
             Ok((before, after)) => {
                 self.count = self.count - before + after;
                 Ok(())
@@ -158,7 +160,7 @@ impl<U: Update> Settled<U> {
         let Ok(()) = ranges::lay(&mut self.ranges, alloc, &range) else {
             return Err(Msg::DelRange(range));
         };
-        self.count = points::clear(&mut self.points, alloc, &range, self.count);
+        self.count = self.points.clear(&range, self.count);
         Ok(())
     }
 
@@ -188,9 +190,28 @@ impl<U: Update> Settled<U> {
         if let Some((lo, hi)) = self.ranges.pop_first() {
             return Some(Oldest::Range(KeyRange { lo, hi }));
         }
-        let (key, run) = self.points.pop_first()?;
+        let (key, run) = self.points.pop()?;
         self.count -= run.len();
         Some(Oldest::Run(key, run))
+    }
+
+    /// Moves the oldest messages of another list, those of one key and at most `most`, into the place of their key, newer than
+    /// all that are here, and counts them. None come where a range-delete stands before them, or where [`Points::take_first`]
+    /// takes none.
+    pub(crate) fn take_first(&mut self, from: &mut Settled<U>, most: usize) -> Option<usize>
+        ensures takes { IfSome result (λ n. Takes U.means self.old (take n from.old) self.new) }
+        ensures left { IfSome result (λ n. from.new ≡ drop n from.old) }
+        ensures within { IfSome result (λ n. (0 < n) × (n ≤ most) × (n ≤ length from.old)) }
+        ensures alike { IfSome result (λ n. All (λ m. point m ≡ first_point from.old) (take n from.old)) }
+        ensures none { IfNone result ((self.new ≡ self.old) × (from.new ≡ from.old)) }
+    {
+        if from.ranges.len() > 0 || self.len() >= MOST - most.min(MOST) {
+            return None;
+        }
+        let (came, gone) = self.points.take_first(&mut from.points, most)?;
+        from.count -= came;
+        self.count = self.count + came - gone;
+        Some(came)
     }
 
     /// Copies of the messages, put behind those in `front`, until it has so many or more.
@@ -203,7 +224,7 @@ impl<U: Update> Settled<U> {
         ensures { OnOk result (take count front.new.items ≡ take count (front.old.items ++ self.now)) }
     {
         ranges::copy_into(&self.ranges, alloc, count, front)?;
-        points::copy_into(&self.points, alloc, count, front)?;
+        self.points.copy_into(alloc, count, front)?;
         Ok(())
     }
 
@@ -212,7 +233,7 @@ impl<U: Update> Settled<U> {
         ensures { IfOk result (IsTold U.means self.now key.now) }
     {
         let is_covered = ranges::is_covered(&self.ranges, key);
-        match points::run_at(&self.points, key) {
+        match self.points.run_at(key) {
             Some(run) => run.told(alloc, is_covered),
             None => Ok(untouched(is_covered)),
         }
@@ -227,11 +248,11 @@ impl<U: Update> Settled<U> {
         requires { is_below from.now (option_copied end) ≡ true }
         ensures { EndsAhead self.now from.now (option_copied end.entry) (option_map option_copied result) }
     {
-        if points::run_at(&self.points, from).is_some() {
+        if self.points.run_at(from).is_some() {
             return None;
         }
         let stop = ranges::stretch_end::<U>(&self.ranges, from, end);
-        Some(points::stretch_end(&self.points, from, stop))
+        Some(self.points.stretch_end(from, stop))
     }
 
     /// The first key from `from` on that has a message for it alone, if it stands before `end`; else `end`.
@@ -241,10 +262,10 @@ impl<U: Update> Settled<U> {
         if !is_before_end(from, end) {
             return end;
         }
-        if points::run_at(&self.points, from).is_some() {
+        if self.points.run_at(from).is_some() {
             return Some(from);
         }
-        points::stretch_end(&self.points, from, end)
+        self.points.stretch_end(from, end)
     }
 
     /// Whether a range-delete holds the key.
@@ -272,7 +293,7 @@ impl<U: Update> Settled<U> {
         ensures { IfOk result (λ v. v ≡ effects U.means self.now key.now old) }
     {
         let below = unless(ranges::is_covered(&self.ranges, key), old);
-        match points::run_at(&self.points, key) {
+        match self.points.run_at(key) {
             Some(run) => run.apply(alloc, below),
             None => Ok(below),
         }
@@ -289,10 +310,10 @@ impl<U: Update> Settled<U> {
         ensures parted { IfOk result (λ o. MatchOption o (self.new ≡ self.old) (IsParted lo.now pivot.now self.old self.new)) }
         ensures err { OnErr result (self.new ≡ self.old) }
     {
-        if self.ranges.len() > 0 || !points::begin_from(&self.points, lo) {
+        if self.ranges.len() > 0 || !self.points.begin_from(lo) {
             return Ok(None);
         }
-        let (points, count) = points::split_off(&mut self.points, pivot)?;
+        let (points, count) = self.points.split_off(pivot)?;
         self.count -= count;
         Ok(Some(Settled {
             ranges: BTreeMap::new(alloc),
@@ -306,7 +327,7 @@ impl<U: Update> Settled<U> {
         ensures { IfOk result (λ p. p ≡ self.now) }
     {
         let ranges = ranges::copy(&self.ranges, alloc)?;
-        let points = points::copy(&self.points, alloc)?;
+        let points = self.points.copy(alloc)?;
         Ok(Settled {
             ranges,
             points,

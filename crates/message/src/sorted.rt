@@ -1,9 +1,10 @@
 //! A sorted list from whose front messages leave one by one.
-ghost use Rattle.std.specs.Prelude.{◌≡◌, ◌+◌, ◌-◌, ◌^◌, ◌<◌, ◌≤◌, ◌++◌, [], ◌∷◌, true, false, length, take, drop, IfOk, IfErr, IfNone, OnOk, OnErr, MatchOption};
+ghost use Rattle.std.specs.Prelude.{◌≡◌, ◌+◌, ◌-◌, ◌^◌, ◌<◌, ◌≤◌, ◌++◌, [], ◌∷◌, true, false, length, take, drop, IfOk, IfErr, IfNone, IfSome, OnOk, OnErr, MatchOption};
 ghost use Rattle.std.specs.Option.{option_copied, option_map, option_to_list};
-ghost use Rattle.std.specs.List.{slice_get};
+ghost use Rattle.std.specs.List.{All, slice_get};
+ghost use Rattle.message.specs.Oldest.{first_point};
 ghost use Rattle.message.specs.Cuts.{IsParted};
-ghost use Rattle.message.specs.Effects.{effects, any_touches, range_count, Takes};
+ghost use Rattle.message.specs.Effects.{effects, any_touches, point, range_count, Takes};
 ghost use Rattle.message.specs.Eldest.{eldest_msg};
 ghost use Rattle.message.specs.PointKeys.{is_cleared, IsPointStop, IsClearStretch};
 ghost use Rattle.message.specs.Stretches.{EndsAhead};
@@ -176,6 +177,21 @@ impl<U: Update> Sorted<U> {
         for _ in 0..count {
             self.pop();
         }
+    }
+
+    /// Moves the oldest messages of another list, those of one key and at most `most`, into the place of their key, newer than
+    /// all that are here, and counts them. None come where it can't be done without copies.
+    pub(crate) fn take_first(&mut self, from: &mut Sorted<U>, most: usize) -> Option<usize>
+        ensures takes { IfSome result (λ n. Takes U.means self.old (take n from.old) self.new) }
+        ensures left { IfSome result (λ n. from.new ≡ drop n from.old) }
+        ensures within { IfSome result (λ n. (0 < n) × (n ≤ most) × (n ≤ length from.old)) }
+        ensures alike { IfSome result (λ n. All (λ m. point m ≡ first_point from.old) (take n from.old)) }
+        ensures none { IfNone result ((self.new ≡ self.old) × (from.new ≡ from.old)) }
+    {
+        if from.front.is_some() || self.len() >= MOST - most.min(MOST) {
+            return None;
+        }
+        self.rest.take_first(&mut from.rest, most)
     }
 
     /// Copies of the `count` oldest messages, or of all where there are fewer.

@@ -1,9 +1,7 @@
-use Rattle.std.proofs.Common.{◌≡◌, ◌+◌}
+use Rattle.std.proofs.Common.{◌≡◌, ◌+◌, drop}
+use Rattle.message.specs.Rows.{unboxed}
 use Rattle.message.specs.Settled.{point_count}
 use Rattle.message.proofs.points.count_of.Given as goal
 
-abbrev pub invariant-loop-run : goal.invariant-loop-run
-invariant-loop-run g l =
-    (goal.iterator-loop-run g).can_next l.run-iterator ×
-    (goal.iterator-loop-run g).is_finite l.run-iterator ×
-    (l.count + point_count l.run-iterator ≡ point_count l.points.entries)
+abbrev pub invariant-loop-item : goal.invariant-loop-item
+invariant-loop-item g l = l.count + point_count (unboxed (drop l.item-index l.items)) ≡ point_count (unboxed l.items)

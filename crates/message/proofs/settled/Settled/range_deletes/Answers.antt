@@ -8,4 +8,4 @@ returns-clause-count g c =
     let n = c.args.gone in
     let rs = c.self.inside.ranges.entries in
     let left : c.saturating_sub.result ≡ length rs - n = search rules in
-    left ∙ sym (count_settled n rs c.self.inside.points.entries) ∙ ap (λ ms. range_count (drop n ms)) c.self.view_is
+    left ∙ sym (count_settled n rs c.self.inside.points) ∙ ap (λ ms. range_count (drop n ms)) c.self.view_is

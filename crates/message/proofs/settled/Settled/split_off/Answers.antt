@@ -7,9 +7,9 @@ use Rattle.message.proofs.settled.Settled.split_off.Goals as goal
 
 pub invariant_of-result : goal.invariant_of-result
 invariant_of-result g c =
-    let es = c.split_off.new.points.entries in
-    let fs = c.in_ok-points.points.entries in
-    let all = c.self.inside.points.entries in
+    let es = c.split_off.new.self in
+    let fs = c.in_ok-points.points in
+    let all = c.self.inside.points in
     let both = keyed_both es fs (subst (λ t. AreRunsKeyed t) c.in_ok-points.ensures.parts c.self.invariant.keyed) in
     record {
       apart = subst (λ t. AreApart t) (sym c.new.ensures.empty) tt;
@@ -20,9 +20,9 @@ invariant_of-result g c =
 
 pub invariant_of-self-2 : goal.invariant_of-self-2
 invariant_of-self-2 g c =
-    let es = c.split_off.new.points.entries in
-    let fs = c.in_ok-points.points.entries in
-    let all = c.self.inside.points.entries in
+    let es = c.split_off.new.self in
+    let fs = c.in_ok-points.points in
+    let all = c.self.inside.points in
     let both = keyed_both es fs (subst (λ t. AreRunsKeyed t) c.in_ok-points.ensures.parts c.self.invariant.keyed) in
     record {
       apart = c.self.invariant.apart;
@@ -33,9 +33,9 @@ invariant_of-self-2 g c =
 
 pub returns-clause-parted : goal.returns-clause-parted
 returns-clause-parted g c =
-    let es = c.split_off.new.points.entries in
-    let fs = c.in_ok-points.points.entries in
-    let all = c.self.inside.points.entries in
+    let es = c.split_off.new.self in
+    let fs = c.in_ok-points.points in
+    let all = c.self.inside.points in
     let none : c.self.inside.ranges.entries ≡ [] = nil_from_length c.self.inside.ranges.entries (omega (arith, c.len.ensures.len, c.if-len-gt0.false)) in
     let parted = entries_parted c.args.lo.now c.args.pivot.now all es fs c.in_ok-points.ensures.parts (c.begin_from.ensures (search rules)) c.in_ok-points.ensures.front c.in_ok-points.ensures.back in
     rw (← c.self.view_is, none, c.new.ensures.empty) parted

@@ -1,0 +1,282 @@
+-- What changes of a row's entries say of the keys.
+use Rattle.std.proofs.Common.{◌≡◌, ℕ, zero, suc, ◌≤◌, Bool, true, false, not, List, [], ◌∷◌, ◌++◌, length, take, drop, refl, ap, sym, ◌∙◌, subst, Option, Some, None, cond, arith, Ordering}
+use Rattle.std.specs.Prelude.{◌&&◌}
+use Rattle.std.specs.declared.cmp.Ordering.TheVariants.{Less, Equal, Greater}
+use Rattle.std.specs.Global.{Box}
+use Rattle.std.specs.Ordering.{is_lt, is_le, is_eq, match_ordering, ordering_reverse}
+use Rattle.std.specs.List.{AllByRecursion, slice_get, filter}
+use Rattle.std.specs.List.Sorted.{IsStrictlySortedBy}
+use Rattle.std.proofs.lemmas.List.{map-append, take-append-drop}
+use Rattle.std.specs.Map.{keys_of, set_value}
+use Rattle.std.specs.BTreeMap.{insert_entry, is_at}
+use Rattle.std.specs.Option.{option_map}
+use Rattle.std.proofs.lemmas.Map.Keys.{sorted_head, sorted_tail}
+use Rattle.pathkey.specs.Order.{by_bytes, by_bytes_total, by_bytes_equiv, same}
+use Rattle.pathkey.specs.Keys.{is_below}
+use Rattle.pathkey.proofs.OrderFacts.{equal, same_true, same_false, same_itself}
+use Rattle.message.specs.Ranges.{reaches, before, within}
+use Rattle.message.specs.Rows.{unboxed, Rises, at_key, place, end_place, is_there}
+use Rattle.message.specs.Settled.{first_behind}
+use Rattle.message.proofs.KeyOrder.{le_lt, reaches-from_before, not_before_from_reaches}
+use Rattle.message.proofs.RowFacts.{place_bound, rises_cons}
+
+same_back : (k q : List ℕ) → same q k ≡ same k q
+same_back k q = by_bytes_equiv.symm q k
+
+all_like : (k x : List ℕ) (ks : List (List ℕ)) → by_bytes k x ≡ Equal → AllByRecursion (λ y. by_bytes x y ≡ Less) ks → AllByRecursion (λ y. by_bytes k y ≡ Less) ks
+all_like k x [] p a = tt
+all_like k x (y ∷ ks) p a = (by_bytes_total.congr k x y p ∙ a.0, all_like k x ks p a.1)
+
+stays : (b c : Bool) → c ≡ false → not (b && c) ≡ true
+stays true c h = ap not h
+stays false c h = refl
+
+leaves : (b c : Bool) → b ≡ true → c ≡ true → not (b && c) ≡ false
+leaves b c g h = ap (λ a. not (a && c)) g ∙ ap not h
+
+stays_before : (b c : Bool) → b ≡ false → not (b && c) ≡ true
+stays_before b c h = ap (λ a. not (a && c)) h
+
+reach_rest : (lo x : List ℕ) (ks : List (List ℕ)) → reaches lo x ≡ true → AllByRecursion (λ y. by_bytes x y ≡ Less) ks → AllByRecursion (λ y. reaches lo y ≡ true) ks
+reach_rest lo x [] h a = tt
+reach_rest lo x (y ∷ ks) h a = (reaches-from_before lo y (le_lt lo x y h (ap is_lt a.0)), reach_rest lo x ks h a.1)
+
+before_from : (h x : List ℕ) → by_bytes h x ≡ Greater → before x h ≡ true
+before_from h x p = ap is_lt (by_bytes_total.antisymm x h ∙ ap ordering_reverse p)
+
+left_all : (P : List ℕ → Type 0) (ks ls : List (List ℕ)) → AllByRecursion P (ks ++ ls) → AllByRecursion P ks
+left_all P [] ls a = tt
+left_all P (k ∷ ks) ls a = (a.0, left_all P ks ls a.1)
+
+keys_left : (ks ls : List (List ℕ)) → IsStrictlySortedBy by_bytes (ks ++ ls) → IsStrictlySortedBy by_bytes ks
+unfolding IsStrictlySortedBy
+keys_left [] ls r = tt
+keys_left (k ∷ ks) ls r = (left_all (λ y. by_bytes k y ≡ Less) ks ls r.0, keys_left ks ls r.1)
+
+keys_right : (ks ls : List (List ℕ)) → IsStrictlySortedBy by_bytes (ks ++ ls) → IsStrictlySortedBy by_bytes ls
+unfolding IsStrictlySortedBy
+keys_right [] ls r = r
+keys_right (k ∷ ks) ls r = keys_right ks ls r.1
+
+module _ {X : Type 0} where
+  -- ---- what stands at a key after a new entry
+
+  at_other : (b c : Bool) (v w : X) (t : Option X) → (b ≡ true → c ≡ false) → cond b (Some v) (cond c (Some w) t) ≡ cond c (Some w) (cond b (Some v) t)
+  at_other true true v w t h = (let no : true ≡ false = h refl in absurd (cc))
+  at_other true false v w t h = refl
+  at_other false c v w t h = refl
+
+  at_same : (b : Bool) (v w : X) (t : Option X) → cond b (Some w) t ≡ cond b (Some w) (cond b (Some v) t)
+  at_same true v w t = refl
+  at_same false v w t = refl
+
+  pub at_put : (k q : List ℕ) (w : X) (es : List (List ℕ × X)) → at_key q (insert_entry by_bytes es k w) ≡ cond (same k q) (Some w) (at_key q es)
+  at_put k q w [] = ap (λ b. cond b (Some w) None) (same_back k q)
+  at_put k q w (e ∷ es) =
+      elim (by_bytes k e.0) as (λ o. by_bytes k e.0 ≡ o → at_key q (match_ordering o ((k, w) ∷ e ∷ es) ((e.0, w) ∷ es) (e ∷ insert_entry by_bytes es k w)) ≡ cond (same k q) (Some w) (at_key q (e ∷ es))) [
+        | Less ↦ λ p. ap (λ b. cond b (Some w) (at_key q (e ∷ es))) (same_back k q)
+        | Equal ↦ λ p.
+            let is : same q e.0 ≡ same k q = ap (λ (x : List ℕ). same q x) (sym (equal k e.0 p)) ∙ same_back k q in
+            ap (λ b. cond b (Some w) (at_key q es)) is ∙ at_same (same k q) e.1 w (at_key q es) ∙ ap (λ b. cond (same k q) (Some w) (cond b (Some e.1) (at_key q es))) (sym is)
+        | Greater ↦ λ p.
+            ap (λ t. cond (same q e.0) (Some e.1) t) (at_put k q w es)
+            ∙ at_other (same q e.0) (same k q) e.1 w (at_key q es) (λ h. same_false k q (λ s.
+                let one : k ≡ e.0 = s ∙ same_true q e.0 h in
+                let no : same k e.0 ≡ true = subst (λ (x : List ℕ). same k x ≡ true) one (same_itself k) in
+                let f : same k e.0 ≡ false = ap is_eq p in
+                (cc)))
+      ] refl
+
+  -- ---- after a value was written
+
+  -- the key stands where it stood
+  pub place-set : (k : List ℕ) (w : X) (es : List (List ℕ × X)) → place k (set_value (is_at (by_bytes k)) es w) ≡ place k es
+  place-set k w [] = refl
+  place-set k w (e ∷ es) =
+      elim (by_bytes k e.0) as (λ o. by_bytes k e.0 ≡ o → place k (cond (is_eq o) ((e.0, w) ∷ es) (e ∷ set_value (is_at (by_bytes k)) es w)) ≡ match_ordering o 0 0 (suc (place k es))) [
+        | Less ↦ λ p. ap (λ o. match_ordering o 0 0 (suc (place k (set_value (is_at (by_bytes k)) es w)))) p
+        | Equal ↦ λ p. ap (λ o. match_ordering o 0 0 (suc (place k es))) p
+        | Greater ↦ λ p. ap (λ o. match_ordering o 0 0 (suc (place k (set_value (is_at (by_bytes k)) es w)))) p ∙ ap (λ n. suc n) (place-set k w es)
+      ] refl
+
+  pub there-set : (k : List ℕ) (w : X) (es : List (List ℕ × X)) → is_there k (set_value (is_at (by_bytes k)) es w) ≡ is_there k es
+  there-set k w [] = refl
+  there-set k w (e ∷ es) =
+      elim (by_bytes k e.0) as (λ o. by_bytes k e.0 ≡ o → is_there k (cond (is_eq o) ((e.0, w) ∷ es) (e ∷ set_value (is_at (by_bytes k)) es w)) ≡ match_ordering o false true (is_there k es)) [
+        | Less ↦ λ p. ap (λ o. match_ordering o false true (is_there k (set_value (is_at (by_bytes k)) es w))) p
+        | Equal ↦ λ p. ap (λ o. match_ordering o false true (is_there k es)) p
+        | Greater ↦ λ p. ap (λ o. match_ordering o false true (is_there k (set_value (is_at (by_bytes k)) es w))) p ∙ there-set k w es
+      ] refl
+
+  -- the later value stands
+  pub set-set : (test : List ℕ → Bool) (v w : X) (es : List (List ℕ × X)) → set_value test (set_value test es v) w ≡ set_value test es w
+  set-set test v w [] = refl
+  set-set test v w (e ∷ es) =
+      elim (test e.0) as (λ b. test e.0 ≡ b → set_value test (cond b ((e.0, v) ∷ es) (e ∷ set_value test es v)) w ≡ cond b ((e.0, w) ∷ es) (e ∷ set_value test es w)) [
+        | true ↦ λ p. ap (λ b. cond b ((e.0, w) ∷ es) ((e.0, v) ∷ set_value test es w)) p
+        | false ↦ λ p. ap (λ b. cond b ((e.0, w) ∷ set_value test es v) (e ∷ set_value test (set_value test es v) w)) p ∙ ap (λ t. e ∷ t) (set-set test v w es)
+      ] refl
+
+  -- ---- the next key
+
+  pub all_behind : (k : List ℕ) (es : List (List ℕ × X)) → AllByRecursion (λ y. by_bytes k y ≡ Less) (keys_of es) → first_behind k es ≡ option_map (λ (e : List ℕ × X). e.0) (slice_get es 0)
+  all_behind k [] a = refl
+  all_behind k (e ∷ es) a = ap (λ o. cond (is_lt o) (Some e.0) (first_behind k es)) a.0
+
+  pub behind_gap : (k : List ℕ) (es : List (List ℕ × X)) → is_there k es ≡ false → first_behind k es ≡ option_map (λ (e : List ℕ × X). e.0) (slice_get es (place k es))
+  behind_gap k [] t = refl
+  behind_gap k (e ∷ es) t =
+      elim (by_bytes k e.0) as (λ o. match_ordering o false true (is_there k es) ≡ false → cond (is_lt o) (Some e.0) (first_behind k es) ≡ option_map (λ (e : List ℕ × X). e.0) (slice_get (e ∷ es) (match_ordering o 0 0 (suc (place k es))))) [
+        | Less ↦ λ s. refl
+        | Equal ↦ λ s. absurd (cc)
+        | Greater ↦ λ s. behind_gap k es s
+      ] t
+
+  pub behind_holder : (k : List ℕ) (es : List (List ℕ × X)) → Rises es → is_there k es ≡ true → first_behind k es ≡ option_map (λ (e : List ℕ × X). e.0) (slice_get es (suc (place k es)))
+  behind_holder k [] r t = absurd (cc)
+  behind_holder k (e ∷ es) r t =
+      elim (by_bytes k e.0) as (λ o. by_bytes k e.0 ≡ o → match_ordering o false true (is_there k es) ≡ true → cond (is_lt o) (Some e.0) (first_behind k es) ≡ option_map (λ (e : List ℕ × X). e.0) (slice_get (e ∷ es) (suc (match_ordering o 0 0 (suc (place k es)))))) [
+        | Less ↦ λ p s. absurd (cc)
+        | Equal ↦ λ p s. all_behind k es (all_like k e.0 (keys_of es) p (sorted_head by_bytes e.0 (keys_of es) r))
+        | Greater ↦ λ p s. behind_holder k es (sorted_tail by_bytes e.0 (keys_of es) r) s
+      ] refl t
+
+  -- ---- entries inside a range
+
+  abbrev pub outside : List ℕ → Option (List ℕ) → List ℕ × X → Bool
+  outside lo hi e = not (within lo hi e.0)
+
+  filter_in : (p : List ℕ × X → Bool) (e : List ℕ × X) (es : List (List ℕ × X)) → p e ≡ true → filter p (e ∷ es) ≡ e ∷ filter p es
+  filter_in p e es h = ap (λ c. cond c (e ∷ filter p es) (filter p es)) h
+
+  filter_out : (p : List ℕ × X → Bool) (e : List ℕ × X) (es : List (List ℕ × X)) → p e ≡ false → filter p (e ∷ es) ≡ filter p es
+  filter_out p e es h = ap (λ c. cond c (e ∷ filter p es) (filter p es)) h
+
+  all_gone : (lo : List ℕ) (es : List (List ℕ × X)) → AllByRecursion (λ y. reaches lo y ≡ true) (keys_of es) → filter (outside lo None) es ≡ drop (length es) es
+  all_gone lo [] a = refl
+  all_gone lo (e ∷ es) a = filter_out (outside lo None) e es (leaves (reaches lo e.0) true a.0 refl) ∙ all_gone lo es a.1
+
+  all_kept : (lo h : List ℕ) (es : List (List ℕ × X)) → AllByRecursion (λ y. reaches h y ≡ true) (keys_of es) → filter (outside lo (Some h)) es ≡ es
+  all_kept lo h [] a = refl
+  all_kept lo h (e ∷ es) a = filter_in (outside lo (Some h)) e es (stays (reaches lo e.0) (before e.0 h) (not_before_from_reaches h e.0 a.0)) ∙ ap (λ t. e ∷ t) (all_kept lo h es a.1)
+
+  up_to_end : (lo h : List ℕ) (es : List (List ℕ × X)) → Rises es → AllByRecursion (λ y. reaches lo y ≡ true) (keys_of es) → filter (outside lo (Some h)) es ≡ drop (place h es) es
+  up_to_end lo h [] r a = refl
+  up_to_end lo h (e ∷ es) r a =
+      let less = sorted_head by_bytes e.0 (keys_of es) r in
+      elim (by_bytes h e.0) as (λ o. by_bytes h e.0 ≡ o → filter (outside lo (Some h)) (e ∷ es) ≡ drop (match_ordering o 0 0 (suc (place h es))) (e ∷ es)) [
+        | Less ↦ λ p. (let here : reaches h e.0 ≡ true = ap is_le p in all_kept lo h (e ∷ es) (here, reach_rest h e.0 (keys_of es) here less))
+        | Equal ↦ λ p. (let here : reaches h e.0 ≡ true = ap is_le p in all_kept lo h (e ∷ es) (here, reach_rest h e.0 (keys_of es) here less))
+        | Greater ↦ λ p. filter_out (outside lo (Some h)) e es (leaves (reaches lo e.0) (before e.0 h) a.0 (before_from h e.0 p)) ∙ up_to_end lo h es (sorted_tail by_bytes e.0 (keys_of es) r) a.1
+      ] refl
+
+  from_low : (lo : List ℕ) (hi : Option (List ℕ)) (es : List (List ℕ × X)) → Rises es → AllByRecursion (λ y. reaches lo y ≡ true) (keys_of es) → filter (outside lo hi) es ≡ drop (end_place hi es) es
+  from_low lo None es r a = all_gone lo es a
+  from_low lo (Some h) es r a = up_to_end lo h es r a
+
+  -- an end behind the low end stands behind an entry before it
+  end_behind : (lo : List ℕ) (hi : Option (List ℕ)) (e : List ℕ × X) (es : List (List ℕ × X)) → is_below lo hi ≡ true → by_bytes lo e.0 ≡ Greater → end_place hi (e ∷ es) ≡ suc (end_place hi es)
+  end_behind lo None e es b p = refl
+  end_behind lo (Some h) e es b p =
+      let step : by_bytes e.0 lo ≡ Less = by_bytes_total.antisymm e.0 lo ∙ ap ordering_reverse p in
+      let far : by_bytes e.0 h ≡ Less = by_bytes_total.trans e.0 lo h step (less_from_lt (by_bytes lo h) b) in
+      ap (λ o. match_ordering o 0 0 (suc (place h es))) (by_bytes_total.antisymm h e.0 ∙ ap ordering_reverse far)
+    where
+      less_from_lt : (o : Ordering) → is_lt o ≡ true → o ≡ Less
+      less_from_lt Less h = refl
+      less_from_lt Equal h = (cc)
+      less_from_lt Greater h = (cc)
+
+  pub cleared : (lo : List ℕ) (hi : Option (List ℕ)) (es : List (List ℕ × X)) → Rises es → is_below lo hi ≡ true → take (place lo es) es ++ drop (end_place hi es) es ≡ filter (outside lo hi) es
+  cleared lo None [] r b = refl
+  cleared lo (Some h) [] r b = refl
+  cleared lo hi (e ∷ es) r b =
+      let less = sorted_head by_bytes e.0 (keys_of es) r in
+      elim (by_bytes lo e.0) as (λ o. by_bytes lo e.0 ≡ o → take (match_ordering o 0 0 (suc (place lo es))) (e ∷ es) ++ drop (end_place hi (e ∷ es)) (e ∷ es) ≡ filter (outside lo hi) (e ∷ es)) [
+        | Less ↦ λ p. (let here : reaches lo e.0 ≡ true = ap is_le p in sym (from_low lo hi (e ∷ es) r (here, reach_rest lo e.0 (keys_of es) here less)))
+        | Equal ↦ λ p. (let here : reaches lo e.0 ≡ true = ap is_le p in sym (from_low lo hi (e ∷ es) r (here, reach_rest lo e.0 (keys_of es) here less)))
+        | Greater ↦ λ p.
+            ap (λ n. e ∷ (take (place lo es) es ++ drop n (e ∷ es))) (end_behind lo hi e es b p)
+            ∙ ap (λ t. e ∷ t) (cleared lo hi es (sorted_tail by_bytes e.0 (keys_of es) r) b)
+            ∙ sym (filter_in (outside lo hi) e es (stays_before (reaches lo e.0) (is_below e.0 hi) (ap is_le p)))
+      ] refl
+
+  pub low_first : (lo : List ℕ) (hi : Option (List ℕ)) (es : List (List ℕ × X)) → is_below lo hi ≡ true → place lo es ≤ end_place hi es
+  low_first lo None es b = place_bound lo es
+  low_first lo (Some h) [] b = omega arith
+  low_first lo (Some h) (e ∷ es) b =
+      elim (by_bytes lo e.0) as (λ o. by_bytes lo e.0 ≡ o → match_ordering o 0 0 (suc (place lo es)) ≤ end_place (Some h) (e ∷ es)) [
+        | Less ↦ λ p. omega arith
+        | Equal ↦ λ p. omega arith
+        | Greater ↦ λ p. omega (arith, low_first lo (Some h) es b, end_behind lo (Some h) e es b p)
+      ] refl
+
+  -- ---- parts of a row that rises
+
+  pub rises_left : (es fs : List (List ℕ × X)) → Rises (es ++ fs) → Rises es
+  rises_left es fs r = keys_left (keys_of es) (keys_of fs) (subst (λ ks. IsStrictlySortedBy by_bytes ks) (map-append (λ (e : List ℕ × X). e.0) es fs) r)
+
+  pub rises_right : (es fs : List (List ℕ × X)) → Rises (es ++ fs) → Rises fs
+  rises_right es fs r = keys_right (keys_of es) (keys_of fs) (subst (λ ks. IsStrictlySortedBy by_bytes ks) (map-append (λ (e : List ℕ × X). e.0) es fs) r)
+
+  pub rises_take : (i : ℕ) (es : List (List ℕ × X)) → Rises es → Rises (take i es)
+  rises_take i es r = rises_left (take i es) (drop i es) (subst (λ t. Rises t) (sym (take-append-drop i es)) r)
+
+  pub rises_drop : (i : ℕ) (es : List (List ℕ × X)) → Rises es → Rises (drop i es)
+  rises_drop i es r = rises_right (take i es) (drop i es) (subst (λ t. Rises t) (sym (take-append-drop i es)) r)
+
+  -- ---- what is left without some in between
+
+  all_drop : (P : List ℕ → Type 0) (j : ℕ) (es : List (List ℕ × X)) → AllByRecursion P (keys_of es) → AllByRecursion P (keys_of (drop j es))
+  all_drop P zero es a = a
+  all_drop P (suc j) [] a = tt
+  all_drop P (suc j) (e ∷ es) a = all_drop P j es a.1
+
+  all_without : (P : List ℕ → Type 0) (i j : ℕ) (es : List (List ℕ × X)) → i ≤ j → AllByRecursion P (keys_of es) → AllByRecursion P (keys_of (take i es ++ drop j es))
+  all_without P zero j es h a = all_drop P j es a
+  all_without P (suc i) zero es h a = absurd (omega arith)
+  all_without P (suc i) (suc j) [] h a = tt
+  all_without P (suc i) (suc j) (e ∷ es) h a = (a.0, all_without P i j es (omega arith) a.1)
+
+  pub rises_without : (i j : ℕ) (es : List (List ℕ × X)) → i ≤ j → Rises es → Rises (take i es ++ drop j es)
+  rises_without zero j es h r = rises_drop j es r
+  rises_without (suc i) zero es h r = absurd (omega arith)
+  rises_without (suc i) (suc j) [] h r = r
+  rises_without (suc i) (suc j) (e ∷ es) h r =
+      rises_cons e.0 e.1 (take i es ++ drop j es) (all_without (λ y. by_bytes e.0 y ≡ Less) i j es (omega arith) (sorted_head by_bytes e.0 (keys_of es) r)) (rises_without i j es (omega arith) (sorted_tail by_bytes e.0 (keys_of es) r))
+
+  -- ---- the same of boxes
+
+  pub unboxed-take : (n : ℕ) (bs : List (Box (List ℕ × X))) → unboxed (take n bs) ≡ take n (unboxed bs)
+  unboxed-take zero bs = refl
+  unboxed-take (suc n) [] = refl
+  unboxed-take (suc n) (b ∷ bs) = ap (λ t. b.value ∷ t) (unboxed-take n bs)
+
+  pub unboxed-drop : (n : ℕ) (bs : List (Box (List ℕ × X))) → unboxed (drop n bs) ≡ drop n (unboxed bs)
+  unboxed-drop zero bs = refl
+  unboxed-drop (suc n) [] = refl
+  unboxed-drop (suc n) (b ∷ bs) = unboxed-drop n bs
+
+  pub unboxed-without : (i j : ℕ) (bs : List (Box (List ℕ × X))) → unboxed (take i bs ++ drop j bs) ≡ take i (unboxed bs) ++ drop j (unboxed bs)
+  unboxed-without i j bs =
+      map-append (λ (b : Box (List ℕ × X)). b.value) (take i bs) (drop j bs)
+      ∙ ap (λ t. t ++ unboxed (drop j bs)) (unboxed-take i bs)
+      ∙ ap (λ t. take i (unboxed bs) ++ t) (unboxed-drop j bs)
+
+  pub rises_cut : (i j : ℕ) (bs cs : List (Box (List ℕ × X))) → cs ≡ take i bs ++ drop j bs → i ≤ j → Rises (unboxed bs) → Rises (unboxed cs)
+  rises_cut i j bs cs e h r = subst (λ (t : List (List ℕ × X)). Rises t) (sym (ap (λ (t : List (Box (List ℕ × X))). unboxed t) e ∙ unboxed-without i j bs)) (rises_without i j (unboxed bs) h r)
+
+  pub cut_is : (i j : ℕ) (bs cs : List (Box (List ℕ × X))) (es : List (List ℕ × X)) → unboxed bs ≡ es → cs ≡ take i bs ++ drop j bs → unboxed cs ≡ take i es ++ drop j es
+  cut_is i j bs cs es v e = ap (λ (t : List (Box (List ℕ × X))). unboxed t) e ∙ unboxed-without i j bs ∙ ap (λ (t : List (List ℕ × X)). take i t ++ drop j t) v
+
+  pub front_is : (n : ℕ) (bs cs : List (Box (List ℕ × X))) (es : List (List ℕ × X)) → unboxed bs ≡ es → cs ≡ take n bs → unboxed cs ≡ take n es
+  front_is n bs cs es v e = ap (λ (t : List (Box (List ℕ × X))). unboxed t) e ∙ unboxed-take n bs ∙ ap (λ (t : List (List ℕ × X)). take n t) v
+
+  pub back_is : (n : ℕ) (bs cs : List (Box (List ℕ × X))) (es : List (List ℕ × X)) → unboxed bs ≡ es → cs ≡ drop n bs → unboxed cs ≡ drop n es
+  back_is n bs cs es v e = ap (λ (t : List (Box (List ℕ × X))). unboxed t) e ∙ unboxed-drop n bs ∙ ap (λ (t : List (List ℕ × X)). drop n t) v
+
+  pub rises_front : (n : ℕ) (bs cs : List (Box (List ℕ × X))) → cs ≡ take n bs → Rises (unboxed bs) → Rises (unboxed cs)
+  rises_front n bs cs e r = subst (λ (t : List (List ℕ × X)). Rises t) (sym (front_is n bs cs (unboxed bs) refl e)) (rises_take n (unboxed bs) r)
+
+  pub rises_back : (n : ℕ) (bs cs : List (Box (List ℕ × X))) → cs ≡ drop n bs → Rises (unboxed bs) → Rises (unboxed cs)
+  rises_back n bs cs e r = subst (λ (t : List (List ℕ × X)). Rises t) (sym (back_is n bs cs (unboxed bs) refl e)) (rises_drop n (unboxed bs) r)

@@ -1,0 +1,5 @@
+use Rattle.message.proofs.PointChanges.{copied_next}
+use Rattle.message.proofs.points.copy_runs.Goals as goal
+
+pub loop-item-preserved : goal.loop-item-preserved
+loop-item-preserved g c = copied_next c.args.count c.args.items.now c.loop-item.item-index c.item-item.result c.as_ref-entry.result.now c.loop-item.front.items c.copy_into.new.front.items _ c.loop-item-test.true c.item-item.is c.as_ref-entry.ensures c.loop-item.invariant c.in_ok-copy_into.ensures

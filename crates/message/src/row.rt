@@ -1,0 +1,311 @@
+//! A row of entries that rise by key, each in a place of its own.
+//!
+//! An entry is made where it comes in. After that only its pointer moves.
+ghost use Rattle.std.specs.Prelude.{◌≡◌, ◌++◌, ◌∷◌, [], ◌<◌, ◌≤◌, ◌^◌, length, take, drop, Some, OnOk, OnErr, IfOk, IfErr, IfNone, ℕ, List};
+ghost use Rattle.std.specs.Option.{option_map, option_to_list};
+ghost use Rattle.std.specs.List.{remove_range, slice_get};
+ghost use Rattle.std.specs.Map.{set_value};
+ghost use Rattle.std.specs.BTreeMap.{insert_entry, is_at};
+ghost use Rattle.pathkey.specs.Order.{by_bytes};
+ghost use Rattle.message.specs.Rows.{unboxed, Rises, at_key, place, begins_by, is_filled, IsHolder, IsGap, IsFound};
+
+use crate::rows::pop_item;
+use crate::search::count_passing;
+use pathkey::{Key, NoMemory};
+use std::alloc::Global;
+use std::marker::Model;
+
+/// Entries that rise by key, which contracts see as their list.
+#[derive(Drop)]
+pub struct Row<T> {
+    items: Vec<Item<T>>,
+}
+
+/// An entry in a place of its own, and the head of its key.
+#[derive(Drop)]
+pub struct Item<T> {
+    head: u64,
+    entry: Box<(Key, T)>,
+}
+
+impl<T: Drop> Item<T> {
+    pub(crate) fn new(alloc: Global, key: Key, value: T) -> Result<Item<T>, (Key, T)> {
+        let head = key.head();
+        match Box::new(alloc, (key, value)) {
+            Ok(entry) => Ok(Item { head, entry }),
+            Err(refused) => Err(refused.value),
+        }
+    }
+    pub(crate) fn key(&self) -> &Key {
+        &self.entry.0
+    }
+    pub(crate) fn value(&self) -> &T {
+        &self.entry.1
+    }
+    pub(crate) fn into_entry(self) -> (Key, T) {
+        let Item { head: _, entry } = self;
+        Box::into_inner(entry)
+    }
+    pub(crate) fn is_before(&self, key: &Key) -> bool {
+        let head = key.head();
+        if self.head != head {
+            return self.head < head;
+        }
+        key.cmp(&self.entry.0).is_gt()
+    }
+    pub(crate) fn is_at(&self, key: &Key) -> bool {
+        self.head == key.head() && *key == self.entry.0
+    }
+}
+
+impl<T> Model for Row<T> {
+    ghost use Rattle.std.specs.Prelude.{List, ℕ};
+
+    ghost Value = { List (List ℕ × T) };
+
+    ghost use Rattle.message.specs.Rows.{unboxed, Rises};
+
+    ghost view = { λ r. unboxed r.items.items };
+
+    ghost invariant = { λ r. Rises (unboxed r.items.items) };
+}
+
+impl<T: Drop> Row<T> {
+    /// A row without entries. It takes no memory.
+    pub(crate) fn new(alloc: Global) -> Row<T>
+        ensures { result ≡ [] }
+    {
+        Row {
+            items: Vec::new(alloc),
+        }
+    }
+
+    /// How many entries there are.
+    pub(crate) fn len(&self) -> usize
+        ensures len { result ≡ length self.now }
+        ensures small { result < 2 ^ 63 }
+    {
+        self.items.len()
+    }
+
+    /// The entries, in the order of their keys.
+    pub(crate) fn entries(&self) -> &[Item<T>]
+        ensures entries { unboxed result.now ≡ self.now }
+        ensures len { length result.now ≡ length self.now }
+        ensures rises { Rises self.now }
+    {
+        self.items.as_slice()
+    }
+
+    /// How many entries stand before the key.
+    pub(crate) fn before(&self, key: &Key) -> usize
+        ensures place { result ≡ place key.now self.now }
+        ensures bound { result ≤ length self.now }
+        ensures rises { Rises self.now }
+    {
+        count_before(self.items.as_slice(), key)
+    }
+
+    /// Whether the first entry has the key or stands before it.
+    pub(crate) fn begins_by(&self, key: &Key) -> bool
+        ensures { result ≡ begins_by key.now self.now }
+    {
+        match self.entry(0) {
+            None => false,
+            Some((first, _)) => first.cmp(key).is_le(),
+        }
+    }
+
+    /// Whether there is an entry.
+    pub(crate) fn has_entries(&self) -> bool
+        ensures { result ≡ is_filled self.now }
+    {
+        match self.entry(0) {
+            None => false,
+            Some(_) => true,
+        }
+    }
+
+    /// The entry with this number, if there is one.
+    pub(crate) fn entry(&self, i: usize) -> Option<(&Key, &T)>
+        ensures { option_map (λ p. (p.0.now, p.1.now)) result ≡ slice_get self.now i }
+    {
+        match self.items.get(i) {
+            None => None,
+            Some(item) => {
+                Some((item.key(), item.value()))
+            }
+        }
+    }
+
+    /// The value of the entry with this number.
+    pub(crate) fn value(&self, i: usize) -> &T
+        requires { i < length self.now }
+        ensures { (k : List ℕ) → IsHolder k self.now i → at_key k self.now ≡ Some result.now }
+    {
+        let item = &self.items[i];
+        item.value()
+    }
+
+    /// Where the key stands, or where it would.
+    pub(crate) fn find(&self, key: &Key) -> Result<usize, usize>
+        ensures found { IsFound key.now self.now result }
+        ensures rises { Rises self.now }
+    {
+        find_in(self.items.as_slice(), key)
+    }
+
+    /// Puts a value at the key, and answers the one that stood there. On want of memory both come back.
+    pub(crate) fn insert(&mut self, key: Key, value: T) -> Result<Option<T>, (Key, T)>
+        ensures entries { OnOk result (self.new ≡ insert_entry by_bytes self.old key value) }
+        ensures was { IfOk result (λ old. old ≡ at_key key self.old) }
+        ensures rises { Rises self.new }
+        ensures was_rising { Rises self.old }
+        ensures err { OnErr result (self.new ≡ self.old) }
+        ensures back { IfErr result (λ p. p ≡ (key, value)) }
+    {
+        match self.find(&key) {
+            Ok(i) => Ok(Some(self.swap(i, value))),
+            Err(i) => match self.put(i, key, value) {
+                Ok(()) => Ok(None),
+                Err(pair) => Err(pair),
+            },
+        }
+    }
+
+    /// Puts a new entry into its place. On want of memory it comes back.
+    pub(crate) fn put(&mut self, i: usize, key: Key, value: T) -> Result<(), (Key, T)>
+        requires { IsGap key self.old i }
+        ensures ok { OnOk result (self.new ≡ insert_entry by_bytes self.old key value) }
+        ensures rises { Rises self.new }
+        ensures was_rising { Rises self.old }
+        ensures err { OnErr result (self.new ≡ self.old) }
+        ensures back { IfErr result (λ p. p ≡ (key, value)) }
+    {
+        put_item(&mut self.items, i, key, value)
+    }
+
+    /// Gives an entry another value, and answers the one that it had.
+    pub(crate) fn swap(&mut self, i: usize, value: T) -> T
+        requires { i < length self.old }
+        ensures was { (k : List ℕ) → IsHolder k self.old i → at_key k self.old ≡ Some result }
+        ensures is { (k : List ℕ) → IsHolder k self.old i → self.new ≡ set_value (is_at (by_bytes k)) self.old value }
+        ensures rises { Rises self.new }
+    {
+        let item = &mut self.items[i];
+        std::mem::replace(&mut item.entry.1, value)
+    }
+
+    /// Puts an entry behind the others. On want of memory it is gone.
+    pub(crate) fn push(&mut self, key: Key, value: T) -> Result<(), NoMemory>
+        requires { Rises (self.old ++ (key, value) ∷ []) }
+        ensures { OnOk result (self.new ≡ self.old ++ (key, value) ∷ []) }
+    {
+        let Ok(item) = Item::new(*self.items.allocator(), key, value) else {
+            return Err(NoMemory);
+        };
+        self.items.push(item)?;
+        Ok(())
+    }
+
+    /// Takes the first entry out.
+    pub(crate) fn pop(&mut self) -> Option<Item<T>>
+        ensures moved { self.old ≡ option_to_list result ++ self.new }
+        ensures end { IfNone result (self.old ≡ []) }
+    {
+        if self.items.is_empty() {
+            return None;
+        }
+        Some(self.items.remove(0))
+    }
+
+    /// Moves the first entry of other rows to its place here. It says whether it did: memory may be refused, or there is none.
+    pub(crate) fn put_first(&mut self, i: usize, from: &mut Vec<Row<T>>) -> bool
+        requires rows { AreRows from.old.items }
+        requires gap { IfSome (slice_get (joined from.old.items) 0) (λ e. IsGap e.0 self.old i) }
+        ensures rows { AreRows from.new.items }
+        ensures yes { result ≡ true → IsMovedIn (joined from.old.items) self.old (joined from.new.items) self.new }
+        ensures no { result ≡ false → (self.new ≡ self.old) × (joined from.new.items ≡ joined from.old.items) }
+    {
+        if self.items.reserve(1).is_err() {
+            return false;
+        }
+        let Some(item) = pop_item(from) else {
+            return false;
+        };
+        let Ok(()) = self.items.insert(i, item) else {
+            unreachable!()
+        };
+        true
+    }
+
+    /// Puts an item in the place of another of its key, and answers that.
+    pub(crate) fn swap_item(&mut self, i: usize, item: Item<T>) -> Item<T> {
+        std::mem::replace(&mut self.items[i], item)
+    }
+
+    /// Takes the entries away from number `from` up to `to`.
+    pub(crate) fn remove(&mut self, from: usize, to: usize)
+        requires order { from ≤ to }
+        requires bound { to ≤ length self.old }
+        ensures cut { self.new ≡ remove_range self.old from to }
+        ensures rises { Rises self.new }
+    {
+        self.items.drain(from..to);
+    }
+
+    /// Moves the entries from number `at` on into a row of their own.
+    pub(crate) fn split_off(&mut self, at: usize) -> Result<Row<T>, NoMemory>
+        requires { at ≤ length self.old }
+        ensures front { OnOk result (self.new ≡ take at self.old) }
+        ensures back { IfOk result (λ r. r ≡ drop at self.old) }
+        ensures err { OnErr result (self.new ≡ self.old) }
+    {
+        let items = self.items.split_off(at)?;
+        Ok(Row { items })
+    }
+}
+
+/// Puts a new entry into its place among others. On want of memory it comes back.
+fn put_item<T: Drop>(
+    items: &mut Vec<Item<T>>,
+    i: usize,
+    key: Key,
+    value: T,
+) -> Result<(), (Key, T)>
+    requires { IsGap key (unboxed items.old.items) i }
+    ensures ok { OnOk result (unboxed items.new.items ≡ insert_entry by_bytes (unboxed items.old.items) key value) }
+    ensures rises { Rises (unboxed items.old.items) → Rises (unboxed items.new.items) }
+    ensures err { OnErr result (items.new.items ≡ items.old.items) }
+    ensures back { IfErr result (λ p. p ≡ (key, value)) }
+{
+    let item = match Item::new(*items.allocator(), key, value) {
+        Ok(item) => item,
+        Err(refused) => return Err(refused),
+    };
+    match items.insert(i, item) {
+        Ok(()) => Ok(()),
+        Err(refused) => Err(refused.value.into_entry()),
+    }
+}
+
+/// How many entries stand before the key, found by a search in strides.
+fn count_before<T: Drop>(items: &[Item<T>], key: &Key) -> usize
+    requires { Rises (unboxed items.now) }
+    ensures place { result ≡ place key.now (unboxed items.now) }
+    ensures bound { result ≤ length (unboxed items.now) }
+{
+    count_passing(items, |item| item.is_before(key))
+}
+
+/// Where the key stands among entries, or where it would.
+fn find_in<T: Drop>(items: &[Item<T>], key: &Key) -> Result<usize, usize>
+    requires { Rises (unboxed items.now) }
+    ensures { IsFound key.now (unboxed items.now) result }
+{
+    let i = count_before(items, key);
+    match items.get(i) {
+        Some(item) if item.is_at(key) => Ok(i),
+        _ => Err(i),
+    }
+}

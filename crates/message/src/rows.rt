@@ -1,0 +1,207 @@
+//! Rows one behind the other, so that an entry that comes in or leaves moves few others.
+ghost use Rattle.std.specs.Prelude.{true, vec_len, vec_capacity, ◌≡◌, ◌++◌, ◌+◌, [], ◌<◌, ◌≤◌, length, take, drop, slice_index_or, slice_set, Some, OnOk, OnErr, IfOk, IfNone};
+ghost use Rattle.std.specs.Option.{option_copied, option_map, option_to_list};
+ghost use Rattle.std.specs.List.{slice_get};
+ghost use Rattle.message.specs.Rows.{Rises, joined, AreFilled, LaterFilled, TailFilled, row_number, number_in, AreRows, IsEndRow};
+
+use crate::row::{Item, Row};
+use crate::search::count_passing;
+use pathkey::{Key, NoMemory};
+
+/// A row with so many entries is made two before one more comes in.
+const FULL: usize = 64;
+
+/// How many of the rows begin at the key or before it, found by a search in strides.
+fn number_of<T: Drop>(rows: &[Row<T>], key: &Key) -> usize
+    requires rises { Rises (joined rows.now) }
+    requires filled { AreFilled rows.now }
+    ensures number { result ≡ row_number key.now rows.now }
+    ensures bound { result ≤ length rows.now }
+{
+    count_passing(rows, |row| row.begins_by(key))
+}
+
+/// The number of the row in which the key stands or would.
+pub(crate) fn number_in<T: Drop>(rows: &[Row<T>], key: &Key) -> usize
+    requires { AreRows rows.now }
+    ensures number { result ≡ number_in key.now rows.now }
+    ensures bound { 0 < length rows.now → result < length rows.now }
+    ensures within { result ≤ length rows.now }
+{
+    let Some((_, later)) = rows.split_first() else {
+        return 0;
+    };
+    number_of(later, key)
+}
+
+/// A number from which on the rows stand behind the end; `None` is no end.
+pub(crate) fn end_row<T: Drop>(rows: &[Row<T>], end: Option<&Key>) -> usize
+    requires { AreRows rows.now }
+    ensures end { IsEndRow (option_copied end.entry) rows.now result }
+    ensures bound { result ≤ length rows.now }
+{
+    if rows.len() == 0 {
+        return 0;
+    }
+    match end {
+        None => rows.len(),
+        Some(end) => number_in(rows, end) + 1,
+    }
+}
+
+/// The first entry of all.
+pub(crate) fn first_in<T: Drop>(rows: &[Row<T>]) -> Option<(&Key, &T)>
+    requires { AreRows rows.now }
+    ensures { option_map (λ p. (p.0.now, p.1.now)) result ≡ slice_get (joined rows.now) 0 }
+{
+    match rows.first() {
+        None => None,
+        Some(row) => row.entry(0),
+    }
+}
+
+/// Makes a first row where there is none, and two rows of a full one in which the key stands or would, where memory is
+/// there. Answers whether there is a row.
+pub(crate) fn prepare<T: Drop>(rows: &mut Vec<Row<T>>, key: &Key) -> bool
+    requires { AreRows rows.old.items }
+    ensures same { joined rows.new.items ≡ joined rows.old.items }
+    ensures rows { AreRows rows.new.items }
+    ensures some { result ≡ true → 0 < length rows.new.items }
+{
+    if rows.len() == 0 {
+        return begin(rows);
+    }
+    widen(rows, key);
+    true
+}
+
+/// Makes a first row, where memory is there.
+fn begin<T: Drop>(rows: &mut Vec<Row<T>>) -> bool
+    requires { rows.old.items ≡ [] }
+    ensures same { joined rows.new.items ≡ joined rows.old.items }
+    ensures rows { AreRows rows.new.items }
+    ensures some { result ≡ true → 0 < length rows.new.items }
+{
+    let row = Row::new(*rows.allocator());
+    rows.push(row).is_ok()
+}
+
+/// Makes the row in which the key stands or would two rows, where it is full and memory is there.
+fn widen<T: Drop>(rows: &mut Vec<Row<T>>, key: &Key)
+    requires rows { AreRows rows.old.items }
+    requires some { 0 < length rows.old.items }
+    ensures same { joined rows.new.items ≡ joined rows.old.items }
+    ensures rows { AreRows rows.new.items }
+    ensures some { 0 < length rows.new.items }
+{
+    let n = number_in(rows.as_slice(), key);
+    let row = &rows[n];
+    if row.len() < FULL {
+        return;
+    }
+    let at = middle(row, key);
+    split(rows, n, at);
+}
+
+/// Where a full row is made two: behind most of its entries where the key comes behind all, so that keys that come in
+/// their order leave rows that are nearly full.
+fn middle<T: Drop>(row: &Row<T>, key: &Key) -> usize
+    requires { 64 ≤ length row.now }
+    ensures some { 0 < result }
+    ensures others { result < length row.now }
+{
+    let len = row.len();
+    if row.before(key) == len {
+        return len - FULL / 8;
+    }
+    len / 2
+}
+
+/// Moves the entries of a row from number `at` on into a row of their own behind it, where memory is there.
+fn split<T: Drop>(rows: &mut Vec<Row<T>>, n: usize, at: usize)
+    requires rows { AreRows rows.old.items }
+    requires row { n < length rows.old.items }
+    requires some { 0 < at }
+    requires others { at < length (slice_index_or rows.old.items n []) }
+    ensures same { joined rows.new.items ≡ joined rows.old.items }
+    ensures rows { AreRows rows.new.items }
+    ensures some { 0 < length rows.new.items }
+{
+    if rows.reserve(1).is_err() {
+        return;
+    }
+    let Ok(back) = cut(rows, n, at) else {
+        return;
+    };
+    let Ok(()) = rows.insert(n + 1, back) else {
+        unreachable!()
+    };
+}
+
+/// Moves the entries of a row from number `at` on out of it.
+fn cut<T: Drop>(rows: &mut Vec<Row<T>>, n: usize, at: usize) -> Result<Row<T>, NoMemory>
+    requires row { n < length rows.old.items }
+    requires entry { at ≤ length (slice_index_or rows.old.items n []) }
+    ensures front { OnOk result (rows.new.items ≡ slice_set rows.old.items n (take at (slice_index_or rows.old.items n []))) }
+    ensures back { IfOk result (λ r. r ≡ drop at (slice_index_or rows.old.items n [])) }
+    ensures err { OnErr result (rows.new.items ≡ rows.old.items) }
+    ensures len { vec_len rows.new ≡ vec_len rows.old }
+    ensures room { vec_capacity rows.new ≡ vec_capacity rows.old }
+{
+    let row = &mut rows[n];
+    row.split_off(at)
+}
+
+/// Takes the first entry of all out.
+pub(crate) fn pop_in<T: Drop>(rows: &mut Vec<Row<T>>) -> Option<(Key, T)>
+    requires { AreRows rows.old.items }
+    ensures moved { joined rows.old.items ≡ option_to_list result ++ joined rows.new.items }
+    ensures end { IfNone result (joined rows.old.items ≡ []) }
+    ensures rows { AreRows rows.new.items }
+{
+    match pop_item(rows) {
+        None => None,
+        Some(item) => Some(item.into_entry()),
+    }
+}
+
+/// Takes the first entry of all out as it lies in memory.
+pub(crate) fn pop_item<T: Drop>(rows: &mut Vec<Row<T>>) -> Option<Item<T>>
+    requires { AreRows rows.old.items }
+    ensures moved { joined rows.old.items ≡ option_to_list result ++ joined rows.new.items }
+    ensures end { IfNone result (joined rows.old.items ≡ []) }
+    ensures rows { AreRows rows.new.items }
+{
+    if rows.len() == 0 {
+        return None;
+    }
+    let row = &mut rows[0];
+    let Some(item) = row.pop() else {
+        return None;
+    };
+    drop_front(rows);
+    Some(item)
+}
+
+/// Takes the first row away where it is empty and not the only one.
+fn drop_front<T: Drop>(rows: &mut Vec<Row<T>>)
+    requires { TailFilled rows.old.items }
+    ensures same { joined rows.new.items ≡ joined rows.old.items }
+    ensures later { LaterFilled rows.new.items }
+{
+    if rows.len() < 2 {
+        return;
+    }
+    let row = &rows[0];
+    if row.len() == 0 {
+        rows.remove(0);
+    }
+}
+
+/// Takes the empty rows away.
+pub(crate) fn drop_empty<T: Drop>(rows: &mut Vec<Row<T>>)
+    ensures same { joined rows.new.items ≡ joined rows.old.items }
+    ensures later { LaterFilled rows.new.items }
+{
+    rows.retain(|row| row.has_entries());
+}
