@@ -26,3 +26,4 @@ pub mod RowChanges
 pub mod PointChanges
 pub mod RowsFacts
 pub mod PointRows
+pub mod Dividing

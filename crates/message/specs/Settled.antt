@@ -15,6 +15,7 @@ use Rattle.message.specs.declared.told.Told.TheVariants.{Nothing, Value, Change}
 use Rattle.pathkey.specs.Keys.{is_below}
 use Rattle.message.specs.Ranges.{reaches, before, within, ends_within}
 use Rattle.message.specs.Stretches.{ahead_of}
+use Rattle.message.specs.Rows.{IsWritten}
 use Rattle.message.specs.Runs.{run_msgs, run_len, run_effect, IsRunKeyed}
 
 -- ---- ranges, each as its low end with its high end
@@ -106,6 +107,15 @@ module _ {U V : Type 0} where
       pub few : came ≤ most
       pub lays : Lays key (run_effect means run) old new
       pub counted : point_count new + gone ≡ point_count old + came
+
+    -- the same where no more is said of how many messages came; anything that changed stands at the key
+    pub record MovesFirst (gone : ℕ) (from old left new : List (List ℕ × Run U V)) : Type 0 where
+      pub key : List ℕ
+      pub run : Run U V
+      pub parts : from ≡ (key, run) ∷ left
+      pub written : IsWritten key old new
+      pub lays : Lays key (run_effect means run) old new
+      pub counted : point_count new + gone ≡ point_count old + run_len run
 
 -- the last entry whose key passes
 abbrev pub last_or : {X : Type 0} → Bool → X → Option X → Option X
