@@ -1,8 +1,8 @@
 -- Rows that are parted at a key.
-use Rattle.std.proofs.Common.{◌≡◌, ℕ, zero, suc, ◌+◌, ◌<◌, ◌≤◌, true, List, [], ◌∷◌, ◌++◌, length, take, drop, get_or, refl, ap, sym, ◌∙◌, subst, arith, append_assoc, append-nil}
+use Rattle.std.proofs.Common.{◌≡◌, ℕ, zero, suc, ◌+◌, ◌<◌, ◌≤◌, true, List, [], ◌∷◌, ◌++◌, length, take, drop, get_or, refl, ap, sym, ◌∙◌, subst, arith, append_assoc, append-nil, Some}
 use Rattle.std.specs.declared.cmp.Ordering.TheVariants.{Less, Equal, Greater}
 use Rattle.std.specs.Ordering.{is_le, match_ordering}
-use Rattle.std.specs.List.{All, AllByRecursion, slice_set, insert}
+use Rattle.std.specs.List.{AllByRecursion, slice_get, slice_set, insert}
 use Rattle.std.specs.Map.{keys_of}
 use Rattle.std.proofs.lemmas.List.{length-take, take-append-drop, take_more, drop_more, take_all, drop_all, get_or_default}
 use Rattle.std.proofs.lemmas.List.Elements.{All-from_recursion}
@@ -46,6 +46,14 @@ module _ {X : Type 0} where
         | Equal ↦ λ p. (let here : reaches k e.0 ≡ true = ap is_le p in (here, reach_rest k e.0 (keys_of es) here less))
         | Greater ↦ λ p. dropped_from k es (sorted_tail by_bytes e.0 (keys_of es) r)
       ] refl
+
+  -- where the first stands at the key or behind it
+  pub from_first : (k q : List ℕ) (x : X) (es : List (List ℕ × X)) → Some (q, x) ≡ slice_get es 0 → Rises es → reaches k q ≡ true → AreFrom k es
+  from_first k q x [] f r h = absurd (cc)
+  from_first k q x (e ∷ es) f r h =
+      let one : (q, x) ≡ e = (cc) in
+      let here : reaches k e.0 ≡ true = ap (λ (y : List ℕ × X). reaches k y.0) (sym one) ∙ h in
+      All-from_recursion (λ y. reaches k y ≡ true) (keys_of (e ∷ es)) (here, reach_rest k e.0 (keys_of es) here (sorted_head by_bytes e.0 (keys_of es) r))
 
   -- ---- the row that has entries on both sides
 

@@ -27,3 +27,4 @@ pub mod PointChanges
 pub mod RowsFacts
 pub mod PointRows
 pub mod Dividing
+pub mod Moving

@@ -60,7 +60,7 @@ impl<U: Update> Points<U> {
     pub(crate) fn begin_from(&self, lo: &Key) -> bool
         ensures { result ≡ true → All (λ k. reaches lo.now k ≡ true) (keys_of self.now) }
     {
-        match self.first() {
+        match first_in(self.rows.as_slice()) {
             None => true,
             Some((first, _)) => lo.cmp(first).is_le(),
         }
@@ -95,12 +95,13 @@ impl<U: Update> Points<U> {
         ensures ordered { Rises self.new }
         ensures none { IfNone result ((self.new ≡ self.old) × (from.new ≡ from.old)) }
     {
+        let rows = &mut self.rows;
         let (key, run) = from.first()?;
         let came = run.len();
-        if came > most || !prepare(&mut self.rows, key) {
+        if came > most || !prepare(rows, key) {
             return None;
         }
-        let gone = take_among(&mut self.rows, &mut from.rows)?;
+        let gone = take_among(rows, &mut from.rows)?;
         Some((came, gone))
     }
 
