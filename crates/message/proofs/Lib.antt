@@ -28,3 +28,5 @@ pub mod RowChanges
 pub mod PointChanges
 pub mod RowsFacts
 pub mod PointRows
+pub mod Dividing
+pub mod Moving
