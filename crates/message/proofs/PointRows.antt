@@ -26,6 +26,10 @@ not_both : (b c : Bool) → c ≡ false → not (b && c) ≡ true
 not_both true c h = ap not h
 not_both false c h = refl
 
+-- rows with such a number are some
+pub above : {n m : ℕ} → n < m → 0 < m
+above {n = n} {m = m} h = omega (arith, h)
+
 module _ {X : Type 0} where
   -- the number that a search through the same rows gave
   pub place_of : (k : List ℕ) (rs ss : List (List (List ℕ × X))) (n : ℕ) → ss ≡ rs → n ≡ number_in k ss → (0 < length ss → n < length ss) → 0 < length rs → (n ≡ number_in k rs) × (n < length rs)

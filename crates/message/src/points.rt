@@ -98,9 +98,10 @@ impl<U: Update> Points<U> {
         let rows = &mut self.rows;
         let (key, run) = from.first()?;
         let came = run.len();
-        if came > most || !prepare(rows, key) {
+        if came > most {
             return None;
         }
+        prepare(rows, key)?;
         let gone = take_among(rows, &mut from.rows)?;
         Some((came, gone))
     }
@@ -125,10 +126,10 @@ impl<U: Update> Points<U> {
         ensures unchanged { OnErr result (self.new ≡ self.old) }
         ensures back { IfErr result (λ p. p ≡ (key, run)) }
     {
-        if !prepare(&mut self.rows, &key) {
+        let Some(n) = prepare(&mut self.rows, &key) else {
             return Err((key, run));
-        }
-        overwrite_among(&mut self.rows, key, run)
+        };
+        overwrite_among(&mut self.rows, n, key, run)
     }
 
     /// Lays an update over the key, and answers how many messages stood there and how many do now. On want of memory the
@@ -149,10 +150,10 @@ impl<U: Update> Points<U> {
         ensures unchanged { OnErr result (point_msgs self.new ≡ point_msgs self.old) }
         ensures back { IfErr result (λ p. p ≡ (key, update)) }
     {
-        if !prepare(&mut self.rows, &key) {
+        let Some(n) = prepare(&mut self.rows, &key) else {
             return Err((key, update));
-        }
-        edit_among(&mut self.rows, alloc, key, update)
+        };
+        edit_among(&mut self.rows, n, alloc, key, update)
     }
 
     /// Takes away the messages at the keys of a range, and answers how many are left of `count`.
@@ -239,15 +240,17 @@ fn take_among<U: Update>(
     take_in(row, from)
 }
 
-/// Puts one message in the place of the key's messages among rows, as [`Points::overwrite`] does.
+/// Puts one message in the place of the key's messages in the row in which the key stands or would, as [`Points::overwrite`] does.
 fn overwrite_among<U: Update>(
     rows: &mut Vec<Row<Run<U>>>,
+    n: usize,
     key: Key,
     run: Run<U>,
 ) -> Result<usize, (Key, Run<U>)>
     requires idle { (v w : Option U.Value) → run_effect U.means run v ≡ run_effect U.means run w }
     requires rows { AreRows rows.old.items }
-    requires some { 0 < length rows.old.items }
+    requires number { n ≡ number_in key rows.old.items }
+    requires bound { n < length rows.old.items }
     ensures rows { AreRows rows.new.items }
     ensures lays { OnOk result (Lays U.means key (run_effect U.means run) (joined rows.old.items) (joined rows.new.items)) }
     ensures counted { IfOk result (λ gone. point_count (joined rows.new.items) + gone ≡ point_count (joined rows.old.items) + run_len run) }
@@ -255,20 +258,21 @@ fn overwrite_among<U: Update>(
     ensures unchanged { OnErr result (joined rows.new.items ≡ joined rows.old.items) }
     ensures back { IfErr result (λ p. p ≡ (key, run)) }
 {
-    let n = number_in(rows.as_slice(), &key);
     let row = &mut rows[n];
     overwrite_in(row, key, run)
 }
 
-/// Lays an update over the key among rows, as [`Points::edit`] does.
+/// Lays an update over the key in the row in which it stands or would, as [`Points::edit`] does.
 fn edit_among<U: Update>(
     rows: &mut Vec<Row<Run<U>>>,
+    n: usize,
     alloc: Global,
     key: Key,
     update: U,
 ) -> Result<(usize, usize), (Key, U)>
     requires rows { AreRows rows.old.items }
-    requires some { 0 < length rows.old.items }
+    requires number { n ≡ number_in key rows.old.items }
+    requires bound { n < length rows.old.items }
     ensures rows { AreRows rows.new.items }
     ensures lays { OnOk result (Lays U.means key (U.means update) (joined rows.old.items) (joined rows.new.items)) }
     ensures counted { IfOk result (λ n. point_count (joined rows.new.items) + n.0 ≡ point_count (joined rows.old.items) + n.1) }
@@ -278,7 +282,6 @@ fn edit_among<U: Update>(
     ensures unchanged { OnErr result (point_msgs (joined rows.new.items) ≡ point_msgs (joined rows.old.items)) }
     ensures back { IfErr result (λ p. p ≡ (key, update)) }
 {
-    let n = number_in(rows.as_slice(), &key);
     let row = &mut rows[n];
     edit_in(row, alloc, key, update)
 }

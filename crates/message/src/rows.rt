@@ -1,5 +1,5 @@
 //! Rows one behind the other, so that an entry that comes in or leaves moves few others.
-ghost use Rattle.std.specs.Prelude.{true, vec_len, vec_capacity, ◌≡◌, ◌++◌, ◌+◌, [], ◌<◌, ◌≤◌, length, take, drop, slice_index_or, slice_set, Some, OnOk, OnErr, IfOk, IfNone};
+ghost use Rattle.std.specs.Prelude.{true, vec_len, vec_capacity, ◌≡◌, ◌++◌, ◌+◌, [], ◌<◌, ◌≤◌, length, take, drop, slice_index_or, slice_set, Some, OnOk, OnErr, IfOk, IfNone, IfSome};
 ghost use Rattle.std.specs.Option.{option_copied, option_map, option_to_list};
 ghost use Rattle.std.specs.List.{slice_get};
 ghost use Rattle.message.specs.Rows.{Rises, joined, AreFilled, LaterFilled, TailFilled, row_number, number_in, AreRows, AreBefore, AreFrom, IsEndRow};
@@ -61,18 +61,18 @@ pub(crate) fn first_in<T: Drop>(rows: &[Row<T>]) -> Option<(&Key, &T)>
 }
 
 /// Makes a first row where there is none, and two rows of a full one in which the key stands or would, where memory is
-/// there. Answers whether there is a row.
-pub(crate) fn prepare<T: Drop>(rows: &mut Vec<Row<T>>, key: &Key) -> bool
+/// there. Answers the number of the row in which it then stands or would; none where there is no row.
+pub(crate) fn prepare<T: Drop>(rows: &mut Vec<Row<T>>, key: &Key) -> Option<usize>
     requires { AreRows rows.old.items }
     ensures same { joined rows.new.items ≡ joined rows.old.items }
     ensures rows { AreRows rows.new.items }
-    ensures some { result ≡ true → 0 < length rows.new.items }
+    ensures number { IfSome result (λ n. n ≡ number_in key.now rows.new.items) }
+    ensures bound { IfSome result (λ n. n < length rows.new.items) }
 {
-    if rows.len() == 0 {
-        return begin(rows);
+    if rows.len() == 0 && !begin(rows) {
+        return None;
     }
-    widen(rows, key);
-    true
+    Some(widen(rows, key))
 }
 
 /// Makes a first row, where memory is there.
@@ -86,21 +86,24 @@ fn begin<T: Drop>(rows: &mut Vec<Row<T>>) -> bool
     rows.push(row).is_ok()
 }
 
-/// Makes the row in which the key stands or would two rows, where it is full and memory is there.
-fn widen<T: Drop>(rows: &mut Vec<Row<T>>, key: &Key)
+/// Makes the row in which the key stands or would two rows, where it is full and memory is there. Answers the number of the
+/// row in which it then does.
+fn widen<T: Drop>(rows: &mut Vec<Row<T>>, key: &Key) -> usize
     requires rows { AreRows rows.old.items }
     requires some { 0 < length rows.old.items }
     ensures same { joined rows.new.items ≡ joined rows.old.items }
     ensures rows { AreRows rows.new.items }
-    ensures some { 0 < length rows.new.items }
+    ensures number { result ≡ number_in key.now rows.new.items }
+    ensures bound { result < length rows.new.items }
 {
     let n = number_in(rows.as_slice(), key);
     let row = &rows[n];
     if row.len() < FULL {
-        return;
+        return n;
     }
     let at = middle(row, key);
     let _ = split(rows, n, at);
+    number_in(rows.as_slice(), key)
 }
 
 /// Where a full row is made two: behind most of its entries where the key comes behind all, so that keys that come in
