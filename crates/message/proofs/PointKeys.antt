@@ -12,16 +12,16 @@ use Rattle.message.specs.declared.msg.Msg.{Msg}
 use Rattle.message.specs.declared.msg.Msg.TheVariants as msg
 use Rattle.message.specs.declared.run.Run.{Run}
 use Rattle.message.specs.declared.run.Run.TheVariants.{Put, Del, Edit, Edits}
-use Rattle.message.specs.Effects.{touches, any_touches, made_of, effect, effects, range_count, point}
+use Rattle.message.specs.Effects.{touches, any_touches, effect, effects, range_count, point}
 use Rattle.message.specs.Ranges.{reaches, before, within}
 use Rattle.std.specs.Global.{Box}
 use Rattle.message.specs.declared.run.Several.{Several}
 use Rattle.message.specs.Runs.{run_msgs, later_msgs, rest_msgs}
 use Rattle.message.specs.Settled.{Span, covered, look, range_msgs, point_msgs, settled_msgs}
-use Rattle.message.specs.Stretches.{is_for, is_key, ends_of, all_ends, ActAlike, IsStretch}
+use Rattle.message.specs.Stretches.{is_for, is_key, ends_of, all_ends, IsStretch}
 use Rattle.message.specs.PointKeys.{point_stop, has_point, clears, is_cleared, IsPointStop, IsNextPoint, IsClearStretch}
 use Rattle.message.proofs.CountingRanges.{count_points}
-use Rattle.message.proofs.KeyOrder.{both, le_le, reaches-refl, reaches-from_before, reaches-from_not_before, not_before_from_reaches, unlike_later, below_next, begins_before_end}
+use Rattle.message.proofs.KeyOrder.{both, reaches-refl, reaches-from_before, reaches-from_not_before, not_before_from_reaches, unlike_later, below_next, begins_before_end}
 use Rattle.message.proofs.NextKey.{by_bool, in_range, one_key, before-next, reaches-from_before_next}
 use Rattle.message.proofs.SettledMeaning.{touches-ranges, untouched_from_none}
 use Rattle.message.proofs.SortedStretches.{outside_key}

@@ -478,8 +478,8 @@ impl<U: Update> Pending<U> {
         requires { is_below from.now (option_copied end) ≡ true }
         ensures { IfOk result (λ stop. IsClearStretch self.now.0 from.now (option_copied end.entry) stop) }
     {
-        let stop = self.sorted.cleared_end(from, end);
-        self.fresh.stretch_stop(alloc, from, stop)
+        let first = self.sorted.cleared_end(from, end);
+        self.fresh.stretch_stop(alloc, from, first)
     }
 }
 

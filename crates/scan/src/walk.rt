@@ -24,7 +24,8 @@ use std::alloc::Global;
 
 /// Pushes the pairs below a node from `lo` up to and without `hi`, until there are `limit` pairs.
 ///
-/// It goes from slot to slot, and in a slot to where its range-deletes next begin or end. Where memory is refused, some pairs may have been pushed.
+/// It goes from slot to slot, and in a slot to where its range-deletes next begin or end. Where memory is refused, some pairs
+/// may have been pushed.
 #[cycle(walk)]
 pub fn walk<U: Update>(
     alloc: Global,

@@ -1,6 +1,6 @@
-use Rattle.std.proofs.Common.{◌≡◌, ◌∙◌, ap, sym, subst, Some, None}
+use Rattle.std.proofs.Common.{sym, subst, Some}
 use Rattle.std.specs.Option.{option_copied}
-use Rattle.message.specs.PointKeys.{IsPointStop, point_stop, has_point}
+use Rattle.message.specs.PointKeys.{IsPointStop}
 use Rattle.message.specs.Runs.{rest_msgs}
 use Rattle.message.specs.declared.run.Run.TheVariants.{Edits}
 use Rattle.message.proofs.PointKeys.{stop_none, stop_one, run_points}

@@ -1,4 +1,4 @@
-use Rattle.std.proofs.Common.{◌++◌, ap, subst}
+use Rattle.std.proofs.Common.{ap, subst}
 use Rattle.std.specs.Option.{option_copied}
 use Rattle.std.proofs.lemmas.Result.{IfOk-weaker}
 use Rattle.message.specs.PointKeys.{IsClearStretch}
@@ -10,7 +10,7 @@ returns g c =
     let from = c.args.from.now in
     let end = option_copied c.args.end in
     let whole = ap (λ p. p.0) c.self.view_is in
-    let first = option_copied c.cleared_end-stop.result in
+    let first = option_copied c.cleared_end-first.result in
     IfOk-weaker c.stretch_stop.result _ (λ stop. IsClearStretch c.args.self.now.0 from end stop)
-    (λ stop y. subst (λ ms. IsClearStretch ms from end stop) whole (tail_stretch c.self.inside.sorted c.self.inside.fresh.0 from end first stop c.cleared_end-stop.ensures y))
+    (λ stop y. subst (λ ms. IsClearStretch ms from end stop) whole (tail_stretch c.self.inside.sorted c.self.inside.fresh.0 from end first stop c.cleared_end-first.ensures y))
     c.stretch_stop.ensures

@@ -1,7 +1,7 @@
-use Rattle.std.proofs.Common.{◌≡◌, ◌++◌, ap, sym, ◌∙◌, subst, Some, None}
+use Rattle.std.proofs.Common.{◌++◌, ap, sym, ◌∙◌, subst, Some, None}
 use Rattle.std.specs.Option.{option_copied}
 use Rattle.pathkey.specs.Keys.{is_below}
-use Rattle.message.specs.PointKeys.{IsPointStop, IsNextPoint}
+use Rattle.message.specs.PointKeys.{IsNextPoint}
 use Rattle.message.proofs.PointKeys.{stop_then, next_some, next_none, below_past}
 use Rattle.message.proofs.pending.Pending.next_point.Goals as goal
 

@@ -1,4 +1,4 @@
-use Rattle.std.proofs.Common.{◌≡◌, ◌∙◌, ap, sym, subst, true, Some}
+use Rattle.std.proofs.Common.{◌≡◌, ◌∙◌, ap, sym, subst, true}
 use Rattle.std.specs.Option.{option_copied, is_some}
 use Rattle.message.specs.PointKeys.{has_point, IsPointStop}
 use Rattle.message.specs.Settled.{look}
