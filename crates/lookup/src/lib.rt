@@ -7,7 +7,7 @@ ghost use Rattle.node.specs.Meaning.{lookup, value as value_at};
 ghost use Rattle.node.specs.Searchable.{IsSearchable};
 
 use message::{Told, Update};
-use node::leaf::position;
+use node::heads::position_by_heads;
 use node::search::slot_of;
 use node::{Body, Node, Tree};
 use pathkey::{Key, NoMemory};
@@ -31,7 +31,7 @@ fn find<U: Update>(alloc: Global, node: &Node<U>, key: &Key) -> Result<Option<U:
     ensures { IfOk result (λ v. v ≡ value_at U.means node.now key.now) }
 {
     match node.body() {
-        Body::Leaf(entries) => find_entry::<U>(alloc, entries.as_slice(), key),
+        Body::Leaf(entries) => find_entry::<U>(alloc, node.heads(), entries.as_slice(), key),
         Body::Inner(slots) => {
             if slots.is_empty() {
                 return Ok(None);
@@ -52,13 +52,14 @@ fn find<U: Update>(alloc: Global, node: &Node<U>, key: &Key) -> Result<Option<U:
 /// The value of the entry at the key, found by a search in strides.
 fn find_entry<U: Update>(
     alloc: Global,
+    heads: &[u64],
     entries: &[(Key, U::Value)],
     key: &Key,
 ) -> Result<Option<U::Value>, NoMemory>
     requires { Rises [] None entries.now }
     ensures { IfOk result (λ v. v ≡ lookup entries.now key.now) }
 {
-    match position(entries, key) {
+    match position_by_heads(heads, entries, key) {
         Ok(i) => Ok(Some(U::copy_value(alloc, &entries[i].1)?)),
         Err(_) => Ok(None),
     }

@@ -11,6 +11,7 @@ ghost use Rattle.node.specs.contracts.node.Node.{the_row as node_row};
 ghost use Rattle.node.specs.contracts.node.Body.{the_row as body_row};
 
 use super::{Body, Node};
+use super::heads::find_heads;
 use message::Update;
 
 /// How much waits in a node's slots and in all below it.
@@ -71,7 +72,13 @@ impl<U: Update> Node<U> {
         ensures { result ≡ see body }
     {
         let weight = Some(weight_of(&body));
-        Node { body, weight }
+        let mut heads = Vec::new(body.allocator());
+        find_heads(&body, &mut heads);
+        Node {
+            body,
+            weight,
+            heads,
+        }
     }
 
     /// How much waits at or below the node.
@@ -89,6 +96,7 @@ impl<U: Update> Node<U> {
         ensures { self.new ≡ self.old }
     {
         self.weight = Some(weight_of(&self.body));
+        find_heads(&self.body, &mut self.heads);
     }
 
     /// The entries or slots of the node, to be changed. The node forgets its weight.
