@@ -2,6 +2,7 @@
 #![tactic(auto)]
 
 ghost use Rattle.std.specs.Prelude.{◌≡◌, IfOk, [], None};
+ghost use Rattle.node.specs.Beside.{AreHeads};
 ghost use Rattle.node.specs.Lawful.{Rises};
 ghost use Rattle.node.specs.Meaning.{lookup, value as value_at};
 ghost use Rattle.node.specs.Searchable.{IsSearchable};
@@ -49,14 +50,16 @@ fn find<U: Update>(alloc: Global, node: &Node<U>, key: &Key) -> Result<Option<U:
     }
 }
 
-/// The value of the entry at the key, found by a search in strides.
+/// The value of the entry at the key, found by a search in strides of the heads of the first entries, and of entries only
+/// where heads do not tell.
 fn find_entry<U: Update>(
     alloc: Global,
     heads: &[u64],
     entries: &[(Key, U::Value)],
     key: &Key,
 ) -> Result<Option<U::Value>, NoMemory>
-    requires { Rises [] None entries.now }
+    requires rising { Rises [] None entries.now }
+    requires heads { AreHeads heads.now entries.now }
     ensures { IfOk result (λ v. v ≡ lookup entries.now key.now) }
 {
     match position_by_heads(heads, entries, key) {
