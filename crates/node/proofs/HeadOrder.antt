@@ -38,12 +38,12 @@ module _ {V : Type 0} where
   pub one_more : (hs : List ℕ) (es : List (List ℕ × V)) (i x : ℕ) (e : List ℕ × V) → i < length hs → i < length es → IsHeaded x (get_or es i e).0 → ((j h : ℕ) (d : List ℕ × V) → j < i → IsHeaded (get_or hs j h) (get_or es j d).0) → (j h : ℕ) (d : List ℕ × V) → j < i + 1 → IsHeaded (get_or (set hs i x) j h) (get_or es j d).0
   one_more hs es i x e l m here low j h d b =
       ⊎_elim (λ (n : j < i).
-          subst (λ (y : ℕ). IsHeaded y (get_or es j d).0) (sym (get_or-set_other hs i j x h (λ q. omega (arith, n, q)))) (low j h d n))
+      subst (λ (y : ℕ). IsHeaded y (get_or es j d).0) (sym (get_or-set_other hs i j x h (λ q. omega (arith, n, q)))) (low j h d n))
       (λ (n : i ≤ j).
-          let same : j ≡ i = omega arith in
-          let new : get_or (set hs i x) j h ≡ x = get_or-set_at hs i j x h same l in
-          let entry : get_or es i e ≡ get_or es j d = get_or_default es i e d m ∙ ap (λ (q : ℕ). get_or es q d) (sym same) in
-          subst (λ (y : ℕ). IsHeaded y (get_or es j d).0) (sym new) (subst (λ (y : List ℕ × V). IsHeaded x y.0) entry here))
+      let same : j ≡ i = omega arith in
+      let new : get_or (set hs i x) j h ≡ x = get_or-set_at hs i j x h same l in
+      let entry : get_or es i e ≡ get_or es j d = get_or_default es i e d m ∙ ap (λ (q : ℕ). get_or es q d) (sym same) in
+      subst (λ (y : ℕ). IsHeaded y (get_or es j d).0) (sym new) (subst (λ (y : List ℕ × V). IsHeaded x y.0) entry here))
       (cases_lt j i)
 
   -- entries that rise reach those after them
@@ -61,11 +61,11 @@ module _ {V : Type 0} where
       let es : List (List ℕ × V) = d ∷ rest in
       let later : get_or hs j o < k = ltb-true (get_or hs j o) k h in
       ⊎_elim (λ (m : get_or hs i o < k). lt-ltb (get_or hs i o) k m) (λ (m : k ≤ get_or hs i o).
-          let apart : i ≡ j → ⊥ = λ e. let same : get_or hs i o ≡ get_or hs j o = ap (λ (q : ℕ). get_or hs q o) e in omega arith in
-          let reached : reaches (get_or es i d).0 (get_or es j d).0 ≡ true = reaching [] None es i j d r (omega (arith, apart)) (omega (arith, a.few)) in
-          let never : before (get_or es j d).0 (get_or es i d).0 ≡ false = not_before_from_reaches (get_or es i d).0 (get_or es j d).0 reached in
-          let first : before (get_or es j d).0 (get_or es i d).0 ≡ true = lesser (get_or hs j o) (get_or hs i o) (get_or es j d).0 (get_or es i d).0 (a.each j o d b) (a.each i o d (omega arith)) (omega arith) in
-          absurd (cc)) (cases_lt (get_or hs i o) k)
+      let apart : i ≡ j → ⊥ = λ e. let same : get_or hs i o ≡ get_or hs j o = ap (λ (q : ℕ). get_or hs q o) e in omega arith in
+      let reached : reaches (get_or es i d).0 (get_or es j d).0 ≡ true = reaching [] None es i j d r (omega (arith, apart)) (omega (arith, a.few)) in
+      let never : before (get_or es j d).0 (get_or es i d).0 ≡ false = not_before_from_reaches (get_or es i d).0 (get_or es j d).0 reached in
+      let first : before (get_or es j d).0 (get_or es i d).0 ≡ true = lesser (get_or hs j o) (get_or hs i o) (get_or es j d).0 (get_or es i d).0 (a.each j o d b) (a.each i o d (omega arith)) (omega arith) in
+      absurd (cc)) (cases_lt (get_or hs i o) k)
 
   -- entries with lesser heads stand before the key
   pub earlier_by_heads : (k : ℕ) (key : List ℕ) (hs : List ℕ) (es : List (List ℕ × V)) (i : ℕ) → AreHeads hs es → IsHeaded k key → i ≤ length hs → ((j d : ℕ) → j < i → nat_lt (get_or hs j d) k ≡ true) → (j : ℕ) (d : List ℕ × V) → j < i → before (get_or es j d).0 key ≡ true

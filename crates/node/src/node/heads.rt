@@ -66,11 +66,7 @@ pub fn count_before_by_heads<V>(heads: &[u64], entries: &[(Key, V)], key: &Key) 
 
 /// The number of the entry that has the key, or of the entry before which it would stand, where these are the heads of the
 /// first ones.
-pub fn position_by_heads<V>(
-    heads: &[u64],
-    entries: &[(Key, V)],
-    key: &Key,
-) -> Result<usize, usize>
+pub fn position_by_heads<V>(heads: &[u64], entries: &[(Key, V)], key: &Key) -> Result<usize, usize>
     requires rising { Rises [] None entries.now }
     requires heads { AreHeads heads.now entries.now }
     ensures { IsPlace entries.now key.now result }
