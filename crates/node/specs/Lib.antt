@@ -19,4 +19,5 @@ pub mod RootSteps
 pub mod Report
 pub mod Grafts
 pub mod Weights
+pub mod Beside
 pub mod Subtrees

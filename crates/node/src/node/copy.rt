@@ -44,6 +44,16 @@ pub fn copy_slots<U: Update>(alloc: Global, slots: &[Slot<U>]) -> Result<Vec<Slo
     Ok(copy)
 }
 
+impl<U: Update> Body<U> {
+    /// What the entries or slots take their memory from.
+    pub(super) fn allocator(&self) -> Global {
+        match self {
+            Body::Leaf(entries) => *entries.allocator(),
+            Body::Inner(slots) => *slots.allocator(),
+        }
+    }
+}
+
 impl<U: Update> Node<U> {
     /// The same node, over the same children.
     fn copy_level(&self, alloc: Global) -> Result<Node<U>, NoMemory>
@@ -54,7 +64,12 @@ impl<U: Update> Node<U> {
             Body::Inner(slots) => Body::Inner(copy_slots(alloc, slots.as_slice())?),
         };
         let weight = self.weight;
-        Ok(Node { body, weight })
+        let heads = Vec::new(alloc);
+        Ok(Node {
+            body,
+            weight,
+            heads,
+        })
     }
 }
 
@@ -62,11 +77,7 @@ impl<U: Update> Clone for Node<U> {
     ghost is_clone = { λ a b. b ≡ a };
 
     fn clone(&self) -> Result<Node<U>, AllocError> {
-        let alloc = match &self.body {
-            Body::Leaf(entries) => *entries.allocator(),
-            Body::Inner(slots) => *slots.allocator(),
-        };
-        match self.copy_level(alloc) {
+        match self.copy_level(self.body.allocator()) {
             Ok(copy) => Ok(copy),
             Err(NoMemory) => Err(AllocError),
         }
