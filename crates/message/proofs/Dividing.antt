@@ -11,7 +11,7 @@ use Rattle.pathkey.specs.Order.{by_bytes}
 use Rattle.message.specs.Ranges.{reaches, before}
 use Rattle.message.specs.Rows.{Rises, place, joined, number_in, AreFilled, LaterFilled, AreRows, AreBefore, AreFrom}
 use Rattle.message.proofs.RowChanges.{before_from, reach_rest, rises_left, rises_right}
-use Rattle.message.proofs.RowsFacts.{AllBefore, AllBehind, front_before, back_behind, filled_drop, filled_later, joined_cut}
+use Rattle.message.proofs.RowsFacts.{AllBefore, AllBehind, front_before, back_behind, filled_drop, filled_later}
 use Rattle.message.proofs.PointRows.{joined-append, joined_push}
 
 weaker : (P Q : List ℕ → Type 0) (ks : List (List ℕ)) → ((k : List ℕ) → P k → Q k) → AllByRecursion P ks → AllByRecursion Q ks

@@ -5,7 +5,7 @@ use Rattle.std.specs.List.{slice_get, slice_set}
 use Rattle.std.specs.BTreeMap.{insert_entry}
 use Rattle.pathkey.specs.Order.{by_bytes}
 use Rattle.message.specs.declared.run.Run.{Run}
-use Rattle.message.specs.Rows.{Rises, joined, number_in, AreRows, IsGap, IsMovedIn}
+use Rattle.message.specs.Rows.{Rises, number_in, AreRows, IsGap, IsMovedIn}
 use Rattle.message.specs.Runs.{run_len, run_effect}
 use Rattle.message.specs.Settled.{look, found_effect, point_count, MovesFirst, TakesFirst, AreRunsKeyed}
 use Rattle.message.proofs.RowFacts.{none_at}

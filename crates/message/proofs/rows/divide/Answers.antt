@@ -1,4 +1,4 @@
-use Rattle.std.proofs.Common.{◌≡◌, ◌<◌, ◌≤◌, ◌+◌, ◌++◌, ◌∙◌, [], ap, sym, refl, arith, rules, length, get_or, take, drop}
+use Rattle.std.proofs.Common.{◌≡◌, ◌<◌, ◌≤◌, ◌+◌, ◌++◌, ◌∙◌, [], ap, sym, arith, rules, length, get_or, take, drop}
 use Rattle.std.proofs.lemmas.List.{get_or_default}
 use Rattle.message.specs.Rows.{joined, number_in}
 use Rattle.message.proofs.Dividing.{front_none, back_none, front_at, back_at, front_all, back_all}

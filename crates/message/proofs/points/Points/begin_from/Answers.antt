@@ -1,4 +1,4 @@
-use Rattle.std.proofs.Common.{◌≡◌, ◌∙◌, ap, sym, subst, Some, true}
+use Rattle.std.proofs.Common.{◌≡◌, ◌∙◌, ap, sym, subst, true}
 use Rattle.std.specs.Ordering.{is_le}
 use Rattle.std.specs.List.{slice_get}
 use Rattle.message.specs.Rows.{Rises, joined}
