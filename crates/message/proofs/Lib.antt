@@ -27,3 +27,5 @@ pub mod RowChanges
 pub mod PointChanges
 pub mod RowsFacts
 pub mod PointRows
+pub mod Dividing
+pub mod Moving

@@ -4,7 +4,6 @@ use Rattle.std.specs.Prelude.{◌&&◌}
 use Rattle.std.specs.Ordering.{is_lt, is_le, ordering_reverse}
 use Rattle.pathkey.specs.Keys.{is_below}
 use Rattle.message.specs.Ranges.{reaches, within}
-use Rattle.std.specs.Global.{Box}
 use Rattle.std.specs.List.{filter, slice_set, AllByRecursion}
 use Rattle.std.specs.List.Sorted.{IsStrictlySortedBy}
 use Rattle.std.specs.Map.{keys_of}
@@ -15,7 +14,7 @@ use Rattle.pathkey.specs.Order.{by_bytes, by_bytes_total, same}
 use Rattle.pathkey.proofs.OrderFacts.{same_true}
 use Rattle.message.specs.declared.msg.Msg.{Msg}
 use Rattle.message.specs.declared.run.Run.{Run}
-use Rattle.message.specs.Rows.{unboxed, Rises, joined, number_in, LaterFilled, AreFilled, AreRows, IsEndRow, IsWritten}
+use Rattle.message.specs.Rows.{Rises, joined, number_in, LaterFilled, AreFilled, AreRows, IsEndRow, IsWritten}
 use Rattle.message.specs.Settled.{look, found_effect, Lays, point_msgs, point_count, AreRunsKeyed}
 use Rattle.message.proofs.SettledMeaning.{split_bool}
 use Rattle.message.proofs.RowFacts.{rises_cons}
@@ -68,7 +67,7 @@ module _ {X : Type 0} where
     pub rest : drop i new ≡ drop i old
     pub same_length : length new ≡ length old
 
-  joined_push : (rs : List (List (List ℕ × X))) (r : List (List ℕ × X)) → joined (rs ++ r ∷ []) ≡ joined rs ++ r
+  pub joined_push : (rs : List (List (List ℕ × X))) (r : List (List ℕ × X)) → joined (rs ++ r ∷ []) ≡ joined rs ++ r
   joined_push rs r = joined-append rs (r ∷ []) ∙ ap (λ t. joined rs ++ t) (append-nil r)
 
   head_is : (i : ℕ) (rs ss : List (List (List ℕ × X))) → i < length rs → i < length ss → drop i rs ≡ drop i ss → (get_or rs i [] ≡ get_or ss i []) × (drop (i + 1) rs ≡ drop (i + 1) ss)
@@ -279,12 +278,12 @@ module _ {U V : Type 0} where
   take_under : (n : ℕ) (a b c : List (Msg U V)) → take n a ≡ take n b → take n (a ++ c) ≡ take n (b ++ c)
   take_under n a b c e = take_inner n a c ∙ ap (λ (t : List (Msg U V)). take n (t ++ c)) e ∙ sym (take_inner n b c)
 
-  pub row_copied : (n : ℕ) (rs : List (List (List ℕ × Run U V))) (i : ℕ) (r : List (List ℕ × Run U V)) (bs : List (Box (List ℕ × Run U V))) (front new t : List (Msg U V)) → i < length rs → r ≡ get_or rs i r → unboxed bs ≡ r → take n (front ++ point_msgs (joined (drop i rs))) ≡ t → take n new ≡ take n (front ++ point_msgs (unboxed bs)) → take n (new ++ point_msgs (joined (drop (i + 1) rs))) ≡ t
+  pub row_copied : (n : ℕ) (rs : List (List (List ℕ × Run U V))) (i : ℕ) (r : List (List ℕ × Run U V)) (bs : List (List ℕ × Run U V)) (front new t : List (Msg U V)) → i < length rs → r ≡ get_or rs i r → bs ≡ r → take n (front ++ point_msgs (joined (drop i rs))) ≡ t → take n new ≡ take n (front ++ point_msgs bs) → take n (new ++ point_msgs (joined (drop (i + 1) rs))) ≡ t
   row_copied n rs i r bs front new t l a v h is =
       let rest = joined (drop (i + 1) rs) in
       let all : joined (drop i rs) ≡ r ++ rest = ap (λ (x : List (List (List ℕ × Run U V))). joined x) (drop_more rs i r l) ∙ ap (λ (x : List (List ℕ × Run U V)). x ++ rest) (sym a) in
-      take_under n new (front ++ point_msgs (unboxed bs)) (point_msgs rest) is
-      ∙ ap (λ (x : List (Msg U V)). take n x) (append_assoc front (point_msgs (unboxed bs)) (point_msgs rest))
+      take_under n new (front ++ point_msgs bs) (point_msgs rest) is
+      ∙ ap (λ (x : List (Msg U V)). take n x) (append_assoc front (point_msgs bs) (point_msgs rest))
       ∙ ap (λ (x : List (List ℕ × Run U V)). take n (front ++ (point_msgs x ++ point_msgs rest))) v
       ∙ ap (λ (x : List (Msg U V)). take n (front ++ x)) (sym (point_msgs-append r rest))
       ∙ ap (λ (x : List (List ℕ × Run U V)). take n (front ++ point_msgs x)) (sym all)

@@ -2,7 +2,6 @@
 use Rattle.std.proofs.Common.{◌≡◌, ℕ, zero, suc, ◌≤◌, Bool, true, false, not, List, [], ◌∷◌, ◌++◌, length, take, drop, refl, ap, sym, ◌∙◌, subst, Option, Some, None, cond, arith, Ordering}
 use Rattle.std.specs.Prelude.{◌&&◌}
 use Rattle.std.specs.declared.cmp.Ordering.TheVariants.{Less, Equal, Greater}
-use Rattle.std.specs.Global.{Box}
 use Rattle.std.specs.Ordering.{is_lt, is_le, is_eq, match_ordering, ordering_reverse}
 use Rattle.std.specs.List.{AllByRecursion, slice_get, filter}
 use Rattle.std.specs.List.Sorted.{IsStrictlySortedBy}
@@ -15,7 +14,7 @@ use Rattle.pathkey.specs.Order.{by_bytes, by_bytes_total, by_bytes_equiv, same}
 use Rattle.pathkey.specs.Keys.{is_below}
 use Rattle.pathkey.proofs.OrderFacts.{equal, same_true, same_false, same_itself}
 use Rattle.message.specs.Ranges.{reaches, before, within}
-use Rattle.message.specs.Rows.{unboxed, Rises, at_key, place, end_place, is_there}
+use Rattle.message.specs.Rows.{Rises, at_key, place, end_place, is_there}
 use Rattle.message.specs.Settled.{first_behind}
 use Rattle.message.proofs.KeyOrder.{le_lt, reaches-from_before, not_before_from_reaches}
 use Rattle.message.proofs.RowFacts.{place_bound, rises_cons}
@@ -37,11 +36,11 @@ leaves b c g h = ap (λ a. not (a && c)) g ∙ ap not h
 stays_before : (b c : Bool) → b ≡ false → not (b && c) ≡ true
 stays_before b c h = ap (λ a. not (a && c)) h
 
-reach_rest : (lo x : List ℕ) (ks : List (List ℕ)) → reaches lo x ≡ true → AllByRecursion (λ y. by_bytes x y ≡ Less) ks → AllByRecursion (λ y. reaches lo y ≡ true) ks
+pub reach_rest : (lo x : List ℕ) (ks : List (List ℕ)) → reaches lo x ≡ true → AllByRecursion (λ y. by_bytes x y ≡ Less) ks → AllByRecursion (λ y. reaches lo y ≡ true) ks
 reach_rest lo x [] h a = tt
 reach_rest lo x (y ∷ ks) h a = (reaches-from_before lo y (le_lt lo x y h (ap is_lt a.0)), reach_rest lo x ks h a.1)
 
-before_from : (h x : List ℕ) → by_bytes h x ≡ Greater → before x h ≡ true
+pub before_from : (h x : List ℕ) → by_bytes h x ≡ Greater → before x h ≡ true
 before_from h x p = ap is_lt (by_bytes_total.antisymm x h ∙ ap ordering_reverse p)
 
 left_all : (P : List ℕ → Type 0) (ks ls : List (List ℕ)) → AllByRecursion P (ks ++ ls) → AllByRecursion P ks
@@ -245,38 +244,13 @@ module _ {X : Type 0} where
   rises_without (suc i) (suc j) (e ∷ es) h r =
       rises_cons e.0 e.1 (take i es ++ drop j es) (all_without (λ y. by_bytes e.0 y ≡ Less) i j es (omega arith) (sorted_head by_bytes e.0 (keys_of es) r)) (rises_without i j es (omega arith) (sorted_tail by_bytes e.0 (keys_of es) r))
 
-  -- ---- the same of boxes
+  -- ---- the same of a row before and after
 
-  pub unboxed-take : (n : ℕ) (bs : List (Box (List ℕ × X))) → unboxed (take n bs) ≡ take n (unboxed bs)
-  unboxed-take zero bs = refl
-  unboxed-take (suc n) [] = refl
-  unboxed-take (suc n) (b ∷ bs) = ap (λ t. b.value ∷ t) (unboxed-take n bs)
+  pub rises_cut : (i j : ℕ) (es fs : List (List ℕ × X)) → fs ≡ take i es ++ drop j es → i ≤ j → Rises es → Rises fs
+  rises_cut i j es fs e h r = subst (λ (t : List (List ℕ × X)). Rises t) (sym e) (rises_without i j es h r)
 
-  pub unboxed-drop : (n : ℕ) (bs : List (Box (List ℕ × X))) → unboxed (drop n bs) ≡ drop n (unboxed bs)
-  unboxed-drop zero bs = refl
-  unboxed-drop (suc n) [] = refl
-  unboxed-drop (suc n) (b ∷ bs) = unboxed-drop n bs
+  pub rises_front : (n : ℕ) (es fs : List (List ℕ × X)) → fs ≡ take n es → Rises es → Rises fs
+  rises_front n es fs e r = subst (λ (t : List (List ℕ × X)). Rises t) (sym e) (rises_take n es r)
 
-  pub unboxed-without : (i j : ℕ) (bs : List (Box (List ℕ × X))) → unboxed (take i bs ++ drop j bs) ≡ take i (unboxed bs) ++ drop j (unboxed bs)
-  unboxed-without i j bs =
-      map-append (λ (b : Box (List ℕ × X)). b.value) (take i bs) (drop j bs)
-      ∙ ap (λ t. t ++ unboxed (drop j bs)) (unboxed-take i bs)
-      ∙ ap (λ t. take i (unboxed bs) ++ t) (unboxed-drop j bs)
-
-  pub rises_cut : (i j : ℕ) (bs cs : List (Box (List ℕ × X))) → cs ≡ take i bs ++ drop j bs → i ≤ j → Rises (unboxed bs) → Rises (unboxed cs)
-  rises_cut i j bs cs e h r = subst (λ (t : List (List ℕ × X)). Rises t) (sym (ap (λ (t : List (Box (List ℕ × X))). unboxed t) e ∙ unboxed-without i j bs)) (rises_without i j (unboxed bs) h r)
-
-  pub cut_is : (i j : ℕ) (bs cs : List (Box (List ℕ × X))) (es : List (List ℕ × X)) → unboxed bs ≡ es → cs ≡ take i bs ++ drop j bs → unboxed cs ≡ take i es ++ drop j es
-  cut_is i j bs cs es v e = ap (λ (t : List (Box (List ℕ × X))). unboxed t) e ∙ unboxed-without i j bs ∙ ap (λ (t : List (List ℕ × X)). take i t ++ drop j t) v
-
-  pub front_is : (n : ℕ) (bs cs : List (Box (List ℕ × X))) (es : List (List ℕ × X)) → unboxed bs ≡ es → cs ≡ take n bs → unboxed cs ≡ take n es
-  front_is n bs cs es v e = ap (λ (t : List (Box (List ℕ × X))). unboxed t) e ∙ unboxed-take n bs ∙ ap (λ (t : List (List ℕ × X)). take n t) v
-
-  pub back_is : (n : ℕ) (bs cs : List (Box (List ℕ × X))) (es : List (List ℕ × X)) → unboxed bs ≡ es → cs ≡ drop n bs → unboxed cs ≡ drop n es
-  back_is n bs cs es v e = ap (λ (t : List (Box (List ℕ × X))). unboxed t) e ∙ unboxed-drop n bs ∙ ap (λ (t : List (List ℕ × X)). drop n t) v
-
-  pub rises_front : (n : ℕ) (bs cs : List (Box (List ℕ × X))) → cs ≡ take n bs → Rises (unboxed bs) → Rises (unboxed cs)
-  rises_front n bs cs e r = subst (λ (t : List (List ℕ × X)). Rises t) (sym (front_is n bs cs (unboxed bs) refl e)) (rises_take n (unboxed bs) r)
-
-  pub rises_back : (n : ℕ) (bs cs : List (Box (List ℕ × X))) → cs ≡ drop n bs → Rises (unboxed bs) → Rises (unboxed cs)
-  rises_back n bs cs e r = subst (λ (t : List (List ℕ × X)). Rises t) (sym (back_is n bs cs (unboxed bs) refl e)) (rises_drop n (unboxed bs) r)
+  pub rises_back : (n : ℕ) (es fs : List (List ℕ × X)) → fs ≡ drop n es → Rises es → Rises fs
+  rises_back n es fs e r = subst (λ (t : List (List ℕ × X)). Rises t) (sym e) (rises_drop n es r)

@@ -1,8 +1,7 @@
 -- Where a key stands among entries that rise, and what is made of them there.
 use Rattle.std.proofs.Common.{◌≡◌, ℕ, zero, suc, ◌<◌, ◌≤◌, Bool, true, false, List, [], ◌∷◌, ◌++◌, length, take, drop, get_or, refl, ap, sym, ◌∙◌, subst, Option, Some, None, cond, arith, Ordering}
 use Rattle.std.specs.declared.cmp.Ordering.TheVariants.{Less, Equal, Greater}
-use Rattle.std.specs.Global.{Box}
-use Rattle.std.specs.Ordering.{is_gt, is_eq, match_ordering, ordering_reverse}
+use Rattle.std.specs.Ordering.{nat_cmp, is_gt, is_eq, match_ordering, ordering_reverse}
 use Rattle.std.specs.List.{AllByRecursion, slice_get, slice_set, insert, remove}
 use Rattle.std.specs.List.Sorted.{IsStrictlySortedBy, IsPartitionedBy, IsPartitionPoint}
 use Rattle.std.specs.Map.{keys_of, set_value}
@@ -10,9 +9,14 @@ use Rattle.std.specs.BTreeMap.{insert_entry, is_at}
 use Rattle.std.specs.Option.{option_map}
 use Rattle.std.proofs.lemmas.Map.Keys.{sorted_head, sorted_tail}
 use Rattle.pathkey.specs.Order.{by_bytes, by_bytes_total}
-use Rattle.std.proofs.lemmas.List.{length-map, map-set, set_split}
+use Rattle.std.proofs.lemmas.List.{set_split}
 use Rattle.pathkey.specs.Order.{same}
-use Rattle.message.specs.Rows.{unboxed, Rises, at_key, place, is_there, IsHolder, IsGap}
+use Rattle.pathkey.proofs.OrderFacts.{same_true, same_false}
+use Rattle.pathkey.specs.Heads.{head_of, IsHeaded}
+use Rattle.pathkey.proofs.HeadFacts.{order_of_heads}
+use Rattle.std.proofs.lemmas.Bool.Decides.{nat_tests}
+use Rattle.std.specs.Prelude.{nat_lt, IfSome, ◌≢◌}
+use Rattle.message.specs.Rows.{Rises, at_key, place, is_there, IsHolder, IsGap}
 
 -- ---- keys in a row
 
@@ -31,6 +35,21 @@ greater_from_gt Less h = (cc)
 greater_from_gt Equal h = (cc)
 greater_from_gt Greater h = refl
 
+-- ---- heads
+
+head_test : (h i : ℕ) → nat_lt i h ≡ is_gt (nat_cmp h i)
+head_test h i = grind (arith, nat_tests)
+
+-- heads that differ say which key stands first
+pub before_by_heads : (h i : ℕ) (k x : List ℕ) → IsHeaded h k → IsHeaded i x → i ≢ h → nat_lt i h ≡ is_gt (by_bytes k x)
+before_by_heads h i k x a b d =
+    let order : nat_cmp h i ≡ by_bytes k x = rw (a.is_head, b.is_head) (order_of_heads 8 k x a.are_bytes b.are_bytes (λ e. d (b.is_head ∙ sym e ∙ sym a.is_head))) in
+    head_test h i ∙ ap is_gt order
+
+-- and that the keys differ
+pub same_by_heads : (h i : ℕ) (k x : List ℕ) → IsHeaded h k → IsHeaded i x → i ≢ h → same k x ≡ false
+same_by_heads h i k x a b d = same_false k x (λ e. d (b.is_head ∙ sym (ap head_of e) ∙ sym a.is_head))
+
 -- ---- the search
 
 not_before : (o : Ordering) (n : ℕ) → is_gt o ≡ false → match_ordering o 0 0 n ≡ 0
@@ -48,45 +67,45 @@ all_ahead k x [] l a = tt
 all_ahead k x (y ∷ ks) l a = (ahead k x y l a.0, all_ahead k x ks l a.1)
 
 module _ {X : Type 0} where
-  first_less : (x : List ℕ) (bs : List (Box (List ℕ × X))) (j : ℕ) (d : Box (List ℕ × X)) → AllByRecursion (λ y. by_bytes x y ≡ Less) (keys_of (unboxed bs)) → j < length bs → by_bytes x (get_or bs j d).value.0 ≡ Less
+  first_less : (x : List ℕ) (bs : List (List ℕ × X)) (j : ℕ) (d : List ℕ × X) → AllByRecursion (λ y. by_bytes x y ≡ Less) (keys_of bs) → j < length bs → by_bytes x (get_or bs j d).0 ≡ Less
   first_less x [] j d a h = absurd (omega arith)
   first_less x (b ∷ bs) zero d a h = a.0
   first_less x (b ∷ bs) (suc j) d a h = first_less x bs j d a.1 (omega arith)
 
-  pub partitioned : (k : List ℕ) (bs : List (Box (List ℕ × X))) → Rises (unboxed bs) → IsPartitionedBy (λ (b : Box (List ℕ × X)). is_gt (by_bytes k b.value.0)) bs
+  pub partitioned : (k : List ℕ) (bs : List (List ℕ × X)) → Rises bs → IsPartitionedBy (λ (b : List ℕ × X). is_gt (by_bytes k b.0)) bs
   partitioned k [] r i j d a h e = absurd (omega arith)
   partitioned k (x ∷ bs) r zero zero d a h e = e
   partitioned k (x ∷ bs) r zero (suc j) d a h e =
-      let less = first_less x.value.0 bs j d (sorted_head by_bytes x.value.0 (keys_of (unboxed bs)) r) (omega arith) in
-      ap is_gt (behind x.value.0 (get_or bs j d).value.0 k less (greater_from_gt (by_bytes k (get_or bs j d).value.0) e))
+      let less = first_less x.0 bs j d (sorted_head by_bytes x.0 (keys_of bs) r) (omega arith) in
+      ap is_gt (behind x.0 (get_or bs j d).0 k less (greater_from_gt (by_bytes k (get_or bs j d).0) e))
   partitioned k (x ∷ bs) r (suc i) zero d a h e = absurd (omega arith)
-  partitioned k (x ∷ bs) r (suc i) (suc j) d a h e = partitioned k bs (sorted_tail by_bytes x.value.0 (keys_of (unboxed bs)) r) i j d (omega arith) (omega arith) e
+  partitioned k (x ∷ bs) r (suc i) (suc j) d a h e = partitioned k bs (sorted_tail by_bytes x.0 (keys_of bs) r) i j d (omega arith) (omega arith) e
 
-  pub place_by_search : (k : List ℕ) (bs : List (Box (List ℕ × X))) (i : ℕ) → i ≤ length bs → IsPartitionPoint (λ (b : Box (List ℕ × X)). is_gt (by_bytes k b.value.0) ≡ true) (λ (b : Box (List ℕ × X)). is_gt (by_bytes k b.value.0) ≡ false) bs i → i ≡ place k (unboxed bs)
+  pub place_by_search : (k : List ℕ) (bs : List (List ℕ × X)) (i : ℕ) → i ≤ length bs → IsPartitionPoint (λ (b : List ℕ × X). is_gt (by_bytes k b.0) ≡ true) (λ (b : List ℕ × X). is_gt (by_bytes k b.0) ≡ false) bs i → i ≡ place k bs
   place_by_search k [] i b p = omega arith
-  place_by_search k (x ∷ bs) zero b p = sym (not_before (by_bytes k x.value.0) (suc (place k (unboxed bs))) (p.1 0 x (omega arith) (omega arith)))
+  place_by_search k (x ∷ bs) zero b p = sym (not_before (by_bytes k x.0) (suc (place k bs)) (p.1 0 x (omega arith) (omega arith)))
   place_by_search k (x ∷ bs) (suc i) b p =
       let rest = place_by_search k bs i (omega arith) ((λ j d a h. p.0 (suc j) d (omega arith) (omega arith)), (λ j d a h. p.1 (suc j) d (omega arith) (omega arith))) in
-      ap (λ n. suc n) rest ∙ sym (stands_before (by_bytes k x.value.0) (suc (place k (unboxed bs))) (p.0 0 x (omega arith) (omega arith)))
+      ap (λ n. suc n) rest ∙ sym (stands_before (by_bytes k x.0) (suc (place k bs)) (p.0 0 x (omega arith) (omega arith)))
 
   -- ---- whether the key is there
 
   -- whether the key is that of the entry
-  abbrev pub has_key : List ℕ → Option (Box (List ℕ × X)) → Bool
+  abbrev pub has_key : List ℕ → Option (List ℕ × X) → Bool
   has_key k None = false
-  has_key k (Some b) = is_eq (by_bytes k b.value.0)
+  has_key k (Some b) = is_eq (by_bytes k b.0)
 
-  pub there_is : (k : List ℕ) (bs : List (Box (List ℕ × X))) → is_there k (unboxed bs) ≡ has_key k (slice_get bs (place k (unboxed bs)))
+  pub there_is : (k : List ℕ) (bs : List (List ℕ × X)) → is_there k bs ≡ has_key k (slice_get bs (place k bs))
   there_is k [] = refl
   there_is k (b ∷ bs) =
-      elim (by_bytes k b.value.0) as (λ o. by_bytes k b.value.0 ≡ o → match_ordering o false true (is_there k (unboxed bs)) ≡ has_key k (slice_get (b ∷ bs) (match_ordering o 0 0 (suc (place k (unboxed bs)))))) [
+      elim (by_bytes k b.0) as (λ o. by_bytes k b.0 ≡ o → match_ordering o false true (is_there k bs) ≡ has_key k (slice_get (b ∷ bs) (match_ordering o 0 0 (suc (place k bs))))) [
         | Less ↦ λ p. sym (ap is_eq p)
         | Equal ↦ λ p. sym (ap is_eq p)
         | Greater ↦ λ p. there_is k bs
       ] refl
 
   -- at the number that a search gave
-  pub there_at : (k : List ℕ) (bs : List (Box (List ℕ × X))) (i : ℕ) → i ≡ place k (unboxed bs) → is_there k (unboxed bs) ≡ has_key k (slice_get bs i)
+  pub there_at : (k : List ℕ) (bs : List (List ℕ × X)) (i : ℕ) → i ≡ place k bs → is_there k bs ≡ has_key k (slice_get bs i)
   there_at k bs i e = there_is k bs ∙ sym (ap (λ n. has_key k (slice_get bs n)) e)
 
   -- an entry that is there has a number
@@ -101,13 +120,13 @@ module _ {X : Type 0} where
 
   -- ---- a new entry
 
-  pub put_is : (k : List ℕ) (v : X) (bs : List (Box (List ℕ × X))) (b : Box (List ℕ × X)) → b.value ≡ (k, v) → is_there k (unboxed bs) ≡ false → unboxed (insert bs (place k (unboxed bs)) b) ≡ insert_entry by_bytes (unboxed bs) k v
-  put_is k v [] b h n = ap (λ t. t ∷ []) h
-  put_is k v (x ∷ bs) b h n =
-      elim (by_bytes k x.value.0) as (λ o. match_ordering o false true (is_there k (unboxed bs)) ≡ false → unboxed (insert (x ∷ bs) (match_ordering o 0 0 (suc (place k (unboxed bs)))) b) ≡ match_ordering o ((k, v) ∷ x.value ∷ unboxed bs) ((x.value.0, v) ∷ unboxed bs) (x.value ∷ insert_entry by_bytes (unboxed bs) k v)) [
-        | Less ↦ λ m. ap (λ t. t ∷ x.value ∷ unboxed bs) h
+  pub put_is : (p : List ℕ × X) (es : List (List ℕ × X)) → is_there p.0 es ≡ false → insert es (place p.0 es) p ≡ insert_entry by_bytes es p.0 p.1
+  put_is p [] n = refl
+  put_is p (x ∷ es) n =
+      elim (by_bytes p.0 x.0) as (λ o. match_ordering o false true (is_there p.0 es) ≡ false → insert (x ∷ es) (match_ordering o 0 0 (suc (place p.0 es))) p ≡ match_ordering o (p ∷ x ∷ es) ((x.0, p.1) ∷ es) (x ∷ insert_entry by_bytes es p.0 p.1)) [
+        | Less ↦ λ m. refl
         | Equal ↦ λ m. absurd (cc)
-        | Greater ↦ λ m. ap (λ t. x.value ∷ t) (put_is k v bs b h m)
+        | Greater ↦ λ m. ap (λ t. x ∷ t) (put_is p es m)
       ] n
 
   -- a key below all others stands below those of the new list
@@ -179,107 +198,95 @@ module _ {X : Type 0} where
         | Greater ↦ λ s. ap (λ t. x ∷ t) (put-set k w es s)
       ] t
 
-  -- ---- boxes by number
+  -- ---- entries by number
 
-  get_some : (bs : List (Box (List ℕ × X))) (i : ℕ) (b : Box (List ℕ × X)) → i < length bs → b ≡ get_or bs i b → slice_get bs i ≡ Some b
-  get_some [] i b l e = absurd (omega arith)
-  get_some (x ∷ bs) zero b l e = ap (λ y. Some y) (sym e)
-  get_some (x ∷ bs) (suc i) b l e = get_some bs i b (omega arith) e
+  pub get_some : (es : List (List ℕ × X)) (i : ℕ) (e : List ℕ × X) → i < length es → e ≡ get_or es i e → slice_get es i ≡ Some e
+  get_some [] i e l a = absurd (omega arith)
+  get_some (x ∷ es) zero e l a = ap (λ y. Some y) (sym a)
+  get_some (x ∷ es) (suc i) e l a = get_some es i e (omega arith) a
 
-  get_none : (bs : List (Box (List ℕ × X))) (i : ℕ) → length bs ≤ i → slice_get bs i ≡ None
+  pub get_none : (es : List (List ℕ × X)) (i : ℕ) → length es ≤ i → slice_get es i ≡ None
   get_none [] i l = refl
-  get_none (x ∷ bs) zero l = absurd (omega arith)
-  get_none (x ∷ bs) (suc i) l = get_none bs i (omega arith)
-
-  get-unboxed : (bs : List (Box (List ℕ × X))) (i : ℕ) → slice_get (unboxed bs) i ≡ option_map (λ (b : Box (List ℕ × X)). b.value) (slice_get bs i)
-  get-unboxed [] i = refl
-  get-unboxed (b ∷ bs) zero = refl
-  get-unboxed (b ∷ bs) (suc i) = get-unboxed bs i
-
-  pub length_inside : (bs : List (Box (List ℕ × X))) (es : List (List ℕ × X)) → unboxed bs ≡ es → length bs ≡ length es
-  length_inside bs es v = sym (length-map bs (λ (b : Box (List ℕ × X)). b.value)) ∙ ap (λ (t : List (List ℕ × X)). length t) v
-
-  pub bound_unboxed : (n : ℕ) (bs : List (Box (List ℕ × X))) → n ≤ length bs → n ≤ length (unboxed bs)
-  bound_unboxed n bs l = omega (arith, length_inside bs (unboxed bs) refl)
-
-  -- the entry in a box
-  pub entry_some : (bs : List (Box (List ℕ × X))) (es : List (List ℕ × X)) (i : ℕ) (b : Box (List ℕ × X)) (p : List ℕ × X) → unboxed bs ≡ es → i < length bs → b ≡ get_or bs i b → p ≡ b.value → Some p ≡ slice_get es i
-  entry_some bs es i b p v l a e =
-      ap (λ y. Some y) e
-      ∙ sym (ap (option_map (λ (x : Box (List ℕ × X)). x.value)) (get_some bs i b l a))
-      ∙ sym (get-unboxed bs i)
-      ∙ ap (λ t. slice_get t i) v
-
-  pub entry_none : (bs : List (Box (List ℕ × X))) (es : List (List ℕ × X)) (i : ℕ) → unboxed bs ≡ es → length bs ≤ i → None ≡ slice_get es i
-  entry_none bs es i v l =
-      sym (ap (option_map (λ (x : Box (List ℕ × X)). x.value)) (get_none bs i l))
-      ∙ sym (get-unboxed bs i)
-      ∙ ap (λ t. slice_get t i) v
+  get_none (x ∷ es) zero l = absurd (omega arith)
+  get_none (x ∷ es) (suc i) l = get_none es i (omega arith)
 
   -- ---- what a search found
 
-  pub found_holder : (k : List ℕ) (bs : List (Box (List ℕ × X))) (i : ℕ) (b : Box (List ℕ × X)) (p : List ℕ × X) → i ≡ place k (unboxed bs) → i < length bs → b ≡ get_or bs i b → p ≡ b.value → same k p.0 ≡ true → IsHolder k (unboxed bs) i
-  found_holder k bs i b p n l a e s = record {
+  pub found_holder : (k : List ℕ) (es : List (List ℕ × X)) (i : ℕ) (e : List ℕ × X) → i ≡ place k es → i < length es → e ≡ get_or es i e → same k e.0 ≡ true → IsHolder k es i
+  found_holder k es i e n l a s = record {
     number = n;
-    there = there_at k bs i n ∙ ap (has_key k) (get_some bs i b l a) ∙ sym (ap (λ (x : List ℕ × X). same k x.0) e) ∙ s;
-    bound = omega (arith, l, length_inside bs (unboxed bs) refl);
+    there = there_at k es i n ∙ ap (has_key k) (get_some es i e l a) ∙ s;
+    bound = l;
   }
 
-  pub found_gap : (k : List ℕ) (bs : List (Box (List ℕ × X))) (i : ℕ) (b : Box (List ℕ × X)) (p : List ℕ × X) → i ≡ place k (unboxed bs) → i < length bs → b ≡ get_or bs i b → p ≡ b.value → same k p.0 ≡ false → IsGap k (unboxed bs) i
-  found_gap k bs i b p n l a e s = record {
+  pub found_gap : (k : List ℕ) (es : List (List ℕ × X)) (i : ℕ) (e : List ℕ × X) → i ≡ place k es → i < length es → e ≡ get_or es i e → same k e.0 ≡ false → IsGap k es i
+  found_gap k es i e n l a s = record {
     number = n;
-    absent = there_at k bs i n ∙ ap (has_key k) (get_some bs i b l a) ∙ sym (ap (λ (x : List ℕ × X). same k x.0) e) ∙ s;
-    bound = omega (arith, l, length_inside bs (unboxed bs) refl);
+    absent = there_at k es i n ∙ ap (has_key k) (get_some es i e l a) ∙ s;
+    bound = omega (arith, l);
   }
 
-  pub found_end : (k : List ℕ) (bs : List (Box (List ℕ × X))) (i : ℕ) → i ≡ place k (unboxed bs) → i ≤ length (unboxed bs) → length bs ≤ i → IsGap k (unboxed bs) i
-  found_end k bs i n b l = record {
+  pub found_end : (k : List ℕ) (es : List (List ℕ × X)) (i : ℕ) → i ≡ place k es → i ≤ length es → length es ≤ i → IsGap k es i
+  found_end k es i n b l = record {
     number = n;
-    absent = there_at k bs i n ∙ ap (has_key k) (get_none bs i l);
+    absent = there_at k es i n ∙ ap (has_key k) (get_none es i l);
     bound = b;
   }
 
-  -- ---- a row's boxes after a change
+  -- ---- a row after a change
 
-  pub rises_empty : (bs : List (Box (List ℕ × X))) → bs ≡ [] → Rises (unboxed bs)
+  pub rises_empty : (es : List (List ℕ × X)) → es ≡ [] → Rises es
   unfolding IsStrictlySortedBy
-  rises_empty bs e = subst (λ (t : List (Box (List ℕ × X))). Rises (unboxed t)) (sym e) tt
+  rises_empty es e = subst (λ (t : List (List ℕ × X)). Rises t) (sym e) tt
 
-  pub rises_removed : (bs cs : List (Box (List ℕ × X))) → cs ≡ remove bs 0 → Rises (unboxed bs) → Rises (unboxed cs)
-  rises_removed [] cs e r = subst (λ (t : List (Box (List ℕ × X))). Rises (unboxed t)) (sym e) r
-  rises_removed (b ∷ bs) cs e r = subst (λ (t : List (Box (List ℕ × X))). Rises (unboxed t)) (sym e) (sorted_tail by_bytes b.value.0 (keys_of (unboxed bs)) r)
+  pub rises_removed : (es fs : List (List ℕ × X)) → fs ≡ remove es 0 → Rises es → Rises fs
+  rises_removed [] fs e r = subst (λ (t : List (List ℕ × X)). Rises t) (sym e) r
+  rises_removed (x ∷ es) fs e r = subst (λ (t : List (List ℕ × X)). Rises t) (sym e) (sorted_tail by_bytes x.0 (keys_of es) r)
 
-  pub put_done : (k : List ℕ) (v : X) (bs cs : List (Box (List ℕ × X))) (b : Box (List ℕ × X)) (i : ℕ) → IsGap k (unboxed bs) i → b.value ≡ (k, v) → cs ≡ insert bs i b → unboxed cs ≡ insert_entry by_bytes (unboxed bs) k v
-  put_done k v bs cs b i h e c = ap (λ (t : List (Box (List ℕ × X))). unboxed t) c ∙ ap (λ n. unboxed (insert bs n b)) h.number ∙ put_is k v bs b e h.absent
+  pub put_done : (e : List ℕ × X) (es fs : List (List ℕ × X)) (i : ℕ) → IsGap e.0 es i → fs ≡ insert es i e → fs ≡ insert_entry by_bytes es e.0 e.1
+  put_done e es fs i h c = c ∙ ap (λ n. insert es n e) h.number ∙ put_is e es h.absent
 
-  pub put_rises : (k : List ℕ) (v : X) (bs cs : List (Box (List ℕ × X))) (b : Box (List ℕ × X)) (i : ℕ) → IsGap k (unboxed bs) i → b.value ≡ (k, v) → cs ≡ insert bs i b → Rises (unboxed bs) → Rises (unboxed cs)
-  put_rises k v bs cs b i h e c r = subst (λ (t : List (List ℕ × X)). Rises t) (sym (put_done k v bs cs b i h e c)) (rises_put k v (unboxed bs) r)
+  pub put_rises : (e : List ℕ × X) (es fs : List (List ℕ × X)) (i : ℕ) → IsGap e.0 es i → fs ≡ insert es i e → Rises es → Rises fs
+  put_rises e es fs i h c r = subst (λ (t : List (List ℕ × X)). Rises t) (sym (put_done e es fs i h c)) (rises_put e.0 e.1 es r)
 
-  keys_swap : (bs : List (Box (List ℕ × X))) (i : ℕ) (old new : Box (List ℕ × X)) → i < length bs → old ≡ get_or bs i old → new.value.0 ≡ old.value.0 → keys_of (unboxed (slice_set bs i new)) ≡ keys_of (unboxed bs)
+  keys_swap : (es : List (List ℕ × X)) (i : ℕ) (old new : List ℕ × X) → i < length es → old ≡ get_or es i old → new.0 ≡ old.0 → keys_of (slice_set es i new) ≡ keys_of es
   keys_swap [] i old new l a h = absurd (omega arith)
-  keys_swap (b ∷ bs) zero old new l a h = ap (λ x. x ∷ keys_of (unboxed bs)) (h ∙ ap (λ (y : Box (List ℕ × X)). y.value.0) a)
-  keys_swap (b ∷ bs) (suc i) old new l a h = ap (λ t. b.value.0 ∷ t) (keys_swap bs i old new (omega arith) a h)
+  keys_swap (x ∷ es) zero old new l a h = ap (λ y. y ∷ keys_of es) (h ∙ ap (λ (y : List ℕ × X). y.0) a)
+  keys_swap (x ∷ es) (suc i) old new l a h = ap (λ t. x.0 ∷ t) (keys_swap es i old new (omega arith) a h)
 
-  pub rises_swap : (bs : List (Box (List ℕ × X))) (es : List (List ℕ × X)) (i : ℕ) (old new : Box (List ℕ × X)) (p : List ℕ × X) → unboxed bs ≡ es → i < length es → old ≡ get_or bs i old → p ≡ old.value → new.value.0 ≡ p.0 → Rises (unboxed bs) → Rises (unboxed (slice_set bs i new))
-  rises_swap bs es i old new p v l a e h r =
-      let low : i < length bs = omega (arith, l, length_inside bs es v) in
-      subst (λ (ks : List (List ℕ)). IsStrictlySortedBy by_bytes ks) (sym (keys_swap bs i old new low a (h ∙ ap (λ (x : List ℕ × X). x.0) e))) r
+  -- the row's list goes by two names in a proof of its functions
+  module _ (es fs : List (List ℕ × X)) (v : es ≡ fs) (i : ℕ) (old : List ℕ × X) (a : old ≡ get_or es i old) where
+    own : old ≡ get_or fs i old
+    own = a ∙ ap (λ (t : List (List ℕ × X)). get_or t i old) v
 
-  pub swap_was : (k : List ℕ) (bs : List (Box (List ℕ × X))) (es : List (List ℕ × X)) (i : ℕ) (old : Box (List ℕ × X)) (p : List ℕ × X) (r : X) → unboxed bs ≡ es → IsHolder k es i → old ≡ get_or bs i old → p ≡ old.value → r ≡ p.1 → at_key k es ≡ Some r
-  swap_was k bs es i old p r v h a e t =
-      let low : i < length bs = omega (arith, h.bound, length_inside bs es v) in
-      at_place k es h.there
-      ∙ ap (λ n. option_map (λ (x : List ℕ × X). x.1) (slice_get es n)) (sym h.number)
-      ∙ ap (option_map (λ (x : List ℕ × X). x.1)) (sym (entry_some bs es i old p v low a e))
-      ∙ ap (λ y. Some y) (sym t)
+    pub rises_swap : (new : List ℕ × X) → i < length fs → new.0 ≡ old.0 → Rises es → Rises (slice_set es i new)
+    rises_swap new l h r = subst (λ (ks : List (List ℕ)). IsStrictlySortedBy by_bytes ks) (sym (keys_swap es i old new (subst (λ (t : List (List ℕ × X)). i < length t) (sym v) l) a h)) r
 
-  pub swap_done : (k : List ℕ) (w : X) (bs : List (Box (List ℕ × X))) (es : List (List ℕ × X)) (i : ℕ) (old new : Box (List ℕ × X)) (p : List ℕ × X) (u : X) → unboxed bs ≡ es → IsHolder k es i → old ≡ get_or bs i old → p ≡ old.value → new.value ≡ (p.0, u) → u ≡ w → unboxed (slice_set bs i new) ≡ set_value (is_at (by_bytes k)) es w
-  swap_done k w bs es i old new p u v h a e is q =
-      let low : i < length bs = omega (arith, h.bound, length_inside bs es v) in
-      let there : slice_get es (place k es) ≡ Some p = ap (λ n. slice_get es n) (sym h.number) ∙ sym (entry_some bs es i old p v low a e) in
-      map-set (λ (b : Box (List ℕ × X)). b.value) bs i new
-      ∙ ap (λ (t : List (List ℕ × X)). slice_set t i new.value) v
-      ∙ ap (λ (x : List ℕ × X). slice_set es i x) (is ∙ ap (λ y. (p.0, y)) q)
-      ∙ set_split es i (p.0, w) h.bound
-      ∙ ap (λ n. take n es ++ (p.0, w) ∷ drop (suc n) es) h.number
-      ∙ swap_is k w es p h.there there
+    module _ (k : List ℕ) (h : IsHolder k fs i) where
+      held : slice_get fs (place k fs) ≡ Some old
+      held = ap (λ n. slice_get fs n) (sym h.number) ∙ get_some fs i old h.bound own
+
+      pub swap_was : (r : X) → r ≡ old.1 → at_key k fs ≡ Some r
+      swap_was r t = at_place k fs h.there ∙ ap (option_map (λ (x : List ℕ × X). x.1)) held ∙ ap (λ y. Some y) (sym t)
+
+      pub swap_done : (new : List ℕ × X) (w : X) → new ≡ (old.0, w) → slice_set es i new ≡ set_value (is_at (by_bytes k)) fs w
+      swap_done new w n =
+          ap (λ (t : List (List ℕ × X)). slice_set t i new) v
+          ∙ ap (λ (x : List ℕ × X). slice_set fs i x) n
+          ∙ set_split fs i (old.0, w) h.bound
+          ∙ ap (λ m. take m fs ++ (old.0, w) ∷ drop (suc m) fs) h.number
+          ∙ swap_is k w fs old h.there held
+
+      -- the entry that is there has the key
+      key_held : k ≡ old.0
+      key_held = same_true k old.0 (sym (ap (has_key k) held) ∙ sym (there_is k fs) ∙ h.there)
+
+      pub item_done : (w : X) (new : List ℕ × X) → new ≡ (k, w) → slice_set es i new ≡ insert_entry by_bytes fs k w
+      item_done w new n = swap_done new w (n ∙ ap (λ q. (q, w)) key_held) ∙ sym (put-set k w fs h.there)
+
+      pub item_rises : (w : X) (new : List ℕ × X) → new ≡ (k, w) → Rises es → Rises (slice_set es i new)
+      item_rises w new n r = rises_swap new h.bound (ap (λ (x : List ℕ × X). x.0) n ∙ key_held) r
+
+  -- what holds of the first entry
+  pub of_first : (P : List ℕ × X → Type 0) (es rest : List (List ℕ × X)) (e : List ℕ × X) → es ≡ e ∷ rest → IfSome (slice_get es 0) P → P e
+  of_first P es rest e h p = subst (λ (t : List (List ℕ × X)). IfSome (slice_get t 0) P) h p

@@ -202,7 +202,7 @@ module _ {X : Type 0} where
   filled_at (r ∷ rs) zero f h = f.0
   filled_at (r ∷ rs) (suc m) f h = filled_at rs m f.1 (omega arith)
 
-  filled_drop : (n : ℕ) (rs : List (List (List ℕ × X))) → AreFilled rs → AreFilled (drop n rs)
+  pub filled_drop : (n : ℕ) (rs : List (List (List ℕ × X))) → AreFilled rs → AreFilled (drop n rs)
   filled_drop zero rs f = f
   filled_drop (suc n) [] f = tt
   filled_drop (suc n) (r ∷ rs) f = filled_drop n rs f.1
@@ -425,7 +425,7 @@ module _ {X : Type 0} where
   filled-filter ([] ∷ rs) = filled-filter rs
   filled-filter ((e ∷ es) ∷ rs) = (omega arith, filled-filter rs)
 
-  filled_later : (rs : List (List (List ℕ × X))) → AreFilled rs → LaterFilled rs
+  pub filled_later : (rs : List (List (List ℕ × X))) → AreFilled rs → LaterFilled rs
   filled_later [] f = tt
   filled_later (r ∷ rs) f = (f.1, λ z. absurd (let some = f.0 in omega (arith, z, some)))
 

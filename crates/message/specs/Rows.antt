@@ -1,12 +1,12 @@
 -- Entries that rise by key: where a key stands among them, in one row and in several.
-use Rattle.std.specs.Prelude.{◌≡◌, ◌⊎◌, ℕ, suc, ◌<◌, ◌≤◌, Bool, true, false, List, [], ◌∷◌, ◌++◌, map, length, if◌then◌else◌, Option, Some, None, Result, MatchResult}
-use Rattle.std.specs.Global.{Box}
+use Rattle.std.specs.Prelude.{◌≡◌, ◌⊎◌, ℕ, suc, ◌<◌, ◌≤◌, Bool, true, false, List, [], ◌∷◌, ◌++◌, length, if◌then◌else◌, Option, Some, None, Result, MatchResult}
 use Rattle.std.specs.Ordering.{match_ordering}
+use Rattle.std.specs.List.{All}
 use Rattle.std.specs.List.Sorted.{IsStrictlySortedBy}
 use Rattle.std.specs.Map.{keys_of, lookup}
 use Rattle.std.specs.BTreeMap.{is_at, insert_entry}
 use Rattle.pathkey.specs.Order.{by_bytes}
-use Rattle.message.specs.Ranges.{reaches}
+use Rattle.message.specs.Ranges.{reaches, before}
 
 -- the one, or where it is none the other
 abbrev pub or_next : Option (List ℕ) → Option (List ℕ) → Option (List ℕ)
@@ -17,10 +17,6 @@ module _ {X : Type 0} where
   -- each key stands before the later ones
   abbrev pub Rises : List (List ℕ × X) → Type 0
   Rises es = IsStrictlySortedBy by_bytes (keys_of es)
-
-  -- the entries, out of their boxes
-  abbrev pub unboxed : List (Box (List ℕ × X)) → List (List ℕ × X)
-  unboxed bs = map (λ b. b.value) bs
 
   -- what stands at the key
   abbrev pub at_key : List ℕ → List (List ℕ × X) → Option X
@@ -109,6 +105,14 @@ module _ {X : Type 0} where
   IsEndRow None rs i = length rs ≤ i
   IsEndRow (Some h) [] i = Unit {0}
   IsEndRow (Some h) (r ∷ rs) i = suc (row_number h rs) ≤ i
+
+  -- the entries stand before the key
+  abbrev pub AreBefore : List ℕ → List (List ℕ × X) → Type 0
+  AreBefore k es = All (λ q. before q k ≡ true) (keys_of es)
+
+  -- they stand at it or behind it
+  abbrev pub AreFrom : List ℕ → List (List ℕ × X) → Type 0
+  AreFrom k es = All (λ q. reaches k q ≡ true) (keys_of es)
 
   -- a value was put at the key, if anything changed
   abbrev pub IsWritten : List ℕ → List (List ℕ × X) → List (List ℕ × X) → Type 0

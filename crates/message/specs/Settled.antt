@@ -2,7 +2,7 @@
 use Rattle.std.specs.Prelude.{◌≡◌, ℕ, ◌+◌, ◌^◌, ◌≤◌, Bool, true, false, not, ◌&&◌, ◌||◌, if◌then◌else◌, List, [], ◌∷◌, ◌++◌, length, Option, Some, None}
 use Rattle.std.specs.List.{sum_by}
 use Rattle.std.specs.Map.{lookup, values_of}
-use Rattle.std.specs.BTreeMap.{is_at}
+use Rattle.std.specs.BTreeMap.{is_at, insert_entry}
 use Rattle.std.specs.declared.ops.Bound.{Bound}
 use Rattle.std.specs.declared.ops.Bound.TheVariants.{Excluded, Unbounded}
 use Rattle.pathkey.specs.Order.{by_bytes, same}
@@ -106,6 +106,15 @@ module _ {U V : Type 0} where
       pub few : came ≤ most
       pub lays : Lays key (run_effect means run) old new
       pub counted : point_count new + gone ≡ point_count old + came
+
+    -- the run of the first key has left a list and stands in another in the place of `gone` messages, which it does not ask for
+    pub record MovesFirst (gone : ℕ) (from old left new : List (List ℕ × Run U V)) : Type 0 where
+      pub key : List ℕ
+      pub run : Run U V
+      pub parts : from ≡ (key, run) ∷ left
+      pub is : new ≡ insert_entry by_bytes old key run
+      pub over : (o : Option V) → run_effect means run (found_effect (look key old) o) ≡ run_effect means run o
+      pub counted : point_count new + gone ≡ point_count old + run_len run
 
 -- the last entry whose key passes
 abbrev pub last_or : {X : Type 0} → Bool → X → Option X → Option X

@@ -4,16 +4,16 @@ ghost use Rattle.std.specs.List.{All, filter, slice_get};
 ghost use Rattle.std.specs.Map.{keys_of};
 ghost use Rattle.std.specs.Option.{option_copied, option_map, option_to_list};
 ghost use Rattle.pathkey.specs.Keys.{is_below, is_in};
-ghost use Rattle.message.specs.Ranges.{reaches, before};
-ghost use Rattle.message.specs.Rows.{unboxed, Rises, place, end_place, joined, AreFilled, AreRows, or_next, IsHolder, IsGap, IsWritten};
+ghost use Rattle.message.specs.Rows.{Rises, place, end_place, joined, AreFilled, AreRows, or_next, IsHolder, IsGap, IsWritten};
+ghost use Rattle.message.specs.Ranges.{before, reaches};
 ghost use Rattle.message.specs.Runs.{run_len, run_effect, run_msgs, IsRunKeyed};
 ghost use Rattle.message.specs.Stretches.{IsStretch};
-ghost use Rattle.message.specs.Settled.{AreRunsKeyed, Lays, look, first_behind, point_msgs, point_count, TakesFirst};
+ghost use Rattle.message.specs.Settled.{AreRunsKeyed, Lays, look, first_behind, point_msgs, point_count, MovesFirst, TakesFirst};
 
 use crate::ends::earlier;
 use crate::msg::Msg;
 use crate::row::{Item, Row};
-use crate::rows::{drop_empty, end_row, first_in, number_in, pop_in, pop_item, prepare};
+use crate::rows::{drop_empty, end_row, first_in, number_in, part, pop_in, pop_item, prepare};
 use crate::run::Run;
 use crate::update::{Changes, Update};
 use pathkey::{Key, KeyRange, NoMemory};
@@ -60,13 +60,13 @@ impl<U: Update> Points<U> {
     pub(crate) fn begin_from(&self, lo: &Key) -> bool
         ensures { result ≡ true → All (λ k. reaches lo.now k ≡ true) (keys_of self.now) }
     {
-        match self.first() {
+        match first_in(self.rows.as_slice()) {
             None => true,
             Some((first, _)) => lo.cmp(first).is_le(),
         }
     }
 
-    /// Moves the messages at the pivot and behind it out, and counts them.
+    /// Moves the messages at the pivot and behind it out, and counts them. On want of memory all are as they were.
     pub(crate) fn split_off(&mut self, pivot: &Key) -> Result<(Points<U>, usize), NoMemory>
         requires { point_count self.old < 2 ^ 63 }
         ensures parts { IfOk result (λ r. self.old ≡ self.new ++ r.0) }
@@ -75,24 +75,8 @@ impl<U: Update> Points<U> {
         ensures counted { IfOk result (λ r. r.1 ≡ point_count r.0) }
         ensures err { OnErr result (self.new ≡ self.old) }
     {
-        if self.rows.len() == 0 {
-            return Ok((Points { rows: Vec::new(*self.rows.allocator()) }, 0));
-        }
-        let n = number_in(self.rows.as_slice(), pivot);
-        let at = self.rows[n].before(pivot);
-        let mut rows = Vec::with_capacity(*self.rows.allocator(), self.rows.len() - n)?;
-        let back = self.rows[n].split_off(at)?;
-        rows.push_reserved(back);
-        let later = self.rows.split_off(n + 1)?;
-        for row in later {
-            rows.push_reserved(row);
-        }
-        let mut count = 0;
-        for row in rows.as_slice() {
-            count += count_of(row.entries());
-        }
-        drop_empty(&mut self.rows);
-        drop_empty(&mut rows);
+        let rows = part(&mut self.rows, pivot)?;
+        let count = count_rows(rows.as_slice());
         Ok((Points { rows }, count))
     }
 
@@ -112,24 +96,14 @@ impl<U: Update> Points<U> {
         ensures was_ordered { Rises self.old }
         ensures none { IfNone result ((self.new ≡ self.old) × (from.new ≡ from.old)) }
     {
+        let rows = &mut self.rows;
         let (key, run) = from.first()?;
         let came = run.len();
-        let is_whole = run.is_whole();
-        if came > most || !prepare(&mut self.rows, key) {
+        if came > most || !prepare(rows, key) {
             return None;
         }
-        let n = number_in(self.rows.as_slice(), key);
-        let row = &mut self.rows[n];
-        match row.find(key) {
-            Ok(i) if is_whole => {
-                let item = pop_item(&mut from.rows)?;
-                let old = row.swap_item(i, item);
-                Some((came, old.value().len()))
-            }
-            Ok(_) => None,
-            Err(i) if row.put_first(i, &mut from.rows) => Some((came, 0)),
-            Err(_) => None,
-        }
+        let gone = take_among(rows, &mut from.rows)?;
+        Some((came, gone))
     }
 
     /// Takes the messages of the first key out. It takes no memory.
@@ -232,6 +206,38 @@ impl<U: Update> Points<U> {
         let rows = copy_rows(self.rows.as_slice(), alloc)?;
         Ok(Points { rows })
     }
+}
+
+/// How many messages rows have.
+fn count_rows<U: Update>(rows: &[Row<Run<U>>]) -> usize
+    requires { point_count (joined rows.now) < 2 ^ 63 }
+    ensures { result ≡ point_count (joined rows.now) }
+{
+    let mut count = 0;
+    for row in rows {
+        count += count_of(row.entries());
+    }
+    count
+}
+
+/// Moves the messages of the first key of other rows to their place among rows, as [`Points::take_first`] does, and answers
+/// how many stood there.
+fn take_among<U: Update>(
+    rows: &mut Vec<Row<Run<U>>>,
+    from: &mut Vec<Row<Run<U>>>,
+) -> Option<usize>
+    requires rows { AreRows rows.old.items }
+    requires some { 0 < length rows.old.items }
+    requires from { AreRows from.old.items }
+    ensures rows { AreRows rows.new.items }
+    ensures from { AreRows from.new.items }
+    ensures moved { IfSome result (λ gone. MovesFirst U.means gone (joined from.old.items) (joined rows.old.items) (joined from.new.items) (joined rows.new.items)) }
+    ensures none { IfNone result ((joined rows.new.items ≡ joined rows.old.items) × (joined from.new.items ≡ joined from.old.items)) }
+{
+    let (key, _) = first_in(from.as_slice())?;
+    let n = number_in(rows.as_slice(), key);
+    let row = &mut rows[n];
+    take_in(row, from)
 }
 
 /// Puts one message in the place of the key's messages among rows, as [`Points::overwrite`] does.
@@ -397,6 +403,43 @@ fn copy_rows<U: Update>(
     Ok(copy)
 }
 
+/// Moves the messages of the first key of rows to their place in a row, as [`Points::take_first`] does, and answers how many
+/// stood there.
+fn take_in<U: Update>(row: &mut Row<Run<U>>, from: &mut Vec<Row<Run<U>>>) -> Option<usize>
+    requires { AreRows from.old.items }
+    ensures from { AreRows from.new.items }
+    ensures moved { IfSome result (λ gone. MovesFirst U.means gone (joined from.old.items) row.old (joined from.new.items) row.new) }
+    ensures none { IfNone result ((row.new ≡ row.old) × (joined from.new.items ≡ joined from.old.items)) }
+{
+    let (key, run) = first_in(from.as_slice())?;
+    let is_whole = run.is_whole();
+    match row.find(key) {
+        Ok(i) if is_whole => take_over(row, i, from),
+        Ok(_) => None,
+        Err(i) if row.put_first(i, from) => Some(0),
+        Err(_) => None,
+    }
+}
+
+/// Moves the messages of the first key of rows into the place of those of the same key in a row, and answers how many they
+/// were.
+fn take_over<U: Update>(
+    row: &mut Row<Run<U>>,
+    i: usize,
+    from: &mut Vec<Row<Run<U>>>,
+) -> Option<usize>
+    requires rows { AreRows from.old.items }
+    requires holder { IfSome (slice_get (joined from.old.items) 0) (λ e. IsHolder e.0 row.old i) }
+    requires whole { IfSome (slice_get (joined from.old.items) 0) (λ e. (v w : Option U.Value) → run_effect U.means e.1 v ≡ run_effect U.means e.1 w) }
+    ensures from { AreRows from.new.items }
+    ensures moved { IfSome result (λ gone. MovesFirst U.means gone (joined from.old.items) row.old (joined from.new.items) row.new) }
+    ensures none { IfNone result ((row.new ≡ row.old) × (joined from.new.items ≡ joined from.old.items)) }
+{
+    let item = pop_item(from)?;
+    let old = row.swap_item(i, item);
+    Some(old.value().len())
+}
+
 /// Puts one message in the place of the key's messages in a row, as [`Points::overwrite`] does.
 fn overwrite_in<U: Update>(
     row: &mut Row<Run<U>>,
@@ -560,8 +603,8 @@ fn before_end<T: Drop>(row: &Row<T>, end: Option<&Key>) -> usize
 
 /// How many messages there are.
 fn count_of<U: Update>(items: &[Item<Run<U>>]) -> usize
-    requires { point_count (unboxed items.now) < 2 ^ 63 }
-    ensures { result ≡ point_count (unboxed items.now) }
+    requires { point_count items.now < 2 ^ 63 }
+    ensures { result ≡ point_count items.now }
 {
     let mut count = 0;
     for item in items {
@@ -611,7 +654,7 @@ fn copy_runs<U: Update>(
     count: usize,
     front: &mut Vec<Msg<U>>,
 ) -> Result<(), NoMemory>
-    ensures { OnOk result (take count front.new.items ≡ take count (front.old.items ++ point_msgs (unboxed items.now))) }
+    ensures { OnOk result (take count front.new.items ≡ take count (front.old.items ++ point_msgs items.now)) }
 {
     for item in items {
         if front.len() >= count {

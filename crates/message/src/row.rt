@@ -1,13 +1,15 @@
 //! A row of entries that rise by key, each in a place of its own.
 //!
-//! An entry is made where it comes in. After that only its pointer moves.
-ghost use Rattle.std.specs.Prelude.{◌≡◌, ◌++◌, ◌∷◌, [], ◌<◌, ◌≤◌, ◌^◌, length, take, drop, Some, OnOk, OnErr, IfOk, IfErr, IfNone, ℕ, List};
+//! An entry is made where it comes in. After that only its pointer moves, with the head of its key beside it, so that a search
+//! seldom waits for an entry.
+ghost use Rattle.std.specs.Prelude.{◌≡◌, ◌++◌, ◌∷◌, [], ◌<◌, ◌≤◌, ◌^◌, true, false, length, take, drop, Some, OnOk, OnErr, IfOk, IfErr, IfSome, IfNone, ℕ, List};
+ghost use Rattle.std.specs.Ordering.{is_gt};
 ghost use Rattle.std.specs.Option.{option_map, option_to_list};
 ghost use Rattle.std.specs.List.{remove_range, slice_get};
 ghost use Rattle.std.specs.Map.{set_value};
 ghost use Rattle.std.specs.BTreeMap.{insert_entry, is_at};
-ghost use Rattle.pathkey.specs.Order.{by_bytes};
-ghost use Rattle.message.specs.Rows.{unboxed, Rises, at_key, place, begins_by, is_filled, IsHolder, IsGap, IsFound};
+ghost use Rattle.pathkey.specs.Order.{by_bytes, same};
+ghost use Rattle.message.specs.Rows.{Rises, at_key, place, begins_by, is_filled, joined, IsHolder, IsGap, IsFound, AreRows, IsMovedIn};
 
 use crate::rows::pop_item;
 use crate::search::count_passing;
@@ -21,40 +23,85 @@ pub struct Row<T> {
     items: Vec<Item<T>>,
 }
 
-/// An entry in a place of its own, and the head of its key.
+/// An entry in a place of its own, and the head of its key. Contracts see the entry.
 #[derive(Drop)]
 pub struct Item<T> {
     head: u64,
     entry: Box<(Key, T)>,
 }
 
+impl<T> Model for Item<T> {
+    ghost use Rattle.std.specs.Prelude.{List, ℕ};
+    ghost use Rattle.pathkey.specs.Heads.{IsHeaded};
+
+    ghost Value = { List ℕ × T };
+
+    ghost view = { λ i. i.entry.value };
+
+    ghost invariant = { λ i. IsHeaded i.head i.entry.value.0 };
+}
+
 impl<T: Drop> Item<T> {
-    pub(crate) fn new(alloc: Global, key: Key, value: T) -> Result<Item<T>, (Key, T)> {
+    /// An item of this entry. On want of memory it comes back.
+    pub(crate) fn new(alloc: Global, key: Key, value: T) -> Result<Item<T>, (Key, T)>
+        ensures ok { IfOk result (λ i. i ≡ (key, value)) }
+        ensures back { IfErr result (λ p. p ≡ (key, value)) }
+    {
         let head = key.head();
         match Box::new(alloc, (key, value)) {
             Ok(entry) => Ok(Item { head, entry }),
             Err(refused) => Err(refused.value),
         }
     }
-    pub(crate) fn key(&self) -> &Key {
-        &self.entry.0
+
+    /// The key of the entry.
+    pub(crate) fn key(&self) -> &Key
+        ensures { result.now ≡ self.now.0 }
+    {
+        let entry = self.entry.as_ref();
+        &entry.0
     }
-    pub(crate) fn value(&self) -> &T {
-        &self.entry.1
+
+    /// The value of the entry.
+    pub(crate) fn value(&self) -> &T
+        ensures { result.now ≡ self.now.1 }
+    {
+        let entry = self.entry.as_ref();
+        &entry.1
     }
-    pub(crate) fn into_entry(self) -> (Key, T) {
+
+    /// The entry, out of its place.
+    pub(crate) fn into_entry(self) -> (Key, T)
+        ensures { result ≡ self }
+    {
         let Item { head: _, entry } = self;
         Box::into_inner(entry)
     }
-    pub(crate) fn is_before(&self, key: &Key) -> bool {
+
+    /// Gives the entry another value, and answers the one that it had.
+    fn replace(&mut self, value: T) -> T
+        ensures was { result ≡ self.old.1 }
+        ensures is { self.new ≡ (self.old.0, value) }
+    {
+        std::mem::replace(&mut self.entry.1, value)
+    }
+
+    /// Whether the entry stands before the key. Heads that differ say it alone.
+    fn is_before(&self, key: &Key) -> bool
+        ensures { result ≡ is_gt (by_bytes key.now self.now.0) }
+    {
         let head = key.head();
         if self.head != head {
             return self.head < head;
         }
-        key.cmp(&self.entry.0).is_gt()
+        key.cmp(self.key()).is_gt()
     }
-    pub(crate) fn is_at(&self, key: &Key) -> bool {
-        self.head == key.head() && *key == self.entry.0
+
+    /// Whether the entry has the key.
+    fn is_at(&self, key: &Key) -> bool
+        ensures { result ≡ same key.now self.now.0 }
+    {
+        self.head == key.head() && *key == *self.key()
     }
 }
 
@@ -63,11 +110,11 @@ impl<T> Model for Row<T> {
 
     ghost Value = { List (List ℕ × T) };
 
-    ghost use Rattle.message.specs.Rows.{unboxed, Rises};
+    ghost use Rattle.message.specs.Rows.{Rises};
 
-    ghost view = { λ r. unboxed r.items.items };
+    ghost view = { λ r. r.items.items };
 
-    ghost invariant = { λ r. Rises (unboxed r.items.items) };
+    ghost invariant = { λ r. Rises r.items.items };
 }
 
 impl<T: Drop> Row<T> {
@@ -90,7 +137,7 @@ impl<T: Drop> Row<T> {
 
     /// The entries, in the order of their keys.
     pub(crate) fn entries(&self) -> &[Item<T>]
-        ensures entries { unboxed result.now ≡ self.now }
+        ensures entries { result.now ≡ self.now }
         ensures len { length result.now ≡ length self.now }
         ensures rises { Rises self.now }
     {
@@ -193,7 +240,7 @@ impl<T: Drop> Row<T> {
         ensures rises { Rises self.new }
     {
         let item = &mut self.items[i];
-        std::mem::replace(&mut item.entry.1, value)
+        item.replace(value)
     }
 
     /// Puts an entry behind the others. On want of memory it is gone.
@@ -239,8 +286,13 @@ impl<T: Drop> Row<T> {
         true
     }
 
-    /// Puts an item in the place of another of its key, and answers that.
-    pub(crate) fn swap_item(&mut self, i: usize, item: Item<T>) -> Item<T> {
+    /// Puts an item into the place of another of its key, and answers that one.
+    pub(crate) fn swap_item(&mut self, i: usize, item: Item<T>) -> Item<T>
+        requires { IsHolder item.0 self.old i }
+        ensures was { at_key item.0 self.old ≡ Some result.1 }
+        ensures is { self.new ≡ insert_entry by_bytes self.old item.0 item.1 }
+        ensures was_rising { Rises self.old }
+    {
         std::mem::replace(&mut self.items[i], item)
     }
 
@@ -273,9 +325,9 @@ fn put_item<T: Drop>(
     key: Key,
     value: T,
 ) -> Result<(), (Key, T)>
-    requires { IsGap key (unboxed items.old.items) i }
-    ensures ok { OnOk result (unboxed items.new.items ≡ insert_entry by_bytes (unboxed items.old.items) key value) }
-    ensures rises { Rises (unboxed items.old.items) → Rises (unboxed items.new.items) }
+    requires { IsGap key items.old.items i }
+    ensures ok { OnOk result (items.new.items ≡ insert_entry by_bytes items.old.items key value) }
+    ensures rises { Rises items.old.items → Rises items.new.items }
     ensures err { OnErr result (items.new.items ≡ items.old.items) }
     ensures back { IfErr result (λ p. p ≡ (key, value)) }
 {
@@ -291,17 +343,17 @@ fn put_item<T: Drop>(
 
 /// How many entries stand before the key, found by a search in strides.
 fn count_before<T: Drop>(items: &[Item<T>], key: &Key) -> usize
-    requires { Rises (unboxed items.now) }
-    ensures place { result ≡ place key.now (unboxed items.now) }
-    ensures bound { result ≤ length (unboxed items.now) }
+    requires { Rises items.now }
+    ensures place { result ≡ place key.now items.now }
+    ensures bound { result ≤ length items.now }
 {
     count_passing(items, |item| item.is_before(key))
 }
 
 /// Where the key stands among entries, or where it would.
 fn find_in<T: Drop>(items: &[Item<T>], key: &Key) -> Result<usize, usize>
-    requires { Rises (unboxed items.now) }
-    ensures { IsFound key.now (unboxed items.now) result }
+    requires { Rises items.now }
+    ensures { IsFound key.now items.now result }
 {
     let i = count_before(items, key);
     match items.get(i) {

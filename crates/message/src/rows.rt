@@ -2,7 +2,7 @@
 ghost use Rattle.std.specs.Prelude.{true, vec_len, vec_capacity, ◌≡◌, ◌++◌, ◌+◌, [], ◌<◌, ◌≤◌, length, take, drop, slice_index_or, slice_set, Some, OnOk, OnErr, IfOk, IfNone};
 ghost use Rattle.std.specs.Option.{option_copied, option_map, option_to_list};
 ghost use Rattle.std.specs.List.{slice_get};
-ghost use Rattle.message.specs.Rows.{Rises, joined, AreFilled, LaterFilled, TailFilled, row_number, number_in, AreRows, IsEndRow};
+ghost use Rattle.message.specs.Rows.{Rises, joined, AreFilled, LaterFilled, TailFilled, row_number, number_in, AreRows, AreBefore, AreFrom, IsEndRow};
 
 use crate::row::{Item, Row};
 use crate::search::count_passing;
@@ -100,7 +100,7 @@ fn widen<T: Drop>(rows: &mut Vec<Row<T>>, key: &Key)
         return;
     }
     let at = middle(row, key);
-    split(rows, n, at);
+    let _ = split(rows, n, at);
 }
 
 /// Where a full row is made two: behind most of its entries where the key comes behind all, so that keys that come in
@@ -117,8 +117,9 @@ fn middle<T: Drop>(row: &Row<T>, key: &Key) -> usize
     len / 2
 }
 
-/// Moves the entries of a row from number `at` on into a row of their own behind it, where memory is there.
-fn split<T: Drop>(rows: &mut Vec<Row<T>>, n: usize, at: usize)
+/// Moves the entries of a row from number `at` on into a row of their own behind it. On want of memory the rows are as they
+/// were.
+fn split<T: Drop>(rows: &mut Vec<Row<T>>, n: usize, at: usize) -> Result<(), NoMemory>
     requires rows { AreRows rows.old.items }
     requires row { n < length rows.old.items }
     requires some { 0 < at }
@@ -126,16 +127,16 @@ fn split<T: Drop>(rows: &mut Vec<Row<T>>, n: usize, at: usize)
     ensures same { joined rows.new.items ≡ joined rows.old.items }
     ensures rows { AreRows rows.new.items }
     ensures some { 0 < length rows.new.items }
+    ensures front { OnOk result (joined (take (n + 1) rows.new.items) ≡ joined (take n rows.old.items) ++ take at (slice_index_or rows.old.items n [])) }
+    ensures back { OnOk result (joined (drop (n + 1) rows.new.items) ≡ drop at (slice_index_or rows.old.items n []) ++ joined (drop (n + 1) rows.old.items)) }
+    ensures row { OnOk result (n < length rows.new.items) }
 {
-    if rows.reserve(1).is_err() {
-        return;
-    }
-    let Ok(back) = cut(rows, n, at) else {
-        return;
-    };
+    rows.reserve(1)?;
+    let back = cut(rows, n, at)?;
     let Ok(()) = rows.insert(n + 1, back) else {
         unreachable!()
     };
+    Ok(())
 }
 
 /// Moves the entries of a row from number `at` on out of it.
@@ -150,6 +151,46 @@ fn cut<T: Drop>(rows: &mut Vec<Row<T>>, n: usize, at: usize) -> Result<Row<T>, N
 {
     let row = &mut rows[n];
     row.split_off(at)
+}
+
+/// Moves the rows' entries at the key and behind it into rows of their own. On want of memory the entries are as they were.
+pub(crate) fn part<T: Drop>(rows: &mut Vec<Row<T>>, key: &Key) -> Result<Vec<Row<T>>, NoMemory>
+    requires { AreRows rows.old.items }
+    ensures parts { IfOk result (λ back. joined rows.old.items ≡ joined rows.new.items ++ joined back.items) }
+    ensures rows { AreRows rows.new.items }
+    ensures back_rows { IfOk result (λ back. AreRows back.items) }
+    ensures front { OnOk result (AreBefore key.now (joined rows.new.items)) }
+    ensures back { IfOk result (λ back. AreFrom key.now (joined back.items)) }
+    ensures err { OnErr result (joined rows.new.items ≡ joined rows.old.items) }
+{
+    let m = divide(rows, key)?;
+    let back = rows.split_off(m)?;
+    Ok(back)
+}
+
+/// Makes two rows of the one that has entries on both sides of the key, if one has, and answers the number from which on the
+/// rows stand at the key or behind it.
+fn divide<T: Drop>(rows: &mut Vec<Row<T>>, key: &Key) -> Result<usize, NoMemory>
+    requires { AreRows rows.old.items }
+    ensures same { joined rows.new.items ≡ joined rows.old.items }
+    ensures rows { AreRows rows.new.items }
+    ensures bound { IfOk result (λ m. m ≤ length rows.new.items) }
+    ensures front { IfOk result (λ m. AreBefore key.now (joined (take m rows.new.items))) }
+    ensures back { IfOk result (λ m. AreFrom key.now (joined (drop m rows.new.items))) }
+{
+    let n = number_in(rows.as_slice(), key);
+    let Some(row) = rows.get(n) else {
+        return Ok(n);
+    };
+    let at = row.before(key);
+    if at == 0 {
+        return Ok(n);
+    }
+    if at == row.len() {
+        return Ok(n + 1);
+    }
+    split(rows, n, at)?;
+    Ok(n + 1)
 }
 
 /// Takes the first entry of all out.

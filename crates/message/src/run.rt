@@ -1,5 +1,5 @@
 //! What waits at one key.
-ghost use Rattle.std.specs.Prelude.{◌≡◌, ◌+◌, ◌<◌, ◌≤◌, [], ◌∷◌, ◌++◌, List, ℕ, Option, None, Some, if◌then◌else◌, length, OnOk, OnErr, IfOk, IfErr, IfSome, IfNone};
+ghost use Rattle.std.specs.Prelude.{true, ◌≡◌, ◌+◌, ◌<◌, ◌≤◌, [], ◌∷◌, ◌++◌, List, ℕ, Option, None, Some, if◌then◌else◌, length, OnOk, OnErr, IfOk, IfErr, IfSome, IfNone};
 ghost use Rattle.std.specs.Bool.{OnTrue, OnFalse};
 ghost use Rattle.message.specs.declared.msg.Msg.TheVariants as msg;
 ghost use Rattle.message.specs.declared.run.Run.TheVariants as run;

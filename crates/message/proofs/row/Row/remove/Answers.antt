@@ -1,5 +1,5 @@
-use Rattle.std.proofs.Common.{◌∙◌}
-use Rattle.message.proofs.RowChanges.{rises_cut, cut_is}
+use Rattle.std.proofs.Common.{◌∙◌, ◌++◌, ap, take, drop}
+use Rattle.message.proofs.RowChanges.{rises_cut}
 use Rattle.message.proofs.row.Row.remove.Goals as goal
 
 pub invariant_of-self : goal.invariant_of-self
@@ -9,4 +9,4 @@ pub returns-clause-rises : goal.returns-clause-rises
 returns-clause-rises g c = rises_cut c.args.from c.args.to c.self.inside.items.items c.drop-drain.new.self.0.items (c.drop-drain.ensures.items ∙ c.drain.ensures.kept) c.requires.order c.self.invariant
 
 pub returns-clause-cut : goal.returns-clause-cut
-returns-clause-cut g c = cut_is c.args.from c.args.to c.self.inside.items.items c.drop-drain.new.self.0.items c.args.self.now c.self.view_is (c.drop-drain.ensures.items ∙ c.drain.ensures.kept)
+returns-clause-cut g c = c.drop-drain.ensures.items ∙ c.drain.ensures.kept ∙ ap (λ t. take c.args.from t ++ drop c.args.to t) c.self.view_is

@@ -1,4 +1,4 @@
-use Rattle.message.proofs.RowChanges.{rises_front, rises_back, front_is, back_is}
+use Rattle.message.proofs.RowChanges.{rises_front, rises_back}
 use Rattle.message.proofs.row.Row.split_off.Goals as goal
 
 pub invariant_of-result : goal.invariant_of-result
@@ -6,9 +6,3 @@ invariant_of-result g c = rises_back c.args.at c.self.inside.items.items c.in_ok
 
 pub invariant_of-self-2 : goal.invariant_of-self-2
 invariant_of-self-2 g c = rises_front c.args.at c.self.inside.items.items c.split_off.new.self.items c.in_ok-items.ensures.items c.self.invariant
-
-pub returns-clause-front : goal.returns-clause-front
-returns-clause-front g c = front_is c.args.at c.self.inside.items.items c.split_off.new.self.items c.args.self.now c.self.view_is c.in_ok-items.ensures.items
-
-pub returns-clause-back : goal.returns-clause-back
-returns-clause-back g c = back_is c.args.at c.self.inside.items.items c.in_ok-items.items.items c.args.self.now c.self.view_is c.in_ok-items.ensures.tail
