@@ -1,23 +1,31 @@
--- Messages that are moved one by one into slots.
-use Rattle.std.proofs.Common.{◌≡◌, ℕ, zero, suc, ◌+◌, ◌++◌, ◌≤◌, List, [], ◌∷◌, length, take, drop, refl, ap, sym, ◌∙◌, subst, Option, None, true, Result, arith, length-drop}
-use Rattle.std.specs.Prelude.{Ok, Err, OnErr}
+-- Messages that are moved into slots.
+use Rattle.std.proofs.Common.{◌≡◌, ℕ, zero, suc, ◌+◌, ◌++◌, ◌<◌, ◌≤◌, List, [], ◌∷◌, length, take, drop, get_or, refl, ap, sym, ◌∙◌, subst, Option, Some, None, true, Result, arith, length-drop}
+use Rattle.std.specs.Prelude.{Ok, Err, OnErr, IfOk}
+use Rattle.std.specs.List.{All}
+use Rattle.std.specs.Option.{option_to_list}
+use Rattle.std.proofs.Math.ListN.{set}
+use Rattle.std.proofs.lemmas.List.Elements.{All-head, All-tail}
 use Rattle.std.proofs.Math.Seq.{take-add}
-use Rattle.std.proofs.lemmas.List.{drop-drop}
+use Rattle.std.proofs.lemmas.List.{append-nil, drop-drop, length-take-le}
 use Rattle.pathkey.specs.Keys.{is_below}
 use Rattle.message.specs.declared.msg.Msg.{Msg}
-use Rattle.message.specs.Effects.{Takes}
-use Rattle.message.specs.Cuts.{pieces}
+use Rattle.message.specs.Effects.{point, Takes}
+use Rattle.message.specs.Oldest.{first_point}
+use Rattle.message.specs.Cuts.{cut_to, pieces}
 use Rattle.message.proofs.Composing.{takes-then}
 use Rattle.node.specs.declared.step.StepReply.TheVariants.{Did}
 use Rattle.node.specs.Appended.{parts, all_at, HaveTaken}
 use Rattle.node.specs.Lawful.{next_lo}
-use Rattle.node.specs.Pure.{PNode, leaf, inner, PSlots, none, more}
+use Rattle.node.specs.Meaning.{holder}
+use Rattle.node.specs.declared.node.Slot.{Slot}
+use Rattle.node.specs.See.{seen_slots}
+use Rattle.node.specs.Pure.{PNode, leaf, inner, PSlots, none, more, slots}
 use Rattle.node.specs.Searchable.{AreRising, AreSearchable, IsSearchable}
 use Rattle.node.specs.StepRows.{piece_count}
 use Rattle.node.proofs.Appending.{next_lo-taken}
 use Rattle.node.proofs.Placing.{pieces-append}
 use Rattle.node.proofs.Sinking.{pending-taken}
-use Rattle.node.proofs.Wholes.{taken-none}
+use Rattle.node.proofs.Wholes.{at_holder, see-pending, taken-at, taken-none}
 use Rattle.flush.specs.Sunk.{Moved, MovedInto, Sunk, spare}
 use Rattle.flush.proofs.Counts.{piece_count-append, piece_count-none}
 
@@ -44,6 +52,45 @@ module _ {U V : Type 0} where
   -- messages for one slot make no more pieces than they are
   count-all_at : (i : ℕ) (ms : List (Msg U V)) (ss : PSlots U V) → all_at i ms ss ≡ parts None ms ss → piece_count ms ss ≤ length ms
   count-all_at i ms ss e = omega (arith, ap parts_len e, parts_len-parts ms ss, parts_len-all_at i ms ss)
+
+  -- ---- messages for one key
+
+  -- the parts of two lists of messages end to end
+  abbrev both_parts : List (List (Msg U V)) → List (List (Msg U V)) → List (List (Msg U V))
+  both_parts [] qs = []
+  both_parts (p ∷ ps) [] = []
+  both_parts (p ∷ ps) (q ∷ qs) = (p ++ q) ∷ both_parts ps qs
+
+  parts_more : (m : Msg U V) (ms : List (Msg U V)) (ss : PSlots U V) → parts None (m ∷ ms) ss ≡ both_parts (parts None (m ∷ []) ss) (parts None ms ss)
+  parts_more m ms none = refl
+  parts_more m ms (more lo old n ss) =
+      ap (λ p. (p ++ pieces lo (next_lo None ss) ms) ∷ parts None (m ∷ ms) ss) (sym (append-nil (option_to_list (cut_to lo (next_lo None ss) m))))
+      ∙ ap (λ ps. ((option_to_list (cut_to lo (next_lo None ss) m) ++ []) ++ pieces lo (next_lo None ss) ms) ∷ ps) (parts_more m ms ss)
+
+  no_parts : (ss : PSlots U V) → both_parts (parts None [] ss) (parts None [] ss) ≡ parts None [] ss
+  no_parts none = refl
+  no_parts (more lo old n ss) = ap (λ ps. [] ∷ ps) (no_parts ss)
+
+  all_more : (i : ℕ) (m : Msg U V) (ms : List (Msg U V)) (ss : PSlots U V) → all_at i (m ∷ ms) ss ≡ both_parts (all_at i (m ∷ []) ss) (all_at i ms ss)
+  all_more i m ms none = refl
+  all_more zero m ms (more lo old n ss) = ap (λ ps. (m ∷ ms) ∷ ps) (sym (no_parts ss))
+  all_more (suc i) m ms (more lo old n ss) = ap (λ ps. [] ∷ ps) (all_more i m ms ss)
+
+  all_none : (i : ℕ) (ss : PSlots U V) → all_at i [] ss ≡ parts None [] ss
+  all_none i none = refl
+  all_none zero (more lo old n ss) = refl
+  all_none (suc i) (more lo old n ss) = ap (λ ps. [] ∷ ps) (all_none i ss)
+
+  -- they are for the slot that holds the key, whole
+  run_at_holder : (ms : List (Msg U V)) (q : List ℕ) (first : Option (List ℕ)) (xs : List (Slot U V)) (i : ℕ) → Some q ≡ first → AreRising (seen_slots xs) → Some i ≡ holder (seen_slots xs) q → All (λ m. point m ≡ first) ms → all_at i ms (seen_slots xs) ≡ parts None ms (seen_slots xs)
+  run_at_holder [] q first xs i f rising held a = all_none i (seen_slots xs)
+  run_at_holder (m ∷ ms) q first xs i f rising held a =
+      let here = at_holder m q xs i (f ∙ sym (All-head (λ x. point x ≡ first) m ms a)) rising held in
+      let later = run_at_holder ms q first xs i f rising held (All-tail (λ x. point x ≡ first) m ms a) in
+      all_more i m ms (seen_slots xs)
+      ∙ ap (λ ps. both_parts ps (all_at i ms (seen_slots xs))) here
+      ∙ ap (λ ps. both_parts (parts None (m ∷ []) (seen_slots xs)) ps) later
+      ∙ sym (parts_more m ms (seen_slots xs))
 
 module _ {U V : Type 0} (means : U → Option V → Option V) where
   module _ (ms : List (Msg U V)) where
@@ -82,15 +129,20 @@ module _ {U V : Type 0} (means : U → Option V → Option V) where
   pub moved-none : (ms : List (Msg U V)) (ss : PSlots U V) → Moved means 0 ms ms ss ss
   moved-none ms ss = record { within = omega arith; left = refl; taken = taken-none means ss; few = omega (arith, piece_count-none ss); still = λ z. refl }
 
-  -- one message
-  pub moved-one : (i : ℕ) (m : Msg U V) (ms rest : List (Msg U V)) (ss new : PSlots U V) → ms ≡ m ∷ rest → all_at i (m ∷ []) ss ≡ parts None (m ∷ []) ss → HaveTaken means ss (all_at i (m ∷ []) ss) new → Moved means 1 ms rest ss new
-  moved-one i m ms rest ss new e p t = record {
-    within = omega (arith, ap length e);
-    left = sym (ap (drop 1) e);
-    taken = subst (λ xs. HaveTaken means ss (parts None (take 1 xs) ss) new) (sym e) (subst (λ ps. HaveTaken means ss ps new) p t);
-    few = subst (λ xs. piece_count (take 1 xs) ss ≤ 1) (sym e) (count-all_at i (m ∷ []) ss p);
-    still = λ z. absurd (omega (arith, z));
-  }
+  -- the oldest messages, all for the key that one slot holds
+  pub moved_run : {E : Type 0} (q : List ℕ) (xs : List (Slot U V)) (i : ℕ) (d : Slot U V) (p : List (Msg U V) × ℕ) (most : ℕ) (ms rest : List (Msg U V)) (r : Result ℕ E) → AreRising (seen_slots xs) → Some i ≡ holder (seen_slots xs) q → i < length xs → Some q ≡ first_point ms → IfOk r (λ n. Takes means (get_or xs i d).pending.0 (take n ms) p.0) → IfOk r (λ n. rest ≡ drop n ms) → IfOk r (λ n. (n ≤ most) × (n ≤ length ms)) → IfOk r (λ n. All (λ m. point m ≡ first_point ms) (take n ms)) → IfOk r (λ n. n ≡ 0 → p.0 ≡ (get_or xs i d).pending.0) → IfOk r (λ n. Moved means n ms rest (seen_slots xs) (seen_slots (set xs i (record { lo = (get_or xs i d).lo; pending = p; child = (get_or xs i d).child }))))
+  moved_run q xs i d p most ms rest (Err e) rising held b first takes l w a z = tt
+  moved_run q xs i d p most ms rest (Ok n) rising held b first takes l w a z =
+      let new = seen_slots (set xs i (record { lo = (get_or xs i d).lo; pending = p; child = (get_or xs i d).child })) in
+      let whole : all_at i (take n ms) (seen_slots xs) ≡ parts None (take n ms) (seen_slots xs) = run_at_holder (take n ms) q (first_point ms) xs i first rising held a in
+      let counts : piece_count (take n ms) (seen_slots xs) ≤ length (take n ms) = count-all_at i (take n ms) (seen_slots xs) whole in
+      record {
+        within = w.1;
+        left = l;
+        taken = subst (λ ps. HaveTaken means (seen_slots xs) ps new) whole (taken-at means (take n ms) xs i d p b takes);
+        few = omega (arith, counts, length-take-le n ms w.1);
+        still = λ e. ap slots (see-pending xs i d p (z e));
+      }
 
   -- messages, and then more
   pub moved-then : (a b : ℕ) (ms mid rest : List (Msg U V)) (cs ds es : PSlots U V) → Moved means a ms mid cs ds → Moved means b mid rest ds es → Moved means (a + b) ms rest cs es

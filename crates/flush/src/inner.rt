@@ -1,8 +1,8 @@
 //! A flush into an inner node.
 //!
-//! Messages for one key are moved one by one into the slots that hold their keys, after room is made for each. Range-deletes
+//! Messages for one key are moved into the slots that hold their keys, those of a key in one go where that can be. Range-deletes
 //! at the front of a list are copied, since their pieces need keys of their own.
-ghost use Rattle.std.specs.Prelude.{◌≡◌, ℕ, true, false, ◌+◌, ◌≤◌, ◌<◌, ◌∷◌, [], length, take, map, None, if◌then◌else◌, IfOk, OnOk, OnErr};
+ghost use Rattle.std.specs.Prelude.{◌≡◌, ℕ, true, false, ◌+◌, ◌≤◌, ◌<◌, ◌∷◌, [], length, take, map, None, IfOk, OnOk, OnErr};
 ghost use Rattle.node.specs.Appended.{parts, HaveTaken};
 ghost use Rattle.node.specs.Lawful.{pending as pending_of};
 ghost use Rattle.node.specs.Places.{way};
