@@ -1,8 +1,7 @@
-use Rattle.std.proofs.Common.{arith, rules, ◌≡◌, ◌<◌, ◌≤◌, ◌-◌, ℕ, true, false, List, [], None, Some, length, get_or, take, drop, subst, sym, ap, ◌∙◌}
+use Rattle.std.proofs.Common.{arith, rules, ℕ, [], None, Some, subst, sym}
 use Rattle.std.specs.Prelude.{nat_lt}
 use Rattle.std.proofs.lemmas.List.{take_rest}
 use Rattle.std.proofs.lemmas.List.Sorted.{IsPartitionPoint-from_clause}
-use Rattle.message.specs.Ranges.{before}
 use Rattle.node.specs.Lawful.{Rises}
 use Rattle.node.specs.Leaves.{IsCount}
 use Rattle.node.proofs.EntryFacts.{rises-drop}
