@@ -1,4 +1,4 @@
-use Rattle.std.proofs.Common.{◌≡◌, ap, ◌∙◌, subst, refl, Some, slice_index_or}
+use Rattle.std.proofs.Common.{ap}
 use Rattle.std.proofs.lemmas.Result.{on_err_weaker}
 use Rattle.node.specs.Pure.{slots}
 use Rattle.node.specs.See.{seen_slots}

@@ -1,6 +1,5 @@
-use Rattle.std.proofs.Common.{arith, cond, subst, take}
+use Rattle.std.proofs.Common.{arith, take}
 use Rattle.node.specs.See.{seen_slots}
-use Rattle.flush.specs.Sunk.{Moved}
 use Rattle.flush.proofs.Moves.{moved-none, moved-then, rising-taken}
 use Rattle.flush.proofs.inner.move_points.Goals as goal
 
@@ -16,8 +15,7 @@ loop-count-preserved g c =
     let ss = seen_slots c.args.below.now in
     let mid = seen_slots c.loop-count.below in
     let new = seen_slots c.move_oldest.new.below in
-    let one : Moved means 1 c.loop-count.list.0 c.move_oldest.new.list.0 mid new = subst (λ b. Moved means (cond b 1 0) c.loop-count.list.0 c.move_oldest.new.list.0 mid new) c.in-Ok-true.field-0-test c.in-Ok-true.ensures.moved in
     record {
-      within = omega (arith, c.loop-count-test.true);
-      moved = moved-then means c.loop-count.count 1 c.args.list.now.0 c.loop-count.list.0 c.move_oldest.new.list.0 ss mid new c.loop-count.invariant.moved one;
+      within = omega (arith, c.loop-count-test.true, c.in-Ok.ensures.within);
+      moved = moved-then means c.loop-count.count c.in-Ok.more c.args.list.now.0 c.loop-count.list.0 c.move_oldest.new.list.0 ss mid new c.loop-count.invariant.moved c.in-Ok.ensures.moved;
     }
