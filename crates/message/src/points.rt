@@ -4,7 +4,7 @@ ghost use Rattle.std.specs.List.{All, filter, slice_get};
 ghost use Rattle.std.specs.Map.{keys_of};
 ghost use Rattle.std.specs.Option.{option_copied, option_map, option_to_list};
 ghost use Rattle.pathkey.specs.Keys.{is_below, is_in};
-ghost use Rattle.message.specs.Rows.{Rises, place, end_place, joined, AreFilled, AreRows, or_next, IsHolder, IsGap, IsWritten};
+ghost use Rattle.message.specs.Rows.{Rises, place, end_place, joined, number_in, AreFilled, AreRows, or_next, IsHolder, IsGap, IsWritten};
 ghost use Rattle.message.specs.Ranges.{before, reaches};
 ghost use Rattle.message.specs.Runs.{run_len, run_effect, run_msgs, IsRunKeyed};
 ghost use Rattle.message.specs.Stretches.{IsStretch};
@@ -93,6 +93,7 @@ impl<U: Update> Points<U> {
         ensures moved { IfSome result (λ n. TakesFirst U.means n.0 n.1 most from.old self.old from.new self.new) }
         ensures keyed { AreRunsKeyed self.old → AreRunsKeyed self.new }
         ensures ordered { Rises self.new }
+        ensures was_ordered { Rises self.old }
         ensures none { IfNone result ((self.new ≡ self.old) × (from.new ≡ from.old)) }
     {
         let rows = &mut self.rows;

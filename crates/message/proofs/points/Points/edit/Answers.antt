@@ -4,20 +4,17 @@ use Rattle.message.specs.Rows.{Rises, joined}
 use Rattle.message.specs.Settled.{Lays, point_count, point_msgs, AreRunsKeyed}
 use Rattle.message.proofs.points.Points.edit.Goals as goal
 
-pub edit_among-requires-clause-some : goal.edit_among-requires-clause-some
-edit_among-requires-clause-some g c = c.prepare.ensures.some c.if-not-prepare.false
+pub returns-in_default-clause-ordered : goal.returns-in_default-clause-ordered
+returns-in_default-clause-ordered g c = c.prepare.ensures.rows.rises
 
-pub returns-then-not-prepare-clause-ordered : goal.returns-then-not-prepare-clause-ordered
-returns-then-not-prepare-clause-ordered g c = c.prepare.ensures.rows.rises
+pub returns-in_default-clause-was_ordered : goal.returns-in_default-clause-was_ordered
+returns-in_default-clause-was_ordered g c = subst (λ t. Rises t) c.self.view_is c.self.invariant.rises
 
-pub returns-then-not-prepare-clause-was_ordered : goal.returns-then-not-prepare-clause-was_ordered
-returns-then-not-prepare-clause-was_ordered g c = subst (λ t. Rises t) c.self.view_is c.self.invariant.rises
+pub returns-in_default-clause-keyed : goal.returns-in_default-clause-keyed
+returns-in_default-clause-keyed g c a = subst (λ t. AreRunsKeyed t) (sym (c.prepare.ensures.same ∙ c.self.view_is)) a
 
-pub returns-then-not-prepare-clause-keyed : goal.returns-then-not-prepare-clause-keyed
-returns-then-not-prepare-clause-keyed g c a = subst (λ t. AreRunsKeyed t) (sym (c.prepare.ensures.same ∙ c.self.view_is)) a
-
-pub returns-then-not-prepare-clause-unchanged : goal.returns-then-not-prepare-clause-unchanged
-returns-then-not-prepare-clause-unchanged g c = ap (λ t. point_msgs t) (c.prepare.ensures.same ∙ c.self.view_is)
+pub returns-in_default-clause-unchanged : goal.returns-in_default-clause-unchanged
+returns-in_default-clause-unchanged g c = ap (λ t. point_msgs t) (c.prepare.ensures.same ∙ c.self.view_is)
 
 pub returns-clause-ordered : goal.returns-clause-ordered
 returns-clause-ordered g c = c.edit_among.ensures.rows.rises
