@@ -1,7 +1,7 @@
-use Rattle.std.proofs.Common.{◌≡◌, ◌≤◌, [], ap, length, arith}
+use Rattle.std.proofs.Common.{◌≡◌, [], ap, length, arith}
 use Rattle.std.proofs.lemmas.List.{nil_from_length}
 use Rattle.message.proofs.SettledMeaning.{length-settled}
-use Rattle.message.proofs.Taking.{first_taken, first_left, first_alike, first_counted, first_some, first_keyed}
+use Rattle.message.proofs.Taking.{first_taken, first_left, first_alike, first_counted, first_some}
 use Rattle.message.proofs.settled.Settled.take_first.Goals as goal
 
 pub invariant_of-self-2 : goal.invariant_of-self-2
