@@ -1,5 +1,5 @@
 -- The messages of a list's first key go into another list.
-use Rattle.std.proofs.Common.{◌≡◌, ℕ, ◌+◌, ◌<◌, ◌≤◌, ◌^◌, ◌-◌, refl, sym, ap, ◌∙◌, List, [], ◌∷◌, ◌++◌, length, take, drop, Option, Some, None, true, false, cond, arith, subst}
+use Rattle.std.proofs.Common.{◌≡◌, ℕ, ◌+◌, ◌<◌, refl, sym, ap, ◌∙◌, List, [], ◌∷◌, ◌++◌, take, drop, Option, Some, None, cond, arith, subst}
 use Rattle.std.proofs.Math.Seq.{take-append_seam, drop-append_seam}
 use Rattle.std.specs.List.{All}
 use Rattle.std.specs.Prelude.{IfSome}
@@ -15,7 +15,7 @@ use Rattle.message.specs.declared.run.Run.TheVariants.{Put, Del, Edit, Edits}
 use Rattle.message.specs.Effects.{point, effects, Takes}
 use Rattle.message.specs.Oldest.{first_point}
 use Rattle.message.specs.Runs.{run_msgs, run_len, run_effect, later_msgs}
-use Rattle.message.specs.Settled.{Span, covered, range_msgs, point_msgs, point_count, AreRunsKeyed, settled_msgs, Lays, IsSettled, TakesFirst}
+use Rattle.message.specs.Settled.{Span, covered, range_msgs, point_msgs, point_count, settled_msgs, Lays, TakesFirst}
 use Rattle.message.proofs.Lists.{any_touches-append}
 use Rattle.message.proofs.InFront.{takes_behind_at}
 use Rattle.message.proofs.SettledMeaning.{split_bool, effects-settled, effects-run_here, effects-run_apart, apart_from_untouched, untouched_left, untouched_right, none_from_untouched, untouched_from_none, length-settled, length-run}
@@ -98,9 +98,6 @@ module _ {U V : Type 0} (means : U → Option V → Option V) where
 
   pub first_some : (from left es fs : List (List ℕ × Run U V)) (come gone most : ℕ) → TakesFirst means come gone most from es left fs → 0 < come
   first_some from left es fs come gone most h = omega (arith, some_run h.run, h.all)
-
-  pub first_keyed : (from left es fs : List (List ℕ × Run U V)) (come gone most : ℕ) → TakesFirst means come gone most from es left fs → AreRunsKeyed from → AreRunsKeyed left
-  first_keyed from left es fs come gone most h a = (subst (λ t. AreRunsKeyed t) h.parts a).1
 
   -- likewise behind messages that stand first in the list that takes
   pub taken_behind : (front a b given old from : List (Msg U V)) (r : Option ℕ) → front ++ a ≡ old → given ≡ from → IfSome r (λ n. Takes means a (take n given) b) → IfSome r (λ n. Takes means old (take n from) (front ++ b))

@@ -1,7 +1,7 @@
-use Rattle.std.proofs.Common.{◌≡◌, ◌≤◌, [], ap, length, arith}
+use Rattle.std.proofs.Common.{◌≡◌, [], ap, length, arith}
 use Rattle.std.proofs.lemmas.List.{nil_from_length}
 use Rattle.message.proofs.SettledMeaning.{length-settled}
-use Rattle.message.proofs.Taking.{first_taken, first_left, first_alike, first_counted, first_some, first_keyed}
+use Rattle.message.proofs.Taking.{first_taken, first_left, first_alike, first_counted, first_some}
 use Rattle.message.proofs.settled.Settled.take_first.Goals as goal
 
 pub invariant_of-self-2 : goal.invariant_of-self-2
@@ -33,8 +33,7 @@ returns-clause-within g c =
     let moved = c.in_ok-came.ensures.moved in
     let from = first_counted g.U.Update.means c.from.inside.points c.take_first.new.from c.self.inside.points c.take_first.new.self c.in_ok-came.came c.in_ok-came.gone c.args.most moved in
     let all = length-settled c.from.inside.ranges.entries c.from.inside.points in
-    let seen = ap length c.from.view_is in
-    (
+    let seen = ap length c.from.view_is in (
       first_some g.U.Update.means c.from.inside.points c.take_first.new.from c.self.inside.points c.take_first.new.self c.in_ok-came.came c.in_ok-came.gone c.args.most moved,
       moved.few,
       omega (arith, from, all, seen),

@@ -1,4 +1,4 @@
-use Rattle.std.proofs.Common.{◌≡◌, ◌∙◌, ◌++◌, ap, sym, Option, None, rules}
+use Rattle.std.proofs.Common.{◌≡◌, ◌∙◌, ◌++◌, ap, sym, None, rules}
 use Rattle.message.specs.Runs.{rest_msgs}
 use Rattle.message.proofs.Taking.{taken_behind}
 use Rattle.message.proofs.sorted.Sorted.take_first.Goals as goal
