@@ -226,9 +226,9 @@ module _ {U V : Type 0} where
       cut_lays f h l =
           let written = cut_written k es fs old new c h in
           let at_k : (o : Option V) → found_effect means (look k fs) o ≡ cond (same k k) (f (found_effect means (look k es) o)) (found_effect means (look k es) o) = λ o.
-              ap (λ t. found_effect means t o) (cut_key_new k es fs old new c)
-              ∙ l.meaning k o
-              ∙ sym (ap (λ t. cond (same k k) (f (found_effect means t o)) (found_effect means t o)) (cut_key k es fs old new c)) in
+          ap (λ t. found_effect means t o) (cut_key_new k es fs old new c)
+          ∙ l.meaning k o
+          ∙ sym (ap (λ t. cond (same k k) (f (found_effect means t o)) (found_effect means t o)) (cut_key k es fs old new c)) in
           record {
             meaning = λ q o. split_bool (same k q)
                 (λ t. subst (λ (x : List ℕ). found_effect means (look x fs) o ≡ cond (same k x) (f (found_effect means (look x es) o)) (found_effect means (look x es) o)) (same_true k q t) (at_k o))

@@ -245,8 +245,8 @@ module _ {X : Type 0} where
       let row = get_or (r ∷ rs) n [] in
       let parts : Rises ((front ++ row) ++ joined (drop n rs)) = subst (λ (t : List (List ℕ × X)). Rises t) (joined_cut n (r ∷ rs) l ∙ sym (append_assoc front row (joined (drop n rs)))) w.rises in
       behind_rows k (drop n rs) (rises_right (front ++ row) (joined (drop n rs)) parts) (filled_drop n rs w.later.0) (λ a.
-          let there : row_number k rs < length rs = omega (arith, a, e, length-drop n rs) in
-          ap (λ (t : List (List ℕ × X)). begins_by k t) (get_drop n rs) ∙ ap (λ m. begins_by k (get_or rs m [])) e ∙ stops_at k rs there)
+      let there : row_number k rs < length rs = omega (arith, a, e, length-drop n rs) in
+      ap (λ (t : List (List ℕ × X)). begins_by k t) (get_drop n rs) ∙ ap (λ m. begins_by k (get_or rs m [])) e ∙ stops_at k rs there)
 
   -- ---- one of the rows changes
 
@@ -279,11 +279,13 @@ module _ {X : Type 0} where
 
   pub cut_written : (k : List ℕ) (es fs old new : List (List ℕ × X)) → IsCut k es fs old new → IsWritten k old new → IsWritten k es fs
   cut_written k es fs old new c (inl e) = inl (c.is ∙ ap (λ (t : List (List ℕ × X)). c.front ++ (t ++ c.back)) e ∙ sym c.was)
-  cut_written k es fs old new c (inr p) = inr (p.0,
-      c.is
-      ∙ ap (λ (t : List (List ℕ × X)). c.front ++ (t ++ c.back)) p.1
-      ∙ sym (put_between k p.0 c.front old c.back c.before c.behind)
-      ∙ sym (ap (λ (t : List (List ℕ × X)). insert_entry by_bytes t k p.0) c.was))
+  cut_written k es fs old new c (inr p) = inr (
+    p.0,
+    c.is
+        ∙ ap (λ (t : List (List ℕ × X)). c.front ++ (t ++ c.back)) p.1
+        ∙ sym (put_between k p.0 c.front old c.back c.before c.behind)
+        ∙ sym (ap (λ (t : List (List ℕ × X)). insert_entry by_bytes t k p.0) c.was),
+  )
 
   pub written_rises : (k : List ℕ) (es fs : List (List ℕ × X)) → IsWritten k es fs → Rises es → Rises fs
   written_rises k es fs (inl e) r = subst (λ (t : List (List ℕ × X)). Rises t) (sym e) r
