@@ -141,11 +141,6 @@ module _ {X : Type 0} where
   end_row_is h [] n i e a = tt
   end_row_is h (r ∷ rs) n i e a = omega (arith, e, a)
 
-  pub end_row_none : (hi : Option (List ℕ)) (rs : List (List (List ℕ × X))) (i : ℕ) → length rs ≡ 0 → IsEndRow hi rs i
-  end_row_none None rs i z = omega (arith, z)
-  end_row_none (Some h) [] i z = tt
-  end_row_none (Some h) (r ∷ rs) i z = absurd (omega arith)
-
   pub kept_end : (lo : List ℕ) (hi : Option (List ℕ)) (i : ℕ) (rs : List (List (List ℕ × X))) → AreRows rs → IsEndRow hi rs i → filter (λ e. not (within lo hi e.0)) (joined (drop i rs)) ≡ joined (drop i rs)
   kept_end lo None i rs w l =
       let none : joined (drop i rs) ≡ [] = ap (λ (t : List (List (List ℕ × X))). joined t) (drop_all i rs l) in
