@@ -54,13 +54,6 @@ module _ {U V : Type 0} where
     | false ↦ omega (arith, counted_filter p es, sum_by-cons run_len e.1 (values_of es))
   ]
 
-  pub counted_without : (k : List ℕ) (es fs : List (List ℕ × Run U V)) (t : Option (Run U V)) → t ≡ look k es → fs ≡ remove_entry (is_at (by_bytes k)) es → IfSome t (λ r. point_count fs + run_len r ≡ point_count es)
-  counted_without k es fs None a b = tt
-  counted_without k es fs (Some r) a b =
-      ap (λ z. point_count z + run_len r) b
-      ∙ ap (λ z. point_count (remove_entry (is_at (by_bytes k)) es) + unwrap_or (option_map run_len z) 0) a
-      ∙ sum_by-remove_entry run_len (is_at (by_bytes k)) es
-
   -- the points that a range leaves
   abbrev pub left_by : KeyRange → List (List ℕ × Run U V) → List (List ℕ × Run U V)
   left_by r es = filter (λ e. not (is_in r e.0)) es

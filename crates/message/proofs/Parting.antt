@@ -23,22 +23,6 @@ use Rattle.message.proofs.KeyOrder.{not_reaches_from_before, not_before_from_rea
 
 -- ---- keys beside a pivot
 
-gt_before : (o : Ordering) → is_gt o ≡ true → is_lt (ordering_reverse o) ≡ true
-gt_before Less h = (cc)
-gt_before Equal h = (cc)
-gt_before Greater h = refl
-
-pub before_pivot : (p k : List ℕ) → is_gt (by_bytes p k) ≡ true → before k p ≡ true
-before_pivot p k h = ap is_lt (by_bytes_total.antisymm k p) ∙ gt_before (by_bytes p k) h
-
-not_gt : (o : Ordering) → is_gt o ≡ false → is_le o ≡ true
-not_gt Less h = refl
-not_gt Equal h = refl
-not_gt Greater h = (cc)
-
-pub from_pivot : (p k : List ℕ) → is_gt (by_bytes p k) ≡ false → reaches p k ≡ true
-from_pivot p k h = not_gt (by_bytes p k) h
-
 both_true : (b c : Bool) → b ≡ true → c ≡ true → (b && c) ≡ true
 both_true b c g h = ap (λ a. a && c) g ∙ h
 

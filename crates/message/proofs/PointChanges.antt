@@ -7,7 +7,7 @@ use Rattle.std.specs.Map.{keys_of, values_of, set_value}
 use Rattle.std.specs.BTreeMap.{insert_entry, is_at}
 use Rattle.std.proofs.lemmas.List.{map-append, drop_more, drop_all, take_all}
 use Rattle.std.proofs.lemmas.List.Sums.{sum_by-cons}
-use Rattle.std.proofs.lemmas.Map.{lookup-set_value, length-set_value, keys-set_value}
+use Rattle.std.proofs.lemmas.Map.{lookup-set_value, length-set_value}
 use Rattle.pathkey.specs.Order.{by_bytes, by_bytes_equiv, same}
 use Rattle.message.specs.declared.msg.Msg.{Msg}
 use Rattle.message.specs.declared.run.Run.{Run}
@@ -36,9 +36,6 @@ module _ {X : Type 0} where
 
   pub again_bound : (k : List ℕ) (d : X) (es mid : List (List ℕ × X)) (i : ℕ) → IsHolder k es i → mid ≡ set_value (is_at (by_bytes k)) es d → i < length mid
   again_bound k d es mid i h e = subst (λ (t : List (List ℕ × X)). i < length t) (sym e) (holder_set k d es i h).bound
-
-  pub rises_set : (k : List ℕ) (w : X) (es : List (List ℕ × X)) → Rises es → Rises (set_value (is_at (by_bytes k)) es w)
-  rises_set k w es r = subst (λ ks. IsStrictlySortedBy by_bytes ks) (sym (keys-set_value (is_at (by_bytes k)) es w)) r
 
   -- what stands at a key after a value was written
   pub at_set : (k q : List ℕ) (w v : X) (es : List (List ℕ × X)) → at_key k es ≡ Some v → at_key q (set_value (is_at (by_bytes k)) es w) ≡ cond (same k q) (Some w) (at_key q es)

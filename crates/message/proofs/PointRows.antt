@@ -145,11 +145,6 @@ module _ {X : Type 0} where
   end_row_is h [] n i e a = tt
   end_row_is h (r ∷ rs) n i e a = omega (arith, e, a)
 
-  pub end_row_none : (hi : Option (List ℕ)) (rs : List (List (List ℕ × X))) (i : ℕ) → length rs ≡ 0 → IsEndRow hi rs i
-  end_row_none None rs i z = omega (arith, z)
-  end_row_none (Some h) [] i z = tt
-  end_row_none (Some h) (r ∷ rs) i z = absurd (omega arith)
-
   pub kept_end : (lo : List ℕ) (hi : Option (List ℕ)) (i : ℕ) (rs : List (List (List ℕ × X))) → AreRows rs → IsEndRow hi rs i → filter (λ e. not (within lo hi e.0)) (joined (drop i rs)) ≡ joined (drop i rs)
   kept_end lo None i rs w l =
       let none : joined (drop i rs) ≡ [] = ap (λ (t : List (List (List ℕ × X))). joined t) (drop_all i rs l) in
@@ -230,9 +225,9 @@ module _ {U V : Type 0} where
       cut_lays f h l =
           let written = cut_written k es fs old new c h in
           let at_k : (o : Option V) → found_effect means (look k fs) o ≡ cond (same k k) (f (found_effect means (look k es) o)) (found_effect means (look k es) o) = λ o.
-              ap (λ t. found_effect means t o) (cut_key_new k es fs old new c)
-              ∙ l.meaning k o
-              ∙ sym (ap (λ t. cond (same k k) (f (found_effect means t o)) (found_effect means t o)) (cut_key k es fs old new c)) in
+          ap (λ t. found_effect means t o) (cut_key_new k es fs old new c)
+          ∙ l.meaning k o
+          ∙ sym (ap (λ t. cond (same k k) (f (found_effect means t o)) (found_effect means t o)) (cut_key k es fs old new c)) in
           record {
             meaning = λ q o. split_bool (same k q)
                 (λ t. subst (λ (x : List ℕ). found_effect means (look x fs) o ≡ cond (same k x) (f (found_effect means (look x es) o)) (found_effect means (look x es) o)) (same_true k q t) (at_k o))

@@ -269,12 +269,6 @@ inside_is lo (Some h) k = ap (λ b. before lo k && b) (split_bool (reaches h k)
     (λ y. ap not y ∙ sym (not_before_from_reaches h k y))
     (λ n. ap not n ∙ sym (before_from_not_reaches h k n)))
 
-pub from_is : (lo : List ℕ) (hi : Option (List ℕ)) (k : List ℕ) → range_contains by_bytes (Included lo) (end_bound hi) k ≡ within lo hi k
-from_is lo None k = refl
-from_is lo (Some h) k = ap (λ b. reaches lo k && b) (split_bool (reaches h k)
-    (λ y. ap not y ∙ sym (not_before_from_reaches h k y))
-    (λ n. ap not n ∙ sym (before_from_not_reaches h k n)))
-
 pub none_taken : {X A : Type 0} (shows : A → X) (s t : List X) (r : Option A) → TakesFirst shows s r t → is_some r ≡ false → s ≡ []
 none_taken shows s t None m h = m.0
 none_taken shows s t (Some x) m h = absurd (cc)

@@ -80,10 +80,10 @@ module _ {X : Type 0} where
         | Greater ↦ λ p.
             ap (λ t. cond (same q e.0) (Some e.1) t) (at_put k q w es)
             ∙ at_other (same q e.0) (same k q) e.1 w (at_key q es) (λ h. same_false k q (λ s.
-                let one : k ≡ e.0 = s ∙ same_true q e.0 h in
-                let no : same k e.0 ≡ true = subst (λ (x : List ℕ). same k x ≡ true) one (same_itself k) in
-                let f : same k e.0 ≡ false = ap is_eq p in
-                (cc)))
+            let one : k ≡ e.0 = s ∙ same_true q e.0 h in
+            let no : same k e.0 ≡ true = subst (λ (x : List ℕ). same k x ≡ true) one (same_itself k) in
+            let f : same k e.0 ≡ false = ap is_eq p in
+            (cc)))
       ] refl
 
   -- ---- after a value was written

@@ -11,8 +11,8 @@ use Rattle.std.proofs.lemmas.Map.Keys.{sorted_head, sorted_tail}
 use Rattle.pathkey.specs.Order.{by_bytes, by_bytes_total}
 use Rattle.std.proofs.lemmas.List.{set_split}
 use Rattle.pathkey.specs.Order.{same}
-use Rattle.pathkey.proofs.OrderFacts.{same_true, same_false}
-use Rattle.pathkey.specs.Heads.{head_of, IsHeaded}
+use Rattle.pathkey.proofs.OrderFacts.{same_true}
+use Rattle.pathkey.specs.Heads.{IsHeaded}
 use Rattle.pathkey.proofs.HeadFacts.{order_of_heads}
 use Rattle.std.proofs.lemmas.Bool.Decides.{nat_tests}
 use Rattle.std.specs.Prelude.{nat_lt, IfSome, ◌≢◌}
@@ -45,10 +45,6 @@ pub before_by_heads : (h i : ℕ) (k x : List ℕ) → IsHeaded h k → IsHeaded
 before_by_heads h i k x a b d =
     let order : nat_cmp h i ≡ by_bytes k x = rw (a.is_head, b.is_head) (order_of_heads 8 k x a.are_bytes b.are_bytes (λ e. d (b.is_head ∙ sym e ∙ sym a.is_head))) in
     head_test h i ∙ ap is_gt order
-
--- and that the keys differ
-pub same_by_heads : (h i : ℕ) (k x : List ℕ) → IsHeaded h k → IsHeaded i x → i ≢ h → same k x ≡ false
-same_by_heads h i k x a b d = same_false k x (λ e. d (b.is_head ∙ sym (ap head_of e) ∙ sym a.is_head))
 
 -- ---- the search
 

@@ -2,15 +2,15 @@
 use Rattle.std.proofs.Common.{◌≡◌, ℕ, zero, suc, ◌+◌, ◌<◌, ◌≤◌, Bool, true, false, List, [], ◌∷◌, ◌++◌, length, take, drop, inl, inr, get_or, refl, ap, sym, ◌∙◌, subst, Some, None, cond, arith, Ordering, append_assoc}
 use Rattle.std.specs.declared.cmp.Ordering.TheVariants.{Less, Equal, Greater}
 use Rattle.std.specs.Ordering.{is_lt, is_eq, match_ordering, ordering_reverse}
-use Rattle.std.specs.List.{AllByRecursion, filter, slice_get, slice_set, insert, remove}
+use Rattle.std.specs.List.{AllByRecursion, filter, slice_get, slice_set, insert}
 use Rattle.std.proofs.lemmas.List.{length-take, length-drop, length-set, get_or_default, drop_all, length-append, take-append-drop, nil_from_length}
 use Rattle.std.specs.List.Sorted.{IsStrictlySortedBy, IsPartitionedBy, IsPartitionPoint}
-use Rattle.std.specs.Map.{keys_of, set_value}
-use Rattle.std.specs.BTreeMap.{insert_entry, is_at}
+use Rattle.std.specs.Map.{keys_of}
+use Rattle.std.specs.BTreeMap.{insert_entry}
 use Rattle.std.proofs.lemmas.Map.Keys.{sorted_head, sorted_tail}
 use Rattle.pathkey.specs.Order.{by_bytes, by_bytes_total}
 use Rattle.message.specs.Ranges.{reaches, before}
-use Rattle.message.specs.Rows.{Rises, at_key, joined, AreFilled, begins_by, row_number, number_in, is_filled, LaterFilled, TailFilled, AreRows, IsWritten, or_next}
+use Rattle.message.specs.Rows.{Rises, at_key, joined, AreFilled, begins_by, row_number, number_in, is_filled, LaterFilled, AreRows, IsWritten, or_next}
 use Rattle.message.specs.Settled.{first_behind}
 use Rattle.message.proofs.KeyOrder.{lt_le, reaches-from_before, before_from_not_reaches}
 use Rattle.message.proofs.RowFacts.{all_ahead, none_ahead, rises_put}
@@ -73,29 +73,6 @@ module _ {X : Type 0} where
 
   pub put_between : (k : List ℕ) (w : X) (xs ys zs : List (List ℕ × X)) → AllBefore k xs → AllBehind k zs → insert_entry by_bytes (xs ++ (ys ++ zs)) k w ≡ xs ++ (insert_entry by_bytes ys k w ++ zs)
   put_between k w xs ys zs a b = put_front k w xs (ys ++ zs) a ∙ ap (λ t. xs ++ t) (put_back k w ys zs b)
-
-  set_front : (k : List ℕ) (w : X) (xs ys : List (List ℕ × X)) → AllBefore k xs → set_value (is_at (by_bytes k)) (xs ++ ys) w ≡ xs ++ set_value (is_at (by_bytes k)) ys w
-  set_front k w [] ys a = refl
-  set_front k w (x ∷ xs) ys a =
-      ap (λ o. cond (is_eq o) ((x.0, w) ∷ (xs ++ ys)) (x ∷ set_value (is_at (by_bytes k)) (xs ++ ys) w)) a.0
-      ∙ ap (λ t. x ∷ t) (set_front k w xs ys a.1)
-
-  set_none : (k : List ℕ) (w : X) (zs : List (List ℕ × X)) → AllBehind k zs → set_value (is_at (by_bytes k)) zs w ≡ zs
-  set_none k w [] a = refl
-  set_none k w (z ∷ zs) a =
-      ap (λ o. cond (is_eq o) ((z.0, w) ∷ zs) (z ∷ set_value (is_at (by_bytes k)) zs w)) a.0
-      ∙ ap (λ t. z ∷ t) (set_none k w zs a.1)
-
-  set_back : (k : List ℕ) (w : X) (ys zs : List (List ℕ × X)) → AllBehind k zs → set_value (is_at (by_bytes k)) (ys ++ zs) w ≡ set_value (is_at (by_bytes k)) ys w ++ zs
-  set_back k w [] zs a = set_none k w zs a
-  set_back k w (y ∷ ys) zs a =
-      elim (is_eq (by_bytes k y.0)) as (λ c. cond c ((y.0, w) ∷ (ys ++ zs)) (y ∷ set_value (is_at (by_bytes k)) (ys ++ zs) w) ≡ cond c ((y.0, w) ∷ ys) (y ∷ set_value (is_at (by_bytes k)) ys w) ++ zs) [
-        | true ↦ refl
-        | false ↦ ap (λ t. y ∷ t) (set_back k w ys zs a)
-      ]
-
-  pub set_between : (k : List ℕ) (w : X) (xs ys zs : List (List ℕ × X)) → AllBefore k xs → AllBehind k zs → set_value (is_at (by_bytes k)) (xs ++ (ys ++ zs)) w ≡ xs ++ (set_value (is_at (by_bytes k)) ys w ++ zs)
-  set_between k w xs ys zs a b = set_front k w xs (ys ++ zs) a ∙ ap (λ t. xs ++ t) (set_back k w ys zs b)
 
   pub behind_front : (k : List ℕ) (xs ys : List (List ℕ × X)) → AllBefore k xs → first_behind k (xs ++ ys) ≡ first_behind k ys
   behind_front k [] ys a = refl
@@ -245,8 +222,8 @@ module _ {X : Type 0} where
       let row = get_or (r ∷ rs) n [] in
       let parts : Rises ((front ++ row) ++ joined (drop n rs)) = subst (λ (t : List (List ℕ × X)). Rises t) (joined_cut n (r ∷ rs) l ∙ sym (append_assoc front row (joined (drop n rs)))) w.rises in
       behind_rows k (drop n rs) (rises_right (front ++ row) (joined (drop n rs)) parts) (filled_drop n rs w.later.0) (λ a.
-          let there : row_number k rs < length rs = omega (arith, a, e, length-drop n rs) in
-          ap (λ (t : List (List ℕ × X)). begins_by k t) (get_drop n rs) ∙ ap (λ m. begins_by k (get_or rs m [])) e ∙ stops_at k rs there)
+      let there : row_number k rs < length rs = omega (arith, a, e, length-drop n rs) in
+      ap (λ (t : List (List ℕ × X)). begins_by k t) (get_drop n rs) ∙ ap (λ m. begins_by k (get_or rs m [])) e ∙ stops_at k rs there)
 
   -- ---- one of the rows changes
 
@@ -279,11 +256,13 @@ module _ {X : Type 0} where
 
   pub cut_written : (k : List ℕ) (es fs old new : List (List ℕ × X)) → IsCut k es fs old new → IsWritten k old new → IsWritten k es fs
   cut_written k es fs old new c (inl e) = inl (c.is ∙ ap (λ (t : List (List ℕ × X)). c.front ++ (t ++ c.back)) e ∙ sym c.was)
-  cut_written k es fs old new c (inr p) = inr (p.0,
-      c.is
-      ∙ ap (λ (t : List (List ℕ × X)). c.front ++ (t ++ c.back)) p.1
-      ∙ sym (put_between k p.0 c.front old c.back c.before c.behind)
-      ∙ sym (ap (λ (t : List (List ℕ × X)). insert_entry by_bytes t k p.0) c.was))
+  cut_written k es fs old new c (inr p) = inr (
+    p.0,
+    c.is
+        ∙ ap (λ (t : List (List ℕ × X)). c.front ++ (t ++ c.back)) p.1
+        ∙ sym (put_between k p.0 c.front old c.back c.before c.behind)
+        ∙ sym (ap (λ (t : List (List ℕ × X)). insert_entry by_bytes t k p.0) c.was),
+  )
 
   pub written_rises : (k : List ℕ) (es fs : List (List ℕ × X)) → IsWritten k es fs → Rises es → Rises fs
   written_rises k es fs (inl e) r = subst (λ (t : List (List ℕ × X)). Rises t) (sym e) r
@@ -381,33 +360,6 @@ module _ {X : Type 0} where
     rises = rises_right (e ∷ []) (joined ts) (subst (λ (x : List (List ℕ × X)). Rises x) (popped rs ss ts old new e l a h s t) w.rises);
     later = f;
   }
-
-  pub popped_none : (rs : List (List (List ℕ × X))) (old : List (List ℕ × X)) → 0 < length rs → old ≡ get_or rs 0 old → old ≡ [] → AreRows rs → joined rs ≡ []
-  popped_none [] old l a h w = refl
-  popped_none (r ∷ rs) old l a h w =
-      let first : r ≡ [] = sym a ∙ h in
-      let none : rs ≡ [] = nil_from_length rs (w.later.1 (ap (λ (x : List (List ℕ × X)). length x) first)) in
-      ap (λ (x : List (List ℕ × X)). x ++ joined rs) first ∙ ap (λ (x : List (List (List ℕ × X))). joined x) none
-
-  pub tail_set : (rs ss : List (List (List ℕ × X))) (r : List (List ℕ × X)) → ss ≡ slice_set rs 0 r → AreRows rs → TailFilled ss
-  tail_set [] ss r e w = subst (λ (t : List (List (List ℕ × X))). TailFilled t) (sym e) tt
-  tail_set (x ∷ rs) ss r e w = subst (λ (t : List (List (List ℕ × X))). TailFilled t) (sym e) w.later.0
-
-  pub dropped_same : (rs ss : List (List (List ℕ × X))) (r : List (List ℕ × X)) → 1 < length rs → r ≡ get_or rs 0 r → length r ≡ 0 → ss ≡ remove rs 0 → joined ss ≡ joined rs
-  dropped_same [] ss r l a z s = absurd (omega (arith, l))
-  dropped_same (x ∷ rs) ss r l a z s =
-      let first : x ≡ [] = sym a ∙ nil_from_length r z in
-      ap (λ (t : List (List (List ℕ × X))). joined t) s ∙ sym (ap (λ (t : List (List ℕ × X)). t ++ joined rs) first)
-
-  pub dropped_later : (rs ss : List (List (List ℕ × X))) → ss ≡ remove rs 0 → TailFilled rs → LaterFilled ss
-  dropped_later [] ss s f = subst (λ (t : List (List (List ℕ × X))). LaterFilled t) (sym s) tt
-  dropped_later (x ∷ []) ss s f = subst (λ (t : List (List (List ℕ × X))). LaterFilled t) (sym s) tt
-  dropped_later (x ∷ (y ∷ rs)) ss s f = subst (λ (t : List (List (List ℕ × X))). LaterFilled t) (sym s) (f.1, λ z. absurd (let some = f.0 in omega (arith, z, some)))
-
-  pub kept_later : (rs : List (List (List ℕ × X))) (r : List (List ℕ × X)) → (0 < length rs → r ≡ get_or rs 0 r) → (1 < length rs → length r ≡ 0 → ⊥) → TailFilled rs → LaterFilled rs
-  kept_later [] r a h f = tt
-  kept_later (x ∷ []) r a h f = (f, λ z. refl)
-  kept_later (x ∷ (y ∷ rs)) r a h f = (f, λ z. absurd (h (omega arith) (ap (λ (t : List (List ℕ × X)). length t) (a (omega arith)) ∙ z)))
 
   -- ---- the first entry
 

@@ -1,5 +1,5 @@
 //! The point messages of a sorted list, by their keys.
-ghost use Rattle.std.specs.Prelude.{◌≡◌, ◌+◌, ◌≤◌, ◌<◌, ◌^◌, not, true, false, ℕ, List, [], length, Option, None, take, ◌++◌, OnOk, OnErr, IfOk, IfErr, IfNone, IfSome};
+ghost use Rattle.std.specs.Prelude.{◌≡◌, ◌+◌, ◌≤◌, ◌<◌, ◌^◌, not, true, ℕ, List, [], length, Option, None, take, ◌++◌, OnOk, OnErr, IfOk, IfErr, IfNone, IfSome};
 ghost use Rattle.std.specs.List.{All, filter, slice_get};
 ghost use Rattle.std.specs.Map.{keys_of};
 ghost use Rattle.std.specs.Option.{option_copied, option_map, option_to_list};
@@ -84,11 +84,7 @@ impl<U: Update> Points<U> {
     /// place as they lie in memory, and answers how many came, how many stood there, and how many do now. None come where
     /// `from` has none, where they are more, where there is no memory for their place, or where updates would be laid over
     /// messages that are here.
-    pub(crate) fn take_first(
-        &mut self,
-        from: &mut Points<U>,
-        most: usize,
-    ) -> Option<(usize, usize)>
+    pub(crate) fn take_first(&mut self, from: &mut Points<U>, most: usize) -> Option<(usize, usize)>
         requires keyed { AreRunsKeyed from.old }
         ensures moved { IfSome result (λ n. TakesFirst U.means n.0 n.1 most from.old self.old from.new self.new) }
         ensures keyed { AreRunsKeyed self.old → AreRunsKeyed self.new }
@@ -223,10 +219,7 @@ fn count_rows<U: Update>(rows: &[Row<Run<U>>]) -> usize
 
 /// Moves the messages of the first key of other rows to their place among rows, as [`Points::take_first`] does, and answers
 /// how many stood there.
-fn take_among<U: Update>(
-    rows: &mut Vec<Row<Run<U>>>,
-    from: &mut Vec<Row<Run<U>>>,
-) -> Option<usize>
+fn take_among<U: Update>(rows: &mut Vec<Row<Run<U>>>, from: &mut Vec<Row<Run<U>>>) -> Option<usize>
     requires rows { AreRows rows.old.items }
     requires some { 0 < length rows.old.items }
     requires from { AreRows from.old.items }
@@ -348,11 +341,7 @@ fn behind_among<'a, T: Drop>(rows: &'a [Row<T>], key: &Key) -> Option<&'a Key>
 }
 
 /// The first key of a row behind this one, or of the rows behind that row.
-fn behind_from<'a, T: Drop>(
-    row: &'a Row<T>,
-    later: &'a [Row<T>],
-    key: &Key,
-) -> Option<&'a Key>
+fn behind_from<'a, T: Drop>(row: &'a Row<T>, later: &'a [Row<T>], key: &Key) -> Option<&'a Key>
     requires { AreFilled later.now }
     ensures { option_copied result ≡ or_next (first_behind key.now row.now) (option_map (λ e. e.0) (slice_get (joined later.now) 0)) }
 {
@@ -389,10 +378,7 @@ fn copy_rows_into<U: Update>(
 }
 
 /// The same messages at the same keys, in rows of the same lengths.
-fn copy_rows<U: Update>(
-    rows: &[Row<Run<U>>],
-    alloc: Global,
-) -> Result<Vec<Row<Run<U>>>, NoMemory>
+fn copy_rows<U: Update>(rows: &[Row<Run<U>>], alloc: Global) -> Result<Vec<Row<Run<U>>>, NoMemory>
     requires { AreRows rows.now }
     ensures rows { IfOk result (λ p. AreRows p.items) }
     ensures same { IfOk result (λ p. point_msgs (joined p.items) ≡ point_msgs (joined rows.now)) }

@@ -179,9 +179,7 @@ impl<T: Drop> Row<T> {
     {
         match self.items.get(i) {
             None => None,
-            Some(item) => {
-                Some((item.key(), item.value()))
-            }
+            Some(item) => { Some((item.key(), item.value())) }
         }
     }
 
@@ -319,12 +317,7 @@ impl<T: Drop> Row<T> {
 }
 
 /// Puts a new entry into its place among others. On want of memory it comes back.
-fn put_item<T: Drop>(
-    items: &mut Vec<Item<T>>,
-    i: usize,
-    key: Key,
-    value: T,
-) -> Result<(), (Key, T)>
+fn put_item<T: Drop>(items: &mut Vec<Item<T>>, i: usize, key: Key, value: T) -> Result<(), (Key, T)>
     requires { IsGap key items.old.items i }
     ensures ok { OnOk result (items.new.items ≡ insert_entry by_bytes items.old.items key value) }
     ensures rises { Rises items.old.items → Rises items.new.items }

@@ -13,6 +13,9 @@ invariant_of-self-2 g c =
 
 pub returns-clause-yes : goal.returns-clause-yes
 returns-clause-yes g c h =
-    let gap = of_first (λ e. IsGap e.0 c.args.self.now c.args.i) (joined c.args.from.now.items) (joined c.pop_item.new.rows.items) c.in-Some.item c.in-Some.ensures.moved c.requires.gap in
-    (c.in-Some.item, c.in-Some.ensures.moved, put_done c.in-Some.item c.args.self.now c.insert.new.self.items c.args.i gap
-    (c.in-Ok.ensures.items ∙ ap (λ t. insert t c.args.i c.in-Some.item) (c.reserve.ensures.items ∙ c.self.view_is)))
+    let gap = of_first (λ e. IsGap e.0 c.args.self.now c.args.i) (joined c.args.from.now.items) (joined c.pop_item.new.rows.items) c.in-Some.item c.in-Some.ensures.moved c.requires.gap in (
+      c.in-Some.item,
+      c.in-Some.ensures.moved,
+      put_done c.in-Some.item c.args.self.now c.insert.new.self.items c.args.i gap
+          (c.in-Ok.ensures.items ∙ ap (λ t. insert t c.args.i c.in-Some.item) (c.reserve.ensures.items ∙ c.self.view_is)),
+    )
