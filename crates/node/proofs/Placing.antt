@@ -42,7 +42,6 @@ from : {lo : List ℕ} → lo ≡ [] → (q : List ℕ) → within lo None q ≡
 from e q = ap (λ x. reaches x q && true) e ∙ ap (λ b. b && true) (from_start q)
 
 module _ {U V : Type 0} where
-
   -- one message more
   pub placed-parts : (hi : Option (List ℕ)) (ms : List (Msg U V)) (m : Msg U V) (ss : PSlots U V) → placed hi m ss (parts hi ms ss) ≡ parts hi (ms ++ m ∷ []) ss
   placed-parts hi ms m none = refl
