@@ -440,3 +440,105 @@ const PARTED: &[Parted] = &[
 fn is_cut_at_a_pivot(rt: HostRuntime) -> Result<(), usize> {
     all_hold(rt.alloc(), PARTED)
 }
+
+/// How many numbers a long list has.
+const LONG: u16 = 1_000;
+
+/// A list with the numbers up to a thousand, which come in an order that mixes them, each at the key of its two bytes.
+fn long_list(alloc: Global) -> Result<Pending<Digit>, NoMemory> {
+    let mut list = Pending::new(alloc);
+    for i in 0..LONG as u64 {
+        let at = i * 7_919 % LONG as u64;
+        let key = Key::from_bytes(alloc, &(at as u16).to_be_bytes())?;
+        list.reserve(1)?;
+        list.push_reserved(Msg::Put(key, at));
+    }
+    Ok(list)
+}
+
+/// Whether the messages are the numbers from `first` on, in their order.
+fn are_numbers_from(msgs: &[Msg<Digit>], first: u16) -> bool {
+    let mut at = first as u64;
+    for msg in msgs {
+        match msg {
+            Msg::Put(key, value)
+                if key.as_bytes() == (at as u16).to_be_bytes().as_slice() && *value == at => {
+                at = at.wrapping_add(1);
+            }
+            _ => return false,
+        }
+    }
+    true
+}
+
+/// Whether the list has the numbers from `first` on, so many.
+fn has_numbers(alloc: Global, list: &Pending<Digit>, first: u16, count: u16) -> bool {
+    match list.copy_front(alloc, list.len()) {
+        Ok(msgs) => msgs.len() == count as usize && are_numbers_from(msgs.as_slice(), first),
+        Err(_) => false,
+    }
+}
+
+/// Cuts the list at a number.
+fn parted_at(
+    alloc: Global,
+    list: &mut Pending<Digit>,
+    at: u16,
+) -> Result<Pending<Digit>, NoMemory> {
+    let lo = Key::new(alloc);
+    let pivot = Key::from_bytes(alloc, &at.to_be_bytes())?;
+    list.split_off(alloc, 0, &lo, &pivot)
+}
+
+/// Whether so many messages move to another list, one at a time.
+fn sinks(from: &mut Pending<Digit>, to: &mut Pending<Digit>, count: u16) -> bool {
+    for _ in 0..count {
+        if from.sink_oldest(to, 1) != Ok(1) {
+            return false;
+        }
+    }
+    from.len() == 0 && from.sink_oldest(to, 1) == Ok(0)
+}
+
+/// A number at which a long list is cut. What comes out moves back then.
+struct CutAt(u16);
+
+impl CutAt {
+    /// Whether both parts have their numbers, and the list has all again when those that came out have moved back.
+    fn parts(&self, alloc: Global, list: &mut Pending<Digit>) -> bool {
+        let others = LONG.saturating_sub(self.0);
+        match parted_at(alloc, list, self.0) {
+            Ok(mut back) => {
+                has_numbers(alloc, list, 0, self.0)
+                    && has_numbers(alloc, &back, self.0, others)
+                    && sinks(&mut back, list, others)
+                    && has_numbers(alloc, list, 0, LONG)
+            }
+            Err(_) => false,
+        }
+    }
+}
+
+impl Holds for CutAt {
+    fn holds(&self, alloc: Global) -> bool {
+        match long_list(alloc) {
+            Ok(mut list) => self.parts(alloc, &mut list),
+            Err(_) => false,
+        }
+    }
+}
+
+const CUTS: &[CutAt] = &[
+    CutAt(0),
+    CutAt(1),
+    CutAt(63),
+    CutAt(64),
+    CutAt(500),
+    CutAt(999),
+    CutAt(1_000),
+];
+
+#[test]
+fn long_lists_are_cut_anywhere_and_sink_message_by_message(rt: HostRuntime) -> Result<(), usize> {
+    all_hold(rt.alloc(), CUTS)
+}
