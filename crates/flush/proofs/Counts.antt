@@ -6,7 +6,7 @@ use Rattle.node.specs.Pure.{PSlots, none, more}
 use Rattle.message.specs.Cuts.{pieces}
 use Rattle.node.specs.Lawful.{next_lo}
 use Rattle.node.specs.StepRows.{piece_count}
-use Rattle.node.proofs.Placing.{pieces-append}
+use Rattle.message.proofs.Parting.{pieces-append}
 
 module _ {U V : Type 0} where
   -- messages end to end make their pieces

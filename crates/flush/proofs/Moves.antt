@@ -23,7 +23,7 @@ use Rattle.node.specs.Pure.{PNode, leaf, inner, PSlots, none, more, slots}
 use Rattle.node.specs.Searchable.{AreRising, AreSearchable, IsSearchable}
 use Rattle.node.specs.StepRows.{piece_count}
 use Rattle.node.proofs.Appending.{next_lo-taken}
-use Rattle.node.proofs.Placing.{pieces-append}
+use Rattle.message.proofs.Parting.{pieces-append}
 use Rattle.node.proofs.Sinking.{pending-taken}
 use Rattle.node.proofs.Wholes.{at_holder, see-pending, taken-at, taken-none}
 use Rattle.flush.specs.Sunk.{Moved, MovedInto, Sunk, spare}
