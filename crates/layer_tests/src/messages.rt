@@ -456,17 +456,24 @@ fn long_list(alloc: Global) -> Result<Pending<Digit>, NoMemory> {
     Ok(list)
 }
 
+/// Whether this is the number at the key of its two bytes.
+fn is_number(msg: &Msg<Digit>, number: u16) -> bool {
+    match msg {
+        Msg::Put(key, value) => {
+            key.as_bytes() == number.to_be_bytes().as_slice() && *value == number as u64
+        }
+        _ => false,
+    }
+}
+
 /// Whether the messages are the numbers from `first` on, in their order.
 fn are_numbers_from(msgs: &[Msg<Digit>], first: u16) -> bool {
-    let mut at = first as u64;
+    let mut number = first;
     for msg in msgs {
-        match msg {
-            Msg::Put(key, value)
-                if key.as_bytes() == (at as u16).to_be_bytes().as_slice() && *value == at => {
-                at = at.wrapping_add(1);
-            }
-            _ => return false,
+        if !is_number(msg, number) {
+            return false;
         }
+        number = number.wrapping_add(1);
     }
     true
 }
