@@ -11,3 +11,4 @@ pub mod Search
 pub mod Oldests
 pub mod Eldest
 pub mod Rows
+pub mod Waiting

@@ -24,6 +24,7 @@ pub(crate) mod tail;
 pub mod taken;
 pub mod told;
 pub mod update;
+pub mod waiting;
 
 pub use msg::{Msg, cut, touches};
 pub use pending::Pending;

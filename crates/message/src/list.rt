@@ -7,37 +7,38 @@ ghost use Rattle.message.specs.PointKeys.{is_cleared};
 
 use crate::msg::{Msg, clears, touches};
 use crate::update::Update;
+use crate::waiting::Waiting;
 use pathkey::{Key, NoMemory};
 use std::alloc::Global;
 
 /// Whether a message touches the key.
-pub(crate) fn is_touched<U: Update>(msgs: &[Msg<U>], key: &Key) -> bool
+pub(crate) fn is_touched<U: Update>(msgs: &[Waiting<U>], key: &Key) -> bool
     ensures { result ≡ any_touches msgs.now key.now }
 {
-    let Some((msg, rest)) = msgs.split_first() else {
+    let Some((first, rest)) = msgs.split_first() else {
         return false;
     };
-    touches(msg, key) || is_touched(rest, key)
+    touches(first.msg(), key) || is_touched(rest, key)
 }
 
 /// Whether a range-delete among the messages holds the key.
-pub(crate) fn is_cleared<U: Update>(msgs: &[Msg<U>], key: &Key) -> bool
+pub(crate) fn is_cleared<U: Update>(msgs: &[Waiting<U>], key: &Key) -> bool
     ensures { result ≡ is_cleared msgs.now key.now }
 {
-    let Some((msg, rest)) = msgs.split_first() else {
+    let Some((first, rest)) = msgs.split_first() else {
         return false;
     };
-    clears(msg, key) || is_cleared(rest, key)
+    clears(first.msg(), key) || is_cleared(rest, key)
 }
 
 /// How many of the messages are range-deletes.
-pub(crate) fn ranges_in<U: Update>(msgs: &[Msg<U>]) -> usize
+pub(crate) fn ranges_in<U: Update>(msgs: &[Waiting<U>]) -> usize
     ensures count { result ≡ range_count msgs.now }
     ensures few { result ≤ length msgs.now }
 {
     let mut count = 0;
-    for msg in msgs {
-        if let Msg::DelRange(_) = msg {
+    for waiting in msgs {
+        if let Msg::DelRange(_) = waiting.msg() {
             count += 1;
         }
     }
@@ -65,15 +66,15 @@ pub(crate) fn pieces_of<U: Update>(
 /// The value at `key` after the messages, the oldest first, where `old` was there.
 pub(crate) fn lay_all<U: Update>(
     alloc: Global,
-    msgs: &[Msg<U>],
+    msgs: &[Waiting<U>],
     key: &Key,
     old: Option<U::Value>,
 ) -> Result<Option<U::Value>, NoMemory>
     ensures { IfOk result (λ v. v ≡ effects U.means msgs.now key.now old) }
 {
     let mut value = old;
-    for msg in msgs {
-        value = msg.lay(alloc, key, value)?;
+    for waiting in msgs {
+        value = waiting.msg().lay(alloc, key, value)?;
     }
     Ok(value)
 }
@@ -81,13 +82,27 @@ pub(crate) fn lay_all<U: Update>(
 /// Copies of messages, put behind those in `front`.
 pub(crate) fn copy_behind<U: Update>(
     alloc: Global,
-    msgs: &[Msg<U>],
+    msgs: &[Waiting<U>],
     front: &mut Vec<Msg<U>>,
 ) -> Result<(), NoMemory>
     ensures { OnOk result (front.new.items ≡ front.old.items ++ msgs.now) }
 {
-    for msg in msgs {
-        front.push(msg.copy(alloc)?)?;
+    for waiting in msgs {
+        front.push(waiting.msg().copy(alloc)?)?;
+    }
+    Ok(())
+}
+
+/// The same messages for another list, put behind those in `back`.
+pub(crate) fn share_behind<U: Update>(
+    alloc: Global,
+    msgs: &[Waiting<U>],
+    back: &mut Vec<Waiting<U>>,
+) -> Result<(), NoMemory>
+    ensures { OnOk result (back.new.items ≡ back.old.items ++ msgs.now) }
+{
+    for waiting in msgs {
+        back.push(waiting.share(alloc)?)?;
     }
     Ok(())
 }

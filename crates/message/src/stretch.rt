@@ -8,6 +8,7 @@ ghost use Rattle.message.specs.Stretches.{ahead_of, range_end, is_for, IsNextEnd
 use crate::ends::{copy_end, earlier, is_within};
 use crate::msg::Msg;
 use crate::update::Update;
+use crate::waiting::Waiting;
 use pathkey::{Key, KeyRange, NoMemory};
 use std::alloc::Global;
 
@@ -54,7 +55,7 @@ fn is_for<U: Update>(msg: &Msg<U>, key: &Key) -> bool
 /// Where the stretch that begins at `from` ends: at `end` or before it.
 pub fn stretch_end<U: Update>(
     alloc: Global,
-    msgs: &[Msg<U>],
+    msgs: &[Waiting<U>],
     from: &Key,
     end: Option<&Key>,
 ) -> Result<Option<Key>, NoMemory>
@@ -62,7 +63,8 @@ pub fn stretch_end<U: Update>(
     ensures { IfOk result (λ stop. IsStretch msgs.now from.now (option_copied end.entry) stop) }
 {
     let mut stop = end;
-    for msg in msgs {
+    for waiting in msgs {
+        let msg = waiting.msg();
         if is_for(msg, from) {
             return Ok(Some(from.next(alloc)?));
         }
@@ -87,14 +89,15 @@ pub(crate) fn point_stop<'a>(
 
 /// The first key from `from` on that has a message for it alone, if it stands before `end`; else `end`.
 pub(crate) fn next_point<'a, U: Update>(
-    msgs: &'a [Msg<U>],
+    msgs: &'a [Waiting<U>],
     from: &Key,
     end: Option<&'a Key>,
 ) -> Option<&'a Key>
     ensures { IsPointStop msgs.now from.now (option_copied end.entry) (option_copied result) }
 {
     let mut stop = end;
-    for msg in msgs {
+    for waiting in msgs {
+        let msg = waiting.msg();
         stop = point_stop(msg.point(), from, stop);
     }
     stop

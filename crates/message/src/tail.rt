@@ -1,6 +1,6 @@
 //! Messages as they came, the oldest first, which leave at the front.
 //!
-//! A queue holds them, so that the oldest one leaves without moving the others.
+//! A queue holds them, so that the oldest one leaves without moving the others. Several tails may share a message.
 ghost use Rattle.std.specs.Prelude.{◌≡◌, ◌+◌, ◌^◌, ◌≤◌, ◌<◌, ◌++◌, [], ◌∷◌, true, length, take, drop, IfOk, IfNone, IfSome, OnOk, OnErr};
 ghost use Rattle.std.specs.Option.{option_copied, option_map, option_to_list};
 ghost use Rattle.std.specs.List.{slice_get};
@@ -11,10 +11,12 @@ ghost use Rattle.message.specs.Stretches.{IsStretch};
 ghost use Rattle.pathkey.specs.Keys.{is_below};
 
 use crate::eldest::Eldest;
-use crate::list::{copy_behind, is_cleared, is_touched, lay_all, ranges_in};
+use crate::list::{copy_behind, is_cleared, is_touched, lay_all, ranges_in, share_behind};
 use crate::msg::Msg;
 use crate::stretch::{next_point, stretch_end};
+use crate::taken::Taken;
 use crate::update::{Changes, Update};
+use crate::waiting::Waiting;
 use pathkey::{Key, NoMemory};
 use std::alloc::Global;
 use std::collections::VecDeque;
@@ -23,7 +25,7 @@ use std::marker::Model;
 /// Messages as they came, and room for more.
 #[derive(Drop)]
 pub struct Tail<U: Changes> {
-    msgs: VecDeque<Msg<U>>,
+    msgs: VecDeque<Waiting<U>>,
 }
 
 impl<U: Changes> Model for Tail<U> {
@@ -76,7 +78,8 @@ impl<U: Update> Tail<U> {
         ensures messages { self.new.0 ≡ self.old.0 ++ msg ∷ [] }
         ensures room { self.old.1 ≤ self.new.1 + 1 }
     {
-        self.msgs.push_back_reserved(msg);
+        let waiting = Waiting::new(self.allocator(), msg);
+        self.msgs.push_back_reserved(waiting);
     }
 
     /// Puts a message before the others into reserved room.
@@ -85,7 +88,8 @@ impl<U: Update> Tail<U> {
         ensures messages { self.new.0 ≡ msg ∷ self.old.0 }
         ensures room { self.old.1 ≤ self.new.1 + 1 }
     {
-        self.msgs.push_front_reserved(msg);
+        let waiting = Waiting::new(self.allocator(), msg);
+        self.msgs.push_front_reserved(waiting);
     }
 
     /// Puts all messages of `newer` behind the others into reserved room.
@@ -96,20 +100,37 @@ impl<U: Update> Tail<U> {
         ensures room { self.old.1 ≤ self.new.1 + length newer.old.items }
     {
         let empty = Vec::new(*newer.allocator());
-        let mut come = VecDeque::from_vec(std::mem::replace(newer, empty));
-        let Ok(()) = self.msgs.append(&mut come) else {
-            unreachable!()
-        };
+        let mut come = Taken::of(std::mem::replace(newer, empty));
+        while let Some(msg) = come.next() {
+            self.push_reserved(msg);
+        }
     }
 
-    /// Takes the oldest message out.
-    pub(crate) fn pop(&mut self) -> Option<Msg<U>>
+    /// Takes the oldest message out as it lies in memory.
+    fn take(&mut self) -> Option<Waiting<U>>
         ensures moved { self.old.0 ≡ option_to_list result ++ self.new.0 }
         ensures end { IfNone result (self.old.0 ≡ []) }
         ensures room { self.old.1 ≤ self.new.1 }
         ensures more { IfSome result (λ _. self.old.1 < self.new.1) }
     {
         self.msgs.pop_front()
+    }
+
+    /// Takes the oldest message out. None comes where there is none, and where other lists share it and memory for a copy is
+    /// refused.
+    pub(crate) fn pop(&mut self) -> Option<Msg<U>>
+        ensures moved { self.old.0 ≡ option_to_list result ++ self.new.0 }
+        ensures room { self.old.1 ≤ self.new.1 }
+        ensures more { IfSome result (λ _. self.old.1 < self.new.1) }
+    {
+        let waiting = self.take()?;
+        match waiting.into_msg(self.allocator()) {
+            Ok(msg) => Some(msg),
+            Err(waiting) => {
+                self.msgs.push_front_reserved(waiting);
+                None
+            }
+        }
     }
 
     /// Takes the `count` oldest messages away.
@@ -119,7 +140,7 @@ impl<U: Update> Tail<U> {
         ensures room { self.old.1 ≤ self.new.1 }
     {
         for _ in 0..count {
-            self.pop();
+            self.take();
         }
     }
 
@@ -128,7 +149,7 @@ impl<U: Update> Tail<U> {
         ensures { option_map eldest_msg result ≡ slice_get self.now.0 0 }
     {
         match self.msgs.front() {
-            Some(msg) => Some(Eldest::Plain(msg)),
+            Some(waiting) => Some(Eldest::Plain(waiting.msg())),
             None => None,
         }
     }
@@ -161,14 +182,14 @@ impl<U: Update> Tail<U> {
         Ok(())
     }
 
-    /// A tail of the same messages.
+    /// A tail of the same messages, which both share.
     pub(crate) fn copy(&self, alloc: Global) -> Result<Tail<U>, NoMemory>
         ensures { IfOk result (λ t. t.0 ≡ self.now.0) }
     {
         let (near, far) = self.msgs.as_slices();
         let mut msgs = Vec::new(alloc);
-        copy_behind(alloc, near, &mut msgs)?;
-        copy_behind(alloc, far, &mut msgs)?;
+        share_behind(alloc, near, &mut msgs)?;
+        share_behind(alloc, far, &mut msgs)?;
         Ok(Tail {
             msgs: VecDeque::from_vec(msgs),
         })
@@ -210,6 +231,7 @@ impl<U: Update> Tail<U> {
         let stop = stretch_end(alloc, near, from, end)?;
         stretch_end(alloc, far, from, stop.as_ref())
     }
+
     /// The first key from `from` on that has a message for it alone, if it stands before `end`; else `end`.
     pub(crate) fn next_point<'a>(&'a self, from: &Key, end: Option<&'a Key>) -> Option<&'a Key>
         ensures { IsPointStop self.now.0 from.now (option_copied end.entry) (option_copied result) }

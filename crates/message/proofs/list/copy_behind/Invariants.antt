@@ -1,5 +1,5 @@
 use Rattle.std.proofs.Common.{◌≡◌, ◌++◌, take}
 use Rattle.message.proofs.list.copy_behind.Given as goal
 
-abbrev pub invariant-loop-msg : goal.invariant-loop-msg
-invariant-loop-msg g l = l.front.items ≡ l.fn.front.items ++ take l.msg-index l.msgs
+abbrev pub invariant-loop-waiting : goal.invariant-loop-waiting
+invariant-loop-waiting g l = l.front.items ≡ l.fn.front.items ++ take l.waiting-index l.msgs
