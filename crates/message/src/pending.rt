@@ -28,6 +28,9 @@ use pathkey::{Key, NoMemory};
 use std::alloc::Global;
 use std::marker::Model;
 
+/// So many messages of a tail are folded at once: as many as a node may hold.
+const FOLDS: usize = 1024;
+
 /// A pending list: a sorted part, and a tail of newer messages as they came.
 ///
 /// A message comes into the tail where the slot has a mark, or where it found no memory for its place. The next message that
@@ -499,12 +502,16 @@ fn lay<U: Update>(sorted: &mut Sorted<U>, fresh: &mut Tail<U>, msg: Msg<U>)
     }
 }
 
-/// Folds the tail into the sorted part, the oldest message first, up to one that finds no place there.
+/// Folds the tail into the sorted part, the oldest message first, up to one that finds no place there, and at most [`FOLDS`]
+/// messages.
 fn fold<U: Update>(sorted: &mut Sorted<U>, fresh: &mut Tail<U>)
     ensures same { Takes U.means (sorted.old ++ fresh.old.0) [] (sorted.new ++ fresh.new.0) }
     ensures room { fresh.old.1 ≤ fresh.new.1 }
 {
-    while fold_oldest(sorted, fresh) {}
+    let mut more = FOLDS;
+    while more > 0 && fold_oldest(sorted, fresh) {
+        more -= 1;
+    }
 }
 
 /// Lays the oldest message of the tail over the sorted part, and says whether it did; else both stay.

@@ -1,4 +1,4 @@
-use Rattle.std.proofs.Common.{◌≤◌, ◌++◌, [], length}
+use Rattle.std.proofs.Common.{◌≤◌, ◌++◌, []}
 use Rattle.message.specs.Effects.{Takes}
 use Rattle.message.proofs.pending.fold.Given as goal
 
@@ -9,4 +9,4 @@ invariant-loop g l = record {
 }
 
 abbrev pub decreases-loop : goal.decreases-loop
-decreases-loop g l = length l.fresh.0
+decreases-loop g l = l.more
