@@ -5,20 +5,23 @@ ghost use Rattle.std.specs.List.{slice_get};
 ghost use Rattle.message.specs.Rows.{Rises, joined, AreFilled, LaterFilled, TailFilled, row_number, number_in, AreRows, AreBefore, AreFrom, IsEndRow};
 
 use crate::row::{Item, Row};
-use crate::search::count_passing;
 use pathkey::{Key, NoMemory};
 
-/// A row with so many entries is made two before one more comes in.
+/// A row with so many entries is made two before one more comes in, where rows are few.
 const FULL: usize = 64;
 
-/// How many of the rows begin at the key or before it, found by a search in strides.
+/// Where rows are many, one may have so many entries as there are rows for each of these: so a list of any length makes few
+/// entries or rows move.
+const ROWS_FOR_EACH: usize = 16;
+
+/// How many of the rows begin at the key or before it, found by bisection: strides would read too many of a long list.
 fn number_of<T: Drop>(rows: &[Row<T>], key: &Key) -> usize
     requires rises { Rises (joined rows.now) }
     requires filled { AreFilled rows.now }
     ensures number { result ≡ row_number key.now rows.now }
     ensures bound { result ≤ length rows.now }
 {
-    count_passing(rows, |row| row.begins_by(key))
+    rows.partition_point(|row| row.begins_by(key))
 }
 
 /// The number of the row in which the key stands or would.
@@ -98,7 +101,7 @@ fn widen<T: Drop>(rows: &mut Vec<Row<T>>, key: &Key) -> usize
 {
     let n = number_in(rows.as_slice(), key);
     let row = &rows[n];
-    if row.len() < FULL {
+    if row.len() < FULL.max(rows.len() / ROWS_FOR_EACH) {
         return n;
     }
     let at = middle(row, key);

@@ -8,5 +8,5 @@ pub returns-clause-number : goal.returns-clause-number
 returns-clause-number g c =
     let rs = c.args.rows.now in
     let k = c.args.key.now in
-    let point = IsPartitionPoint-from_clause (begins_by k) rs _ c.count_passing.ensures.partitioned (rows_partitioned k rs c.requires.rises c.requires.filled) (λ a r q h. search rules) in
-    number_by_search k rs _ c.count_passing.ensures.bound point
+    let point = IsPartitionPoint-from_clause (begins_by k) rs _ c.partition_point.ensures.partitioned (rows_partitioned k rs c.requires.rises c.requires.filled) (λ a r q h. search rules) in
+    number_by_search k rs _ c.partition_point.ensures.bound point
