@@ -1,7 +1,7 @@
 -- Where a key stands among entries that rise, and what is made of them there.
 use Rattle.std.proofs.Common.{◌≡◌, ℕ, zero, suc, ◌<◌, ◌≤◌, Bool, true, false, List, [], ◌∷◌, ◌++◌, length, take, drop, get_or, refl, ap, sym, ◌∙◌, subst, Option, Some, None, cond, arith, Ordering}
 use Rattle.std.specs.declared.cmp.Ordering.TheVariants.{Less, Equal, Greater}
-use Rattle.std.specs.Ordering.{nat_cmp, is_gt, is_eq, match_ordering, ordering_reverse}
+use Rattle.std.specs.Ordering.{nat_cmp, is_gt, is_le, is_eq, match_ordering, ordering_reverse}
 use Rattle.std.specs.List.{AllByRecursion, slice_get, slice_set, insert, remove}
 use Rattle.std.specs.List.Sorted.{IsStrictlySortedBy, IsPartitionedBy, IsPartitionPoint}
 use Rattle.std.specs.Map.{keys_of, set_value}
@@ -16,7 +16,8 @@ use Rattle.pathkey.specs.Heads.{IsHeaded}
 use Rattle.pathkey.proofs.HeadFacts.{order_of_heads}
 use Rattle.std.proofs.lemmas.Bool.Decides.{nat_tests}
 use Rattle.std.specs.Prelude.{nat_lt, IfSome, ◌≢◌}
-use Rattle.message.specs.Rows.{Rises, at_key, place, is_there, IsHolder, IsGap}
+use Rattle.message.specs.Ranges.{reaches}
+use Rattle.message.specs.Rows.{Rises, BeginsHeaded, IsRow, at_key, place, begins_by, is_there, IsHolder, IsGap}
 
 -- ---- keys in a row
 
@@ -40,11 +41,20 @@ greater_from_gt Greater h = refl
 head_test : (h i : ℕ) → nat_lt i h ≡ is_gt (nat_cmp h i)
 head_test h i = grind (arith, nat_tests)
 
+head_test_le : (h i : ℕ) → i ≢ h → nat_lt i h ≡ is_le (nat_cmp i h)
+head_test_le h i d = grind (arith, nat_tests)
+
 -- heads that differ say which key stands first
 pub before_by_heads : (h i : ℕ) (k x : List ℕ) → IsHeaded h k → IsHeaded i x → i ≢ h → nat_lt i h ≡ is_gt (by_bytes k x)
 before_by_heads h i k x a b d =
     let order : nat_cmp h i ≡ by_bytes k x = rw (a.is_head, b.is_head) (order_of_heads 8 k x a.are_bytes b.are_bytes (λ e. d (b.is_head ∙ sym e ∙ sym a.is_head))) in
     head_test h i ∙ ap is_gt order
+
+-- likewise where one stands at the other or before it
+pub reaches_by_heads : (h i : ℕ) (k x : List ℕ) → IsHeaded h k → IsHeaded i x → i ≢ h → nat_lt i h ≡ is_le (by_bytes x k)
+reaches_by_heads h i k x a b d =
+    let order : nat_cmp i h ≡ by_bytes x k = rw (a.is_head, b.is_head) (order_of_heads 8 x k b.are_bytes a.are_bytes (λ e. d (b.is_head ∙ e ∙ sym a.is_head))) in
+    head_test_le h i d ∙ ap is_le order
 
 -- ---- the search
 
@@ -286,3 +296,25 @@ module _ {X : Type 0} where
   -- what holds of the first entry
   pub of_first : (P : List ℕ × X → Type 0) (es rest : List (List ℕ × X)) (e : List ℕ × X) → es ≡ e ∷ rest → IfSome (slice_get es 0) P → P e
   of_first P es rest e h p = subst (λ (t : List (List ℕ × X)). IfSome (slice_get t 0) P) h p
+
+  -- ---- the first entry and the head beside a row
+
+  pub headed_here : (h : ℕ) (es : List (List ℕ × X)) (e : List ℕ × X) → 0 < length es → e ≡ get_or es 0 e → BeginsHeaded h es → IsHeaded h e.0
+  headed_here h [] e l a b = absurd (omega (arith, l))
+  headed_here h (x ∷ es) e l a b = subst (λ (y : List ℕ × X). IsHeaded h y.0) (sym a) b
+
+  pub begins_here : (k : List ℕ) (es : List (List ℕ × X)) (e : List ℕ × X) → 0 < length es → e ≡ get_or es 0 e → reaches e.0 k ≡ begins_by k es
+  begins_here k [] e l a = absurd (omega (arith, l))
+  begins_here k (x ∷ es) e l a = ap (λ (y : List ℕ × X). reaches y.0 k) a
+
+  pub begins_none : (k : List ℕ) (es : List (List ℕ × X)) → length es ≤ 0 → false ≡ begins_by k es
+  begins_none k [] l = refl
+  begins_none k (x ∷ es) l = absurd (omega (arith, l))
+
+  -- a row whose head was read from its items as they are now
+  pub row_made : (h : ℕ) (es now : List (List ℕ × X)) → now ≡ es → BeginsHeaded h now → Rises es → IsRow h es
+  row_made h es now e b r = record { rises = r; headed = subst (λ (t : List (List ℕ × X)). BeginsHeaded h t) e b }
+
+  -- one without items
+  pub row_empty : (h : ℕ) (es : List (List ℕ × X)) → es ≡ [] → IsRow h es
+  row_empty h es e = record { rises = rises_empty es e; headed = subst (λ (t : List (List ℕ × X)). BeginsHeaded h t) (sym e) tt }

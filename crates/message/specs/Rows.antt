@@ -6,6 +6,7 @@ use Rattle.std.specs.List.Sorted.{IsStrictlySortedBy}
 use Rattle.std.specs.Map.{keys_of, lookup}
 use Rattle.std.specs.BTreeMap.{is_at, insert_entry}
 use Rattle.pathkey.specs.Order.{by_bytes}
+use Rattle.pathkey.specs.Heads.{IsHeaded}
 use Rattle.message.specs.Ranges.{reaches, before}
 
 -- the one, or where it is none the other
@@ -17,6 +18,16 @@ module _ {X : Type 0} where
   -- each key stands before the later ones
   abbrev pub Rises : List (List ℕ × X) → Type 0
   Rises es = IsStrictlySortedBy by_bytes (keys_of es)
+
+  -- the number is the head of the first entry's key, where there is one
+  abbrev pub BeginsHeaded : ℕ → List (List ℕ × X) → Type 0
+  BeginsHeaded h [] = Unit {0}
+  BeginsHeaded h (e ∷ es) = IsHeaded h e.0
+
+  -- the entries of a row, and the head beside them
+  pub record IsRow (h : ℕ) (es : List (List ℕ × X)) : Type 0 where
+    pub rises : Rises es
+    pub headed : BeginsHeaded h es
 
   -- what stands at the key
   abbrev pub at_key : List ℕ → List (List ℕ × X) → Option X

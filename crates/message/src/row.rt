@@ -9,7 +9,8 @@ ghost use Rattle.std.specs.List.{remove_range, slice_get};
 ghost use Rattle.std.specs.Map.{set_value};
 ghost use Rattle.std.specs.BTreeMap.{insert_entry, is_at};
 ghost use Rattle.pathkey.specs.Order.{by_bytes, same};
-ghost use Rattle.message.specs.Rows.{Rises, at_key, place, begins_by, is_filled, joined, IsHolder, IsGap, IsFound, AreRows, IsMovedIn};
+ghost use Rattle.pathkey.specs.Heads.{IsHeaded};
+ghost use Rattle.message.specs.Rows.{Rises, BeginsHeaded, at_key, place, begins_by, is_filled, joined, IsHolder, IsGap, IsFound, AreRows, IsMovedIn};
 
 use crate::rows::pop_item;
 use crate::search::count_passing;
@@ -17,9 +18,11 @@ use pathkey::{Key, NoMemory};
 use std::alloc::Global;
 use std::marker::Model;
 
-/// Entries that rise by key, which contracts see as their list.
+/// Entries that rise by key, which contracts see as their list, and beside them the head of the first one's key: a search
+/// among rows seldom reads more of a row.
 #[derive(Drop)]
 pub struct Row<T> {
+    head: u64,
     items: Vec<Item<T>>,
 }
 
@@ -86,6 +89,13 @@ impl<T: Drop> Item<T> {
         std::mem::replace(&mut self.entry.1, value)
     }
 
+    /// The head of the key.
+    fn head(&self) -> u64
+        ensures { IsHeaded result self.now.0 }
+    {
+        self.head
+    }
+
     /// Whether the entry stands before the key. Heads that differ say it alone.
     fn is_before(&self, key: &Key) -> bool
         ensures { result ≡ is_gt (by_bytes key.now self.now.0) }
@@ -110,11 +120,11 @@ impl<T> Model for Row<T> {
 
     ghost Value = { List (List ℕ × T) };
 
-    ghost use Rattle.message.specs.Rows.{Rises};
+    ghost use Rattle.message.specs.Rows.{IsRow};
 
     ghost view = { λ r. r.items.items };
 
-    ghost invariant = { λ r. Rises r.items.items };
+    ghost invariant = { λ r. IsRow r.head r.items.items };
 }
 
 impl<T: Drop> Row<T> {
@@ -123,6 +133,7 @@ impl<T: Drop> Row<T> {
         ensures { result ≡ [] }
     {
         Row {
+            head: 0,
             items: Vec::new(alloc),
         }
     }
@@ -153,14 +164,18 @@ impl<T: Drop> Row<T> {
         count_before(self.items.as_slice(), key)
     }
 
-    /// Whether the first entry has the key or stands before it.
+    /// Whether the first entry has the key or stands before it. Heads that differ say it alone.
     pub(crate) fn begins_by(&self, key: &Key) -> bool
         ensures { result ≡ begins_by key.now self.now }
     {
-        match self.entry(0) {
-            None => false,
-            Some((first, _)) => first.cmp(key).is_le(),
+        let Some(first) = self.items.first() else {
+            return false;
+        };
+        let head = key.head();
+        if self.head != head {
+            return self.head < head;
         }
+        first.key().cmp(key).is_le()
     }
 
     /// Whether there is an entry.
@@ -227,7 +242,9 @@ impl<T: Drop> Row<T> {
         ensures err { OnErr result (self.new ≡ self.old) }
         ensures back { IfErr result (λ p. p ≡ (key, value)) }
     {
-        put_item(&mut self.items, i, key, value)
+        let answer = put_item(&mut self.items, i, key, value);
+        self.head = first_head(self.items.as_slice());
+        answer
     }
 
     /// Gives an entry another value, and answers the one that it had.
@@ -238,7 +255,9 @@ impl<T: Drop> Row<T> {
         ensures rises { Rises self.new }
     {
         let item = &mut self.items[i];
-        item.replace(value)
+        let old = item.replace(value);
+        self.head = first_head(self.items.as_slice());
+        old
     }
 
     /// Puts an entry behind the others. On want of memory it is gone.
@@ -250,6 +269,7 @@ impl<T: Drop> Row<T> {
             return Err(NoMemory);
         };
         self.items.push(item)?;
+        self.head = first_head(self.items.as_slice());
         Ok(())
     }
 
@@ -261,7 +281,9 @@ impl<T: Drop> Row<T> {
         if self.items.is_empty() {
             return None;
         }
-        Some(self.items.remove(0))
+        let item = self.items.remove(0);
+        self.head = first_head(self.items.as_slice());
+        Some(item)
     }
 
     /// Moves the first entry of other rows to its place here. It says whether it did: memory may be refused, or there is none.
@@ -281,6 +303,7 @@ impl<T: Drop> Row<T> {
         let Ok(()) = self.items.insert(i, item) else {
             unreachable!()
         };
+        self.head = first_head(self.items.as_slice());
         true
     }
 
@@ -291,7 +314,9 @@ impl<T: Drop> Row<T> {
         ensures is { self.new ≡ insert_entry by_bytes self.old item.0 item.1 }
         ensures was_rising { Rises self.old }
     {
-        std::mem::replace(&mut self.items[i], item)
+        let old = std::mem::replace(&mut self.items[i], item);
+        self.head = first_head(self.items.as_slice());
+        old
     }
 
     /// Takes the entries away from number `from` up to `to`.
@@ -302,6 +327,7 @@ impl<T: Drop> Row<T> {
         ensures rises { Rises self.new }
     {
         self.items.drain(from..to);
+        self.head = first_head(self.items.as_slice());
     }
 
     /// Moves the entries from number `at` on into a row of their own.
@@ -312,7 +338,19 @@ impl<T: Drop> Row<T> {
         ensures err { OnErr result (self.new ≡ self.old) }
     {
         let items = self.items.split_off(at)?;
-        Ok(Row { items })
+        self.head = first_head(self.items.as_slice());
+        let head = first_head(items.as_slice());
+        Ok(Row { head, items })
+    }
+}
+
+/// The head of the first entry's key; 0 where there is none.
+fn first_head<T: Drop>(items: &[Item<T>]) -> u64
+    ensures { BeginsHeaded result items.now }
+{
+    match items.first() {
+        None => 0,
+        Some(item) => item.head(),
     }
 }
 
