@@ -5,11 +5,11 @@ use Rattle.std.specs.List.{slice_get, slice_set}
 use Rattle.std.specs.BTreeMap.{insert_entry}
 use Rattle.pathkey.specs.Order.{by_bytes}
 use Rattle.message.specs.declared.run.Run.{Run}
-use Rattle.message.specs.Rows.{Rises, number_in, AreRows, IsGap, IsMovedIn}
+use Rattle.message.specs.Rows.{Rises, joined, number_in, AreRows, IsGap, IsMovedIn}
 use Rattle.message.specs.Runs.{run_len, run_effect}
 use Rattle.message.specs.Settled.{look, found_effect, point_count, MovesFirst, TakesFirst, AreRunsKeyed}
-use Rattle.message.proofs.RowFacts.{none_at}
-use Rattle.message.proofs.RowsFacts.{IsCut, cut_key, put_between, rows_written, set_same}
+use Rattle.message.proofs.RowFacts.{none_at, of_first}
+use Rattle.message.proofs.RowsFacts.{IsCut, cut_at, cut_key, put_between, rows_written, set_same}
 use Rattle.message.proofs.PointRows.{cut_counted}
 use Rattle.message.proofs.PointChanges.{lays_put}
 use Rattle.message.proofs.Writing.{counted_insert, keyed_inserted}
@@ -37,33 +37,37 @@ module _ {U V : Type 0} (means : U → Option V → Option V) where
 
   -- ---- in one of several rows
 
-  pub moved_rows : (k : List ℕ) (r : Run U V) (rs : List (List (List ℕ × Run U V))) (n : ℕ) (from old left new : List (List ℕ × Run U V)) (o : Option ℕ) → Some (k, r) ≡ slice_get from 0 → AreRows rs → n ≡ number_in k rs → n < length rs → old ≡ get_or rs n old → IfSome o (λ gone. MovesFirst means gone from old left new) → IfNone o ((new ≡ old) × (left ≡ from)) → AreRows (slice_set rs n new)
-  moved_rows k r rs n from old left new None f w e l a m h =
-      subst (λ (t : List (List (List ℕ × Run U V))). AreRows t) (sym (ap (λ (t : List (List ℕ × Run U V)). slice_set rs n t) h.0 ∙ set_same rs n old l a)) w
-  moved_rows k r rs n from old left new (Some gone) f w e l a m h =
-      let one : m.key ≡ k = sym (first_key k r from left (m.key, m.run) f m.parts) in
-      rows_written k rs n old new w e l a (inr (m.run, m.is ∙ ap (λ (x : List ℕ). insert_entry by_bytes old x m.run) one))
+  -- the row's number is that of the first key
+  module _ (rs : List (List (List ℕ × Run U V))) (n : ℕ) (from old left new : List (List ℕ × Run U V)) (f : IfSome (slice_get from 0) (λ e. n ≡ number_in e.0 rs)) (w : AreRows rs) (l : n < length rs) (a : old ≡ get_or rs n old) where
+    number : (gone : ℕ) → (m : MovesFirst means gone from old left new) → n ≡ number_in m.key rs
+    number gone m = of_first (λ e. n ≡ number_in e.0 rs) from left (m.key, m.run) m.parts f
 
-  moved_joined : (k : List ℕ) (r : Run U V) (gone : ℕ) (all made from old left new : List (List ℕ × Run U V)) → Some (k, r) ≡ slice_get from 0 → IsCut k all made old new → MovesFirst means gone from old left new → MovesFirst means gone from all left made
-  moved_joined k r gone all made from old left new f cut m =
-      let one : k ≡ m.key = first_key k r from left (m.key, m.run) f m.parts in
-      let c : IsCut m.key all made old new = subst (λ (x : List ℕ). IsCut x all made old new) one cut in
-      record {
-        key = m.key;
-        run = m.run;
-        parts = m.parts;
-        is =
-            c.is
-            ∙ ap (λ (t : List (List ℕ × Run U V)). c.front ++ (t ++ c.back)) m.is
-            ∙ sym (put_between m.key m.run c.front old c.back c.before c.behind)
-            ∙ sym (ap (λ (t : List (List ℕ × Run U V)). insert_entry by_bytes t m.key m.run) c.was);
-        over = λ o. ap (λ t. run_effect means m.run (found_effect means t o)) (cut_key m.key all made old new c) ∙ m.over o;
-        counted = cut_counted m.key all made old new c gone (run_len m.run) m.counted;
-      }
+    pub moved_rows : (o : Option ℕ) → IfSome o (λ gone. MovesFirst means gone from old left new) → IfNone o ((new ≡ old) × (left ≡ from)) → AreRows (slice_set rs n new)
+    moved_rows None m h =
+        subst (λ (t : List (List (List ℕ × Run U V))). AreRows t) (sym (ap (λ (t : List (List ℕ × Run U V)). slice_set rs n t) h.0 ∙ set_same rs n old l a)) w
+    moved_rows (Some gone) m h = rows_written m.key rs n old new w (number gone m) l a (inr (m.run, m.is))
 
-  pub moved_in : (k : List ℕ) (r : Run U V) (o : Option ℕ) (all made from old left new : List (List ℕ × Run U V)) → Some (k, r) ≡ slice_get from 0 → IsCut k all made old new → IfSome o (λ gone. MovesFirst means gone from old left new) → IfSome o (λ gone. MovesFirst means gone from all left made)
-  moved_in k r None all made from old left new f cut m = tt
-  moved_in k r (Some gone) all made from old left new f cut m = moved_joined k r gone all made from old left new f cut m
+    moved_joined : (gone : ℕ) → MovesFirst means gone from old left new → MovesFirst means gone from (joined rs) left (joined (slice_set rs n new))
+    moved_joined gone m =
+        let all = joined rs in
+        let made = joined (slice_set rs n new) in
+        let c : IsCut m.key all made old new = cut_at m.key rs n old new w (number gone m) l a in
+        record {
+          key = m.key;
+          run = m.run;
+          parts = m.parts;
+          is =
+              c.is
+              ∙ ap (λ (t : List (List ℕ × Run U V)). c.front ++ (t ++ c.back)) m.is
+              ∙ sym (put_between m.key m.run c.front old c.back c.before c.behind)
+              ∙ sym (ap (λ (t : List (List ℕ × Run U V)). insert_entry by_bytes t m.key m.run) c.was);
+          over = λ o. ap (λ t. run_effect means m.run (found_effect means t o)) (cut_key m.key all made old new c) ∙ m.over o;
+          counted = cut_counted m.key all made old new c gone (run_len m.run) m.counted;
+        }
+
+    pub moved_in : (o : Option ℕ) → IfSome o (λ gone. MovesFirst means gone from old left new) → IfSome o (λ gone. MovesFirst means gone from (joined rs) left (joined (slice_set rs n new)))
+    moved_in None m = tt
+    moved_in (Some gone) m = moved_joined gone m
 
   -- ---- what is promised of it
 

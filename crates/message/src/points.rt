@@ -98,8 +98,8 @@ impl<U: Update> Points<U> {
         if came > most {
             return None;
         }
-        prepare(rows, key)?;
-        let gone = take_among(rows, &mut from.rows)?;
+        let n = prepare(rows, key)?;
+        let gone = take_among(rows, n, &mut from.rows)?;
         Some((came, gone))
     }
 
@@ -217,19 +217,22 @@ fn count_rows<U: Update>(rows: &[Row<Run<U>>]) -> usize
     count
 }
 
-/// Moves the messages of the first key of other rows to their place among rows, as [`Points::take_first`] does, and answers
-/// how many stood there.
-fn take_among<U: Update>(rows: &mut Vec<Row<Run<U>>>, from: &mut Vec<Row<Run<U>>>) -> Option<usize>
+/// Moves the messages of the first key of other rows to their place in the row in which it stands or would, as
+/// [`Points::take_first`] does, and answers how many stood there.
+fn take_among<U: Update>(
+    rows: &mut Vec<Row<Run<U>>>,
+    n: usize,
+    from: &mut Vec<Row<Run<U>>>,
+) -> Option<usize>
     requires rows { AreRows rows.old.items }
-    requires some { 0 < length rows.old.items }
+    requires number { IfSome (slice_get (joined from.old.items) 0) (λ e. n ≡ number_in e.0 rows.old.items) }
+    requires bound { n < length rows.old.items }
     requires from { AreRows from.old.items }
     ensures rows { AreRows rows.new.items }
     ensures from { AreRows from.new.items }
     ensures moved { IfSome result (λ gone. MovesFirst U.means gone (joined from.old.items) (joined rows.old.items) (joined from.new.items) (joined rows.new.items)) }
     ensures none { IfNone result ((joined rows.new.items ≡ joined rows.old.items) × (joined from.new.items ≡ joined from.old.items)) }
 {
-    let (key, _) = first_in(from.as_slice())?;
-    let n = number_in(rows.as_slice(), key);
     let row = &mut rows[n];
     take_in(row, from)
 }
