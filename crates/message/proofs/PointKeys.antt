@@ -1,29 +1,35 @@
 -- Keys with messages for them alone, and the range-deletes around them.
-use Rattle.std.proofs.Common.{◌≡◌, ℕ, zero, suc, ◌+◌, ◌<◌, ◌≤◌, ◌⊎◌, inl, inr, ⊎_elim, Bool, true, false, List, [], ◌∷◌, ◌++◌, length, take, get_or, refl, ap, sym, ◌∙◌, subst, Option, Some, None, cond, arith, ◌||◌}
+use Rattle.std.proofs.Common.{◌≡◌, ℕ, suc, ◌+◌, ◌<◌, ◌≤◌, ◌⊎◌, inl, inr, ⊎_elim, Bool, true, false, List, [], ◌∷◌, ◌++◌, length, take, get_or, refl, ap, sym, ◌∙◌, subst, Option, Some, None, cond, arith, ◌||◌}
 use Rattle.std.specs.Prelude.{All, Contains, IfSome}
-use Rattle.std.specs.Option.{is_some}
+use Rattle.std.specs.Prelude.{◌&&◌}
+use Rattle.std.specs.List.{AllByRecursion}
+use Rattle.std.specs.Map.{keys_of}
+use Rattle.std.specs.Ordering.{is_lt}
+use Rattle.std.specs.declared.cmp.Ordering.TheVariants.{Less}
+use Rattle.std.proofs.lemmas.Map.Keys.{sorted_head, sorted_tail}
+use Rattle.pathkey.specs.Order.{by_bytes}
 use Rattle.std.proofs.lemmas.Bool.{or_parts, or_from, or_left, or_right}
 use Rattle.std.proofs.lemmas.List.{take_more, take_all}
 use Rattle.std.proofs.lemmas.List.Elements.{Contains-append_left, Contains-append_right}
 use Rattle.pathkey.specs.Order.{same}
 use Rattle.pathkey.specs.Keys.{is_below, next_key}
-use Rattle.pathkey.proofs.OrderFacts.{same_true, same_itself}
+use Rattle.pathkey.proofs.OrderFacts.{same_itself}
 use Rattle.message.specs.declared.msg.Msg.{Msg}
 use Rattle.message.specs.declared.msg.Msg.TheVariants as msg
 use Rattle.message.specs.declared.run.Run.{Run}
 use Rattle.message.specs.declared.run.Run.TheVariants.{Put, Del, Edit, Edits}
-use Rattle.message.specs.Effects.{touches, any_touches, effect, effects, range_count, point}
+use Rattle.message.specs.Effects.{touches, any_touches, effect, effects, point}
 use Rattle.message.specs.Ranges.{reaches, before, within}
 use Rattle.std.specs.Global.{Box}
 use Rattle.message.specs.declared.run.Several.{Several}
 use Rattle.message.specs.Runs.{run_msgs, later_msgs, rest_msgs}
-use Rattle.message.specs.Settled.{Span, covered, look, range_msgs, point_msgs, settled_msgs}
+use Rattle.message.specs.Rows.{Rises}
+use Rattle.message.specs.Settled.{Span, covered, first_from, range_msgs, point_msgs, settled_msgs}
 use Rattle.message.specs.Stretches.{is_for, is_key, ends_of, all_ends, IsStretch}
 use Rattle.message.specs.PointKeys.{point_stop, has_point, clears, is_cleared, IsPointStop, IsNextPoint, IsClearStretch}
-use Rattle.message.proofs.CountingRanges.{count_points}
-use Rattle.message.proofs.KeyOrder.{both, reaches-refl, reaches-from_before, reaches-from_not_before, not_before_from_reaches, unlike_later, below_next, begins_before_end}
-use Rattle.message.proofs.NextKey.{by_bool, in_range, one_key, before-next, reaches-from_before_next}
-use Rattle.message.proofs.SettledMeaning.{touches-ranges, untouched_from_none}
+use Rattle.message.proofs.KeyOrder.{both, lt_le, reaches-refl, reaches-from_before, reaches-from_not_before, not_before_from_reaches, unlike_later, below_next, begins_before_end}
+use Rattle.message.proofs.NextKey.{by_bool, in_range}
+use Rattle.message.proofs.SettledMeaning.{touches-ranges}
 use Rattle.message.proofs.SortedStretches.{outside_key}
 use Rattle.message.proofs.StretchEnds.{weaker, all_ends-append, next_is_end}
 
@@ -57,13 +63,6 @@ later_points : {U : Type 0} (V : Type 0) (q : List ℕ) (us : List (List ℕ × 
 later_points V q [] k = or_none (same q k)
 later_points {U} V q (u ∷ us) k = again (same q k) (has_point {U = U} {V = V} (later_msgs q us) k) (later_points V q us k)
 
--- no key lies both before an end and behind it
-end_is : (d : List ℕ) (end : Option (List ℕ)) → is_below d end ≡ false → ((k : List ℕ) → before k d ≡ true → is_below k end ≡ true) → Some d ≡ end
-end_is d None n f = absurd (cc)
-end_is d (Some e) n f = by_bool (before e d) (Some d ≡ Some e)
-    (λ t. absurd (let up : before e e ≡ true = f e t in let no : before e e ≡ false = not_before_from_reaches e e (reaches-refl e) in cc))
-    (λ t. ap Some (one_key d e (reaches-from_not_before e d t) (reaches-from_not_before d e n)))
-
 -- ---- what is told of a key
 
 module _ {U V : Type 0} where
@@ -74,17 +73,6 @@ module _ {U V : Type 0} where
   pub is_cleared-append : (xs ys : List (Msg U V)) (k : List ℕ) → is_cleared (xs ++ ys) k ≡ (is_cleared xs k || is_cleared ys k)
   is_cleared-append [] ys k = refl
   is_cleared-append (x ∷ xs) ys k = ap (λ b. clears x k || b) (is_cleared-append xs ys k) ∙ or_assoc (clears x k) (is_cleared xs k) (is_cleared ys k)
-
-  -- what does not touch a key is not for it alone
-  not_for : (m : Msg U V) (k : List ℕ) → touches m k ≡ false → is_for m k ≡ false
-  not_for (msg.Put q v) k h = h
-  not_for (msg.Del q) k h = h
-  not_for (msg.DelRange r) k h = refl
-  not_for (msg.Edit q u) k h = h
-
-  pub pointless : (ms : List (Msg U V)) (k : List ℕ) → any_touches ms k ≡ false → has_point ms k ≡ false
-  pointless [] k h = refl
-  pointless (m ∷ ms) k h = (let p = or_parts (touches m k) (any_touches ms k) h in or_from (is_for m k) (has_point ms k) (not_for m k p.0) (pointless ms k p.1))
 
   -- ---- the parts of a sorted list
 
@@ -114,6 +102,17 @@ module _ {U V : Type 0} where
   run_points q (Edits s) k = later_points V q s.value.more.items k
 
 -- ---- where the next key with a message stands
+
+below_end : (k q : List ℕ) (end : Option (List ℕ)) → is_below k end ≡ true → is_below q end ≡ false → before k q ≡ true
+below_end k q None u n = absurd (cc)
+below_end k q (Some h) u n = lt_le k h q u (reaches-from_not_before q h n)
+
+-- a key up to the stop stands before the key that makes it
+before_stop : (from q k : List ℕ) (end : Option (List ℕ)) → reaches from q ≡ true → within from (point_stop (Some q) from end) k ≡ true → before k q ≡ true
+before_stop from q k end r w = (elim (within from end q) as (λ c. within from end q ≡ c → within from (cond c (Some q) end) k ≡ true → before k q ≡ true) [
+  | true ↦ λ e h. (both (reaches from k) (before k q) h).1
+  | false ↦ λ e h. below_end k q end (both (reaches from k) (is_below k end) h).1 (sym (ap (λ c. c && is_below q end) r) ∙ e)
+]) refl w
 
 module _ {U V : Type 0} where
   -- no message
@@ -171,69 +170,38 @@ module _ {U V : Type 0} where
   touched_alike [] k from a = refl
   touched_alike (m ∷ ms) k from a = (λ i. a 0 m (omega arith) i || touched_alike ms k from (λ j d l. a (suc j) d (omega (arith, l))) i)
 
-  point_by : (q : List ℕ) (ms : List (Msg U V)) (d : List ℕ) → Contains (q ∷ next_key q ∷ all_ends ms) d → (Contains (all_ends ms) d → (p : List ℕ) × (has_point ms p ≡ true) × ((d ≡ p) ⊎ (d ≡ next_key p))) → (p : List ℕ) × ((same q p || has_point ms p) ≡ true) × ((d ≡ p) ⊎ (d ≡ next_key p))
-  point_by q ms d (zero, h, e) f = (q, or_left (same q q) (has_point ms q) (same_itself q), inl (sym e))
-  point_by q ms d (suc zero, h, e) f = (q, or_left (same q q) (has_point ms q) (same_itself q), inr (sym e))
-  point_by q ms d (suc (suc i), h, e) f = let r = f (i, omega (arith, h), e) in (r.0, or_right (same q r.0) (has_point ms r.0) r.1, r.2)
+  -- messages of later keys alone
+  none_ahead : (k x : List ℕ) (es : List (List ℕ × Run U V)) → before k x ≡ true → AllByRecursion (λ y. by_bytes x y ≡ Less) (keys_of es) → has_point (point_msgs es) k ≡ false
+  none_ahead k x [] b a = refl
+  none_ahead k x (e ∷ es) b a =
+      let later : before k e.0 ≡ true = lt_le k x e.0 b (reaches-from_before x e.0 (ap is_lt a.0)) in
+      has_point-append (run_msgs e.0 e.1) (point_msgs es) k ∙ or_from (has_point (run_msgs e.0 e.1) k) (has_point (point_msgs es) k) (run_points e.0 e.1 k ∙ unlike_later e.0 k later) (none_ahead k x es b a.1)
 
-  -- where messages for one key begin and end
-  point_ends : (ms : List (Msg U V)) (d : List ℕ) → range_count ms ≡ 0 → Contains (all_ends ms) d → (q : List ℕ) × (has_point ms q ≡ true) × ((d ≡ q) ⊎ (d ≡ next_key q))
-  point_ends [] d n c = absurd (let l = c.1 in omega (arith, l))
-  point_ends (msg.Put q v ∷ ms) d n c = point_by q ms d c (λ t. point_ends ms d n t)
-  point_ends (msg.Del q ∷ ms) d n c = point_by q ms d c (λ t. point_ends ms d n t)
-  point_ends (msg.DelRange r ∷ ms) d n c = absurd (omega (arith, n))
-  point_ends (msg.Edit q u ∷ ms) d n c = point_by q ms d c (λ t. point_ends ms d n t)
+  -- the stop is the first key from the first on
+  points_stop : (from : List ℕ) (end : Option (List ℕ)) (es : List (List ℕ × Run U V)) → Rises es → IsPointStop (point_msgs es) from end (point_stop (first_from from es) from end)
+  points_stop from end [] r = stop_none from end
+  points_stop from end (e ∷ es) r =
+      let here : IsPointStop (run_msgs e.0 e.1) from end (point_stop (Some e.0) from end) = stop_one (run_msgs e.0 e.1) (Some e.0) from end (λ k. run_points e.0 e.1 k) in
+      by_bool (reaches from e.0) (IsPointStop (point_msgs (e ∷ es)) from end (point_stop (first_from from (e ∷ es)) from end))
+      (λ t.
+      let stop = point_stop (Some e.0) from end in
+      let is : point_stop (first_from from (e ∷ es)) from end ≡ stop = ap (λ c. point_stop (cond c (Some e.0) (first_from from es)) from end) t in
+      let rest : IsPointStop (point_msgs es) from stop stop = record {
+        none = λ k h. none_ahead k e.0 es (before_stop from e.0 k end t h) (sorted_head by_bytes e.0 (keys_of es) r);
+        inside = λ k h. h;
+        one = inl refl;
+      } in
+      subst (IsPointStop (point_msgs (e ∷ es)) from end) (sym is) (stop_then (run_msgs e.0 e.1) (point_msgs es) from end stop stop here rest))
+      (λ t.
+      let stop = point_stop (first_from from es) from end in
+      let is : point_stop (first_from from (e ∷ es)) from end ≡ stop = ap (λ c. point_stop (cond c (Some e.0) (first_from from es)) from end) t in
+      let out : point_stop (Some e.0) from end ≡ end = ap (λ c. cond (c && is_below e.0 end) (Some e.0) end) t in
+      let skips : IsPointStop (run_msgs e.0 e.1) from end end = subst (IsPointStop (run_msgs e.0 e.1) from end) out here in
+      subst (IsPointStop (point_msgs (e ∷ es)) from end) (sym is) (stop_then (run_msgs e.0 e.1) (point_msgs es) from end end stop skips (points_stop from end es (sorted_tail by_bytes e.0 (keys_of es) r))))
 
-  -- no key comes from the end on
-  pub stop_past : (ms : List (Msg U V)) (from : List ℕ) (end : Option (List ℕ)) → is_below from end ≡ false → IsPointStop ms from end end
-  stop_past ms from end n = record {
-    none = λ k h. absurd (let p = both (reaches from k) (is_below k end) h in let t : is_below from end ≡ true = begins_before_end from k end p.0 p.1 in cc);
-    inside = λ k h. h;
-    one = inl refl;
-  }
-
-  -- a message is for the first key
-  pub stop_here : (ms : List (Msg U V)) (from : List ℕ) (end : Option (List ℕ)) → is_below from end ≡ true → has_point ms from ≡ true → IsPointStop ms from end (Some from)
-  stop_here ms from end low h = record {
-    none = λ k w. absurd (let p = both (reaches from k) (before k from) w in let no : before k from ≡ false = not_before_from_reaches from k p.0 in cc);
-    inside = λ k b. below_next k from end b low;
-    one = inr (in_range from from end (reaches-refl from) low, h);
-  }
-
-  one_of : (es : List (List ℕ × Run U V)) (from : List ℕ) (end stop : Option (List ℕ)) → ((k : List ℕ) → within from stop k ≡ true → has_point (point_msgs es) k ≡ false) → IsStretch (point_msgs es) from end stop → (stop ≡ end) ⊎ IfSome stop (λ q. (within from end q ≡ true) × (has_point (point_msgs es) q ≡ true))
-  one_of es from end None none s = inr tt
-  one_of es from end (Some d) none s = ⊎_elim (λ (e : end ≡ Some d). inl (sym e)) (λ (c : Contains (all_ends (point_msgs es)) d). at c) s.an_end
-    where
-      at : Contains (all_ends (point_msgs es)) d → (Some d ≡ end) ⊎ ((within from end d ≡ true) × (has_point (point_msgs es) d ≡ true))
-      at c =
-          let x = point_ends (point_msgs es) d (count_points es) c in
-          ⊎_elim
-          (λ (e : d ≡ x.0). by_bool (is_below d end) ((Some d ≡ end) ⊎ ((within from end d ≡ true) × (has_point (point_msgs es) d ≡ true)))
-          (λ t. inr (in_range from d end (reaches-from_before from d s.after) t, subst (λ (z : List ℕ). has_point (point_msgs es) z ≡ true) (sym e) x.1))
-          (λ t. inl (end_is d end t s.inside)))
-          (λ (e : d ≡ next_key x.0). absurd (
-          let low : reaches from x.0 ≡ true = reaches-from_before_next from x.0 (ap (before from) (sym e) ∙ s.after) in
-          let up : before x.0 d ≡ true = ap (before x.0) e ∙ before-next x.0 in
-          let no : has_point (point_msgs es) x.0 ≡ false = none x.0 (in_range from x.0 (Some d) low up) in
-          let yes : has_point (point_msgs es) x.0 ≡ true = x.1 in
-          cc))
-          x.2
-
-  -- no message is for the first key, and a stretch of the others ends at the next
-  pub settled_stop : (rs : List Span) (es : List (List ℕ × Run U V)) (from : List ℕ) (end stop : Option (List ℕ)) → look from es ≡ None → IsStretch (point_msgs es) from end stop → IsPointStop (settled_msgs rs es) from end stop
-  settled_stop rs es from end stop n s =
-      let none : (k : List ℕ) → within from stop k ≡ true → has_point (point_msgs es) k ≡ false = λ k h. pointless (point_msgs es) k (touched_alike (point_msgs es) k from (s.alike k h) ∙ untouched_from_none es from n) in
-      stop_then (range_msgs rs) (point_msgs es) from end end stop (stop_one (range_msgs rs) None from end (λ k. pointless-ranges U V rs k)) (record { none = none; inside = s.inside; one = one_of es from end stop none s })
-
-  -- a message for a key that stands in a sorted list
-  pub found_point : (rs : List Span) (es : List (List ℕ × Run U V)) (k : List ℕ) → is_some (look k es) ≡ true → has_point (settled_msgs rs es) k ≡ true
-  found_point rs es k h = has_point-append (range_msgs rs) (point_msgs es) k ∙ or_right (has_point {U = U} {V = V} (range_msgs rs) k) (has_point (point_msgs es) k) (among es h)
-    where
-      among : (es : List (List ℕ × Run U V)) → is_some (look k es) ≡ true → has_point (point_msgs es) k ≡ true
-      among [] h = absurd (cc)
-      among (e ∷ es) h = has_point-append (run_msgs e.0 e.1) (point_msgs es) k ∙ by_bool (same k e.0) ((has_point (run_msgs e.0 e.1) k || has_point (point_msgs es) k) ≡ true)
-          (λ t. or_left (has_point (run_msgs e.0 e.1) k) (has_point (point_msgs es) k) (run_points e.0 e.1 k ∙ ap (λ (z : List ℕ). same z k) (sym (same_true k e.0 t)) ∙ same_itself k))
-          (λ t. or_right (has_point (run_msgs e.0 e.1) k) (has_point (point_msgs es) k) (among es (sym (ap (λ c. is_some (cond c (Some e.1) (look k es))) t) ∙ h)))
+  pub settled_stop : (rs : List Span) (es : List (List ℕ × Run U V)) (from : List ℕ) (end stop : Option (List ℕ)) → Rises es → stop ≡ point_stop (first_from from es) from end → IsPointStop (settled_msgs rs es) from end stop
+  settled_stop rs es from end stop r is =
+      subst (IsPointStop (settled_msgs rs es) from end) (sym is) (stop_then (range_msgs rs) (point_msgs es) from end end (point_stop (first_from from es) from end) (stop_one (range_msgs rs) None from end (λ k. pointless-ranges U V rs k)) (points_stop from end es r))
 
   -- ---- the next key
 

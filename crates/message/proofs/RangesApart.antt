@@ -11,7 +11,7 @@ use Rattle.std.specs.Map.Iter.{TakesLast, TakesFirst}
 use Rattle.std.specs.Option.{option_map, is_some}
 use Rattle.std.specs.BTreeMap.{insert_entry}
 use Rattle.std.specs.BTreeMap.Range.{range_contains}
-use Rattle.std.specs.declared.ops.Bound.TheVariants.{Included, Excluded}
+use Rattle.std.specs.declared.ops.Bound.TheVariants.{Excluded}
 use Rattle.std.proofs.lemmas.Map.Keys.{sorted_head, sorted_tail}
 use Rattle.pathkey.specs.Order.{by_bytes, by_bytes_total}
 use Rattle.pathkey.specs.Keys.{is_below}

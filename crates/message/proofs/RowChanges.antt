@@ -8,23 +8,20 @@ use Rattle.std.specs.List.Sorted.{IsStrictlySortedBy}
 use Rattle.std.proofs.lemmas.List.{map-append, take-append-drop}
 use Rattle.std.specs.Map.{keys_of, set_value}
 use Rattle.std.specs.BTreeMap.{insert_entry, is_at}
-use Rattle.std.specs.Option.{option_map}
+use Rattle.std.specs.Option.{option_map, is_some}
 use Rattle.std.proofs.lemmas.Map.Keys.{sorted_head, sorted_tail}
 use Rattle.pathkey.specs.Order.{by_bytes, by_bytes_total, by_bytes_equiv, same}
 use Rattle.pathkey.specs.Keys.{is_below}
 use Rattle.pathkey.proofs.OrderFacts.{equal, same_true, same_false, same_itself}
 use Rattle.message.specs.Ranges.{reaches, before, within}
 use Rattle.message.specs.Rows.{Rises, at_key, place, end_place, is_there}
-use Rattle.message.specs.Settled.{first_behind}
+use Rattle.message.specs.Settled.{first_behind, first_from}
+use Rattle.message.specs.Stretches.{is_key}
 use Rattle.message.proofs.KeyOrder.{le_lt, reaches-from_before, not_before_from_reaches}
-use Rattle.message.proofs.RowFacts.{place_bound, rises_cons}
+use Rattle.message.proofs.RowFacts.{place_bound, rises_cons, all_ahead, none_ahead}
 
 same_back : (k q : List ℕ) → same q k ≡ same k q
 same_back k q = by_bytes_equiv.symm q k
-
-all_like : (k x : List ℕ) (ks : List (List ℕ)) → by_bytes k x ≡ Equal → AllByRecursion (λ y. by_bytes x y ≡ Less) ks → AllByRecursion (λ y. by_bytes k y ≡ Less) ks
-all_like k x [] p a = tt
-all_like k x (y ∷ ks) p a = (by_bytes_total.congr k x y p ∙ a.0, all_like k x ks p a.1)
 
 stays : (b c : Bool) → c ≡ false → not (b && c) ≡ true
 stays true c h = ap not h
@@ -116,29 +113,48 @@ module _ {X : Type 0} where
         | false ↦ λ p. ap (λ b. cond b ((e.0, w) ∷ set_value test es v) (e ∷ set_value test (set_value test es v) w)) p ∙ ap (λ t. e ∷ t) (set-set test v w es)
       ] refl
 
-  -- ---- the next key
+  -- ---- the first key from one on
 
-  pub all_behind : (k : List ℕ) (es : List (List ℕ × X)) → AllByRecursion (λ y. by_bytes k y ≡ Less) (keys_of es) → first_behind k es ≡ option_map (λ (e : List ℕ × X). e.0) (slice_get es 0)
-  all_behind k [] a = refl
-  all_behind k (e ∷ es) a = ap (λ o. cond (is_lt o) (Some e.0) (first_behind k es)) a.0
+  pub from_place : (k : List ℕ) (es : List (List ℕ × X)) (i : ℕ) → i ≡ place k es → option_map (λ (e : List ℕ × X). e.0) (slice_get es i) ≡ first_from k es
+  from_place k es i n = ap (λ j. option_map (λ (e : List ℕ × X). e.0) (slice_get es j)) n ∙ at_place k es
+    where
+      at_place : (k : List ℕ) (es : List (List ℕ × X)) → option_map (λ (e : List ℕ × X). e.0) (slice_get es (place k es)) ≡ first_from k es
+      at_place k [] = refl
+      at_place k (e ∷ es) = elim (by_bytes k e.0) as (λ o. option_map (λ (x : List ℕ × X). x.0) (slice_get (e ∷ es) (match_ordering o 0 0 (suc (place k es)))) ≡ cond (is_le o) (Some e.0) (first_from k es)) [
+        | Less ↦ refl
+        | Equal ↦ refl
+        | Greater ↦ at_place k es
+      ]
 
-  pub behind_gap : (k : List ℕ) (es : List (List ℕ × X)) → is_there k es ≡ false → first_behind k es ≡ option_map (λ (e : List ℕ × X). e.0) (slice_get es (place k es))
-  behind_gap k [] t = refl
-  behind_gap k (e ∷ es) t =
-      elim (by_bytes k e.0) as (λ o. match_ordering o false true (is_there k es) ≡ false → cond (is_lt o) (Some e.0) (first_behind k es) ≡ option_map (λ (e : List ℕ × X). e.0) (slice_get (e ∷ es) (match_ordering o 0 0 (suc (place k es))))) [
-        | Less ↦ λ s. refl
-        | Equal ↦ λ s. absurd (cc)
-        | Greater ↦ λ s. behind_gap k es s
-      ] t
+  -- where it is the key itself something stands there
+  pub there_from : (k : List ℕ) (es : List (List ℕ × X)) → is_key (first_from k es) k ≡ true → is_some (at_key k es) ≡ true
+  there_from k [] h = absurd (cc)
+  there_from k (e ∷ es) h =
+      elim (by_bytes k e.0) as (λ o. by_bytes k e.0 ≡ o → is_key (cond (is_le o) (Some e.0) (first_from k es)) k ≡ true → is_some (cond (is_eq o) (Some e.1) (at_key k es)) ≡ true) [
+        | Less ↦ λ p i. absurd (let yes : same k e.0 ≡ true = sym (same_back k e.0) ∙ i in let no : same k e.0 ≡ false = ap is_eq p in cc)
+        | Equal ↦ λ p i. refl
+        | Greater ↦ λ p i. there_from k es i
+      ] refl h
 
-  pub behind_holder : (k : List ℕ) (es : List (List ℕ × X)) → Rises es → is_there k es ≡ true → first_behind k es ≡ option_map (λ (e : List ℕ × X). e.0) (slice_get es (suc (place k es)))
-  behind_holder k [] r t = absurd (cc)
-  behind_holder k (e ∷ es) r t =
-      elim (by_bytes k e.0) as (λ o. by_bytes k e.0 ≡ o → match_ordering o false true (is_there k es) ≡ true → cond (is_lt o) (Some e.0) (first_behind k es) ≡ option_map (λ (e : List ℕ × X). e.0) (slice_get (e ∷ es) (suc (match_ordering o 0 0 (suc (place k es)))))) [
-        | Less ↦ λ p s. absurd (cc)
-        | Equal ↦ λ p s. all_behind k es (all_like k e.0 (keys_of es) p (sorted_head by_bytes e.0 (keys_of es) r))
-        | Greater ↦ λ p s. behind_holder k es (sorted_tail by_bytes e.0 (keys_of es) r) s
-      ] refl t
+  -- and where it is another nothing does
+  pub absent_from : (k : List ℕ) (es : List (List ℕ × X)) → Rises es → is_key (first_from k es) k ≡ false → at_key k es ≡ None
+  absent_from k [] r h = refl
+  absent_from k (e ∷ es) r h =
+      elim (by_bytes k e.0) as (λ o. by_bytes k e.0 ≡ o → is_key (cond (is_le o) (Some e.0) (first_from k es)) k ≡ false → cond (is_eq o) (Some e.1) (at_key k es) ≡ None) [
+        | Less ↦ λ p i. none_ahead k es (all_ahead k e.0 (keys_of es) p (sorted_head by_bytes e.0 (keys_of es) r))
+        | Equal ↦ λ p i. absurd (let no : same k e.0 ≡ false = sym (same_back k e.0) ∙ i in let yes : same k e.0 ≡ true = ap is_eq p in cc)
+        | Greater ↦ λ p i. absent_from k es (sorted_tail by_bytes e.0 (keys_of es) r) i
+      ] refl h
+
+  -- then it is the first behind the key
+  pub from_behind : (k : List ℕ) (es : List (List ℕ × X)) → at_key k es ≡ None → first_from k es ≡ first_behind k es
+  from_behind k [] h = refl
+  from_behind k (e ∷ es) h =
+      elim (by_bytes k e.0) as (λ o. cond (is_eq o) (Some e.1) (at_key k es) ≡ None → cond (is_le o) (Some e.0) (first_from k es) ≡ cond (is_lt o) (Some e.0) (first_behind k es)) [
+        | Less ↦ λ i. refl
+        | Equal ↦ λ i. absurd (cc)
+        | Greater ↦ λ i. from_behind k es i
+      ] h
 
   -- ---- entries inside a range
 

@@ -307,10 +307,6 @@ module _ {X : Type 0} where
   begins_here k [] e l a = absurd (omega (arith, l))
   begins_here k (x ∷ es) e l a = ap (λ (y : List ℕ × X). reaches y.0 k) a
 
-  pub begins_none : (k : List ℕ) (es : List (List ℕ × X)) → length es ≤ 0 → false ≡ begins_by k es
-  begins_none k [] l = refl
-  begins_none k (x ∷ es) l = absurd (omega (arith, l))
-
   -- a row whose head was read from its items as they are now
   pub row_made : (h : ℕ) (es now : List (List ℕ × X)) → now ≡ es → BeginsHeaded h now → Rises es → IsRow h es
   row_made h es now e b r = record { rises = r; headed = subst (λ (t : List (List ℕ × X)). BeginsHeaded h t) e b }

@@ -1,7 +1,7 @@
 -- Rows one behind the other: which of them has a key, and what a change of that one makes of all.
 use Rattle.std.proofs.Common.{◌≡◌, ℕ, zero, suc, ◌+◌, ◌<◌, ◌≤◌, Bool, true, false, List, [], ◌∷◌, ◌++◌, length, take, drop, inl, inr, get_or, refl, ap, sym, ◌∙◌, subst, Some, None, cond, arith, Ordering, append_assoc}
 use Rattle.std.specs.declared.cmp.Ordering.TheVariants.{Less, Equal, Greater}
-use Rattle.std.specs.Ordering.{is_lt, is_eq, match_ordering, ordering_reverse}
+use Rattle.std.specs.Ordering.{is_lt, is_le, is_eq, match_ordering, ordering_reverse}
 use Rattle.std.specs.List.{AllByRecursion, filter, slice_get, slice_set, insert}
 use Rattle.std.proofs.lemmas.List.{length-take, length-drop, length-set, get_or_default, drop_all, length-append, take-append-drop, nil_from_length}
 use Rattle.std.specs.List.Sorted.{IsStrictlySortedBy, IsPartitionedBy, IsPartitionPoint}
@@ -11,11 +11,11 @@ use Rattle.std.proofs.lemmas.Map.Keys.{sorted_head, sorted_tail}
 use Rattle.pathkey.specs.Order.{by_bytes, by_bytes_total}
 use Rattle.message.specs.Ranges.{reaches, before}
 use Rattle.message.specs.Rows.{Rises, at_key, joined, AreFilled, begins_by, row_number, number_in, is_filled, LaterFilled, AreRows, IsWritten, or_next}
-use Rattle.message.specs.Settled.{first_behind}
+use Rattle.message.specs.Settled.{first_from}
 use Rattle.message.proofs.KeyOrder.{lt_le, reaches-from_before, before_from_not_reaches}
 use Rattle.message.proofs.RowFacts.{all_ahead, none_ahead, rises_put}
 use Rattle.std.specs.Option.{option_map}
-use Rattle.message.proofs.RowChanges.{rises_right, all_behind}
+use Rattle.message.proofs.RowChanges.{rises_right}
 
 less_from_lt : (o : Ordering) → is_lt o ≡ true → o ≡ Less
 less_from_lt Less h = refl
@@ -74,9 +74,21 @@ module _ {X : Type 0} where
   pub put_between : (k : List ℕ) (w : X) (xs ys zs : List (List ℕ × X)) → AllBefore k xs → AllBehind k zs → insert_entry by_bytes (xs ++ (ys ++ zs)) k w ≡ xs ++ (insert_entry by_bytes ys k w ++ zs)
   put_between k w xs ys zs a b = put_front k w xs (ys ++ zs) a ∙ ap (λ t. xs ++ t) (put_back k w ys zs b)
 
-  pub behind_front : (k : List ℕ) (xs ys : List (List ℕ × X)) → AllBefore k xs → first_behind k (xs ++ ys) ≡ first_behind k ys
-  behind_front k [] ys a = refl
-  behind_front k (x ∷ xs) ys a = ap (λ o. cond (is_lt o) (Some x.0) (first_behind k (xs ++ ys))) a.0 ∙ behind_front k xs ys a.1
+  from_before : (k : List ℕ) (xs : List (List ℕ × X)) → AllBefore k xs → first_from k xs ≡ None
+  from_before k [] a = refl
+  from_before k (x ∷ xs) a = ap (λ o. cond (is_le o) (Some x.0) (first_from k xs)) a.0 ∙ from_before k xs a.1
+
+  from_all : (k : List ℕ) (zs : List (List ℕ × X)) → AllBehind k zs → first_from k zs ≡ option_map (λ (e : List ℕ × X). e.0) (slice_get zs 0)
+  from_all k [] a = refl
+  from_all k (z ∷ zs) a = ap (λ o. cond (is_le o) (Some z.0) (first_from k zs)) a.0
+
+  from_append : (k : List ℕ) (xs ys : List (List ℕ × X)) → first_from k (xs ++ ys) ≡ or_next (first_from k xs) (first_from k ys)
+  from_append k [] ys = refl
+  from_append k (x ∷ xs) ys =
+      elim (reaches k x.0) as (λ c. cond c (Some x.0) (first_from k (xs ++ ys)) ≡ or_next (cond c (Some x.0) (first_from k xs)) (first_from k ys)) [
+        | true ↦ refl
+        | false ↦ from_append k xs ys
+      ]
 
   pub filter-append : (p : List ℕ × X → Bool) (xs ys : List (List ℕ × X)) → filter p (xs ++ ys) ≡ filter p xs ++ filter p ys
   filter-append p [] ys = refl
@@ -419,50 +431,25 @@ module _ {X : Type 0} where
   pub len_own : (rs : List (List (List ℕ × X))) (n : ℕ) (r : List (List ℕ × X)) → n < length rs → r ≡ get_or rs n r → length r ≡ length (get_or rs n [])
   len_own rs n r l a = ap (λ (t : List (List ℕ × X)). length t) (a ∙ get_or_default rs n r [] l)
 
-  -- ---- the next key
+  -- ---- the first key from one on
 
-  behind_some : (k x : List ℕ) (ys zs : List (List ℕ × X)) → first_behind k ys ≡ Some x → first_behind k (ys ++ zs) ≡ Some x
-  behind_some k x [] zs h = absurd (cc)
-  behind_some k x (y ∷ ys) zs h =
-      elim (is_lt (by_bytes k y.0)) as (λ c. cond c (Some y.0) (first_behind k ys) ≡ Some x → cond c (Some y.0) (first_behind k (ys ++ zs)) ≡ Some x) [
-        | true ↦ λ i. i
-        | false ↦ λ i. behind_some k x ys zs i
-      ] h
-
-  behind_none : (k : List ℕ) (ys zs : List (List ℕ × X)) → first_behind k ys ≡ None → first_behind k (ys ++ zs) ≡ first_behind k zs
-  behind_none k [] zs h = refl
-  behind_none k (y ∷ ys) zs h =
-      elim (is_lt (by_bytes k y.0)) as (λ c. cond c (Some y.0) (first_behind k ys) ≡ None → cond c (Some y.0) (first_behind k (ys ++ zs)) ≡ first_behind k zs) [
-        | true ↦ λ i. absurd (cc)
-        | false ↦ λ i. behind_none k ys zs i
-      ] h
-
-  behind_cut : (k : List ℕ) (rs : List (List (List ℕ × X))) (n : ℕ) (r : List (List ℕ × X)) → AreRows rs → n ≡ number_in k rs → n < length rs → r ≡ get_or rs n r → first_behind k (joined rs) ≡ first_behind k (r ++ joined (drop (suc n) rs))
-  behind_cut k rs n r w e l a =
-      let here : get_or rs n [] ≡ r = sym (a ∙ get_or_default rs n r [] l) in
-      ap (λ (t : List (List ℕ × X)). first_behind k t) (joined_cut n rs l ∙ ap (λ (t : List (List ℕ × X)). joined (take n rs) ++ (t ++ joined (drop (suc n) rs))) here)
-      ∙ behind_front k (joined (take n rs)) (r ++ joined (drop (suc n) rs)) (front_before k rs n w e l)
-
-  pub behind_in : (k x : List ℕ) (rs : List (List (List ℕ × X))) (n : ℕ) (r : List (List ℕ × X)) → AreRows rs → n ≡ number_in k rs → n < length rs → r ≡ get_or rs n r → Some x ≡ first_behind k r → Some x ≡ first_behind k (joined rs)
-  behind_in k x rs n r w e l a h = sym (behind_cut k rs n r w e l a ∙ behind_some k x r (joined (drop (suc n) rs)) (sym h))
-
-  pub behind_next : (k : List ℕ) (rs : List (List (List ℕ × X))) (n : ℕ) (r : List (List ℕ × X)) → AreRows rs → n ≡ number_in k rs → n < length rs → r ≡ get_or rs n r → None ≡ first_behind k r → option_map (λ (p : List ℕ × X). p.0) (slice_get (joined (drop (n + 1) rs)) 0) ≡ first_behind k (joined rs)
-  behind_next k rs n r w e l a h =
+  pub from_whole : (k : List ℕ) (rs ss : List (List (List ℕ × X))) (n : ℕ) (r : List (List ℕ × X)) → AreRows rs → n ≡ number_in k rs → n < length rs → r ≡ get_or rs n r → ss ≡ drop (n + 1) rs → or_next (first_from k r) (option_map (λ (p : List ℕ × X). p.0) (slice_get (joined ss) 0)) ≡ first_from k (joined rs)
+  from_whole k rs ss n r w e l a s =
       let one : n + 1 ≡ suc n = omega arith in
-      ap (λ j. option_map (λ (p : List ℕ × X). p.0) (slice_get (joined (drop j rs)) 0)) one
-      ∙ sym (behind_cut k rs n r w e l a ∙ behind_none k r (joined (drop (suc n) rs)) (sym h) ∙ all_behind k (joined (drop (suc n) rs)) (back_behind k rs n w e l))
+      let front = joined (take n rs) in
+      let rest = joined (drop (suc n) rs) in
+      let here : get_or rs n [] ≡ r = sym (a ∙ get_or_default rs n r [] l) in
+      let whole : joined rs ≡ front ++ (r ++ rest) = joined_cut n rs l ∙ ap (λ (t : List (List ℕ × X)). front ++ (t ++ rest)) here in
+      ap (λ (t : List (List (List ℕ × X))). or_next (first_from k r) (option_map (λ (p : List ℕ × X). p.0) (slice_get (joined t) 0))) (s ∙ ap (λ j. drop j rs) one)
+      ∙ ap (or_next (first_from k r)) (sym (from_all k rest (back_behind k rs n w e l)))
+      ∙ sym (from_append k r rest)
+      ∙ sym (ap (λ o. or_next o (first_from k (r ++ rest))) (from_before k front (front_before k rs n w e l)))
+      ∙ sym (from_append k front (r ++ rest))
+      ∙ sym (ap (λ (t : List (List ℕ × X)). first_from k t) whole)
 
-  pub behind_whole : (k : List ℕ) (rs ss : List (List (List ℕ × X))) (n : ℕ) (r : List (List ℕ × X)) → AreRows rs → n ≡ number_in k rs → n < length rs → r ≡ get_or rs n r → ss ≡ drop (n + 1) rs → or_next (first_behind k r) (option_map (λ (p : List ℕ × X). p.0) (slice_get (joined ss) 0)) ≡ first_behind k (joined rs)
-  behind_whole k rs ss n r w e l a s =
-      ap (λ (t : List (List (List ℕ × X))). or_next (first_behind k r) (option_map (λ (p : List ℕ × X). p.0) (slice_get (joined t) 0))) s
-      ∙ elim (first_behind k r) as (λ o. o ≡ first_behind k r → or_next o (option_map (λ (p : List ℕ × X). p.0) (slice_get (joined (drop (n + 1) rs)) 0)) ≡ first_behind k (joined rs)) [
-        | None ↦ λ h. behind_next k rs n r w e l a h
-        | Some x ↦ λ h. behind_in k x rs n r w e l a h
-      ] refl
-
-  pub behind_empty : (k : List ℕ) (rs : List (List (List ℕ × X))) (n : ℕ) → (0 < length rs → n < length rs) → length rs ≤ n → None ≡ first_behind k (joined rs)
-  behind_empty k [] n b l = refl
-  behind_empty k (r ∷ rs) n b l = absurd (omega (arith, l, b (omega arith)))
+  pub from_empty : (k : List ℕ) (rs : List (List (List ℕ × X))) (n : ℕ) → (0 < length rs → n < length rs) → length rs ≤ n → None ≡ first_from k (joined rs)
+  from_empty k [] n b l = refl
+  from_empty k (r ∷ rs) n b l = absurd (omega (arith, l, b (omega arith)))
 
   pub set_same : (rs : List (List (List ℕ × X))) (n : ℕ) (r : List (List ℕ × X)) → n < length rs → r ≡ get_or rs n r → slice_set rs n r ≡ rs
   set_same [] n r l a = refl

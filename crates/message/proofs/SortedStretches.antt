@@ -1,5 +1,5 @@
 -- Where stretches of a sorted list end.
-use Rattle.std.proofs.Common.{◌≡◌, ℕ, ◌⊎◌, inl, inr, Bool, true, false, List, [], ◌∷◌, ◌++◌, get_or, refl, ap, sym, ◌∙◌, subst, Option, Some, None, cond, arith, not, Bor}
+use Rattle.std.proofs.Common.{◌≡◌, ℕ, ◌⊎◌, inl, inr, Bool, true, false, List, [], ◌∷◌, ◌++◌, get_or, refl, ap, sym, ◌∙◌, subst, Option, Some, None, cond, arith, not}
 use Rattle.std.specs.Prelude.{◌&&◌, All, Contains, IfSome}
 use Rattle.std.specs.List.{filter}
 use Rattle.std.specs.List.Sorted.{IsStrictlySortedBy}
@@ -17,7 +17,6 @@ use Rattle.std.proofs.lemmas.List.Elements.{All-nil, All-push, All-append, Conta
 use Rattle.pathkey.specs.Order.{by_bytes, same}
 use Rattle.pathkey.specs.Keys.{is_below, next_key}
 use Rattle.pathkey.proofs.OrderFacts.{same_true}
-use Rattle.std.specs.Option.{option_copied}
 use Rattle.message.proofs.NextKey.{one_before_next, before-next, reaches-from_before_next}
 use Rattle.message.specs.declared.msg.Msg.{Msg}
 use Rattle.message.specs.declared.msg.Msg.TheVariants as msg
@@ -26,10 +25,12 @@ use Rattle.message.specs.declared.run.Run.TheVariants.{Put, Del, Edit, Edits}
 use Rattle.message.specs.Effects.{touches}
 use Rattle.message.specs.Ranges.{reaches, before, within, earlier_end}
 use Rattle.message.specs.Runs.{run_msgs, later_msgs}
-use Rattle.message.specs.Settled.{Span, AreApart, ends_by, point_msgs, range_msgs, settled_msgs, look, first_behind, high_ahead, last_where, last_or, range_of}
-use Rattle.message.specs.Stretches.{ahead_of, ActAlike, ends_of, all_ends, IsStretch, EndsAhead}
+use Rattle.message.specs.Settled.{Span, AreApart, ends_by, point_msgs, range_msgs, settled_msgs, look, first_behind, first_from, high_ahead, last_where, last_or, range_of}
+use Rattle.message.specs.Rows.{Rises}
+use Rattle.message.specs.Stretches.{ahead_of, is_key, ActAlike, ends_of, all_ends, IsStretch, EndsAhead}
 use Rattle.message.proofs.KeyOrder.{both, le_le, le_lt, lt_le, reaches-refl, reaches-from_before, reaches-from_not_before, not_before_from_reaches, not_reaches_from_before, begins_before_end, beyond}
 use Rattle.message.proofs.StretchEnds.{ahead_after, unlike, below_alike, below_both, below_earlier, some_earlier, weaker, all_ends-append}
+use Rattle.message.proofs.RowChanges.{absent_from, from_behind}
 use Rattle.message.proofs.SettledMeaning.{split_bool}
 
 -- ---- stretches one after the other
@@ -181,7 +182,7 @@ module _ {U V : Type 0} where
   itself ms None = tt
   itself ms (Some d) = inl refl
 
-  pub points_stretch : (from : List ℕ) (end stop : Option (List ℕ)) (es : List (List ℕ × Run U V)) → IsStrictlySortedBy by_bytes (keys_of es) → look from es ≡ None → is_below from end ≡ true → stop ≡ earlier_end end (first_behind from es) → IsStretch (point_msgs es) from end stop
+  points_stretch : (from : List ℕ) (end stop : Option (List ℕ)) (es : List (List ℕ × Run U V)) → IsStrictlySortedBy by_bytes (keys_of es) → look from es ≡ None → is_below from end ≡ true → stop ≡ earlier_end end (first_behind from es) → IsStretch (point_msgs es) from end stop
   points_stretch from end stop es s n low is =
       let b = first_behind from es in
       let after : is_below from (earlier_end end b) ≡ true = below_earlier end b from low (behind_above from es) in
@@ -191,6 +192,12 @@ module _ {U V : Type 0} where
         inside = λ k h. (below_both end b k h).0;
         an_end = some_earlier (λ d. (end ≡ Some d) ⊎ Contains (all_ends (point_msgs es)) d) end b (itself (point_msgs es) end) (weaker (Contains (all_ends (point_msgs es))) (λ d. (end ≡ Some d) ⊎ Contains (all_ends (point_msgs es)) d) b (λ d t. inr t) (points_end from es));
       })
+
+  -- likewise by the first key from `from` on, where that is another
+  pub points_from : (from : List ℕ) (end stop : Option (List ℕ)) (es : List (List ℕ × Run U V)) → Rises es → is_key (first_from from es) from ≡ false → is_below from end ≡ true → stop ≡ earlier_end end (first_from from es) → IsStretch (point_msgs es) from end stop
+  points_from from end stop es r n low is =
+      let none = absent_from from es r n in
+      points_stretch from end stop es r none low (is ∙ ap (earlier_end end) (from_behind from es none))
 
 -- ---- range-deletes
 
@@ -308,14 +315,6 @@ module _ {U V : Type 0} where
 
   pub settled_next : (rs : List Span) (k : List ℕ) (es : List (List ℕ × Run U V)) → is_some (look k es) ≡ true → Contains (all_ends (settled_msgs rs es)) (next_key k)
   settled_next rs k es h = subst (λ zs. Contains zs (next_key k)) (sym (all_ends-append (range_msgs rs) (point_msgs es))) (Contains-append_right (all_ends (range_msgs {U = U} {V = V} rs)) (all_ends (point_msgs es)) (next_key k) (points_next k es h))
-
-pub none_of : {X : Type 0} (o : Option X) → is_some o ≡ false → o ≡ None
-none_of None h = refl
-none_of (Some x) h = absurd (cc)
-
-pub copied_some : {X : Type 0} (o : Option (Bor X)) → is_some (option_copied o) ≡ is_some o
-copied_some None = refl
-copied_some (Some x) = refl
 
 -- ---- a list in parts
 

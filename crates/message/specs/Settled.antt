@@ -187,6 +187,11 @@ abbrev pub first_behind : {X : Type 0} → List ℕ → List (List ℕ × X) →
 first_behind k [] = None
 first_behind k (e ∷ es) = if before k e.0 then Some e.0 else first_behind k es
 
+-- the first key at this one or behind it
+abbrev pub first_from : {X : Type 0} → List ℕ → List (List ℕ × X) → Option (List ℕ)
+first_from k [] = None
+first_from k (e ∷ es) = if reaches k e.0 then Some e.0 else first_from k es
+
 -- the high end of an entry, where it lies behind the key
 abbrev pub high_ahead : List ℕ → Option Span → Option (List ℕ)
 high_ahead k None = None

@@ -7,10 +7,8 @@ ghost use Rattle.pathkey.specs.Keys.{is_below, is_in};
 ghost use Rattle.message.specs.Rows.{Rises, place, end_place, joined, number_in, AreFilled, AreRows, or_next, IsHolder, IsGap, IsWritten};
 ghost use Rattle.message.specs.Ranges.{before, reaches};
 ghost use Rattle.message.specs.Runs.{run_len, run_effect, run_msgs, IsRunKeyed};
-ghost use Rattle.message.specs.Stretches.{IsStretch};
-ghost use Rattle.message.specs.Settled.{AreRunsKeyed, Lays, look, first_behind, point_msgs, point_count, MovesFirst, TakesFirst};
+ghost use Rattle.message.specs.Settled.{AreRunsKeyed, Lays, look, first_from, point_msgs, point_count, MovesFirst, TakesFirst};
 
-use crate::ends::earlier;
 use crate::msg::Msg;
 use crate::row::{Item, Row};
 use crate::rows::{drop_empty, end_row, first_in, number_in, part, pop_in, pop_item, prepare};
@@ -174,13 +172,12 @@ impl<U: Update> Points<U> {
         run_among(self.rows.as_slice(), key)
     }
 
-    /// Where the next key behind `from` stands that has messages, if that is before `end`; else `end`. There are none at `from`.
-    pub(crate) fn stretch_end<'a>(&'a self, from: &Key, end: Option<&'a Key>) -> Option<&'a Key>
-        requires none { look from.now self.now ≡ None }
-        requires some { is_below from.now (option_copied end) ≡ true }
-        ensures { IsStretch (point_msgs self.now) from.now (option_copied end.entry) (option_copied result) }
+    /// The first key that has messages, at this one or behind it.
+    pub(crate) fn first_from(&self, key: &Key) -> Option<&Key>
+        ensures key { option_copied result ≡ first_from key.now self.now }
+        ensures ordered { Rises self.now }
     {
-        earlier(end, behind_among(self.rows.as_slice(), from))
+        from_among(self.rows.as_slice(), key)
     }
 
     /// Copies of the messages, put behind those in `front`, until it has so many or more.
@@ -331,24 +328,24 @@ fn run_among<'a, U: Update>(rows: &'a [Row<Run<U>>], key: &Key) -> Option<&'a Ru
     }
 }
 
-/// The first key of rows behind this one.
-fn behind_among<'a, T: Drop>(rows: &'a [Row<T>], key: &Key) -> Option<&'a Key>
+/// The first key of rows at this one or behind it.
+fn from_among<'a, T: Drop>(rows: &'a [Row<T>], key: &Key) -> Option<&'a Key>
     requires { AreRows rows.now }
-    ensures { option_copied result ≡ first_behind key.now (joined rows.now) }
+    ensures { option_copied result ≡ first_from key.now (joined rows.now) }
 {
     let n = number_in(rows, key);
     match rows.get(n) {
         None => None,
-        Some(row) => behind_from(row, &rows[n + 1..], key),
+        Some(row) => from_row(row, &rows[n + 1..], key),
     }
 }
 
-/// The first key of a row behind this one, or of the rows behind that row.
-fn behind_from<'a, T: Drop>(row: &'a Row<T>, later: &'a [Row<T>], key: &Key) -> Option<&'a Key>
+/// The first key of a row at this one or behind it, or the first of the rows behind that row.
+fn from_row<'a, T: Drop>(row: &'a Row<T>, later: &'a [Row<T>], key: &Key) -> Option<&'a Key>
     requires { AreFilled later.now }
-    ensures { option_copied result ≡ or_next (first_behind key.now row.now) (option_map (λ e. e.0) (slice_get (joined later.now) 0)) }
+    ensures { option_copied result ≡ or_next (first_from key.now row.now) (option_map (λ e. e.0) (slice_get (joined later.now) 0)) }
 {
-    match first_behind(row, key) {
+    match first_from(row, key) {
         None => first_key(later),
         Some(next) => Some(next),
     }
@@ -616,17 +613,12 @@ fn run_in<'a, U: Update>(row: &'a Row<Run<U>>, key: &Key) -> Option<&'a Run<U>>
     }
 }
 
-/// The first key of a row behind this one.
-fn first_behind<'a, T: Drop>(row: &'a Row<T>, key: &Key) -> Option<&'a Key>
-    ensures value { option_copied result ≡ first_behind key.now row.now }
-    ensures ordered { Rises row.now }
+/// The first key of a row at this one or behind it.
+fn first_from<'a, T: Drop>(row: &'a Row<T>, key: &Key) -> Option<&'a Key>
+    ensures { option_copied result ≡ first_from key.now row.now }
 {
-    // What `len` promises says that the number behind is one.
-    let _ = row.len();
-    match row.find(key) {
-        Ok(i) => key_at(row, i + 1),
-        Err(i) => key_at(row, i),
-    }
+    let i = row.before(key);
+    key_at(row, i)
 }
 
 /// The key of the entry with this number, if there is one.

@@ -9,17 +9,18 @@ ghost use Rattle.std.specs.List.{All, slice_get};
 ghost use Rattle.message.specs.Oldest.{first_point};
 ghost use Rattle.message.specs.Oldests.{oldest_msgs, IsOldestKeyed};
 ghost use Rattle.message.specs.PointKeys.{is_cleared, IsPointStop, IsClearStretch};
-ghost use Rattle.message.specs.Stretches.{EndsAhead};
+ghost use Rattle.message.specs.Stretches.{EndsAhead, is_key};
 ghost use Rattle.message.specs.Told.{IsTold};
 ghost use Rattle.pathkey.specs.Keys.{is_below};
 ghost use Rattle.std.specs.Option.{option_copied, option_map};
 
 use crate::eldest::Eldest;
-use crate::ends::is_before_end;
+use crate::ends::{earlier, is_before_end};
 use crate::msg::Msg;
 use crate::points::Points;
 use crate::ranges;
 use crate::run::Run;
+use crate::stretch::point_stop;
 use crate::told::Told;
 use crate::update::{Changes, Update};
 use pathkey::{Key, KeyRange, NoMemory};
@@ -248,24 +249,19 @@ impl<U: Update> Settled<U> {
         requires { is_below from.now (option_copied end) ≡ true }
         ensures { EndsAhead self.now from.now (option_copied end.entry) (option_map option_copied result) }
     {
-        if self.points.run_at(from).is_some() {
+        let next = self.points.first_from(from);
+        if is_key(next, from) {
             return None;
         }
         let stop = ranges::stretch_end::<U>(&self.ranges, from, end);
-        Some(self.points.stretch_end(from, stop))
+        Some(earlier(stop, next))
     }
 
     /// The first key from `from` on that has a message for it alone, if it stands before `end`; else `end`.
     pub(crate) fn next_point<'a>(&'a self, from: &'a Key, end: Option<&'a Key>) -> Option<&'a Key>
         ensures { IsPointStop self.now from.now (option_copied end.entry) (option_copied result) }
     {
-        if !is_before_end(from, end) {
-            return end;
-        }
-        if self.points.run_at(from).is_some() {
-            return Some(from);
-        }
-        self.points.stretch_end(from, end)
+        point_stop(self.points.first_from(from), from, end)
     }
 
     /// Whether a range-delete holds the key.
@@ -343,6 +339,16 @@ pub(crate) enum Oldest<U: Changes> {
     Range(KeyRange),
     /// The messages of one key.
     Run(Key, Run<U>),
+}
+
+/// Whether there is a key and it is this one.
+fn is_key(at: Option<&Key>, key: &Key) -> bool
+    ensures { result ≡ is_key (option_copied at.entry) key.now }
+{
+    match at {
+        None => false,
+        Some(at) => *at == *key,
+    }
 }
 
 /// The value, unless it is gone.

@@ -1,0 +1,21 @@
+use Rattle.std.proofs.Common.{◌≡◌, ◌<◌, ◌≤◌, ◌+◌, ◌∙◌, rules, length, get_or}
+use Rattle.std.proofs.lemmas.List.{take_rest}
+use Rattle.message.proofs.RowsFacts.{from_whole, from_empty, filled_behind}
+use Rattle.message.proofs.points.from_among.Goals as goal
+
+pub from_row-requires : goal.from_row-requires
+from_row-requires g c = filled_behind c.args.rows.now _ c.number_in-n.result (take_rest c.args.rows.now (c.number_in-n.result + 1)) c.requires
+
+pub returns-in-None : goal.returns-in-None
+returns-in-None g c =
+    let high : length c.args.rows.now ≤ c.number_in-n.result = search rules in
+    from_empty c.args.key.now c.args.rows.now c.number_in-n.result c.number_in-n.ensures.bound high
+
+pub returns-in-Some : goal.returns-in-Some
+returns-in-Some g c =
+    let rs = c.args.rows.now in
+    let n = c.number_in-n.result in
+    let r = c.in-Some.row.now in
+    let low : n < length rs = search rules in
+    let at : r ≡ get_or rs n r = search rules in
+    c.from_row.ensures ∙ from_whole c.args.key.now rs _ n r c.requires c.number_in-n.ensures.number low at (take_rest rs (n + 1))
