@@ -14,12 +14,12 @@ use Rattle.message.proofs.RowChanges.{before_from, reach_rest, rises_left, rises
 use Rattle.message.proofs.RowsFacts.{AllBefore, AllBehind, front_before, back_behind, filled_drop, filled_later}
 use Rattle.message.proofs.PointRows.{joined-append, joined_push}
 
-weaker : (P Q : List ℕ → Type 0) (ks : List (List ℕ)) → ((k : List ℕ) → P k → Q k) → AllByRecursion P ks → AllByRecursion Q ks
+pub weaker : (P Q : List ℕ → Type 0) (ks : List (List ℕ)) → ((k : List ℕ) → P k → Q k) → AllByRecursion P ks → AllByRecursion Q ks
 weaker P Q [] f a = tt
 weaker P Q (k ∷ ks) f a = (f k a.0, weaker P Q ks f a.1)
 
 module _ {X : Type 0} where
-  all_append : (P : List ℕ → Type 0) (es fs : List (List ℕ × X)) → AllByRecursion P (keys_of es) → AllByRecursion P (keys_of fs) → AllByRecursion P (keys_of (es ++ fs))
+  pub all_append : (P : List ℕ → Type 0) (es fs : List (List ℕ × X)) → AllByRecursion P (keys_of es) → AllByRecursion P (keys_of fs) → AllByRecursion P (keys_of (es ++ fs))
   all_append P [] fs a b = b
   all_append P (e ∷ es) fs a b = (a.0, all_append P es fs a.1 b)
 
@@ -28,7 +28,7 @@ module _ {X : Type 0} where
 
   -- ---- one row
 
-  taken_before : (k : List ℕ) (es : List (List ℕ × X)) → AllBefore k (take (place k es) es)
+  pub taken_before : (k : List ℕ) (es : List (List ℕ × X)) → AllBefore k (take (place k es) es)
   taken_before k [] = tt
   taken_before k (e ∷ es) =
       elim (by_bytes k e.0) as (λ o. by_bytes k e.0 ≡ o → AllBefore k (take (match_ordering o 0 0 (suc (place k es))) (e ∷ es))) [
@@ -37,7 +37,7 @@ module _ {X : Type 0} where
         | Greater ↦ λ p. (p, taken_before k es)
       ] refl
 
-  dropped_from : (k : List ℕ) (es : List (List ℕ × X)) → Rises es → AllFrom k (drop (place k es) es)
+  pub dropped_from : (k : List ℕ) (es : List (List ℕ × X)) → Rises es → AllFrom k (drop (place k es) es)
   dropped_from k [] r = tt
   dropped_from k (e ∷ es) r =
       let less = sorted_head by_bytes e.0 (keys_of es) r in

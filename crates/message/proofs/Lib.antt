@@ -29,4 +29,6 @@ pub mod PointChanges
 pub mod RowsFacts
 pub mod PointRows
 pub mod Dividing
+pub mod LastEntries
+pub mod RangeRows
 pub mod Moving

@@ -274,7 +274,7 @@ module _ {U V : Type 0} where
   take_inner (suc n) [] c = refl
   take_inner (suc n) (x ∷ a) c = ap (λ t. x ∷ t) (take_inner n a c)
 
-  take_under : (n : ℕ) (a b c : List (Msg U V)) → take n a ≡ take n b → take n (a ++ c) ≡ take n (b ++ c)
+  pub take_under : (n : ℕ) (a b c : List (Msg U V)) → take n a ≡ take n b → take n (a ++ c) ≡ take n (b ++ c)
   take_under n a b c e = take_inner n a c ∙ ap (λ (t : List (Msg U V)). take n (t ++ c)) e ∙ sym (take_inner n b c)
 
   pub row_copied : (n : ℕ) (rs : List (List (List ℕ × Run U V))) (i : ℕ) (r : List (List ℕ × Run U V)) (bs : List (List ℕ × Run U V)) (front new t : List (Msg U V)) → i < length rs → r ≡ get_or rs i r → bs ≡ r → take n (front ++ point_msgs (joined (drop i rs))) ≡ t → take n new ≡ take n (front ++ point_msgs bs) → take n (new ++ point_msgs (joined (drop (i + 1) rs))) ≡ t

@@ -14,7 +14,7 @@ use Rattle.pathkey.specs.Order.{by_bytes, by_bytes_total, by_bytes_equiv, same}
 use Rattle.pathkey.specs.Keys.{is_below}
 use Rattle.pathkey.proofs.OrderFacts.{equal, same_true, same_false, same_itself}
 use Rattle.message.specs.Ranges.{reaches, before, within}
-use Rattle.message.specs.Rows.{Rises, at_key, place, end_place, is_there}
+use Rattle.message.specs.Rows.{Rises, at_key, place, place_past, end_place, is_there}
 use Rattle.message.specs.Settled.{first_behind, first_from}
 use Rattle.message.specs.Stretches.{is_key}
 use Rattle.message.proofs.KeyOrder.{le_lt, reaches-from_before, not_before_from_reaches}
@@ -22,6 +22,10 @@ use Rattle.message.proofs.RowFacts.{place_bound, rises_cons, all_ahead, none_ahe
 
 same_back : (k q : List ℕ) → same q k ≡ same k q
 same_back k q = by_bytes_equiv.symm q k
+
+pub all_like : (k x : List ℕ) (ks : List (List ℕ)) → by_bytes k x ≡ Equal → AllByRecursion (λ y. by_bytes x y ≡ Less) ks → AllByRecursion (λ y. by_bytes k y ≡ Less) ks
+all_like k x [] p a = tt
+all_like k x (y ∷ ks) p a = (by_bytes_total.congr k x y p ∙ a.0, all_like k x ks p a.1)
 
 stays : (b c : Bool) → c ≡ false → not (b && c) ≡ true
 stays true c h = ap not h
@@ -126,6 +130,17 @@ module _ {X : Type 0} where
         | Greater ↦ at_place k es
       ]
 
+  pub behind_place : (k : List ℕ) (es : List (List ℕ × X)) (i : ℕ) → i ≡ place_past k es → option_map (λ (e : List ℕ × X). e.0) (slice_get es i) ≡ first_behind k es
+  behind_place k es i n = ap (λ j. option_map (λ (e : List ℕ × X). e.0) (slice_get es j)) n ∙ at_place k es
+    where
+      at_place : (k : List ℕ) (es : List (List ℕ × X)) → option_map (λ (e : List ℕ × X). e.0) (slice_get es (place_past k es)) ≡ first_behind k es
+      at_place k [] = refl
+      at_place k (e ∷ es) = elim (by_bytes k e.0) as (λ o. option_map (λ (x : List ℕ × X). x.0) (slice_get (e ∷ es) (match_ordering o 0 (suc (place_past k es)) (suc (place_past k es)))) ≡ cond (is_lt o) (Some e.0) (first_behind k es)) [
+        | Less ↦ refl
+        | Equal ↦ at_place k es
+        | Greater ↦ at_place k es
+      ]
+
   -- where it is the key itself something stands there
   pub there_from : (k : List ℕ) (es : List (List ℕ × X)) → is_key (first_from k es) k ≡ true → is_some (at_key k es) ≡ true
   there_from k [] h = absurd (cc)
@@ -161,10 +176,10 @@ module _ {X : Type 0} where
   abbrev pub outside : List ℕ → Option (List ℕ) → List ℕ × X → Bool
   outside lo hi e = not (within lo hi e.0)
 
-  filter_in : (p : List ℕ × X → Bool) (e : List ℕ × X) (es : List (List ℕ × X)) → p e ≡ true → filter p (e ∷ es) ≡ e ∷ filter p es
+  pub filter_in : (p : List ℕ × X → Bool) (e : List ℕ × X) (es : List (List ℕ × X)) → p e ≡ true → filter p (e ∷ es) ≡ e ∷ filter p es
   filter_in p e es h = ap (λ c. cond c (e ∷ filter p es) (filter p es)) h
 
-  filter_out : (p : List ℕ × X → Bool) (e : List ℕ × X) (es : List (List ℕ × X)) → p e ≡ false → filter p (e ∷ es) ≡ filter p es
+  pub filter_out : (p : List ℕ × X → Bool) (e : List ℕ × X) (es : List (List ℕ × X)) → p e ≡ false → filter p (e ∷ es) ≡ filter p es
   filter_out p e es h = ap (λ c. cond c (e ∷ filter p es) (filter p es)) h
 
   all_gone : (lo : List ℕ) (es : List (List ℕ × X)) → AllByRecursion (λ y. reaches lo y ≡ true) (keys_of es) → filter (outside lo None) es ≡ drop (length es) es
@@ -190,7 +205,7 @@ module _ {X : Type 0} where
   from_low lo (Some h) es r a = up_to_end lo h es r a
 
   -- an end behind the low end stands behind an entry before it
-  end_behind : (lo : List ℕ) (hi : Option (List ℕ)) (e : List ℕ × X) (es : List (List ℕ × X)) → is_below lo hi ≡ true → by_bytes lo e.0 ≡ Greater → end_place hi (e ∷ es) ≡ suc (end_place hi es)
+  pub end_behind : (lo : List ℕ) (hi : Option (List ℕ)) (e : List ℕ × X) (es : List (List ℕ × X)) → is_below lo hi ≡ true → by_bytes lo e.0 ≡ Greater → end_place hi (e ∷ es) ≡ suc (end_place hi es)
   end_behind lo None e es b p = refl
   end_behind lo (Some h) e es b p =
       let step : by_bytes e.0 lo ≡ Less = by_bytes_total.antisymm e.0 lo ∙ ap ordering_reverse p in

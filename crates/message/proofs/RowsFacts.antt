@@ -11,7 +11,7 @@ use Rattle.std.proofs.lemmas.Map.Keys.{sorted_head, sorted_tail}
 use Rattle.pathkey.specs.Order.{by_bytes, by_bytes_total}
 use Rattle.message.specs.Ranges.{reaches, before}
 use Rattle.message.specs.Rows.{Rises, at_key, joined, AreFilled, begins_by, row_number, number_in, is_filled, LaterFilled, AreRows, IsWritten, or_next}
-use Rattle.message.specs.Settled.{first_from}
+use Rattle.message.specs.Settled.{first_where, first_behind, first_from}
 use Rattle.message.proofs.KeyOrder.{lt_le, reaches-from_before, before_from_not_reaches}
 use Rattle.message.proofs.RowFacts.{all_ahead, none_ahead, rises_put}
 use Rattle.std.specs.Option.{option_map}
@@ -23,11 +23,11 @@ less_from_lt Equal h = (cc)
 less_from_lt Greater h = (cc)
 
 -- a key behind another
-greater_from : (k x : List ℕ) → before x k ≡ true → by_bytes k x ≡ Greater
+pub greater_from : (k x : List ℕ) → before x k ≡ true → by_bytes k x ≡ Greater
 greater_from k x h = by_bytes_total.antisymm k x ∙ ap ordering_reverse (less_from_lt (by_bytes x k) h)
 
 -- a number that is none only where another is none
-some_from : (a b : ℕ) → 0 < a → (b ≡ 0 → a ≡ 0) → 0 < b
+pub some_from : (a b : ℕ) → 0 < a → (b ≡ 0 → a ≡ 0) → 0 < b
 some_from a zero p h = absurd (omega (arith, p, h refl))
 some_from a (suc b) p h = omega arith
 
@@ -74,20 +74,22 @@ module _ {X : Type 0} where
   pub put_between : (k : List ℕ) (w : X) (xs ys zs : List (List ℕ × X)) → AllBefore k xs → AllBehind k zs → insert_entry by_bytes (xs ++ (ys ++ zs)) k w ≡ xs ++ (insert_entry by_bytes ys k w ++ zs)
   put_between k w xs ys zs a b = put_front k w xs (ys ++ zs) a ∙ ap (λ t. xs ++ t) (put_back k w ys zs b)
 
-  from_before : (k : List ℕ) (xs : List (List ℕ × X)) → AllBefore k xs → first_from k xs ≡ None
-  from_before k [] a = refl
-  from_before k (x ∷ xs) a = ap (λ o. cond (is_le o) (Some x.0) (first_from k xs)) a.0 ∙ from_before k xs a.1
+  -- ---- the first key that passes, where those before a key fail and those behind it pass
 
-  from_all : (k : List ℕ) (zs : List (List ℕ × X)) → AllBehind k zs → first_from k zs ≡ option_map (λ (e : List ℕ × X). e.0) (slice_get zs 0)
-  from_all k [] a = refl
-  from_all k (z ∷ zs) a = ap (λ o. cond (is_le o) (Some z.0) (first_from k zs)) a.0
+  where_before : (p : List ℕ → Bool) (k : List ℕ) (xs : List (List ℕ × X)) → ((q : List ℕ) → by_bytes k q ≡ Greater → p q ≡ false) → AllBefore k xs → first_where p xs ≡ None
+  where_before p k [] f a = refl
+  where_before p k (x ∷ xs) f a = ap (λ c. cond c (Some x.0) (first_where p xs)) (f x.0 a.0) ∙ where_before p k xs f a.1
 
-  from_append : (k : List ℕ) (xs ys : List (List ℕ × X)) → first_from k (xs ++ ys) ≡ or_next (first_from k xs) (first_from k ys)
-  from_append k [] ys = refl
-  from_append k (x ∷ xs) ys =
-      elim (reaches k x.0) as (λ c. cond c (Some x.0) (first_from k (xs ++ ys)) ≡ or_next (cond c (Some x.0) (first_from k xs)) (first_from k ys)) [
+  where_behind : (p : List ℕ → Bool) (k : List ℕ) (zs : List (List ℕ × X)) → ((q : List ℕ) → by_bytes k q ≡ Less → p q ≡ true) → AllBehind k zs → first_where p zs ≡ option_map (λ (e : List ℕ × X). e.0) (slice_get zs 0)
+  where_behind p k [] f a = refl
+  where_behind p k (z ∷ zs) f a = ap (λ c. cond c (Some z.0) (first_where p zs)) (f z.0 a.0)
+
+  where_append : (p : List ℕ → Bool) (xs ys : List (List ℕ × X)) → first_where p (xs ++ ys) ≡ or_next (first_where p xs) (first_where p ys)
+  where_append p [] ys = refl
+  where_append p (x ∷ xs) ys =
+      elim (p x.0) as (λ c. cond c (Some x.0) (first_where p (xs ++ ys)) ≡ or_next (cond c (Some x.0) (first_where p xs)) (first_where p ys)) [
         | true ↦ refl
-        | false ↦ from_append k xs ys
+        | false ↦ where_append p xs ys
       ]
 
   pub filter-append : (p : List ℕ × X → Bool) (xs ys : List (List ℕ × X)) → filter p (xs ++ ys) ≡ filter p xs ++ filter p ys
@@ -433,23 +435,29 @@ module _ {X : Type 0} where
 
   -- ---- the first key from one on
 
-  pub from_whole : (k : List ℕ) (rs ss : List (List (List ℕ × X))) (n : ℕ) (r : List (List ℕ × X)) → AreRows rs → n ≡ number_in k rs → n < length rs → r ≡ get_or rs n r → ss ≡ drop (n + 1) rs → or_next (first_from k r) (option_map (λ (p : List ℕ × X). p.0) (slice_get (joined ss) 0)) ≡ first_from k (joined rs)
-  from_whole k rs ss n r w e l a s =
+  where_whole : (p : List ℕ → Bool) (k : List ℕ) (rs ss : List (List (List ℕ × X))) (n : ℕ) (r : List (List ℕ × X)) → ((q : List ℕ) → by_bytes k q ≡ Greater → p q ≡ false) → ((q : List ℕ) → by_bytes k q ≡ Less → p q ≡ true) → AreRows rs → n ≡ number_in k rs → n < length rs → r ≡ get_or rs n r → ss ≡ drop (n + 1) rs → or_next (first_where p r) (option_map (λ (e : List ℕ × X). e.0) (slice_get (joined ss) 0)) ≡ first_where p (joined rs)
+  where_whole p k rs ss n r f g w e l a s =
       let one : n + 1 ≡ suc n = omega arith in
       let front = joined (take n rs) in
       let rest = joined (drop (suc n) rs) in
       let here : get_or rs n [] ≡ r = sym (a ∙ get_or_default rs n r [] l) in
       let whole : joined rs ≡ front ++ (r ++ rest) = joined_cut n rs l ∙ ap (λ (t : List (List ℕ × X)). front ++ (t ++ rest)) here in
-      ap (λ (t : List (List (List ℕ × X))). or_next (first_from k r) (option_map (λ (p : List ℕ × X). p.0) (slice_get (joined t) 0))) (s ∙ ap (λ j. drop j rs) one)
-      ∙ ap (or_next (first_from k r)) (sym (from_all k rest (back_behind k rs n w e l)))
-      ∙ sym (from_append k r rest)
-      ∙ sym (ap (λ o. or_next o (first_from k (r ++ rest))) (from_before k front (front_before k rs n w e l)))
-      ∙ sym (from_append k front (r ++ rest))
-      ∙ sym (ap (λ (t : List (List ℕ × X)). first_from k t) whole)
+      ap (λ (t : List (List (List ℕ × X))). or_next (first_where p r) (option_map (λ (e : List ℕ × X). e.0) (slice_get (joined t) 0))) (s ∙ ap (λ j. drop j rs) one)
+      ∙ ap (or_next (first_where p r)) (sym (where_behind p k rest g (back_behind k rs n w e l)))
+      ∙ sym (where_append p r rest)
+      ∙ sym (ap (λ o. or_next o (first_where p (r ++ rest))) (where_before p k front f (front_before k rs n w e l)))
+      ∙ sym (where_append p front (r ++ rest))
+      ∙ sym (ap (λ (t : List (List ℕ × X)). first_where p t) whole)
 
-  pub from_empty : (k : List ℕ) (rs : List (List (List ℕ × X))) (n : ℕ) → (0 < length rs → n < length rs) → length rs ≤ n → None ≡ first_from k (joined rs)
-  from_empty k [] n b l = refl
-  from_empty k (r ∷ rs) n b l = absurd (omega (arith, l, b (omega arith)))
+  pub from_whole : (k : List ℕ) (rs ss : List (List (List ℕ × X))) (n : ℕ) (r : List (List ℕ × X)) → AreRows rs → n ≡ number_in k rs → n < length rs → r ≡ get_or rs n r → ss ≡ drop (n + 1) rs → or_next (first_from k r) (option_map (λ (e : List ℕ × X). e.0) (slice_get (joined ss) 0)) ≡ first_from k (joined rs)
+  from_whole k rs ss n r w e l a s = where_whole (reaches k) k rs ss n r (λ q h. ap is_le h) (λ q h. ap is_le h) w e l a s
+
+  pub behind_whole : (k : List ℕ) (rs ss : List (List (List ℕ × X))) (n : ℕ) (r : List (List ℕ × X)) → AreRows rs → n ≡ number_in k rs → n < length rs → r ≡ get_or rs n r → ss ≡ drop (n + 1) rs → or_next (first_behind k r) (option_map (λ (e : List ℕ × X). e.0) (slice_get (joined ss) 0)) ≡ first_behind k (joined rs)
+  behind_whole k rs ss n r w e l a s = where_whole (before k) k rs ss n r (λ q h. ap is_lt h) (λ q h. ap is_lt h) w e l a s
+
+  pub where_empty : (p : List ℕ → Bool) (rs : List (List (List ℕ × X))) (n : ℕ) → (0 < length rs → n < length rs) → length rs ≤ n → None ≡ first_where p (joined rs)
+  where_empty p [] n b l = refl
+  where_empty p (r ∷ rs) n b l = absurd (omega (arith, l, b (omega arith)))
 
   pub set_same : (rs : List (List (List ℕ × X))) (n : ℕ) (r : List (List ℕ × X)) → n < length rs → r ≡ get_or rs n r → slice_set rs n r ≡ rs
   set_same [] n r l a = refl

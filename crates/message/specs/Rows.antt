@@ -38,7 +38,12 @@ module _ {X : Type 0} where
   place k [] = 0
   place k (e ∷ es) = match_ordering (by_bytes k e.0) 0 0 (suc (place k es))
 
-  -- likewise before an end
+  -- how many stand at the key or before it
+  abbrev pub place_past : List ℕ → List (List ℕ × X) → ℕ
+  place_past k [] = 0
+  place_past k (e ∷ es) = match_ordering (by_bytes k e.0) 0 (suc (place_past k es)) (suc (place_past k es))
+
+  -- how many stand before an end
   abbrev pub end_place : Option (List ℕ) → List (List ℕ × X) → ℕ
   end_place None es = length es
   end_place (Some h) es = place h es
@@ -110,6 +115,11 @@ module _ {X : Type 0} where
   pub record AreRows (rs : List (List (List ℕ × X))) : Type 0 where
     pub rises : Rises (joined rs)
     pub later : LaterFilled rs
+
+  -- such rows, and how many entries they have
+  pub record AreCounted (rs : List (List (List ℕ × X))) (count : ℕ) : Type 0 where
+    pub rows : AreRows rs
+    pub counted : count ≡ length (joined rs)
 
   -- the rows from this number on stand behind the end
   abbrev pub IsEndRow : Option (List ℕ) → List (List (List ℕ × X)) → ℕ → Type 0

@@ -182,15 +182,18 @@ IsToldOf f Nothing = ⊥
 IsToldOf {V} f (Value v) = (o : Option V) → f o ≡ v
 IsToldOf f Change = Unit {0}
 
+-- the first key that passes
+abbrev pub first_where : {X : Type 0} → (List ℕ → Bool) → List (List ℕ × X) → Option (List ℕ)
+first_where p [] = None
+first_where p (e ∷ es) = if p e.0 then Some e.0 else first_where p es
+
 -- the first key behind this one
 abbrev pub first_behind : {X : Type 0} → List ℕ → List (List ℕ × X) → Option (List ℕ)
-first_behind k [] = None
-first_behind k (e ∷ es) = if before k e.0 then Some e.0 else first_behind k es
+first_behind k es = first_where (before k) es
 
 -- the first key at this one or behind it
 abbrev pub first_from : {X : Type 0} → List ℕ → List (List ℕ × X) → Option (List ℕ)
-first_from k [] = None
-first_from k (e ∷ es) = if reaches k e.0 then Some e.0 else first_from k es
+first_from k es = first_where (reaches k) es
 
 -- the high end of an entry, where it lies behind the key
 abbrev pub high_ahead : List ℕ → Option Span → Option (List ℕ)

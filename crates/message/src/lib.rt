@@ -10,6 +10,7 @@ pub mod ends;
 pub(crate) mod list;
 pub mod meets;
 pub mod msg;
+pub(crate) mod nearest;
 pub mod pending;
 pub(crate) mod points;
 pub(crate) mod ranges;

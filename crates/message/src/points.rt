@@ -10,6 +10,7 @@ ghost use Rattle.message.specs.Runs.{run_len, run_effect, run_msgs, IsRunKeyed};
 ghost use Rattle.message.specs.Settled.{AreRunsKeyed, Lays, look, first_from, point_msgs, point_count, MovesFirst, TakesFirst};
 
 use crate::msg::Msg;
+use crate::nearest::from_among;
 use crate::row::{Item, Row};
 use crate::rows::{drop_empty, end_row, first_in, number_in, part, pop_in, pop_item, prepare};
 use crate::run::Run;
@@ -328,40 +329,6 @@ fn run_among<'a, U: Update>(rows: &'a [Row<Run<U>>], key: &Key) -> Option<&'a Ru
     }
 }
 
-/// The first key of rows at this one or behind it.
-fn from_among<'a, T: Drop>(rows: &'a [Row<T>], key: &Key) -> Option<&'a Key>
-    requires { AreRows rows.now }
-    ensures { option_copied result ≡ first_from key.now (joined rows.now) }
-{
-    let n = number_in(rows, key);
-    match rows.get(n) {
-        None => None,
-        Some(row) => from_row(row, &rows[n + 1..], key),
-    }
-}
-
-/// The first key of a row at this one or behind it, or the first of the rows behind that row.
-fn from_row<'a, T: Drop>(row: &'a Row<T>, later: &'a [Row<T>], key: &Key) -> Option<&'a Key>
-    requires { AreFilled later.now }
-    ensures { option_copied result ≡ or_next (first_from key.now row.now) (option_map (λ e. e.0) (slice_get (joined later.now) 0)) }
-{
-    match first_from(row, key) {
-        None => first_key(later),
-        Some(next) => Some(next),
-    }
-}
-
-/// The first key of the first row.
-fn first_key<T: Drop>(rows: &[Row<T>]) -> Option<&Key>
-    requires { AreFilled rows.now }
-    ensures { option_copied result ≡ option_map (λ e. e.0) (slice_get (joined rows.now) 0) }
-{
-    match rows.first() {
-        None => None,
-        Some(row) => key_at(row, 0),
-    }
-}
-
 /// Copies of the messages of rows, put behind those in `front`, until it has so many or more.
 fn copy_rows_into<U: Update>(
     rows: &[Row<Run<U>>],
@@ -580,7 +547,7 @@ fn inside<T: Drop>(row: &Row<T>, range: &KeyRange) -> (usize, usize)
 }
 
 /// How many keys of a row stand before the end; `None` is no end.
-fn before_end<T: Drop>(row: &Row<T>, end: Option<&Key>) -> usize
+pub(crate) fn before_end<T: Drop>(row: &Row<T>, end: Option<&Key>) -> usize
     ensures place { result ≡ end_place (option_copied end.entry) row.now }
     ensures bound { result ≤ length row.now }
 {
@@ -610,24 +577,6 @@ fn run_in<'a, U: Update>(row: &'a Row<Run<U>>, key: &Key) -> Option<&'a Run<U>>
     match row.find(key) {
         Ok(i) => Some(row.value(i)),
         Err(_) => None,
-    }
-}
-
-/// The first key of a row at this one or behind it.
-fn first_from<'a, T: Drop>(row: &'a Row<T>, key: &Key) -> Option<&'a Key>
-    ensures { option_copied result ≡ first_from key.now row.now }
-{
-    let i = row.before(key);
-    key_at(row, i)
-}
-
-/// The key of the entry with this number, if there is one.
-fn key_at<T: Drop>(row: &Row<T>, i: usize) -> Option<&Key>
-    ensures { option_copied result ≡ option_map (λ e. e.0) (slice_get row.now i) }
-{
-    match row.entry(i) {
-        None => None,
-        Some((key, _)) => Some(key),
     }
 }
 

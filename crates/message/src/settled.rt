@@ -18,14 +18,13 @@ use crate::eldest::Eldest;
 use crate::ends::{earlier, is_before_end};
 use crate::msg::Msg;
 use crate::points::Points;
-use crate::ranges;
+use crate::ranges::{self, Ranges};
 use crate::run::Run;
 use crate::stretch::point_stop;
 use crate::told::Told;
 use crate::update::{Changes, Update};
 use pathkey::{Key, KeyRange, NoMemory};
 use std::alloc::Global;
-use std::collections::BTreeMap;
 use std::marker::Model;
 
 /// The most messages of a sorted list.
@@ -37,7 +36,7 @@ pub(crate) const MOST: usize = 1 << 62;
 /// in takes away each point message that it touches, so none in the list is newer than a point message inside it.
 #[derive(Drop)]
 pub struct Settled<U: Changes> {
-    ranges: BTreeMap<Key, Option<Key>>,
+    ranges: Ranges,
     points: Points<U>,
     count: usize,
 }
@@ -50,9 +49,9 @@ impl<U: Changes> Model for Settled<U> {
 
     ghost use Rattle.message.specs.Settled.{settled_msgs, IsSettled};
 
-    ghost view = { λ p. settled_msgs p.ranges.entries p.points };
+    ghost view = { λ p. settled_msgs p.ranges p.points };
 
-    ghost invariant = { λ p. IsSettled p.ranges.entries p.points p.count };
+    ghost invariant = { λ p. IsSettled p.ranges p.points p.count };
 }
 
 impl<U: Update> Settled<U> {
@@ -61,7 +60,7 @@ impl<U: Update> Settled<U> {
         ensures { result ≡ [] }
     {
         Settled {
-            ranges: BTreeMap::new(alloc),
+            ranges: Ranges::new(alloc),
             points: Points::new(alloc),
             count: 0,
         }
@@ -87,7 +86,7 @@ impl<U: Update> Settled<U> {
     pub(crate) fn oldest(&self) -> Option<Eldest<'_, U>>
         ensures { option_map eldest_msg result ≡ slice_get self.now 0 }
     {
-        match self.ranges.first_key_value() {
+        match self.ranges.first() {
             Some((lo, hi)) => Some(Eldest::Range(lo, hi.as_ref())),
             None => match self.points.first() {
                 Some((key, run)) => Some(Eldest::Run(key, run)),
@@ -188,7 +187,8 @@ impl<U: Update> Settled<U> {
         ensures some { IfSome result (λ oldest. (self.old ≡ oldest_msgs oldest ++ self.new) × IsOldestKeyed oldest) }
         ensures none { IfNone result ((self.old ≡ []) × (self.new ≡ [])) }
     {
-        if let Some((lo, hi)) = self.ranges.pop_first() {
+        if let Some(item) = self.ranges.pop_first() {
+            let (lo, hi) = item.into_entry();
             return Some(Oldest::Range(KeyRange { lo, hi }));
         }
         let (key, run) = self.points.pop()?;
@@ -312,7 +312,7 @@ impl<U: Update> Settled<U> {
         let (points, count) = self.points.split_off(pivot)?;
         self.count -= count;
         Ok(Some(Settled {
-            ranges: BTreeMap::new(alloc),
+            ranges: Ranges::new(alloc),
             points,
             count,
         }))

@@ -6,11 +6,11 @@ use Rattle.message.proofs.Widening.{high_found, high_before, high_none}
 use Rattle.message.proofs.ranges.high_end.Goals as goal
 
 pub returns-in_default : goal.returns-in_default
-returns-in_default c = subst (λ t. IsHighEnd c.args.ranges.now.entries (option_copied t) (Some c.in_ok-key.key.now)) (sym c.in_ok-key.was) (high_none c.args.ranges.now.entries c.in_ok-key.key.now c.in_default.ensures c.requires)
+returns-in_default c = subst (λ t. IsHighEnd c.args.ranges.now (option_copied t) (Some c.in_ok-key.key.now)) (sym c.in_ok-key.was) (high_none c.args.ranges.now c.in_ok-key.key.now c.in_default.ensures c.requires)
 
 pub returns-then-is_before_end : goal.returns-then-is_before_end
 returns-then-is_before_end c =
-    let rs = c.args.ranges.now.entries in
+    let rs = c.args.ranges.now in
     let h = c.in_ok-key.key.now in
     let high = c.in-Some.high.now in
     let below : is_below h high ≡ true = sym (c.is_before_end.ensures ∙ ap (λ d. is_below h d) c.as_ref.ensures.value) ∙ c.if-is_before_end.true in
@@ -19,7 +19,7 @@ returns-then-is_before_end c =
 
 pub returns-else-is_before_end : goal.returns-else-is_before_end
 returns-else-is_before_end c =
-    let rs = c.args.ranges.now.entries in
+    let rs = c.args.ranges.now in
     let h = c.in_ok-key.key.now in
     let high = c.in-Some.high.now in
     let below : is_below h high ≡ false = sym (c.is_before_end.ensures ∙ ap (λ d. is_below h d) c.as_ref.ensures.value) ∙ c.if-is_before_end.false in

@@ -6,5 +6,5 @@ use Rattle.message.proofs.ranges.stretch_end.Goals as goal
 
 pub returns : goal.returns
 returns g c =
-    let first = c.earlier.ensures ∙ ap (earlier_end (option_copied c.args.end)) c.first_behind.ensures in
-    ranges_stretch c.args.from.now (option_copied c.args.end) (option_copied c.earlier-2.result) c.args.ranges.now.entries c.requires.apart c.len.ensures.ordered c.requires.some (c.earlier-2.ensures ∙ (λ j. earlier_end (first j) (c.high_ahead.ensures j)))
+    let first = c.earlier.ensures ∙ ap (earlier_end (option_copied c.args.end)) c.first_behind.ensures.value in
+    ranges_stretch c.args.from.now (option_copied c.args.end) (option_copied c.earlier-2.result) c.args.ranges.now c.requires.apart c.first_behind.ensures.ordered c.requires.some (c.earlier-2.ensures ∙ (λ j. earlier_end (first j) (c.high_ahead.ensures j)))

@@ -6,7 +6,7 @@ use Rattle.message.proofs.ranges.widened.Goals as goal
 
 pub returns : goal.returns
 returns c =
-    let rs = c.args.ranges.now.entries in
+    let rs = c.args.ranges.now in
     let range = c.args.range.now in
     let low : IsLowEnd rs range.lo c.in_ok-lo.lo = subst (λ k. IsLowEnd rs range.lo k) (sym c.in_ok-lo.ensures) c.low_end.ensures in
     let end : IsHighEnd rs range.hi (option_copied c.high_end.result) = subst (λ h. IsHighEnd rs h (option_copied c.high_end.result)) c.as_ref.ensures.value c.high_end.ensures in

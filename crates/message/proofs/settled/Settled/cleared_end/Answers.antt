@@ -9,4 +9,4 @@ returns g c =
     let from = c.args.from.now in
     let end = option_copied c.args.end in
     let stop = option_copied c.stretch_end.result in
-    subst (λ ms. IsClearStretch ms from end stop) c.self.view_is (settled_stretch c.self.inside.ranges.entries c.self.inside.points from end stop c.stretch_end.ensures)
+    subst (λ ms. IsClearStretch ms from end stop) c.self.view_is (settled_stretch c.self.inside.ranges c.self.inside.points from end stop c.stretch_end.ensures)

@@ -4,4 +4,4 @@ use Rattle.message.proofs.PointKeys.{settled_clears}
 use Rattle.message.proofs.settled.Settled.is_cleared.Goals as goal
 
 pub returns : goal.returns
-returns g c = c.is_covered.ensures ∙ sym (settled_clears c.self.inside.ranges.entries c.self.inside.points c.args.key.now) ∙ ap (λ ms. is_cleared ms c.args.key.now) c.self.view_is
+returns g c = c.is_covered.ensures ∙ sym (settled_clears c.self.inside.ranges c.self.inside.points c.args.key.now) ∙ ap (λ ms. is_cleared ms c.args.key.now) c.self.view_is

@@ -4,7 +4,7 @@ use Rattle.message.proofs.settled.Settled.len.Goals as goal
 
 pub returns-clause-len : goal.returns-clause-len
 returns-clause-len g c =
-    let all = length-settled c.self.inside.ranges.entries c.self.inside.points in
+    let all = length-settled c.self.inside.ranges c.self.inside.points in
     let seen = ap length c.self.view_is in
     omega (arith, c.len.ensures.len, c.self.invariant.counted, all, seen)
 

@@ -9,4 +9,4 @@ returns g c =
     let from = c.args.from.now in
     let end = option_copied c.args.end in
     let stop = option_copied c.point_stop.result in
-    subst (λ ms. IsPointStop ms from end stop) c.self.view_is (settled_stop c.self.inside.ranges.entries c.self.inside.points from end stop c.first_from.ensures.ordered (c.point_stop.ensures ∙ ap (λ o. point_stop o from end) c.first_from.ensures.key))
+    subst (λ ms. IsPointStop ms from end stop) c.self.view_is (settled_stop c.self.inside.ranges c.self.inside.points from end stop c.first_from.ensures.ordered (c.point_stop.ensures ∙ ap (λ o. point_stop o from end) c.first_from.ensures.key))

@@ -36,6 +36,6 @@ returns-clause-parted g c =
     let es = c.split_off.new.self in
     let fs = c.in_ok-points.points in
     let all = c.self.inside.points in
-    let none : c.self.inside.ranges.entries ≡ [] = nil_from_length c.self.inside.ranges.entries (omega (arith, c.len.ensures.len, c.if-len-gt0.false)) in
+    let none : c.self.inside.ranges ≡ [] = nil_from_length c.self.inside.ranges (omega (arith, c.len.ensures.len, c.if-len-gt0.false)) in
     let parted = entries_parted c.args.lo.now c.args.pivot.now all es fs c.in_ok-points.ensures.parts (c.begin_from.ensures (search rules)) c.in_ok-points.ensures.front c.in_ok-points.ensures.back in
     rw (← c.self.view_is, none, c.new.ensures.empty) parted

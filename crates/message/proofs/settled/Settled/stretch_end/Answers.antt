@@ -14,7 +14,7 @@ returns-then-is_key g c =
     let k = c.args.from.now in
     let es = c.self.inside.points in
     let here : is_key (first_from k es) k ≡ true = ap (λ o. is_key o k) (sym c.first_from-next.ensures.key) ∙ sym c.is_key.ensures ∙ c.if-is_key.true in
-    subst (λ ms. Contains (all_ends ms) (next_key k)) c.self.view_is (settled_next c.self.inside.ranges.entries k es (there_from k es here))
+    subst (λ ms. Contains (all_ends ms) (next_key k)) c.self.view_is (settled_next c.self.inside.ranges k es (there_from k es here))
 
 pub returns : goal.returns
 returns g c =
@@ -24,4 +24,4 @@ returns g c =
     let stop = option_copied c.stretch_end-stop.result in
     let other : is_key (first_from from es) from ≡ false = ap (λ o. is_key o from) (sym c.first_from-next.ensures.key) ∙ sym c.is_key.ensures ∙ c.if-is_key.false in
     let points : IsStretch (point_msgs es) from stop (option_copied c.earlier.result) = points_from from stop (option_copied c.earlier.result) es c.first_from-next.ensures.ordered other c.stretch_end-stop.ensures.after (c.earlier.ensures ∙ ap (earlier_end stop) c.first_from-next.ensures.key) in
-    subst (λ ms. IsStretch ms from end (option_copied c.earlier.result)) c.self.view_is (stretch_then (range_msgs c.self.inside.ranges.entries) (point_msgs es) from end stop (option_copied c.earlier.result) c.stretch_end-stop.ensures points)
+    subst (λ ms. IsStretch ms from end (option_copied c.earlier.result)) c.self.view_is (stretch_then (range_msgs c.self.inside.ranges) (point_msgs es) from end stop (option_copied c.earlier.result) c.stretch_end-stop.ensures points)

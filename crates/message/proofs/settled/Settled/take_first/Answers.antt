@@ -8,7 +8,7 @@ pub invariant_of-self-2 : goal.invariant_of-self-2
 invariant_of-self-2 g c =
     let moved = c.in_ok-came.ensures.moved in
     let from = first_counted g.U.Update.means c.from.inside.points c.take_first.new.from c.self.inside.points c.take_first.new.self c.in_ok-came.came c.in_ok-came.gone c.args.most moved in
-    let all = length-settled c.self.inside.ranges.entries c.self.inside.points in
+    let all = length-settled c.self.inside.ranges c.self.inside.points in
     let seen = ap length c.self.view_is in
     let counted = c.self.invariant.counted in
     record {
@@ -20,19 +20,19 @@ invariant_of-self-2 g c =
 
 pub returns-clause-takes : goal.returns-clause-takes
 returns-clause-takes g c =
-    let none : c.from.inside.ranges.entries ≡ [] = nil_from_length c.from.inside.ranges.entries (omega (arith, c.len.ensures.len, c.if-len-gt0.false)) in
-    first_taken g.U.Update.means c.from.inside.ranges.entries c.self.inside.ranges.entries c.from.inside.points c.take_first.new.from c.self.inside.points c.take_first.new.self c.in_ok-came.came c.in_ok-came.gone c.args.most c.args.from.now c.args.self.now none c.from.view_is c.self.view_is c.take_first.ensures.was_ordered c.take_first.ensures.ordered c.in_ok-came.ensures.moved
+    let none : c.from.inside.ranges ≡ [] = nil_from_length c.from.inside.ranges (omega (arith, c.len.ensures.len, c.if-len-gt0.false)) in
+    first_taken g.U.Update.means c.from.inside.ranges c.self.inside.ranges c.from.inside.points c.take_first.new.from c.self.inside.points c.take_first.new.self c.in_ok-came.came c.in_ok-came.gone c.args.most c.args.from.now c.args.self.now none c.from.view_is c.self.view_is c.take_first.ensures.was_ordered c.take_first.ensures.ordered c.in_ok-came.ensures.moved
 
 pub returns-clause-left : goal.returns-clause-left
 returns-clause-left g c =
-    let none : c.from.inside.ranges.entries ≡ [] = nil_from_length c.from.inside.ranges.entries (omega (arith, c.len.ensures.len, c.if-len-gt0.false)) in
-    first_left g.U.Update.means c.from.inside.ranges.entries c.from.inside.points c.take_first.new.from c.self.inside.points c.take_first.new.self c.in_ok-came.came c.in_ok-came.gone c.args.most c.args.from.now none c.from.view_is c.in_ok-came.ensures.moved
+    let none : c.from.inside.ranges ≡ [] = nil_from_length c.from.inside.ranges (omega (arith, c.len.ensures.len, c.if-len-gt0.false)) in
+    first_left g.U.Update.means c.from.inside.ranges c.from.inside.points c.take_first.new.from c.self.inside.points c.take_first.new.self c.in_ok-came.came c.in_ok-came.gone c.args.most c.args.from.now none c.from.view_is c.in_ok-came.ensures.moved
 
 pub returns-clause-within : goal.returns-clause-within
 returns-clause-within g c =
     let moved = c.in_ok-came.ensures.moved in
     let from = first_counted g.U.Update.means c.from.inside.points c.take_first.new.from c.self.inside.points c.take_first.new.self c.in_ok-came.came c.in_ok-came.gone c.args.most moved in
-    let all = length-settled c.from.inside.ranges.entries c.from.inside.points in
+    let all = length-settled c.from.inside.ranges c.from.inside.points in
     let seen = ap length c.from.view_is in (
       first_some g.U.Update.means c.from.inside.points c.take_first.new.from c.self.inside.points c.take_first.new.self c.in_ok-came.came c.in_ok-came.gone c.args.most moved,
       moved.few,
@@ -41,5 +41,5 @@ returns-clause-within g c =
 
 pub returns-clause-alike : goal.returns-clause-alike
 returns-clause-alike g c =
-    let none : c.from.inside.ranges.entries ≡ [] = nil_from_length c.from.inside.ranges.entries (omega (arith, c.len.ensures.len, c.if-len-gt0.false)) in
-    first_alike g.U.Update.means c.from.inside.ranges.entries c.from.inside.points c.take_first.new.from c.self.inside.points c.take_first.new.self c.in_ok-came.came c.in_ok-came.gone c.args.most c.args.from.now none c.from.view_is c.in_ok-came.ensures.moved
+    let none : c.from.inside.ranges ≡ [] = nil_from_length c.from.inside.ranges (omega (arith, c.len.ensures.len, c.if-len-gt0.false)) in
+    first_alike g.U.Update.means c.from.inside.ranges c.from.inside.points c.take_first.new.from c.self.inside.points c.take_first.new.self c.in_ok-came.came c.in_ok-came.gone c.args.most c.args.from.now none c.from.view_is c.in_ok-came.ensures.moved
