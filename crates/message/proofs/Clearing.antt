@@ -1,12 +1,11 @@
 -- A range-delete that comes to a sorted list.
-use Rattle.std.proofs.Common.{◌≡◌, ℕ, ◌+◌, ◌<◌, ◌≤◌, ◌^◌, refl, sym, ap, ◌∙◌, List, [], ◌∷◌, length, Option, Some, None, IfSome, Bool, true, false, cond, not, ◌||◌, arith, subst}
+use Rattle.std.proofs.Common.{◌≡◌, ℕ, ◌+◌, ◌<◌, ◌≤◌, ◌^◌, refl, sym, ap, ◌∙◌, List, [], ◌∷◌, length, Option, None, Bool, true, false, cond, not, ◌||◌, arith, subst}
 use Rattle.std.proofs.lemmas.Bool.{or_parts}
 use Rattle.std.proofs.lemmas.List.Sums.{sum_by-cons}
-use Rattle.std.proofs.lemmas.Map.Entries.{lookup-filter-keys, sum_by-remove_entry}
+use Rattle.std.proofs.lemmas.Map.Entries.{lookup-filter-keys}
 use Rattle.std.specs.List.{filter}
 use Rattle.std.specs.List.Sorted.{IsStrictlySortedBy}
-use Rattle.std.specs.Map.{keys_of, values_of, remove_entry}
-use Rattle.std.specs.Option.{option_map, unwrap_or}
+use Rattle.std.specs.Map.{keys_of, values_of}
 use Rattle.std.specs.BTreeMap.{is_at}
 use Rattle.pathkey.specs.Order.{by_bytes}
 use Rattle.pathkey.specs.Keys.{is_below, is_in}
@@ -21,23 +20,6 @@ use Rattle.message.specs.Settled.{Span, covered, range_msgs, point_msgs, point_c
 use Rattle.message.proofs.KeyOrder.{within-same, empty_by}
 use Rattle.message.proofs.Lists.{any_touches-append}
 use Rattle.message.proofs.SettledMeaning.{effects-settled, touches-ranges, untouched_left, untouched_right, none_from_untouched, untouched_from_none, length-settled}
-
-module _ {X : Type 0} where
-  -- without the first entry whose key passes, those that stay are the same, where no such entry stays
-  pub filter_without : (test : List ℕ → Bool) (q : List ℕ × X → Bool) → ((e : List ℕ × X) → test e.0 ≡ true → q e ≡ false) → (es : List (List ℕ × X)) → filter q (remove_entry test es) ≡ filter q es
-  filter_without test q a [] = refl
-  filter_without test q a (e ∷ es) = elim (test e.0) as (λ c. test e.0 ≡ c → filter q (cond c es (e ∷ remove_entry test es)) ≡ filter q (e ∷ es)) [
-    | true ↦ λ y. sym (ap (λ c. cond c (e ∷ filter q es) (filter q es)) (a e y))
-    | false ↦ λ n. ap (λ t. cond (q e) (e ∷ t) t) (filter_without test q a es)
-  ] refl
-
-  -- the first entry that passes does so
-  pub first_passes : (q : List ℕ × X → Bool) (es : List (List ℕ × X)) (x : List ℕ × X) (xs : List (List ℕ × X)) → filter q es ≡ x ∷ xs → q x ≡ true
-  first_passes q [] x xs h = absurd (cc)
-  first_passes q (e ∷ es) x xs h = elim (q e) as (λ c. q e ≡ c → cond c (e ∷ filter q es) (filter q es) ≡ x ∷ xs → q x ≡ true) [
-    | true ↦ λ y n. let s : e ≡ x = (cc) in subst (λ z. q z ≡ true) s y
-    | false ↦ λ y n. first_passes q es x xs n
-  ] refl h
 
 module _ {U V : Type 0} where
   pub keyed_filter : (p : List ℕ × Run U V → Bool) (es : List (List ℕ × Run U V)) → AreRunsKeyed es → AreRunsKeyed (filter p es)

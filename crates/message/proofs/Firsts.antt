@@ -1,6 +1,5 @@
 -- What stands first in a sorted list.
-use Rattle.std.proofs.Common.{◌≡◌, ℕ, ◌<◌, refl, sym, ap, ◌∙◌, List, [], ◌∷◌, ◌++◌, length, Option, Some, None, false, true, arith}
-use Rattle.std.proofs.lemmas.Bool.{false≢true}
+use Rattle.std.proofs.Common.{◌≡◌, ℕ, refl, sym, ap, ◌∙◌, List, [], ◌∷◌, ◌++◌, Option, Some, None}
 use Rattle.std.specs.List.{slice_get}
 use Rattle.message.specs.declared.msg.Msg.{Msg}
 use Rattle.message.specs.declared.msg.Msg.TheVariants.{DelRange}
@@ -24,13 +23,13 @@ module _ {U V : Type 0} where
   first_range (r ∷ rs) es lo hi h = (let is : r ≡ (lo, hi) = cc in ap (λ e. Some (DelRange (range_of e))) (sym is))
 
   -- else a message of the first key
-  pub first_point : (rs : List Span) (es : List (List ℕ × Run U V)) (k : List ℕ) (r : Run U V) → (0 < length rs → false ≡ true) → slice_get es 0 ≡ Some (k, r) → Some (run_first k r) ≡ slice_get (settled_msgs rs es) 0
-  first_point (x ∷ rs) es k r none h = absurd (false≢true (none (omega arith)))
+  pub first_point : (rs : List Span) (es : List (List ℕ × Run U V)) (k : List ℕ) (r : Run U V) → None ≡ slice_get rs 0 → slice_get es 0 ≡ Some (k, r) → Some (run_first k r) ≡ slice_get (settled_msgs rs es) 0
+  first_point (x ∷ rs) es k r none h = absurd (cc)
   first_point [] [] k r none h = absurd (cc)
   first_point [] (e ∷ es) k r none h = (let is : e ≡ (k, r) = cc in ap (λ x. Some (run_first x.0 x.1)) (sym is) ∙ first_of_run e.0 e.1 _)
 
   -- and none where there is neither
-  pub first_none : (rs : List Span) (es : List (List ℕ × Run U V)) → (0 < length rs → false ≡ true) → None ≡ slice_get es 0 → None ≡ slice_get (settled_msgs rs es) 0
-  first_none (x ∷ rs) es none h = absurd (false≢true (none (omega arith)))
+  pub first_none : (rs : List Span) (es : List (List ℕ × Run U V)) → None ≡ slice_get rs 0 → None ≡ slice_get es 0 → None ≡ slice_get (settled_msgs rs es) 0
+  first_none (x ∷ rs) es none h = absurd (cc)
   first_none [] [] none h = refl
   first_none [] (e ∷ es) none h = absurd (cc)

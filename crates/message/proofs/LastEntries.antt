@@ -1,10 +1,10 @@
 -- The entries next to a key.
-use Rattle.std.proofs.Common.{◌≡◌, ℕ, zero, suc, ◌+◌, ◌-◌, ◌<◌, ◌≤◌, Bool, true, false, not, List, [], ◌∷◌, ◌++◌, length, take, drop, get_or, refl, ap, sym, ◌∙◌, subst, Option, Some, None, arith, append_assoc, append-nil}
+use Rattle.std.proofs.Common.{◌≡◌, ℕ, zero, suc, ◌+◌, ◌-◌, ◌<◌, ◌≤◌, Bool, true, false, not, List, [], ◌∷◌, ◌++◌, length, take, drop, get_or, refl, ap, sym, ◌∙◌, subst, None, arith, append_assoc, append-nil}
 use Rattle.std.specs.declared.cmp.Ordering.TheVariants.{Less, Equal, Greater}
 use Rattle.std.specs.Ordering.{is_lt, is_le, match_ordering}
 use Rattle.std.specs.List.{AllByRecursion, slice_get}
 use Rattle.std.specs.Map.{keys_of}
-use Rattle.std.proofs.lemmas.List.{take-append-drop, get_or_default}
+use Rattle.std.proofs.lemmas.List.{take-append-drop, take_all, get_or_default}
 use Rattle.std.proofs.lemmas.Map.Keys.{sorted_head, sorted_tail}
 use Rattle.pathkey.specs.Order.{by_bytes}
 use Rattle.message.specs.Ranges.{reaches, before}
@@ -38,14 +38,8 @@ module _ {X : Type 0} where
   last_whole : (xs es : List (List ℕ × X)) → 0 < length es → last_where (λ k. true) (xs ++ es) ≡ slice_get es (length es - 1)
   last_whole xs es l =
       let i = length es - 1 in
-      let is : take (suc i) es ≡ es = take_all_of es (suc i) (omega (arith, l)) in
+      let is : take (suc i) es ≡ es = take_all (suc i) es (omega (arith, l)) in
       ap (λ t. last_where (λ k. true) (xs ++ t)) (sym is) ∙ last_behind xs es i (omega (arith, l))
-    where
-      take_all_of : (es : List (List ℕ × X)) (n : ℕ) → length es ≤ n → take n es ≡ es
-      take_all_of [] zero l = refl
-      take_all_of [] (suc n) l = refl
-      take_all_of (e ∷ es) zero l = absurd (omega (arith, l))
-      take_all_of (e ∷ es) (suc n) l = ap (λ t. e ∷ t) (take_all_of es n (omega (arith, l)))
 
   -- of rows
   pub last_row : (rs : List (List (List ℕ × X))) (n : ℕ) (r : List (List ℕ × X)) → length rs ≡ suc n → r ≡ get_or rs n r → AreFilled rs → slice_get r (length r - 1) ≡ last_where (λ k. true) (joined rs)
@@ -84,7 +78,7 @@ module _ {X : Type 0} where
         | Greater ↦ λ p. (ap (λ o. not (is_lt o)) p, taken_past k es)
       ] refl
 
-  pub dropped_past : (k : List ℕ) (es : List (List ℕ × X)) → Rises es → AllBehind k (drop (place_past k es) es)
+  dropped_past : (k : List ℕ) (es : List (List ℕ × X)) → Rises es → AllBehind k (drop (place_past k es) es)
   dropped_past k [] r = tt
   dropped_past k (e ∷ es) r =
       let less = sorted_head by_bytes e.0 (keys_of es) r in
@@ -174,7 +168,3 @@ module _ {X : Type 0} where
         ap (λ (t : List (List (List ℕ × X))). last_where (λ q. true) (joined t ++ take i row)) s
         ∙ sym (last_front test (joined (take n rs) ++ take i row) (drop i row ++ joined (drop (suc n) rs)) first rest)
         ∙ ap (λ t. last_where test t) (sym parts)
-
-  pub last_empty : (p : List ℕ → Bool) (rs : List (List (List ℕ × X))) (n : ℕ) → (0 < length rs → n < length rs) → length rs ≤ n → None ≡ last_where p (joined rs)
-  last_empty p [] n b l = refl
-  last_empty p (r ∷ rs) n b l = absurd (omega (arith, l, b (omega arith)))

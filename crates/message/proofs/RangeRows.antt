@@ -1,5 +1,5 @@
 -- Ranges in rows: what comes in, what leaves, and copies.
-use Rattle.std.proofs.Common.{◌≡◌, ℕ, zero, suc, ◌+◌, ◌-◌, ◌<◌, ◌≤◌, Bool, true, false, not, List, [], ◌∷◌, ◌++◌, length, take, drop, get_or, refl, ap, sym, ◌∙◌, subst, Option, Some, None, cond, arith, append_assoc}
+use Rattle.std.proofs.Common.{◌≡◌, ℕ, suc, ◌+◌, ◌-◌, ◌<◌, ◌≤◌, Bool, true, false, not, List, [], ◌∷◌, ◌++◌, length, take, drop, get_or, refl, ap, sym, ◌∙◌, subst, Option, Some, None, cond, arith, append_assoc}
 use Rattle.std.specs.Prelude.{◌&&◌}
 use Rattle.std.specs.declared.cmp.Ordering.TheVariants.{Less, Equal, Greater}
 use Rattle.std.specs.Ordering.{is_lt, is_le, match_ordering}
@@ -16,8 +16,8 @@ use Rattle.message.specs.declared.msg.Msg.TheVariants.{DelRange}
 use Rattle.message.specs.Ranges.{reaches, before, within}
 use Rattle.message.specs.Rows.{Rises, place, place_past, end_place, joined, number_in, AreRows, IsEndRow}
 use Rattle.message.specs.Settled.{Span, range_of, range_msgs, is_outside, first_behind}
-use Rattle.message.proofs.KeyOrder.{reaches-from_before, reaches-from_not_before, not_before_from_reaches, le_le}
-use Rattle.message.proofs.RangesApart.{filter_shorter}
+use Rattle.message.proofs.KeyOrder.{reaches-from_before, reaches-from_not_before, not_before_from_reaches}
+use Rattle.message.proofs.RangesApart.{filter_shorter, insert_longer}
 use Rattle.message.proofs.RowFacts.{all_ahead}
 use Rattle.message.proofs.RowChanges.{before_from, end_behind, filter_in, filter_out, reach_rest}
 use Rattle.message.proofs.RowsFacts.{AllBehind, IsCut, greater_from, put_between, joined_set, joined_cut}
@@ -39,15 +39,7 @@ module _ {X : Type 0} where
       ]
 
   pub put_few : (k : List ℕ) (w : X) (es fs : List (List ℕ × X)) → fs ≡ insert_entry by_bytes es k w → length fs ≤ length es + 1
-  put_few k w es fs e = subst (λ (t : List (List ℕ × X)). length t ≤ length es + 1) (sym e) (few es)
-    where
-      few : (es : List (List ℕ × X)) → length (insert_entry by_bytes es k w) ≤ length es + 1
-      few [] = omega arith
-      few (e ∷ es) = elim (by_bytes k e.0) as (λ o. length (match_ordering o ((k, w) ∷ e ∷ es) ((e.0, w) ∷ es) (e ∷ insert_entry by_bytes es k w)) ≤ length (e ∷ es) + 1) [
-        | Less ↦ omega arith
-        | Equal ↦ omega arith
-        | Greater ↦ omega (arith, few es)
-      ]
+  put_few k w es fs e = subst (λ (t : List (List ℕ × X)). length t ≤ length es + 1) (sym e) (insert_longer es k w)
 
   length_parts : (xs ys zs : List (List ℕ × X)) → length (xs ++ (ys ++ zs)) ≡ length xs + (length ys + length zs)
   length_parts xs ys zs = omega (arith, length-append xs (ys ++ zs), length-append ys zs)
@@ -60,9 +52,6 @@ module _ {X : Type 0} where
         ∙ ap (λ (t : List (List ℕ × X)). c.front ++ (t ++ c.back)) h
         ∙ sym (put_between k w c.front old c.back c.before c.behind)
         ∙ sym (ap (λ (t : List (List ℕ × X)). insert_entry by_bytes t k w) c.was)
-
-    pub cut_as_it_was : new ≡ old → fs ≡ es
-    cut_as_it_was h = c.is ∙ ap (λ (t : List (List ℕ × X)). c.front ++ (t ++ c.back)) h ∙ sym c.was
 
     pub cut_length : (n : ℕ) → length new ≡ length old + n → length fs ≡ length es + n
     cut_length n h =
@@ -195,11 +184,7 @@ module _ {X : Type 0} where
 
   all_past : (lo : List ℕ) (hi : Option (List ℕ)) (x : List ℕ) (es : List (List ℕ × X)) → is_below x hi ≡ false → AllByRecursion (λ y. by_bytes x y ≡ Less) (keys_of es) → filter (λ e. is_outside lo hi e) es ≡ es
   all_past lo None x es n a = absurd (cc)
-  all_past lo (Some h) x es n a = all_stay lo h es (reach_all h x (keys_of es) (reaches-from_not_before x h n) a)
-    where
-      reach_all : (h x : List ℕ) (ks : List (List ℕ)) → reaches h x ≡ true → AllByRecursion (λ y. by_bytes x y ≡ Less) ks → AllByRecursion (λ y. reaches h y ≡ true) ks
-      reach_all h x [] l a = tt
-      reach_all h x (y ∷ ks) l a = (le_le h x y l (reaches-from_before x y (ap is_lt a.0)), reach_all h x ks l a.1)
+  all_past lo (Some h) x es n a = all_stay lo h es (reach_rest h x (keys_of es) (reaches-from_not_before x h n) a)
 
   pub next_past : (lo x : List ℕ) (hi : Option (List ℕ)) (es : List (List ℕ × X)) → Rises es → first_behind lo es ≡ Some x → is_below x hi ≡ false → filter (λ e. is_outside lo hi e) es ≡ es
   next_past lo x hi [] r f n = refl

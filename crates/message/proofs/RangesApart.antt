@@ -1,5 +1,5 @@
 -- Ranges that end before the later ones begin.
-use Rattle.std.proofs.Common.{◌≡◌, ℕ, ◌+◌, ◌≤◌, refl, sym, ap, ◌∙◌, List, [], ◌∷◌, ◌++◌, length, Option, Some, None, Bool, true, false, cond, not, ◌&&◌, ◌||◌, arith, subst}
+use Rattle.std.proofs.Common.{◌≡◌, ℕ, ◌+◌, ◌≤◌, refl, sym, ap, ◌∙◌, List, [], ◌∷◌, length, Option, Some, None, Bool, true, false, cond, not, ◌&&◌, ◌||◌, arith, subst}
 use Rattle.std.proofs.lemmas.Bool.{and_from, or_left, or_right}
 use Rattle.std.specs.List.{filter, AllByRecursion}
 use Rattle.std.specs.declared.cmp.Ordering.{Ordering}
@@ -7,49 +7,15 @@ use Rattle.std.specs.declared.cmp.Ordering.TheVariants.{Less, Equal, Greater}
 use Rattle.std.specs.Ordering.{is_lt, is_le, match_ordering}
 use Rattle.std.specs.List.Sorted.{IsStrictlySortedBy}
 use Rattle.std.specs.Map.{keys_of}
-use Rattle.std.specs.Map.Iter.{TakesLast, TakesFirst}
-use Rattle.std.specs.Option.{option_map, is_some}
 use Rattle.std.specs.BTreeMap.{insert_entry}
-use Rattle.std.specs.BTreeMap.Range.{range_contains}
-use Rattle.std.specs.declared.ops.Bound.TheVariants.{Excluded}
 use Rattle.std.proofs.lemmas.Map.Keys.{sorted_head, sorted_tail}
 use Rattle.pathkey.specs.Order.{by_bytes, by_bytes_total}
 use Rattle.pathkey.specs.Keys.{is_below}
 use Rattle.pathkey.proofs.OrderFacts.{equal, tied}
 use Rattle.message.specs.Ranges.{reaches, before, within, ends_within}
-use Rattle.message.specs.Settled.{Span, covered, ends_by, ends_after, last_or, last_where, BeginFrom, AreApart, EndBy, EndByEnd, AreHeld, CoversMore, is_outside, end_bound}
+use Rattle.message.specs.Settled.{Span, covered, ends_by, ends_after, last_or, last_where, BeginFrom, AreApart, EndBy, EndByEnd, AreHeld, CoversMore, is_outside}
 use Rattle.message.proofs.KeyOrder.{reaches-from_before, reaches-from_not_before, not_before_from_reaches, before_from_not_reaches, not_reaches_from_before, le_le, lt_le, both}
 use Rattle.message.proofs.SettledMeaning.{split_bool}
-
--- ---- the last entry of those that pass
-
-abbrev last_of : {X : Type 0} → List X → Option X
-last_of [] = None
-last_of (x ∷ xs) = elim (last_of xs) [ None ↦ Some x | Some y ↦ Some y ]
-
-last_end : {X : Type 0} (xs : List X) (x : X) → last_of (xs ++ x ∷ []) ≡ Some x
-last_end [] x = refl
-last_end (y ∷ ys) x = ap (λ t. elim t [ None ↦ Some y | Some z ↦ Some z ]) (last_end ys x)
-
-last-filter : {X : Type 0} (p : List ℕ → Bool) (es : List (List ℕ × X)) → last_where p es ≡ last_of (filter (λ e. p e.0) es)
-last-filter p [] = refl
-last-filter p (e ∷ es) =
-    elim (p e.0) as (λ b. last_or b e (last_where p es) ≡ last_of (cond b (e ∷ filter (λ x. p x.0) es) (filter (λ x. p x.0) es))) [
-      | true ↦ (let step : (t : _) → last_or true e t ≡ elim t [ None ↦ Some e | Some z ↦ Some z ] = λ t. elim t as (λ u. last_or true e u ≡ elim u [ None ↦ Some e | Some z ↦ Some z ]) [ None ↦ refl | Some z ↦ refl ] in
-          step (last_where p es) ∙ ap (λ t. elim t [ None ↦ Some e | Some z ↦ Some z ]) (last-filter p es))
-      | false ↦ (let step : (t : _) → last_or false e t ≡ t = λ t. elim t as (λ u. last_or false e u ≡ u) [ None ↦ refl | Some z ↦ refl ] in step (last_where p es) ∙ last-filter p es)
-    ]
-
--- what ends a list of those that pass is the last one that does
-pub last_found : {X : Type 0} (p : List ℕ → Bool) (es front : List (List ℕ × X)) (e : List ℕ × X) → filter (λ x. p x.0) es ≡ front ++ e ∷ [] → Some e ≡ last_where p es
-last_found p es front e h = sym (last-filter p es ∙ ap (λ xs. last_of xs) h ∙ last_end front e)
-
-pub last_missing : {X : Type 0} (p : List ℕ → Bool) (es : List (List ℕ × X)) → filter (λ x. p x.0) es ≡ [] → None ≡ last_where p es
-last_missing p es h = sym (last-filter p es ∙ ap (λ xs. last_of xs) h)
-
-pub last_taken : {X A : Type 0} (shows : A → List ℕ × X) (p : List ℕ → Bool) (es s t : List (List ℕ × X)) (r : Option A) → s ≡ filter (λ e. p e.0) es → TakesLast shows s r t → option_map shows r ≡ last_where p es
-last_taken shows p es s t None f m = last_missing p es (sym f ∙ m.0)
-last_taken shows p es s t (Some x) f m = last_found p es t (shows x) (sym f ∙ m)
 
 -- ---- ends and keys
 
@@ -242,7 +208,7 @@ filter_shorter p (x ∷ xs) = elim (p x) as (λ c. length (cond c (x ∷ filter 
   | false ↦ omega (arith, filter_shorter p xs)
 ]
 
-insert_longer : (es : List Span) (lo : List ℕ) (hi : Option (List ℕ)) → length (insert_entry by_bytes es lo hi) ≤ length es + 1
+pub insert_longer : {X : Type 0} (es : List (List ℕ × X)) (lo : List ℕ) (hi : X) → length (insert_entry by_bytes es lo hi) ≤ length es + 1
 insert_longer [] lo hi = omega arith
 insert_longer (e ∷ es) lo hi = elim (by_bytes lo e.0) as (λ o. length (match_ordering o ((lo, hi) ∷ e ∷ es) ((e.0, hi) ∷ es) (e ∷ insert_entry by_bytes es lo hi)) ≤ length (e ∷ es) + 1) [
   | Less ↦ omega arith
@@ -252,26 +218,6 @@ insert_longer (e ∷ es) lo hi = elim (by_bytes lo e.0) as (λ o. length (match_
 
 pub spliced_length : (lo : List ℕ) (hi : Option (List ℕ)) (es : List Span) → length (filter (λ e. is_outside lo hi e) (insert_entry by_bytes es lo hi)) ≤ length es + 1
 spliced_length lo hi es = omega (arith, filter_shorter (λ e. is_outside lo hi e) (insert_entry by_bytes es lo hi), insert_longer es lo hi)
-
--- where the other test finds none, all stay
-pub filter_none : {X : Type 0} (p r : X → Bool) (es : List X) → ((e : X) → r e ≡ not (p e)) → filter p es ≡ [] → filter r es ≡ es
-filter_none p r [] f h = refl
-filter_none p r (e ∷ es) f h = elim (p e) as (λ c. p e ≡ c → cond c (e ∷ filter p es) (filter p es) ≡ [] → cond (r e) (e ∷ filter r es) (filter r es) ≡ e ∷ es) [
-  | true ↦ λ y n. absurd (cc)
-  | false ↦ λ y n. ap (λ c. cond c (e ∷ filter r es) (filter r es)) (f e ∙ ap not y) ∙ ap (λ t. e ∷ t) (filter_none p r es f n)
-] refl h
-
--- ---- the keys between two bounds
-
-pub inside_is : (lo : List ℕ) (hi : Option (List ℕ)) (k : List ℕ) → range_contains by_bytes (Excluded lo) (end_bound hi) k ≡ (before lo k && is_below k hi)
-inside_is lo None k = refl
-inside_is lo (Some h) k = ap (λ b. before lo k && b) (split_bool (reaches h k)
-    (λ y. ap not y ∙ sym (not_before_from_reaches h k y))
-    (λ n. ap not n ∙ sym (before_from_not_reaches h k n)))
-
-pub none_taken : {X A : Type 0} (shows : A → X) (s t : List X) (r : Option A) → TakesFirst shows s r t → is_some r ≡ false → s ≡ []
-none_taken shows s t None m h = m.0
-none_taken shows s t (Some x) m h = absurd (cc)
 
 -- ---- a range that another holds
 

@@ -1,5 +1,5 @@
 -- Rows one behind the other: which of them has a key, and what a change of that one makes of all.
-use Rattle.std.proofs.Common.{◌≡◌, ℕ, zero, suc, ◌+◌, ◌<◌, ◌≤◌, Bool, true, false, List, [], ◌∷◌, ◌++◌, length, take, drop, inl, inr, get_or, refl, ap, sym, ◌∙◌, subst, Some, None, cond, arith, Ordering, append_assoc}
+use Rattle.std.proofs.Common.{◌≡◌, ℕ, zero, suc, ◌+◌, ◌<◌, ◌≤◌, Bool, true, false, List, [], ◌∷◌, ◌++◌, length, take, drop, inl, inr, get_or, refl, ap, sym, ◌∙◌, subst, Option, Some, None, cond, arith, Ordering, append_assoc}
 use Rattle.std.specs.declared.cmp.Ordering.TheVariants.{Less, Equal, Greater}
 use Rattle.std.specs.Ordering.{is_lt, is_le, is_eq, match_ordering, ordering_reverse}
 use Rattle.std.specs.List.{AllByRecursion, filter, slice_get, slice_set, insert}
@@ -449,11 +449,11 @@ module _ {X : Type 0} where
       ∙ sym (where_append p front (r ++ rest))
       ∙ sym (ap (λ (t : List (List ℕ × X)). first_where p t) whole)
 
-  pub from_whole : (k : List ℕ) (rs ss : List (List (List ℕ × X))) (n : ℕ) (r : List (List ℕ × X)) → AreRows rs → n ≡ number_in k rs → n < length rs → r ≡ get_or rs n r → ss ≡ drop (n + 1) rs → or_next (first_from k r) (option_map (λ (e : List ℕ × X). e.0) (slice_get (joined ss) 0)) ≡ first_from k (joined rs)
-  from_whole k rs ss n r w e l a s = where_whole (reaches k) k rs ss n r (λ q h. ap is_le h) (λ q h. ap is_le h) w e l a s
+  pub from_whole : (k : List ℕ) (rs ss : List (List (List ℕ × X))) (n : ℕ) (r : List (List ℕ × X)) (i : ℕ) (o : Option (List ℕ)) → AreRows rs → n ≡ number_in k rs → n < length rs → r ≡ get_or rs n r → ss ≡ drop (n + 1) rs → option_map (λ (e : List ℕ × X). e.0) (slice_get r i) ≡ first_from k r → o ≡ or_next (option_map (λ (e : List ℕ × X). e.0) (slice_get r i)) (option_map (λ (e : List ℕ × X). e.0) (slice_get (joined ss) 0)) → o ≡ first_from k (joined rs)
+  from_whole k rs ss n r i o w e l a s x y = y ∙ ap (λ t. or_next t (option_map (λ (e : List ℕ × X). e.0) (slice_get (joined ss) 0))) x ∙ where_whole (reaches k) k rs ss n r (λ q h. ap is_le h) (λ q h. ap is_le h) w e l a s
 
-  pub behind_whole : (k : List ℕ) (rs ss : List (List (List ℕ × X))) (n : ℕ) (r : List (List ℕ × X)) → AreRows rs → n ≡ number_in k rs → n < length rs → r ≡ get_or rs n r → ss ≡ drop (n + 1) rs → or_next (first_behind k r) (option_map (λ (e : List ℕ × X). e.0) (slice_get (joined ss) 0)) ≡ first_behind k (joined rs)
-  behind_whole k rs ss n r w e l a s = where_whole (before k) k rs ss n r (λ q h. ap is_lt h) (λ q h. ap is_lt h) w e l a s
+  pub behind_whole : (k : List ℕ) (rs ss : List (List (List ℕ × X))) (n : ℕ) (r : List (List ℕ × X)) (i : ℕ) (o : Option (List ℕ)) → AreRows rs → n ≡ number_in k rs → n < length rs → r ≡ get_or rs n r → ss ≡ drop (n + 1) rs → option_map (λ (e : List ℕ × X). e.0) (slice_get r i) ≡ first_behind k r → o ≡ or_next (option_map (λ (e : List ℕ × X). e.0) (slice_get r i)) (option_map (λ (e : List ℕ × X). e.0) (slice_get (joined ss) 0)) → o ≡ first_behind k (joined rs)
+  behind_whole k rs ss n r i o w e l a s x y = y ∙ ap (λ t. or_next t (option_map (λ (e : List ℕ × X). e.0) (slice_get (joined ss) 0))) x ∙ where_whole (before k) k rs ss n r (λ q h. ap is_lt h) (λ q h. ap is_lt h) w e l a s
 
   pub where_empty : (p : List ℕ → Bool) (rs : List (List (List ℕ × X))) (n : ℕ) → (0 < length rs → n < length rs) → length rs ≤ n → None ≡ first_where p (joined rs)
   where_empty p [] n b l = refl

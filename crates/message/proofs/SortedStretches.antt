@@ -1,13 +1,10 @@
 -- Where stretches of a sorted list end.
 use Rattle.std.proofs.Common.{◌≡◌, ℕ, ◌⊎◌, inl, inr, Bool, true, false, List, [], ◌∷◌, ◌++◌, get_or, refl, ap, sym, ◌∙◌, subst, Option, Some, None, cond, arith, not}
 use Rattle.std.specs.Prelude.{◌&&◌, All, Contains, IfSome}
-use Rattle.std.specs.List.{filter}
 use Rattle.std.specs.List.Sorted.{IsStrictlySortedBy}
 use Rattle.std.specs.List.{AllByRecursion}
 use Rattle.std.specs.Map.{keys_of}
-use Rattle.std.specs.BTreeMap.Range.{range_contains}
-use Rattle.std.specs.declared.ops.Bound.TheVariants.{Excluded, Unbounded}
-use Rattle.message.proofs.RangesApart.{inside_is, found_begins, not_true}
+use Rattle.message.proofs.RangesApart.{found_begins, not_true}
 use Rattle.std.specs.Option.{option_to_list, is_some}
 use Rattle.std.specs.Ordering.{is_lt, is_eq}
 use Rattle.std.specs.declared.cmp.Ordering.TheVariants.{Less}
@@ -57,32 +54,6 @@ module _ {U V : Type 0} where
       ends d (inr t) = inr (subst (λ zs. Contains zs d) whole (Contains-append_right (all_ends xs) (all_ends ys) d t))
 
 -- ---- the first key behind another
-
--- the key of the first entry
-abbrev head_key : {X : Type 0} → List (List ℕ × X) → Option (List ℕ)
-head_key [] = None
-head_key (e ∷ es) = Some e.0
-
-is_behind : (k q : List ℕ) → range_contains by_bytes (Excluded k) Unbounded q ≡ before k q
-is_behind k q = inside_is k None q ∙ and_true (before k q)
-  where
-    and_true : (b : Bool) → (b && true) ≡ b
-    and_true true = refl
-    and_true false = refl
-
-first_filter : {X : Type 0} (k : List ℕ) (es : List (List ℕ × X)) → head_key (filter (λ e. range_contains by_bytes (Excluded k) Unbounded e.0) es) ≡ first_behind k es
-first_filter k [] = refl
-first_filter k (e ∷ es) =
-    let rest = filter (λ x. range_contains by_bytes (Excluded k) Unbounded x.0) es in
-    ap (λ c. head_key (cond c (e ∷ rest) rest)) (is_behind k e.0)
-    ∙ (elim (before k e.0) as (λ c. head_key (cond c (e ∷ rest) rest) ≡ cond c (Some e.0) (first_behind k es)) [ true ↦ refl | false ↦ first_filter k es ])
-
--- as the map gives it
-pub behind_none : {X A : Type 0} (shows : A → List ℕ × X) (k : List ℕ) (es s t : List (List ℕ × X)) → s ≡ filter (λ e. range_contains by_bytes (Excluded k) Unbounded e.0) es → s ≡ [] → None ≡ first_behind k es
-behind_none shows k es s t f n = sym (ap head_key n) ∙ ap head_key f ∙ first_filter k es
-
-pub behind_some : {X : Type 0} (k : List ℕ) (es s t : List (List ℕ × X)) (x : List ℕ × X) → s ≡ filter (λ e. range_contains by_bytes (Excluded k) Unbounded e.0) es → s ≡ x ∷ t → Some x.0 ≡ first_behind k es
-behind_some k es s t x f n = sym (ap head_key n) ∙ ap head_key f ∙ first_filter k es
 
 behind_above : {X : Type 0} (from : List ℕ) (es : List (List ℕ × X)) → is_below from (first_behind from es) ≡ true
 behind_above from [] = refl

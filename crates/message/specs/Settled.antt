@@ -3,8 +3,6 @@ use Rattle.std.specs.Prelude.{◌≡◌, ℕ, ◌+◌, ◌^◌, ◌≤◌, Bool,
 use Rattle.std.specs.List.{sum_by}
 use Rattle.std.specs.Map.{lookup, values_of}
 use Rattle.std.specs.BTreeMap.{is_at, insert_entry}
-use Rattle.std.specs.declared.ops.Bound.{Bound}
-use Rattle.std.specs.declared.ops.Bound.TheVariants.{Excluded, Unbounded}
 use Rattle.pathkey.specs.Order.{by_bytes, same}
 use Rattle.pathkey.specs.declared.range.KeyRange.{KeyRange}
 use Rattle.message.specs.declared.msg.Msg.{Msg}
@@ -170,11 +168,6 @@ CoversMore lo hi old new = (k : List ℕ) → covered new k ≡ (within lo hi k 
 -- the entry does not begin behind lo and before hi
 abbrev pub is_outside : {X : Type 0} → List ℕ → Option (List ℕ) → List ℕ × X → Bool
 is_outside lo hi e = not (before lo e.0 && is_below e.0 hi)
-
--- an end as a bound
-abbrev pub end_bound : Option (List ℕ) → Bound (List ℕ)
-end_bound None = Unbounded
-end_bound (Some h) = Excluded h
 
 -- this may be said of the value that f makes of an old one
 abbrev pub IsToldOf : {V : Type 0} → (Option V → Option V) → Told V → Type 0

@@ -1,9 +1,5 @@
-use Rattle.std.proofs.Common.{◌≡◌, ◌<◌, ◌≤◌, ◌+◌, ◌∙◌, ap, rules, length, get_or, drop}
+use Rattle.std.proofs.Common.{◌≡◌, ◌<◌, ◌≤◌, ◌+◌, rules, length, get_or}
 use Rattle.std.proofs.lemmas.List.{take_rest}
-use Rattle.std.specs.List.{slice_get}
-use Rattle.std.specs.Option.{option_map}
-use Rattle.message.specs.Ranges.{reaches, before}
-use Rattle.message.specs.Rows.{joined, or_next}
 use Rattle.message.proofs.RowChanges.{behind_place}
 use Rattle.message.proofs.RowsFacts.{behind_whole, where_empty, filled_behind}
 use Rattle.message.proofs.nearest.behind_among.Goals as goal
@@ -24,5 +20,4 @@ returns-in-Some g c =
     let r = c.in-Some.row.now in
     let low : n < length rs = search rules in
     let at : r ≡ get_or rs n r = search rules in
-    let rest = option_map (λ e. e.0) (slice_get (joined (drop (n + 1) rs)) 0) in
-    c.key_or_next.ensures ∙ ap (λ o. or_next o _) (behind_place k r c.past.result c.past.ensures.place) ∙ behind_whole k rs _ n r c.requires c.number_in-n.ensures.number low at (take_rest rs (n + 1))
+    behind_whole k rs _ n r _ _ c.requires c.number_in-n.ensures.number low at (take_rest rs (n + 1)) (behind_place k r c.past.result c.past.ensures.place) c.key_or_next.ensures

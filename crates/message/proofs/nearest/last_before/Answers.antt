@@ -1,5 +1,5 @@
-use Rattle.std.proofs.Common.{◌≡◌, ◌<◌, ◌≤◌, ◌∙◌, refl, rules, length, get_or}
-use Rattle.message.proofs.LastEntries.{filled_front, last_ahead, last_empty}
+use Rattle.std.proofs.Common.{◌≡◌, ◌<◌, ◌∙◌, refl, rules, length, get_or}
+use Rattle.message.proofs.LastEntries.{filled_front, last_ahead}
 use Rattle.message.proofs.nearest.last_before.Goals as goal
 
 pub last_of-requires-clause-filled : goal.last_of-requires-clause-filled

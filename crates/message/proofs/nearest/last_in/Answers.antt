@@ -1,4 +1,4 @@
-use Rattle.std.proofs.Common.{◌≡◌, ◌<◌, ◌∙◌, rules, ap, suc, length, get_or, arith, ◌-◌}
+use Rattle.std.proofs.Common.{◌≡◌, ◌∙◌, rules, ap, suc, length, get_or, arith, ◌-◌}
 use Rattle.std.specs.List.{slice_get}
 use Rattle.message.proofs.LastEntries.{last_row, filled_last}
 use Rattle.message.proofs.nearest.last_in.Goals as goal

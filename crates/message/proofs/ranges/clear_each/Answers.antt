@@ -17,17 +17,17 @@ loop-i-init g c = record {
 pub overflow_sub-left : goal.overflow_sub-left
 overflow_sub-left g c =
     let low : c.loop-i.i < length c.loop-i.rows.items = search rules in
-    omega (arith, length_part c.loop-i.i c.loop-i.rows.items c.index_mut-row.result.now low c.index_mut-row.ensures.value, c.clear_in.ensures.counted, c.loop-i.invariant.counted)
+    omega (arith, length_part c.loop-i.i c.loop-i.rows.items c.index_mut-row.result.now low c.index_mut-row.ensures.value, c.clear_in-left.ensures.counted, c.loop-i.invariant.counted)
 
 pub loop-i-preserved : goal.loop-i-preserved
 loop-i-preserved g c =
     let low : c.loop-i.i < length c.loop-i.rows.items = search rules in
-    let one = length_set c.loop-i.i c.loop-i.rows.items c.index_mut-row.result.now c.clear_in.new.row low c.index_mut-row.ensures.value in
+    let one = length_set c.loop-i.i c.loop-i.rows.items c.index_mut-row.result.now c.clear_in-left.new.row low c.index_mut-row.ensures.value in
     let part = length_part c.loop-i.i c.loop-i.rows.items c.index_mut-row.result.now low c.index_mut-row.ensures.value in
     record {
-      cleared = cleared_more (λ e. is_outside c.args.range.now.lo c.args.range.now.hi e) c.loop-i.i c.args.rows.now.items c.loop-i.rows.items _ c.index_mut-row.result.now c.clear_in.new.row low c.index_mut-row.ensures.value c.clear_in.ensures.entries refl c.loop-i.invariant.cleared;
-      counted = omega (arith, one, part, c.clear_in.ensures.counted, c.loop-i.invariant.counted);
-      bound = omega (arith, length-set c.loop-i.rows.items c.loop-i.i c.clear_in.new.row, c.loop-i.invariant.bound);
+      cleared = cleared_more (λ e. is_outside c.args.range.now.lo c.args.range.now.hi e) c.loop-i.i c.args.rows.now.items c.loop-i.rows.items _ c.index_mut-row.result.now c.clear_in-left.new.row low c.index_mut-row.ensures.value c.clear_in-left.ensures.entries refl c.loop-i.invariant.cleared;
+      counted = omega (arith, one, part, c.clear_in-left.ensures.counted, c.loop-i.invariant.counted);
+      bound = omega (arith, length-set c.loop-i.rows.items c.loop-i.i c.clear_in-left.new.row, c.loop-i.invariant.bound);
     }
 
 pub number_in-i-requires : goal.number_in-i-requires

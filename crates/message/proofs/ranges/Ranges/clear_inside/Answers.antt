@@ -6,9 +6,9 @@ use Rattle.message.proofs.ranges.Ranges.clear_inside.Goals as goal
 
 pub invariant_of-self : goal.invariant_of-self
 invariant_of-self c = record {
-  rows = cleared_rows (λ e. is_outside c.args.range.now.lo c.args.range.now.hi e) c.self.inside.rows.items c.clear_each.new.rows.items c.drop_empty.new.rows.items c.drop_empty.ensures.same c.clear_each.ensures.entries c.drop_empty.ensures.later c.self.invariant.rows;
-  counted = c.clear_each.ensures.counted ∙ ap (λ t. length t) (sym c.drop_empty.ensures.same);
+  rows = cleared_rows (λ e. is_outside c.args.range.now.lo c.args.range.now.hi e) c.self.inside.rows.items c.clear_each-self-inside.new.rows.items c.drop_empty.new.rows.items c.drop_empty.ensures.same c.clear_each-self-inside.ensures.entries c.drop_empty.ensures.later c.self.invariant.rows;
+  counted = c.clear_each-self-inside.ensures.counted ∙ ap (λ t. length t) (sym c.drop_empty.ensures.same);
 }
 
 pub returns : goal.returns
-returns c = c.drop_empty.ensures.same ∙ c.clear_each.ensures.entries ∙ ap (filter (λ e. is_outside c.args.range.now.lo c.args.range.now.hi e)) c.self.view_is
+returns c = c.drop_empty.ensures.same ∙ c.clear_each-self-inside.ensures.entries ∙ ap (filter (λ e. is_outside c.args.range.now.lo c.args.range.now.hi e)) c.self.view_is

@@ -12,10 +12,10 @@ invariant_of-result g c =
     let all = c.self.inside.points in
     let both = keyed_both es fs (subst (λ t. AreRunsKeyed t) c.in_ok-points.ensures.parts c.self.invariant.keyed) in
     record {
-      apart = subst (λ t. AreApart t) (sym c.new.ensures.empty) tt;
+      apart = subst (λ t. AreApart t) (sym c.new.ensures) tt;
       keyed = both.1;
       counted = c.in_ok-points.ensures.counted;
-      small = omega (arith, ap (λ t. length t) c.new.ensures.empty, c.in_ok-points.ensures.counted, counted_both es fs all c.in_ok-points.ensures.parts, c.self.invariant.counted, c.self.invariant.small);
+      small = omega (arith, ap (λ t. length t) c.new.ensures, c.in_ok-points.ensures.counted, counted_both es fs all c.in_ok-points.ensures.parts, c.self.invariant.counted, c.self.invariant.small);
     }
 
 pub invariant_of-self-2 : goal.invariant_of-self-2
@@ -38,4 +38,4 @@ returns-clause-parted g c =
     let all = c.self.inside.points in
     let none : c.self.inside.ranges ≡ [] = nil_from_length c.self.inside.ranges (omega (arith, c.len.ensures.len, c.if-len-gt0.false)) in
     let parted = entries_parted c.args.lo.now c.args.pivot.now all es fs c.in_ok-points.ensures.parts (c.begin_from.ensures (search rules)) c.in_ok-points.ensures.front c.in_ok-points.ensures.back in
-    rw (← c.self.view_is, none, c.new.ensures.empty) parted
+    rw (← c.self.view_is, none, c.new.ensures) parted
