@@ -263,11 +263,7 @@ fn high_end<'a>(ranges: &'a Ranges, end: Option<&'a Key>) -> Option<&'a Key>
 }
 
 /// The range and those that reach over its ends or meet them, as one range.
-fn widened(
-    ranges: &Ranges,
-    alloc: Global,
-    range: &KeyRange,
-) -> Result<KeyRange, NoMemory>
+fn widened(ranges: &Ranges, alloc: Global, range: &KeyRange) -> Result<KeyRange, NoMemory>
     requires some { is_below range.now.lo range.now.hi ≡ true }
     requires apart { AreApart ranges.now }
     ensures { IfOk result (Widens ranges.now range.now) }
@@ -289,11 +285,7 @@ fn has_inside(ranges: &Ranges, range: &KeyRange) -> bool
 }
 
 /// Puts a range that no other reaches into in the place of those inside it.
-fn add(
-    ranges: &mut Ranges,
-    alloc: Global,
-    range: KeyRange,
-) -> Result<(), NoMemory>
+fn add(ranges: &mut Ranges, alloc: Global, range: KeyRange) -> Result<(), NoMemory>
     requires some { is_below range.lo range.hi ≡ true }
     requires few { length ranges.old < 2 ^ 62 }
     ensures ok { OnOk result (ranges.new ≡ filter (λ e. is_outside range.lo range.hi e) (insert_entry by_bytes ranges.old range.lo range.hi)) }
@@ -322,11 +314,7 @@ fn is_held(ranges: &Ranges, range: &KeyRange) -> bool
 
 /// Lays a range over the others: those inside it give way to it, it becomes one with those that reach over its ends or
 /// meet them, and it is left out where another holds it.
-pub(crate) fn lay(
-    ranges: &mut Ranges,
-    alloc: Global,
-    range: &KeyRange,
-) -> Result<(), NoMemory>
+pub(crate) fn lay(ranges: &mut Ranges, alloc: Global, range: &KeyRange) -> Result<(), NoMemory>
     requires some { is_below range.now.lo range.now.hi ≡ true }
     requires apart { AreApart ranges.old }
     requires few { length ranges.old < 2 ^ 62 }
