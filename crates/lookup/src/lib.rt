@@ -2,13 +2,12 @@
 #![tactic(auto)]
 
 ghost use Rattle.std.specs.Prelude.{◌≡◌, IfOk, [], None};
-ghost use Rattle.node.specs.Beside.{AreHeads};
 ghost use Rattle.node.specs.Lawful.{Rises};
 ghost use Rattle.node.specs.Meaning.{lookup, value as value_at};
 ghost use Rattle.node.specs.Searchable.{IsSearchable};
 
 use message::{Told, Update};
-use node::heads::position_by_heads;
+use node::leaf::position;
 use node::search::slot_of;
 use node::{Body, Node, Tree};
 use pathkey::{Key, NoMemory};
@@ -32,7 +31,7 @@ fn find<U: Update>(alloc: Global, node: &Node<U>, key: &Key) -> Result<Option<U:
     ensures { IfOk result (λ v. v ≡ value_at U.means node.now key.now) }
 {
     match node.body() {
-        Body::Leaf(entries) => find_entry::<U>(alloc, node.heads(), entries.as_slice(), key),
+        Body::Leaf(entries) => find_entry::<U>(alloc, entries.as_slice(), key),
         Body::Inner(slots) => {
             if slots.is_empty() {
                 return Ok(None);
@@ -50,19 +49,16 @@ fn find<U: Update>(alloc: Global, node: &Node<U>, key: &Key) -> Result<Option<U:
     }
 }
 
-/// The value of the entry at the key, found by a search in strides of the heads of the first entries, and of entries only
-/// where heads do not tell.
+/// The value of the entry at the key, found by a search in strides.
 fn find_entry<U: Update>(
     alloc: Global,
-    heads: &[u64],
     entries: &[(Key, U::Value)],
     key: &Key,
 ) -> Result<Option<U::Value>, NoMemory>
-    requires rising { Rises [] None entries.now }
-    requires heads { AreHeads heads.now entries.now }
+    requires { Rises [] None entries.now }
     ensures { IfOk result (λ v. v ≡ lookup entries.now key.now) }
 {
-    match position_by_heads(heads, entries, key) {
+    match position(entries, key) {
         Ok(i) => Ok(Some(U::copy_value(alloc, &entries[i].1)?)),
         Err(_) => Ok(None),
     }

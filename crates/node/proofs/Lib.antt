@@ -19,7 +19,6 @@ pub mod Sinking
 pub mod Sizes
 pub mod Grafting
 pub mod Weighing
-pub mod HeadOrder
 pub mod Wholes
 pub mod Points
 pub mod Below

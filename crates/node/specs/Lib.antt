@@ -19,5 +19,4 @@ pub mod RootSteps
 pub mod Report
 pub mod Grafts
 pub mod Weights
-pub mod Beside
 pub mod Subtrees

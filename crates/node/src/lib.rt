@@ -18,7 +18,7 @@ pub mod tree;
 
 pub use node::below::step_subtree;
 pub use node::change::Change;
-pub use node::{Body, Node, Slot, append, copy, count, cut, heads, leaf, search};
+pub use node::{Body, Node, Slot, append, copy, count, cut, leaf, search};
 pub use place::{Place, TreeStep};
 pub use report::ShapeReport;
 pub use shape::Shape;

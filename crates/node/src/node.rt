@@ -15,7 +15,6 @@ pub mod copy;
 pub mod count;
 pub mod cut;
 pub mod descend;
-pub mod heads;
 pub mod kept;
 pub mod leaf;
 pub mod make;
@@ -31,8 +30,6 @@ pub struct Node<U: Changes> {
     /// What waits at or below it, where that is known. Many places make a slot and few make a node, so it stands here and
     /// not in the slot above.
     weight: Option<Weight>,
-    /// The heads of a leaf's keys, in order, where the weight is known; none where memory was refused for them.
-    heads: Vec<u64>,
 }
 
 /// A leaf of entries that rise by key, or an inner node of slots that rise by pivot.
@@ -69,9 +66,9 @@ impl<U: Changes> Model for Node<U> {
 
     ghost view = { λ n. see n.body };
 
-    ghost use Rattle.node.specs.Beside.{StandBeside};
+    ghost use Rattle.node.specs.Weights.{IsKept};
 
-    ghost invariant = { λ n. StandBeside n.weight n.heads.items (see n.body) };
+    ghost invariant = { λ n. IsKept n.weight (see n.body) };
 
     ghost size = { depth };
 

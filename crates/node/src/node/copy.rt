@@ -44,16 +44,6 @@ pub fn copy_slots<U: Update>(alloc: Global, slots: &[Slot<U>]) -> Result<Vec<Slo
     Ok(copy)
 }
 
-impl<U: Update> Body<U> {
-    /// What the entries or slots take their memory from.
-    pub(super) fn allocator(&self) -> Global {
-        match self {
-            Body::Leaf(entries) => *entries.allocator(),
-            Body::Inner(slots) => *slots.allocator(),
-        }
-    }
-}
-
 impl<U: Update> Node<U> {
     /// The same node, over the same children.
     fn copy_level(&self, alloc: Global) -> Result<Node<U>, NoMemory>
@@ -64,12 +54,7 @@ impl<U: Update> Node<U> {
             Body::Inner(slots) => Body::Inner(copy_slots(alloc, slots.as_slice())?),
         };
         let weight = self.weight;
-        let heads = Vec::new(alloc);
-        Ok(Node {
-            body,
-            weight,
-            heads,
-        })
+        Ok(Node { body, weight })
     }
 }
 
@@ -77,7 +62,11 @@ impl<U: Update> Clone for Node<U> {
     ghost is_clone = { λ a b. b ≡ a };
 
     fn clone(&self) -> Result<Node<U>, AllocError> {
-        match self.copy_level(self.body.allocator()) {
+        let alloc = match &self.body {
+            Body::Leaf(entries) => *entries.allocator(),
+            Body::Inner(slots) => *slots.allocator(),
+        };
+        match self.copy_level(alloc) {
             Ok(copy) => Ok(copy),
             Err(NoMemory) => Err(AllocError),
         }

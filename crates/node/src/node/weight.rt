@@ -10,7 +10,6 @@ ghost use Rattle.node.specs.Weights.{IsWeight};
 ghost use Rattle.node.specs.contracts.node.Node.{the_row as node_row};
 ghost use Rattle.node.specs.contracts.node.Body.{the_row as body_row};
 
-use super::heads::find_heads;
 use super::{Body, Node};
 use message::Update;
 
@@ -67,18 +66,12 @@ fn weight_of<U: Update>(body: &Body<U>) -> Weight
 }
 
 impl<U: Update> Node<U> {
-    /// A node with this body, which keeps its weight and, as a leaf, the heads of its keys.
+    /// A node with this body, which keeps its weight.
     pub fn of(body: Body<U>) -> Node<U>
         ensures { result ≡ see body }
     {
         let weight = Some(weight_of(&body));
-        let mut heads = Vec::new(body.allocator());
-        find_heads(&body, &mut heads);
-        Node {
-            body,
-            weight,
-            heads,
-        }
+        Node { body, weight }
     }
 
     /// How much waits at or below the node.
@@ -91,16 +84,14 @@ impl<U: Update> Node<U> {
         }
     }
 
-    /// Keeps the weight and the heads again, after a change.
+    /// Keeps the weight again, after a change.
     pub fn weigh(&mut self)
         ensures { self.new ≡ self.old }
     {
         self.weight = Some(weight_of(&self.body));
-        find_heads(&self.body, &mut self.heads);
     }
 
-    /// The entries or slots of the node, to be changed. The node forgets its weight, and with
-    /// it the heads.
+    /// The entries or slots of the node, to be changed. The node forgets its weight.
     pub fn body_mut(&mut self) -> &mut Body<U>
         ensures* writes_back { sem 𝓛 (Lends (node_row U.row U.Value.row) (body_row U.row U.Value.row) self.entry result see) }
         ensures value { see result.now ≡ self.old }

@@ -12,7 +12,7 @@ loop-slot-preserved g t c =
     let s = c.slot-item.result in
     let h : i < length xs = omega arith in
     let here : IsWeight c.match-child.below (see c.child.inside.body) = elim c.match-child.branch [
-      | in-Some w ↦ rw w.below-is (rw w.in-Some.is at c.child.invariant).0
+      | in-Some w ↦ rw w.below-is (rw w.in-Some.is at c.child.invariant)
       | in-None w ↦ rw w.below-is w.weight_of-below.ensures
     ] in
     let below = subst (IsWeight c.match-child.below) (c.child.view_is ∙ c.deref-child.ensures) here in
