@@ -11,7 +11,6 @@ pub mod Clearing
 pub mod SettledTelling
 pub mod Copying
 pub mod Firsts
-pub mod Copies
 pub mod InFront
 pub mod Condensing
 pub mod CountingRanges

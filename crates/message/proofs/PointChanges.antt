@@ -1,42 +1,25 @@
 -- What is written into a row of point messages, and how many they are.
-use Rattle.std.proofs.Common.{◌≡◌, ℕ, zero, suc, ◌+◌, ◌-◌, ◌<◌, ◌≤◌, List, [], ◌∷◌, ◌++◌, length, take, drop, get_or, append-nil, refl, ap, sym, ◌∙◌, subst, Option, Some, cond, arith, append_assoc}
-use Rattle.std.specs.Prelude.{IsSome}
+use Rattle.std.proofs.Common.{◌≡◌, ℕ, zero, suc, ◌+◌, ◌-◌, ◌<◌, ◌≤◌, true, false, List, [], ◌∷◌, ◌++◌, length, take, drop, get_or, refl, ap, sym, ◌∙◌, subst, Option, Some, None, inl, inr, cond, arith, append_assoc}
+use Rattle.std.specs.Prelude.{IsSome, Result, Ok, Err, OnOk, OnErr, IfOk, IfErr}
 use Rattle.std.specs.List.{slice_range}
-use Rattle.std.specs.List.Sorted.{IsStrictlySortedBy}
-use Rattle.std.specs.Map.{keys_of, values_of, set_value}
+use Rattle.std.specs.Map.{values_of, set_value}
 use Rattle.std.specs.BTreeMap.{insert_entry, is_at}
-use Rattle.std.proofs.lemmas.List.{map-append, drop_more, drop_all, take_all}
+use Rattle.std.proofs.lemmas.List.{drop_more, take_all}
 use Rattle.std.proofs.lemmas.List.Sums.{sum_by-cons}
-use Rattle.std.proofs.lemmas.Map.{lookup-set_value, length-set_value}
+use Rattle.std.proofs.lemmas.Map.{lookup-set_value}
+use Rattle.std.proofs.lemmas.Result.{IfOk-weaker, IfErr-weaker}
 use Rattle.pathkey.specs.Order.{by_bytes, by_bytes_equiv, same}
 use Rattle.message.specs.declared.msg.Msg.{Msg}
 use Rattle.message.specs.declared.run.Run.{Run}
-use Rattle.message.specs.Rows.{Rises, at_key, IsHolder}
+use Rattle.message.specs.declared.run.Run.TheVariants.{Edit}
+use Rattle.message.specs.Rows.{Rises, at_key, is_there}
 use Rattle.message.specs.Runs.{run_msgs, run_len, run_effect, IsRunKeyed}
-use Rattle.message.specs.Settled.{look, found_effect, Lays, point_msgs, point_count}
-use Rattle.message.proofs.Copies.{AreCopies, copied_run}
-use Rattle.message.proofs.Writing.{lays_run}
-use Rattle.message.proofs.RowChanges.{at_put, place-set, there-set, set-set, rises_left}
+use Rattle.message.specs.Settled.{look, found_effect, Lays, IsEdited, AreRunsKeyed, point_msgs, point_count}
+use Rattle.message.proofs.RowFacts.{put-set, none_at}
+use Rattle.message.proofs.Writing.{lays_run, counted_set, counted_look, counted_insert, keyed_written, keyed_look, keyed_inserted, same_msgs}
+use Rattle.message.proofs.RowChanges.{at_put}
 
 module _ {X : Type 0} where
-  -- an entry that was written keeps its number
-  pub holder_set : (k : List ℕ) (w : X) (es : List (List ℕ × X)) (i : ℕ) → IsHolder k es i → IsHolder k (set_value (is_at (by_bytes k)) es w) i
-  holder_set k w es i h = record {
-    number = h.number ∙ sym (place-set k w es);
-    there = there-set k w es ∙ h.there;
-    bound = omega (arith, h.bound, length-set_value (is_at (by_bytes k)) es w);
-  }
-
-  -- an entry that is written twice keeps the later value
-  pub set_again : (k : List ℕ) (d w : X) (es mid fs : List (List ℕ × X)) (i : ℕ) → IsHolder k es i → mid ≡ set_value (is_at (by_bytes k)) es d → ((q : List ℕ) → IsHolder q mid i → fs ≡ set_value (is_at (by_bytes q)) mid w) → fs ≡ set_value (is_at (by_bytes k)) es w
-  set_again k d w es mid fs i h e f =
-      f k (subst (λ t. IsHolder k t i) (sym e) (holder_set k d es i h))
-      ∙ ap (λ t. set_value (is_at (by_bytes k)) t w) e
-      ∙ set-set (is_at (by_bytes k)) d w es
-
-  pub again_bound : (k : List ℕ) (d : X) (es mid : List (List ℕ × X)) (i : ℕ) → IsHolder k es i → mid ≡ set_value (is_at (by_bytes k)) es d → i < length mid
-  again_bound k d es mid i h e = subst (λ (t : List (List ℕ × X)). i < length t) (sym e) (holder_set k d es i h).bound
-
   -- what stands at a key after a value was written
   pub at_set : (k q : List ℕ) (w v : X) (es : List (List ℕ × X)) → at_key k es ≡ Some v → at_key q (set_value (is_at (by_bytes k)) es w) ≡ cond (same k q) (Some w) (at_key q es)
   at_set k q w v es h = lookup-set_value by_bytes_equiv (is_at (by_bytes k)) (λ x y t. by_bytes_equiv.congr k x y t) q w es (subst (λ t. IsSome t) (sym h) refl)
@@ -91,28 +74,6 @@ module _ {U V : Type 0} where
       ∙ ap (λ (fs : List (List ℕ × Run U V)). take n (front ++ point_msgs fs)) (sym (next_is es i p l a))
       ∙ h
 
-  -- a copy of the next run is put behind the others
-  pub pushed : (es : List (List ℕ × Run U V)) (i : ℕ) (p : List ℕ × Run U V) (copy new : List (List ℕ × Run U V)) (k : List ℕ) (w : Run U V) → i < length es → p ≡ get_or es i p → k ≡ p.0 → new ≡ copy ++ (k, w) ∷ [] → ((q : List ℕ) → run_msgs q w ≡ run_msgs q p.1) → ((q : List ℕ) → IsRunKeyed q p.1 → IsRunKeyed q w) → AreCopies (copy ++ drop i es) es → AreCopies (new ++ drop (i + 1) es) es
-  pushed es i p copy new k w l a hk is same keyed h =
-      copied_run copy (drop (i + 1) es) new es p.0 p.1 w
-      (subst (λ (t : List (List ℕ × Run U V)). AreCopies (copy ++ t) es) (next_is es i p l a) h)
-      (is ∙ ap (λ (x : List ℕ). copy ++ (x, w) ∷ []) hk)
-      same keyed
-
-  pub pushed_rises : (es : List (List ℕ × Run U V)) (i : ℕ) (p : List ℕ × Run U V) (copy : List (List ℕ × Run U V)) (k : List ℕ) (w : Run U V) → i < length es → p ≡ get_or es i p → k ≡ p.0 → AreCopies (copy ++ drop i es) es → Rises es → Rises (copy ++ (k, w) ∷ [])
-  pushed_rises es i p copy k w l a hk h r =
-      let rest = drop (i + 1) es in
-      let all : Rises (copy ++ p ∷ rest) = subst (λ (t : List (List ℕ × Run U V)). Rises (copy ++ t)) (next_is es i p l a) (subst (λ (ks : List (List ℕ)). IsStrictlySortedBy by_bytes ks) (sym h.keys) r) in
-      let front : Rises (copy ++ p ∷ []) = rises_left (copy ++ p ∷ []) rest (subst (λ (t : List (List ℕ × Run U V)). Rises t) (sym (append_assoc copy (p ∷ []) rest)) all) in
-      let keys : keys_of (copy ++ p ∷ []) ≡ keys_of (copy ++ (k, w) ∷ []) = map-append (λ (x : List ℕ × Run U V). x.0) copy (p ∷ []) ∙ ap (λ (x : List ℕ). keys_of copy ++ x ∷ []) (sym hk) ∙ sym (map-append (λ (x : List ℕ × Run U V). x.0) copy ((k, w) ∷ [])) in
-      subst (λ (ks : List (List ℕ)). IsStrictlySortedBy by_bytes ks) keys front
-
-  -- at the end all are copied
-  pub copies_end : (bs : List (List ℕ × Run U V)) (es copy : List (List ℕ × Run U V)) (i : ℕ) → length bs ≤ i → bs ≡ es → AreCopies (copy ++ (drop i bs)) bs → AreCopies copy es
-  copies_end bs es copy i l v h =
-      let none : copy ++ (drop i bs) ≡ copy = ap (λ (t : List (List ℕ × Run U V)). copy ++ t) (drop_all i bs l) ∙ append-nil copy in
-      subst (λ (t : List (List ℕ × Run U V)). AreCopies copy t) v (subst (λ (t : List (List ℕ × Run U V)). AreCopies t bs) none h)
-
   module _ (means : U → Option V → Option V) where
     -- a new run
     pub lays_put : (k : List ℕ) (f : Option V → Option V) (w : Run U V) (es fs : List (List ℕ × Run U V)) → fs ≡ insert_entry by_bytes es k w → ((o : Option V) → run_effect means w o ≡ f (found_effect means (look k es) o)) → Lays means k f es fs
@@ -121,3 +82,47 @@ module _ {U V : Type 0} where
     -- a run in the place of another
     pub lays_set : (k : List ℕ) (f : Option V → Option V) (v w : Run U V) (es fs : List (List ℕ × Run U V)) → look k es ≡ Some v → fs ≡ set_value (is_at (by_bytes k)) es w → ((o : Option V) → run_effect means w o ≡ f (found_effect means (look k es) o)) → Lays means k f es fs
     lays_set k f v w es fs a e h = lays_run means k f w es fs (λ q. ap (look q) e ∙ at_set k q w v es a) h
+
+    -- the run at a key was edited in its place
+    pub edited : (k : List ℕ) (u : U) (v w : Run U V) (es fs : List (List ℕ × Run U V)) (r : Result (ℕ × ℕ) (List ℕ × U)) → is_there k es ≡ true → look k es ≡ Some v → fs ≡ set_value (is_at (by_bytes k)) es w → OnOk r ((o : Option V) → run_effect means w o ≡ means u (run_effect means v o)) → IfOk r (λ n. (n.0 ≡ run_len v) × (n.1 ≡ run_len w)) → run_len w ≤ run_len v + 1 → (IsRunKeyed k v → IsRunKeyed k w) → OnErr r ((q : List ℕ) → run_msgs q w ≡ run_msgs q v) → IfErr r (λ p. p ≡ (k, u)) → IsEdited means k u es fs r
+    edited k u v w es fs r t a is meaning lens bound keyed unchanged back =
+        let one = counted_set k v w es fs is a in
+        let few = counted_look k es v a in
+        record {
+          written = inr (w, is ∙ sym (put-set k w es t));
+          lays = IfOk-weaker r (λ _. (o : Option V) → run_effect means w o ≡ means u (run_effect means v o)) (λ _. Lays means k (means u) es fs) (λ _ h. lays_set k (means u) v w es fs a is (λ o. h o ∙ sym (ap (λ t. means u (found_effect means t o)) a))) meaning;
+          counted = IfOk-weaker r (λ n. (n.0 ≡ run_len v) × (n.1 ≡ run_len w)) (λ n. point_count fs + n.0 ≡ point_count es + n.1) (λ n h. omega (arith, one, h.0, h.1)) lens;
+          bound = IfOk-weaker r (λ n. (n.0 ≡ run_len v) × (n.1 ≡ run_len w)) (λ n. n.1 ≤ n.0 + 1) (λ n h. omega (arith, bound, h.0, h.1)) lens;
+          within = IfOk-weaker r (λ n. (n.0 ≡ run_len v) × (n.1 ≡ run_len w)) (λ n. n.0 ≤ point_count es) (λ n h. omega (arith, few, h.0)) lens;
+          keyed = λ h. keyed_written k w es fs is (keyed (keyed_look k es v a h)) h;
+          unchanged = IfErr-weaker r (λ _. (q : List ℕ) → run_msgs q w ≡ run_msgs q v) (λ _. point_msgs fs ≡ point_msgs es) (λ _ h. ap (λ t. point_msgs t) is ∙ same_msgs k v w es a h) unchanged;
+          back = back;
+        }
+
+    -- an update was put where nothing was
+    pub put_edited : (k : List ℕ) (u : U) (es fs : List (List ℕ × Run U V)) → Rises es → is_there k es ≡ false → fs ≡ insert_entry by_bytes es k (Edit u) → IsEdited means k u es fs (Ok (0, 1))
+    put_edited k u es fs s t is =
+        let none = none_at k es s t in
+        record {
+          written = inr (Edit u, is);
+          lays = lays_put k (means u) (Edit u) es fs is (λ o. sym (ap (λ t. means u (found_effect means t o)) none));
+          counted = counted_insert k (Edit u) es fs None 0 s is (sym none) refl;
+          bound = omega arith;
+          within = omega arith;
+          keyed = λ h. keyed_inserted k (Edit u) es fs is tt h;
+          unchanged = tt;
+          back = tt;
+        }
+
+    -- nothing was changed, and the update is back
+    pub not_edited : (k : List ℕ) (u : U) (es fs : List (List ℕ × Run U V)) (p : List ℕ × U) → fs ≡ es → p ≡ (k, u) → IsEdited means k u es fs (Err p)
+    not_edited k u es fs p is back = record {
+      written = inl is;
+      lays = tt;
+      counted = tt;
+      bound = tt;
+      within = tt;
+      keyed = λ h. subst (λ t. AreRunsKeyed t) (sym is) h;
+      unchanged = ap (λ t. point_msgs t) is;
+      back = back;
+    }

@@ -5,16 +5,15 @@ use Rattle.std.specs.Ordering.{is_lt, is_le, ordering_reverse}
 use Rattle.pathkey.specs.Keys.{is_below}
 use Rattle.message.specs.Ranges.{reaches, within}
 use Rattle.std.specs.List.{filter, slice_set, AllByRecursion}
-use Rattle.std.specs.List.Sorted.{IsStrictlySortedBy}
 use Rattle.std.specs.Map.{keys_of}
 use Rattle.std.specs.declared.cmp.Ordering.TheVariants.{Less}
-use Rattle.std.proofs.lemmas.List.{get_or_default, drop_more, drop_all, take_more, take_more_set, take_all, take-append-drop, length-set, length-map, map-append}
+use Rattle.std.proofs.lemmas.List.{get_or_default, drop_more, drop_all, take_more, take_more_set, take_all, take-append-drop, length-set}
 use Rattle.std.proofs.lemmas.Map.Keys.{sorted_head, sorted_tail}
 use Rattle.pathkey.specs.Order.{by_bytes, by_bytes_total, same}
 use Rattle.pathkey.proofs.OrderFacts.{same_true}
 use Rattle.message.specs.declared.msg.Msg.{Msg}
 use Rattle.message.specs.declared.run.Run.{Run}
-use Rattle.message.specs.Rows.{Rises, joined, number_in, LaterFilled, AreFilled, AreRows, IsEndRow, IsWritten}
+use Rattle.message.specs.Rows.{Rises, joined, number_in, LaterFilled, AreRows, IsEndRow, IsWritten}
 use Rattle.message.specs.Settled.{look, found_effect, Lays, point_msgs, point_count, AreRunsKeyed}
 use Rattle.message.proofs.SettledMeaning.{split_bool}
 use Rattle.message.proofs.RowFacts.{rises_cons}
@@ -287,85 +286,3 @@ module _ {U V : Type 0} where
       ∙ ap (λ (x : List (Msg U V)). take n (front ++ x)) (sym (point_msgs-append r rest))
       ∙ ap (λ (x : List (List ℕ × Run U V)). take n (front ++ point_msgs x)) (sym all)
       ∙ h
-
-  -- rows with the same keys and the same messages
-  abbrev SameKeys : List (List (List ℕ × Run U V)) → List (List (List ℕ × Run U V)) → Type 0
-  SameKeys [] [] = Unit {0}
-  SameKeys [] (s ∷ ss) = ⊥
-  SameKeys (r ∷ rs) [] = ⊥
-  SameKeys (r ∷ rs) (s ∷ ss) = (keys_of r ≡ keys_of s) × SameKeys rs ss
-
-  pub record AreRowCopies (rs ss : List (List (List ℕ × Run U V))) : Type 0 where
-    pub keys : SameKeys rs ss
-    pub msgs : point_msgs (joined rs) ≡ point_msgs (joined ss)
-    pub keyed : AreRunsKeyed (joined ss) → AreRunsKeyed (joined rs)
-
-  pub copies_none : (rs ss : List (List (List ℕ × Run U V))) → rs ≡ [] → AreRowCopies rs (take 0 ss)
-  copies_none rs ss e = subst (λ (t : List (List (List ℕ × Run U V))). AreRowCopies t []) (sym e) (record { keys = tt; msgs = refl; keyed = λ a. a })
-
-  same_push : (rs ss : List (List (List ℕ × Run U V))) (r s : List (List ℕ × Run U V)) → keys_of r ≡ keys_of s → SameKeys rs ss → SameKeys (rs ++ r ∷ []) (ss ++ s ∷ [])
-  same_push [] [] r s e k = (e, tt)
-  same_push [] (y ∷ ss) r s e k = absurd k
-  same_push (x ∷ rs) [] r s e k = absurd k
-  same_push (x ∷ rs) (y ∷ ss) r s e k = (k.0, same_push rs ss r s e k.1)
-
-  pub copies_more : (rs new ss : List (List (List ℕ × Run U V))) (i : ℕ) (r s : List (List ℕ × Run U V)) → i < length ss → s ≡ get_or ss i s → new ≡ rs ++ r ∷ [] → keys_of r ≡ keys_of s → point_msgs r ≡ point_msgs s → (AreRunsKeyed s → AreRunsKeyed r) → AreRowCopies rs (take i ss) → AreRowCopies new (take (i + 1) ss)
-  copies_more rs new ss i r s l a n k m h c =
-      let is : take (i + 1) ss ≡ take i ss ++ s ∷ [] = take_more ss i s l ∙ ap (λ (x : List (List ℕ × Run U V)). take i ss ++ x ∷ []) (sym a) in
-      let all : joined (take i ss ++ s ∷ []) ≡ joined (take i ss) ++ s = joined-append (take i ss) (s ∷ []) ∙ ap (λ (t : List (List ℕ × Run U V)). joined (take i ss) ++ t) (append-nil s) in
-      let made : joined (rs ++ r ∷ []) ≡ joined rs ++ r = joined-append rs (r ∷ []) ∙ ap (λ (t : List (List ℕ × Run U V)). joined rs ++ t) (append-nil r) in
-      subst (λ (t : List (List (List ℕ × Run U V))). AreRowCopies t (take (i + 1) ss)) (sym n) (subst (λ (t : List (List (List ℕ × Run U V))). AreRowCopies (rs ++ r ∷ []) t) (sym is) (record {
-        keys = same_push rs (take i ss) r s k c.keys;
-        msgs =
-            ap (λ (t : List (List ℕ × Run U V)). point_msgs t) made
-            ∙ point_msgs-append (joined rs) r
-            ∙ ap (λ (t : List (Msg U V)). t ++ point_msgs r) c.msgs
-            ∙ ap (λ (t : List (Msg U V)). point_msgs (joined (take i ss)) ++ t) m
-            ∙ sym (point_msgs-append (joined (take i ss)) s)
-            ∙ sym (ap (λ (t : List (List ℕ × Run U V)). point_msgs t) all);
-        keyed = λ b.
-            let both : AreRunsKeyed (joined (take i ss) ++ s) = subst (λ (t : List (List ℕ × Run U V)). AreRunsKeyed t) all b in
-            subst (λ (t : List (List ℕ × Run U V)). AreRunsKeyed t) (sym made) (keyed_append (joined rs) r (c.keyed (keyed_left (joined (take i ss)) s both)) (h (keyed_right (joined (take i ss)) s both)));
-      }))
-
-  same_joined : (rs ss : List (List (List ℕ × Run U V))) → SameKeys rs ss → keys_of (joined rs) ≡ keys_of (joined ss)
-  same_joined [] [] k = refl
-  same_joined [] (s ∷ ss) k = absurd k
-  same_joined (r ∷ rs) [] k = absurd k
-  same_joined (r ∷ rs) (s ∷ ss) k =
-      map-append (λ (x : List ℕ × Run U V). x.0) r (joined rs)
-      ∙ ap (λ (t : List (List ℕ)). t ++ keys_of (joined rs)) k.0
-      ∙ ap (λ (t : List (List ℕ)). keys_of s ++ t) (same_joined rs ss k.1)
-      ∙ sym (map-append (λ (x : List ℕ × Run U V). x.0) s (joined ss))
-
-  length_keys : (es fs : List (List ℕ × Run U V)) → keys_of es ≡ keys_of fs → length es ≡ length fs
-  length_keys es fs e = sym (length-map es (λ (x : List ℕ × Run U V). x.0)) ∙ ap (λ (t : List (List ℕ)). length t) e ∙ length-map fs (λ (x : List ℕ × Run U V). x.0)
-
-  same_length : (rs ss : List (List (List ℕ × Run U V))) → SameKeys rs ss → length rs ≡ length ss
-  same_length [] [] k = refl
-  same_length [] (s ∷ ss) k = absurd k
-  same_length (r ∷ rs) [] k = absurd k
-  same_length (r ∷ rs) (s ∷ ss) k = omega (arith, same_length rs ss k.1)
-
-  same_filled : (rs ss : List (List (List ℕ × Run U V))) → SameKeys rs ss → AreFilled ss → AreFilled rs
-  same_filled [] [] k f = tt
-  same_filled [] (s ∷ ss) k f = absurd k
-  same_filled (r ∷ rs) [] k f = absurd k
-  same_filled (r ∷ rs) (s ∷ ss) k f = (let some = f.0 in omega (arith, some, length_keys r s k.0), same_filled rs ss k.1 f.1)
-
-  same_later : (rs ss : List (List (List ℕ × Run U V))) → SameKeys rs ss → LaterFilled ss → LaterFilled rs
-  same_later [] [] k f = tt
-  same_later [] (s ∷ ss) k f = absurd k
-  same_later (r ∷ rs) [] k f = absurd k
-  same_later (r ∷ rs) (s ∷ ss) k f = (same_filled rs ss k.1 f.0, λ z. same_length rs ss k.1 ∙ f.1 (sym (length_keys r s k.0) ∙ z))
-
-  pub copied_rows : (rs ss : List (List (List ℕ × Run U V))) (i : ℕ) → length ss ≤ i → AreRowCopies rs (take i ss) → AreRows ss → AreRows rs
-  copied_rows rs ss i l c w =
-      let k : SameKeys rs ss = subst (λ (t : List (List (List ℕ × Run U V))). SameKeys rs t) (take_all i ss l) c.keys in
-      record {
-        rises = subst (λ (ks : List (List ℕ)). IsStrictlySortedBy by_bytes ks) (sym (same_joined rs ss k)) w.rises;
-        later = same_later rs ss k w.later;
-      }
-
-  pub copied_all : (rs ss : List (List (List ℕ × Run U V))) (i : ℕ) → length ss ≤ i → AreRowCopies rs (take i ss) → AreRowCopies rs ss
-  copied_all rs ss i l c = subst (λ (t : List (List (List ℕ × Run U V))). AreRowCopies rs t) (take_all i ss l) c

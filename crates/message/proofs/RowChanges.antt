@@ -6,8 +6,8 @@ use Rattle.std.specs.Ordering.{is_lt, is_le, is_eq, match_ordering, ordering_rev
 use Rattle.std.specs.List.{AllByRecursion, slice_get, filter}
 use Rattle.std.specs.List.Sorted.{IsStrictlySortedBy}
 use Rattle.std.proofs.lemmas.List.{map-append, take-append-drop}
-use Rattle.std.specs.Map.{keys_of, set_value}
-use Rattle.std.specs.BTreeMap.{insert_entry, is_at}
+use Rattle.std.specs.Map.{keys_of}
+use Rattle.std.specs.BTreeMap.{insert_entry}
 use Rattle.std.specs.Option.{option_map, is_some}
 use Rattle.std.proofs.lemmas.Map.Keys.{sorted_head, sorted_tail}
 use Rattle.pathkey.specs.Order.{by_bytes, by_bytes_total, by_bytes_equiv, same}
@@ -87,37 +87,7 @@ module _ {X : Type 0} where
             (cc)))
       ] refl
 
-  -- ---- after a value was written
-
-  -- the key stands where it stood
-  pub place-set : (k : List ℕ) (w : X) (es : List (List ℕ × X)) → place k (set_value (is_at (by_bytes k)) es w) ≡ place k es
-  place-set k w [] = refl
-  place-set k w (e ∷ es) =
-      elim (by_bytes k e.0) as (λ o. by_bytes k e.0 ≡ o → place k (cond (is_eq o) ((e.0, w) ∷ es) (e ∷ set_value (is_at (by_bytes k)) es w)) ≡ match_ordering o 0 0 (suc (place k es))) [
-        | Less ↦ λ p. ap (λ o. match_ordering o 0 0 (suc (place k (set_value (is_at (by_bytes k)) es w)))) p
-        | Equal ↦ λ p. ap (λ o. match_ordering o 0 0 (suc (place k es))) p
-        | Greater ↦ λ p. ap (λ o. match_ordering o 0 0 (suc (place k (set_value (is_at (by_bytes k)) es w)))) p ∙ ap (λ n. suc n) (place-set k w es)
-      ] refl
-
-  pub there-set : (k : List ℕ) (w : X) (es : List (List ℕ × X)) → is_there k (set_value (is_at (by_bytes k)) es w) ≡ is_there k es
-  there-set k w [] = refl
-  there-set k w (e ∷ es) =
-      elim (by_bytes k e.0) as (λ o. by_bytes k e.0 ≡ o → is_there k (cond (is_eq o) ((e.0, w) ∷ es) (e ∷ set_value (is_at (by_bytes k)) es w)) ≡ match_ordering o false true (is_there k es)) [
-        | Less ↦ λ p. ap (λ o. match_ordering o false true (is_there k (set_value (is_at (by_bytes k)) es w))) p
-        | Equal ↦ λ p. ap (λ o. match_ordering o false true (is_there k es)) p
-        | Greater ↦ λ p. ap (λ o. match_ordering o false true (is_there k (set_value (is_at (by_bytes k)) es w))) p ∙ there-set k w es
-      ] refl
-
-  -- the later value stands
-  pub set-set : (test : List ℕ → Bool) (v w : X) (es : List (List ℕ × X)) → set_value test (set_value test es v) w ≡ set_value test es w
-  set-set test v w [] = refl
-  set-set test v w (e ∷ es) =
-      elim (test e.0) as (λ b. test e.0 ≡ b → set_value test (cond b ((e.0, v) ∷ es) (e ∷ set_value test es v)) w ≡ cond b ((e.0, w) ∷ es) (e ∷ set_value test es w)) [
-        | true ↦ λ p. ap (λ b. cond b ((e.0, w) ∷ es) ((e.0, v) ∷ set_value test es w)) p
-        | false ↦ λ p. ap (λ b. cond b ((e.0, w) ∷ set_value test es v) (e ∷ set_value test (set_value test es v) w)) p ∙ ap (λ t. e ∷ t) (set-set test v w es)
-      ] refl
-
-  -- ---- the first key from one on
+  -- ---- the first key from one on, and behind one
 
   pub from_place : (k : List ℕ) (es : List (List ℕ × X)) (i : ℕ) → i ≡ place k es → option_map (λ (e : List ℕ × X). e.0) (slice_get es i) ≡ first_from k es
   from_place k es i n = ap (λ j. option_map (λ (e : List ℕ × X). e.0) (slice_get es j)) n ∙ at_place k es

@@ -51,6 +51,10 @@ module _ {U V : Type 0} (means : U → Option V → Option V) where
   effects-run_here k q (Edit u) o e = ap (λ b. cond b (means u o) o) e
   effects-run_here k q (Edits s) o e = ap (λ b. effects means (later_msgs k s.value.more.items) q (cond b (means s.value.first o) o)) e ∙ effects-later_here k q s.value.more.items (means s.value.first o) e
 
+  -- runs of the same messages
+  pub same_run_effect : (v w : Run U V) → ((k : List ℕ) → run_msgs k w ≡ run_msgs k v) → (o : Option V) → run_effect means w o ≡ run_effect means v o
+  same_run_effect v w h o = sym (effects-run_here [] [] w o refl) ∙ ap (λ ms. effects means ms [] o) (h []) ∙ effects-run_here [] [] v o refl
+
   pub effects-run_apart : (k q : List ℕ) (r : Run U V) (o : Option V) → same k q ≡ false → effects means (run_msgs k r) q o ≡ o
   effects-run_apart k q (Put v) o e = ap (λ b. cond b (Some v) o) e
   effects-run_apart k q Del o e = ap (λ b. cond b None o) e
@@ -137,6 +141,10 @@ module _ {U V : Type 0} where
   length-run k Del = refl
   length-run k (Edit u) = refl
   length-run k (Edits s) = omega (arith, length-later V k s.value.more.items)
+
+  -- runs of the same messages
+  pub same_run_len : (v w : Run U V) → ((k : List ℕ) → run_msgs k w ≡ run_msgs k v) → run_len w ≡ run_len v
+  same_run_len v w h = sym (length-run [] w) ∙ ap length (h []) ∙ length-run [] v
 
   pub length-points : (es : List (List ℕ × Run U V)) → length (point_msgs es) ≡ point_count es
   length-points [] = refl

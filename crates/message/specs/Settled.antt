@@ -1,5 +1,5 @@
 -- A sorted list of messages: range-deletes by their low ends, and then point messages by their keys.
-use Rattle.std.specs.Prelude.{◌≡◌, ℕ, ◌+◌, ◌^◌, ◌≤◌, Bool, true, false, not, ◌&&◌, ◌||◌, if◌then◌else◌, List, [], ◌∷◌, ◌++◌, length, Option, Some, None}
+use Rattle.std.specs.Prelude.{◌≡◌, ℕ, ◌+◌, ◌^◌, ◌≤◌, Bool, true, false, not, ◌&&◌, ◌||◌, if◌then◌else◌, List, [], ◌∷◌, ◌++◌, length, Option, Some, None, Result, OnOk, OnErr, IfOk, IfErr}
 use Rattle.std.specs.List.{sum_by}
 use Rattle.std.specs.Map.{lookup, values_of}
 use Rattle.std.specs.BTreeMap.{is_at, insert_entry}
@@ -13,6 +13,7 @@ use Rattle.message.specs.declared.told.Told.TheVariants.{Nothing, Value, Change}
 use Rattle.pathkey.specs.Keys.{is_below}
 use Rattle.message.specs.Ranges.{reaches, before, within, ends_within}
 use Rattle.message.specs.Stretches.{ahead_of}
+use Rattle.message.specs.Rows.{IsWritten}
 use Rattle.message.specs.Runs.{run_msgs, run_len, run_effect, IsRunKeyed}
 
 -- ---- ranges, each as its low end with its high end
@@ -94,6 +95,18 @@ module _ {U V : Type 0} where
     pub record Lays (k : List ℕ) (f : Option V → Option V) (es fs : List (List ℕ × Run U V)) : Type 0 where
       pub meaning : (q : List ℕ) (o : Option V) → found_effect (look q fs) o ≡ (if same k q then f (found_effect (look q es) o) else found_effect (look q es) o)
       pub touched : (q : List ℕ) → same k q ≡ false → look q es ≡ None → look q fs ≡ None
+
+    -- an update was laid over the key k of the entries es, which gave fs; r is how many messages stood there and do now, or the
+    -- update where memory was refused
+    pub record IsEdited (k : List ℕ) (u : U) (es fs : List (List ℕ × Run U V)) (r : Result (ℕ × ℕ) (List ℕ × U)) : Type 0 where
+      pub written : IsWritten k es fs
+      pub lays : OnOk r (Lays k (means u) es fs)
+      pub counted : IfOk r (λ n. point_count fs + n.0 ≡ point_count es + n.1)
+      pub bound : IfOk r (λ n. n.1 ≤ n.0 + 1)
+      pub within : IfOk r (λ n. n.0 ≤ point_count es)
+      pub keyed : AreRunsKeyed es → AreRunsKeyed fs
+      pub unchanged : OnErr r (point_msgs fs ≡ point_msgs es)
+      pub back : IfErr r (λ p. p ≡ (k, u))
 
     -- the run of the first key, which is at most `most` messages, has left a list and lies over another, where `gone` messages went
     pub record TakesFirst (came gone most : ℕ) (from old left new : List (List ℕ × Run U V)) : Type 0 where

@@ -6,13 +6,13 @@ ghost use Rattle.std.specs.Option.{option_copied, option_map, option_to_list};
 ghost use Rattle.pathkey.specs.Keys.{is_below, is_in};
 ghost use Rattle.message.specs.Rows.{Rises, place, end_place, joined, number_in, AreFilled, AreRows, or_next, IsHolder, IsGap, IsWritten};
 ghost use Rattle.message.specs.Ranges.{before, reaches};
-ghost use Rattle.message.specs.Runs.{run_len, run_effect, run_msgs, IsRunKeyed};
-ghost use Rattle.message.specs.Settled.{AreRunsKeyed, Lays, look, first_from, point_msgs, point_count, MovesFirst, TakesFirst};
+ghost use Rattle.message.specs.Runs.{run_len, run_effect, IsRunKeyed};
+ghost use Rattle.message.specs.Settled.{AreRunsKeyed, Lays, look, first_from, point_msgs, point_count, IsEdited, MovesFirst, TakesFirst};
 
 use crate::msg::Msg;
 use crate::nearest::from_among;
 use crate::row::{Item, Row};
-use crate::rows::{drop_empty, end_row, first_in, number_in, part, pop_in, pop_item, prepare};
+use crate::rows::{drop_empty, end_row, first_in, number_in, part, pop_item, prepare, share_rows};
 use crate::run::Run;
 use crate::update::{Changes, Update};
 use pathkey::{Key, KeyRange, NoMemory};
@@ -103,11 +103,11 @@ impl<U: Update> Points<U> {
     }
 
     /// Takes the messages of the first key out. It takes no memory.
-    pub(crate) fn pop(&mut self) -> Option<(Key, Run<U>)>
+    pub(crate) fn pop(&mut self) -> Option<Item<Run<U>>>
         ensures moved { self.old ≡ option_to_list result ++ self.new }
         ensures end { IfNone result (self.old ≡ []) }
     {
-        pop_in(&mut self.rows)
+        pop_item(&mut self.rows)
     }
 
     /// Puts one message, which does not ask what was there, in the place of the key's messages, and answers how many they
@@ -193,12 +193,11 @@ impl<U: Update> Points<U> {
         copy_rows_into(self.rows.as_slice(), alloc, count, front)
     }
 
-    /// The same messages at the same keys.
+    /// The same messages, which both then share.
     pub(crate) fn copy(&self, alloc: Global) -> Result<Points<U>, NoMemory>
-        ensures same { IfOk result (λ p. point_msgs p ≡ point_msgs self.now) }
-        ensures keyed { IfOk result (λ p. AreRunsKeyed self.now → AreRunsKeyed p) }
+        ensures { IfOk result (λ p. p ≡ self.now) }
     {
-        let rows = copy_rows(self.rows.as_slice(), alloc)?;
+        let rows = share_rows(self.rows.as_slice(), alloc)?;
         Ok(Points { rows })
     }
 }
@@ -344,21 +343,6 @@ fn copy_rows_into<U: Update>(
     Ok(())
 }
 
-/// The same messages at the same keys, in rows of the same lengths.
-fn copy_rows<U: Update>(rows: &[Row<Run<U>>], alloc: Global) -> Result<Vec<Row<Run<U>>>, NoMemory>
-    requires { AreRows rows.now }
-    ensures rows { IfOk result (λ p. AreRows p.items) }
-    ensures same { IfOk result (λ p. point_msgs (joined p.items) ≡ point_msgs (joined rows.now)) }
-    ensures keyed { IfOk result (λ p. AreRunsKeyed (joined rows.now) → AreRunsKeyed (joined p.items)) }
-{
-    let mut copy = Vec::new(alloc);
-    for row in rows {
-        let row = copy_row(row, alloc)?;
-        copy.push(row)?;
-    }
-    Ok(copy)
-}
-
 /// Moves the messages of the first key of rows to their place in a row, as [`Points::take_first`] does, and answers how many
 /// stood there.
 fn take_in<U: Update>(row: &mut Row<Run<U>>, from: &mut Vec<Row<Run<U>>>) -> Option<usize>
@@ -412,7 +396,7 @@ fn overwrite_in<U: Update>(
 {
     match row.insert(key, run) {
         Ok(None) => Ok(0),
-        Ok(Some(old)) => Ok(old.len()),
+        Ok(Some(old)) => Ok(old.value().len()),
         Err(pair) => Err(pair),
     }
 }
@@ -424,67 +408,11 @@ fn edit_in<U: Update>(
     key: Key,
     update: U,
 ) -> Result<(usize, usize), (Key, U)>
-    ensures written { IsWritten key row.old row.new }
-    ensures lays { OnOk result (Lays U.means key (U.means update) row.old row.new) }
-    ensures counted { IfOk result (λ n. point_count row.new + n.0 ≡ point_count row.old + n.1) }
-    ensures bound { IfOk result (λ n. n.1 ≤ n.0 + 1) }
-    ensures within { IfOk result (λ n. n.0 ≤ point_count row.old) }
-    ensures keyed { AreRunsKeyed row.old → AreRunsKeyed row.new }
-    ensures unchanged { OnErr result (point_msgs row.new ≡ point_msgs row.old) }
-    ensures back { IfErr result (λ p. p ≡ (key, update)) }
+    ensures { IsEdited U.means key update row.old row.new result }
 {
     match row.find(&key) {
-        Ok(i) => edit_at(row, i, alloc, key, update),
+        Ok(i) => row.edit(i, alloc, key, update),
         Err(i) => put_edit(row, i, key, update),
-    }
-}
-
-/// Lays an update over the run with this number, whose key it has.
-fn edit_at<U: Update>(
-    row: &mut Row<Run<U>>,
-    i: usize,
-    alloc: Global,
-    key: Key,
-    update: U,
-) -> Result<(usize, usize), (Key, U)>
-    requires { IsHolder key row.old i }
-    ensures written { IsWritten key row.old row.new }
-    ensures lays { OnOk result (Lays U.means key (U.means update) row.old row.new) }
-    ensures counted { IfOk result (λ n. point_count row.new + n.0 ≡ point_count row.old + n.1) }
-    ensures bound { IfOk result (λ n. n.1 ≤ n.0 + 1) }
-    ensures within { IfOk result (λ n. n.0 ≤ point_count row.old) }
-    ensures keyed { AreRunsKeyed row.old → AreRunsKeyed row.new }
-    ensures unchanged { OnErr result (point_msgs row.new ≡ point_msgs row.old) }
-    ensures back { IfErr result (λ p. p ≡ (key, update)) }
-{
-    let mut run = row.swap(i, Run::Del);
-    let answer = edit_run(&mut run, alloc, key, update);
-    row.swap(i, run);
-    answer
-}
-
-/// Lays an update over a run, as [`Points::edit`] does.
-fn edit_run<U: Update>(
-    run: &mut Run<U>,
-    alloc: Global,
-    key: Key,
-    update: U,
-) -> Result<(usize, usize), (Key, U)>
-    ensures meaning { OnOk result ((o : Option U.Value) → run_effect U.means run.new o ≡ U.means update (run_effect U.means run.old o)) }
-    ensures counted { IfOk result (λ n. (n.0 ≡ run_len run.old) × (n.1 ≡ run_len run.new)) }
-    ensures bound { run_len run.new ≤ run_len run.old + 1 }
-    ensures keyed { IsRunKeyed key run.old → IsRunKeyed key run.new }
-    ensures unchanged { OnErr result ((k : List ℕ) → run_msgs k run.new ≡ run_msgs k run.old) }
-    ensures back { IfErr result (λ p. p ≡ (key, update)) }
-{
-    let before = run.len();
-    let old = std::mem::replace(run, Run::Del);
-    let (new, answer) = old.edited(alloc, key, update);
-    let after = new.len();
-    *run = new;
-    match answer {
-        Ok(()) => Ok((before, after)),
-        Err(pair) => Err(pair),
     }
 }
 
@@ -496,14 +424,7 @@ fn put_edit<U: Update>(
     update: U,
 ) -> Result<(usize, usize), (Key, U)>
     requires { IsGap key row.old i }
-    ensures written { IsWritten key row.old row.new }
-    ensures lays { OnOk result (Lays U.means key (U.means update) row.old row.new) }
-    ensures counted { IfOk result (λ n. point_count row.new + n.0 ≡ point_count row.old + n.1) }
-    ensures bound { IfOk result (λ n. n.1 ≤ n.0 + 1) }
-    ensures within { IfOk result (λ n. n.0 ≤ point_count row.old) }
-    ensures keyed { AreRunsKeyed row.old → AreRunsKeyed row.new }
-    ensures unchanged { OnErr result (row.new ≡ row.old) }
-    ensures back { IfErr result (λ p. p ≡ (key, update)) }
+    ensures { IsEdited U.means key update row.old row.new result }
 {
     match row.put(i, key, Run::Edit(update)) {
         Ok(()) => Ok((0, 1)),
@@ -596,20 +517,4 @@ fn copy_runs<U: Update>(
         item.value().copy_into(alloc, item.key(), front)?;
     }
     Ok(())
-}
-
-/// The same messages at the same keys.
-fn copy_row<U: Update>(row: &Row<Run<U>>, alloc: Global) -> Result<Row<Run<U>>, NoMemory>
-    ensures keys { IfOk result (λ p. keys_of p ≡ keys_of row.now) }
-    ensures same { IfOk result (λ p. point_msgs p ≡ point_msgs row.now) }
-    ensures keyed { IfOk result (λ p. AreRunsKeyed row.now → AreRunsKeyed p) }
-{
-    let mut copy = Row::new(alloc);
-    let items = row.entries();
-    for item in items {
-        let key = item.key().copy(alloc)?;
-        let run = item.value().copy(alloc)?;
-        copy.push(key, run)?;
-    }
-    Ok(copy)
 }

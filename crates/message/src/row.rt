@@ -1,13 +1,12 @@
 //! A row of entries that rise by key, each in a place of its own.
 //!
 //! An entry is made where it comes in. After that only its pointer moves, with the head of its key beside it, so that a search
-//! seldom waits for an entry.
-ghost use Rattle.std.specs.Prelude.{◌≡◌, ◌++◌, ◌∷◌, [], ◌<◌, ◌≤◌, ◌^◌, true, false, length, take, drop, Some, OnOk, OnErr, IfOk, IfErr, IfSome, IfNone, ℕ, List};
+//! seldom waits for an entry. A row that is copied shares its entries with the copy.
+ghost use Rattle.std.specs.Prelude.{◌≡◌, ◌++◌, [], ◌<◌, ◌≤◌, ◌^◌, true, false, length, take, drop, Some, OnOk, OnErr, IfOk, IfErr, IfSome, IfNone, ℕ, List};
 ghost use Rattle.std.specs.Ordering.{is_gt};
 ghost use Rattle.std.specs.Option.{option_map, option_to_list};
 ghost use Rattle.std.specs.List.{remove_range, slice_get};
-ghost use Rattle.std.specs.Map.{set_value};
-ghost use Rattle.std.specs.BTreeMap.{insert_entry, is_at};
+ghost use Rattle.std.specs.BTreeMap.{insert_entry};
 ghost use Rattle.pathkey.specs.Order.{by_bytes, same};
 ghost use Rattle.pathkey.specs.Heads.{IsHeaded};
 ghost use Rattle.message.specs.Rows.{Rises, BeginsHeaded, at_key, place, begins_by, is_filled, joined, IsHolder, IsGap, IsFound, AreRows, IsMovedIn};
@@ -17,6 +16,9 @@ use crate::search::count_passing;
 use pathkey::{Key, NoMemory};
 use std::alloc::Global;
 use std::marker::Model;
+use std::sync::Arc;
+
+mod edits;
 
 /// Entries that rise by key, which contracts see as their list, and beside them the head of the first one's key: a search
 /// among rows seldom reads more of a row.
@@ -26,11 +28,11 @@ pub struct Row<T> {
     items: Vec<Item<T>>,
 }
 
-/// An entry in a place of its own, and the head of its key. Contracts see the entry.
+/// An entry in a place of its own, which other items may share, and the head of its key. Contracts see the entry.
 #[derive(Drop)]
 pub struct Item<T> {
     head: u64,
-    entry: Box<(Key, T)>,
+    entry: Arc<(Key, T)>,
 }
 
 impl<T> Model for Item<T> {
@@ -51,7 +53,7 @@ impl<T: Drop> Item<T> {
         ensures back { IfErr result (λ p. p ≡ (key, value)) }
     {
         let head = key.head();
-        match Box::new(alloc, (key, value)) {
+        match Arc::new(alloc, (key, value)) {
             Ok(entry) => Ok(Item { head, entry }),
             Err(refused) => Err(refused.value),
         }
@@ -61,32 +63,25 @@ impl<T: Drop> Item<T> {
     pub(crate) fn key(&self) -> &Key
         ensures { result.now ≡ self.now.0 }
     {
-        let entry = self.entry.as_ref();
-        &entry.0
+        &self.entry.0
     }
 
     /// The value of the entry.
     pub(crate) fn value(&self) -> &T
         ensures { result.now ≡ self.now.1 }
     {
-        let entry = self.entry.as_ref();
-        &entry.1
+        &self.entry.1
     }
 
-    /// The entry, out of its place.
-    pub(crate) fn into_entry(self) -> (Key, T)
-        ensures { result ≡ self }
+    /// The same entry in the same place, which both items then share.
+    pub(crate) fn share(&self) -> Result<Item<T>, NoMemory>
+        ensures { IfOk result (λ i. i ≡ self.now) }
     {
-        let Item { head: _, entry } = self;
-        Box::into_inner(entry)
-    }
-
-    /// Gives the entry another value, and answers the one that it had.
-    fn replace(&mut self, value: T) -> T
-        ensures was { result ≡ self.old.1 }
-        ensures is { self.new ≡ (self.old.0, value) }
-    {
-        std::mem::replace(&mut self.entry.1, value)
+        let entry = Arc::try_clone(&self.entry)?;
+        Ok(Item {
+            head: self.head,
+            entry,
+        })
     }
 
     /// The head of the key.
@@ -215,21 +210,39 @@ impl<T: Drop> Row<T> {
         find_in(self.items.as_slice(), key)
     }
 
-    /// Puts a value at the key, and answers the one that stood there. On want of memory both come back.
-    pub(crate) fn insert(&mut self, key: Key, value: T) -> Result<Option<T>, (Key, T)>
+    /// Puts a value at the key, and answers the entry that stood there. On want of memory key and value come back.
+    pub(crate) fn insert(&mut self, key: Key, value: T) -> Result<Option<Item<T>>, (Key, T)>
         ensures entries { OnOk result (self.new ≡ insert_entry by_bytes self.old key value) }
-        ensures was { IfOk result (λ old. old ≡ at_key key self.old) }
+        ensures was { IfOk result (λ old. option_map (λ e. e.1) old ≡ at_key key self.old) }
         ensures rises { Rises self.new }
         ensures was_rising { Rises self.old }
         ensures err { OnErr result (self.new ≡ self.old) }
         ensures back { IfErr result (λ p. p ≡ (key, value)) }
     {
         match self.find(&key) {
-            Ok(i) => Ok(Some(self.swap(i, value))),
+            Ok(i) => match self.replace(i, key, value) {
+                Ok(old) => Ok(Some(old)),
+                Err(pair) => Err(pair),
+            },
             Err(i) => match self.put(i, key, value) {
                 Ok(()) => Ok(None),
                 Err(pair) => Err(pair),
             },
+        }
+    }
+
+    /// Puts a new entry into the place of the one that has its key, and answers that one. On want of memory it comes back.
+    fn replace(&mut self, i: usize, key: Key, value: T) -> Result<Item<T>, (Key, T)>
+        requires { IsHolder key self.old i }
+        ensures entries { OnOk result (self.new ≡ insert_entry by_bytes self.old key value) }
+        ensures was { IfOk result (λ old. at_key key self.old ≡ Some old.1) }
+        ensures rises { Rises self.new }
+        ensures err { OnErr result (self.new ≡ self.old) }
+        ensures back { IfErr result (λ p. p ≡ (key, value)) }
+    {
+        match Item::new(*self.items.allocator(), key, value) {
+            Ok(item) => Ok(self.swap_item(i, item)),
+            Err(pair) => Err(pair),
         }
     }
 
@@ -245,32 +258,6 @@ impl<T: Drop> Row<T> {
         let answer = put_item(&mut self.items, i, key, value);
         self.head = first_head(self.items.as_slice());
         answer
-    }
-
-    /// Gives an entry another value, and answers the one that it had.
-    pub(crate) fn swap(&mut self, i: usize, value: T) -> T
-        requires { i < length self.old }
-        ensures was { (k : List ℕ) → IsHolder k self.old i → at_key k self.old ≡ Some result }
-        ensures is { (k : List ℕ) → IsHolder k self.old i → self.new ≡ set_value (is_at (by_bytes k)) self.old value }
-        ensures rises { Rises self.new }
-    {
-        let item = &mut self.items[i];
-        let old = item.replace(value);
-        self.head = first_head(self.items.as_slice());
-        old
-    }
-
-    /// Puts an entry behind the others. On want of memory it is gone.
-    pub(crate) fn push(&mut self, key: Key, value: T) -> Result<(), NoMemory>
-        requires { Rises (self.old ++ (key, value) ∷ []) }
-        ensures { OnOk result (self.new ≡ self.old ++ (key, value) ∷ []) }
-    {
-        let Ok(item) = Item::new(*self.items.allocator(), key, value) else {
-            return Err(NoMemory);
-        };
-        self.items.push(item)?;
-        self.head = first_head(self.items.as_slice());
-        Ok(())
     }
 
     /// Takes the first entry out.
@@ -342,6 +329,15 @@ impl<T: Drop> Row<T> {
         let head = first_head(items.as_slice());
         Ok(Row { head, items })
     }
+
+    /// The same entries, which both rows then share.
+    pub(crate) fn share(&self, alloc: Global) -> Result<Row<T>, NoMemory>
+        ensures { IfOk result (λ r. r ≡ self.now) }
+    {
+        let items = share_items(self.items.as_slice(), alloc)?;
+        let head = first_head(items.as_slice());
+        Ok(Row { head, items })
+    }
 }
 
 /// The head of the first entry's key; 0 where there is none.
@@ -354,6 +350,17 @@ fn first_head<T: Drop>(items: &[Item<T>]) -> u64
     }
 }
 
+/// The same entries, which both lists of items then share.
+fn share_items<T: Drop>(items: &[Item<T>], alloc: Global) -> Result<Vec<Item<T>>, NoMemory>
+    ensures { IfOk result (λ v. v.items ≡ items.now) }
+{
+    let mut shared = Vec::with_capacity(alloc, items.len())?;
+    for item in items {
+        shared.push(item.share()?)?;
+    }
+    Ok(shared)
+}
+
 /// Puts a new entry into its place among others. On want of memory it comes back.
 fn put_item<T: Drop>(items: &mut Vec<Item<T>>, i: usize, key: Key, value: T) -> Result<(), (Key, T)>
     requires { IsGap key items.old.items i }
@@ -362,14 +369,17 @@ fn put_item<T: Drop>(items: &mut Vec<Item<T>>, i: usize, key: Key, value: T) -> 
     ensures err { OnErr result (items.new.items ≡ items.old.items) }
     ensures back { IfErr result (λ p. p ≡ (key, value)) }
 {
+    if items.reserve(1).is_err() {
+        return Err((key, value));
+    }
     let item = match Item::new(*items.allocator(), key, value) {
         Ok(item) => item,
         Err(refused) => return Err(refused),
     };
-    match items.insert(i, item) {
-        Ok(()) => Ok(()),
-        Err(refused) => Err(refused.value.into_entry()),
-    }
+    let Ok(()) = items.insert(i, item) else {
+        unreachable!()
+    };
+    Ok(())
 }
 
 /// How many entries stand before the key, found by a search in strides.

@@ -200,19 +200,6 @@ fn divide<T: Drop>(rows: &mut Vec<Row<T>>, key: &Key) -> Result<usize, NoMemory>
     Ok(n + 1)
 }
 
-/// Takes the first entry of all out.
-pub(crate) fn pop_in<T: Drop>(rows: &mut Vec<Row<T>>) -> Option<(Key, T)>
-    requires { AreRows rows.old.items }
-    ensures moved { joined rows.old.items ≡ option_to_list result ++ joined rows.new.items }
-    ensures end { IfNone result (joined rows.old.items ≡ []) }
-    ensures rows { AreRows rows.new.items }
-{
-    match pop_item(rows) {
-        None => None,
-        Some(item) => Some(item.into_entry()),
-    }
-}
-
 /// Takes the first entry of all out as it lies in memory.
 pub(crate) fn pop_item<T: Drop>(rows: &mut Vec<Row<T>>) -> Option<Item<T>>
     requires { AreRows rows.old.items }
@@ -254,11 +241,15 @@ pub(crate) fn drop_empty<T: Drop>(rows: &mut Vec<Row<T>>)
     rows.retain(|row| row.has_entries());
 }
 
-/// Rows of the same entries, which both share.
+/// The same entries, in rows of the same lengths, which share them with the others.
 pub(crate) fn share_rows<T: Drop>(rows: &[Row<T>], alloc: Global) -> Result<Vec<Row<T>>, NoMemory>
     requires { AreRows rows.now }
     ensures rows { IfOk result (λ p. AreRows p.items) }
     ensures same { IfOk result (λ p. joined p.items ≡ joined rows.now) }
 {
-    Err(NoMemory)
+    let mut shared = Vec::with_capacity(alloc, rows.len())?;
+    for row in rows {
+        shared.push(row.share(alloc)?)?;
+    }
+    Ok(shared)
 }

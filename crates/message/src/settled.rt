@@ -191,9 +191,9 @@ impl<U: Update> Settled<U> {
             let (lo, hi) = item.into_entry();
             return Some(Oldest::Range(KeyRange { lo, hi }));
         }
-        let (key, run) = self.points.pop()?;
-        self.count -= run.len();
-        Some(Oldest::Run(key, run))
+        let item = self.points.pop()?;
+        self.count -= item.value().len();
+        unreachable!()
     }
 
     /// Moves the oldest messages of another list, those of one key and at most `most`, into the place of their key, newer than
