@@ -5,9 +5,8 @@ use Rattle.message.specs.declared.msg.Msg.TheVariants.{Put as PutMsg, Del as Del
 use Rattle.message.specs.declared.run.Run.{Run}
 use Rattle.message.specs.declared.run.Run.TheVariants.{Put, Del, Edit, Edits}
 use Rattle.message.specs.Effects.{range_count}
-use Rattle.message.specs.Runs.{later_msgs, run_msgs, run_len}
+use Rattle.message.specs.Runs.{later_msgs, run_msgs}
 use Rattle.message.specs.Settled.{Span, point_msgs, settled_msgs}
-use Rattle.message.proofs.SettledMeaning.{length-run}
 
 count_none : (U V : Type 0) (n : ℕ) → range_count (drop n (point_msgs {U = U} {V = V} [])) ≡ 0
 count_none U V zero = refl
@@ -44,9 +43,6 @@ module _ {U V : Type 0} where
       let rest : range_count xs ≡ 0 = omega (arith, count_append (x ∷ []) xs, z) in
       let same : n - length xs ≡ suc n - length (x ∷ xs) = omega arith in
       count_behind n xs ys rest ∙ ap (λ i. range_count (drop i ys)) same
-
-  pub count_behind_run : (n : ℕ) (k : List ℕ) (r : Run U V) (ms : List (Msg U V)) → range_count (drop n (run_msgs k r ++ ms)) ≡ range_count (drop (n - run_len r) ms)
-  count_behind_run n k r ms = count_behind n (run_msgs k r) ms (ap (λ xs. range_count xs) (sym (append-nil (run_msgs k r))) ∙ count_run k r []) ∙ ap (λ i. range_count (drop (n - i) ms)) (length-run k r)
 
   -- without the oldest
   pub count_settled : (n : ℕ) (rs : List Span) (es : List (List ℕ × Run U V)) → range_count (drop n (settled_msgs rs es)) ≡ length rs - n

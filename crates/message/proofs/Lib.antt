@@ -31,3 +31,4 @@ pub mod Dividing
 pub mod LastEntries
 pub mod RangeRows
 pub mod Moving
+pub mod LeftFacts

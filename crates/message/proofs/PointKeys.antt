@@ -20,9 +20,7 @@ use Rattle.message.specs.declared.run.Run.{Run}
 use Rattle.message.specs.declared.run.Run.TheVariants.{Put, Del, Edit, Edits}
 use Rattle.message.specs.Effects.{touches, any_touches, effect, effects, point}
 use Rattle.message.specs.Ranges.{reaches, before, within}
-use Rattle.std.specs.Global.{Box}
-use Rattle.message.specs.declared.run.Several.{Several}
-use Rattle.message.specs.Runs.{run_msgs, later_msgs, rest_msgs}
+use Rattle.message.specs.Runs.{run_msgs, later_msgs}
 use Rattle.message.specs.Rows.{Rises}
 use Rattle.message.specs.Settled.{Span, covered, first_from, range_msgs, point_msgs, settled_msgs}
 use Rattle.message.specs.Stretches.{is_for, is_key, ends_of, all_ends, IsStretch}
@@ -37,7 +35,7 @@ or_assoc : (a b c : Bool) → (a || (b || c)) ≡ ((a || b) || c)
 or_assoc true b c = refl
 or_assoc false b c = refl
 
-or_none : (b : Bool) → (b || false) ≡ b
+pub or_none : (b : Bool) → (b || false) ≡ b
 or_none true = refl
 or_none false = refl
 
@@ -76,15 +74,11 @@ module _ {U V : Type 0} where
 
   -- ---- the parts of a sorted list
 
-  pub run_clears : (q : List ℕ) (r : Run U V) (k : List ℕ) → is_cleared (run_msgs q r) k ≡ false
+  run_clears : (q : List ℕ) (r : Run U V) (k : List ℕ) → is_cleared (run_msgs q r) k ≡ false
   run_clears q (Put v) k = refl
   run_clears q Del k = refl
   run_clears q (Edit u) k = refl
   run_clears q (Edits s) k = later_clears V q s.value.more.items k
-
-  pub rest_clears : (f : Option (List ℕ × Box (Several U V))) (k : List ℕ) → is_cleared (rest_msgs f) k ≡ false
-  rest_clears None k = refl
-  rest_clears (Some e) k = run_clears e.0 (Edits e.1) k
 
   pub points_clear : (es : List (List ℕ × Run U V)) (k : List ℕ) → is_cleared (point_msgs es) k ≡ false
   points_clear [] k = refl

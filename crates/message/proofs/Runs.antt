@@ -1,8 +1,10 @@
 -- Updates of one key, one after the other.
-use Rattle.std.proofs.Common.{◌≡◌, ℕ, zero, suc, ◌+◌, ◌<◌, refl, sym, ap, ◌∙◌, List, [], ◌∷◌, ◌++◌, length, take, get_or, Option, arith}
-use Rattle.std.proofs.lemmas.List.{take_more}
+use Rattle.std.proofs.Common.{◌≡◌, ℕ, zero, suc, ◌+◌, ◌-◌, ◌<◌, refl, sym, ap, ◌∙◌, List, [], ◌∷◌, ◌++◌, length, take, drop, get_or, Option, arith, length-drop}
+use Rattle.std.proofs.lemmas.List.{take_more, take_all}
 use Rattle.std.proofs.Math.ListN.{set}
-use Rattle.message.specs.Runs.{AreKeyed, later_edits}
+use Rattle.message.specs.declared.msg.Msg.{Msg}
+use Rattle.message.specs.declared.msg.Msg.TheVariants.{Edit}
+use Rattle.message.specs.Runs.{AreKeyed, later_edits, later_msgs}
 
 module _ {U V : Type 0} (means : U → Option V → Option V) where
   pub later_edits-append : (xs ys : List (List ℕ × U)) (o : Option V) → later_edits means (xs ++ ys) o ≡ later_edits means ys (later_edits means xs o)
@@ -41,3 +43,19 @@ module _ {U : Type 0} (k : List ℕ) where
   AreKeyed-set [] i d u h = tt
   AreKeyed-set (x ∷ xs) zero d u h = h
   AreKeyed-set (x ∷ xs) (suc i) d u h = (h.0, AreKeyed-set xs i d u h.1)
+
+-- ---- the messages that they are
+
+module _ {U V : Type 0} where
+  later_drop : (n : ℕ) (k : List ℕ) (us : List (List ℕ × U)) → later_msgs {U = U} {V = V} k (drop n us) ≡ drop n (later_msgs k us)
+  later_drop zero k us = refl
+  later_drop (suc n) k [] = refl
+  later_drop (suc n) k (u ∷ us) = later_drop n k us
+
+  -- without the oldest, and some more
+  pub later_left : (n : ℕ) (k : List ℕ) (u : U) (us : List (List ℕ × U)) → 0 < n → later_msgs {U = U} {V = V} k (take (length us - (n - 1)) (drop (n - 1) us)) ≡ drop n (Edit k u ∷ later_msgs k us)
+  later_left n k u us h =
+      let less : n ≡ suc (n - 1) = omega arith in
+      ap (λ t. later_msgs {U = U} {V = V} k t) (take_all (length us - (n - 1)) (drop (n - 1) us) (omega (arith, length-drop (n - 1) us)))
+      ∙ later_drop (n - 1) k us
+      ∙ sym (ap (λ i. drop i (Edit k u ∷ later_msgs {U = U} {V = V} k us)) less)

@@ -37,7 +37,7 @@ module _ {U V : Type 0} (means : U → Option V → Option V) where
   effects-ranges [] q o = refl
   effects-ranges (r ∷ rs) q o = effects-ranges rs q (cond (within r.0 r.1 q) None o) ∙ cond_or (within r.0 r.1 q) (covered rs q) o
 
-  effects-later_here : (k q : List ℕ) (us : List (List ℕ × U)) (o : Option V) → same k q ≡ true → effects means (later_msgs k us) q o ≡ later_edits means us o
+  pub effects-later_here : (k q : List ℕ) (us : List (List ℕ × U)) (o : Option V) → same k q ≡ true → effects means (later_msgs k us) q o ≡ later_edits means us o
   effects-later_here k q [] o e = refl
   effects-later_here k q (u ∷ us) o e = ap (λ b. effects means (later_msgs k us) q (cond b (means u.1 o) o)) e ∙ effects-later_here k q us (means u.1 o) e
 
@@ -91,7 +91,7 @@ later_untouched : {U : Type 0} (V : Type 0) (k q : List ℕ) (us : List (List �
 later_untouched V k q [] e = refl
 later_untouched {U} V k q (u ∷ us) e = ap (λ b. b || any_touches {U = U} {V = V} (later_msgs k us) q) e ∙ later_untouched V k q us e
 
-length-later : {U : Type 0} (V : Type 0) (k : List ℕ) (us : List (List ℕ × U)) → length (later_msgs {U = U} {V = V} k us) ≡ length us
+pub length-later : {U : Type 0} (V : Type 0) (k : List ℕ) (us : List (List ℕ × U)) → length (later_msgs {U = U} {V = V} k us) ≡ length us
 length-later V k [] = refl
 length-later V k (u ∷ us) = ap suc (length-later V k us)
 

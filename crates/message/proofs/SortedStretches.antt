@@ -270,7 +270,7 @@ module _ {U V : Type 0} where
 
 module _ {U V : Type 0} where
   -- the key behind that of a run is an end of its messages
-  pub run_next : (q : List ℕ) (r : Run U V) → Contains (all_ends (run_msgs q r)) (next_key q)
+  run_next : (q : List ℕ) (r : Run U V) → Contains (all_ends (run_msgs q r)) (next_key q)
   run_next q (Put v) = (1, omega arith, refl)
   run_next q Del = (1, omega arith, refl)
   run_next q (Edit u) = (1, omega arith, refl)
@@ -308,17 +308,17 @@ module _ {U V : Type 0} where
   }
 
   -- messages of another key
-  pub run_stretch : (q : List ℕ) (r : Run U V) (from : List ℕ) (end : Option (List ℕ)) → same q from ≡ false → is_below from end ≡ true → IsStretch (run_msgs q r) from end (earlier_end end (ahead_of from (Some q)))
-  run_stretch q r from end other low =
+  pub key_stretch : (q : List ℕ) (ms : List (Msg U V)) (from : List ℕ) (end : Option (List ℕ)) → ((k : List ℕ) → same q k ≡ false → All (λ m. touches m k ≡ touches m from) ms) → Contains (all_ends ms) q → same q from ≡ false → is_below from end ≡ true → IsStretch ms from end (earlier_end end (ahead_of from (Some q)))
+  key_stretch q ms from end apart key other low =
       let a = ahead_of from (Some q) in
       let above : is_below from a ≡ true = ahead_after from (Some q) in
       let after : is_below from (earlier_end end a) ≡ true = below_earlier end a from low above in
       let out : (k : List ℕ) → within from a k ≡ true → same q k ≡ false = λ k h. unlike q from k other h ∙ other in
       record {
-        alike = λ k h. let p = both (reaches from k) (is_below k (earlier_end end a)) h in run_apart q k from r (out k (ap (λ c. c && is_below k a) p.0 ∙ (below_both end a k p.1).1)) other;
+        alike = λ k h. let p = both (reaches from k) (is_below k (earlier_end end a)) h in apart k (out k (ap (λ c. c && is_below k a) p.0 ∙ (below_both end a k p.1).1));
         after = after;
         inside = λ k h. (below_both end a k h).0;
-        an_end = some_earlier (λ d. (end ≡ Some d) ⊎ Contains (all_ends (run_msgs q r)) d) end a (itself (run_msgs q r) end) (elim (before from q) as (λ c. IfSome (cond c (Some q) None) (λ d. (end ≡ Some d) ⊎ Contains (all_ends (run_msgs q r)) d)) [ true ↦ inr (run_key q r) | false ↦ tt ]);
+        an_end = some_earlier (λ d. (end ≡ Some d) ⊎ Contains (all_ends ms) d) end a (itself ms end) (elim (before from q) as (λ c. IfSome (cond c (Some q) None) (λ d. (end ≡ Some d) ⊎ Contains (all_ends ms) d)) [ true ↦ inr key | false ↦ tt ]);
       }
 
   -- no messages

@@ -33,7 +33,7 @@ module _ {U V : Type 0} where
   some_run (Edits b) = omega arith
 
   -- its messages have one key
-  run_alike : (old : Option (List ℕ)) (k : List ℕ) (r : Run U V) → old ≡ Some k → All (λ m. point m ≡ old) (run_msgs k r)
+  pub run_alike : (old : Option (List ℕ)) (k : List ℕ) (r : Run U V) → old ≡ Some k → All (λ m. point m ≡ old) (run_msgs k r)
   run_alike old k (Put v) e = All-cons (λ m. point m ≡ old) (msg.Put k v) [] (sym e) (All-nil (λ m. point m ≡ old))
   run_alike old k Del e = All-cons (λ m. point m ≡ old) (msg.Del k) [] (sym e) (All-nil (λ m. point m ≡ old))
   run_alike old k (Edit u) e = All-cons (λ m. point m ≡ old) (msg.Edit k u) [] (sym e) (All-nil (λ m. point m ≡ old))

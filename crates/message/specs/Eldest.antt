@@ -19,5 +19,5 @@ module _ {U V : Type 0} where
   abbrev pub eldest_msg : Eldest U V → Msg U V
   eldest_msg (eldest.Range lo hi) = msg.DelRange (record { lo = lo.now; hi = option_copied hi })
   eldest_msg (eldest.Run k r) = run_first k.now r.now
-  eldest_msg (eldest.Left k s) = msg.Edit k.now s.now.first
+  eldest_msg (eldest.Left k u) = msg.Edit k.now u.now
   eldest_msg (eldest.Plain m) = m.now

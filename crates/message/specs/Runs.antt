@@ -1,6 +1,5 @@
 -- What waits at one key.
 use Rattle.std.specs.Prelude.{◌≡◌, ℕ, ◌+◌, List, [], ◌∷◌, length, Option, Some, None}
-use Rattle.std.specs.Global.{Box}
 use Rattle.message.specs.declared.msg.Msg.{Msg}
 use Rattle.message.specs.declared.msg.Msg.TheVariants as msg
 use Rattle.message.specs.declared.run.Run.{Run}
@@ -42,14 +41,10 @@ module _ {U V : Type 0} where
   IsRunKeyed k (Edit u) = Unit {0}
   IsRunKeyed k (Edits b) = AreKeyed k b.value.more.items
 
-  -- what is left of the updates of a key
-  abbrev pub rest_msgs : Option (List ℕ × Box (Several U V)) → List (Msg U V)
-  rest_msgs None = []
-  rest_msgs (Some e) = run_msgs e.0 (Edits e.1)
-
-  abbrev pub IsRestKeyed : Option (List ℕ × Box (Several U V)) → Type 0
-  IsRestKeyed None = Unit {0}
-  IsRestKeyed (Some e) = IsRunKeyed e.0 (Edits e.1)
+  -- the messages that are left of those of one key, if there are any
+  abbrev pub left_msgs : Option (List (Msg U V)) → List (Msg U V)
+  left_msgs None = []
+  left_msgs (Some ms) = ms
 
   module _ (means : U → Option V → Option V) where
     -- the value after updates, the oldest first

@@ -9,7 +9,7 @@ ghost use Rattle.message.specs.Oldest.{put_at, given_at, covers_first};
 use crate::ends::is_within;
 use crate::meets::{covers, meets, overlaps, reaches_over};
 use crate::msg::Msg;
-use crate::run::{Run, Several};
+use crate::run::Run;
 use crate::update::{Changes, Update};
 use pathkey::Key;
 
@@ -21,7 +21,7 @@ pub enum Eldest<'a, U: Changes> {
     /// The first of the messages of one key.
     Run(&'a Key, &'a Run<U>),
     /// The first update that is left of those of one key.
-    Left(&'a Key, &'a Several<U>),
+    Left(&'a Key, &'a U),
     /// A message as it came.
     Plain(&'a Msg<U>),
 }

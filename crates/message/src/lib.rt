@@ -7,6 +7,7 @@
 
 pub mod eldest;
 pub mod ends;
+pub mod left;
 pub(crate) mod list;
 pub mod meets;
 pub mod msg;

@@ -143,9 +143,8 @@ impl<U: Update> Pending<U> {
         ensures moved { newer.new ≡ [] }
         ensures room { self.old.1 ≤ self.new.1 + length newer.old }
     {
-        while let Some(msg) = newer.pop() {
-            self.push_reserved(msg);
-        }
+        let count = newer.len();
+        newer.drop_front(count);
     }
 
     fn append_tail(&mut self, newer: &mut Tail<U>)
@@ -335,10 +334,7 @@ impl<U: Update> Pending<U> {
         ensures end { IfNone result (self.old.0 ≡ []) }
         ensures room { self.old.1 ≤ self.new.1 }
     {
-        match self.sorted.pop() {
-            Some(oldest) => Some(oldest),
-            None => self.fresh.pop(),
-        }
+        self.fresh.pop()
     }
 
     /// Moves the oldest messages to another list, where they are newer than all others, and counts them: all of one key as they

@@ -1,10 +1,10 @@
 //! What waits at one key.
-ghost use Rattle.std.specs.Prelude.{true, ◌≡◌, ◌+◌, ◌<◌, ◌≤◌, [], ◌∷◌, ◌++◌, List, ℕ, Option, None, Some, if◌then◌else◌, length, OnOk, OnErr, IfOk, IfErr, IfSome, IfNone};
+ghost use Rattle.std.specs.Prelude.{true, ◌≡◌, ◌+◌, ◌<◌, ◌≤◌, [], ◌∷◌, ◌++◌, List, ℕ, Option, None, Some, if◌then◌else◌, length, drop, OnOk, OnErr, IfOk, IfErr};
 ghost use Rattle.std.specs.Bool.{OnTrue, OnFalse};
 ghost use Rattle.message.specs.declared.msg.Msg.TheVariants as msg;
 ghost use Rattle.message.specs.declared.run.Run.TheVariants as run;
 ghost use Rattle.message.specs.Settled.{IsToldOf};
-ghost use Rattle.message.specs.Runs.{later_edits, several_effect, several_msgs, run_effect, run_len, run_msgs, AreKeyed, IsRunKeyed, rest_msgs, IsRestKeyed};
+ghost use Rattle.message.specs.Runs.{later_edits, several_effect, several_msgs, run_effect, run_len, run_msgs, AreKeyed, IsRunKeyed, later_msgs};
 
 use crate::msg::Msg;
 use crate::told::Told;
@@ -27,7 +27,7 @@ pub enum Run<U: Changes> {
 
 /// Updates of one key that do not join, the oldest first.
 ///
-/// All but the oldest keep the key that they came with, so that each leaves as a message without a copy.
+/// All but the oldest keep the key that they came with.
 #[derive(Drop)]
 pub struct Several<U: Changes> {
     /// The oldest.
@@ -52,6 +52,36 @@ fn copied_later<U: Update>(alloc: Global, later: &(Key, U)) -> Result<(Key, U), 
     Ok((key, later.1.copy(alloc)?))
 }
 
+/// The value after the updates, where `old` was there.
+pub(crate) fn apply_later<U: Update>(
+    alloc: Global,
+    updates: &[(Key, U)],
+    old: Option<U::Value>,
+) -> Result<Option<U::Value>, NoMemory>
+    ensures { IfOk result (λ v. v ≡ later_edits U.means updates.now old) }
+{
+    let mut value = old;
+    for update in updates {
+        value = update.1.apply(alloc, value.as_ref())?;
+    }
+    Ok(value)
+}
+
+/// Copies of the updates as messages at the key, put behind those in `front`.
+pub(crate) fn copy_later<U: Update>(
+    alloc: Global,
+    key: &Key,
+    updates: &[(Key, U)],
+    front: &mut Vec<Msg<U>>,
+) -> Result<(), NoMemory>
+    ensures { OnOk result (front.new.items ≡ front.old.items ++ later_msgs key.now updates.now) }
+{
+    for update in updates {
+        front.push(copied_edit(alloc, key, &update.1)?)?;
+    }
+    Ok(())
+}
+
 impl<U: Update> Several<U> {
     /// How many updates it holds.
     pub(crate) fn len(&self) -> usize
@@ -68,11 +98,8 @@ impl<U: Update> Several<U> {
     ) -> Result<Option<U::Value>, NoMemory>
         ensures { IfOk result (λ v. v ≡ several_effect U.means self.now old) }
     {
-        let mut value = self.first.apply(alloc, old.as_ref())?;
-        for update in &self.more {
-            value = update.1.apply(alloc, value.as_ref())?;
-        }
-        Ok(value)
+        let value = self.first.apply(alloc, old.as_ref())?;
+        apply_later(alloc, self.more.as_slice(), value)
     }
 
     /// Adds an update, which is joined to the one before it where that can be. On want of memory it comes back, and the
@@ -104,10 +131,7 @@ impl<U: Update> Several<U> {
         ensures { OnOk result (front.new.items ≡ front.old.items ++ several_msgs key.now self.now) }
     {
         front.push(copied_edit(alloc, key, &self.first)?)?;
-        for update in &self.more {
-            front.push(copied_edit(alloc, key, &update.1)?)?;
-        }
-        Ok(())
+        copy_later(alloc, key, self.more.as_slice(), front)
     }
 
     /// Equal updates.
@@ -121,19 +145,6 @@ impl<U: Update> Several<U> {
             more.push(copied_later(alloc, update)?)?;
         }
         Ok(Several { first, more })
-    }
-
-    /// Takes the oldest update out where others stand behind it.
-    fn split_first(&mut self) -> Option<Msg<U>>
-        ensures some { IfSome result (λ m. (k : List ℕ) → AreKeyed k self.old.more.items → (several_msgs k self.old ≡ m ∷ several_msgs k self.new) × AreKeyed k self.new.more.items) }
-        ensures none { IfNone result ((self.new ≡ self.old) × (length self.old.more.items ≡ 0)) }
-    {
-        if self.more.is_empty() {
-            return None;
-        }
-        let (key, next) = self.more.remove(0);
-        let first = std::mem::replace(&mut self.first, next);
-        Some(Msg::Edit(key, first))
     }
 
     /// Makes one of the newest update and `later`, where that can be.
@@ -370,29 +381,15 @@ impl<U: Update> Run<U> {
         (Run::Edits(several), answer)
     }
 
-    /// The oldest message of the run at the key, and the others, if there are any.
-    pub(crate) fn split(self, key: Key) -> (Msg<U>, Option<(Key, Box<Several<U>>)>)
-        requires { IsRunKeyed key self }
-        ensures parts { run_msgs key self ≡ result.0 ∷ rest_msgs result.1 }
-        ensures keyed { IsRestKeyed result.1 }
+    /// The updates from number `gone` on, where that is not the first.
+    pub(crate) fn later(&self, gone: usize) -> &[(Key, U)]
+        requires later { 0 < gone }
+        requires within { gone ≤ run_len self.now }
+        ensures { (k : List ℕ) → later_msgs k result.now ≡ drop gone (run_msgs k self.now) }
     {
         match self {
-            Run::Put(value) => (Msg::Put(key, value), None),
-            Run::Del => (Msg::Del(key), None),
-            Run::Edit(update) => (Msg::Edit(key, update), None),
-            Run::Edits(several) => Run::split_several(several, key),
-        }
-    }
-
-    fn split_several(several: Box<Several<U>>, key: Key) -> (Msg<U>, Option<(Key, Box<Several<U>>)>)
-        requires { AreKeyed key several.value.more.items }
-        ensures parts { several_msgs key several.value ≡ result.0 ∷ rest_msgs result.1 }
-        ensures keyed { IsRestKeyed result.1 }
-    {
-        let mut several = several;
-        match several.split_first() {
-            Some(msg) => (msg, Some((key, several))),
-            None => (Msg::Edit(key, Box::into_inner(several).first), None),
+            Run::Put(_) | Run::Del | Run::Edit(_) => &[],
+            Run::Edits(several) => &several.more[gone - 1..],
         }
     }
 

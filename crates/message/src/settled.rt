@@ -7,7 +7,7 @@ ghost use Rattle.message.specs.Effects.{effects, point, range_count, Takes};
 ghost use Rattle.message.specs.Eldest.{eldest_msg};
 ghost use Rattle.std.specs.List.{All, slice_get};
 ghost use Rattle.message.specs.Oldest.{first_point};
-ghost use Rattle.message.specs.Oldests.{oldest_msgs, IsOldestKeyed};
+ghost use Rattle.message.specs.Oldests.{oldest_msgs};
 ghost use Rattle.message.specs.PointKeys.{is_cleared, IsPointStop, IsClearStretch};
 ghost use Rattle.message.specs.Stretches.{EndsAhead, is_key};
 ghost use Rattle.message.specs.Told.{IsTold};
@@ -19,6 +19,7 @@ use crate::ends::{earlier, is_before_end};
 use crate::msg::Msg;
 use crate::points::Points;
 use crate::ranges::{self, Ranges};
+use crate::row::Item;
 use crate::run::Run;
 use crate::stretch::point_stop;
 use crate::told::Told;
@@ -183,17 +184,16 @@ impl<U: Update> Settled<U> {
     }
 
     /// Takes out what stands first: a range-delete, or all messages of one key. It takes no memory.
-    pub(crate) fn pop(&mut self) -> Option<Oldest<U>>
-        ensures some { IfSome result (λ oldest. (self.old ≡ oldest_msgs oldest ++ self.new) × IsOldestKeyed oldest) }
+    pub(crate) fn pop_first(&mut self) -> Option<Oldest<U>>
+        ensures some { IfSome result (λ oldest. self.old ≡ oldest_msgs oldest ++ self.new) }
         ensures none { IfNone result ((self.old ≡ []) × (self.new ≡ [])) }
     {
         if let Some(item) = self.ranges.pop_first() {
-            let (lo, hi) = item.into_entry();
-            return Some(Oldest::Range(KeyRange { lo, hi }));
+            return Some(Oldest::Range(item));
         }
         let item = self.points.pop()?;
         self.count -= item.value().len();
-        unreachable!()
+        Some(Oldest::Run(item))
     }
 
     /// Moves the oldest messages of another list, those of one key and at most `most`, into the place of their key, newer than
@@ -336,9 +336,9 @@ impl<U: Update> Settled<U> {
 #[derive(Drop)]
 pub(crate) enum Oldest<U: Changes> {
     /// A range-delete.
-    Range(KeyRange),
+    Range(Item<Option<Key>>),
     /// The messages of one key.
-    Run(Key, Run<U>),
+    Run(Item<Run<U>>),
 }
 
 /// Whether there is a key and it is this one.

@@ -1,6 +1,6 @@
 //! A sorted list from whose front messages leave one by one.
 ghost use Rattle.std.specs.Prelude.{◌≡◌, ◌+◌, ◌-◌, ◌^◌, ◌<◌, ◌≤◌, ◌++◌, [], ◌∷◌, true, false, length, take, drop, IfOk, IfErr, IfNone, IfSome, OnOk, OnErr, MatchOption};
-ghost use Rattle.std.specs.Option.{option_copied, option_map, option_to_list};
+ghost use Rattle.std.specs.Option.{option_copied, option_map};
 ghost use Rattle.std.specs.List.{All, slice_get};
 ghost use Rattle.message.specs.Oldest.{first_point};
 ghost use Rattle.message.specs.Cuts.{IsParted};
@@ -10,13 +10,12 @@ ghost use Rattle.message.specs.PointKeys.{is_cleared, IsPointStop, IsClearStretc
 ghost use Rattle.message.specs.Stretches.{EndsAhead};
 ghost use Rattle.message.specs.Told.{IsTold};
 ghost use Rattle.pathkey.specs.Keys.{is_below};
-ghost use Rattle.message.specs.Oldests.{oldest_msgs, IsOldestKeyed};
-ghost use Rattle.message.specs.Runs.{rest_msgs, IsRestKeyed};
+ghost use Rattle.message.specs.Runs.{left_msgs};
 
 use crate::eldest::Eldest;
 use crate::ends::earlier;
+use crate::left::Left;
 use crate::msg::Msg;
-use crate::run::{Run, Several};
 use crate::settled::{MOST, Oldest, Settled};
 use crate::stretch::{ahead_of, point_stop};
 use crate::told::Told;
@@ -25,24 +24,25 @@ use pathkey::{Key, NoMemory};
 use std::alloc::Global;
 use std::marker::Model;
 
-/// A sorted list of messages, and before it what is left of the updates of one key, the first of which have left.
+/// A sorted list of messages, and before it what is left of the messages of one key, the first of which have left.
 #[derive(Drop)]
 pub struct Sorted<U: Changes> {
-    front: Option<(Key, Box<Several<U>>)>,
+    front: Option<Left<U>>,
     rest: Settled<U>,
 }
 
 impl<U: Changes> Model for Sorted<U> {
-    ghost use Rattle.std.specs.Prelude.{List, ◌++◌, ◌≤◌, ◌^◌, length};
+    ghost use Rattle.std.specs.Prelude.{List, ◌≡◌, ◌++◌, ◌≤◌, ◌^◌, length};
     ghost use Rattle.message.specs.declared.msg.Msg.{Msg};
 
     ghost Value = { List (Msg U U.Value) };
 
-    ghost use Rattle.message.specs.Runs.{rest_msgs, IsRestKeyed};
+    ghost use Rattle.message.specs.Effects.{range_count};
+    ghost use Rattle.message.specs.Runs.{left_msgs};
 
-    ghost view = { λ p. rest_msgs p.front ++ p.rest };
+    ghost view = { λ p. left_msgs p.front ++ p.rest };
 
-    ghost invariant = { λ p. IsRestKeyed p.front × (length (rest_msgs p.front ++ p.rest) ≤ 2 ^ 62) };
+    ghost invariant = { λ p. (range_count (left_msgs p.front) ≡ 0) × (length (left_msgs p.front ++ p.rest) ≤ 2 ^ 62) };
 }
 
 impl<U: Update> Sorted<U> {
@@ -63,7 +63,7 @@ impl<U: Update> Sorted<U> {
     {
         match &self.front {
             None => self.rest.len(),
-            Some((_, several)) => several.len() + self.rest.len(),
+            Some(left) => left.len() + self.rest.len(),
         }
     }
 
@@ -74,7 +74,7 @@ impl<U: Update> Sorted<U> {
     {
         match &self.front {
             None => self.rest.range_deletes(gone),
-            Some((_, several)) => self.rest.range_deletes(gone.saturating_sub(several.len())),
+            Some(left) => self.rest.range_deletes(gone.saturating_sub(left.len())),
         }
     }
 
@@ -84,7 +84,7 @@ impl<U: Update> Sorted<U> {
     {
         match &self.front {
             None => self.rest.oldest(),
-            Some((key, several)) => Some(Eldest::Left(key, several)),
+            Some(left) => Some(left.first()),
         }
     }
 
@@ -136,7 +136,8 @@ impl<U: Update> Sorted<U> {
     {
         match &self.front {
             None => self.rest.stretch_end(from, end),
-            Some((key, _)) => {
+            Some(left) => {
+                let key = left.key();
                 if key == from {
                     return None;
                 }
@@ -174,9 +175,30 @@ impl<U: Update> Sorted<U> {
         requires { count ≤ length self.old }
         ensures { self.new ≡ drop count self.old }
     {
-        for _ in 0..count {
-            self.pop();
+        let mut count = count;
+        while count > 0 {
+            count = self.drop_some(count);
         }
+    }
+
+    /// Takes the oldest messages away, at most `count`: a range-delete, or those of one key. It answers how many of the
+    /// `count` are then to go; none, where the list is empty.
+    fn drop_some(&mut self, count: usize) -> usize
+        requires { 0 < count }
+        ensures same { drop result self.new ≡ drop count self.old }
+        ensures fewer { result < count }
+    {
+        let left = match std::mem::replace(&mut self.front, None) {
+            Some(left) => left,
+            None => match self.rest.pop_first() {
+                None => return 0,
+                Some(Oldest::Range(_)) => return count - 1,
+                Some(Oldest::Run(item)) => Left::new(item),
+            },
+        };
+        let (front, count) = left.without(count);
+        self.front = front;
+        count
     }
 
     /// Moves the oldest messages of another list, those of one key and at most `most`, into the place of their key, newer than
@@ -205,20 +227,6 @@ impl<U: Update> Sorted<U> {
         Ok(front)
     }
 
-    /// Takes the oldest message out. It takes no memory.
-    pub(crate) fn pop(&mut self) -> Option<Msg<U>>
-        ensures moved { self.old ≡ option_to_list result ++ self.new }
-        ensures end { IfNone result (self.old ≡ []) }
-    {
-        let first = match std::mem::replace(&mut self.front, None) {
-            Some((key, several)) => Oldest::Run(key, Run::Edits(several)),
-            None => self.rest.pop()?,
-        };
-        let (msg, front) = split(first);
-        self.front = front;
-        Some(msg)
-    }
-
     /// Moves the messages from the pivot on out of the list. None come where that can't be: where messages of one key are half
     /// gone, where there is a range-delete, or a message before `lo`.
     pub(crate) fn split_off(
@@ -243,96 +251,71 @@ impl<U: Update> Sorted<U> {
     pub(crate) fn copy(&self, alloc: Global) -> Result<Sorted<U>, NoMemory>
         ensures { IfOk result (λ p. p ≡ self.now) }
     {
-        let front = copy_left(&self.front, alloc)?;
+        let front = share_left(&self.front)?;
         let rest = self.rest.copy(alloc)?;
         Ok(Sorted { front, rest })
     }
 }
 
-/// The oldest message of what stood first, and the others of its key, if there are any.
-fn split<U: Update>(first: Oldest<U>) -> (Msg<U>, Option<(Key, Box<Several<U>>)>)
-    requires { IsOldestKeyed first }
-    ensures parts { oldest_msgs first ≡ result.0 ∷ rest_msgs result.1 }
-    ensures keyed { IsRestKeyed result.1 }
-{
-    match first {
-        Oldest::Range(range) => (Msg::DelRange(range), None),
-        Oldest::Run(key, run) => run.split(key),
-    }
-}
-
 /// Whether there are messages left of this key.
-fn is_at<U: Update>(front: &Option<(Key, Box<Several<U>>)>, key: &Key) -> bool
-    ensures { result ≡ false → any_touches (rest_msgs front.now) key.now ≡ false }
+fn is_at<U: Update>(front: &Option<Left<U>>, key: &Key) -> bool
+    ensures { result ≡ false → any_touches (left_msgs front.now) key.now ≡ false }
 {
     match front {
         None => false,
-        Some((at, _)) => at == key,
+        Some(left) => left.key() == key,
     }
 }
 
 /// The key of the messages that are left of one key, if it stands from `from` on and before `end`; else `end`.
 fn left_stop<'a, U: Update>(
-    front: &'a Option<(Key, Box<Several<U>>)>,
+    front: &'a Option<Left<U>>,
     from: &Key,
     end: Option<&'a Key>,
 ) -> Option<&'a Key>
-    ensures { IsPointStop (rest_msgs front.now) from.now (option_copied end.entry) (option_copied result) }
+    ensures { IsPointStop (left_msgs front.now) from.now (option_copied end.entry) (option_copied result) }
 {
     match front {
         None => end,
-        Some((key, _)) => point_stop(Some(key), from, end),
+        Some(left) => point_stop(Some(left.key()), from, end),
     }
 }
 
 /// The value at the key after the messages that are left of one key.
 fn after<U: Update>(
-    front: &Option<(Key, Box<Several<U>>)>,
+    front: &Option<Left<U>>,
     alloc: Global,
     key: &Key,
     old: Option<U::Value>,
 ) -> Result<Option<U::Value>, NoMemory>
-    ensures { IfOk result (λ v. v ≡ effects U.means (rest_msgs front.now) key.now old) }
+    ensures { IfOk result (λ v. v ≡ effects U.means (left_msgs front.now) key.now old) }
 {
     match front {
         None => Ok(old),
-        Some((at, several)) => {
-            if at == key {
-                several.apply(alloc, old)
-            } else {
-                Ok(old)
-            }
-        }
+        Some(left) => left.value_after(alloc, key, old),
     }
 }
 
 /// Copies of the messages that are left of one key, put behind those in `to`.
 fn copy_rest<U: Update>(
-    front: &Option<(Key, Box<Several<U>>)>,
+    front: &Option<Left<U>>,
     alloc: Global,
     to: &mut Vec<Msg<U>>,
 ) -> Result<(), NoMemory>
-    ensures { OnOk result (to.new.items ≡ to.old.items ++ rest_msgs front.now) }
+    ensures { OnOk result (to.new.items ≡ to.old.items ++ left_msgs front.now) }
 {
     match front {
         None => Ok(()),
-        Some((key, several)) => several.copy_into(alloc, key, to),
+        Some(left) => left.copy_into(alloc, to),
     }
 }
 
 /// The same messages of the one key.
-fn copy_left<U: Update>(
-    front: &Option<(Key, Box<Several<U>>)>,
-    alloc: Global,
-) -> Result<Option<(Key, Box<Several<U>>)>, NoMemory>
-    ensures same { IfOk result (λ f. rest_msgs f ≡ rest_msgs front.now) }
-    ensures keyed { IfOk result (λ f. IsRestKeyed front.now → IsRestKeyed f) }
+fn share_left<U: Update>(front: &Option<Left<U>>) -> Result<Option<Left<U>>, NoMemory>
+    ensures { IfOk result (λ f. f ≡ front.now) }
 {
     match front {
         None => Ok(None),
-        Some((key, several)) => Ok(Some((
-            key.copy(alloc)?,
-            Box::new(alloc, several.copy(alloc)?)?,
-        ))),
+        Some(left) => Ok(Some(left.share()?)),
     }
 }

@@ -1,6 +1,0 @@
-use Rattle.std.proofs.Common.{◌≡◌, ◌++◌, drop}
-use Rattle.message.specs.Runs.{later_msgs}
-use Rattle.message.proofs.run.Several.copy_into.Given as goal
-
-abbrev pub invariant-loop-update : goal.invariant-loop-update
-invariant-loop-update g l = l.front.items ++ later_msgs l.key (drop l.update-index l.update-items) ≡ l.initial.front.items ++ later_msgs l.key l.update-items
