@@ -123,6 +123,7 @@ impl<U: Update> Left<U> {
         requires { 0 < count }
         ensures same { (ms : List (Msg U U.Value)) → drop result.1 (left_msgs result.0 ++ ms) ≡ drop count (self ++ ms) }
         ensures points { range_count (left_msgs result.0) ≡ 0 }
+        ensures bound { (ms : List (Msg U U.Value)) → length (left_msgs result.0 ++ ms) ≤ length (self ++ ms) }
         ensures fewer { result.1 < count }
     {
         let all = self.item.value().len();

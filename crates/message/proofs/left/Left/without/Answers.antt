@@ -1,4 +1,4 @@
-use Rattle.std.proofs.Common.{◌≡◌, ◌+◌, ◌-◌, ◌≤◌, ◌++◌, ◌∙◌, ap, sym, drop, length, arith}
+use Rattle.std.proofs.Common.{◌≡◌, ◌+◌, ◌-◌, ◌≤◌, ◌++◌, ◌∙◌, ap, sym, drop, length, arith, length-append}
 use Rattle.std.proofs.lemmas.List.{drop-drop, drop-append-le}
 use Rattle.message.specs.Runs.{run_len, run_msgs}
 use Rattle.message.proofs.LeftFacts.{left_len, left_count, drop_past}
@@ -19,6 +19,16 @@ returns-clause-same g c ms =
     ap (λ t. t ++ ms) (sym (drop-drop c.args.count n (run_msgs e.0 e.1)))
     ∙ ap (λ t. drop c.args.count t ++ ms) c.self.view_is
     ∙ sym (drop-append-le c.args.count c.args.self ms few)
+
+pub returns-then-len-count-clause-bound : goal.returns-then-len-count-clause-bound
+returns-then-len-count-clause-bound g c ms = omega (arith, length-append c.args.self ms)
+
+pub returns-clause-bound : goal.returns-clause-bound
+returns-clause-bound g c ms =
+    let n = c.self.inside.gone in
+    let e = c.self.inside.item in
+    let rest = drop (n + c.args.count) (run_msgs e.0 e.1) in
+    omega (arith, length-append rest ms, length-append c.args.self ms, left_len (n + c.args.count) e.0 e.1, left_len n e.0 e.1, ap length c.self.view_is)
 
 pub invariant_of-rest : goal.invariant_of-rest
 invariant_of-rest g c = omega (arith, c.len-all.ensures, ap (λ r. run_len r) c.value.ensures, c.self.invariant, c.if-len-count.false)
