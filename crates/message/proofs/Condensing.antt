@@ -14,20 +14,29 @@ module _ {U V : Type 0} (means : U → Option V → Option V) where
   pub takes_end : (s t f h : List (Msg U V)) (m : Msg U V) → t ≡ s → h ≡ f ++ m ∷ [] → Takes means (s ++ f) (m ∷ []) (t ++ h)
   takes_end s t f h m e g = subst (λ x. Takes means (s ++ f) (m ∷ []) x) (append_assoc s f (m ∷ []) ∙ ap (λ x. s ++ x) (sym g) ∙ ap (λ x. x ++ h) (sym e)) (takes-append means (s ++ f) (m ∷ []))
 
-  -- the oldest message of the tail laid over the sorted part
-  pub takes_folded : (s t f r : List (Msg U V)) (m : Msg U V) → f ≡ m ∷ r → Takes means s (m ∷ []) t → Takes means (s ++ f) [] (t ++ r)
-  takes_folded s t f r m e l = subst (λ x. Takes means (s ++ x) [] (t ++ r)) (sym e) (record {
+  -- the oldest messages of one list laid over another that stands before it
+  pub takes_folded : (s t f r xs : List (Msg U V)) → f ≡ xs ++ r → Takes means s xs t → Takes means (s ++ f) [] (t ++ r)
+  takes_folded s t f r xs e l = subst (λ x. Takes means (s ++ x) [] (t ++ r)) (sym e) (record {
     meaning = λ k v.
         effects-append means t r k v
         ∙ ap (λ w. effects means r k w) (l.meaning k v)
-        ∙ sym (effects-append means s (m ∷ r) k v);
-    bound = omega (arith, l.bound, length-append t r, length-append s (m ∷ r));
+        ∙ sym (effects-append means xs r k (effects means s k v))
+        ∙ sym (effects-append means s (xs ++ r) k v);
+    bound = omega (arith, l.bound, length-append t r, length-append s (xs ++ r), length-append xs r);
     touched = λ k h g.
-        let low = untouched_second s (m ∷ r) k h in
+        let low = untouched_second s (xs ++ r) k h in
         any_touches-append t r k
-        (l.touched k (untouched_first s (m ∷ r) k h) (untouched_first (m ∷ []) r k low))
-        (untouched_second (m ∷ []) r k low);
+        (l.touched k (untouched_first s (xs ++ r) k h) (untouched_first xs r k low))
+        (untouched_second xs r k low);
   })
+
+  -- what means the same as two lists end to end is the first, which has taken the second
+  pub takes_whole : (s f t : List (Msg U V)) → Takes means (s ++ f) [] t → Takes means s f t
+  takes_whole s f t l = record {
+    meaning = λ k v. l.meaning k v ∙ effects-append means s f k v;
+    bound = omega (arith, l.bound, length-append s f);
+    touched = λ k h g. l.touched k (any_touches-append s f k h g) refl;
+  }
 
   pub value_behind : (s f old : List (Msg U V)) (k : List ℕ) (o w v : Option V) → s ++ f ≡ old → w ≡ effects means s k o → v ≡ effects means f k w → v ≡ effects means old k o
   value_behind s f old k o w v e g h = h ∙ ap (λ x. effects means f k x) g ∙ sym (effects-append means s f k o) ∙ ap (λ xs. effects means xs k o) e

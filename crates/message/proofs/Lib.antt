@@ -17,6 +17,7 @@ pub mod CountingRanges
 pub mod Telling
 pub mod NextKey
 pub mod Parting
+pub mod Between
 pub mod Taking
 pub mod StretchEnds
 pub mod Searching

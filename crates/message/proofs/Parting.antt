@@ -51,11 +51,11 @@ later_out V lo hi k (u ∷ us) h = (ap (λ b. cond b (Some (msg.Edit k u.1)) Non
 module _ {U V : Type 0} where
   -- ---- pieces of a list that lies in the range, or out of it
 
-  pieces-in : (lo : List ℕ) (hi : Option (List ℕ)) (ms : List (Msg U V)) → LieIn lo hi ms → pieces lo hi ms ≡ ms
+  pub pieces-in : (lo : List ℕ) (hi : Option (List ℕ)) (ms : List (Msg U V)) → LieIn lo hi ms → pieces lo hi ms ≡ ms
   pieces-in lo hi [] h = refl
   pieces-in lo hi (m ∷ ms) h = ap (λ o. option_to_list o ++ pieces lo hi ms) h.0 ∙ ap (λ t. m ∷ t) (pieces-in lo hi ms h.1)
 
-  pieces-out : (lo : List ℕ) (hi : Option (List ℕ)) (ms : List (Msg U V)) → LieOut lo hi ms → pieces lo hi ms ≡ []
+  pub pieces-out : (lo : List ℕ) (hi : Option (List ℕ)) (ms : List (Msg U V)) → LieOut lo hi ms → pieces lo hi ms ≡ []
   pieces-out lo hi [] h = refl
   pieces-out lo hi (m ∷ ms) h = ap (λ o. option_to_list o ++ pieces lo hi ms) h.0 ∙ pieces-out lo hi ms h.1
 

@@ -4,7 +4,7 @@
 //! meaning alone (`Takes`): the list is sorted and condenses, so that it holds fewer messages that mean the same, and
 //! callers that rely on the contract do not notice. No call lends a message or asks for one by its number.
 ghost use Rattle.std.specs.Prelude.{◌≡◌, ◌+◌, ◌≤◌, ◌<◌, ◌++◌, [], ◌∷◌, true, length, take, drop, Some, None, IfOk, IfNone, IfSome, OnOk, OnErr, MatchOption};
-ghost use Rattle.std.specs.Option.{option_copied, option_map, option_to_list};
+ghost use Rattle.std.specs.Option.{option_copied, option_map};
 ghost use Rattle.std.specs.List.{All, slice_get};
 ghost use Rattle.message.specs.Cuts.{pieces};
 ghost use Rattle.message.specs.Effects.{effects, point, range_count, Takes};
@@ -127,36 +127,6 @@ impl<U: Update> Pending<U> {
         self.fresh.push_reserved(msg);
     }
 
-    /// Moves all messages of the list `newer` into reserved room, newer than all others.
-    pub fn append_list(&mut self, newer: &mut Pending<U>)
-        requires { length newer.old.0 ≤ self.old.1 }
-        ensures takes { Takes U.means self.old.0 newer.old.0 self.new.0 }
-        ensures moved { newer.new.0 ≡ [] }
-    {
-        self.append_sorted(&mut newer.sorted);
-        self.append_tail(&mut newer.fresh);
-    }
-
-    fn append_sorted(&mut self, newer: &mut Sorted<U>)
-        requires { length newer.old ≤ self.old.1 }
-        ensures takes { Takes U.means self.old.0 newer.old self.new.0 }
-        ensures moved { newer.new ≡ [] }
-        ensures room { self.old.1 ≤ self.new.1 + length newer.old }
-    {
-        let count = newer.len();
-        newer.drop_front(count);
-    }
-
-    fn append_tail(&mut self, newer: &mut Tail<U>)
-        requires { length newer.old.0 ≤ self.old.1 }
-        ensures takes { Takes U.means self.old.0 newer.old.0 self.new.0 }
-        ensures moved { newer.new.0 ≡ [] }
-    {
-        while let Some(msg) = newer.pop() {
-            self.push_reserved(msg);
-        }
-    }
-
     // ---- what is counted
 
     /// How many messages the list holds.
@@ -259,7 +229,7 @@ impl<U: Update> Pending<U> {
         Ok(Pending { sorted, fresh })
     }
 
-    /// A list of copies of the messages but the `gone` oldest, cut from `lo` up to and without `hi`.
+    /// A list of the messages but the `gone` oldest, cut from `lo` up to and without `hi`.
     pub fn copy_between(
         &self,
         alloc: Global,
@@ -270,12 +240,93 @@ impl<U: Update> Pending<U> {
         requires { gone ≤ length self.now.0 }
         ensures { IfOk result (λ p. Takes U.means [] (pieces lo.now (option_copied hi.entry) (drop gone self.now.0)) p.0) }
     {
-        let all = self.copy_front(alloc, self.len())?;
-        let mut fresh = pieces_of(alloc, lo, hi, &all[gone..])?;
+        let mut rest = self.copy(alloc)?;
+        rest.drop_front(gone);
         let mut list = Pending::new(alloc);
-        list.reserve(fresh.len())?;
-        list.append_reserved(&mut fresh);
+        rest.sink_between(alloc, lo, hi, &mut list)?;
         Ok(list)
+    }
+
+    /// Moves the parts of all messages from `lo` up to and without `hi` to another list, where they are newer than all others.
+    /// Once messages for one key each stand first, those outside are left out at once.
+    fn sink_between(
+        &mut self,
+        alloc: Global,
+        lo: &Key,
+        hi: Option<&Key>,
+        to: &mut Pending<U>,
+    ) -> Result<(), NoMemory>
+        ensures { OnOk result (Takes U.means to.old.0 (pieces lo.now (option_copied hi.entry) self.old.0) to.new.0) }
+    {
+        while self.len() > 0 {
+            if self.sorted.trim(alloc, lo, hi)? {
+                return self.sink_parts(alloc, lo, hi, to);
+            }
+            self.sink_part(alloc, lo, hi, to)?;
+        }
+        Ok(())
+    }
+
+    /// The same, message by message, those of one key in one go where that can be.
+    fn sink_parts(
+        &mut self,
+        alloc: Global,
+        lo: &Key,
+        hi: Option<&Key>,
+        to: &mut Pending<U>,
+    ) -> Result<(), NoMemory>
+        ensures { OnOk result (Takes U.means to.old.0 (pieces lo.now (option_copied hi.entry) self.old.0) to.new.0) }
+    {
+        while self.len() > 0 {
+            self.sink_part(alloc, lo, hi, to)?;
+        }
+        Ok(())
+    }
+
+    /// Takes the oldest messages out and puts their parts from `lo` up to and without `hi` into another list, and counts them: all
+    /// of one key as they lie in memory, where that can be, else the first.
+    fn sink_part(
+        &mut self,
+        alloc: Global,
+        lo: &Key,
+        hi: Option<&Key>,
+        to: &mut Pending<U>,
+    ) -> Result<usize, NoMemory>
+        requires { 0 < length self.old.0 }
+        ensures takes { IfOk result (λ n. Takes U.means to.old.0 (pieces lo.now (option_copied hi.entry) (take n self.old.0)) to.new.0) }
+        ensures left { IfOk result (λ n. self.new.0 ≡ drop n self.old.0) }
+        ensures some { IfOk result (λ n. (0 < n) × (n ≤ length self.old.0)) }
+    {
+        if !self.oldest_meets(lo, hi) {
+            self.drop_front(1);
+            return Ok(1);
+        }
+        if self.oldest_point().is_none() {
+            return self.sink_cut(alloc, lo, hi, to);
+        }
+        let count = self.sink_oldest(to, usize::MAX)?;
+        Ok(count)
+    }
+
+    /// Takes the oldest message out and puts a copy of its part from `lo` up to and without `hi` into another list.
+    fn sink_cut(
+        &mut self,
+        alloc: Global,
+        lo: &Key,
+        hi: Option<&Key>,
+        to: &mut Pending<U>,
+    ) -> Result<usize, NoMemory>
+        requires { 0 < length self.old.0 }
+        ensures takes { IfOk result (λ n. Takes U.means to.old.0 (pieces lo.now (option_copied hi.entry) (take n self.old.0)) to.new.0) }
+        ensures left { IfOk result (λ n. self.new.0 ≡ drop n self.old.0) }
+        ensures some { IfOk result (λ n. (0 < n) × (n ≤ length self.old.0)) }
+    {
+        let first = self.copy_front(alloc, 1)?;
+        let mut parts = pieces_of(alloc, lo, hi, first.as_slice())?;
+        to.reserve(parts.len())?;
+        to.append_reserved(&mut parts);
+        self.drop_front(1);
+        Ok(1)
     }
 
     /// Cuts the list at the pivot, without its `gone` oldest messages: it keeps what lies from `lo` up to the pivot, and answers
@@ -328,15 +379,6 @@ impl<U: Update> Pending<U> {
         Ok(Some(back))
     }
 
-    /// Takes the oldest message out. It takes no memory.
-    fn pop(&mut self) -> Option<Msg<U>>
-        ensures moved { self.old.0 ≡ option_to_list result ++ self.new.0 }
-        ensures end { IfNone result (self.old.0 ≡ []) }
-        ensures room { self.old.1 ≤ self.new.1 }
-    {
-        self.fresh.pop()
-    }
-
     /// Moves the oldest messages to another list, where they are newer than all others, and counts them: all of one key as they
     /// lie in memory, where there are at most `most` and that can be, else the first. On want of memory both lists are as they
     /// were.
@@ -385,11 +427,36 @@ impl<U: Update> Pending<U> {
         ensures err { OnErr result ((self.new.0 ≡ self.old.0) × (to.new.0 ≡ to.old.0)) }
     {
         to.reserve(1)?;
-        let Some(msg) = self.pop() else {
+        let Some(msg) = self.first_copy()? else {
             return Ok(0);
         };
+        self.drop_front(1);
         to.push_reserved(msg);
         Ok(1)
+    }
+
+    /// A copy of the oldest message, if there is one.
+    fn first_copy(&self) -> Result<Option<Msg<U>>, NoMemory>
+        ensures { IfOk result (λ o. o ≡ slice_get self.now.0 0) }
+    {
+        if self.len() == 0 {
+            return Ok(None);
+        }
+        let mut front = self.copy_front(self.fresh.allocator(), 1)?;
+        Ok(front.pop())
+    }
+
+    /// Moves all messages to another list, where they are newer than all that are there. On want of memory some may have moved,
+    /// and both lists together mean the same.
+    pub fn sink_all(&mut self, to: &mut Pending<U>) -> Result<(), NoMemory>
+        ensures ok { OnOk result (Takes U.means to.old.0 self.old.0 to.new.0) }
+        ensures moved { OnOk result (self.new.0 ≡ []) }
+        ensures some { OnErr result (Takes U.means (to.old.0 ++ self.old.0) [] (to.new.0 ++ self.new.0)) }
+    {
+        while self.len() > 0 {
+            self.sink_oldest(to, usize::MAX)?;
+        }
+        Ok(())
     }
 
     /// Takes the `count` oldest messages away.

@@ -3,7 +3,7 @@ ghost use Rattle.std.specs.Prelude.{◌≡◌, ◌+◌, ◌-◌, ◌^◌, ◌<�
 ghost use Rattle.std.specs.Option.{option_copied, option_map};
 ghost use Rattle.std.specs.List.{All, slice_get};
 ghost use Rattle.message.specs.Oldest.{first_point};
-ghost use Rattle.message.specs.Cuts.{IsParted};
+ghost use Rattle.message.specs.Cuts.{pieces, IsParted};
 ghost use Rattle.message.specs.Effects.{effects, any_touches, point, range_count, Takes};
 ghost use Rattle.message.specs.Eldest.{eldest_msg};
 ghost use Rattle.message.specs.PointKeys.{is_cleared, IsPointStop, IsClearStretch};
@@ -254,6 +254,27 @@ impl<U: Update> Sorted<U> {
         let front = share_left(&self.front)?;
         let rest = self.rest.copy(alloc)?;
         Ok(Sorted { front, rest })
+    }
+
+    /// Takes the messages away that lie outside the range from `lo` up to and without `hi`, and says whether that could be: where
+    /// no messages of one key are half gone, and no range-delete stands.
+    pub(crate) fn trim(
+        &mut self,
+        alloc: Global,
+        lo: &Key,
+        hi: Option<&Key>,
+    ) -> Result<bool, NoMemory>
+        ensures inside { OnOk result (pieces lo.now (option_copied hi.entry) self.new ≡ pieces lo.now (option_copied hi.entry) self.old) }
+        ensures still { IfOk result (λ done. done ≡ false → self.new ≡ self.old) }
+    {
+        let Some(mut later) = self.split_off(alloc, &Key::new(alloc), lo)? else {
+            return Ok(false);
+        };
+        if let Some(hi) = hi {
+            later.split_off(alloc, lo, hi)?;
+        }
+        *self = later;
+        Ok(true)
     }
 }
 

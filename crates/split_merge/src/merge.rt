@@ -2,7 +2,8 @@
 //!
 //! The ranges of the slots are disjoint, so the left slot's messages and then the right slot's mean at each key what
 //! its own list meant.
-ghost use Rattle.std.specs.Prelude.{◌≡◌, ◌≤◌, ◌<◌, ◌+◌, ◌⊎◌, [], Bool, true, false, length, OnOk, OnErr};
+ghost use Rattle.std.specs.Prelude.{◌≡◌, ◌≤◌, ◌<◌, ◌+◌, ◌⊎◌, [], Bool, true, false, length, IfOk, OnOk, OnErr};
+ghost use Rattle.message.specs.Effects.{Takes};
 ghost use Rattle.node.specs.Lawful.{pending as pending_of};
 ghost use Rattle.node.specs.Places.{way};
 ghost use Rattle.node.specs.Pure.{more, none};
@@ -13,7 +14,7 @@ ghost use Rattle.node.specs.Steps.{Answers};
 ghost use Rattle.node.specs.declared.step.StepKind.TheVariants.{MergeLeaves, MergeInner};
 ghost use Rattle.split_merge.specs.Merged.{are_alike, both, IsJoined, MergeReplies};
 
-use message::Update;
+use message::{Pending, Update};
 use node::count::held;
 use node::{Body, Change, Node, Place, Shape, Slot, StepReply, Tree};
 use pathkey::{Key, NoMemory};
@@ -108,22 +109,40 @@ fn join_nodes<U: Update>(left: &mut Arc<Node<U>>, right: &mut Arc<Node<U>>) -> R
     Ok(())
 }
 
+/// A list of what waits in two lists, the newer one's messages behind the others. Both stay as they are.
+fn both_lists<U: Update>(
+    alloc: Global,
+    older: &Pending<U>,
+    newer: &Pending<U>,
+) -> Result<Pending<U>, NoMemory>
+    ensures { IfOk result (λ p. Takes U.means older.now.0 newer.now.0 p.0) }
+{
+    let mut list = older.copy(alloc)?;
+    let mut rest = newer.copy(alloc)?;
+    rest.sink_all(&mut list)?;
+    Ok(list)
+}
+
 /// Moves the messages of the slot `right`, and what its child holds, behind those of `left`.
-fn join<U: Update>(left: &mut Slot<U>, right: &mut Slot<U>) -> Result<(), NoMemory>
+fn join<U: Update>(
+    alloc: Global,
+    left: &mut Slot<U>,
+    right: &mut Slot<U>,
+) -> Result<(), NoMemory>
     requires { are_alike left.old.child.value right.old.child.value ≡ true }
     ensures ok { OnOk result (IsJoined U.means left.old right.old left.new) }
     ensures err { OnErr result ((see_slot left.new ≡ see_slot left.old) × (see_slot right.new ≡ see_slot right.old)) }
 {
-    left.pending.reserve(right.pending.len())?;
+    let list = both_lists(alloc, &left.pending, &right.pending)?;
     join_nodes(&mut left.child, &mut right.child)?;
-    left.pending.append_list(&mut right.pending);
+    left.pending = list;
     Ok(())
 }
 
 /// Makes one slot of the slot with number `i` of a node and the next.
 ///
 /// It asks for no room.
-fn merge_slots<U: Update>(slots: &mut Vec<Slot<U>>, i: usize) -> StepReply
+fn merge_slots<U: Update>(alloc: Global, slots: &mut Vec<Slot<U>>, i: usize) -> StepReply
     ensures { (shape : Shape) (root : Bool) → MergeReplies U.means shape root i result (seen_slots slots.old.items) (seen_slots slots.new.items) }
 {
     if !has_next(slots.as_slice(), i) {
@@ -133,7 +152,7 @@ fn merge_slots<U: Update>(slots: &mut Vec<Slot<U>>, i: usize) -> StepReply
         return StepReply::NotThere;
     }
     let mut right = slots.remove(i + 1);
-    if join(&mut slots[i], &mut right).is_ok() {
+    if join(alloc, &mut slots[i], &mut right).is_ok() {
         return StepReply::Did(0);
     }
     let Ok(()) = slots.insert(i + 1, right) else {
@@ -163,13 +182,13 @@ impl<U: Update> Change<U> for LeafMerge {
 
     fn change(
         &self,
-        _alloc: Global,
+        alloc: Global,
         _shape: Shape,
         _root: bool,
         slots: &mut Vec<Slot<U>>,
         i: usize,
     ) -> StepReply {
-        merge_slots(slots, i)
+        merge_slots(alloc, slots, i)
     }
 }
 
@@ -194,13 +213,13 @@ impl<U: Update> Change<U> for InnerMerge {
 
     fn change(
         &self,
-        _alloc: Global,
+        alloc: Global,
         _shape: Shape,
         _root: bool,
         slots: &mut Vec<Slot<U>>,
         i: usize,
     ) -> StepReply {
-        merge_slots(slots, i)
+        merge_slots(alloc, slots, i)
     }
 }
 

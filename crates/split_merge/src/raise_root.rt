@@ -35,8 +35,7 @@ fn gathered<U: Update>(alloc: Global, slots: &[Slot<U>]) -> Result<Pending<U>, N
     let mut all = Pending::new(alloc);
     for slot in slots {
         let mut own = slot.pending.copy(alloc)?;
-        all.reserve(own.len())?;
-        all.append_list(&mut own);
+        own.sink_all(&mut all)?;
     }
     Ok(all)
 }
