@@ -314,3 +314,9 @@ module _ {X : Type 0} where
   -- one without items
   pub row_empty : (h : ℕ) (es : List (List ℕ × X)) → es ≡ [] → IsRow h es
   row_empty h es e = record { rises = rises_empty es e; headed = subst (λ (t : List (List ℕ × X)). BeginsHeaded h t) (sym e) tt }
+
+  -- another value at a key leaves the first key
+  pub headed_set : (h : ℕ) (es : List (List ℕ × X)) (i : ℕ) (old new : List ℕ × X) → i < length es → old ≡ get_or es i old → new.0 ≡ old.0 → BeginsHeaded h es → BeginsHeaded h (slice_set es i new)
+  headed_set h [] i old new l a e b = absurd (omega (arith, l))
+  headed_set h (x ∷ es) zero old new l a e b = subst (λ (k : List ℕ). IsHeaded h k) (sym (e ∙ ap (λ (y : List ℕ × X). y.0) a)) b
+  headed_set h (x ∷ es) (suc i) old new l a e b = b

@@ -335,8 +335,10 @@ impl<T: Drop> Row<T> {
         ensures { IfOk result (λ r. r ≡ self.now) }
     {
         let items = share_items(self.items.as_slice(), alloc)?;
-        let head = first_head(items.as_slice());
-        Ok(Row { head, items })
+        Ok(Row {
+            head: self.head,
+            items,
+        })
     }
 }
 

@@ -4,7 +4,7 @@ ghost use Rattle.message.specs.Rows.{IsHolder};
 ghost use Rattle.message.specs.Runs.{run_len, run_effect, run_msgs, IsRunKeyed};
 ghost use Rattle.message.specs.Settled.{IsEdited};
 
-use crate::row::{Item, Row, first_head};
+use crate::row::{Item, Row};
 use crate::run::Run;
 use crate::update::Update;
 use pathkey::{Key, NoMemory};
@@ -25,9 +25,7 @@ impl<U: Update> Row<Run<U>> {
         ensures { IsEdited U.means key update self.old self.new result }
     {
         let item = &mut self.items[i];
-        let answer = item.edit(alloc, key, update);
-        self.head = first_head(self.items.as_slice());
-        answer
+        item.edit(alloc, key, update)
     }
 }
 
