@@ -2,7 +2,7 @@ use Rattle.std.proofs.Common.{◌∙◌, ap, sym, drop, get_or, Some}
 use Rattle.std.specs.List.{slice_get}
 use Rattle.message.specs.declared.msg.Msg.TheVariants as msg
 use Rattle.message.specs.Eldest.{run_first}
-use Rattle.message.specs.Runs.{run_msgs, later_msgs}
+use Rattle.message.specs.Runs.{run_msgs}
 use Rattle.message.proofs.LeftFacts.{whole_first, later_first, later_some}
 use Rattle.message.proofs.left.Left.first.Goals as goal
 

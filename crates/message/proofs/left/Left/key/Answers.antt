@@ -1,6 +1,4 @@
-use Rattle.std.proofs.Common.{◌≡◌, ◌∙◌, ap, sym, subst, drop, Some}
-use Rattle.std.specs.List.{All}
-use Rattle.message.specs.Effects.{point}
+use Rattle.std.proofs.Common.{◌∙◌, ap, sym, subst, drop, Some}
 use Rattle.message.specs.Oldest.{first_point}
 use Rattle.message.specs.Runs.{run_msgs}
 use Rattle.message.proofs.LeftFacts.{AreFor, left_alike, left_first}

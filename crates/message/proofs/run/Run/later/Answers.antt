@@ -1,4 +1,4 @@
-use Rattle.std.proofs.Common.{◌≡◌, ◌-◌, ◌∙◌, ap, sym, length, take, drop}
+use Rattle.std.proofs.Common.{◌-◌, ◌∙◌, ap, sym, length, take, drop}
 use Rattle.message.specs.Runs.{later_msgs, run_msgs}
 use Rattle.message.proofs.Runs.{later_left}
 use Rattle.message.proofs.run.Run.later.Goals as goal

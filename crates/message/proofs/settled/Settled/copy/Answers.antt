@@ -4,6 +4,5 @@ use Rattle.message.proofs.settled.Settled.copy.Goals as goal
 
 pub invariant_of-result : goal.invariant_of-result
 invariant_of-result g c =
-    let fs = c.in_ok-points.points in
     let n = c.self.inside.count in
-    subst (λ rs. IsSettled rs fs n) (sym c.in_ok-ranges.ensures) (subst (λ es. IsSettled c.self.inside.ranges es n) (sym c.in_ok-points.ensures) c.self.invariant)
+    subst (λ rs. IsSettled rs c.in_ok-points.points n) (sym c.in_ok-ranges.ensures) (subst (λ es. IsSettled c.self.inside.ranges es n) (sym c.in_ok-points.ensures) c.self.invariant)
