@@ -1,6 +1,6 @@
 -- A list that is cut to a range, its oldest messages first.
 use Rattle.std.proofs.Common.{◌≡◌, ℕ, Bool, true, false, List, [], ◌∷◌, ◌++◌, length, take, drop, refl, ap, sym, ◌∙◌, subst, Option, Some, None, cond}
-use Rattle.std.specs.Prelude.{is_some, ◌&&◌}
+use Rattle.std.specs.Prelude.{is_some, ◌&&◌, MatchOption}
 use Rattle.std.specs.Option.{option_to_list}
 use Rattle.std.specs.List.{All}
 use Rattle.std.proofs.lemmas.Bool.{false_from_ne_true}
@@ -9,7 +9,7 @@ use Rattle.std.proofs.lemmas.List.Elements.{All-head, All-tail}
 use Rattle.pathkey.specs.Keys.{is_below}
 use Rattle.message.specs.declared.msg.Msg.{Msg}
 use Rattle.message.specs.declared.msg.Msg.TheVariants.{Put, Del, DelRange, Edit}
-use Rattle.message.specs.Cuts.{cut_range, cut_to, pieces, LieIn, LieOut, IsParted}
+use Rattle.message.specs.Cuts.{cut_to, pieces, LieIn, LieOut, IsParted}
 use Rattle.message.specs.Effects.{point, Takes}
 use Rattle.message.specs.Oldest.{first_point, meets_first}
 use Rattle.message.specs.Ranges.{within, reaches, before, later_key, earlier_end}
@@ -70,13 +70,18 @@ module _ {U V : Type 0} where
       ∙ pieces-append lo hi front back
       ∙ ap (λ t. t ++ pieces lo hi back) (pieces-out lo hi front (out_before lo hi front h.front_out)))
 
-  -- or behind it
-  pub pieces_before : (lo hi : List ℕ) (all front back : List (Msg U V)) → IsParted lo hi all front back → pieces lo (Some hi) front ≡ pieces lo (Some hi) all
-  pieces_before lo hi all front back h =
+  -- or behind it, where it can be parted there
+  pub pieces_before : (lo hi : List ℕ) (all front : List (Msg U V)) (o : Option (List (Msg U V))) → MatchOption o (front ≡ all) (λ back. IsParted lo hi all front back) → pieces lo (Some hi) front ≡ pieces lo (Some hi) all
+  pieces_before lo hi all front None h = ap (λ t. pieces lo (Some hi) t) h
+  pieces_before lo hi all front (Some back) h =
       sym (ap (λ t. pieces lo (Some hi) t) h.parts
       ∙ pieces-append lo (Some hi) front back
       ∙ ap (λ t. pieces lo (Some hi) front ++ t) (pieces-out lo (Some hi) back h.back_out)
       ∙ append-nil (pieces lo (Some hi) front))
+
+  -- likewise with a tail behind it
+  pub pieces_trimmed : (lo : List ℕ) (hi : Option (List ℕ)) (s t f whole : List (Msg U V)) → pieces lo hi t ≡ pieces lo hi s → s ++ f ≡ whole → pieces lo hi (t ++ f) ≡ pieces lo hi whole
+  pieces_trimmed lo hi s t f whole e w = pieces-append lo hi t f ∙ ap (λ p. p ++ pieces lo hi f) e ∙ sym (pieces-append lo hi s f) ∙ ap (λ p. pieces lo hi p) w
 
   -- ---- the oldest messages
 
@@ -102,13 +107,9 @@ module _ {U V : Type 0} where
   all_in lo hi (m ∷ ms) q h a = (one_in lo hi m q (All-head (λ x. point x ≡ Some q) m ms a) h, all_in lo hi ms q h (All-tail (λ x. point x ≡ Some q) m ms a))
 
   -- messages for the key of a first one that has a part in the range lie in it
-  pub whole_pieces : (lo : List ℕ) (hi : Option (List ℕ)) (n : ℕ) (ms : List (Msg U V)) → meets_first lo hi ms ≡ true → (first_point ms ≡ None → ⊥) → All (λ m. point m ≡ first_point ms) (take n ms) → pieces lo hi (take n ms) ≡ take n ms
-  whole_pieces lo hi n [] h p a = (cc)
-  whole_pieces lo hi n (m ∷ ms) h p a = by_point (point m) refl
-    where
-      by_point : (o : Option (List ℕ)) → point m ≡ o → pieces lo hi (take n (m ∷ ms)) ≡ take n (m ∷ ms)
-      by_point None e = absurd (p e)
-      by_point (Some q) e = pieces-in lo hi (take n (m ∷ ms)) (all_in lo hi (take n (m ∷ ms)) q (met_within lo hi m q e h) (subst (λ o. All (λ x. point x ≡ o) (take n (m ∷ ms))) e a))
+  pub whole_pieces : (lo : List ℕ) (hi : Option (List ℕ)) (n : ℕ) (q : List ℕ) (ms : List (Msg U V)) → meets_first lo hi ms ≡ true → Some q ≡ first_point ms → All (λ m. point m ≡ first_point ms) (take n ms) → pieces lo hi (take n ms) ≡ take n ms
+  whole_pieces lo hi n q [] h p a = (cc)
+  whole_pieces lo hi n q (m ∷ ms) h p a = pieces-in lo hi (take n (m ∷ ms)) (all_in lo hi (take n (m ∷ ms)) q (met_within lo hi m q (sym p) h) (subst (λ o. All (λ x. point x ≡ o) (take n (m ∷ ms))) (sym p) a))
 
   parts_of_both : (lo : List ℕ) (hi : Option (List ℕ)) (n : ℕ) (ms : List (Msg U V)) → pieces lo hi (take n ms) ++ pieces lo hi (drop n ms) ≡ pieces lo hi ms
   parts_of_both lo hi n ms = sym (pieces-append lo hi (take n ms) (drop n ms)) ∙ ap (λ t. pieces lo hi t) (take-append-drop n ms)

@@ -301,9 +301,9 @@ impl<U: Update> Pending<U> {
             self.drop_front(1);
             return Ok(1);
         }
-        if self.oldest_point().is_none() {
+        let Some(_) = self.oldest_point() else {
             return self.sink_cut(alloc, lo, hi, to);
-        }
+        };
         let count = self.sink_oldest(to, usize::MAX)?;
         Ok(count)
     }

@@ -257,7 +257,7 @@ impl<U: Update> Sorted<U> {
     }
 
     /// Takes the messages away that lie outside the range from `lo` up to and without `hi`, and says whether that could be: where
-    /// no messages of one key are half gone, and no range-delete stands.
+    /// no messages of one key are half gone, and no range-delete stands. On want of memory some of those inside may be gone.
     pub(crate) fn trim(
         &mut self,
         alloc: Global,
@@ -270,11 +270,20 @@ impl<U: Update> Sorted<U> {
         let Some(mut later) = self.split_off(alloc, &Key::new(alloc), lo)? else {
             return Ok(false);
         };
-        if let Some(hi) = hi {
-            later.split_off(alloc, lo, hi)?;
-        }
+        later.cut_end(alloc, lo, hi)?;
         *self = later;
         Ok(true)
+    }
+
+    /// Takes the messages at the end and behind it away, where there is an end and where that can be, as [`Sorted::split_off`] says.
+    fn cut_end(&mut self, alloc: Global, lo: &Key, hi: Option<&Key>) -> Result<(), NoMemory>
+        ensures { OnOk result (pieces lo.now (option_copied hi.entry) self.new ≡ pieces lo.now (option_copied hi.entry) self.old) }
+    {
+        let Some(hi) = hi else {
+            return Ok(());
+        };
+        let _later = self.split_off(alloc, lo, hi)?;
+        Ok(())
     }
 }
 
