@@ -124,11 +124,7 @@ fn both_lists<U: Update>(
 }
 
 /// Moves the messages of the slot `right`, and what its child holds, behind those of `left`.
-fn join<U: Update>(
-    alloc: Global,
-    left: &mut Slot<U>,
-    right: &mut Slot<U>,
-) -> Result<(), NoMemory>
+fn join<U: Update>(alloc: Global, left: &mut Slot<U>, right: &mut Slot<U>) -> Result<(), NoMemory>
     requires { are_alike left.old.child.value right.old.child.value ≡ true }
     ensures ok { OnOk result (IsJoined U.means left.old right.old left.new) }
     ensures err { OnErr result ((see_slot left.new ≡ see_slot left.old) × (see_slot right.new ≡ see_slot right.old)) }
