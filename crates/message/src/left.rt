@@ -41,8 +41,7 @@ impl<U: Changes> Model for Left<U> {
 impl<U: Update> Left<U> {
     /// All messages of the item.
     pub(crate) fn new(item: Item<Run<U>>) -> Left<U>
-        ensures messages { result ≡ run_msgs item.0 item.1 }
-        ensures points { range_count result ≡ 0 }
+        ensures { result ≡ run_msgs item.0 item.1 }
     {
         Left { item, gone: 0 }
     }

@@ -1,9 +1,5 @@
-use Rattle.message.proofs.LeftFacts.{left_count}
 use Rattle.message.proofs.Taking.{some_run}
 use Rattle.message.proofs.left.Left.new.Goals as goal
 
 pub invariant_of-result : goal.invariant_of-result
 invariant_of-result g c = some_run c.args.item.1
-
-pub returns-clause-points : goal.returns-clause-points
-returns-clause-points g c = left_count 0 c.args.item.0 c.args.item.1

@@ -17,7 +17,7 @@ invariant_of-self-2 g c =
       | in-None+in-Some-Run w ↦
           let front : c.self.inside.front ≡ None = sym c.replace.ensures.value ∙ w.in-None.is in
           let e = w.in-Some-Run.item in
-          ap (λ t. t ++ rest) (w.left-is ∙ w.new.ensures.messages)
+          ap (λ t. t ++ rest) (w.left-is ∙ w.new.ensures)
           ∙ ap (λ s. run_msgs e.0 e.1 ++ s.rest) w.self-inside-is
           ∙ ap (λ o. oldest_msgs o ++ w.pop_first.new.self) (sym w.in-Some-Run.field-0-is)
           ∙ sym w.in-Some-Run.ensures.some
