@@ -62,7 +62,7 @@ module _ {U V : Type 0} (means : U → Option V → Option V) where
               ∙ sym (put_between m.key m.run c.front old c.back c.before c.behind)
               ∙ sym (ap (λ (t : List (List ℕ × Run U V)). insert_entry by_bytes t m.key m.run) c.was);
           over = λ o. ap (λ t. run_effect means m.run (found_effect means t o)) (cut_key m.key all made old new c) ∙ m.over o;
-          counted = cut_counted m.key all made old new c gone (run_len m.run) m.counted;
+          counted = cut_counted c gone (run_len m.run) m.counted;
         }
 
     pub moved_in : (o : Option ℕ) → IfSome o (λ gone. MovesFirst means gone from old left new) → IfSome o (λ gone. MovesFirst means gone from (joined rs) left (joined (slice_set rs n new)))

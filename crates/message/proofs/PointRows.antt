@@ -18,23 +18,14 @@ use Rattle.message.specs.Settled.{look, found_effect, Lays, point_msgs, point_co
 use Rattle.message.proofs.SettledMeaning.{split_bool}
 use Rattle.message.proofs.RowFacts.{rises_cons}
 use Rattle.message.proofs.RowChanges.{at_put}
-use Rattle.message.proofs.RowsFacts.{AllBefore, AllBehind, front_before, back_behind, number_bound, IsCut, cut_at, cut_key, cut_key_new, cut_written, rows_written, joined_set, joined_cut, filter-append}
+use Rattle.message.proofs.RowsFacts.{AllBefore, AllBehind, front_before, back_behind, number_bound, IsCut, cut_at, cut_key, cut_key_new, cut_written, joined_set, joined_cut, filter-append}
 use Rattle.message.proofs.PointChanges.{point_count-append, point_msgs-append}
 
 not_both : (b c : Bool) → c ≡ false → not (b && c) ≡ true
 not_both true c h = ap not h
 not_both false c h = refl
 
--- rows with such a number are some
-pub above : {n m : ℕ} → n < m → 0 < m
-above {n = n} {m = m} h = omega (arith, h)
-
 module _ {X : Type 0} where
-  -- the number that a search through the same rows gave
-  pub place_of : (k : List ℕ) (rs ss : List (List (List ℕ × X))) (n : ℕ) → ss ≡ rs → n ≡ number_in k ss → (0 < length ss → n < length ss) → 0 < length rs → (n ≡ number_in k rs) × (n < length rs)
-  place_of k rs ss n e a b l =
-      (a ∙ ap (λ (t : List (List (List ℕ × X))). number_in k t) e, subst (λ (t : List (List (List ℕ × X))). 0 < length t → n < length t) e b l)
-
   -- ---- entries that stay
 
   all_filter : (P : List ℕ → Type 0) (p : List ℕ × X → Bool) (es : List (List ℕ × X)) → AllByRecursion P (keys_of es) → AllByRecursion P (keys_of (filter p es))
@@ -182,7 +173,7 @@ module _ {U V : Type 0} where
 
   -- ---- one row is changed at a key
 
-  module _ (k : List ℕ) (es fs old new : List (List ℕ × Run U V)) (c : IsCut k es fs old new) where
+  module _ {k : List ℕ} {es fs old new : List (List ℕ × Run U V)} (c : IsCut k es fs old new) where
     pub cut_same : new ≡ old → fs ≡ es
     cut_same h = c.is ∙ ap (λ (t : List (List ℕ × Run U V)). c.front ++ (t ++ c.back)) h ∙ sym c.was
 
@@ -248,14 +239,6 @@ module _ {U V : Type 0} where
       let here : get_or rs i [] ≡ r = sym (a ∙ get_or_default rs i r [] l) in
       let two : point_count (joined rs) ≡ point_count (joined (take i rs) ++ (r ++ joined (drop (suc i) rs))) = ap (λ (t : List (List ℕ × Run U V)). point_count t) (joined_cut i rs l ∙ ap (λ (t : List (List ℕ × Run U V)). joined (take i rs) ++ (t ++ joined (drop (suc i) rs))) here) in
       omega (arith, two, count_parts (joined (take i rs)) r (joined (drop (suc i) rs)))
-
-  -- ---- a row is found, and changed
-
-  pub row_cut : (k : List ℕ) (rs ss : List (List (List ℕ × Run U V))) (n : ℕ) (old new : List (List ℕ × Run U V)) → ss ≡ rs → n ≡ number_in k ss → (0 < length ss → n < length ss) → 0 < length rs → old ≡ get_or rs n old → AreRows rs → IsCut k (joined rs) (joined (slice_set rs n new)) old new
-  row_cut k rs ss n old new e a b l o w = (let p = place_of k rs ss n e a b l in cut_at k rs n old new w p.0 p.1 o)
-
-  pub row_rows : (k : List ℕ) (rs ss : List (List (List ℕ × Run U V))) (n : ℕ) (old new : List (List ℕ × Run U V)) → ss ≡ rs → n ≡ number_in k ss → (0 < length ss → n < length ss) → 0 < length rs → old ≡ get_or rs n old → AreRows rs → IsWritten k old new → AreRows (slice_set rs n new)
-  row_rows k rs ss n old new e a b l o w h = (let p = place_of k rs ss n e a b l in rows_written k rs n old new w p.0 p.1 o h)
 
   -- ---- what stands at a key, and behind it
 
