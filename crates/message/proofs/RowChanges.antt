@@ -14,7 +14,7 @@ use Rattle.pathkey.specs.Order.{by_bytes, by_bytes_total, by_bytes_equiv, same}
 use Rattle.pathkey.specs.Keys.{is_below}
 use Rattle.pathkey.proofs.OrderFacts.{equal, same_true, same_false, same_itself}
 use Rattle.message.specs.Ranges.{reaches, before, within}
-use Rattle.message.specs.Rows.{Rises, at_key, place, place_past, end_place, is_there}
+use Rattle.message.specs.Rows.{Rises, at_key, place, place_past, end_place}
 use Rattle.message.specs.Settled.{first_behind, first_from}
 use Rattle.message.specs.Stretches.{is_key}
 use Rattle.message.proofs.KeyOrder.{le_lt, reaches-from_before, not_before_from_reaches}
