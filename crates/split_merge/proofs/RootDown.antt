@@ -1,10 +1,12 @@
 -- The only child of a root in the root's place.
-use Rattle.std.proofs.Common.{◌≡◌, ℕ, true, false, List, [], ◌∷◌, length, get_or, refl, ap, sym, ◌∙◌, subst, arith, cond, Option, Some, None, pred}
+use Rattle.std.proofs.Common.{◌≡◌, ℕ, true, false, List, [], ◌∷◌, ◌++◌, length, get_or, refl, ap, sym, ◌∙◌, subst, arith, cond, Option, Some, None, pred}
 use Rattle.std.specs.Prelude.{◌&&◌}
+use Rattle.std.proofs.lemmas.List.{append_assoc, append-nil}
 use Rattle.pathkey.specs.Keys.{is_below}
 use Rattle.message.specs.declared.msg.Msg.{Msg}
 use Rattle.message.specs.Ranges.{reaches, before}
-use Rattle.message.specs.Effects.{effects}
+use Rattle.message.specs.Cuts.{pieces}
+use Rattle.message.specs.Effects.{effects, Takes}
 use Rattle.message.proofs.KeyOrder.{from_start, before_from_not_reaches}
 use Rattle.node.specs.declared.node.Slot.{Slot}
 use Rattle.node.specs.declared.shape.Shape.{Shape}
@@ -12,7 +14,7 @@ use Rattle.node.specs.declared.step.StepReply.TheVariants.{Did}
 use Rattle.node.specs.Appended.{parts, HaveTaken, IsAppended}
 use Rattle.node.specs.See.{seen_slots}
 use Rattle.node.specs.Pure.{PNode, leaf, inner, PSlots, none, more, PTree}
-use Rattle.node.specs.Lawful.{IsLawfulRoot, IsLawful, starts_at}
+use Rattle.node.specs.Lawful.{IsLawfulRoot, IsLawful, next_lo, starts_at}
 use Rattle.node.specs.RootSteps.{has_one_inner, with_root, RootLowered, AnswersDown}
 use Rattle.node.specs.Sinks.{msgs_at}
 use Rattle.node.proofs.Appending.{effects-taken, lawful-appended, value-appended}
@@ -20,6 +22,38 @@ use Rattle.node.proofs.Sinking.{emptied-taken, pending-taken}
 use Rattle.node.specs.Searchable.{IsRoot}
 use Rattle.node.proofs.Placing.{is_root}
 use Rattle.split_merge.specs.Lowered.{Lowered, CanLower}
+
+module _ {U V : Type 0} (means : U → Option V → Option V) where
+  -- ---- the slots, one by one
+
+  -- a list that takes what another has made of messages takes the messages
+  pub takes-made : (a x b c : List (Msg U V)) → Takes means [] x b → Takes means a b c → Takes means a x c
+  takes-made a x b c s t = record {
+    meaning = λ k v. t.meaning k v ∙ s.meaning k (effects means a k v);
+    bound = omega (arith, s.bound, t.bound);
+    touched = λ k h g. t.touched k h (s.touched k refl g);
+  }
+
+  -- slots, the last of which has no end, have taken their parts of messages
+  abbrev pub HaveAll : List (Msg U V) → List (Slot U V) → List (Slot U V) → Type 0
+  HaveAll ms xs ys = HaveTaken means (seen_slots xs) (parts None ms (seen_slots xs)) (seen_slots ys)
+
+  -- whatever the rest becomes, all become that behind what was made
+  abbrev pub LeavesRest : List (Msg U V) → List (Slot U V) → List (Slot U V) → List (Slot U V) → Type 0
+  LeavesRest ms rest done xs = (ys : List (Slot U V)) → HaveAll ms rest ys → HaveAll ms xs (done ++ ys)
+
+  -- one slot more is made
+  pub rest-next : (hi : Option (List ℕ)) (ms : List (Msg U V)) (s new : Slot U V) (rest later done more_done xs : List (Slot U V)) → rest ≡ s ∷ later → more_done ≡ done ++ new ∷ [] → hi ≡ next_lo None (seen_slots later) → HaveTaken means (seen_slots (s ∷ [])) (parts hi ms (seen_slots (s ∷ []))) (seen_slots (new ∷ [])) → LeavesRest ms rest done xs → LeavesRest ms later more_done xs
+  rest-next hi ms s new rest later done more_done xs e m h t f ys r =
+      let here : Takes means s.pending.0 (pieces s.lo (next_lo None (seen_slots later)) ms) new.pending.0 = subst (λ (z : Option (List ℕ)). Takes means s.pending.0 (pieces s.lo z ms) new.pending.0) h t.1 in
+      let first : HaveAll ms (s ∷ later) (new ∷ ys) = (t.0, here, t.2, r) in
+      let all : HaveAll ms xs (done ++ (new ∷ ys)) = f (new ∷ ys) (subst (λ (z : List (Slot U V)). HaveAll ms z (new ∷ ys)) (sym e) first) in
+      subst (λ (z : List (Slot U V)). HaveAll ms xs z) (sym (ap (λ (z : List (Slot U V)). z ++ ys) m ∙ append_assoc done (new ∷ []) ys)) all
+
+  -- none is left
+  pub rest-none : (ms : List (Msg U V)) (rest done xs : List (Slot U V)) → length rest ≡ 0 → LeavesRest ms rest done xs → HaveAll ms xs done
+  rest-none ms [] done xs e f = subst (λ (z : List (Slot U V)). HaveAll ms xs z) (append-nil done) (f [] tt)
+  rest-none ms (s ∷ later) done xs e f = absurd (omega (arith, e))
 
 module _ {U V : Type 0} where
   -- ---- the messages

@@ -1,6 +1,7 @@
 //! The root one level down.
-ghost use Rattle.std.specs.Prelude.{◌≡◌, IfOk, IfErr};
-ghost use Rattle.node.specs.Appended.{IsAppended};
+ghost use Rattle.std.specs.Prelude.{◌≡◌, ◌∷◌, [], None, IfOk, IfErr};
+ghost use Rattle.std.specs.Option.{option_copied};
+ghost use Rattle.node.specs.Appended.{parts, HaveTaken, IsAppended};
 ghost use Rattle.node.specs.Pure.{inner};
 ghost use Rattle.node.specs.RootSteps.{AnswersDown};
 ghost use Rattle.node.specs.Searchable.{IsRoot};
@@ -8,13 +9,50 @@ ghost use Rattle.node.specs.See.{seen_slots};
 ghost use Rattle.split_merge.specs.Lowered.{CanLower, Lowered, Stays};
 
 use message::{Pending, Update};
-use node::copy::copy_slots;
+use node::search::next_pivot;
 use node::{Body, Node, Slot, StepReply, Tree};
-use pathkey::NoMemory;
+use pathkey::{Key, NoMemory};
 use std::alloc::Global;
 use std::sync::Arc;
 
-/// A root over copies of the slots, which share the children, with copies of the list's messages behind what waits in them.
+/// A slot over the same child, where the list's part for the slot's range stands behind the messages that waited; `hi` is where
+/// the range ends, if it does.
+fn slot_over<U: Update>(
+    alloc: Global,
+    slot: &Slot<U>,
+    hi: Option<&Key>,
+    list: &Pending<U>,
+) -> Result<Slot<U>, NoMemory>
+    ensures { IfOk result (λ s. HaveTaken U.means (seen_slots (slot.now ∷ [])) (parts (option_copied hi.entry) list.now.0 (seen_slots (slot.now ∷ []))) (seen_slots (s ∷ []))) }
+{
+    let lo = slot.lo.copy(alloc)?;
+    let mut pending = slot.pending.copy(alloc)?;
+    let mut part = list.copy_between(alloc, 0, &slot.lo, hi)?;
+    part.sink_all(&mut pending)?;
+    let child = Arc::try_clone(&slot.child)?;
+    Ok(Slot { lo, pending, child })
+}
+
+/// The same for all slots of a node; the last one has no end.
+fn slots_over<U: Update>(
+    alloc: Global,
+    slots: &[Slot<U>],
+    list: &Pending<U>,
+) -> Result<Vec<Slot<U>>, NoMemory>
+    ensures { IfOk result (λ v. HaveTaken U.means (seen_slots slots.now) (parts None list.now.0 (seen_slots slots.now)) (seen_slots v.items)) }
+{
+    let mut all = Vec::with_capacity(alloc, slots.len())?;
+    let mut rest = slots;
+    'slots: while let Some((slot, later)) = rest.split_first() {
+        let new = slot_over(alloc, slot, next_pivot(later, None), list)?;
+        all.push(new)?;
+        rest = later;
+    }
+    Ok(all)
+}
+
+/// A root over the slots' children, where the list's messages stand behind what waited in the slots, each in those whose ranges it
+/// touches.
 fn appended<U: Update>(
     alloc: Global,
     slots: &[Slot<U>],
@@ -23,9 +61,7 @@ fn appended<U: Update>(
     requires { IsRoot (inner (seen_slots slots.now)) }
     ensures { IfOk result (λ n. IsAppended U.means list.now.0 (inner (seen_slots slots.now)) n.value) }
 {
-    let mut root = Node::of(Body::Inner(copy_slots(alloc, slots)?));
-    let msgs = list.copy_front(alloc, list.len())?;
-    root.append_kept(alloc, msgs, &[])?;
+    let mut root = Node::of(Body::Inner(slots_over(alloc, slots, list)?));
     root.weigh();
     Ok(Arc::new(alloc, root)?)
 }
@@ -55,9 +91,9 @@ fn lowered<U: Update>(alloc: Global, root: &Node<U>) -> Result<Arc<Node<U>>, Ste
 
 /// Puts the root's only child in the root's place, and the old root's messages behind what waits in its slots.
 ///
-/// It copies the child's own level and the root's messages; what stands below is shared. It answers `NotThere`,
-/// without memory, where the root has more slots than one or its child is a leaf, and never `NoRoom`, since a root's
-/// lists have no limit.
+/// It copies the child's own level, and cuts the root's list into its lists. They share the messages for one key with the lists
+/// that they come from, and what stands below is shared. It answers `NotThere`, without memory, where the root has more slots than
+/// one or its child is a leaf, and never `NoRoom`, since a root's lists have no limit.
 pub fn root_down<U: Update>(alloc: Global, tree: &mut Tree<U>) -> StepReply
     ensures { AnswersDown U.means result tree.old tree.new }
 {
