@@ -21,7 +21,7 @@ use Rattle.node.proofs.Appending.{effects-taken, lawful-appended, value-appended
 use Rattle.node.proofs.Sinking.{emptied-taken, pending-taken}
 use Rattle.node.specs.Searchable.{IsRoot}
 use Rattle.node.proofs.Placing.{is_root}
-use Rattle.split_merge.specs.Lowered.{Lowered, CanLower}
+use Rattle.split_merge.specs.Lowered.{Lowered}
 
 module _ {U V : Type 0} (means : U → Option V → Option V) where
   -- ---- the slots, one by one
@@ -125,26 +125,6 @@ module _ {U V : Type 0} where
       }
 
   -- ---- as the code reads the root
-
-  -- a lawful root is one that its child can replace
-  pub can_lower : (t : PTree U V) → IsLawful t → CanLower t.root
-  can_lower t l = by_root t.root l.root
-    where
-      by_root : (a : PNode U V) → IsLawfulRoot t.shape a l.levels → CanLower a
-      by_root (leaf es) m = tt
-      by_root (inner none) m = tt
-      by_root (inner (more lo ms (leaf es) none)) m = tt
-      by_root (inner (more lo ms (leaf es) (more lp mt o ss))) m = tt
-      by_root (inner (more lo ms (inner below) (more lp mt o ss))) m = tt
-      by_root (inner (more lo ms (inner below) none)) m = is_root t.shape (pred l.levels) (inner below) (lawful_child t.shape l.levels lo ms below m)
-
-  -- so the slots of the child hold every key
-  pub child_is_root : (xs : List (Slot U V)) (a : PNode U V) (s : Slot U V) (below : PSlots U V) → inner (seen_slots xs) ≡ a → length xs ≡ 1 → s ≡ get_or xs 0 s → inner below ≡ s.child.value → CanLower a → IsRoot (inner below)
-  child_is_root [] a s below e one at is h = absurd (omega (arith, one))
-  child_is_root (x ∷ []) a s below e one at is h =
-      let whole : a ≡ inner (more x.lo x.pending.0 (inner below) none) = sym e ∙ ap (λ (y : Slot U V). inner (more x.lo x.pending.0 y.child.value none)) (sym at) ∙ ap (λ n. inner (more x.lo x.pending.0 n none)) (sym is) in
-      subst (λ n. CanLower n) whole h
-  child_is_root (x ∷ (y ∷ xs)) a s below e one at is h = absurd (omega (arith, one))
 
   -- another number of slots than one
   pub not_one : (xs : List (Slot U V)) (a : PNode U V) → inner (seen_slots xs) ≡ a → (length xs ≡ 1 → ⊥) → has_one_inner a ≡ false

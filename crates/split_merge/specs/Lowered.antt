@@ -1,10 +1,9 @@
 -- The only child in the root's place.
-use Rattle.std.specs.Prelude.{◌≡◌, true, false, Option, ⊤}
+use Rattle.std.specs.Prelude.{◌≡◌, true, false}
 use Rattle.node.specs.declared.step.StepReply.{StepReply}
 use Rattle.node.specs.declared.step.StepReply.TheVariants.{Did, NotThere, NoRoom, NoMemory}
 use Rattle.node.specs.Appended.{IsAppended}
 use Rattle.node.specs.Pure.{PNode, inner, none, more}
-use Rattle.node.specs.Searchable.{IsRoot}
 use Rattle.node.specs.RootSteps.{has_one_inner}
 
 module _ {U V : Type 0} (means : U → Option V → Option V) where
@@ -14,11 +13,6 @@ module _ {U V : Type 0} (means : U → Option V → Option V) where
   Lowered _ node = ⊥
 
 module _ {U V : Type 0} where
-  -- an inner node below a root with one slot holds every key, as a root does
-  abbrev pub CanLower : PNode U V → Type 0
-  CanLower (inner (more lo ms (inner below) none)) = IsRoot (inner below)
-  CanLower _ = ⊤
-
   -- why the root cannot go down
   abbrev pub Stays : StepReply → PNode U V → Type 0
   Stays (Did n) root = ⊥

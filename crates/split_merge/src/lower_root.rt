@@ -4,9 +4,8 @@ ghost use Rattle.std.specs.Option.{option_copied};
 ghost use Rattle.node.specs.Appended.{parts, HaveTaken, IsAppended};
 ghost use Rattle.node.specs.Pure.{inner};
 ghost use Rattle.node.specs.RootSteps.{AnswersDown};
-ghost use Rattle.node.specs.Searchable.{IsRoot};
 ghost use Rattle.node.specs.See.{seen_slots};
-ghost use Rattle.split_merge.specs.Lowered.{CanLower, Lowered, Stays};
+ghost use Rattle.split_merge.specs.Lowered.{Lowered, Stays};
 
 use message::{Pending, Update};
 use node::search::next_pivot;
@@ -58,17 +57,14 @@ fn appended<U: Update>(
     slots: &[Slot<U>],
     list: &Pending<U>,
 ) -> Result<Arc<Node<U>>, NoMemory>
-    requires { IsRoot (inner (seen_slots slots.now)) }
     ensures { IfOk result (λ n. IsAppended U.means list.now.0 (inner (seen_slots slots.now)) n.value) }
 {
-    let mut root = Node::of(Body::Inner(slots_over(alloc, slots, list)?));
-    root.weigh();
-    Ok(Arc::new(alloc, root)?)
+    let body = Body::Inner(slots_over(alloc, slots, list)?);
+    Ok(Arc::new(alloc, Node::of(body))?)
 }
 
 /// The root's only child with the root's messages, or why there is none.
 fn lowered<U: Update>(alloc: Global, root: &Node<U>) -> Result<Arc<Node<U>>, StepReply>
-    requires { CanLower root.now }
     ensures ok { IfOk result (λ n. Lowered U.means root.now n.value) }
     ensures err { IfErr result (λ e. Stays e root.now) }
 {

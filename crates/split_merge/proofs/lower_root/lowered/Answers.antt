@@ -2,7 +2,7 @@ use Rattle.std.proofs.Common.{arith, ◌≡◌, length, ap, sym, ◌∙◌, subs
 use Rattle.node.specs.See.{see, seen_slots}
 use Rattle.node.specs.Pure.{inner}
 use Rattle.node.specs.Searchable.{IsRoot}
-use Rattle.split_merge.proofs.RootDown.{child_is_root, not_one}
+use Rattle.split_merge.proofs.RootDown.{not_one}
 use Rattle.split_merge.proofs.lower_root.lowered.Goals as goal
 
 pub returns-then-len-ne1-clause-err : goal.returns-then-len-ne1-clause-err
@@ -10,12 +10,3 @@ returns-then-len-ne1-clause-err g c =
     let items = c.in-Inner.slots.items in
     let was : inner (seen_slots items) ≡ c.args.root.now = ap see (sym c.in-Inner.is) ∙ c.body.ensures in
     not_one items c.args.root.now was (λ e. omega (arith, c.in-Inner.slots.ok.0))
-
-pub appended-requires : goal.appended-requires
-appended-requires g c =
-    let items = c.in-Inner.slots.items in
-    let was : inner (seen_slots items) ≡ c.args.root.now = ap see (sym c.in-Inner.is) ∙ c.body.ensures in
-    let one : length items ≡ 1 = omega (arith, c.in-Inner.slots.ok.0) in
-    let child = ap see (sym c.in-Inner-body.is) ∙ c.body-2.ensures ∙ c.deref-child.ensures in
-    let root = child_is_root items c.args.root.now c.index-slot.result.now (seen_slots c.in-Inner-body.below.items) was one c.index-slot.ensures child c.requires in
-    subst (λ z. IsRoot (inner (seen_slots z))) (sym c.as_slice.ensures.value) root
