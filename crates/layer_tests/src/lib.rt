@@ -25,6 +25,8 @@ mod searches;
 #[cfg(test)]
 mod settling;
 #[cfg(test)]
+mod shared_lists;
+#[cfg(test)]
 mod some_steps;
 #[cfg(test)]
 mod takings;

@@ -304,7 +304,7 @@ impl<U: Update> Pending<U> {
         let Some(_) = self.oldest_point() else {
             return self.sink_cut(alloc, lo, hi, to);
         };
-        let count = self.sink_oldest(to, usize::MAX)?;
+        let count = self.sink_oldest(to, self.len())?;
         Ok(count)
     }
 
@@ -454,7 +454,7 @@ impl<U: Update> Pending<U> {
         ensures some { OnErr result (Takes U.means (to.old.0 ++ self.old.0) [] (to.new.0 ++ self.new.0)) }
     {
         while self.len() > 0 {
-            self.sink_oldest(to, usize::MAX)?;
+            self.sink_oldest(to, self.len())?;
         }
         Ok(())
     }
