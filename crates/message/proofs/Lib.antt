@@ -17,7 +17,6 @@ pub mod CountingRanges
 pub mod Telling
 pub mod NextKey
 pub mod Parting
-pub mod Between
 pub mod Taking
 pub mod StretchEnds
 pub mod Searching
@@ -31,5 +30,7 @@ pub mod PointRows
 pub mod Dividing
 pub mod LastEntries
 pub mod RangeRows
+pub mod CuttingRanges
+pub mod Cutting
 pub mod Moving
 pub mod LeftFacts

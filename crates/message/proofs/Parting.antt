@@ -22,7 +22,7 @@ use Rattle.message.proofs.KeyOrder.{not_reaches_from_before, not_before_from_rea
 both_true : (b c : Bool) → b ≡ true → c ≡ true → (b && c) ≡ true
 both_true b c g h = ap (λ a. a && c) g ∙ h
 
-second_false : (b c : Bool) → c ≡ false → (b && c) ≡ false
+pub second_false : (b c : Bool) → c ≡ false → (b && c) ≡ false
 second_false true c h = h
 second_false false c h = refl
 
@@ -90,6 +90,24 @@ module _ {U V : Type 0} where
       absurd (omega (arith, no))
   drop_least (suc n) (suc k) [] l h = refl
   drop_least (suc n) (suc k) (x ∷ xs) l h = drop_least n k xs (omega arith) (λ less. (let m : length (x ∷ xs) ≤ suc k = h (omega (arith, less)) in omega (arith, m)))
+
+  -- ---- a parted list
+
+  pub front_part : (lo pivot : List ℕ) (all front back : List (Msg U V)) → IsParted lo pivot all front back → front ≡ pieces lo (Some pivot) all
+  front_part lo pivot all front back h =
+      let hi = Some pivot in
+      sym (ap (λ t. pieces lo hi t) h.parts
+      ∙ pieces-append lo hi front back
+      ∙ ap (λ t. pieces lo hi front ++ t) (pieces-out lo hi back h.back_out)
+      ∙ append-nil (pieces lo hi front)
+      ∙ pieces-in lo hi front h.front_in)
+
+  pub back_part : (lo pivot : List ℕ) (all front back : List (Msg U V)) → IsParted lo pivot all front back → back ≡ pieces pivot None all
+  back_part lo pivot all front back h =
+      sym (ap (λ t. pieces pivot None t) h.parts
+      ∙ pieces-append pivot None front back
+      ∙ ap (λ t. t ++ pieces pivot None back) (pieces-out pivot None front h.front_out)
+      ∙ pieces-in pivot None back h.back_in)
 
   -- ---- what is left of a parted list without its oldest messages
 

@@ -26,6 +26,11 @@ module _ {U V : Type 0} where
   pieces lo hi (m ∷ ms) = option_to_list (cut_to lo hi m) ++ pieces lo hi ms
 
 module _ {U V : Type 0} where
+  -- the parts of messages before an end, or where there is none the messages
+  abbrev pub IsUpTo : Option (List ℕ) → List (Msg U V) → List (Msg U V) → Type 0
+  IsUpTo None all ms = ms ≡ all
+  IsUpTo (Some hi) all ms = ms ≡ pieces [] (Some hi) all
+
   -- each message lies whole in the range
   abbrev pub LieIn : List ℕ → Option (List ℕ) → List (Msg U V) → Type 0
   LieIn lo hi [] = Unit {0}

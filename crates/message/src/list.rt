@@ -45,24 +45,6 @@ pub(crate) fn ranges_in<U: Update>(msgs: &[Waiting<U>]) -> usize
     count
 }
 
-/// The parts of messages from `lo` up to and without `hi`, in their order.
-pub(crate) fn pieces_of<U: Update>(
-    alloc: Global,
-    lo: &Key,
-    hi: Option<&Key>,
-    msgs: &[Msg<U>],
-) -> Result<Vec<Msg<U>>, NoMemory>
-    ensures { IfOk result (λ v. v.items ≡ pieces lo.now (option_copied hi.entry) msgs.now) }
-{
-    let mut found = Vec::new(alloc);
-    for msg in msgs {
-        if let Some(piece) = msg.cut_between(alloc, lo, hi)? {
-            found.push(piece)?;
-        }
-    }
-    Ok(found)
-}
-
 /// The value at `key` after the messages, the oldest first, where `old` was there.
 pub(crate) fn lay_all<U: Update>(
     alloc: Global,
@@ -103,6 +85,25 @@ pub(crate) fn share_behind<U: Update>(
 {
     for waiting in msgs {
         back.push(waiting.share(alloc)?)?;
+    }
+    Ok(())
+}
+
+/// The parts of messages from `lo` up to and without `hi`, in their order, put behind those in `back`. A message that lies there
+/// whole is shared.
+pub(crate) fn share_parts<U: Update>(
+    alloc: Global,
+    lo: &Key,
+    hi: Option<&Key>,
+    msgs: &[Waiting<U>],
+    back: &mut Vec<Waiting<U>>,
+) -> Result<(), NoMemory>
+    ensures { OnOk result (back.new.items ≡ back.old.items ++ pieces lo.now (option_copied hi.entry) msgs.now) }
+{
+    for waiting in msgs {
+        if let Some(part) = waiting.part(alloc, lo, hi)? {
+            back.push(part)?;
+        }
     }
     Ok(())
 }

@@ -1,5 +1,5 @@
 //! Whether a message has a part in a range, and whether it is a range-delete of all of it.
-ghost use Rattle.std.specs.Prelude.{◌≡◌, ◌&&◌, ◌∷◌, [], is_some};
+ghost use Rattle.std.specs.Prelude.{◌≡◌, ◌&&◌, ◌∷◌, [], true, Some, is_some};
 ghost use Rattle.std.specs.Option.{option_copied};
 ghost use Rattle.message.specs.Cuts.{cut_to};
 ghost use Rattle.message.specs.Oldest.{covers_first};
@@ -27,6 +27,17 @@ pub fn meets<U: Update>(msg: &Msg<U>, lo: &Key, hi: Option<&Key>) -> bool
         Msg::DelRange(range) => overlaps(&range.lo, range.hi.as_ref(), lo, hi),
         Msg::Put(key, _) | Msg::Del(key) | Msg::Edit(key, _) => is_within(key, lo, hi),
     }
+}
+
+/// Whether no part of a message that has one from `lo` up to and without `hi` lies outside; `None` is no end.
+pub(crate) fn lies_in<U: Update>(msg: &Msg<U>, lo: &Key, hi: Option<&Key>) -> bool
+    requires { is_some (cut_to lo.now (option_copied hi) msg.now) ≡ true }
+    ensures { result ≡ true → cut_to lo.now (option_copied hi.entry) msg.now ≡ Some msg.now }
+{
+    let Msg::DelRange(range) = msg else {
+        return true;
+    };
+    reaches_over(lo, hi, &range.lo, range.hi.as_ref())
 }
 
 /// Whether the end stands at or before the end `most`; `None` is no end.

@@ -6,7 +6,7 @@
 ghost use Rattle.std.specs.Prelude.{◌≡◌, ◌+◌, ◌≤◌, ◌<◌, ◌++◌, [], ◌∷◌, true, length, take, drop, Some, None, IfOk, IfNone, IfSome, OnOk, OnErr, MatchOption};
 ghost use Rattle.std.specs.Option.{option_copied, option_map};
 ghost use Rattle.std.specs.List.{All, slice_get};
-ghost use Rattle.message.specs.Cuts.{pieces};
+ghost use Rattle.message.specs.Cuts.{pieces, IsUpTo};
 ghost use Rattle.message.specs.Effects.{effects, point, range_count, Takes};
 ghost use Rattle.message.specs.Eldest.{eldest_msg};
 ghost use Rattle.message.specs.Oldest.{first_point, first_put, first_given, meets_first, covers_first};
@@ -17,7 +17,6 @@ ghost use Rattle.pathkey.specs.Keys.{is_below};
 
 use crate::eldest::Eldest;
 use crate::ends::is_before_end;
-use crate::list::pieces_of;
 use crate::msg::Msg;
 use crate::sorted::Sorted;
 use crate::tail::Tail;
@@ -242,91 +241,42 @@ impl<U: Update> Pending<U> {
     {
         let mut rest = self.copy(alloc)?;
         rest.drop_front(gone);
-        let mut list = Pending::new(alloc);
-        rest.sink_between(alloc, lo, hi, &mut list)?;
+        rest.keep_before(alloc, hi)?;
+        let (_, list) = rest.cut_at(alloc, lo)?;
         Ok(list)
     }
 
-    /// Moves the parts of all messages from `lo` up to and without `hi` to another list, where they are newer than all others.
-    /// Once messages for one key each stand first, those outside are left out at once.
-    fn sink_between(
-        &mut self,
-        alloc: Global,
-        lo: &Key,
-        hi: Option<&Key>,
-        to: &mut Pending<U>,
-    ) -> Result<(), NoMemory>
-        ensures { OnOk result (Takes U.means to.old.0 (pieces lo.now (option_copied hi.entry) self.old.0) to.new.0) }
+    /// Leaves the parts of the messages before the end alone, if there is one. On want of memory any may be gone.
+    fn keep_before(&mut self, alloc: Global, end: Option<&Key>) -> Result<(), NoMemory>
+        ensures { OnOk result (IsUpTo (option_copied end.entry) self.old.0 self.new.0) }
     {
-        while self.len() > 0 {
-            if self.sorted.trim(alloc, lo, hi)? {
-                return self.sink_parts(alloc, lo, hi, to);
-            }
-            self.sink_part(alloc, lo, hi, to)?;
-        }
-        Ok(())
-    }
-
-    /// The same, message by message, those of one key in one go where that can be.
-    fn sink_parts(
-        &mut self,
-        alloc: Global,
-        lo: &Key,
-        hi: Option<&Key>,
-        to: &mut Pending<U>,
-    ) -> Result<(), NoMemory>
-        ensures { OnOk result (Takes U.means to.old.0 (pieces lo.now (option_copied hi.entry) self.old.0) to.new.0) }
-    {
-        while self.len() > 0 {
-            self.sink_part(alloc, lo, hi, to)?;
-        }
-        Ok(())
-    }
-
-    /// Takes the oldest messages out and puts their parts from `lo` up to and without `hi` into another list, and counts them: all
-    /// of one key as they lie in memory, where that can be, else the first.
-    fn sink_part(
-        &mut self,
-        alloc: Global,
-        lo: &Key,
-        hi: Option<&Key>,
-        to: &mut Pending<U>,
-    ) -> Result<usize, NoMemory>
-        requires { 0 < length self.old.0 }
-        ensures takes { IfOk result (λ n. Takes U.means to.old.0 (pieces lo.now (option_copied hi.entry) (take n self.old.0)) to.new.0) }
-        ensures left { IfOk result (λ n. self.new.0 ≡ drop n self.old.0) }
-        ensures some { IfOk result (λ n. (0 < n) × (n ≤ length self.old.0)) }
-    {
-        if !self.oldest_meets(lo, hi) {
-            self.drop_front(1);
-            return Ok(1);
-        }
-        let Some(_) = self.oldest_point() else {
-            return self.sink_cut(alloc, lo, hi, to);
+        let Some(end) = end else {
+            return Ok(());
         };
-        let count = self.sink_oldest(to, self.len())?;
-        Ok(count)
+        let all = std::mem::replace(self, Pending::new(alloc));
+        let (front, _) = all.cut_at(alloc, end)?;
+        *self = front;
+        Ok(())
     }
 
-    /// Takes the oldest message out and puts a copy of its part from `lo` up to and without `hi` into another list.
-    fn sink_cut(
-        &mut self,
-        alloc: Global,
-        lo: &Key,
-        hi: Option<&Key>,
-        to: &mut Pending<U>,
-    ) -> Result<usize, NoMemory>
-        requires { 0 < length self.old.0 }
-        ensures takes { IfOk result (λ n. Takes U.means to.old.0 (pieces lo.now (option_copied hi.entry) (take n self.old.0)) to.new.0) }
-        ensures left { IfOk result (λ n. self.new.0 ≡ drop n self.old.0) }
-        ensures some { IfOk result (λ n. (0 < n) × (n ≤ length self.old.0)) }
+    /// The parts of the messages before the pivot, and those from it on. No message is copied but a range-delete over the pivot.
+    fn cut_at(self, alloc: Global, pivot: &Key) -> Result<(Pending<U>, Pending<U>), NoMemory>
+        ensures front { IfOk result (λ r. r.0.0 ≡ pieces [] (Some pivot.now) self.0) }
+        ensures back { IfOk result (λ r. r.1.0 ≡ pieces pivot.now None self.0) }
     {
-        let first = self.copy_front(alloc, 1)?;
-        let mut parts = pieces_of(alloc, lo, hi, first.as_slice())?;
-        to.reserve(parts.len())?;
-        to.append_reserved(&mut parts);
-        self.drop_front(1);
-        Ok(1)
+        let Pending { sorted, fresh } = self;
+        let before = fresh.parts(alloc, &Key::new(alloc), Some(pivot))?;
+        let behind = fresh.parts(alloc, pivot, None)?;
+        let (front, back) = sorted.cut_at(alloc, pivot)?;
+        let front = Pending {
+            sorted: front,
+            fresh: before,
+        };
+        let back = Pending {
+            sorted: back,
+            fresh: behind,
+        };
+        Ok((front, back))
     }
 
     /// Cuts the list at the pivot, without its `gone` oldest messages: it keeps what lies from `lo` up to the pivot, and answers
@@ -346,8 +296,10 @@ impl<U: Update> Pending<U> {
         if let Some(back) = self.move_off(alloc, gone, lo, pivot)? {
             return Ok(back);
         }
-        let back = self.copy_between(alloc, gone, pivot, None)?;
-        let front = self.copy_between(alloc, gone, lo, Some(pivot))?;
+        let mut rest = self.copy(alloc)?;
+        rest.drop_front(gone);
+        let (front, back) = rest.cut_at(alloc, pivot)?;
+        let (_, front) = front.cut_at(alloc, lo)?;
         *self = front;
         Ok(back)
     }

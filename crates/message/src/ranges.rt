@@ -1,13 +1,14 @@
 //! The range-deletes of a sorted list, by their low ends, in rows of shared items.
-ghost use Rattle.std.specs.Prelude.{◌≡◌, ◌+◌, ◌≤◌, ◌<◌, ◌^◌, ◌&&◌, Bool, true, false, [], not, length, take, ◌++◌, OnOk, OnErr, IfOk, IfNone};
+ghost use Rattle.std.specs.Prelude.{◌≡◌, ◌+◌, ◌≤◌, ◌<◌, ◌^◌, ◌&&◌, Bool, true, false, [], not, length, take, ◌++◌, Some, None, OnOk, OnErr, IfOk, IfNone};
 ghost use Rattle.std.specs.Option.{option_map, option_copied, option_to_list};
 ghost use Rattle.std.specs.BTreeMap.{insert_entry};
 ghost use Rattle.std.specs.List.{filter, slice_get};
 ghost use Rattle.pathkey.specs.Order.{by_bytes};
 ghost use Rattle.pathkey.specs.Keys.{is_below};
 ghost use Rattle.message.specs.Ranges.{before, reaches};
-ghost use Rattle.message.specs.Rows.{Rises, joined, number_in, AreRows, IsWritten};
-ghost use Rattle.message.specs.Settled.{covered, last_where, AreApart, AreHeld, CoversMore, IsLowEnd, IsHighEnd, Widens, is_outside, range_msgs, first_behind, high_ahead};
+ghost use Rattle.message.specs.Cuts.{pieces};
+ghost use Rattle.message.specs.Rows.{Rises, joined, number_in, AreBefore, AreFrom, AreRows, IsWritten};
+ghost use Rattle.message.specs.Settled.{covered, last_where, over, AreApart, AreHeld, AreSome, CoversMore, IsLowEnd, IsHighEnd, Widens, is_outside, range_msgs, first_behind, high_ahead};
 ghost use Rattle.message.specs.Stretches.{IsStretch};
 
 use crate::ends::{copy_end, earlier, is_before_end};
@@ -16,7 +17,9 @@ use crate::msg::Msg;
 use crate::nearest::{behind_among, last_at, last_before, past};
 use crate::points::before_end;
 use crate::row::{Item, Row};
-use crate::rows::{drop_empty, end_row, first_in, number_in, pop_item, prepare, share_rows};
+use crate::rows::{
+    drop_empty, end_row, entries_in, first_in, number_in, part, pop_item, prepare, share_rows,
+};
 use crate::update::Update;
 use pathkey::{Key, KeyRange, NoMemory};
 use std::alloc::Global;
@@ -34,11 +37,12 @@ impl Model for Ranges {
 
     ghost Value = { List (List ℕ × Option (List ℕ)) };
 
-    ghost use Rattle.message.specs.Rows.{joined, AreCounted};
+    ghost use Rattle.message.specs.Rows.{joined};
+    ghost use Rattle.message.specs.Settled.{AreRanges};
 
     ghost view = { λ r. joined r.rows.items };
 
-    ghost invariant = { λ r. AreCounted r.rows.items r.count };
+    ghost invariant = { λ r. AreRanges r.rows.items r.count };
 }
 
 impl Ranges {
@@ -104,7 +108,8 @@ impl Ranges {
 
     /// Puts a range in, in the place of one that begins where it does.
     fn put(&mut self, low: Key, high: Option<Key>) -> Result<(), NoMemory>
-        requires { length self.old < 2 ^ 62 }
+        requires some { is_below low high ≡ true }
+        requires few { length self.old < 2 ^ 63 }
         ensures ok { OnOk result (self.new ≡ insert_entry by_bytes self.old low high) }
         ensures err { OnErr result (self.new ≡ self.old) }
         ensures was_ordered { Rises self.old }
@@ -115,6 +120,27 @@ impl Ranges {
         let more = put_among(&mut self.rows, n, low, high)?;
         self.count += more;
         Ok(())
+    }
+
+    /// The ranges that begin before the pivot, and those that begin at it or behind it.
+    fn part(self, pivot: &Key) -> Result<(Ranges, Ranges), NoMemory>
+        ensures parts { IfOk result (λ r. self ≡ r.0 ++ r.1) }
+        ensures front { IfOk result (λ r. AreBefore pivot.now r.0) }
+        ensures back { IfOk result (λ r. AreFrom pivot.now r.1) }
+        ensures some { AreSome self }
+    {
+        let mut rows = self.rows;
+        let later = part(&mut rows, pivot)?;
+        let behind = entries_in(later.as_slice());
+        let front = Ranges {
+            rows,
+            count: self.count - behind,
+        };
+        let back = Ranges {
+            rows: later,
+            count: behind,
+        };
+        Ok((front, back))
     }
 
     /// Takes away the ranges that begin behind the low end of this one and before its high end. It takes no memory.
@@ -329,6 +355,41 @@ pub(crate) fn lay(ranges: &mut Ranges, alloc: Global, range: &KeyRange) -> Resul
     let wide = widened(ranges, alloc, range)?;
     add(ranges, alloc, wide)?;
     Ok(())
+}
+
+/// The last range that begins before the pivot, where it ends behind it.
+fn over<'a>(ranges: &'a Ranges, pivot: &Key) -> Option<(&'a Key, &'a Option<Key>)>
+    ensures { option_map (λ p. (p.0.now, p.1.now)) result ≡ over pivot.now (last_where (λ k. not (reaches pivot.now k)) ranges.now) }
+{
+    let (low, high) = ranges.last_before(pivot)?;
+    if is_before_end(pivot, high.as_ref()) {
+        Some((low, high))
+    } else {
+        None
+    }
+}
+
+/// The ranges up to the pivot, and those from it on. One that lies over it is made two.
+pub(crate) fn cut_at<U: Update>(
+    ranges: Ranges,
+    alloc: Global,
+    pivot: &Key,
+) -> Result<(Ranges, Ranges), NoMemory>
+    requires apart { AreApart ranges }
+    requires few { length ranges < 2 ^ 63 }
+    ensures front { IfOk result (λ r. range_msgs {U = U} {V = U.Value} r.0 ≡ pieces [] (Some pivot.now) (range_msgs ranges)) }
+    ensures back { IfOk result (λ r. range_msgs {U = U} {V = U.Value} r.1 ≡ pieces pivot.now None (range_msgs ranges)) }
+    ensures apart { IfOk result (λ r. AreApart r.0 × AreApart r.1) }
+{
+    let (mut front, mut back) = ranges.part(pivot)?;
+    let Some((low, high)) = over(&front, pivot) else {
+        return Ok((front, back));
+    };
+    let low = low.copy(alloc)?;
+    let high = copy_end(alloc, high.as_ref())?;
+    front.put(low, Some(pivot.copy(alloc)?))?;
+    back.put(pivot.copy(alloc)?, high)?;
+    Ok((front, back))
 }
 
 /// Copies of the range-deletes, put behind those in `front`, until it has so many.

@@ -1,8 +1,8 @@
 //! A sorted list of messages, kept short: what a later message makes idle is taken away.
-ghost use Rattle.std.specs.Prelude.{true, ◌≡◌, ◌+◌, ◌^◌, ◌<◌, ◌≤◌, [], ◌∷◌, length, None, if◌then◌else◌, ◌++◌, take, drop, IfSome, IfNone, IfOk, IfErr, OnOk, OnErr, MatchOption};
+ghost use Rattle.std.specs.Prelude.{true, ◌≡◌, ◌+◌, ◌^◌, ◌<◌, ◌≤◌, [], ◌∷◌, length, Some, None, if◌then◌else◌, ◌++◌, take, drop, IfSome, IfNone, IfOk, IfErr, OnOk, OnErr, MatchOption};
 ghost use Rattle.message.specs.declared.msg.Msg.TheVariants as msg;
 ghost use Rattle.message.specs.declared.told.Told.TheVariants as told;
-ghost use Rattle.message.specs.Cuts.{IsParted};
+ghost use Rattle.message.specs.Cuts.{pieces, IsParted};
 ghost use Rattle.message.specs.Effects.{effects, point, range_count, Takes};
 ghost use Rattle.message.specs.Eldest.{eldest_msg};
 ghost use Rattle.std.specs.List.{All, slice_get};
@@ -316,6 +316,32 @@ impl<U: Update> Settled<U> {
             points,
             count,
         }))
+    }
+
+    /// The parts of the messages before the pivot, and those from it on. The messages are the same; a range-delete over the pivot
+    /// is made two.
+    pub(crate) fn cut_at(
+        self,
+        alloc: Global,
+        pivot: &Key,
+    ) -> Result<(Settled<U>, Settled<U>), NoMemory>
+        ensures front { IfOk result (λ r. r.0 ≡ pieces [] (Some pivot.now) self) }
+        ensures back { IfOk result (λ r. r.1 ≡ pieces pivot.now None self) }
+    {
+        let mut points = self.points;
+        let (later, moved) = points.split_off(pivot)?;
+        let (ranges, behind) = ranges::cut_at::<U>(self.ranges, alloc, pivot)?;
+        let front = Settled {
+            ranges,
+            points,
+            count: self.count - moved,
+        };
+        let back = Settled {
+            ranges: behind,
+            points: later,
+            count: moved,
+        };
+        Ok((front, back))
     }
 
     /// A list of the same messages.

@@ -1,5 +1,5 @@
 //! A sorted list from whose front messages leave one by one.
-ghost use Rattle.std.specs.Prelude.{◌≡◌, ◌+◌, ◌-◌, ◌^◌, ◌<◌, ◌≤◌, ◌++◌, [], ◌∷◌, true, false, length, take, drop, IfOk, IfErr, IfNone, IfSome, OnOk, OnErr, MatchOption};
+ghost use Rattle.std.specs.Prelude.{◌≡◌, ◌+◌, ◌-◌, ◌^◌, ◌<◌, ◌≤◌, ◌++◌, [], ◌∷◌, true, false, length, take, drop, Some, None, IfOk, IfErr, IfNone, IfSome, OnOk, OnErr, MatchOption};
 ghost use Rattle.std.specs.Option.{option_copied, option_map};
 ghost use Rattle.std.specs.List.{All, slice_get};
 ghost use Rattle.message.specs.Oldest.{first_point};
@@ -256,34 +256,41 @@ impl<U: Update> Sorted<U> {
         Ok(Sorted { front, rest })
     }
 
-    /// Takes the messages away that lie outside the range from `lo` up to and without `hi`, and says whether that could be: where
-    /// no messages of one key are half gone, and no range-delete stands. On want of memory some of those inside may be gone.
-    pub(crate) fn trim(
-        &mut self,
+    /// The parts of the messages before the pivot, and those from it on, as [`Settled::cut_at`] makes them.
+    pub(crate) fn cut_at(
+        self,
         alloc: Global,
-        lo: &Key,
-        hi: Option<&Key>,
-    ) -> Result<bool, NoMemory>
-        ensures inside { OnOk result (pieces lo.now (option_copied hi.entry) self.new ≡ pieces lo.now (option_copied hi.entry) self.old) }
-        ensures still { IfOk result (λ done. done ≡ false → self.new ≡ self.old) }
+        pivot: &Key,
+    ) -> Result<(Sorted<U>, Sorted<U>), NoMemory>
+        ensures front { IfOk result (λ r. r.0 ≡ pieces [] (Some pivot.now) self) }
+        ensures back { IfOk result (λ r. r.1 ≡ pieces pivot.now None self) }
     {
-        let Some(mut later) = self.split_off(alloc, &Key::new(alloc), lo)? else {
-            return Ok(false);
+        let (before, behind) = sides(self.front, pivot);
+        let (rest, later) = self.rest.cut_at(alloc, pivot)?;
+        let front = Sorted {
+            front: before,
+            rest,
         };
-        later.cut_end(alloc, lo, hi)?;
-        *self = later;
-        Ok(true)
+        let back = Sorted {
+            front: behind,
+            rest: later,
+        };
+        Ok((front, back))
     }
+}
 
-    /// Takes the messages at the end and behind it away, where there is an end and where that can be, as [`Sorted::split_off`] says.
-    fn cut_end(&mut self, alloc: Global, lo: &Key, hi: Option<&Key>) -> Result<(), NoMemory>
-        ensures { OnOk result (pieces lo.now (option_copied hi.entry) self.new ≡ pieces lo.now (option_copied hi.entry) self.old) }
-    {
-        let Some(hi) = hi else {
-            return Ok(());
-        };
-        let _later = self.split_off(alloc, lo, hi)?;
-        Ok(())
+/// The messages that are left of one key on their side of the pivot: before it, or from it on.
+fn sides<U: Update>(front: Option<Left<U>>, pivot: &Key) -> (Option<Left<U>>, Option<Left<U>>)
+    ensures before { left_msgs result.0 ≡ pieces [] (Some pivot.now) (left_msgs front) }
+    ensures behind { left_msgs result.1 ≡ pieces pivot.now None (left_msgs front) }
+{
+    let Some(left) = front else {
+        return (None, None);
+    };
+    if left.key().cmp(pivot).is_lt() {
+        (Some(left), None)
+    } else {
+        (None, Some(left))
     }
 }
 

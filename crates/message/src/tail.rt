@@ -4,6 +4,7 @@
 ghost use Rattle.std.specs.Prelude.{◌≡◌, ◌+◌, ◌^◌, ◌≤◌, ◌<◌, ◌++◌, [], ◌∷◌, true, length, take, drop, IfOk, IfNone, IfSome, OnOk, OnErr};
 ghost use Rattle.std.specs.Option.{option_copied, option_map, option_to_list};
 ghost use Rattle.std.specs.List.{slice_get};
+ghost use Rattle.message.specs.Cuts.{pieces};
 ghost use Rattle.message.specs.Effects.{any_touches, effects, range_count};
 ghost use Rattle.message.specs.Eldest.{eldest_msg};
 ghost use Rattle.message.specs.PointKeys.{is_cleared, IsPointStop};
@@ -11,7 +12,7 @@ ghost use Rattle.message.specs.Stretches.{IsStretch};
 ghost use Rattle.pathkey.specs.Keys.{is_below};
 
 use crate::eldest::Eldest;
-use crate::list::{copy_behind, is_cleared, is_touched, lay_all, ranges_in, share_behind};
+use crate::list::{copy_behind, is_cleared, is_touched, lay_all, ranges_in, share_behind, share_parts};
 use crate::msg::Msg;
 use crate::stretch::{next_point, stretch_end};
 use crate::taken::Taken;
@@ -190,6 +191,24 @@ impl<U: Update> Tail<U> {
         let mut msgs = Vec::new(alloc);
         share_behind(alloc, near, &mut msgs)?;
         share_behind(alloc, far, &mut msgs)?;
+        Ok(Tail {
+            msgs: VecDeque::from_vec(msgs),
+        })
+    }
+
+    /// A tail of the parts of the messages from `lo` up to and without `hi`. Those that lie there whole are shared.
+    pub(crate) fn parts(
+        &self,
+        alloc: Global,
+        lo: &Key,
+        hi: Option<&Key>,
+    ) -> Result<Tail<U>, NoMemory>
+        ensures { IfOk result (λ t. t.0 ≡ pieces lo.now (option_copied hi.entry) self.now.0) }
+    {
+        let (near, far) = self.msgs.as_slices();
+        let mut msgs = Vec::new(alloc);
+        share_parts(alloc, lo, hi, near, &mut msgs)?;
+        share_parts(alloc, lo, hi, far, &mut msgs)?;
         Ok(Tail {
             msgs: VecDeque::from_vec(msgs),
         })

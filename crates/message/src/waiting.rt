@@ -1,9 +1,12 @@
 //! A message as it came, which several lists may hold.
 ghost use Rattle.std.specs.Prelude.{◌≡◌, IfOk, MatchResult};
+ghost use Rattle.std.specs.Option.{option_copied};
+ghost use Rattle.message.specs.Cuts.{cut_to};
 
+use crate::meets::{lies_in, meets};
 use crate::msg::Msg;
 use crate::update::{Changes, Update};
-use pathkey::NoMemory;
+use pathkey::{Key, NoMemory};
 use std::alloc::Global;
 use std::marker::Model;
 use std::sync::Arc;
@@ -67,6 +70,29 @@ impl<U: Update> Waiting<U> {
                 place: Place::Shared(Arc::try_clone(msg)?),
             }),
             Place::Alone(msg) => Ok(Waiting::new(alloc, msg.copy(alloc)?)),
+        }
+    }
+
+    /// The part of the message that lies from `lo` up to and without `hi`, for another list. A message that lies there whole is
+    /// shared.
+    pub(crate) fn part(
+        &self,
+        alloc: Global,
+        lo: &Key,
+        hi: Option<&Key>,
+    ) -> Result<Option<Waiting<U>>, NoMemory>
+        ensures { IfOk result (λ w. w ≡ cut_to lo.now (option_copied hi.entry) self.now) }
+    {
+        let msg = self.msg();
+        if !meets(msg, lo, hi) {
+            return Ok(None);
+        }
+        if lies_in(msg, lo, hi) {
+            return Ok(Some(self.share(alloc)?));
+        }
+        match msg.cut_between(alloc, lo, hi)? {
+            None => Ok(None),
+            Some(part) => Ok(Some(Waiting::new(alloc, part))),
         }
     }
 
