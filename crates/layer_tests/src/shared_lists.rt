@@ -128,6 +128,8 @@ fn cuts_copy_no_message_for_one_key(rt: HostRuntime) {
     let alloc = rt.alloc();
     assert!(rt; is_cut(alloc, list_of_lone(alloc), 100));
     assert!(rt; is_cut(alloc, with_a_range(alloc), 100));
+    assert!(rt; is_cut(alloc, with_a_tail(alloc), 100));
+    assert!(rt; is_cut(alloc, half_gone(alloc), 100));
 }
 
 /// Whether all messages of a list move behind those of another.

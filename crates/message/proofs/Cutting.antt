@@ -1,20 +1,24 @@
 -- Lists that are cut at a pivot.
-use Rattle.std.proofs.Common.{◌≡◌, ◌+◌, ◌≤◌, ℕ, Bool, true, false, List, [], ◌∷◌, ◌++◌, length, refl, ap, sym, ◌∙◌, subst, Option, Some, None, cond, arith, append-nil, length-append}
+use Rattle.std.proofs.Common.{◌≡◌, ◌+◌, ◌≤◌, ℕ, Bool, true, false, List, [], ◌∷◌, ◌++◌, length, get_or, refl, ap, sym, ◌∙◌, subst, Option, Some, None, cond, arith, append-nil, length-append}
 use Rattle.std.specs.Prelude.{is_some, ◌&&◌}
 use Rattle.std.specs.Option.{option_to_list}
 use Rattle.std.specs.List.{All}
+use Rattle.std.specs.Map.{keys_of}
 use Rattle.std.proofs.lemmas.Bool.{false_from_ne_true}
 use Rattle.std.proofs.lemmas.List.Elements.{All-head, All-tail}
 use Rattle.pathkey.specs.Keys.{is_below}
+use Rattle.pathkey.specs.declared.range.KeyRange.{KeyRange}
 use Rattle.message.specs.declared.msg.Msg.{Msg}
 use Rattle.message.specs.declared.msg.Msg.TheVariants.{Put, Del, DelRange, Edit}
-use Rattle.message.specs.Cuts.{cut_range, cut_to, pieces, IsUpTo, LieIn, LieOut}
+use Rattle.message.specs.Cuts.{cut_range, cut_to, pieces, IsUpTo, IsParted, LieIn, LieOut}
 use Rattle.message.specs.Effects.{point, range_count}
 use Rattle.message.specs.Ranges.{within, reaches, before, later_key, earlier_end, ends_within}
+use Rattle.message.specs.Settled.{Span, range_msgs, point_msgs}
+use Rattle.message.specs.declared.run.Run.{Run}
 use Rattle.message.proofs.CuttingRanges.{later_start, later_same}
 use Rattle.message.proofs.KeyOrder.{both, from_start, reaches-from_not_before, not_before_from_reaches, not_reaches_from_before, begins_before_end}
-use Rattle.message.proofs.Parting.{pieces-append, pieces-in, pieces-out, second_false}
-use Rattle.message.proofs.SettledMeaning.{split_bool}
+use Rattle.message.proofs.Parting.{entries_parted, front_part, back_part, pieces-append, pieces-in, pieces-out, second_false}
+use Rattle.message.proofs.SettledMeaning.{split_bool, length-ranges}
 
 -- ---- a range-delete that lies in a range whole
 
@@ -30,13 +34,13 @@ below_before lo k h b = split_bool (before lo k)
     (λ n. begins_before_end k lo h (reaches-from_not_before lo k n) (subst (λ c. is_below (cond c k lo) h ≡ true) n b))
 
 module _ {U V : Type 0} where
-  pub whole_range : (lo : List ℕ) (hi : Option (List ℕ)) (low : List ℕ) (high : Option (List ℕ)) → is_some (cut_to {U = U} {V = V} lo hi (DelRange (record { lo = low; hi = high }))) ≡ true → (reaches lo low && ends_within high hi) ≡ true → cut_to {U = U} {V = V} lo hi (DelRange (record { lo = low; hi = high })) ≡ Some (DelRange (record { lo = low; hi = high }))
-  whole_range lo hi low high s w =
-      let r = both (reaches lo low) (ends_within high hi) w in
-      let made : cut_to {U = U} {V = V} lo hi (DelRange (record { lo = low; hi = high })) ≡ cut_range low high = ap (λ x. cut_range x (earlier_end hi high)) (later_same lo low r.0) ∙ ap (λ x. cut_range low x) (lies_by high hi r.1) in
-      made ∙ split_bool (is_below low high)
-      (λ y. ap (λ c. cond c (Some (DelRange (record { lo = low; hi = high }))) None) y)
-      (λ n. absurd (let no : false ≡ true = sym (ap (λ t. is_some t) (made ∙ ap (λ c. cond c (Some (DelRange (record { lo = low; hi = high }))) None) n)) ∙ s in cc))
+  pub whole_range : (lo : List ℕ) (hi : Option (List ℕ)) (r : KeyRange) → is_some (cut_to {U = U} {V = V} lo hi (DelRange r)) ≡ true → (reaches lo r.lo && ends_within r.hi hi) ≡ true → cut_to {U = U} {V = V} lo hi (DelRange r) ≡ Some (DelRange r)
+  whole_range lo hi r s w =
+      let p = both (reaches lo r.lo) (ends_within r.hi hi) w in
+      let made : cut_to {U = U} {V = V} lo hi (DelRange r) ≡ cond (is_below r.lo r.hi) (Some (DelRange r)) None = ap (λ x. cut_range x (earlier_end hi r.hi)) (later_same lo r.lo p.0) ∙ ap (λ x. cut_range r.lo x) (lies_by r.hi hi p.1) in
+      made ∙ split_bool (is_below r.lo r.hi)
+      (λ y. ap (λ c. cond c (Some (DelRange r)) None) y)
+      (λ n. absurd (let no : false ≡ true = sym (ap (λ t. is_some t) (made ∙ ap (λ c. cond c (Some (DelRange r)) None) n)) ∙ s in cc))
 
   -- ---- a part of a part
 
@@ -58,7 +62,7 @@ module _ {U V : Type 0} where
   part_twice lo hi (DelRange r) =
       let end = earlier_end (Some hi) r.hi in
       let low = later_key lo r.lo in
-      ap (λ k. pieces lo None (option_to_list (cut_range k end))) (later_start r.lo)
+      ap (λ k. pieces lo None (option_to_list (cut_range {U = U} {V = V} k end))) (later_start r.lo)
       ∙ split_bool (is_below r.lo end)
       (λ y.
         ap (λ b. pieces lo None (option_to_list (cond b (Some (DelRange (record { lo = r.lo; hi = end }))) None))) y
@@ -132,3 +136,27 @@ module _ {U V : Type 0} where
 
     pub left_behind : before q p ≡ false → ms ≡ pieces p None ms
     left_behind h = sym (pieces-in p None ms (all_in p None ms q (ap (λ b. b && true) (reaches-from_not_before q p h)) a))
+
+  -- ---- lists end to end
+
+  pub both_parts : (lo : List ℕ) (hi : Option (List ℕ)) (xs ys bs cs whole : List (Msg U V)) → bs ≡ pieces lo hi xs → cs ≡ pieces lo hi ys → xs ++ ys ≡ whole → bs ++ cs ≡ pieces lo hi whole
+  both_parts lo hi xs ys bs cs whole b c w = ap (λ t. t ++ cs) b ∙ ap (λ t. pieces lo hi xs ++ t) c ∙ sym (pieces-append lo hi xs ys) ∙ ap (λ t. pieces lo hi t) w
+
+  -- parts of what holds few messages are few
+  pub parts_small : (lo : List ℕ) (hi : Option (List ℕ)) (n : ℕ) (xs ys bs cs whole : List (Msg U V)) → bs ≡ pieces lo hi xs → cs ≡ pieces lo hi ys → xs ++ ys ≡ whole → length whole ≤ n → length (bs ++ cs) ≤ n
+  parts_small lo hi n xs ys bs cs whole b c w l = omega (arith, l, pieces_few lo hi whole, ap (λ t. length t) (both_parts lo hi xs ys bs cs whole b c w))
+
+  -- ---- points on both sides of the pivot
+
+  module _ (p : List ℕ) (all es fs : List (List ℕ × Run U V)) (e : all ≡ es ++ fs) (low : All (λ k. before k p ≡ true) (keys_of es)) (high : All (λ k. reaches p k ≡ true) (keys_of fs)) where
+    points_parted : IsParted [] p (point_msgs all) (point_msgs es) (point_msgs fs)
+    points_parted = entries_parted [] p all es fs e (λ i d h. from_start (get_or (keys_of all) i d)) low high
+
+    pub points_front : point_msgs es ≡ pieces [] (Some p) (point_msgs all)
+    points_front = front_part [] p (point_msgs all) (point_msgs es) (point_msgs fs) points_parted
+
+    pub points_back : point_msgs fs ≡ pieces p None (point_msgs all)
+    points_back = back_part [] p (point_msgs all) (point_msgs es) (point_msgs fs) points_parted
+
+pub ranges_few : (U V : Type 0) (lo : List ℕ) (hi : Option (List ℕ)) (rs ss : List Span) → range_msgs {U = U} {V = V} ss ≡ pieces lo hi (range_msgs rs) → length ss ≤ length rs
+ranges_few U V lo hi rs ss e = omega (arith, length-ranges U V ss, length-ranges U V rs, ap (λ t. length t) e, pieces_few lo hi (range_msgs {U = U} {V = V} rs))
