@@ -36,3 +36,11 @@ module _ {U V : Type 0} (means : U → Option V → Option V) where
   -- likewise after several messages more
   pub takes-on : (xs rest a b old all : List (Msg U V)) → Takes means a xs b → ((c : List (Msg U V)) → Takes means a (xs ++ rest) c → Takes means old all c) → (c : List (Msg U V)) → Takes means b rest c → Takes means old all c
   takes-on xs rest a b old all s f c t = f c (takes-then a xs b rest c s t)
+
+  -- what takes a list that means the same as messages takes those messages
+  pub takes-instead : (a x y b : List (Msg U V)) → Takes means [] x y → Takes means a y b → Takes means a x b
+  takes-instead a x y b s t = record {
+    meaning = λ k v. t.meaning k v ∙ s.meaning k (effects means a k v);
+    bound = omega (arith, s.bound, t.bound);
+    touched = λ k h g. t.touched k h (s.touched k refl g);
+  }

@@ -17,8 +17,8 @@ pub mod CountingRanges
 pub mod Telling
 pub mod NextKey
 pub mod Parting
-pub mod Between
 pub mod Taking
+pub mod Sides
 pub mod StretchEnds
 pub mod Searching
 pub mod SortedStretches
@@ -31,5 +31,14 @@ pub mod PointRows
 pub mod Dividing
 pub mod LastEntries
 pub mod RangeRows
+pub mod CuttingRanges
+pub mod Cutting
 pub mod Moving
+pub mod MovingRanges
 pub mod LeftFacts
+pub mod Welding
+pub mod EarlierEnds
+pub mod RunCopies
+pub mod EldestEnds
+pub mod Joining
+pub mod SideBySide

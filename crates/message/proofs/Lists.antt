@@ -1,8 +1,11 @@
 -- Lists of messages end to end.
-use Rattle.std.proofs.Common.{ℕ, ◌+◌, ◌<◌, ◌≡◌, refl, sym, ap, ◌∙◌, List, [], ◌∷◌, ◌++◌, length, take, get_or, false, Option, arith, length-append}
+use Rattle.std.proofs.Common.{ℕ, ◌+◌, ◌<◌, ◌≡◌, refl, sym, ap, ◌∙◌, List, [], ◌∷◌, ◌++◌, length, take, get_or, false, ◌||◌, Option, Some, arith, subst, length-append}
 use Rattle.std.proofs.lemmas.Bool.{or_parts, or_from}
 use Rattle.std.proofs.lemmas.List.{take_more}
+use Rattle.std.specs.List.{list_any}
 use Rattle.message.specs.declared.msg.Msg.{Msg}
+use Rattle.message.specs.Cuts.{cut_to, LieIn}
+use Rattle.message.specs.PointKeys.{clears, is_cleared}
 use Rattle.message.specs.Effects.{touches, any_touches, effect, effects, Takes}
 
 module _ {U V : Type 0} where
@@ -32,3 +35,22 @@ module _ {U V : Type 0} (means : U → Option V → Option V) where
   -- one turn of a loop over the messages
   pub effects_turn : (xs : List (Msg U V)) (i : ℕ) (d : Msg U V) (k : List ℕ) (o w v : Option V) → i < length xs → d ≡ get_or xs i d → w ≡ effects means (take i xs) k o → v ≡ effect means d k w → v ≡ effects means (take (i + 1) xs) k o
   effects_turn xs i d k o w v h e f g = effects_more xs i d k o v h (g ∙ ap (λ x. effect means x k w) e ∙ ap (λ x. effect means (get_or xs i d) k x) f)
+
+-- ---- tests of all messages of a list
+
+module _ {U V : Type 0} where
+  pub any_touched : (ms : List (Msg U V)) (k : List ℕ) → list_any (λ m. touches m k) ms ≡ any_touches ms k
+  any_touched [] k = refl
+  any_touched (m ∷ ms) k = ap (λ b. touches m k || b) (any_touched ms k)
+
+  pub any_cleared : (ms : List (Msg U V)) (k : List ℕ) → list_any (λ m. clears m k) ms ≡ is_cleared ms k
+  any_cleared [] k = refl
+  any_cleared (m ∷ ms) k = ap (λ b. clears m k || b) (any_cleared ms k)
+
+  lies_more : (lo : List ℕ) (hi : Option (List ℕ)) (xs : List (Msg U V)) (x : Msg U V) → LieIn lo hi xs → cut_to lo hi x ≡ Some x → LieIn lo hi (xs ++ x ∷ [])
+  lies_more lo hi [] x h e = (e, tt)
+  lies_more lo hi (y ∷ xs) x h e = (h.0, lies_more lo hi xs x h.1 e)
+
+  -- one turn of a loop over the messages
+  pub lies_turn : (lo : List ℕ) (hi : Option (List ℕ)) (xs : List (Msg U V)) (i : ℕ) (d : Msg U V) → i < length xs → d ≡ get_or xs i d → LieIn lo hi (take i xs) → cut_to lo hi d ≡ Some d → LieIn lo hi (take (i + 1) xs)
+  lies_turn lo hi xs i d h e g c = subst (λ ys. LieIn lo hi ys) (sym (take_more xs i d h ∙ ap (λ y. take i xs ++ y ∷ []) (sym e))) (lies_more lo hi (take i xs) d g c)

@@ -22,7 +22,7 @@ use Rattle.message.proofs.KeyOrder.{not_reaches_from_before, not_before_from_rea
 both_true : (b c : Bool) → b ≡ true → c ≡ true → (b && c) ≡ true
 both_true b c g h = ap (λ a. a && c) g ∙ h
 
-second_false : (b c : Bool) → c ≡ false → (b && c) ≡ false
+pub second_false : (b c : Bool) → c ≡ false → (b && c) ≡ false
 second_false true c h = h
 second_false false c h = refl
 
@@ -91,6 +91,24 @@ module _ {U V : Type 0} where
   drop_least (suc n) (suc k) [] l h = refl
   drop_least (suc n) (suc k) (x ∷ xs) l h = drop_least n k xs (omega arith) (λ less. (let m : length (x ∷ xs) ≤ suc k = h (omega (arith, less)) in omega (arith, m)))
 
+  -- ---- a parted list
+
+  pub front_part : (lo pivot : List ℕ) (all front back : List (Msg U V)) → IsParted lo pivot all front back → front ≡ pieces lo (Some pivot) all
+  front_part lo pivot all front back h =
+      let hi = Some pivot in
+      sym (ap (λ t. pieces lo hi t) h.parts
+      ∙ pieces-append lo hi front back
+      ∙ ap (λ t. pieces lo hi front ++ t) (pieces-out lo hi back h.back_out)
+      ∙ append-nil (pieces lo hi front)
+      ∙ pieces-in lo hi front h.front_in)
+
+  pub back_part : (lo pivot : List ℕ) (all front back : List (Msg U V)) → IsParted lo pivot all front back → back ≡ pieces pivot None all
+  back_part lo pivot all front back h =
+      sym (ap (λ t. pieces pivot None t) h.parts
+      ∙ pieces-append pivot None front back
+      ∙ ap (λ t. t ++ pieces pivot None back) (pieces-out pivot None front h.front_out)
+      ∙ pieces-in pivot None back h.back_in)
+
   -- ---- what is left of a parted list without its oldest messages
 
   pub front_left : (lo pivot : List ℕ) (all front back : List (Msg U V)) (n : ℕ) → IsParted lo pivot all front back → drop n front ≡ pieces lo (Some pivot) (drop n all)
@@ -127,7 +145,7 @@ module _ {U V : Type 0} where
   run_out lo hi k (Edit u) h = (ap (λ b. cond b (Some (msg.Edit k u)) None) h, tt)
   run_out lo hi k (Edits b) h = (ap (λ c. cond c (Some (msg.Edit k b.value.first)) None) h, later_out V lo hi k b.value.more.items h)
 
-  in_both : (lo : List ℕ) (hi : Option (List ℕ)) (xs ys : List (Msg U V)) → LieIn lo hi xs → LieIn lo hi ys → LieIn lo hi (xs ++ ys)
+  pub in_both : (lo : List ℕ) (hi : Option (List ℕ)) (xs ys : List (Msg U V)) → LieIn lo hi xs → LieIn lo hi ys → LieIn lo hi (xs ++ ys)
   in_both lo hi [] ys a b = b
   in_both lo hi (x ∷ xs) ys a b = (a.0, in_both lo hi xs ys a.1 b)
 
@@ -135,7 +153,7 @@ module _ {U V : Type 0} where
   out_both lo hi [] ys a b = b
   out_both lo hi (x ∷ xs) ys a b = (a.0, out_both lo hi xs ys a.1 b)
 
-  points_in : (lo : List ℕ) (hi : Option (List ℕ)) (es : List (List ℕ × Run U V)) → All (λ k. within lo hi k ≡ true) (keys_of es) → LieIn lo hi (point_msgs es)
+  pub points_in : (lo : List ℕ) (hi : Option (List ℕ)) (es : List (List ℕ × Run U V)) → All (λ k. within lo hi k ≡ true) (keys_of es) → LieIn lo hi (point_msgs es)
   points_in lo hi [] h = tt
   points_in lo hi (e ∷ es) h = in_both lo hi (run_msgs e.0 e.1) (point_msgs es) (run_in lo hi e.0 e.1 (All-head (λ k. within lo hi k ≡ true) e.0 (keys_of es) h)) (points_in lo hi es (All-tail (λ k. within lo hi k ≡ true) e.0 (keys_of es) h))
 
@@ -148,7 +166,7 @@ module _ {U V : Type 0} where
   keys_append : (es fs : List (List ℕ × Run U V)) → keys_of (es ++ fs) ≡ keys_of es ++ keys_of fs
   keys_append es fs = map-append (λ (e : List ℕ × Run U V). e.0) es fs
 
-  msgs_append : (es fs : List (List ℕ × Run U V)) → point_msgs (es ++ fs) ≡ point_msgs es ++ point_msgs fs
+  pub msgs_append : (es fs : List (List ℕ × Run U V)) → point_msgs (es ++ fs) ≡ point_msgs es ++ point_msgs fs
   msgs_append [] fs = refl
   msgs_append (e ∷ es) fs = ap (λ t. run_msgs e.0 e.1 ++ t) (msgs_append es fs) ∙ sym (append_assoc (run_msgs e.0 e.1) (point_msgs es) (point_msgs fs))
 

@@ -9,7 +9,6 @@ use Rattle.std.proofs.lemmas.List.Sums.{sum_by-cons}
 use Rattle.std.proofs.lemmas.Map.{lookup-set_value}
 use Rattle.std.proofs.lemmas.Result.{IfOk-weaker, IfErr-weaker}
 use Rattle.pathkey.specs.Order.{by_bytes, by_bytes_equiv, same}
-use Rattle.message.specs.declared.msg.Msg.{Msg}
 use Rattle.message.specs.declared.run.Run.{Run}
 use Rattle.message.specs.declared.run.Run.TheVariants.{Edit}
 use Rattle.message.specs.Rows.{Rises, at_key, is_there}
@@ -59,20 +58,13 @@ module _ {U V : Type 0} where
 
   -- ---- one run after the other
 
-  next_is : (es : List (List ℕ × Run U V)) (i : ℕ) (p : List ℕ × Run U V) → i < length es → p ≡ get_or es i p → drop i es ≡ p ∷ drop (i + 1) es
+  pub next_is : (es : List (List ℕ × Run U V)) (i : ℕ) (p : List ℕ × Run U V) → i < length es → p ≡ get_or es i p → drop i es ≡ p ∷ drop (i + 1) es
   next_is es i p l a = drop_more es i p l ∙ ap (λ (y : List ℕ × Run U V). y ∷ drop (i + 1) es) (sym a)
 
   pub counted_next : (es : List (List ℕ × Run U V)) (i : ℕ) (p : List ℕ × Run U V) → i < length es → p ≡ get_or es i p → point_count (drop i es) ≡ run_len p.1 + point_count (drop (i + 1) es)
   counted_next es i p l a =
       let one : point_count (drop i es) ≡ point_count (p ∷ drop (i + 1) es) = ap (λ (t : List (List ℕ × Run U V)). point_count t) (next_is es i p l a) in
       omega (arith, one, sum_by-cons run_len p.1 (values_of (drop (i + 1) es)))
-
-  pub copied_next : (n : ℕ) (es : List (List ℕ × Run U V)) (i : ℕ) (p : List ℕ × Run U V) (front new t : List (Msg U V)) → i < length es → p ≡ get_or es i p → take n (front ++ point_msgs (drop i es)) ≡ t → new ≡ front ++ run_msgs p.0 p.1 → take n (new ++ point_msgs (drop (i + 1) es)) ≡ t
-  copied_next n es i p front new t l a h is =
-      ap (λ (f : List (Msg U V)). take n (f ++ point_msgs (drop (i + 1) es))) is
-      ∙ ap (λ (ms : List (Msg U V)). take n ms) (append_assoc front (run_msgs p.0 p.1) (point_msgs (drop (i + 1) es)))
-      ∙ ap (λ (fs : List (List ℕ × Run U V)). take n (front ++ point_msgs fs)) (sym (next_is es i p l a))
-      ∙ h
 
   module _ (means : U → Option V → Option V) where
     -- a new run

@@ -199,7 +199,7 @@ module _ {X : Type 0} where
 -- ---- copies
 
 module _ {U V : Type 0} where
-  range_msgs-append : (rs ss : List Span) → range_msgs {U = U} {V = V} (rs ++ ss) ≡ range_msgs rs ++ range_msgs ss
+  pub range_msgs-append : (rs ss : List Span) → range_msgs {U = U} {V = V} (rs ++ ss) ≡ range_msgs rs ++ range_msgs ss
   range_msgs-append [] ss = refl
   range_msgs-append (r ∷ rs) ss = ap (λ t. DelRange (range_of r) ∷ t) (range_msgs-append rs ss)
 

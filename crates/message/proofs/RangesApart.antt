@@ -160,7 +160,7 @@ rest_covered lo hi (e ∷ es) q a h = elim (is_outside lo hi e) as (λ c. is_out
 
 -- ---- a range more, in the place of those that begin inside it
 
-begin_insert : (h : Option (List ℕ)) (es : List Span) (lo : List ℕ) (hi : Option (List ℕ)) → ends_by h lo ≡ true → BeginFrom h es → BeginFrom h (insert_entry by_bytes es lo hi)
+pub begin_insert : (h : Option (List ℕ)) (es : List Span) (lo : List ℕ) (hi : Option (List ℕ)) → ends_by h lo ≡ true → BeginFrom h es → BeginFrom h (insert_entry by_bytes es lo hi)
 begin_insert h [] lo hi x b = (x, tt)
 begin_insert h (e ∷ es) lo hi x b = elim (by_bytes lo e.0) as (λ o. BeginFrom h (match_ordering o ((lo, hi) ∷ e ∷ es) ((e.0, hi) ∷ es) (e ∷ insert_entry by_bytes es lo hi))) [
   | Less ↦ (x, b)

@@ -17,7 +17,7 @@ use Rattle.message.proofs.RowFacts.{all_ahead, none_ahead, rises_put}
 use Rattle.std.specs.Option.{option_map}
 use Rattle.message.proofs.RowChanges.{rises_right}
 
-less_from_lt : (o : Ordering) → is_lt o ≡ true → o ≡ Less
+pub less_from_lt : (o : Ordering) → is_lt o ≡ true → o ≡ Less
 less_from_lt Less h = refl
 less_from_lt Equal h = (cc)
 less_from_lt Greater h = (cc)

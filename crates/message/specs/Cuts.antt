@@ -1,5 +1,5 @@
 -- The part of a message that lies in a range.
-use Rattle.std.specs.Prelude.{◌≡◌, ℕ, true, false, if◌then◌else◌, List, [], ◌∷◌, ◌++◌, Option, Some, None}
+use Rattle.std.specs.Prelude.{◌≡◌, ◌≤◌, ◌+◌, ℕ, length, true, false, if◌then◌else◌, List, [], ◌∷◌, ◌++◌, Option, Some, None}
 use Rattle.std.specs.Option.{option_to_list}
 use Rattle.pathkey.specs.Keys.{is_below, is_in}
 use Rattle.pathkey.specs.declared.range.KeyRange.{KeyRange}
@@ -26,6 +26,11 @@ module _ {U V : Type 0} where
   pieces lo hi (m ∷ ms) = option_to_list (cut_to lo hi m) ++ pieces lo hi ms
 
 module _ {U V : Type 0} where
+  -- the parts of messages before an end, or where there is none the messages
+  abbrev pub IsUpTo : Option (List ℕ) → List (Msg U V) → List (Msg U V) → Type 0
+  IsUpTo None all ms = ms ≡ all
+  IsUpTo (Some hi) all ms = ms ≡ pieces [] (Some hi) all
+
   -- each message lies whole in the range
   abbrev pub LieIn : List ℕ → Option (List ℕ) → List (Msg U V) → Type 0
   LieIn lo hi [] = Unit {0}
@@ -43,6 +48,12 @@ module _ {U V : Type 0} where
     pub front_out : LieOut pivot None front
     pub back_in : LieIn pivot None back
     pub back_out : LieOut lo (Some pivot) back
+
+  -- a list whose messages before the pivot are those of the one list, and from it on those of the other
+  pub record IsJoined (pivot : List ℕ) (front back all : List (Msg U V)) : Type 0 where
+    pub front_is : pieces [] (Some pivot) all ≡ front
+    pub back_is : pieces pivot None all ≡ back
+    pub bound : length all ≤ length front + length back
 
 -- a piece has the message's effect at each key of the range, and touches no key outside it
 pub record IsCut {U V : Type 0} (means : U → Option V → Option V) (m : Msg U V) (range : KeyRange) (piece : Option (Msg U V)) : Type 0 where

@@ -11,4 +11,5 @@ pub mod Search
 pub mod Oldests
 pub mod Eldest
 pub mod Rows
+pub mod Parts
 pub mod Waiting

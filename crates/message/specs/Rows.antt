@@ -116,11 +116,6 @@ module _ {X : Type 0} where
     pub rises : Rises (joined rs)
     pub later : LaterFilled rs
 
-  -- such rows, and how many entries they have
-  pub record AreCounted (rs : List (List (List ℕ × X))) (count : ℕ) : Type 0 where
-    pub rows : AreRows rs
-    pub counted : count ≡ length (joined rs)
-
   -- the rows from this number on stand behind the end
   abbrev pub IsEndRow : Option (List ℕ) → List (List (List ℕ × X)) → ℕ → Type 0
   IsEndRow None rs i = length rs ≤ i

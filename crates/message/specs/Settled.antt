@@ -13,7 +13,7 @@ use Rattle.message.specs.declared.told.Told.TheVariants.{Nothing, Value, Change}
 use Rattle.pathkey.specs.Keys.{is_below}
 use Rattle.message.specs.Ranges.{reaches, before, within, ends_within}
 use Rattle.message.specs.Stretches.{ahead_of}
-use Rattle.message.specs.Rows.{IsWritten}
+use Rattle.message.specs.Rows.{joined, AreRows, IsWritten}
 use Rattle.message.specs.Runs.{run_msgs, run_len, run_effect, IsRunKeyed}
 
 -- ---- ranges, each as its low end with its high end
@@ -43,6 +43,22 @@ BeginFrom h (e ∷ rs) = (ends_by h e.0 ≡ true) × BeginFrom h rs
 abbrev pub AreApart : List Span → Type 0
 AreApart [] = Unit {0}
 AreApart (e ∷ rs) = BeginFrom e.1 rs × AreApart rs
+
+-- each range holds a key
+abbrev pub AreSome : List Span → Type 0
+AreSome [] = Unit {0}
+AreSome (e ∷ rs) = (is_below e.0 e.1 ≡ true) × AreSome rs
+
+-- such ranges in rows, and how many they are
+pub record AreRanges (rs : List (List Span)) (count : ℕ) : Type 0 where
+  pub rows : AreRows rs
+  pub counted : count ≡ length (joined rs)
+  pub some : AreSome (joined rs)
+
+-- the range, where it ends behind the key
+abbrev pub over : List ℕ → Option Span → Option Span
+over k None = None
+over k (Some e) = if is_below k e.1 then Some e else None
 
 module _ {U V : Type 0} where
   abbrev pub range_msgs : List Span → List (Msg U V)

@@ -1,7 +1,7 @@
 //! What is left of the messages of one key, the first of which have left.
 //!
 //! The messages stand in an item that other lists may share, so none is taken out of it: it is counted how many are gone.
-ghost use Rattle.std.specs.Prelude.{◌≡◌, ◌++◌, ◌<◌, ◌≤◌, length, drop, List, Some, OnOk, IfOk};
+ghost use Rattle.std.specs.Prelude.{◌≡◌, ◌++◌, ◌<◌, ◌≤◌, length, take, drop, List, Some, OnOk, IfOk};
 ghost use Rattle.std.specs.List.{All, slice_get};
 ghost use Rattle.message.specs.Effects.{effects, point, range_count};
 ghost use Rattle.message.specs.Eldest.{eldest_msg};
@@ -94,16 +94,21 @@ impl<U: Update> Left<U> {
         apply_later(alloc, run.later(self.gone), old)
     }
 
-    /// Copies of them, put behind the messages in `to`.
-    pub(crate) fn copy_into(&self, alloc: Global, to: &mut Vec<Msg<U>>) -> Result<(), NoMemory>
-        ensures { OnOk result (to.new.items ≡ to.old.items ++ self.now) }
+    /// Copies of them, put behind the messages in `to`, until it has so many.
+    pub(crate) fn copy_into(
+        &self,
+        alloc: Global,
+        count: usize,
+        to: &mut Vec<Msg<U>>,
+    ) -> Result<(), NoMemory>
+        ensures { OnOk result (take count to.new.items ≡ take count (to.old.items ++ self.now)) }
     {
         let key = self.item.key();
         let run = self.item.value();
         if self.gone == 0 {
-            return run.copy_into(alloc, key, to);
+            return run.copy_into(alloc, key, count, to);
         }
-        copy_later(alloc, key, run.later(self.gone), to)
+        copy_later(alloc, key, run.later(self.gone), count, to)
     }
 
     /// The same messages, which both share.

@@ -12,6 +12,7 @@ pub(crate) mod list;
 pub mod meets;
 pub mod msg;
 pub(crate) mod nearest;
+pub mod part;
 pub mod pending;
 pub(crate) mod points;
 pub(crate) mod ranges;

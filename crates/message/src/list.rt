@@ -1,11 +1,11 @@
 //! Messages as they came, the oldest first, with no order of their keys.
-ghost use Rattle.std.specs.Prelude.{◌≡◌, ◌≤◌, ◌++◌, length, IfOk, OnOk};
+ghost use Rattle.std.specs.Prelude.{◌≡◌, true, ◌≤◌, ◌++◌, length, IfOk, OnOk};
 ghost use Rattle.std.specs.Option.{option_copied};
-ghost use Rattle.message.specs.Cuts.{pieces};
+ghost use Rattle.message.specs.Cuts.{LieIn};
 ghost use Rattle.message.specs.Effects.{any_touches, effects, range_count};
 ghost use Rattle.message.specs.PointKeys.{is_cleared};
 
-use crate::msg::{Msg, clears, touches};
+use crate::msg::Msg;
 use crate::update::Update;
 use crate::waiting::Waiting;
 use pathkey::{Key, NoMemory};
@@ -15,20 +15,14 @@ use std::alloc::Global;
 pub(crate) fn is_touched<U: Update>(msgs: &[Waiting<U>], key: &Key) -> bool
     ensures { result ≡ any_touches msgs.now key.now }
 {
-    let Some((first, rest)) = msgs.split_first() else {
-        return false;
-    };
-    touches(first.msg(), key) || is_touched(rest, key)
+    msgs.iter().any(|waiting| waiting.eldest().touches(key))
 }
 
 /// Whether a range-delete among the messages holds the key.
 pub(crate) fn is_cleared<U: Update>(msgs: &[Waiting<U>], key: &Key) -> bool
     ensures { result ≡ is_cleared msgs.now key.now }
 {
-    let Some((first, rest)) = msgs.split_first() else {
-        return false;
-    };
-    clears(first.msg(), key) || is_cleared(rest, key)
+    msgs.iter().any(|waiting| waiting.eldest().clears(key))
 }
 
 /// How many of the messages are range-deletes.
@@ -38,29 +32,11 @@ pub(crate) fn ranges_in<U: Update>(msgs: &[Waiting<U>]) -> usize
 {
     let mut count = 0;
     for waiting in msgs {
-        if let Msg::DelRange(_) = waiting.msg() {
+        if waiting.eldest().is_range() {
             count += 1;
         }
     }
     count
-}
-
-/// The parts of messages from `lo` up to and without `hi`, in their order.
-pub(crate) fn pieces_of<U: Update>(
-    alloc: Global,
-    lo: &Key,
-    hi: Option<&Key>,
-    msgs: &[Msg<U>],
-) -> Result<Vec<Msg<U>>, NoMemory>
-    ensures { IfOk result (λ v. v.items ≡ pieces lo.now (option_copied hi.entry) msgs.now) }
-{
-    let mut found = Vec::new(alloc);
-    for msg in msgs {
-        if let Some(piece) = msg.cut_between(alloc, lo, hi)? {
-            found.push(piece)?;
-        }
-    }
-    Ok(found)
 }
 
 /// The value at `key` after the messages, the oldest first, where `old` was there.
@@ -74,7 +50,7 @@ pub(crate) fn lay_all<U: Update>(
 {
     let mut value = old;
     for waiting in msgs {
-        value = waiting.msg().lay(alloc, key, value)?;
+        value = waiting.eldest().lay(alloc, key, value)?;
     }
     Ok(value)
 }
@@ -88,7 +64,7 @@ pub(crate) fn copy_behind<U: Update>(
     ensures { OnOk result (front.new.items ≡ front.old.items ++ msgs.now) }
 {
     for waiting in msgs {
-        front.push(waiting.msg().copy(alloc)?)?;
+        front.push(waiting.eldest().copy(alloc)?)?;
     }
     Ok(())
 }
@@ -105,4 +81,16 @@ pub(crate) fn share_behind<U: Update>(
         back.push(waiting.share(alloc)?)?;
     }
     Ok(())
+}
+
+/// Whether each message lies whole from `lo` up to and without `hi`; `None` is no end.
+pub(crate) fn lie_in<U: Update>(msgs: &[Waiting<U>], lo: &Key, hi: Option<&Key>) -> bool
+    ensures { result ≡ true → LieIn lo.now (option_copied hi.entry) msgs.now }
+{
+    for waiting in msgs {
+        if !waiting.eldest().lies_in(lo, hi) {
+            return false;
+        }
+    }
+    true
 }

@@ -1,5 +1,5 @@
 //! Whether a message has a part in a range, and whether it is a range-delete of all of it.
-ghost use Rattle.std.specs.Prelude.{◌≡◌, ◌&&◌, ◌∷◌, [], is_some};
+ghost use Rattle.std.specs.Prelude.{◌≡◌, ◌&&◌, ◌∷◌, [], true, Some, is_some};
 ghost use Rattle.std.specs.Option.{option_copied};
 ghost use Rattle.message.specs.Cuts.{cut_to};
 ghost use Rattle.message.specs.Oldest.{covers_first};
@@ -27,6 +27,25 @@ pub fn meets<U: Update>(msg: &Msg<U>, lo: &Key, hi: Option<&Key>) -> bool
         Msg::DelRange(range) => overlaps(&range.lo, range.hi.as_ref(), lo, hi),
         Msg::Put(key, _) | Msg::Del(key) | Msg::Edit(key, _) => is_within(key, lo, hi),
     }
+}
+
+/// Whether the message lies whole from `lo` up to and without `hi`; `None` is no end.
+pub(crate) fn lies_in<U: Update>(msg: &Msg<U>, lo: &Key, hi: Option<&Key>) -> bool
+    ensures { result ≡ true → cut_to lo.now (option_copied hi.entry) msg.now ≡ Some msg.now }
+{
+    match msg {
+        Msg::DelRange(range) => holds_part(lo, hi, &range.lo, range.hi.as_ref()),
+        Msg::Put(key, _) | Msg::Del(key) | Msg::Edit(key, _) => is_within(key, lo, hi),
+    }
+}
+
+/// Whether a range has keys and all of them lie from `lo` up to and without `hi`; `None` is no end.
+pub(crate) fn holds_part(lo: &Key, hi: Option<&Key>, low: &Key, high: Option<&Key>) -> bool
+    ensures some { result ≡ true → is_below low.now (option_copied high.entry) ≡ true }
+    ensures low { result ≡ true → later_key lo.now low.now ≡ low.now }
+    ensures high { result ≡ true → earlier_end (option_copied hi.entry) (option_copied high.entry) ≡ option_copied high.entry }
+{
+    is_before_end(low, high) && reaches_over(lo, hi, low, high)
 }
 
 /// Whether the end stands at or before the end `most`; `None` is no end.

@@ -5,8 +5,10 @@ ghost use Rattle.message.specs.Effects.{touches as is_touched, effect, point as 
 ghost use Rattle.message.specs.Cuts.{cut_range, cut_to, IsCut};
 ghost use Rattle.message.specs.Oldest.{given_at};
 ghost use Rattle.message.specs.PointKeys.{clears};
+ghost use Rattle.message.specs.Ranges.{earlier_end, later_key};
 
 use crate::ends::{earlier_end, is_within, later_key};
+use crate::meets::overlaps;
 use crate::update::{Changes, Update};
 use pathkey::{Key, KeyRange, NoMemory};
 use std::alloc::Global;
@@ -86,11 +88,7 @@ impl<U: Update> Msg<U> {
         ensures { IfOk result (λ m. m ≡ cut_to lo.now (option_copied hi.entry) self.now) }
     {
         match self {
-            Msg::DelRange(range) => {
-                let lo = later_key(alloc, lo, &range.lo)?;
-                let hi = earlier_end(alloc, hi, range.hi.as_ref())?;
-                Ok(range_delete(lo, hi))
-            }
+            Msg::DelRange(range) => cut_range_delete(alloc, range, lo, hi),
             Msg::Put(key, _) | Msg::Del(key) | Msg::Edit(key, _) => {
                 if is_within(key, lo, hi) {
                     Ok(Some(self.copy(alloc)?))
@@ -103,7 +101,7 @@ impl<U: Update> Msg<U> {
 }
 
 /// The value after the update, where `old` was there. It is changed in its place where the update can.
-fn edited<U: Update>(
+pub(crate) fn edited<U: Update>(
     alloc: Global,
     update: &U,
     old: Option<U::Value>,
@@ -120,18 +118,21 @@ fn edited<U: Update>(
     }
 }
 
-/// A range-delete from `lo` up to and without `hi`, if any key can lie there.
-fn range_delete<U: Update>(lo: Key, hi: Option<Key>) -> Option<Msg<U>>
-    ensures { result ≡ cut_range lo hi }
+/// A range-delete of the part of a range from `lo` up to and without `hi`, if any key can lie there.
+fn cut_range_delete<U: Update>(
+    alloc: Global,
+    range: &KeyRange,
+    lo: &Key,
+    hi: Option<&Key>,
+) -> Result<Option<Msg<U>>, NoMemory>
+    ensures { IfOk result (λ m. m ≡ cut_range (later_key lo.now range.now.lo) (earlier_end (option_copied hi.entry) range.now.hi)) }
 {
-    let is_empty = match &hi {
-        None => false,
-        Some(end) => lo.cmp(end).is_ge(),
-    };
-    if is_empty {
-        return None;
+    if !overlaps(&range.lo, range.hi.as_ref(), lo, hi) {
+        return Ok(None);
     }
-    Some(Msg::DelRange(KeyRange { lo, hi }))
+    let lo = later_key(alloc, lo, &range.lo)?;
+    let hi = earlier_end(alloc, hi, range.hi.as_ref())?;
+    Ok(Some(Msg::DelRange(KeyRange { lo, hi })))
 }
 
 /// Whether the message can change the value at the key.

@@ -64,6 +64,20 @@ fn last_of<'a, T: Drop>(
     row.entry(i - 1)
 }
 
+/// The last entry of all.
+pub(crate) fn last_entry<T: Drop>(rows: &[Row<T>]) -> Option<(&Key, &T)>
+    requires { AreRows rows.now }
+    ensures { option_map (λ p. (p.0.now, p.1.now)) result ≡ last_where (λ k. true) (joined rows.now) }
+{
+    let Some(row) = rows.first() else {
+        return None;
+    };
+    if row.len() == 0 {
+        return None;
+    }
+    last_in(rows)
+}
+
 /// The last entry of rows.
 fn last_in<T: Drop>(rows: &[Row<T>]) -> Option<(&Key, &T)>
     requires { AreFilled rows.now }

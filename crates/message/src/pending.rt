@@ -3,10 +3,10 @@
 //! Contracts see a list of messages and for how many more there is room. What is added is promised by its
 //! meaning alone (`Takes`): the list is sorted and condenses, so that it holds fewer messages that mean the same, and
 //! callers that rely on the contract do not notice. No call lends a message or asks for one by its number.
-ghost use Rattle.std.specs.Prelude.{◌≡◌, ◌+◌, ◌≤◌, ◌<◌, ◌++◌, [], ◌∷◌, true, length, take, drop, Some, None, IfOk, IfNone, IfSome, OnOk, OnErr, MatchOption};
+ghost use Rattle.std.specs.Prelude.{◌≡◌, ◌+◌, ◌≤◌, ◌<◌, ◌++◌, [], ◌∷◌, true, false, length, take, drop, Some, None, IfOk, IfNone, IfSome, OnOk, OnErr, MatchOption};
 ghost use Rattle.std.specs.Option.{option_copied, option_map};
 ghost use Rattle.std.specs.List.{All, slice_get};
-ghost use Rattle.message.specs.Cuts.{pieces};
+ghost use Rattle.message.specs.Cuts.{pieces, IsJoined, IsUpTo, LieIn};
 ghost use Rattle.message.specs.Effects.{effects, point, range_count, Takes};
 ghost use Rattle.message.specs.Eldest.{eldest_msg};
 ghost use Rattle.message.specs.Oldest.{first_point, first_put, first_given, meets_first, covers_first};
@@ -17,7 +17,6 @@ ghost use Rattle.pathkey.specs.Keys.{is_below};
 
 use crate::eldest::Eldest;
 use crate::ends::is_before_end;
-use crate::list::pieces_of;
 use crate::msg::Msg;
 use crate::sorted::Sorted;
 use crate::tail::Tail;
@@ -242,91 +241,41 @@ impl<U: Update> Pending<U> {
     {
         let mut rest = self.copy(alloc)?;
         rest.drop_front(gone);
-        let mut list = Pending::new(alloc);
-        rest.sink_between(alloc, lo, hi, &mut list)?;
+        rest.keep_before(alloc, hi)?;
+        let (_, list) = rest.cut_at(alloc, lo)?;
         Ok(list)
     }
 
-    /// Moves the parts of all messages from `lo` up to and without `hi` to another list, where they are newer than all others.
-    /// Once messages for one key each stand first, those outside are left out at once.
-    fn sink_between(
-        &mut self,
-        alloc: Global,
-        lo: &Key,
-        hi: Option<&Key>,
-        to: &mut Pending<U>,
-    ) -> Result<(), NoMemory>
-        ensures { OnOk result (Takes U.means to.old.0 (pieces lo.now (option_copied hi.entry) self.old.0) to.new.0) }
+    /// Leaves the parts of the messages before the end alone, if there is one. On want of memory any may be gone.
+    fn keep_before(&mut self, alloc: Global, end: Option<&Key>) -> Result<(), NoMemory>
+        ensures { OnOk result (IsUpTo (option_copied end.entry) self.old.0 self.new.0) }
     {
-        while self.len() > 0 {
-            if self.sorted.trim(alloc, lo, hi)? {
-                return self.sink_parts(alloc, lo, hi, to);
-            }
-            self.sink_part(alloc, lo, hi, to)?;
-        }
-        Ok(())
-    }
-
-    /// The same, message by message, those of one key in one go where that can be.
-    fn sink_parts(
-        &mut self,
-        alloc: Global,
-        lo: &Key,
-        hi: Option<&Key>,
-        to: &mut Pending<U>,
-    ) -> Result<(), NoMemory>
-        ensures { OnOk result (Takes U.means to.old.0 (pieces lo.now (option_copied hi.entry) self.old.0) to.new.0) }
-    {
-        while self.len() > 0 {
-            self.sink_part(alloc, lo, hi, to)?;
-        }
-        Ok(())
-    }
-
-    /// Takes the oldest messages out and puts their parts from `lo` up to and without `hi` into another list, and counts them: all
-    /// of one key as they lie in memory, where that can be, else the first.
-    fn sink_part(
-        &mut self,
-        alloc: Global,
-        lo: &Key,
-        hi: Option<&Key>,
-        to: &mut Pending<U>,
-    ) -> Result<usize, NoMemory>
-        requires { 0 < length self.old.0 }
-        ensures takes { IfOk result (λ n. Takes U.means to.old.0 (pieces lo.now (option_copied hi.entry) (take n self.old.0)) to.new.0) }
-        ensures left { IfOk result (λ n. self.new.0 ≡ drop n self.old.0) }
-        ensures some { IfOk result (λ n. (0 < n) × (n ≤ length self.old.0)) }
-    {
-        if !self.oldest_meets(lo, hi) {
-            self.drop_front(1);
-            return Ok(1);
-        }
-        let Some(_) = self.oldest_point() else {
-            return self.sink_cut(alloc, lo, hi, to);
+        let Some(end) = end else {
+            return Ok(());
         };
-        let count = self.sink_oldest(to, self.len())?;
-        Ok(count)
+        let all = std::mem::replace(self, Pending::new(alloc));
+        let (front, _) = all.cut_at(alloc, end)?;
+        *self = front;
+        Ok(())
     }
 
-    /// Takes the oldest message out and puts a copy of its part from `lo` up to and without `hi` into another list.
-    fn sink_cut(
-        &mut self,
-        alloc: Global,
-        lo: &Key,
-        hi: Option<&Key>,
-        to: &mut Pending<U>,
-    ) -> Result<usize, NoMemory>
-        requires { 0 < length self.old.0 }
-        ensures takes { IfOk result (λ n. Takes U.means to.old.0 (pieces lo.now (option_copied hi.entry) (take n self.old.0)) to.new.0) }
-        ensures left { IfOk result (λ n. self.new.0 ≡ drop n self.old.0) }
-        ensures some { IfOk result (λ n. (0 < n) × (n ≤ length self.old.0)) }
+    /// The parts of the messages before the pivot, and those from it on. No message is copied but a range-delete over the pivot.
+    fn cut_at(self, alloc: Global, pivot: &Key) -> Result<(Pending<U>, Pending<U>), NoMemory>
+        ensures front { IfOk result (λ r. r.0.0 ≡ pieces [] (Some pivot.now) self.0) }
+        ensures back { IfOk result (λ r. r.1.0 ≡ pieces pivot.now None self.0) }
     {
-        let first = self.copy_front(alloc, 1)?;
-        let mut parts = pieces_of(alloc, lo, hi, first.as_slice())?;
-        to.reserve(parts.len())?;
-        to.append_reserved(&mut parts);
-        self.drop_front(1);
-        Ok(1)
+        let Pending { sorted, fresh } = self;
+        let (front, back) = sorted.cut_at(alloc, pivot)?;
+        let (before, behind) = fresh.cut_at(alloc, pivot)?;
+        let front = Pending {
+            sorted: front,
+            fresh: before,
+        };
+        let back = Pending {
+            sorted: back,
+            fresh: behind,
+        };
+        Ok((front, back))
     }
 
     /// Cuts the list at the pivot, without its `gone` oldest messages: it keeps what lies from `lo` up to the pivot, and answers
@@ -346,8 +295,10 @@ impl<U: Update> Pending<U> {
         if let Some(back) = self.move_off(alloc, gone, lo, pivot)? {
             return Ok(back);
         }
-        let back = self.copy_between(alloc, gone, pivot, None)?;
-        let front = self.copy_between(alloc, gone, lo, Some(pivot))?;
+        let mut rest = self.copy(alloc)?;
+        rest.drop_front(gone);
+        let (front, back) = rest.cut_at(alloc, pivot)?;
+        let (_, front) = front.cut_at(alloc, lo)?;
         *self = front;
         Ok(back)
     }
@@ -439,24 +390,115 @@ impl<U: Update> Pending<U> {
     fn first_copy(&self) -> Result<Option<Msg<U>>, NoMemory>
         ensures { IfOk result (λ o. o ≡ slice_get self.now.0 0) }
     {
-        if self.len() == 0 {
-            return Ok(None);
+        match self.oldest() {
+            None => Ok(None),
+            Some(eldest) => Ok(Some(eldest.copy(self.fresh.allocator())?)),
         }
-        let mut front = self.copy_front(self.fresh.allocator(), 1)?;
-        Ok(front.pop())
     }
 
     /// Moves all messages to another list, where they are newer than all that are there. On want of memory some may have moved,
     /// and both lists together mean the same.
+    ///
+    /// Most move as they lie in memory. Copied are the messages of the other list's tail that further lists share; updates of a key
+    /// that has messages in the other list, or of which the first have left; and a range-delete that holds a key with messages
+    /// there, or reaches over the end of a range-delete there.
     pub fn sink_all(&mut self, to: &mut Pending<U>) -> Result<(), NoMemory>
         ensures ok { OnOk result (Takes U.means to.old.0 self.old.0 to.new.0) }
         ensures moved { OnOk result (self.new.0 ≡ []) }
         ensures some { OnErr result (Takes U.means (to.old.0 ++ self.old.0) [] (to.new.0 ++ self.new.0)) }
     {
-        while self.len() > 0 {
-            self.sink_oldest(to, self.len())?;
-        }
+        fold_all(&mut to.sorted, &mut to.fresh);
+        while !self.sink_more(to)? {}
         Ok(())
+    }
+
+    /// Moves the oldest messages of the sorted part, or where it has none the tail, and says whether that was all. On want of
+    /// memory both lists are as they were.
+    fn sink_more(&mut self, to: &mut Pending<U>) -> Result<bool, NoMemory>
+        ensures same { OnOk result (Takes U.means (to.old.0 ++ self.old.0) [] (to.new.0 ++ self.new.0)) }
+        ensures all { IfOk result (λ all. all ≡ true → self.new.0 ≡ []) }
+        ensures fewer { IfOk result (λ all. all ≡ false → length self.new.0 < length self.old.0) }
+        ensures err { OnErr result ((self.new.0 ≡ self.old.0) × (to.new.0 ≡ to.old.0)) }
+    {
+        let most = self.sorted.len();
+        if most > 0 {
+            self.sink_oldest(to, most)?;
+            return Ok(false);
+        }
+        to.fresh.join(&mut self.fresh)?;
+        Ok(true)
+    }
+
+    /// A list of the messages of both lists, those of `newer` newer than all others. Where one list lies before the pivot and the
+    /// newer one from it on, the messages are moved as they lie in memory; else they sink as [`Pending::sink_all`] lets them.
+    pub fn joined(
+        self,
+        alloc: Global,
+        newer: Pending<U>,
+        pivot: &Key,
+    ) -> Result<Pending<U>, NoMemory>
+        ensures { IfOk result (λ p. Takes U.means self.0 newer.0 p.0) }
+    {
+        let mut newer = newer.whole_beside(alloc, &self)?;
+        if self.lies_before(alloc, pivot) && newer.lies_from(pivot) {
+            let mut all = self.joined_at(newer, pivot)?;
+            all.weld(alloc, pivot)?;
+            return Ok(all);
+        }
+        let mut all = self;
+        newer.sink_all(&mut all)?;
+        Ok(all)
+    }
+
+    /// A list that means the same, in which no key's messages are half gone where some are in the other, since one list holds what is
+    /// left of one key alone. That is then copied.
+    fn whole_beside(self, alloc: Global, other: &Pending<U>) -> Result<Pending<U>, NoMemory>
+        ensures { IfOk result (λ p. Takes U.means [] self.0 p.0) }
+    {
+        if !self.sorted.is_half_gone() || !other.sorted.is_half_gone() {
+            return Ok(self);
+        }
+        let mut rest = self;
+        let mut whole = Pending::new(alloc);
+        rest.sink_all(&mut whole)?;
+        Ok(whole)
+    }
+
+    /// Makes one range-delete of the one that ends at the key and the one that begins there.
+    fn weld(&mut self, alloc: Global, key: &Key) -> Result<(), NoMemory>
+        ensures { Takes U.means self.old.0 [] self.new.0 }
+    {
+        self.sorted.weld(alloc, key)
+    }
+
+    /// Whether each message lies whole before the pivot.
+    fn lies_before(&self, alloc: Global, pivot: &Key) -> bool
+        ensures { result ≡ true → LieIn [] (Some pivot.now) self.now.0 }
+    {
+        self.sorted.lies_before(pivot) && self.fresh.lies_before(alloc, pivot)
+    }
+
+    /// Whether each message lies whole from the pivot on.
+    fn lies_from(&self, pivot: &Key) -> bool
+        ensures { result ≡ true → LieIn pivot.now None self.now.0 }
+    {
+        self.sorted.lies_from(pivot) && self.fresh.lies_from(pivot)
+    }
+
+    /// A list of the messages of both lists, as they lie in memory.
+    fn joined_at(self, newer: Pending<U>, pivot: &Key) -> Result<Pending<U>, NoMemory>
+        requires before { LieIn [] (Some pivot.now) self.0 }
+        requires from { LieIn pivot.now None newer.0 }
+        ensures { IfOk result (λ p. IsJoined pivot.now self.0 newer.0 p.0) }
+    {
+        let Pending { sorted, mut fresh } = self;
+        let Pending {
+            sorted: later,
+            fresh: mut behind,
+        } = newer;
+        fresh.join(&mut behind)?;
+        let sorted = sorted.joined(later, pivot)?;
+        Ok(Pending { sorted, fresh })
     }
 
     /// Takes the `count` oldest messages away.
@@ -575,6 +617,13 @@ fn fold<U: Update>(sorted: &mut Sorted<U>, fresh: &mut Tail<U>)
     while more > 0 && fold_oldest(sorted, fresh) {
         more -= 1;
     }
+}
+
+/// Folds the tail into the sorted part, the oldest message first, up to one that finds no place there.
+fn fold_all<U: Update>(sorted: &mut Sorted<U>, fresh: &mut Tail<U>)
+    ensures same { Takes U.means (sorted.old ++ fresh.old.0) [] (sorted.new ++ fresh.new.0) }
+{
+    while fold_oldest(sorted, fresh) {}
 }
 
 /// Lays the oldest message of the tail over the sorted part, and says whether it did; else both stay.

@@ -1,18 +1,21 @@
 //! The point messages of a sorted list, by their keys.
-ghost use Rattle.std.specs.Prelude.{◌≡◌, ◌+◌, ◌≤◌, ◌<◌, ◌^◌, not, true, ℕ, List, [], length, Option, None, take, ◌++◌, OnOk, OnErr, IfOk, IfErr, IfNone, IfSome};
+ghost use Rattle.std.specs.Prelude.{◌≡◌, ◌+◌, ◌≤◌, ◌<◌, ◌^◌, not, true, false, ℕ, List, [], length, Option, None, take, ◌++◌, OnOk, OnErr, IfOk, IfErr, IfNone, IfSome};
 ghost use Rattle.std.specs.List.{All, filter, slice_get};
 ghost use Rattle.std.specs.Map.{keys_of};
 ghost use Rattle.std.specs.Option.{option_copied, option_map, option_to_list};
 ghost use Rattle.pathkey.specs.Keys.{is_below, is_in};
-ghost use Rattle.message.specs.Rows.{Rises, place, end_place, joined, number_in, AreFilled, AreRows, or_next, IsHolder, IsGap, IsWritten};
+ghost use Rattle.message.specs.Rows.{Rises, place, end_place, joined, number_in, AreBefore, AreFilled, AreRows, or_next, IsHolder, IsGap, IsWritten};
 ghost use Rattle.message.specs.Ranges.{before, reaches};
 ghost use Rattle.message.specs.Runs.{run_len, run_effect, IsRunKeyed};
 ghost use Rattle.message.specs.Settled.{AreRunsKeyed, Lays, look, first_from, point_msgs, point_count, IsEdited, MovesFirst, TakesFirst};
 
+use crate::ends::is_before_end;
 use crate::msg::Msg;
-use crate::nearest::from_among;
+use crate::nearest::{from_among, last_entry};
 use crate::row::{Item, Row};
-use crate::rows::{drop_empty, end_row, first_in, number_in, part, pop_item, prepare, share_rows};
+use crate::rows::{
+    drop_empty, end_row, first_in, join_rows, number_in, part, pop_item, prepare, share_rows,
+};
 use crate::run::Run;
 use crate::update::{Changes, Update};
 use pathkey::{Key, KeyRange, NoMemory};
@@ -63,6 +66,25 @@ impl<U: Update> Points<U> {
             None => true,
             Some((first, _)) => lo.cmp(first).is_le(),
         }
+    }
+
+    /// Whether each key stands before the pivot.
+    pub(crate) fn end_before(&self, pivot: &Key) -> bool
+        ensures { result ≡ true → AreBefore pivot.now self.now }
+    {
+        match last_entry(self.rows.as_slice()) {
+            None => true,
+            Some((last, _)) => last.cmp(pivot).is_lt(),
+        }
+    }
+
+    /// The messages of both lists, where all keys of the newer one stand behind the others.
+    pub(crate) fn joined(self, newer: Points<U>) -> Result<Points<U>, NoMemory>
+        requires { Rises self → Rises newer → Rises (self ++ newer) }
+        ensures { IfOk result (λ p. p ≡ self ++ newer) }
+    {
+        let rows = join_rows(self.rows, newer.rows)?;
+        Ok(Points { rows })
     }
 
     /// Moves the messages at the pivot and behind it out, and counts them. On want of memory all are as they were.
@@ -181,7 +203,18 @@ impl<U: Update> Points<U> {
         from_among(self.rows.as_slice(), key)
     }
 
-    /// Copies of the messages, put behind those in `front`, until it has so many or more.
+    /// Whether a key that has messages stands from `lo` on and before `hi`; `None` is no end.
+    pub(crate) fn has_within(&self, lo: &Key, hi: Option<&Key>) -> bool
+        ensures none { result ≡ false → filter (λ e. not (is_in (record { lo = lo.now; hi = option_copied hi.entry }) e.0)) self.now ≡ self.now }
+        ensures ordered { Rises self.now }
+    {
+        match self.first_from(lo) {
+            None => false,
+            Some(next) => is_before_end(next, hi),
+        }
+    }
+
+    /// Copies of the messages, put behind those in `front`, until it has so many.
     pub(crate) fn copy_into(
         &self,
         alloc: Global,
@@ -328,7 +361,7 @@ fn run_among<'a, U: Update>(rows: &'a [Row<Run<U>>], key: &Key) -> Option<&'a Ru
     }
 }
 
-/// Copies of the messages of rows, put behind those in `front`, until it has so many or more.
+/// Copies of the messages of rows, put behind those in `front`, until it has so many.
 fn copy_rows_into<U: Update>(
     rows: &[Row<Run<U>>],
     alloc: Global,
@@ -338,6 +371,9 @@ fn copy_rows_into<U: Update>(
     ensures { OnOk result (take count front.new.items ≡ take count (front.old.items ++ point_msgs (joined rows.now))) }
 {
     for row in rows {
+        if front.len() >= count {
+            return Ok(());
+        }
         copy_runs(row.entries(), alloc, count, front)?;
     }
     Ok(())
@@ -501,7 +537,7 @@ fn run_in<'a, U: Update>(row: &'a Row<Run<U>>, key: &Key) -> Option<&'a Run<U>>
     }
 }
 
-/// Copies of the messages of runs, put behind those in `front`, until it has so many or more.
+/// Copies of the messages of runs, put behind those in `front`, until it has so many.
 fn copy_runs<U: Update>(
     items: &[Item<Run<U>>],
     alloc: Global,
@@ -514,7 +550,7 @@ fn copy_runs<U: Update>(
         if front.len() >= count {
             return Ok(());
         }
-        item.value().copy_into(alloc, item.key(), front)?;
+        item.value().copy_into(alloc, item.key(), count, front)?;
     }
     Ok(())
 }

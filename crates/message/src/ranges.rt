@@ -1,22 +1,26 @@
 //! The range-deletes of a sorted list, by their low ends, in rows of shared items.
-ghost use Rattle.std.specs.Prelude.{◌≡◌, ◌+◌, ◌≤◌, ◌<◌, ◌^◌, ◌&&◌, Bool, true, false, [], not, length, take, ◌++◌, OnOk, OnErr, IfOk, IfNone};
+ghost use Rattle.std.specs.Prelude.{◌≡◌, ◌+◌, ◌≤◌, ◌<◌, ◌^◌, ◌&&◌, Bool, List, ℕ, true, false, [], not, length, take, ◌++◌, Some, None, OnOk, OnErr, IfOk, IfNone, IfSome};
 ghost use Rattle.std.specs.Option.{option_map, option_copied, option_to_list};
 ghost use Rattle.std.specs.BTreeMap.{insert_entry};
 ghost use Rattle.std.specs.List.{filter, slice_get};
 ghost use Rattle.pathkey.specs.Order.{by_bytes};
 ghost use Rattle.pathkey.specs.Keys.{is_below};
 ghost use Rattle.message.specs.Ranges.{before, reaches};
-ghost use Rattle.message.specs.Rows.{Rises, joined, number_in, AreRows, IsWritten};
-ghost use Rattle.message.specs.Settled.{covered, last_where, AreApart, AreHeld, CoversMore, IsLowEnd, IsHighEnd, Widens, is_outside, range_msgs, first_behind, high_ahead};
+ghost use Rattle.message.specs.Cuts.{pieces, LieIn};
+ghost use Rattle.message.specs.Rows.{Rises, joined, number_in, AreBefore, AreFrom, AreRows, IsWritten};
+ghost use Rattle.message.specs.Settled.{covered, last_where, over, AreApart, AreHeld, AreSome, CoversMore, EndBy, EndByEnd, IsLowEnd, IsHighEnd, Widens, is_outside, range_msgs, first_behind, high_ahead};
 ghost use Rattle.message.specs.Stretches.{IsStretch};
 
 use crate::ends::{copy_end, earlier, is_before_end};
 use crate::meets::ends_by;
 use crate::msg::Msg;
-use crate::nearest::{behind_among, last_at, last_before, past};
+use crate::nearest::{behind_among, from_among, last_at, last_before, last_entry, past};
 use crate::points::before_end;
 use crate::row::{Item, Row};
-use crate::rows::{drop_empty, end_row, first_in, number_in, pop_item, prepare, share_rows};
+use crate::rows::{
+    drop_empty, end_row, entries_in, first_in, join_rows, number_in, part, pop_item, prepare,
+    share_rows,
+};
 use crate::update::Update;
 use pathkey::{Key, KeyRange, NoMemory};
 use std::alloc::Global;
@@ -34,11 +38,12 @@ impl Model for Ranges {
 
     ghost Value = { List (List ℕ × Option (List ℕ)) };
 
-    ghost use Rattle.message.specs.Rows.{joined, AreCounted};
+    ghost use Rattle.message.specs.Rows.{joined};
+    ghost use Rattle.message.specs.Settled.{AreRanges};
 
     ghost view = { λ r. joined r.rows.items };
 
-    ghost invariant = { λ r. AreCounted r.rows.items r.count };
+    ghost invariant = { λ r. AreRanges r.rows.items r.count };
 }
 
 impl Ranges {
@@ -64,6 +69,16 @@ impl Ranges {
         ensures { option_map (λ p. (p.0.now, p.1.now)) result ≡ slice_get self.now 0 }
     {
         first_in(self.rows.as_slice())
+    }
+
+    /// The first range, in an item that this list and its taker share. None comes where there is none, and where it can't be shared.
+    pub(crate) fn share_first(&self) -> Option<Item<Option<Key>>>
+        ensures first { IfSome result (λ e. slice_get self.now 0 ≡ Some e) }
+        ensures some { AreSome self.now }
+    {
+        let row = self.rows.first()?;
+        let item = row.entries().first()?;
+        item.share().ok()
     }
 
     /// Takes the first range out. It takes no memory.
@@ -104,17 +119,66 @@ impl Ranges {
 
     /// Puts a range in, in the place of one that begins where it does.
     fn put(&mut self, low: Key, high: Option<Key>) -> Result<(), NoMemory>
-        requires { length self.old < 2 ^ 62 }
+        requires some { is_below low high ≡ true }
+        requires few { length self.old < 2 ^ 63 }
         ensures ok { OnOk result (self.new ≡ insert_entry by_bytes self.old low high) }
         ensures err { OnErr result (self.new ≡ self.old) }
         ensures was_ordered { Rises self.old }
     {
-        let Some(n) = prepare(&mut self.rows, &low) else {
+        let Ok(item) = Item::new(*self.rows.allocator(), low, high) else {
             return Err(NoMemory);
         };
-        let more = put_among(&mut self.rows, n, low, high)?;
+        self.put_item(item)
+    }
+
+    /// Puts a range in that another list may share, in the place of one that begins where it does.
+    fn put_item(&mut self, item: Item<Option<Key>>) -> Result<(), NoMemory>
+        requires some { is_below item.0 item.1 ≡ true }
+        requires few { length self.old < 2 ^ 63 }
+        ensures ok { OnOk result (self.new ≡ insert_entry by_bytes self.old item.0 item.1) }
+        ensures err { OnErr result (self.new ≡ self.old) }
+        ensures was_ordered { Rises self.old }
+    {
+        let Some(n) = prepare(&mut self.rows, item.key()) else {
+            return Err(NoMemory);
+        };
+        let more = put_among(&mut self.rows, n, item)?;
         self.count += more;
         Ok(())
+    }
+
+    /// The ranges that begin before the pivot, and those that begin at it or behind it.
+    fn part(self, pivot: &Key) -> Result<(Ranges, Ranges), NoMemory>
+        ensures parts { IfOk result (λ r. self ≡ r.0 ++ r.1) }
+        ensures front { IfOk result (λ r. AreBefore pivot.now r.0) }
+        ensures back { IfOk result (λ r. AreFrom pivot.now r.1) }
+        ensures some { AreSome self }
+    {
+        let mut rows = self.rows;
+        let later = part(&mut rows, pivot)?;
+        let behind = entries_in(later.as_slice());
+        let front = Ranges {
+            rows,
+            count: self.count - behind,
+        };
+        let back = Ranges {
+            rows: later,
+            count: behind,
+        };
+        Ok((front, back))
+    }
+
+    /// The ranges of both lists, where all of the newer one begin behind the others.
+    pub(crate) fn joined(self, newer: Ranges) -> Result<Ranges, NoMemory>
+        requires rises { Rises self → Rises newer → Rises (self ++ newer) }
+        requires few { length self + length newer < 2 ^ 63 }
+        ensures { IfOk result (λ r. r ≡ self ++ newer) }
+    {
+        let rows = join_rows(self.rows, newer.rows)?;
+        Ok(Ranges {
+            rows,
+            count: self.count + newer.count,
+        })
     }
 
     /// Takes away the ranges that begin behind the low end of this one and before its high end. It takes no memory.
@@ -127,39 +191,32 @@ impl Ranges {
     }
 }
 
-/// Puts a value at the key in the row in which the key stands or would, and answers how many entries there are more.
-fn put_among<T: Drop>(
-    rows: &mut Vec<Row<T>>,
-    n: usize,
-    key: Key,
-    value: T,
-) -> Result<usize, NoMemory>
+/// Puts an item in the row in which its key stands or would, and answers how many entries there are more.
+fn put_among<T: Drop>(rows: &mut Vec<Row<T>>, n: usize, item: Item<T>) -> Result<usize, NoMemory>
     requires rows { AreRows rows.old.items }
-    requires number { n ≡ number_in key rows.old.items }
+    requires number { n ≡ number_in item.0 rows.old.items }
     requires bound { n < length rows.old.items }
     ensures rows { AreRows rows.new.items }
-    ensures ok { OnOk result (joined rows.new.items ≡ insert_entry by_bytes (joined rows.old.items) key value) }
+    ensures ok { OnOk result (joined rows.new.items ≡ insert_entry by_bytes (joined rows.old.items) item.0 item.1) }
     ensures counted { IfOk result (λ more. length (joined rows.new.items) ≡ length (joined rows.old.items) + more) }
     ensures few { IfOk result (λ more. more ≤ 1) }
     ensures err { OnErr result (joined rows.new.items ≡ joined rows.old.items) }
 {
     let row = &mut rows[n];
-    put_in(row, key, value)
+    put_in(row, item)
 }
 
-/// Puts a value at the key in a row, and answers how many entries there are more.
-fn put_in<T: Drop>(row: &mut Row<T>, key: Key, value: T) -> Result<usize, NoMemory>
-    ensures written { IsWritten key row.old row.new }
-    ensures ok { OnOk result (row.new ≡ insert_entry by_bytes row.old key value) }
+/// Puts an item in a row, and answers how many entries there are more.
+fn put_in<T: Drop>(row: &mut Row<T>, item: Item<T>) -> Result<usize, NoMemory>
+    ensures written { IsWritten item.0 row.old row.new }
+    ensures ok { OnOk result (row.new ≡ insert_entry by_bytes row.old item.0 item.1) }
     ensures counted { IfOk result (λ more. length row.new ≡ length row.old + more) }
     ensures few { IfOk result (λ more. more ≤ 1) }
     ensures err { OnErr result (row.new ≡ row.old) }
 {
     let was = row.len();
-    match row.insert(key, value) {
-        Ok(_) => Ok(row.len() - was),
-        Err(_) => Err(NoMemory),
-    }
+    row.insert_item(item)?;
+    Ok(row.len() - was)
 }
 
 /// Takes away the entries of each row that stand behind the low end of a range and before its high end, and answers how many
@@ -301,15 +358,67 @@ fn add(ranges: &mut Ranges, alloc: Global, range: KeyRange) -> Result<(), NoMemo
     Ok(())
 }
 
-/// Whether one of the ranges holds every key of this one.
-fn is_held(ranges: &Ranges, range: &KeyRange) -> bool
+/// Whether one of the ranges holds every key from `lo` up to and without `hi`; `None` is no end.
+fn is_held(ranges: &Ranges, lo: &Key, hi: Option<&Key>) -> bool
     requires { AreApart ranges.now }
-    ensures { result ≡ true → AreHeld range.now.lo range.now.hi ranges.now }
+    ensures { result ≡ true → AreHeld lo.now (option_copied hi.entry) ranges.now }
 {
-    match ranges.at_or_before(&range.lo) {
+    match ranges.at_or_before(lo) {
         None => false,
-        Some((_, end)) => ends_by(range.hi.as_ref(), end.as_ref()),
+        Some((_, end)) => ends_by(hi, end.as_ref()),
     }
+}
+
+/// Makes one range of the one that ends at the key and the one that begins there.
+pub(crate) fn weld(ranges: &mut Ranges, alloc: Global, key: &Key) -> Result<(), NoMemory>
+    requires apart { AreApart ranges.old }
+    requires few { length ranges.old < 2 ^ 62 }
+    ensures apart { AreApart ranges.new }
+    ensures same { (k : List ℕ) → covered ranges.new k ≡ covered ranges.old k }
+    ensures bound { length ranges.new ≤ length ranges.old }
+{
+    let low = low_end(ranges, key);
+    if low == key || !is_covered(ranges, key) {
+        return Ok(());
+    }
+    let lo = low.copy(alloc)?;
+    let hi = copy_end(alloc, high_end(ranges, Some(key)))?;
+    add(ranges, alloc, KeyRange { lo, hi })?;
+    Ok(())
+}
+
+/// Whether none of the ranges holds a key from `lo` up to and without `hi`; `None` is no end.
+fn is_free(ranges: &Ranges, lo: &Key, hi: Option<&Key>) -> bool
+    requires some { is_below lo.now (option_copied hi) ≡ true }
+    requires apart { AreApart ranges.now }
+    ensures low { result ≡ true → EndBy lo.now ranges.now }
+    ensures high { result ≡ true → EndByEnd (option_copied hi.entry) ranges.now }
+    ensures none { result ≡ true → filter (λ e. is_outside lo.now (option_copied hi.entry) e) ranges.now ≡ ranges.now }
+{
+    if over(ranges, lo).is_some() {
+        return false;
+    }
+    match from_among(ranges.rows.as_slice(), lo) {
+        None => true,
+        Some(next) => !is_before_end(next, hi),
+    }
+}
+
+/// Lays a range that another list may share over these, where one holds it or none holds a key of it. It says whether it did.
+pub(crate) fn take(ranges: &mut Ranges, item: Item<Option<Key>>) -> bool
+    requires some { is_below item.0 item.1 ≡ true }
+    requires apart { AreApart ranges.old }
+    requires few { length ranges.old < 2 ^ 62 }
+    ensures apart { AreApart ranges.new }
+    ensures covers { result ≡ true → CoversMore item.0 item.1 ranges.old ranges.new }
+    ensures bound { result ≡ true → length ranges.new ≤ length ranges.old + 1 }
+    ensures no { result ≡ false → ranges.new ≡ ranges.old }
+{
+    let hi = item.value().as_ref();
+    if is_held(ranges, item.key(), hi) {
+        return true;
+    }
+    is_free(ranges, item.key(), hi) && ranges.put_item(item).is_ok()
 }
 
 /// Lays a range over the others: those inside it give way to it, it becomes one with those that reach over its ends or
@@ -323,12 +432,68 @@ pub(crate) fn lay(ranges: &mut Ranges, alloc: Global, range: &KeyRange) -> Resul
     ensures bound { OnOk result (length ranges.new ≤ length ranges.old + 1) }
     ensures err { OnErr result (ranges.new ≡ ranges.old) }
 {
-    if is_held(ranges, range) {
+    if is_held(ranges, &range.lo, range.hi.as_ref()) {
         return Ok(());
     }
     let wide = widened(ranges, alloc, range)?;
     add(ranges, alloc, wide)?;
     Ok(())
+}
+
+/// The last range that begins before the pivot, where it ends behind it.
+fn over<'a>(ranges: &'a Ranges, pivot: &Key) -> Option<(&'a Key, &'a Option<Key>)>
+    ensures { option_map (λ p. (p.0.now, p.1.now)) result ≡ over pivot.now (last_where (λ k. not (reaches pivot.now k)) ranges.now) }
+{
+    let (low, high) = ranges.last_before(pivot)?;
+    if is_before_end(pivot, high.as_ref()) {
+        Some((low, high))
+    } else {
+        None
+    }
+}
+
+/// Whether each range ends at the pivot or before it.
+pub(crate) fn end_by<U: Update>(ranges: &Ranges, pivot: &Key) -> bool
+    requires { AreApart ranges.now }
+    ensures { result ≡ true → LieIn [] (Some pivot.now) (range_msgs {U = U} {V = U.Value} ranges.now) }
+{
+    match last_entry(ranges.rows.as_slice()) {
+        None => true,
+        Some((_, high)) => ends_by(high.as_ref(), Some(pivot)),
+    }
+}
+
+/// Whether each range begins at the pivot or behind it.
+pub(crate) fn begin_from<U: Update>(ranges: &Ranges, pivot: &Key) -> bool
+    ensures { result ≡ true → LieIn pivot.now None (range_msgs {U = U} {V = U.Value} ranges.now) }
+{
+    match first_in(ranges.rows.as_slice()) {
+        None => true,
+        Some((low, _)) => pivot.cmp(low).is_le(),
+    }
+}
+
+/// The ranges up to the pivot, and those from it on. One that lies over it is made two.
+pub(crate) fn cut_at<U: Update>(
+    ranges: Ranges,
+    alloc: Global,
+    pivot: &Key,
+) -> Result<(Ranges, Ranges), NoMemory>
+    requires apart { AreApart ranges }
+    requires few { length ranges < 2 ^ 63 }
+    ensures front { IfOk result (λ r. range_msgs {U = U} {V = U.Value} r.0 ≡ pieces [] (Some pivot.now) (range_msgs ranges)) }
+    ensures back { IfOk result (λ r. range_msgs {U = U} {V = U.Value} r.1 ≡ pieces pivot.now None (range_msgs ranges)) }
+    ensures apart { IfOk result (λ r. AreApart r.0 × AreApart r.1) }
+{
+    let (mut front, mut back) = ranges.part(pivot)?;
+    let Some((low, high)) = over(&front, pivot) else {
+        return Ok((front, back));
+    };
+    let low = low.copy(alloc)?;
+    let high = copy_end(alloc, high.as_ref())?;
+    front.put(low, Some(pivot.copy(alloc)?))?;
+    back.put(pivot.copy(alloc)?, high)?;
+    Ok((front, back))
 }
 
 /// Copies of the range-deletes, put behind those in `front`, until it has so many.
@@ -353,6 +518,9 @@ fn copy_rows_into<U: Update>(
     ensures { OnOk result (take count front.new.items ≡ take count (front.old.items ++ range_msgs (joined rows.now))) }
 {
     for row in rows {
+        if front.len() >= count {
+            return Ok(());
+        }
         copy_row_into(row.entries(), alloc, count, front)?;
     }
     Ok(())

@@ -260,6 +260,38 @@ impl<T: Drop> Row<T> {
         answer
     }
 
+    /// Puts an item at its key, in the place of one that stands there.
+    pub(crate) fn insert_item(&mut self, item: Item<T>) -> Result<(), NoMemory>
+        ensures entries { OnOk result (self.new ≡ insert_entry by_bytes self.old item.0 item.1) }
+        ensures rises { Rises self.new }
+        ensures was_rising { Rises self.old }
+        ensures err { OnErr result (self.new ≡ self.old) }
+    {
+        match self.find(item.key()) {
+            Ok(i) => {
+                self.swap_item(i, item);
+                Ok(())
+            }
+            Err(i) => self.put_item(i, item),
+        }
+    }
+
+    /// Puts an item into its place.
+    fn put_item(&mut self, i: usize, item: Item<T>) -> Result<(), NoMemory>
+        requires { IsGap item.0 self.old i }
+        ensures ok { OnOk result (self.new ≡ insert_entry by_bytes self.old item.0 item.1) }
+        ensures rises { Rises self.new }
+        ensures was_rising { Rises self.old }
+        ensures err { OnErr result (self.new ≡ self.old) }
+    {
+        self.items.reserve(1)?;
+        let Ok(()) = self.items.insert(i, item) else {
+            unreachable!()
+        };
+        self.head = first_head(self.items.as_slice());
+        Ok(())
+    }
+
     /// Takes the first entry out.
     pub(crate) fn pop(&mut self) -> Option<Item<T>>
         ensures moved { self.old ≡ option_to_list result ++ self.new }

@@ -1,5 +1,5 @@
 //! Rows one behind the other, so that an entry that comes in or leaves moves few others.
-ghost use Rattle.std.specs.Prelude.{true, vec_len, vec_capacity, ◌≡◌, ◌++◌, ◌+◌, [], ◌<◌, ◌≤◌, length, take, drop, slice_index_or, slice_set, Some, OnOk, OnErr, IfOk, IfNone, IfSome};
+ghost use Rattle.std.specs.Prelude.{true, vec_len, vec_capacity, ◌≡◌, ◌++◌, ◌+◌, [], ◌<◌, ◌≤◌, ◌^◌, length, take, drop, slice_index_or, slice_set, Some, OnOk, OnErr, IfOk, IfNone, IfSome};
 ghost use Rattle.std.specs.Option.{option_copied, option_map, option_to_list};
 ghost use Rattle.std.specs.List.{slice_get};
 ghost use Rattle.message.specs.Rows.{Rises, joined, AreFilled, LaterFilled, TailFilled, row_number, number_in, AreRows, AreBefore, AreFrom, IsEndRow};
@@ -198,6 +198,34 @@ fn divide<T: Drop>(rows: &mut Vec<Row<T>>, key: &Key) -> Result<usize, NoMemory>
     }
     split(rows, n, at)?;
     Ok(n + 1)
+}
+
+/// How many entries rows have.
+pub(crate) fn entries_in<T: Drop>(rows: &[Row<T>]) -> usize
+    requires { length (joined rows.now) < 2 ^ 64 }
+    ensures { result ≡ length (joined rows.now) }
+{
+    let mut count = 0;
+    for row in rows {
+        count += row.len();
+    }
+    count
+}
+
+/// Rows of the entries of both, where all keys of the newer ones stand behind the others.
+pub(crate) fn join_rows<T: Drop>(
+    rows: Vec<Row<T>>,
+    newer: Vec<Row<T>>,
+) -> Result<Vec<Row<T>>, NoMemory>
+    requires { Rises (joined rows.items ++ joined newer.items) }
+    ensures rows { IfOk result (λ r. AreRows r.items) }
+    ensures same { IfOk result (λ r. joined r.items ≡ joined rows.items ++ joined newer.items) }
+{
+    let mut rows = rows;
+    let mut newer = newer;
+    rows.append(&mut newer)?;
+    drop_empty(&mut rows);
+    Ok(rows)
 }
 
 /// Takes the first entry of all out as it lies in memory.

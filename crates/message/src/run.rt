@@ -1,12 +1,14 @@
 //! What waits at one key.
-ghost use Rattle.std.specs.Prelude.{true, ◌≡◌, ◌+◌, ◌<◌, ◌≤◌, [], ◌∷◌, ◌++◌, List, ℕ, Option, None, Some, if◌then◌else◌, length, drop, OnOk, OnErr, IfOk, IfErr};
+ghost use Rattle.std.specs.Prelude.{true, ◌≡◌, ◌+◌, ◌<◌, ◌≤◌, [], ◌∷◌, ◌++◌, List, ℕ, Option, None, Some, if◌then◌else◌, length, take, drop, OnOk, OnErr, IfOk, IfErr};
 ghost use Rattle.std.specs.Bool.{OnTrue, OnFalse};
 ghost use Rattle.message.specs.declared.msg.Msg.TheVariants as msg;
 ghost use Rattle.message.specs.declared.run.Run.TheVariants as run;
+ghost use Rattle.message.specs.Effects.{made_of};
+ghost use Rattle.message.specs.Eldest.{run_first};
 ghost use Rattle.message.specs.Settled.{IsToldOf};
 ghost use Rattle.message.specs.Runs.{later_edits, several_effect, several_msgs, run_effect, run_len, run_msgs, AreKeyed, IsRunKeyed, later_msgs};
 
-use crate::msg::Msg;
+use crate::msg::{Msg, edited};
 use crate::told::Told;
 use crate::update::{Changes, Update};
 use pathkey::{Key, NoMemory};
@@ -37,7 +39,11 @@ pub struct Several<U: Changes> {
 }
 
 /// A copy of the update, as a message at the key.
-fn copied_edit<U: Update>(alloc: Global, key: &Key, update: &U) -> Result<Msg<U>, NoMemory>
+pub(crate) fn copied_edit<U: Update>(
+    alloc: Global,
+    key: &Key,
+    update: &U,
+) -> Result<Msg<U>, NoMemory>
     ensures { IfOk result (λ m. m ≡ msg.Edit key.now update.now) }
 {
     let key = key.copy(alloc)?;
@@ -67,16 +73,20 @@ pub(crate) fn apply_later<U: Update>(
     Ok(value)
 }
 
-/// Copies of the updates as messages at the key, put behind those in `front`.
+/// Copies of the updates as messages at the key, put behind those in `front`, until it has so many.
 pub(crate) fn copy_later<U: Update>(
     alloc: Global,
     key: &Key,
     updates: &[(Key, U)],
+    count: usize,
     front: &mut Vec<Msg<U>>,
 ) -> Result<(), NoMemory>
-    ensures { OnOk result (front.new.items ≡ front.old.items ++ later_msgs key.now updates.now) }
+    ensures { OnOk result (take count front.new.items ≡ take count (front.old.items ++ later_msgs key.now updates.now)) }
 {
     for update in updates {
+        if front.len() >= count {
+            return Ok(());
+        }
         front.push(copied_edit(alloc, key, &update.1)?)?;
     }
     Ok(())
@@ -119,19 +129,6 @@ impl<U: Update> Several<U> {
             Ok(()) => Ok(()),
             Err(refused) => Err(refused.value),
         }
-    }
-
-    /// Copies of the updates as messages at the key, put behind those in `front`.
-    pub(crate) fn copy_into(
-        &self,
-        alloc: Global,
-        key: &Key,
-        front: &mut Vec<Msg<U>>,
-    ) -> Result<(), NoMemory>
-        ensures { OnOk result (front.new.items ≡ front.old.items ++ several_msgs key.now self.now) }
-    {
-        front.push(copied_edit(alloc, key, &self.first)?)?;
-        copy_later(alloc, key, self.more.as_slice(), front)
     }
 
     /// Equal updates.
@@ -393,23 +390,49 @@ impl<U: Update> Run<U> {
         }
     }
 
-    /// Copies of the messages of the run at the key, put behind those in `front`.
+    /// The value after the first message, where `old` was there.
+    pub(crate) fn lay_first(
+        &self,
+        alloc: Global,
+        old: Option<U::Value>,
+    ) -> Result<Option<U::Value>, NoMemory>
+        ensures { IfOk result (λ v. (k : List ℕ) → v ≡ made_of U.means (run_first k self.now) old) }
+    {
+        match self {
+            Run::Put(value) => Ok(Some(U::copy_value(alloc, value)?)),
+            Run::Del => Ok(None),
+            Run::Edit(update) => edited(alloc, update, old),
+            Run::Edits(several) => edited(alloc, &several.first, old),
+        }
+    }
+
+    /// A copy of the first message.
+    pub(crate) fn first_copy(&self, alloc: Global, key: &Key) -> Result<Msg<U>, NoMemory>
+        ensures { IfOk result (λ m. m ≡ run_first key.now self.now) }
+    {
+        match self {
+            Run::Put(value) => Ok(Msg::Put(key.copy(alloc)?, U::copy_value(alloc, value)?)),
+            Run::Del => Ok(Msg::Del(key.copy(alloc)?)),
+            Run::Edit(update) => copied_edit(alloc, key, update),
+            Run::Edits(several) => copied_edit(alloc, key, &several.first),
+        }
+    }
+
+    /// Copies of the messages of the run at the key, put behind those in `front`, until it has so many.
     pub(crate) fn copy_into(
         &self,
         alloc: Global,
         key: &Key,
+        count: usize,
         front: &mut Vec<Msg<U>>,
     ) -> Result<(), NoMemory>
-        ensures { OnOk result (front.new.items ≡ front.old.items ++ run_msgs key.now self.now) }
+        ensures { OnOk result (take count front.new.items ≡ take count (front.old.items ++ run_msgs key.now self.now)) }
     {
-        let msg = match self {
-            Run::Put(value) => Msg::Put(key.copy(alloc)?, U::copy_value(alloc, value)?),
-            Run::Del => Msg::Del(key.copy(alloc)?),
-            Run::Edit(update) => copied_edit(alloc, key, update)?,
-            Run::Edits(several) => return several.copy_into(alloc, key, front),
-        };
-        front.push(msg)?;
-        Ok(())
+        front.push(self.first_copy(alloc, key)?)?;
+        match self {
+            Run::Put(_) | Run::Del | Run::Edit(_) => Ok(()),
+            Run::Edits(several) => copy_later(alloc, key, several.more.as_slice(), count, front),
+        }
     }
 
     /// A run of the same messages.

@@ -1,8 +1,8 @@
 //! A sorted list of messages, kept short: what a later message makes idle is taken away.
-ghost use Rattle.std.specs.Prelude.{true, ◌≡◌, ◌+◌, ◌^◌, ◌<◌, ◌≤◌, [], ◌∷◌, length, None, if◌then◌else◌, ◌++◌, take, drop, IfSome, IfNone, IfOk, IfErr, OnOk, OnErr, MatchOption};
+ghost use Rattle.std.specs.Prelude.{true, false, ◌≡◌, ◌+◌, ◌^◌, ◌<◌, ◌≤◌, [], ◌∷◌, length, Some, None, if◌then◌else◌, ◌++◌, take, drop, IfSome, IfNone, IfOk, IfErr, OnOk, OnErr, MatchOption};
 ghost use Rattle.message.specs.declared.msg.Msg.TheVariants as msg;
 ghost use Rattle.message.specs.declared.told.Told.TheVariants as told;
-ghost use Rattle.message.specs.Cuts.{IsParted};
+ghost use Rattle.message.specs.Cuts.{pieces, IsJoined, IsParted, LieIn};
 ghost use Rattle.message.specs.Effects.{effects, point, range_count, Takes};
 ghost use Rattle.message.specs.Eldest.{eldest_msg};
 ghost use Rattle.std.specs.List.{All, slice_get};
@@ -196,9 +196,8 @@ impl<U: Update> Settled<U> {
         Some(Oldest::Run(item))
     }
 
-    /// Moves the oldest messages of another list, those of one key and at most `most`, into the place of their key, newer than
-    /// all that are here, and counts them. None come where a range-delete stands before them, or where [`Points::take_first`]
-    /// takes none.
+    /// Moves the oldest messages of another list, a range-delete or those of one key and at most `most`, into their place, newer
+    /// than all that are here, and counts them. None come where [`Settled::take_range`] or [`Points::take_first`] takes none.
     pub(crate) fn take_first(&mut self, from: &mut Settled<U>, most: usize) -> Option<usize>
         ensures takes { IfSome result (λ n. Takes U.means self.old (take n from.old) self.new) }
         ensures left { IfSome result (λ n. from.new ≡ drop n from.old) }
@@ -206,8 +205,11 @@ impl<U: Update> Settled<U> {
         ensures alike { IfSome result (λ n. All (λ m. point m ≡ first_point from.old) (take n from.old)) }
         ensures none { IfNone result ((self.new ≡ self.old) × (from.new ≡ from.old)) }
     {
-        if from.ranges.len() > 0 || self.len() >= MOST - most.min(MOST) {
+        if most == 0 || self.len() >= MOST - most.min(MOST) {
             return None;
+        }
+        if from.ranges.len() > 0 {
+            return if self.take_range(from) { Some(1) } else { None };
         }
         let (came, gone) = self.points.take_first(&mut from.points, most)?;
         from.count -= came;
@@ -215,7 +217,30 @@ impl<U: Update> Settled<U> {
         Some(came)
     }
 
-    /// Copies of the messages, put behind those in `front`, until it has so many or more.
+    /// Moves the first range-delete of another list here, newer than all that are here, as it lies in memory. It says whether it
+    /// did: there may be none, it may hold a key that has messages here or reach over the end of another, or memory is refused.
+    fn take_range(&mut self, from: &mut Settled<U>) -> bool
+        requires { length self.old < 2 ^ 62 }
+        ensures takes { result ≡ true → Takes U.means self.old (take 1 from.old) self.new }
+        ensures left { result ≡ true → from.new ≡ drop 1 from.old }
+        ensures some { result ≡ true → 1 ≤ length from.old }
+        ensures alike { result ≡ true → All (λ m. point m ≡ first_point from.old) (take 1 from.old) }
+        ensures no { result ≡ false → (self.new ≡ self.old) × (from.new ≡ from.old) }
+    {
+        let Some(item) = from.ranges.share_first() else {
+            return false;
+        };
+        if self.points.has_within(item.key(), item.value().as_ref()) {
+            return false;
+        }
+        if !ranges::take(&mut self.ranges, item) {
+            return false;
+        }
+        from.ranges.pop_first();
+        true
+    }
+
+    /// Copies of the messages, put behind those in `front`, until it has so many.
     pub(crate) fn copy_into(
         &self,
         alloc: Global,
@@ -316,6 +341,72 @@ impl<U: Update> Settled<U> {
             points,
             count,
         }))
+    }
+
+    /// Makes one range-delete of the one that ends at the key and the one that begins there.
+    pub(crate) fn weld(&mut self, alloc: Global, key: &Key) -> Result<(), NoMemory>
+        ensures { Takes U.means self.old [] self.new }
+    {
+        if self.len() >= MOST {
+            return Ok(());
+        }
+        ranges::weld(&mut self.ranges, alloc, key)
+    }
+
+    /// Whether each message lies whole before the pivot.
+    pub(crate) fn lies_before(&self, pivot: &Key) -> bool
+        ensures { result ≡ true → LieIn [] (Some pivot.now) self.now }
+    {
+        ranges::end_by::<U>(&self.ranges, pivot) && self.points.end_before(pivot)
+    }
+
+    /// Whether each message lies whole from the pivot on.
+    pub(crate) fn lies_from(&self, pivot: &Key) -> bool
+        ensures { result ≡ true → LieIn pivot.now None self.now }
+    {
+        ranges::begin_from::<U>(&self.ranges, pivot) && self.points.begin_from(pivot)
+    }
+
+    /// A list of the messages of both lists, where one lies before the pivot and the newer one from it on.
+    pub(crate) fn joined(self, newer: Settled<U>, pivot: &Key) -> Result<Settled<U>, NoMemory>
+        requires before { LieIn [] (Some pivot.now) self }
+        requires from { LieIn pivot.now None newer }
+        requires small { length self + length newer ≤ 2 ^ 62 }
+        ensures { IfOk result (λ p. IsJoined pivot.now self newer p) }
+    {
+        let ranges = self.ranges.joined(newer.ranges)?;
+        let points = self.points.joined(newer.points)?;
+        Ok(Settled {
+            ranges,
+            points,
+            count: self.count + newer.count,
+        })
+    }
+
+    /// The parts of the messages before the pivot, and those from it on. The messages are the same; a range-delete over the pivot
+    /// is made two.
+    pub(crate) fn cut_at(
+        self,
+        alloc: Global,
+        pivot: &Key,
+    ) -> Result<(Settled<U>, Settled<U>), NoMemory>
+        ensures front { IfOk result (λ r. r.0 ≡ pieces [] (Some pivot.now) self) }
+        ensures back { IfOk result (λ r. r.1 ≡ pieces pivot.now None self) }
+    {
+        let mut points = self.points;
+        let (later, moved) = points.split_off(pivot)?;
+        let (ranges, behind) = ranges::cut_at::<U>(self.ranges, alloc, pivot)?;
+        let front = Settled {
+            ranges,
+            points,
+            count: self.count - moved,
+        };
+        let back = Settled {
+            ranges: behind,
+            points: later,
+            count: moved,
+        };
+        Ok((front, back))
     }
 
     /// A list of the same messages.

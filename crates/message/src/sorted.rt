@@ -1,9 +1,9 @@
 //! A sorted list from whose front messages leave one by one.
-ghost use Rattle.std.specs.Prelude.{◌≡◌, ◌+◌, ◌-◌, ◌^◌, ◌<◌, ◌≤◌, ◌++◌, [], ◌∷◌, true, false, length, take, drop, IfOk, IfErr, IfNone, IfSome, OnOk, OnErr, MatchOption};
+ghost use Rattle.std.specs.Prelude.{◌≡◌, ◌+◌, ◌-◌, ◌^◌, ◌<◌, ◌≤◌, ◌++◌, [], ◌∷◌, true, false, length, take, drop, Some, None, IfOk, IfErr, IfNone, IfSome, OnOk, OnErr, MatchOption};
 ghost use Rattle.std.specs.Option.{option_copied, option_map};
 ghost use Rattle.std.specs.List.{All, slice_get};
 ghost use Rattle.message.specs.Oldest.{first_point};
-ghost use Rattle.message.specs.Cuts.{pieces, IsParted};
+ghost use Rattle.message.specs.Cuts.{pieces, IsJoined, IsParted, LieIn};
 ghost use Rattle.message.specs.Effects.{effects, any_touches, point, range_count, Takes};
 ghost use Rattle.message.specs.Eldest.{eldest_msg};
 ghost use Rattle.message.specs.PointKeys.{is_cleared, IsPointStop, IsClearStretch};
@@ -221,7 +221,7 @@ impl<U: Update> Sorted<U> {
         ensures { IfOk result (λ front. front.items ≡ take count self.now) }
     {
         let mut front = Vec::new(alloc);
-        copy_rest(&self.front, alloc, &mut front)?;
+        copy_rest(&self.front, alloc, count, &mut front)?;
         self.rest.copy_into(alloc, count, &mut front)?;
         front.truncate(count);
         Ok(front)
@@ -256,34 +256,118 @@ impl<U: Update> Sorted<U> {
         Ok(Sorted { front, rest })
     }
 
-    /// Takes the messages away that lie outside the range from `lo` up to and without `hi`, and says whether that could be: where
-    /// no messages of one key are half gone, and no range-delete stands. On want of memory some of those inside may be gone.
-    pub(crate) fn trim(
-        &mut self,
-        alloc: Global,
-        lo: &Key,
-        hi: Option<&Key>,
-    ) -> Result<bool, NoMemory>
-        ensures inside { OnOk result (pieces lo.now (option_copied hi.entry) self.new ≡ pieces lo.now (option_copied hi.entry) self.old) }
-        ensures still { IfOk result (λ done. done ≡ false → self.new ≡ self.old) }
+    /// Makes one range-delete of the one that ends at the key and the one that begins there.
+    pub(crate) fn weld(&mut self, alloc: Global, key: &Key) -> Result<(), NoMemory>
+        ensures { Takes U.means self.old [] self.new }
     {
-        let Some(mut later) = self.split_off(alloc, &Key::new(alloc), lo)? else {
-            return Ok(false);
-        };
-        later.cut_end(alloc, lo, hi)?;
-        *self = later;
-        Ok(true)
+        self.rest.weld(alloc, key)
     }
 
-    /// Takes the messages at the end and behind it away, where there is an end and where that can be, as [`Sorted::split_off`] says.
-    fn cut_end(&mut self, alloc: Global, lo: &Key, hi: Option<&Key>) -> Result<(), NoMemory>
-        ensures { OnOk result (pieces lo.now (option_copied hi.entry) self.new ≡ pieces lo.now (option_copied hi.entry) self.old) }
+    /// Whether each message lies whole before the pivot.
+    pub(crate) fn lies_before(&self, pivot: &Key) -> bool
+        ensures { result ≡ true → LieIn [] (Some pivot.now) self.now }
     {
-        let Some(hi) = hi else {
-            return Ok(());
+        left_before(&self.front, pivot) && self.rest.lies_before(pivot)
+    }
+
+    /// Whether each message lies whole from the pivot on.
+    pub(crate) fn lies_from(&self, pivot: &Key) -> bool
+        ensures { result ≡ true → LieIn pivot.now None self.now }
+    {
+        left_from(&self.front, pivot) && self.rest.lies_from(pivot)
+    }
+
+    /// Whether messages of one key are half gone.
+    pub(crate) fn is_half_gone(&self) -> bool {
+        self.front.is_some()
+    }
+
+    /// A list of the messages of both lists, where one lies before the pivot and the newer one from it on. There is none where
+    /// messages are half gone in both, since one list holds what is left of one key alone, or where they are more than [`MOST`].
+    pub(crate) fn joined(self, newer: Sorted<U>, pivot: &Key) -> Result<Sorted<U>, NoMemory>
+        requires before { LieIn [] (Some pivot.now) self }
+        requires from { LieIn pivot.now None newer }
+        ensures { IfOk result (λ p. IsJoined pivot.now self newer p) }
+    {
+        if self.len() + newer.len() > MOST {
+            return Err(NoMemory);
+        }
+        let front = either(self.front, newer.front)?;
+        let rest = self.rest.joined(newer.rest, pivot)?;
+        Ok(Sorted { front, rest })
+    }
+
+    /// The parts of the messages before the pivot, and those from it on, as [`Settled::cut_at`] makes them.
+    pub(crate) fn cut_at(
+        self,
+        alloc: Global,
+        pivot: &Key,
+    ) -> Result<(Sorted<U>, Sorted<U>), NoMemory>
+        ensures front { IfOk result (λ r. r.0 ≡ pieces [] (Some pivot.now) self) }
+        ensures back { IfOk result (λ r. r.1 ≡ pieces pivot.now None self) }
+    {
+        let (before, behind) = sides(self.front, pivot);
+        let (rest, later) = self.rest.cut_at(alloc, pivot)?;
+        let front = Sorted {
+            front: before,
+            rest,
         };
-        let _later = self.split_off(alloc, lo, hi)?;
-        Ok(())
+        let back = Sorted {
+            front: behind,
+            rest: later,
+        };
+        Ok((front, back))
+    }
+}
+
+/// The messages that are left of one key on their side of the pivot: before it, or from it on.
+fn sides<U: Update>(front: Option<Left<U>>, pivot: &Key) -> (Option<Left<U>>, Option<Left<U>>)
+    ensures before { left_msgs result.0 ≡ pieces [] (Some pivot.now) (left_msgs front) }
+    ensures behind { left_msgs result.1 ≡ pieces pivot.now None (left_msgs front) }
+{
+    let Some(left) = front else {
+        return (None, None);
+    };
+    if left.key().cmp(pivot).is_lt() {
+        (Some(left), None)
+    } else {
+        (None, Some(left))
+    }
+}
+
+/// What is left of one key in either list. There is none where messages are half gone in both.
+fn either<U: Update>(
+    front: Option<Left<U>>,
+    later: Option<Left<U>>,
+) -> Result<Option<Left<U>>, NoMemory>
+    ensures { IfOk result (λ f. left_msgs f ≡ left_msgs front ++ left_msgs later) }
+{
+    match front {
+        None => Ok(later),
+        Some(left) => match later {
+            None => Ok(Some(left)),
+            Some(_) => Err(NoMemory),
+        },
+    }
+}
+
+/// Whether what is left of one key lies before the pivot.
+fn left_before<U: Update>(front: &Option<Left<U>>, pivot: &Key) -> bool
+    ensures { result ≡ true → LieIn [] (Some pivot.now) (left_msgs front.now) }
+{
+    match front {
+        None => true,
+        Some(left) => left.key().cmp(pivot).is_lt(),
+    }
+}
+
+/// Whether what is left of one key lies from the pivot on.
+fn left_from<U: Update>(front: &Option<Left<U>>, pivot: &Key) -> bool
+    ensures { result ≡ true → LieIn pivot.now None (left_msgs front.now) }
+{
+    match front {
+        None => true,
+        Some(left) => left.key().cmp(pivot).is_ge(),
     }
 }
 
@@ -326,17 +410,18 @@ fn after<U: Update>(
     }
 }
 
-/// Copies of the messages that are left of one key, put behind those in `to`.
+/// Copies of the messages that are left of one key, put behind those in `to`, until it has so many.
 fn copy_rest<U: Update>(
     front: &Option<Left<U>>,
     alloc: Global,
+    count: usize,
     to: &mut Vec<Msg<U>>,
 ) -> Result<(), NoMemory>
-    ensures { OnOk result (to.new.items ≡ to.old.items ++ left_msgs front.now) }
+    ensures { OnOk result (take count to.new.items ≡ take count (to.old.items ++ left_msgs front.now)) }
 {
     match front {
         None => Ok(()),
-        Some(left) => left.copy_into(alloc, to),
+        Some(left) => left.copy_into(alloc, count, to),
     }
 }
 

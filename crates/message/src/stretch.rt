@@ -3,13 +3,15 @@ ghost use Rattle.std.specs.Prelude.{◌≡◌, IfOk, true};
 ghost use Rattle.std.specs.Option.{option_copied};
 ghost use Rattle.pathkey.specs.Keys.{is_below};
 ghost use Rattle.message.specs.PointKeys.{point_stop, IsPointStop};
-ghost use Rattle.message.specs.Stretches.{ahead_of, range_end, is_for, IsNextEnd, IsStretch};
+ghost use Rattle.message.specs.Eldest.{eldest_msg};
+ghost use Rattle.message.specs.Stretches.{ahead_of, range_end, IsNextEnd, IsStretch};
 
+use crate::eldest::Eldest;
 use crate::ends::{copy_end, earlier, is_within};
 use crate::msg::Msg;
 use crate::update::Update;
 use crate::waiting::Waiting;
-use pathkey::{Key, KeyRange, NoMemory};
+use pathkey::{Key, NoMemory};
 use std::alloc::Global;
 
 /// The end, where it lies after `from`.
@@ -22,33 +24,35 @@ pub(crate) fn ahead_of<'a>(from: &Key, end: Option<&'a Key>) -> Option<&'a Key>
     }
 }
 
-/// Where the range next begins or ends after `from`.
-fn range_end<'a>(from: &Key, range: &'a KeyRange) -> Option<&'a Key>
-    ensures { option_copied result ≡ range_end from.now range.now }
+/// Where the range from `lo` up to `hi` next begins or ends after `from`; `None` is no end.
+fn range_end<'a>(from: &Key, lo: &'a Key, hi: Option<&'a Key>) -> Option<&'a Key>
+    ensures { option_copied result ≡ range_end from.now (record { lo = lo.now; hi = option_copied hi.entry }) }
 {
-    if from.cmp(&range.lo).is_lt() {
-        return Some(&range.lo);
+    if from.cmp(lo).is_lt() {
+        return Some(lo);
     }
-    ahead_of(from, range.hi.as_ref())
+    ahead_of(from, hi)
 }
 
 /// The next key after `from` where the message begins or ceases to touch keys, unless it is for `from` alone.
-fn next_end<'a, U: Update>(from: &Key, msg: &'a Msg<U>) -> Option<&'a Key>
+fn msg_end<'a, U: Update>(from: &Key, msg: &'a Msg<U>) -> Option<&'a Key>
     ensures { IsNextEnd from.now msg.now (option_copied result) }
 {
     match msg {
+        Msg::DelRange(range) => range_end(from, &range.lo, range.hi.as_ref()),
         Msg::Put(key, _) | Msg::Del(key) | Msg::Edit(key, _) => ahead_of(from, Some(key)),
-        Msg::DelRange(range) => range_end(from, range),
     }
 }
 
-/// Whether the message is for this key alone.
-fn is_for<U: Update>(msg: &Msg<U>, key: &Key) -> bool
-    ensures { result ≡ is_for msg.now key.now }
+/// The same for an oldest message, where it stands.
+fn next_end<'a, U: Update>(from: &Key, msg: Eldest<'a, U>) -> Option<&'a Key>
+    ensures { IsNextEnd from.now (eldest_msg msg.entry) (option_copied result) }
 {
-    match msg.point() {
-        Some(at) => at == key,
-        None => false,
+    match msg {
+        Eldest::Range(lo, hi) => range_end(from, lo, hi),
+        Eldest::Run(key, _) => ahead_of(from, Some(key)),
+        Eldest::Left(key, _) => ahead_of(from, Some(key)),
+        Eldest::Plain(msg) => msg_end(from, msg),
     }
 }
 
@@ -64,8 +68,8 @@ pub fn stretch_end<U: Update>(
 {
     let mut stop = end;
     for waiting in msgs {
-        let msg = waiting.msg();
-        if is_for(msg, from) {
+        let msg = waiting.eldest();
+        if msg.is_for(from) {
             return Ok(Some(from.next(alloc)?));
         }
         stop = earlier(stop, next_end(from, msg));
@@ -97,8 +101,7 @@ pub(crate) fn next_point<'a, U: Update>(
 {
     let mut stop = end;
     for waiting in msgs {
-        let msg = waiting.msg();
-        stop = point_stop(msg.point(), from, stop);
+        stop = point_stop(waiting.eldest().point(), from, stop);
     }
     stop
 }

@@ -1,9 +1,10 @@
 //! Messages as they came, the oldest first, which leave at the front.
 //!
 //! A queue holds them, so that the oldest one leaves without moving the others. Several tails may share a message.
-ghost use Rattle.std.specs.Prelude.{◌≡◌, ◌+◌, ◌^◌, ◌≤◌, ◌<◌, ◌++◌, [], ◌∷◌, true, length, take, drop, IfOk, IfNone, IfSome, OnOk, OnErr};
+ghost use Rattle.std.specs.Prelude.{◌≡◌, ◌+◌, ◌^◌, ◌≤◌, ◌<◌, ◌++◌, [], ◌∷◌, true, length, take, drop, Some, None, IfOk, IfNone, IfSome, OnOk, OnErr};
 ghost use Rattle.std.specs.Option.{option_copied, option_map, option_to_list};
 ghost use Rattle.std.specs.List.{slice_get};
+ghost use Rattle.message.specs.Cuts.{pieces, LieIn};
 ghost use Rattle.message.specs.Effects.{any_touches, effects, range_count};
 ghost use Rattle.message.specs.Eldest.{eldest_msg};
 ghost use Rattle.message.specs.PointKeys.{is_cleared, IsPointStop};
@@ -11,7 +12,7 @@ ghost use Rattle.message.specs.Stretches.{IsStretch};
 ghost use Rattle.pathkey.specs.Keys.{is_below};
 
 use crate::eldest::Eldest;
-use crate::list::{copy_behind, is_cleared, is_touched, lay_all, ranges_in, share_behind};
+use crate::list::{copy_behind, is_cleared, is_touched, lay_all, lie_in, ranges_in, share_behind};
 use crate::msg::Msg;
 use crate::stretch::{next_point, stretch_end};
 use crate::taken::Taken;
@@ -21,6 +22,7 @@ use pathkey::{Key, NoMemory};
 use std::alloc::Global;
 use std::collections::VecDeque;
 use std::marker::Model;
+use std::sync::Arc;
 
 /// Messages as they came, and room for more.
 #[derive(Drop)]
@@ -78,7 +80,15 @@ impl<U: Update> Tail<U> {
         ensures messages { self.new.0 ≡ self.old.0 ++ msg ∷ [] }
         ensures room { self.old.1 ≤ self.new.1 + 1 }
     {
-        let waiting = Waiting::new(self.allocator(), msg);
+        self.push_waiting(Waiting::new(self.allocator(), msg));
+    }
+
+    /// Puts a message as it lies in memory behind the others into reserved room.
+    fn push_waiting(&mut self, waiting: Waiting<U>)
+        requires { 0 < self.old.1 }
+        ensures messages { self.new.0 ≡ self.old.0 ++ waiting ∷ [] }
+        ensures room { self.old.1 ≤ self.new.1 + 1 }
+    {
         self.msgs.push_back_reserved(waiting);
     }
 
@@ -149,7 +159,7 @@ impl<U: Update> Tail<U> {
         ensures { option_map eldest_msg result ≡ slice_get self.now.0 0 }
     {
         match self.msgs.front() {
-            Some(waiting) => Some(Eldest::Plain(waiting.msg())),
+            Some(waiting) => Some(waiting.eldest()),
             None => None,
         }
     }
@@ -193,6 +203,62 @@ impl<U: Update> Tail<U> {
         Ok(Tail {
             msgs: VecDeque::from_vec(msgs),
         })
+    }
+
+    /// The parts of the messages before the pivot, and those from it on, as [`Waiting::cut_at`] makes them.
+    pub(crate) fn cut_at(self, alloc: Global, pivot: &Key) -> Result<(Tail<U>, Tail<U>), NoMemory>
+        ensures front { IfOk result (λ r. r.0.0 ≡ pieces [] (Some pivot.now) self.0) }
+        ensures back { IfOk result (λ r. r.1.0 ≡ pieces pivot.now None self.0) }
+    {
+        let pivot = Arc::new(alloc, pivot.copy(alloc)?)?;
+        let mut front = Vec::new(alloc);
+        let mut back = Vec::new(alloc);
+        let mut rest = self;
+        while let Some(waiting) = rest.take() {
+            let (before, behind) = waiting.cut_at(alloc, &pivot)?;
+            push_some(&mut front, before)?;
+            push_some(&mut back, behind)?;
+        }
+        Ok((Tail::of(front), Tail::of(back)))
+    }
+
+    /// A tail of these messages.
+    fn of(msgs: Vec<Waiting<U>>) -> Tail<U>
+        ensures { result.0 ≡ msgs.items }
+    {
+        Tail {
+            msgs: VecDeque::from_vec(msgs),
+        }
+    }
+
+    /// Moves the messages of a newer tail behind these. On want of memory both stay.
+    pub(crate) fn join(&mut self, newer: &mut Tail<U>) -> Result<(), NoMemory>
+        ensures ok { OnOk result (self.new.0 ≡ self.old.0 ++ newer.old.0) }
+        ensures moved { OnOk result (newer.new.0 ≡ []) }
+        ensures err { OnErr result ((self.new.0 ≡ self.old.0) × (newer.new.0 ≡ newer.old.0)) }
+    {
+        self.reserve(newer.len())?;
+        while let Some(waiting) = newer.take() {
+            self.push_waiting(waiting);
+        }
+        Ok(())
+    }
+
+    /// Whether each message lies whole before the pivot.
+    pub(crate) fn lies_before(&self, alloc: Global, pivot: &Key) -> bool
+        ensures { result ≡ true → LieIn [] (Some pivot.now) self.now.0 }
+    {
+        let (near, far) = self.msgs.as_slices();
+        let first = Key::new(alloc);
+        lie_in(near, &first, Some(pivot)) && lie_in(far, &first, Some(pivot))
+    }
+
+    /// Whether each message lies whole from the pivot on.
+    pub(crate) fn lies_from(&self, pivot: &Key) -> bool
+        ensures { result ≡ true → LieIn pivot.now None self.now.0 }
+    {
+        let (near, far) = self.msgs.as_slices();
+        lie_in(near, pivot, None) && lie_in(far, pivot, None)
     }
 
     /// Whether a message touches the key.
@@ -248,4 +314,14 @@ impl<U: Update> Tail<U> {
         let (near, far) = self.msgs.as_slices();
         is_cleared(near, key) || is_cleared(far, key)
     }
+}
+
+/// Puts a message behind others, if there is one.
+fn push_some<U: Update>(msgs: &mut Vec<Waiting<U>>, msg: Option<Waiting<U>>) -> Result<(), NoMemory>
+    ensures { OnOk result (msgs.new.items ≡ msgs.old.items ++ option_to_list msg) }
+{
+    if let Some(msg) = msg {
+        msgs.push(msg)?;
+    }
+    Ok(())
 }

@@ -3,10 +3,16 @@ use Rattle.message.proofs.RangeRows.{put_grows, put_few}
 use Rattle.message.proofs.ranges.put_in.Goals as goal
 
 pub overflow_sub-result : goal.overflow_sub-result
-overflow_sub-result g c = omega (arith, put_grows c.args.key c.args.value c.args.row.now c.insert.new.self c.in-Ok.ensures.entries, c.len-was.ensures.len, c.len.ensures.len)
+overflow_sub-result g c =
+    let item = c.args.item in
+    omega (arith, put_grows item.0 item.1 c.args.row.now c.insert_item.new.self c.in_ok-insert_item.ensures.entries, c.len-was.ensures.len, c.len.ensures.len)
 
-pub returns-in-Ok-clause-counted : goal.returns-in-Ok-clause-counted
-returns-in-Ok-clause-counted g c = omega (arith, put_grows c.args.key c.args.value c.args.row.now c.insert.new.self c.in-Ok.ensures.entries, c.len-was.ensures.len, c.len.ensures.len)
+pub returns-clause-counted : goal.returns-clause-counted
+returns-clause-counted g c =
+    let item = c.args.item in
+    omega (arith, put_grows item.0 item.1 c.args.row.now c.insert_item.new.self c.in_ok-insert_item.ensures.entries, c.len-was.ensures.len, c.len.ensures.len)
 
-pub returns-in-Ok-clause-few : goal.returns-in-Ok-clause-few
-returns-in-Ok-clause-few g c = omega (arith, put_few c.args.key c.args.value c.args.row.now c.insert.new.self c.in-Ok.ensures.entries, c.len-was.ensures.len, c.len.ensures.len)
+pub returns-clause-few : goal.returns-clause-few
+returns-clause-few g c =
+    let item = c.args.item in
+    omega (arith, put_few item.0 item.1 c.args.row.now c.insert_item.new.self c.in_ok-insert_item.ensures.entries, c.len-was.ensures.len, c.len.ensures.len)
