@@ -34,6 +34,9 @@ use pathkey::{Key, NoMemory};
 use std::alloc::Global;
 use std::sync::Arc;
 
+/// So many messages of a slot a flush into a leaf looks at, and copies, at most: as many as a node may hold.
+const LOOKED: u16 = 1024;
+
 /// Whether a leaf of at least `most` entries has none for the key of a put; `None` is another message.
 ///
 /// An update of an absent key may give it a value too, but only applying it tells.
@@ -172,7 +175,7 @@ fn absorb_oldest<U: Update>(alloc: Global, most: u16, slot: &mut Slot<U>) -> Ste
     ensures left { slot.new.pending.0 ≡ left result slot.old.pending.0 }
     ensures filled { Filled U.means most result slot.old.pending.0 slot.old.child.value slot.new.child.value }
 {
-    let few = few_oldest(&slot.pending, most.saturating_mul(2));
+    let few = few_oldest(&slot.pending, most.saturating_mul(2).min(LOOKED));
     let Ok(msgs) = slot.pending.copy_front(alloc, few) else {
         return StepReply::NoMemory;
     };

@@ -109,18 +109,16 @@ fn join_nodes<U: Update>(left: &mut Arc<Node<U>>, right: &mut Arc<Node<U>>) -> R
     Ok(())
 }
 
-/// A list of what waits in two lists, the newer one's messages behind the others. Both stay as they are.
+/// A list of what waits in two slots, the messages of the right one behind the others. Both lists stay as they are, and are shared.
 fn both_lists<U: Update>(
     alloc: Global,
-    older: &Pending<U>,
-    newer: &Pending<U>,
+    left: &Slot<U>,
+    right: &Slot<U>,
 ) -> Result<Pending<U>, NoMemory>
-    ensures { IfOk result (λ p. Takes U.means older.now.0 newer.now.0 p.0) }
+    ensures { IfOk result (λ p. Takes U.means left.now.pending.0 right.now.pending.0 p.0) }
 {
-    let mut list = older.copy(alloc)?;
-    let mut rest = newer.copy(alloc)?;
-    rest.sink_all(&mut list)?;
-    Ok(list)
+    let list = left.pending.copy(alloc)?;
+    list.joined(alloc, right.pending.copy(alloc)?, &right.lo)
 }
 
 /// Moves the messages of the slot `right`, and what its child holds, behind those of `left`.
@@ -129,7 +127,7 @@ fn join<U: Update>(alloc: Global, left: &mut Slot<U>, right: &mut Slot<U>) -> Re
     ensures ok { OnOk result (IsJoined U.means left.old right.old left.new) }
     ensures err { OnErr result ((see_slot left.new ≡ see_slot left.old) × (see_slot right.new ≡ see_slot right.old)) }
 {
-    let list = both_lists(alloc, &left.pending, &right.pending)?;
+    let list = both_lists(alloc, left, right)?;
     join_nodes(&mut left.child, &mut right.child)?;
     left.pending = list;
     Ok(())

@@ -28,14 +28,14 @@ fn has_levels<U: Update>(node: &Node<U>, n: u8) -> bool
     }
 }
 
-/// A list that has taken copies of all messages of the slots, slot by slot.
+/// A list of all messages of the slots, which it shares with them, slot by slot.
 fn gathered<U: Update>(alloc: Global, slots: &[Slot<U>]) -> Result<Pending<U>, NoMemory>
     ensures { IfOk result (λ p. Takes U.means [] (all_msgs (seen_slots slots.now)) p.0) }
 {
     let mut all = Pending::new(alloc);
     for slot in slots {
-        let mut own = slot.pending.copy(alloc)?;
-        own.sink_all(&mut all)?;
+        let own = slot.pending.copy(alloc)?;
+        all = all.joined(alloc, own, &slot.lo)?;
     }
     Ok(all)
 }

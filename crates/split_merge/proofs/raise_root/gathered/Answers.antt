@@ -13,8 +13,8 @@ loop-slot-preserved g c =
     let i = c.loop-slot.slot-index in
     let rest = all_msgs (seen_slots (drop (i + 1) xs)) in
     let next = gathered_next xs i c.slot-item.result c.loop-slot-test.true c.slot-item.is in
-    let took = subst (λ ms. Takes means c.loop-slot.all.0 ms c.sink_all.new.to.0) c.in_ok-own.ensures c.in_ok-sink_all.ensures.ok in
-    takes-on means c.slot-item.result.pending.0 rest c.loop-slot.all.0 c.sink_all.new.to.0 [] (all_msgs (seen_slots xs)) took (λ d t. c.loop-slot.invariant d (subst (λ ms. Takes means c.loop-slot.all.0 ms d) (sym next) t))
+    let took = subst (λ ms. Takes means c.loop-slot.all.0 ms c.in_ok-all.all.0) c.in_ok-own.ensures c.in_ok-all.ensures in
+    takes-on means c.slot-item.result.pending.0 rest c.loop-slot.all.0 c.in_ok-all.all.0 [] (all_msgs (seen_slots xs)) took (λ d t. c.loop-slot.invariant d (subst (λ ms. Takes means c.loop-slot.all.0 ms d) (sym next) t))
 
 pub returns : goal.returns
 returns g c =
