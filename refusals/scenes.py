@@ -1,9 +1,10 @@
 """The scenes: what each one is called, what stands before it, what is asked, and how it is judged.
 
 A scene runs `refusals` with its words and its opening on standard input. `free` ones must do as ever with every request refused; of
-the others each request is refused once.
+the others each request is refused once. Of those that run `list_costs` nothing is refused: their requests are counted.
 """
 import dataclasses
+from collections.abc import Callable
 
 
 @dataclasses.dataclass(frozen=True)
@@ -13,12 +14,14 @@ class Scene:
     group: str
     words: tuple[str, ...]
     opening: tuple[str, ...]
-    # How it is judged: `call`, `script`, `run`, `text` or `betr`.
+    # How it is judged: `call`, `script`, `run`, `text` or `count`.
     judged: str = "call"
     # Whether it takes no memory, so that it does as ever with every request refused.
     free: bool = False
     # What the answer begins with where nothing is refused.
     wanted: str = ""
+    # What is printed behind a deed on lists of so many messages of a kind.
+    left: Callable[[int], tuple[str, ...]] = lambda _: ()
 
     @property
     def name(self) -> str:
@@ -196,6 +199,15 @@ WHOLE = tuple(
 FIRST_IMAGE = ("d /", "f /a 9000", f"b 0 {hexed(4_096)}", f"b 2 {hexed(808)}", "d /b", *(f"f /b/f{number:02} 5" for number in range(40)), "d /c")
 IMAGE = tuple(line if line.startswith("b ") else f"{line[0].upper()}{line[1:]} {number}" for number, line in enumerate(FIRST_IMAGE))
 SMALL = ("--fanout", "4", "--pending", "4", "--leaf", "4", "--steps", "1", "--image")
+# Deeds on lists, and what they leave of so many messages of a kind: the messages of each list, and the range-deletes among them.
+DEEDS = (
+    ("cut", lambda count: (f"front {count + 1} {count // 2 + 1}", f"back {count} {count // 2}")),
+    ("cut_tail", lambda count: (f"front {3 * count // 2} {count}", f"back {3 * count // 2} {count}")),
+    ("join", lambda count: (f"joined {2 * count} {count}",)),
+    ("join_tails", lambda count: (f"joined {3 * count} {2 * count}",)),
+    ("sink", lambda count: ("left 0 0", f"to {2 * count - 2} {count - 2}")),
+    ("take", lambda count: ("copied 7 sunk 1", f"left {count} 0", f"to {count + 2} 0")),
+)
 
 
 def calls():
@@ -295,8 +307,13 @@ def engines():
     yield Scene("flushers", ("stale_turn", "s"), WITH_BLOCKS, wanted="stale")
 
 
+def lists():
+    for deed, left in DEEDS:
+        yield Scene("lists", ("list_costs", deed), (), judged="count", left=left)
+
+
 def all_scenes():
     """All of them, the small ones first."""
     yield Scene("small calls", ("small",), (), free=True)
-    for some in (calls, snapshots, frozen, planting, scripts, jobs, steps, engines):
+    for some in (lists, calls, snapshots, frozen, planting, scripts, jobs, steps, engines):
         yield from some()

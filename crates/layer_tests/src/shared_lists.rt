@@ -64,6 +64,23 @@ fn with_a_tail(alloc: Global) -> Result<Pending<Lone>, NoMemory> {
     Ok(list)
 }
 
+/// The same with a range-delete over the key 100 and one update more, which wait as they came.
+fn with_a_range_in_the_tail(alloc: Global) -> Result<Pending<Lone>, NoMemory> {
+    let mut list = with_a_tail(alloc)?;
+    list.reserve(2)?;
+    list.push_kept(Msg::DelRange(range(alloc, 50, Some(150))?));
+    list.push_kept(Msg::Edit(key(alloc, 120)?, Lone(6)));
+    Ok(list)
+}
+
+/// The same with a range-delete over the key 100 that has its place among the others.
+fn with_a_range_inside(alloc: Global) -> Result<Pending<Lone>, NoMemory> {
+    let mut list = list_of_lone(alloc)?;
+    list.reserve(1)?;
+    list.push_reserved(Msg::DelRange(range(alloc, 50, Some(150))?));
+    Ok(list)
+}
+
 /// The same without the first of a key's two updates.
 fn half_gone(alloc: Global) -> Result<Pending<Lone>, NoMemory> {
     let mut list = list_of_lone(alloc)?;
@@ -95,6 +112,7 @@ fn copies_of_lists_copy_no_message(rt: HostRuntime) {
     assert!(rt; is_shared(alloc, list_of_lone(alloc)));
     assert!(rt; is_shared(alloc, with_a_range(alloc)));
     assert!(rt; is_shared(alloc, with_a_tail(alloc)));
+    assert!(rt; is_shared(alloc, with_a_range_in_the_tail(alloc)));
     assert!(rt; is_shared(alloc, half_gone(alloc)));
 }
 
@@ -112,15 +130,24 @@ fn parted_at(alloc: Global, list: &mut Pending<Lone>, at: u8) -> Result<Pending<
     list.split_off(alloc, 0, &Key::new(alloc), &pivot)
 }
 
-/// Whether a cut of the list succeeds, and all its messages are in the parts.
+/// Whether a cut of the list succeeds, and all its messages are in the parts; a range-delete over the key is in both.
 fn has_parts(alloc: Global, list: &mut Pending<Lone>, at: u8) -> bool {
     let all = list.len();
+    let ranges = list.range_deletes(0);
     match parted_at(alloc, list, at) {
-        Ok(back) => back.len() > 0
-            && list.len() > 0
-            && all.saturating_sub(back.len()) == list.len(),
+        Ok(back) => { back.len() > 0 && list.len() > 0 && have_all(list, &back, all, ranges) }
         Err(_) => false,
     }
+}
+
+/// Whether both parts of a list have so many messages together, but for each of its range-deletes at most one more.
+fn have_all(front: &Pending<Lone>, back: &Pending<Lone>, all: usize, ranges: usize) -> bool {
+    let parts = front.len().saturating_add(back.len());
+    let cut = front
+        .range_deletes(0)
+        .saturating_add(back.range_deletes(0))
+        .saturating_sub(ranges);
+    parts == all.saturating_add(cut)
 }
 
 #[test]
@@ -128,11 +155,70 @@ fn cuts_copy_no_message_for_one_key(rt: HostRuntime) {
     let alloc = rt.alloc();
     assert!(rt; is_cut(alloc, list_of_lone(alloc), 100));
     assert!(rt; is_cut(alloc, with_a_range(alloc), 100));
+    assert!(rt; is_cut(alloc, with_a_tail(alloc), 100));
+    assert!(rt; is_cut(alloc, with_a_range_in_the_tail(alloc), 100));
+    assert!(rt; is_cut(alloc, with_a_range_inside(alloc), 100));
+    assert!(rt; is_cut(alloc, half_gone(alloc), 100));
+}
+
+/// Whether the parts of a list before a key and from it on are joined again, and have as many messages as the parts.
+fn rejoins(alloc: Global, list: Result<Pending<Lone>, NoMemory>, at: u8) -> bool {
+    match rejoined(alloc, list, at) {
+        Ok(is_whole) => is_whole,
+        Err(NoMemory) => false,
+    }
+}
+
+/// The same, unless memory is refused.
+fn rejoined(
+    alloc: Global,
+    list: Result<Pending<Lone>, NoMemory>,
+    at: u8,
+) -> Result<bool, NoMemory> {
+    let mut front = list?;
+    let back = parted_at(alloc, &mut front, at)?;
+    let parts = front.len().saturating_add(back.len());
+    let all = front.joined(alloc, back, &key(alloc, at)?)?;
+    Ok(all.len() == parts)
+}
+
+/// The list, cut at a key and joined again.
+fn halves_joined(alloc: Global, list: Pending<Lone>, at: u8) -> Result<Pending<Lone>, NoMemory> {
+    let mut front = list;
+    let back = parted_at(alloc, &mut front, at)?;
+    front.joined(alloc, back, &key(alloc, at)?)
+}
+
+/// Whether a list whose range-delete was cut and joined again has as many messages as before.
+fn is_whole_again(alloc: Global) -> bool {
+    let Ok(list) = with_a_range_inside(alloc) else {
+        return false;
+    };
+    let all = list.len();
+    match halves_joined(alloc, list, 100) {
+        Ok(again) => again.len() == all && again.range_deletes(0) == 1,
+        Err(NoMemory) => false,
+    }
+}
+
+#[test]
+fn a_range_delete_that_was_cut_is_one_again(rt: HostRuntime) {
+    assert!(rt; is_whole_again(rt.alloc()));
+}
+
+#[test]
+fn joins_copy_no_message_for_one_key(rt: HostRuntime) {
+    let alloc = rt.alloc();
+    assert!(rt; rejoins(alloc, list_of_lone(alloc), 100));
+    assert!(rt; rejoins(alloc, with_a_range(alloc), 100));
+    assert!(rt; rejoins(alloc, with_a_tail(alloc), 100));
+    assert!(rt; rejoins(alloc, with_a_range_in_the_tail(alloc), 100));
+    assert!(rt; rejoins(alloc, half_gone(alloc), 100));
 }
 
 /// Whether all messages of a list move behind those of another.
-fn moves(alloc: Global) -> bool {
-    let Ok(mut list) = with_a_range(alloc) else {
+fn moves(alloc: Global, list: Result<Pending<Lone>, NoMemory>) -> bool {
+    let Ok(mut list) = list else {
         return false;
     };
     let mut to = Pending::new(alloc);
@@ -142,5 +228,7 @@ fn moves(alloc: Global) -> bool {
 
 #[test]
 fn a_list_moves_whole_without_copies(rt: HostRuntime) {
-    assert!(rt; moves(rt.alloc()));
+    let alloc = rt.alloc();
+    assert!(rt; moves(alloc, with_a_range(alloc)));
+    assert!(rt; moves(alloc, with_a_range_in_the_tail(alloc)));
 }

@@ -1,0 +1,11 @@
+//! The two lines on standard output between which the requests for memory of a deed lie.
+
+/// Prints the line behind which the deed begins.
+pub fn open<R: Print>(rt: &R) {
+    let _ = print!(rt; "asked\n");
+}
+
+/// Prints the line before which it has ended.
+pub fn close<R: Print>(rt: &R) {
+    let _ = print!(rt; "told\n");
+}
