@@ -2,7 +2,7 @@
 //! how many messages each list then has, and how many of them are range-deletes.
 //!
 //! It prints a line `asked` before the deed and a line `told` behind it, and nothing else between them: so another program can count
-//! the deed's requests for memory (`refusals/run` at the top). Each key is so long that a copy of it takes memory, so a copy of a
+//! the deed's requests for memory (`tests/refusals/run` at the top). Each key is so long that a copy of it takes memory, so a copy of a
 //! message shows in that count.
 #![tactic(auto)]
 

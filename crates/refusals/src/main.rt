@@ -2,7 +2,7 @@
 //! what stands behind it.
 //!
 //! It prints a line `asked` before the call and a line `told` behind it, and nothing else between them: so another program knows
-//! which requests for memory are the call's, and can refuse them (`refusals/run` at the top).
+//! which requests for memory are the call's, and can refuse them (`tests/refusals/run` at the top).
 #![tactic(auto)]
 
 pub mod clients;
