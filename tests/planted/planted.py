@@ -1,0 +1,300 @@
+"""Planted edits, what they stand against, and the record of what was tried.
+
+An edit (`crates/NAME/planted/*.edit`) is a wrong body that the prover has to refuse. `tests/planted/tried` has a line for each
+crate: its name, a checksum of what its contracts say, how many edits were tried, how many were refused, and whether those were all
+of its edits or the named ones (`tests/planted/named`). A line holds as long as the crate's checksum is the one that it names.
+"""
+from __future__ import annotations
+
+import dataclasses
+import functools
+import hashlib
+import re
+from pathlib import Path
+
+from source import HOLDERS, Item, Source, antt_said, read_source
+
+ALL, NAMED = "all", "named"
+# Attributes that help a proof or the compiler, and say nothing of what a function does.
+IDLE = re.compile(r"#\s*!?\s*\[\s*(tactic|inline|cold|allow)\b")
+HEADER = """\
+# What was tried of each crate's planted edits, written by tests/planted/try: the crate, a checksum of what its contracts say,
+# how many edits were tried, how many of them were refused, and whether those were all or the named ones.
+"""
+
+
+class BadEdit(Exception):
+    """Why an edit cannot be applied."""
+
+
+@dataclasses.dataclass(frozen=True)
+class Change:
+    """One text of a file that an edit puts another in the place of."""
+
+    path: str
+    old: str
+    new: str
+
+
+@dataclasses.dataclass(frozen=True)
+class Edit:
+    crate: str
+    name: str
+    path: Path
+
+    @property
+    def label(self) -> str:
+        return f"{self.crate}/{self.name}"
+
+    def changes(self) -> list[Change]:
+        """The edit's changes, read as `rt must-fail` reads them."""
+        path, old, found = "", "", []
+        for line in self.path.read_text(encoding="utf-8").split("\n"):
+            if line.startswith("file: "):
+                path = line[len("file: ") :].strip()
+                if not re.fullmatch(r"(src|specs|proofs)(/(?!\.\.?(/|$))[^/]+)+", path):
+                    raise BadEdit("a 'file:' line names no file below src/, specs/ or proofs/")
+            elif line.startswith("old: "):
+                old = line[len("old: ") :]
+            elif line.startswith("new:"):
+                if not path or not old:
+                    raise BadEdit("a 'new:' line stands before any 'file:' or 'old:' line")
+                new = line[len("new:") :]
+                found.append(Change(path, old, new[1:] if new.startswith(" ") else new))
+                old = ""
+        if not found:
+            raise BadEdit("it has no 'old:' and 'new:' pair")
+        return found
+
+    def applied(self, folder: Path) -> dict[str, str]:
+        """The texts that the edit makes of the files of the crate in the folder; BadEdit where it does not apply."""
+        texts: dict[str, str] = {}
+        was: dict[str, str] = {}
+        for change in self.changes():
+            if change.path not in texts:
+                if not (folder / change.path).is_file():
+                    raise BadEdit(f"there is no file {change.path}")
+                texts[change.path] = was[change.path] = (folder / change.path).read_text(encoding="utf-8")
+            count = texts[change.path].count(change.old)
+            if count != 1:
+                raise BadEdit(f"an 'old:' text is in {change.path} {count} times, and not once")
+            texts[change.path] = texts[change.path].replace(change.old, change.new)
+        if texts == was:
+            raise BadEdit("it changes nothing")
+        return texts
+
+
+@dataclasses.dataclass(frozen=True)
+class Crate:
+    name: str
+    folder: Path
+    # the repository's crates that it uses, by name
+    uses: tuple[str, ...]
+
+    def sources(self) -> list[Source]:
+        """The files of src/, read."""
+        return list(sources_of(self.folder))
+
+    def specs(self) -> list[str]:
+        """Each file of specs/ without its comments, behind its path."""
+        files = sorted((self.folder / "specs").rglob("*.antt"))
+        return [f"{it.relative_to(self.folder)} {antt_said(it.read_text(encoding='utf-8'))}" for it in files]
+
+    def edits(self) -> list[Edit]:
+        files = sorted((self.folder / "planted").glob("*"))
+        return [Edit(self.name, it.stem, it) for it in files if it.suffix == ".edit"]
+
+
+@functools.lru_cache(maxsize=None)
+def sources_of(folder: Path) -> tuple[Source, ...]:
+    files = sorted((folder / "src").rglob("*.rt"))
+    return tuple(read_source(str(it.relative_to(folder)), it.read_text(encoding="utf-8")) for it in files)
+
+
+def said_of(source: Source, item: Item, end: int) -> str:
+    """What an item says from its start to a place, with those of its attributes that count."""
+    kept = [it.of(source.said) for it in item.attributes if not IDLE.match(source.code, it.start)]
+    return " ".join([*kept, *source.said[item.start : end].split()])
+
+
+def imports(source: Source, item: Item, text: str) -> str:
+    """What an item `ghost use` brings that the text uses: the module, and the names of it that stand in the text."""
+    said = said_of(source, item, item.span.end)
+    module, brace, names = said.partition("{")
+    used = [it for it in names.rstrip("}; ").split(", ") if any(part and part in text for part in re.split("◌| as ", it))]
+    return f"{module}{' '.join(used)}" if brace and used else "" if brace else said
+
+
+def everything(item: Item, holder: Item | None) -> bool:
+    return True
+
+
+def stated(source: Source, items: tuple[Item, ...], is_shown=everything, holder: Item | None = None) -> list[str]:
+    """What the items state: all of them but the bodies of functions and what is not cited. `is_shown` picks items, by what holds them."""
+    found = []
+    for item in items:
+        if item.kind in ("use", "ghost use") or item.kind == "mod" and not item.body or not is_shown(item, holder):
+            continue
+        if item.kind in HOLDERS and item.body:
+            parts = stated(source, item.parts, is_shown, item)
+            if parts or holder_is_trait_impl(source, item):
+                found += [said_of(source, item, item.body.start), *parts, "}"]
+        else:
+            found.append(said_of(source, item, item.body.start if item.kind == "fn" and item.body else item.span.end))
+    brought = (imports(source, it, " ".join(found)) for it in items if it.kind == "ghost use")
+    return [*filter(None, brought), *found]
+
+
+def header_of(source: Source, item: Item) -> str:
+    return source.code[item.start : item.body.start] if item.body else ""
+
+
+def holder_is_trait_impl(source: Source, item: Item) -> bool:
+    return item.kind == "trait" or item.kind == "impl" and bool(re.search(r"\bfor\b(?!\s*<)", header_of(source, item)))
+
+
+def self_type(source: Source, item: Item) -> str:
+    """The name of the type that an impl is of, or ''."""
+    header = re.sub(r"\bwhere\b.*", "", header_of(source, item), flags=re.S)
+    of_trait = re.search(r"\bfor\b(?!\s*<)(.*)", header, re.S)
+    text = of_trait[1] if of_trait else re.sub(r"^[^<]*<(?:[^<>]|<(?:[^<>]|<[^<>]*>)*>)*>(?=\s)", "", header) or header
+    found = re.search(r"\b([A-Z]\w*)", text)
+    return found[1] if found else ""
+
+
+def private_types(sources: list[Source]) -> set[str]:
+    kinds = ("struct", "enum", "union", "trait", "type")
+    found = [it for source in sources for it in source.items if it.kind in kinds]
+    return {it.name for it in found if not it.is_public} - {it.name for it in found if it.is_public}
+
+
+def publicly_stated(sources: list[Source]) -> list[str]:
+    """What a crate states to those above it: its public items, its constants, and what it implements for public types."""
+    private = private_types(sources)
+    found = []
+    for source in sources:
+
+        def is_shown(item: Item, holder: Item | None) -> bool:
+            if item.kind == "fn":
+                return item.is_public or holder is not None and holder_is_trait_impl(source, holder)
+            if item.kind == "impl":
+                return self_type(source, item) not in private
+            return item.is_public or item.kind not in ("struct", "enum", "union", "trait", "type") or holder is not None
+
+        found += [source.path, *stated(source, source.items, is_shown)]
+    return found
+
+
+class Repository:
+    """The crates below a folder, and the files of tests/planted."""
+
+    def __init__(self, top: Path):
+        self.top, self.record = top, top / "tests/planted/tried"
+        lines = [it.split("#")[0].strip() for it in (top / "crates.txt").read_text(encoding="utf-8").split("\n")]
+        self.crates: dict[str, Crate] = {}
+        said = {head.split()[0]: uses.split() for head, _, uses in (it.partition(":") for it in lines if it)}
+        for name, uses in said.items():
+            self.crates[name] = Crate(name, top / "crates" / name, tuple(it for it in uses if it in said))
+        self.public: dict[str, str] = {}
+
+    def below(self, crate: Crate) -> list[Crate]:
+        """The crates that it stands on, directly or not, by name."""
+        found: set[str] = set()
+        left = list(crate.uses)
+        while left:
+            name = left.pop()
+            if name not in found:
+                found.add(name)
+                left += self.crates[name].uses
+        return [self.crates[it] for it in sorted(found)]
+
+    def with_edits(self) -> list[Crate]:
+        return [it for it in self.crates.values() if it.edits()]
+
+    def named(self) -> set[str]:
+        """The labels of the named edits, as CRATE/EDIT."""
+        lines = (self.top / "tests/planted/named").read_text(encoding="utf-8").split("\n")
+        return {it.strip() for it in lines if it.strip() and not it.startswith("#")}
+
+    def edits(self, crate: Crate, which: str) -> list[Edit]:
+        """All edits of a crate, or the named ones; of a crate that has none of these, all."""
+        named = self.named()
+        picked = [it for it in crate.edits() if which == ALL or it.label in named]
+        return picked or crate.edits()
+
+    def contracts(self, crate: Crate) -> str:
+        """A checksum of what the crate's contracts say and its edits are, and of what the crates below it state to others."""
+        own = [text for it in crate.sources() for text in (it.path, *stated(it, it.items))]
+        edits = [f"{it.name} {it.path.read_text(encoding='utf-8')}" for it in crate.edits()]
+        return checksum([*own, *crate.specs(), *edits, *(self.stated_to_others(it) for it in self.below(crate))])
+
+    def stated_to_others(self, crate: Crate) -> str:
+        if crate.name not in self.public:
+            self.public[crate.name] = checksum([*publicly_stated(crate.sources()), *crate.specs()])
+        return self.public[crate.name]
+
+    def stray(self) -> list[str]:
+        """What stands in a folder planted/ and is no edit of a crate, and names of edits that are not there."""
+        folders = sorted((self.top / "crates").glob("*/planted"))
+        files = [it for folder in folders for it in sorted(folder.iterdir())]
+        lost = [it for it in files if it.suffix != ".edit" or not it.is_file() or it.parent.parent.name not in self.crates]
+        labels = {it.label for crate in self.crates.values() for it in crate.edits()}
+        return [
+            *(f"{it.relative_to(self.top)} is no edit of a crate that crates.txt names: move or remove it" for it in lost),
+            *(f"tests/planted/named names {it}, which is not there: remove the line" for it in sorted(self.named() - labels)),
+        ]
+
+
+def checksum(texts: list[str]) -> str:
+    return hashlib.sha256(repr(texts).encode()).hexdigest()[:20]
+
+
+@dataclasses.dataclass(frozen=True)
+class Line:
+    """A crate's line of the record."""
+
+    crate: str
+    contracts: str
+    tried: int
+    refused: int
+    which: str
+
+    def __str__(self) -> str:
+        return f"{self.crate} {self.contracts} {self.tried} {self.refused} {self.which}"
+
+
+def read_record(file: Path) -> dict[str, Line]:
+    """The record's lines by their crates. A line that cannot be read is none, so that its crate has none."""
+    found = {}
+    for text in file.read_text(encoding="utf-8").split("\n") if file.is_file() else []:
+        words = text.split("#")[0].split()
+        if len(words) == 5 and words[2].isdigit() and words[3].isdigit() and words[4] in (ALL, NAMED):
+            found[words[0]] = Line(words[0], words[1], int(words[2]), int(words[3]), words[4])
+        elif words:
+            found[words[0]] = Line(words[0], "", 0, 0, ALL)
+    return found
+
+
+def write_record(repository: Repository, lines: dict[str, Line]) -> None:
+    """Writes the lines of crates that are there, in the order of crates.txt."""
+    kept = [str(lines[it]) for it in repository.crates if it in lines]
+    repository.record.write_text(HEADER + "".join(f"{it}\n" for it in kept), encoding="utf-8")
+
+
+def wrong_with(repository: Repository, crate: Crate, line: Line | None) -> str | None:
+    """Why the crate's line does not hold, if it does not."""
+    if not line:
+        return "has no line in tests/planted/tried"
+    if line.contracts != repository.contracts(crate):
+        return "has a stale line in tests/planted/tried: what its contracts say, or those below it, or its edits changed"
+    number = len(repository.edits(crate, line.which))
+    if line.tried != number:
+        return f"has a line in tests/planted/tried that tells of {line.tried} edits, and there are {number}"
+    if line.refused != number:
+        return f"has edits that were not refused: {number - line.refused} of {number}"
+    return None
+
+
+def stale(repository: Repository, lines: dict[str, Line]) -> list[Crate]:
+    """The crates whose lines do not hold."""
+    return [it for it in repository.with_edits() if wrong_with(repository, it, lines.get(it.name))]
