@@ -177,7 +177,7 @@ class Trial:
 
     def rt(self, *words: str, where: Path) -> subprocess.CompletedProcess:
         how = {"cwd": where, "stdin": subprocess.DEVNULL, "stdout": subprocess.PIPE, "stderr": subprocess.STDOUT, "text": True, "errors": "replace"}
-        return subprocess.run(["nice", "-n", "5", "rt", *words], **how)
+        return subprocess.run(["nice", "-n", "5", "rt", *words], env={**os.environ, "RT_JOBS": "1"}, **how)
 
     def begin(self) -> None:
         """Checks the crate as it stands, over what checks kept, and keeps what that check leaves."""
