@@ -183,7 +183,7 @@ class Trial:
         """Checks the crate as it stands, over what checks kept, and keeps what that check leaves."""
         ran = self.rt("check", "--jobs", "1", where=self.crate.folder)
         if ran.returncode:
-            raise NotProved("\n".join(ran.stdout.rstrip().split("\n")[-12:]))
+            raise NotProved("\n".join(["the crate as it stands is not proved:", *ran.stdout.rstrip().split("\n")[-12:]]))
         linked(self.work, self.seed)
 
     def again(self) -> None:
