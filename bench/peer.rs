@@ -1,11 +1,13 @@
 //! A peer of `betr` in plain Rust, for comparison: two maps of std, and no tree of messages.
 //!
 //! It reads the same scripts and gives the same replies, and reads and prints the same images; of the options of `betr`
-//! it knows `--load FILE`, `--image` and a script's name. It is built by `rustc -O` alone, and nothing of it is proved.
-use std::collections::BTreeMap;
+//! it knows `--load FILE`, `--image` and a script's name. It is built by `rustc --edition 2021 -O` alone, of Rust 1.63 or
+//! a later one, and nothing of it is proved.
 use std::collections::btree_map::Entry;
+use std::collections::BTreeMap;
 use std::fs::File;
 use std::io::{self, BufRead, BufReader, BufWriter, Read, Write};
+use std::ops::Range;
 use std::process::ExitCode;
 
 const BLOCK: usize = 4_096;
@@ -85,6 +87,21 @@ fn parent(key: &[u8]) -> Option<&[u8]> {
     let (_, names) = key.split_last()?;
     let at = names.iter().rposition(|&byte| byte == 0);
     Some(at.map_or(&[], |at| &key[..=at]))
+}
+
+/// Takes what lies in a range out of a map: key by key where it is a small part of the map, else by cutting the map.
+fn take_range<K: Ord + Clone, V>(map: &mut BTreeMap<K, V>, range: &Range<K>) -> BTreeMap<K, V> {
+    let there = map.range::<K, _>(&range.start..&range.end);
+    if there.clone().count() <= map.len() / 8 {
+        let keys: Vec<K> = there.map(|(key, _)| key.clone()).collect();
+        return keys
+            .iter()
+            .filter_map(|key| map.remove_entry(key))
+            .collect();
+    }
+    let mut taken = map.split_off(&range.start);
+    map.append(&mut taken.split_off(&range.end));
+    taken
 }
 
 /// Files and directories: what stands at each path, and the bytes of each block up to the last that was written.
@@ -230,22 +247,16 @@ impl Tree {
             place.1 += 1;
         }
         let end = (place.0.clone(), u32::MAX);
-        self.blocks
-            .extract_if(place..end, |_, _| true)
-            .for_each(drop);
+        take_range(&mut self.blocks, &(place..end));
         Ok(Reply::Done)
     }
 
     /// Takes out what stands at a path with all below it.
     fn take_out(&mut self, key: Key) {
-        let Some(end) = end_of(&key) else { return };
-        let (first, last) = ((key.clone(), 0), (end.clone(), 0));
-        self.blocks
-            .extract_if(first..last, |_, _| true)
-            .for_each(drop);
-        self.entries
-            .extract_if(key..end, |_, _| true)
-            .for_each(drop);
+        if let Some(end) = end_of(&key) {
+            take_range(&mut self.blocks, &((key.clone(), 0)..(end.clone(), 0)));
+            take_range(&mut self.entries, &(key..end));
+        }
     }
 
     fn unlink(&mut self, key: Key, at: u64) -> Answer {
@@ -253,7 +264,8 @@ impl Tree {
             return Err(Fault::Perm);
         }
         self.touch(&key, at);
-        self.take_out(key);
+        self.entries.remove(&key);
+        take_range(&mut self.blocks, &((key.clone(), 0)..(key, u32::MAX)));
         Ok(Reply::Done)
     }
 
@@ -311,18 +323,16 @@ impl Tree {
 
     /// Puts what stands at and below one path at and below another, at which nothing stands.
     fn shift(&mut self, old: Key, new: &Key) {
-        let Some(end) = end_of(&old) else { return };
-        let renamed = |key: &Key| [new, &key[old.len()..]].concat();
-        let blocks = self
-            .blocks
-            .extract_if((old.clone(), 0)..(end.clone(), 0), |_, _| true);
-        let blocks: Vec<_> = blocks
-            .map(|((key, i), bytes)| ((renamed(&key), i), bytes))
-            .collect();
-        let entries = self.entries.extract_if(old.clone()..end, |_, _| true);
-        let entries: Vec<_> = entries.map(|(key, meta)| (renamed(&key), meta)).collect();
-        self.blocks.extend(blocks);
-        self.entries.extend(entries);
+        if let Some(end) = end_of(&old) {
+            let renamed = |key: &Key| [new, &key[old.len()..]].concat();
+            let places = (old.clone(), 0)..(end.clone(), 0);
+            for ((key, number), bytes) in take_range(&mut self.blocks, &places) {
+                self.blocks.insert((renamed(&key), number), bytes);
+            }
+            for (key, meta) in take_range(&mut self.entries, &(old.clone()..end)) {
+                self.entries.insert(renamed(&key), meta);
+            }
+        }
     }
 
     fn read(&self, key: Key, offset: u64, count: u64) -> Answer {
@@ -483,7 +493,7 @@ fn read_look(command: &[u8], words: &[&[u8]]) -> Option<Result<Look, Fault>> {
 fn read_number(word: &[u8]) -> Option<u64> {
     let is_decimal =
         word.iter().all(u8::is_ascii_digit) && (word == b"0" || word.first() != Some(&b'0'));
-    str::from_utf8(word)
+    std::str::from_utf8(word)
         .ok()
         .filter(|_| is_decimal)?
         .parse()
@@ -507,11 +517,12 @@ fn read_hex(word: &[u8]) -> Option<Vec<u8>> {
     if word == b"-" {
         return Some(Vec::new());
     }
-    let (pairs, rest) = word.as_chunks::<2>();
-    if word.is_empty() || !rest.is_empty() {
+    if word.is_empty() || word.len() % 2 == 1 {
         return None;
     }
-    pairs.iter().map(|&[high, low]| pair(high, low)).collect()
+    word.chunks_exact(2)
+        .map(|digits| pair(digits[0], digits[1]))
+        .collect()
 }
 
 fn read_snapshot(word: &[u8]) -> Result<Vec<u8>, Fault> {
@@ -630,8 +641,9 @@ fn put_image(out: &mut impl Write, tree: &Tree) -> io::Result<()> {
 }
 
 fn put_path(out: &mut impl Write, key: &[u8]) -> io::Result<()> {
-    let Some((_, names)) = key.split_last() else {
-        return out.write_all(b"/");
+    let names = match key.split_last() {
+        Some((_, names)) => names,
+        None => return out.write_all(b"/"),
     };
     for name in names.split(|&byte| byte == 0) {
         out.write_all(b"/")?;
@@ -641,12 +653,12 @@ fn put_path(out: &mut impl Write, key: &[u8]) -> io::Result<()> {
 }
 
 fn put_block(out: &mut impl Write, number: u32, block: &[u8]) -> io::Result<()> {
-    let Some(last) = block.iter().rposition(|&byte| byte != 0) else {
-        return Ok(());
-    };
-    write!(out, "b {number} ")?;
-    put_hex(out, &block[..=last])?;
-    out.write_all(b"\n")
+    if let Some(last) = block.iter().rposition(|&byte| byte != 0) {
+        write!(out, "b {number} ")?;
+        put_hex(out, &block[..=last])?;
+        out.write_all(b"\n")?;
+    }
+    Ok(())
 }
 
 /// The tree whose image a file has, or what is wrong with it; not every text that is none is refused.

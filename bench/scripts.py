@@ -2,7 +2,8 @@
 """Makes the scripts of the workloads: bench/scripts.py WORKLOAD N [prepare | work] prints one.
 
 Each workload has lines that prepare, and lines of the work itself; what a run takes for the work is what it takes for
-both less what it takes for the first alone. The same N gives the same lines.
+both less what it takes for the first alone. The same N gives the same lines. Each line that changes something has a
+moment of its own, by an `at` line before it; a workload whose name ends in -once has one moment for all lines.
 """
 import random
 import sys
@@ -15,12 +16,24 @@ ROUNDS = 1_000
 PIECE = 28 * 1_024
 BLOCK = 4_096
 SPAN = 65_536 - 16
+CHANGES = {"mkdir", "create", "write", "truncate", "unlink", "rmdir", "rmtree", "rename"}
+# The clock when a script is prepared and when its work begins, in nanoseconds, and how long a call takes by it.
+PREPARED, BEGUN, TICK = 1_800_000_000_000_000_000, 1_800_000_100_000_000_000, 1_009
 
 Lines = Iterator[str]
 
 
+def clocked(lines: Lines, first: int) -> Lines:
+    """The lines, with the moment before each that changes something."""
+    for moment, line in enumerate(lines):
+        if line.split(" ", 1)[0] in CHANGES:
+            yield f"at {first + TICK * moment}"
+        yield line
+
+
 class Workload(NamedTuple):
-    """What it is; n in a whole run and in a quick one; its lines; and the options that are a part of the work."""
+    """What it is; n in a whole run and in a quick one; its lines; the options that are a part of the work; and whether
+    moments rise."""
 
     text: str
     size: int
@@ -28,6 +41,19 @@ class Workload(NamedTuple):
     prepare: Callable[[int], Lines]
     work: Callable[[int], Lines]
     options: tuple[str, ...] = ()
+    has_clock: bool = True
+
+    def before(self, size: int) -> Lines:
+        """The lines that prepare."""
+        return clocked(self.prepare(size), PREPARED) if self.has_clock else self.prepare(size)
+
+    def itself(self, size: int) -> Lines:
+        """The lines of the work."""
+        return clocked(self.work(size), BEGUN) if self.has_clock else self.work(size)
+
+    def once(self) -> "Workload":
+        """The same at one moment."""
+        return self._replace(text=f"{self.text}, at one moment", has_clock=False)
 
 
 def nothing(_size: int) -> Lines:
@@ -46,6 +72,13 @@ def path(number: int) -> str:
 
 def creates(size: int) -> Lines:
     for number in range(size):
+        yield f"create {path(number)}"
+
+
+def shuffled_creates(size: int) -> Lines:
+    numbers = list(range(size))
+    random.Random(size).shuffle(numbers)
+    for number in numbers:
         yield f"create {path(number)}"
 
 
@@ -175,6 +208,7 @@ def mixed(size: int) -> Lines:
 WORKLOADS = {
     "mixed": Workload("all calls, with every fault", 50_000, 5_000, nothing, mixed, ("--image",)),
     "create": Workload(f"creates in {DIRECTORIES:,} directories", 50_000, 2_000, lambda _: directories(), creates),
+    "random": Workload("creates in random order", 50_000, 2_000, lambda _: directories(), shuffled_creates),
     "stat": Workload("stats in random order, of as many files", 50_000, 2_000, files, stats),
     "small": Workload(f"writes of 16 bytes in {FILES_OF_WRITES:,} files", 50_000, 2_000, few_files, small_writes),
     "write": Workload("writes of 28 KiB, one after the other", 2_341, 40, long_file, long_writes),
@@ -187,6 +221,7 @@ WORKLOADS = {
     "image": Workload("an image of files of 100 bytes printed", 5_000, 500, filled, nothing, ("--image",)),
     "load": Workload("an image of files of 100 bytes loaded", 5_000, 500, nothing, nothing, ("--load",)),
 }
+WORKLOADS |= {f"{name}-once": WORKLOADS[name].once() for name in ("create", "small", "again")}
 
 
 def main() -> None:
@@ -194,9 +229,9 @@ def main() -> None:
         sys.exit(f"usage: bench/scripts.py WORKLOAD N [prepare | work]; a workload is one of: {' '.join(WORKLOADS)}")
     workload, size, part = WORKLOADS[sys.argv[1]], int(sys.argv[2]), sys.argv[3:]
     if part != ["work"]:
-        sys.stdout.writelines(f"{line}\n" for line in workload.prepare(size))
+        sys.stdout.writelines(f"{line}\n" for line in workload.before(size))
     if part != ["prepare"]:
-        sys.stdout.writelines(f"{line}\n" for line in workload.work(size))
+        sys.stdout.writelines(f"{line}\n" for line in workload.itself(size))
 
 
 if __name__ == "__main__":

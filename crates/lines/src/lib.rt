@@ -4,6 +4,7 @@
 //! Where a reader or a writer fails, contracts say what was read or written before.
 #![tactic(auto)]
 
+pub mod gathered;
 pub mod held;
 pub mod input;
 pub mod output;

@@ -1,9 +1,9 @@
 //! Writes numbers, and bytes in hexadecimal and in percent form.
-ghost use Rattle.std.specs.Prelude.{◌≤◌, OnOk, OnErr, decimal, flat_map, length};
+ghost use Rattle.std.specs.Prelude.{◌≡◌, ◌≤◌, ◌<◌, ◌↔◌, All, MatchOption, OnOk, OnErr, decimal, flat_map, length, slice_index, take, true};
 ghost use Rattle.std.specs.Io.KnownBytes.{Appends};
 ghost use Rattle.reference.specs.Image.{percent, two_digits};
 ghost use Rattle.lines.specs.Parts.{AppendsPart};
-ghost use Rattle.lines.specs.Texts.{hex_text, number_line};
+ghost use Rattle.lines.specs.Texts.{IsPlain, hex_text, number_line};
 
 use crate::output::{WriteFailed, put};
 use itoa::Buffer;
@@ -81,10 +81,41 @@ pub fn put_percent<W: Write>(writer: &mut W, name: &[u8]) -> Result<(), WriteFai
     ensures ok { OnOk result (Appends (W.contents writer.old) (W.contents writer.new) (flat_map percent name.now)) }
     ensures err { OnErr result (AppendsPart (W.contents writer.old) (W.contents writer.new) (flat_map percent name.now)) }
 {
-    for &byte in name {
-        put_percent_byte(writer, byte)?;
+    let mut rest = name;
+    // No name has more bytes.
+    for _ in 0..u64::MAX {
+        let (plain, behind) = rest.split_at(plain_len(rest));
+        put(writer, plain)?;
+        let Some((byte, after)) = behind.split_first() else {
+            return Ok(());
+        };
+        put_percent_byte(writer, *byte)?;
+        rest = after;
     }
-    Ok(())
+    Err(WriteFailed)
+}
+
+/// Whether each byte stands for itself in percent form, so that the form is the name.
+pub fn is_plain(name: &[u8]) -> bool
+    ensures { (result ≡ true) ↔ All IsPlain name.now }
+{
+    first_escaped(name).is_none()
+}
+
+// How many bytes stand before the first that is escaped.
+fn plain_len(bytes: &[u8]) -> usize
+    ensures bound { result ≤ length bytes.now }
+    ensures plain { All IsPlain (take result bytes.now) }
+{
+    first_escaped(bytes).unwrap_or(bytes.len())
+}
+
+// The place of the first byte that does not stand for itself in percent form.
+fn first_escaped(bytes: &[u8]) -> Option<usize>
+    ensures { MatchOption result (All IsPlain bytes.now)
+        (λ i. (i < length bytes.now) × ¬ (IsPlain (slice_index bytes.now i)) × All IsPlain (take i bytes.now)) }
+{
+    bytes.iter().position(|byte| escape(*byte).is_some())
 }
 
 // Writes a byte in percent form, or a beginning of it.
