@@ -1,5 +1,5 @@
 -- What an append keeps, and what it makes of the value at each key.
-use Rattle.std.proofs.Common.{◌≡◌, ℕ, ◌+◌, ◌≤◌, Bool, true, false, List, [], ◌∷◌, refl, ap, sym, ◌∙◌, subst, Option, Some, None, cond, pred, arith}
+use Rattle.std.proofs.Common.{◌≡◌, ℕ, ◌+◌, ◌≤◌, Bool, true, false, List, [], ◌∷◌, refl, ap, sym, ◌∙◌, subst, Option, Some, None, cond, pred}
 use Rattle.std.specs.Prelude.{◌&&◌}
 use Rattle.std.specs.Option.{option_to_list}
 use Rattle.pathkey.specs.Keys.{is_below}
@@ -15,6 +15,7 @@ use Rattle.node.specs.Pure.{PNode, leaf, inner, PSlots, none, more}
 use Rattle.node.specs.Meaning.{value, slots_value}
 use Rattle.node.specs.Lawful.{slot_count, next_lo, TouchOnly, starts_at, IsLawfulNode, AreLawfulSlots, IsLawfulRoot}
 use Rattle.node.specs.Appended.{parts, HaveTaken, IsAppended}
+use Rattle.node.proofs.Wholes.{taken-none}
 
 module _ {U V : Type 0} where
   -- pieces cut to a range touch no key outside it
@@ -96,20 +97,7 @@ module _ {U V : Type 0} (means : U → Option V → Option V) where
   value-appended S h ms (inner none) (inner new) t l k = absurd l.3
   value-appended S h ms (inner (more lo old n ss)) (inner new) t l k = value-taken None ms lo old n ss new k t (ap (λ (x : List ℕ). reaches x k) l.3 ∙ from_start k) refl
 
-  -- ---- no message
-
-  takes_nothing : (old : List (Msg U V)) → Takes means old [] old
-  takes_nothing old = record {
-    meaning = λ k v. refl;
-    bound = omega arith;
-    touched = λ k h g. h;
-  }
-
-  taken-nothing : (ss : PSlots U V) → HaveTaken means ss (parts None [] ss) ss
-  taken-nothing none = tt
-  taken-nothing (more lo old n ss) = (refl, takes_nothing old, refl, taken-nothing ss)
-
   -- a lawful root to which nothing was appended
   pub appended-nothing : (S : Shape) (h : ℕ) (n : PNode U V) → IsLawfulRoot S n h → IsAppended means [] n n
   appended-nothing S h (leaf es) l = absurd l
-  appended-nothing S h (inner ss) l = taken-nothing ss
+  appended-nothing S h (inner ss) l = taken-none means ss

@@ -13,10 +13,10 @@ use Rattle.message.specs.Ranges.{within}
 use Rattle.message.specs.Effects.{touches, any_touches, made_of, effects}
 use Rattle.message.proofs.KeyOrder.{from_start}
 use Rattle.message.proofs.Lists.{effects-append}
+use Rattle.message.proofs.MovingRanges.{either_way}
 use Rattle.node.specs.Lawful.{Rises, TouchOnly}
 use Rattle.node.specs.Meaning.{lookup}
 use Rattle.node.specs.Leaves.{IsChanged, Applied}
-use Rattle.node.proofs.Roots.{by_result}
 
 -- every key lies in the range without ends
 all_inside : (k : List ℕ) → within [] None k ≡ true
@@ -80,4 +80,4 @@ module _ {U V : Type 0} (means : U → Option V → Option V) where
 
   -- the same whether the message was applied or not
   pub rising_after : {T X : Type 0} (r : Result T X) (m : Msg U V) (old new : List (List ℕ × V)) → OnOk r (Applied means (m ∷ []) old new) → OnErr r (new ≡ old) → Rises [] None old → Rises [] None new
-  rising_after r m old new ok err rises = by_result r (Applied means (m ∷ []) old new) (new ≡ old) (Rises [] None new) ok err (λ a. rising_applied (m ∷ []) old new a rises) (λ e. subst (λ (es : List (List ℕ × V)). Rises [] None es) (sym e) rises)
+  rising_after r m old new ok err rises = either_way r ok err (λ a. rising_applied (m ∷ []) old new a rises) (λ e. subst (λ (es : List (List ℕ × V)). Rises [] None es) (sym e) rises)

@@ -147,7 +147,8 @@ module _ {V : Type 0} where
 
   -- ---- two lists of entries end to end
 
-  or_none : (o : Option V) → option_or o None ≡ o
+  -- a look-up that finds nothing more
+  pub or_none : (o : Option V) → option_or o None ≡ o
   or_none None = refl
   or_none (Some v) = refl
 

@@ -2,6 +2,7 @@
 use Rattle.std.proofs.Common.{◌≡◌, ℕ, zero, suc, ◌<◌, ◌≤◌, List, [], ◌∷◌, length, get_or, take, drop, refl, ap, sym, ◌∙◌, subst, arith, Option, None, pred}
 use Rattle.std.proofs.Math.ListN.{set}
 use Rattle.std.specs.Prelude.{OnOk, Result}
+use Rattle.std.proofs.lemmas.Result.{on_ok_weaker}
 use Rattle.message.specs.declared.msg.Msg.{Msg}
 use Rattle.message.specs.Ranges.{reaches}
 use Rattle.message.proofs.KeyOrder.{from_start}
@@ -14,7 +15,7 @@ use Rattle.node.specs.Grafts.{OfSlot, AtSlot, AtRootSlot, CanReplace, TookPlace,
 use Rattle.node.specs.Meaning.{value, slots_value}
 use Rattle.node.specs.Site.{joined, Spliced}
 use Rattle.node.specs.Sinks.{Sinks}
-use Rattle.node.proofs.Roots.{tree_of, on_ok}
+use Rattle.node.proofs.Roots.{tree_of}
 use Rattle.node.proofs.Sinking.{touch_only-drop}
 use Rattle.node.proofs.Wholes.{kept-none}
 use Rattle.node.proofs.Splice.{slots-split, slots-set_split, slot_count-take, slot_count-joined, starts_at-joined, lawful-spliced, value-spliced, starts-first}
@@ -131,5 +132,5 @@ module _ {U V : Type 0} where
   -- lists that stay in the lent root stay in the tree
   pub kept_after : (S : Shape) {T X : Type 0} (r : Result T X) (ks : List ℕ) (ms : List (Msg U V)) (was : PTree U V) (old now new seen : PNode U V) → tree_of S old ≡ was → now ≡ old → OnOk r (KeepsLists ks ms now new) → seen ≡ new → OnOk r (KeepsLists ks ms was.root seen)
   kept_after S r ks ms was old now new seen w e k s =
-      on_ok r (KeepsLists ks ms now new) (KeepsLists ks ms was.root seen) k (λ q.
-      subst (λ (t : PTree U V). KeepsLists ks ms t.root seen) w (subst (λ n. KeepsLists ks ms n seen) e (subst (λ n. KeepsLists ks ms now n) (sym s) q)))
+      on_ok_weaker r (λ (q : KeepsLists ks ms now new).
+      subst (λ (t : PTree U V). KeepsLists ks ms t.root seen) w (subst (λ n. KeepsLists ks ms n seen) e (subst (λ n. KeepsLists ks ms now n) (sym s) q))) k

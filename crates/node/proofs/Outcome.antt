@@ -1,6 +1,7 @@
 -- What a step at a node does to the tree.
 use Rattle.std.proofs.Common.{◌≡◌, ℕ, zero, suc, ◌≤◌, Bool, true, false, List, [], ◌∷◌, length, refl, ap, sym, ◌∙◌, subst, arith, Option, Some, None, inl, inr}
 use Rattle.std.specs.Prelude.{MatchOption, IfSome, ◌==◌, ◌⊎◌}
+use Rattle.std.proofs.lemmas.Bool.{both_ways}
 use Rattle.node.specs.declared.shape.Shape.{Shape}
 use Rattle.node.specs.declared.step.StepReply.{StepReply}
 use Rattle.node.specs.declared.step.StepReply.TheVariants.{Did, NotThere, NoRoom, NoMemory}
@@ -37,16 +38,11 @@ is_top-is [] = refl
 is_top-is (i ∷ p) = grind arith
 
 -- a fact where nothing is done that follows from another
-on_undone : (r : StepReply) (A B : Type 0) → (A → B) → UnlessDid r A → UnlessDid r B
+pub on_undone : (r : StepReply) (A B : Type 0) → (A → B) → UnlessDid r A → UnlessDid r B
 on_undone (Did n) A B f q = tt
 on_undone NotThere A B f q = f q
 on_undone NoRoom A B f q = f q
 on_undone NoMemory A B f q = f q
-
--- no test is both true and false
-pub clash : (x : Bool) → x ≡ true → x ≡ false → ⊥
-clash true u v = (cc)
-clash false u v = (cc)
 
 module _ {U V : Type 0} where
   -- what a step that can be done has done, by its reply
@@ -123,7 +119,7 @@ module _ {U V : Type 0} where
             told = λ z. absurd (k.2.1 (lacks z));
             unchanged = tt;
           }
-      outcome_by NotThere q = absurd (clash (can kind (end_at p None a) (slots_from i ss)) able (q.1 (end_at p None a)))
+      outcome_by NotThere q = absurd (both_ways (can kind (end_at p None a) (slots_from i ss)) (q.1 (end_at p None a)) able)
       outcome_by NoRoom q = record {
         lawful = subst (λ z. IsLawfulRoot shape z h) (sym (same q.0)) l;
         same = λ x. ap (λ z. value means z x) (same q.0);
@@ -160,7 +156,7 @@ module _ {U V : Type 0} where
     shape_kept = refl;
     did = o.did;
     others_stay = o.others;
-    not_there = (λ z. absurd (o.there z), λ z. absurd (clash (there kind i p None a) able z));
+    not_there = (λ z. absurd (o.there z), λ z. absurd (both_ways (there kind i p None a) z able));
     no_room = o.full;
     no_room_told = o.told;
     unchanged = on_undone r (b ≡ a) (tree_of shape b ≡ tree_of shape a) (ap (tree_of shape)) o.unchanged;
@@ -176,7 +172,7 @@ module _ {U V : Type 0} where
     others_stay = tt;
     not_there = (λ z. q, λ z. refl);
     no_room = λ z. (cc);
-    no_room_told = λ z. absurd (clash (there kind i p None t.root) z.0 q);
+    no_room_told = λ z. absurd (both_ways (there kind i p None t.root) q z.0);
     unchanged = refl;
   }
   refused means kind i p NoRoom t q = record {
@@ -184,7 +180,7 @@ module _ {U V : Type 0} where
     shape_kept = refl;
     did = tt;
     others_stay = tt;
-    not_there = (λ z. (cc), λ z. absurd (clash (there kind i p None t.root) q.0 z));
+    not_there = (λ z. (cc), λ z. absurd (both_ways (there kind i p None t.root) z q.0));
     no_room = λ z. q;
     no_room_told = λ z. inl refl;
     unchanged = refl;

@@ -5,6 +5,7 @@ use Rattle.std.specs.Prelude.{◌&&◌, ◌||◌}
 use Rattle.std.proofs.Math.ListN.{set}
 use Rattle.std.proofs.lemmas.List.{append_assoc, append-nil, length-map, get_or-map, map-set}
 use Rattle.std.specs.Global.{Vec}
+use Rattle.std.proofs.lemmas.Bool.{and_right}
 use Rattle.pathkey.specs.Order.{same}
 use Rattle.pathkey.specs.Keys.{is_below}
 use Rattle.pathkey.proofs.OrderFacts.{same_itself}
@@ -28,10 +29,6 @@ use Rattle.node.proofs.EntryFacts.{rises_all}
 abbrev or_empty : Option (List ℕ) → List ℕ
 or_empty None = []
 or_empty (Some q) = q
-
-pub and_false : (a b : Bool) → b ≡ false → (a && b) ≡ false
-and_false true b e = e
-and_false false b e = refl
 
 -- the next slot begins above a key above which this one begins
 next_above : (c : Bool) (lo lp q : List ℕ) → reaches lp q ≡ c → before lo lp ≡ true → reaches lo q ≡ false → c ≡ false
@@ -99,7 +96,7 @@ module _ {U V : Type 0} where
 
   not_taken : (hi : Option (List ℕ)) (m : Msg U V) (q lo : List ℕ) (ss : PSlots U V) (p : List (Msg U V)) → point m ≡ Some q → begins_by ss q ≡ true → p ++ option_to_list (cut_to lo (next_lo hi ss) m) ≡ p
   not_taken hi m q lo none p e f = (cc)
-  not_taken hi m q lo (more lp o k ss) p e f = out lo (Some lp) m q p e (and_false (reaches lo q) (before q lp) (not_before_from_reaches lp q f))
+  not_taken hi m q lo (more lp o k ss) p e f = out lo (Some lp) m q p e (and_right (reaches lo q) (before q lp) (not_before_from_reaches lp q f))
 
   -- a message for one key goes to the slot that holds it, and to no other
   pub placed-at : (hi : Option (List ℕ)) (m : Msg U V) (q : List ℕ) (ss : PSlots U V) (ps : List (List (Msg U V))) → point m ≡ Some q → AreRising ss → begins_by ss q ≡ true → is_below q hi ≡ true → length ps ≡ slot_count ss → placed hi m ss ps ≡ set ps (slot_number ss q) (get_or ps (slot_number ss q) [] ++ m ∷ [])

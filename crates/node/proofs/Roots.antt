@@ -1,10 +1,12 @@
 -- An append at a root, in the words of a tree's code: `now` is the root that is lent for the change, `new` what the
 -- append left there, and `seen` what the tree has afterwards.
-use Rattle.std.proofs.Common.{◌≡◌, ℕ, ◌≤◌, List, [], Option, refl, ap, sym, ◌∙◌, subst, arith}
-use Rattle.std.specs.Prelude.{◌&&◌, nat_le, OnOk, OnErr, Result, Ok, Err, IsTrue}
+use Rattle.std.proofs.Common.{◌≡◌, ℕ, ◌≤◌, List, [], Option, refl, ap, sym, ◌∙◌, subst, arith, false}
+use Rattle.std.specs.Prelude.{◌&&◌, nat_le, OnOk, OnErr, Result, Ok, Err, IsTrue, is_ok}
 use Rattle.std.proofs.lemmas.Bool.{leb-true}
+use Rattle.std.proofs.lemmas.Result.{on_ok_weaker}
 use Rattle.message.proofs.KeyOrder.{both}
 use Rattle.message.specs.declared.msg.Msg.{Msg}
+use Rattle.message.proofs.MovingRanges.{either_way}
 use Rattle.node.specs.declared.shape.Shape.{Shape}
 use Rattle.node.specs.Shapes.{is_between, is_shape}
 use Rattle.node.specs.Pure.{PNode, PTree, empty_root}
@@ -14,15 +16,10 @@ use Rattle.node.specs.Searchable.{IsRoot, IsSearchable}
 use Rattle.node.proofs.Appending.{lawful-appended, value-appended, appended-nothing}
 use Rattle.node.proofs.Placing.{is_root, searchable_root}
 
--- one of the two facts on a result holds
-pub by_result : {T X : Type 0} (r : Result T X) (A B P : Type 0) → OnOk r A → OnErr r B → (A → P) → (B → P) → P
-by_result (Ok x) A B P a b f g = f a
-by_result (Err e) A B P a b f g = g b
-
--- a fact at success that follows from another
-pub on_ok : {T X : Type 0} (r : Result T X) (A B : Type 0) → OnOk r A → (A → B) → OnOk r B
-on_ok (Ok x) A B a f = f a
-on_ok (Err e) A B a f = tt
+-- what is known of an error
+pub when_err : {T E P : Type 0} (r : Result T E) → is_ok r ≡ false → OnErr r P → P
+when_err (Ok x) e p = (cc)
+when_err (Err x) e p = p
 
 module _ {U V : Type 0} (S : Shape) where
   abbrev pub tree_of : PNode U V → PTree U V
@@ -40,15 +37,15 @@ module _ {U V : Type 0} (S : Shape) where
   pub lawful_after : (means : U → Option V → Option V) {T X : Type 0} (r : Result T X) (ms : List (Msg U V)) (old now new seen : PNode U V) → IsLawful (tree_of old) → now ≡ old → OnOk r (IsAppended means ms now new) → OnErr r (new ≡ now) → seen ≡ new → IsLawful (tree_of seen)
   lawful_after means r ms old now new seen l e ok err s =
       let was : IsLawfulRoot S now l.levels = subst (λ (n : PNode U V). IsLawfulRoot S n l.levels) (sym e) l.root in
-      let kept : IsLawfulRoot S new l.levels = by_result r (IsAppended means ms now new) (new ≡ now) (IsLawfulRoot S new l.levels) ok err (λ q. lawful-appended means S l.levels ms now new q was) (λ q. subst (λ (n : PNode U V). IsLawfulRoot S n l.levels) (sym q) was) in
+      let kept : IsLawfulRoot S new l.levels = either_way r ok err (λ q. lawful-appended means S l.levels ms now new q was) (λ q. subst (λ (n : PNode U V). IsLawfulRoot S n l.levels) (sym q) was) in
       subst (λ (n : PNode U V). IsLawful (tree_of n)) (sym s) (record { shape = l.shape; levels = l.levels; root = kept })
 
   pub appended_after : (means : U → Option V → Option V) {T X : Type 0} (r : Result T X) (ms : List (Msg U V)) (was : PTree U V) (old now new seen : PNode U V) → IsLawful (tree_of old) → tree_of old ≡ was → now ≡ old → OnOk r (IsAppended means ms now new) → seen ≡ new → OnOk r (Appended means ms was (tree_of seen))
   appended_after means r ms was old now new seen l w e ok s =
-      on_ok r (IsAppended means ms now new) (Appended means ms was (tree_of seen)) ok (λ q.
+      on_ok_weaker r (λ (q : IsAppended means ms now new).
       let from_old : IsAppended means ms old new = subst (λ (n : PNode U V). IsAppended means ms n new) e q in
       let here : Appended means ms (tree_of old) (tree_of new) = record { shape_kept = refl; slots = from_old; value_after = value-appended means S l.levels ms old new from_old l.root } in
-      subst (λ (t : PTree U V). Appended means ms t (tree_of seen)) w (subst (λ (n : PNode U V). Appended means ms (tree_of old) (tree_of n)) (sym s) here))
+      subst (λ (t : PTree U V). Appended means ms t (tree_of seen)) w (subst (λ (n : PNode U V). Appended means ms (tree_of old) (tree_of n)) (sym s) here)) ok
 
   pub unchanged_after : {T X : Type 0} (r : Result T X) (was : PTree U V) (old now new seen : PNode U V) → tree_of old ≡ was → now ≡ old → OnErr r (new ≡ now) → seen ≡ new → OnErr r (tree_of seen ≡ was)
   unchanged_after (Ok x) was old now new seen w e err s = tt

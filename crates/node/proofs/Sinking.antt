@@ -2,6 +2,7 @@
 use Rattle.std.proofs.Common.{◌≡◌, ℕ, ◌+◌, ◌≤◌, zero, suc, Bool, true, false, List, [], ◌∷◌, take, drop, refl, ap, sym, ◌∙◌, subst, Option, Some, None, cond, pred, arith}
 use Rattle.std.specs.Prelude.{◌&&◌, ◌||◌}
 use Rattle.std.specs.Option.{option_to_list}
+use Rattle.std.proofs.lemmas.Bool.{and_right, or_parts}
 use Rattle.pathkey.specs.Keys.{is_below}
 use Rattle.message.specs.declared.msg.Msg.{Msg}
 use Rattle.message.specs.declared.msg.Msg.TheVariants.{Put, Del, DelRange, Edit}
@@ -16,13 +17,7 @@ use Rattle.node.specs.Pure.{PNode, PSlots, none, more}
 use Rattle.node.specs.Lawful.{next_lo, pending, TouchOnly, IsLawfulNode, AreLawfulSlots}
 use Rattle.node.specs.Appended.{parts, HaveTaken}
 use Rattle.node.specs.StepRows.{piece_count, emptied}
-use Rattle.node.proofs.Placing.{and_false}
 use Rattle.node.proofs.Appending.{pieces_outside, next_lo-taken}
-
--- where one of two holds not, neither does
-pub neither : (a b : Bool) → (a || b) ≡ false → (a ≡ false) × (b ≡ false)
-neither true b h = (cc)
-neither false b h = (refl, h)
 
 module _ {U V : Type 0} where
   -- a message that does not touch a key, or none
@@ -52,7 +47,7 @@ module _ {U V : Type 0} where
   pub pieces_touch : (lo : List ℕ) (hi : Option (List ℕ)) (ms : List (Msg U V)) (k : List ℕ) → any_touches ms k ≡ false → any_touches (pieces lo hi ms) k ≡ false
   pieces_touch lo hi [] k f = refl
   pieces_touch lo hi (m ∷ ms) k f =
-      let p = neither (touches m k) (any_touches ms k) f in
+      let p = or_parts (touches m k) (any_touches ms k) f in
       any_touches-append (option_to_list (cut_to lo hi m)) (pieces lo hi ms) k (cut_touches lo hi m k p.0) (pieces_touch lo hi ms k p.1)
 
   -- pieces of messages that end at e lie before e, also where they are cut without an end
@@ -61,7 +56,7 @@ module _ {U V : Type 0} where
       elim (reaches lo k) as (λ c. reaches lo k ≡ c → any_touches (pieces lo None ms) k ≡ false) [
         | true ↦ λ r.
             let past : is_below k e ≡ false = ap (λ z. z && is_below k e) (sym r) ∙ out in
-            pieces_touch lo None ms k (only k (and_false (reaches l k) (is_below k e) past))
+            pieces_touch lo None ms k (only k (and_right (reaches l k) (is_below k e) past))
         | false ↦ λ r. pieces_outside lo None ms k (ap (λ z. z && true) r)
       ] refl
 
@@ -73,7 +68,7 @@ module _ {U V : Type 0} where
       any_touches-take : (n : ℕ) (ms : List (Msg U V)) (k : List ℕ) → any_touches ms k ≡ false → any_touches (take n ms) k ≡ false
       any_touches-take zero ms k h = refl
       any_touches-take (suc n) [] k h = refl
-      any_touches-take (suc n) (m ∷ ms) k h = let p = neither (touches m k) (any_touches ms k) h in ap (λ c. c || any_touches (take n ms) k) p.0 ∙ any_touches-take n ms k p.1
+      any_touches-take (suc n) (m ∷ ms) k h = let p = or_parts (touches m k) (any_touches ms k) h in ap (λ c. c || any_touches (take n ms) k) p.0 ∙ any_touches-take n ms k p.1
 
   -- and so do the others
   pub touch_only-drop : (n : ℕ) (lo : List ℕ) (hi : Option (List ℕ)) (ms : List (Msg U V)) → TouchOnly lo hi ms → TouchOnly lo hi (drop n ms)
@@ -83,7 +78,7 @@ module _ {U V : Type 0} where
       any_touches-drop : (n : ℕ) (ms : List (Msg U V)) (k : List ℕ) → any_touches ms k ≡ false → any_touches (drop n ms) k ≡ false
       any_touches-drop zero ms k h = h
       any_touches-drop (suc n) [] k h = h
-      any_touches-drop (suc n) (m ∷ ms) k h = any_touches-drop n ms k (neither (touches m k) (any_touches ms k) h).1
+      any_touches-drop (suc n) (m ∷ ms) k h = any_touches-drop n ms k (or_parts (touches m k) (any_touches ms k) h).1
 
 module _ {U V : Type 0} (means : U → Option V → Option V) where
   -- messages of a range go into slots that end with it as they go into slots without an end

@@ -105,7 +105,7 @@ module _ {U V : Type 0} where
   exact_total t q x n e l low exact o = exact_here t q x l (subst (λ z. x ≤ total q z) e low) (subst (λ z. x < 2 ^ 127 → x ≡ total q z) e exact) (subst (λ z. own q z ≤ 18446744073709551615 * width z + 18446744073709551615) e o)
 
   -- a lawful root is at most 16 levels high
-  low_root : (S : Shape) (a : PNode U V) (h : ℕ) → IsLawfulRoot S a h → h ≤ 16
+  pub low_root : (S : Shape) (a : PNode U V) (h : ℕ) → IsLawfulRoot S a h → h ≤ 16
   low_root S (leaf es) h l = absurd l
   low_root S (inner ss) h l = l.1
 

@@ -205,7 +205,7 @@ block_key_injective p q i j u v hi hj e =
     (f.0, to_be_bytes_injective i j hi hj f.1)
 
 -- ---- ranges of blocks
-head_less : (x y : ℕ) (xs ys : List ℕ) → x < y → by_bytes (x ∷ xs) (y ∷ ys) ≡ Less
+pub head_less : (x y : ℕ) (xs ys : List ℕ) → x < y → by_bytes (x ∷ xs) (y ∷ ys) ≡ Less
 head_less x y xs ys h = ap (λ (o : Ordering). ordering_then o (by_bytes xs ys)) (cmp_less x y h)
 
 -- lists that begin alike are ordered by the rest

@@ -66,13 +66,13 @@ parent_path_none [] e = refl
 parent_path_none (n ∷ p) e = absurd (last_name_some n p e)
 
 -- the parent's names are names
-parent_names : (p : Path) → EachName p → EachName (parent p)
+pub parent_names : (p : Path) → EachName p → EachName (parent p)
 parent_names [] h = tt
 parent_names (n ∷ []) h = tt
 parent_names (n ∷ m ∷ p) h = (h.0, parent_names (m ∷ p) h.1)
 
 -- the parent's text is no longer
-parent_len : (p : Path) → text_len (parent p) ≤ text_len p
+pub parent_len : (p : Path) → text_len (parent p) ≤ text_len p
 parent_len [] = omega arith
 parent_len (n ∷ []) = omega arith
 parent_len (n ∷ m ∷ p) = omega (arith, parent_len (m ∷ p))

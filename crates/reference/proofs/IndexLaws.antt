@@ -1,7 +1,8 @@
 -- Which changes of two indexes mean which call: both halves, and the tree after the call.
 use Rattle.std.proofs.Common.{◌≡◌, ◌≤◌, ℕ, List, [], ◌∷◌, length, true, false, cond, sym, ap, refl, subst, arith, Option, Some, None}
-use Rattle.pathkey.specs.Names.{EachName, IsPath, text_len}
+use Rattle.pathkey.specs.Names.{IsPath, text_len}
 use Rattle.pathkey.specs.Keys.{enc, subtree, blocks_from}
+use Rattle.pathkey.proofs.PathFacts.{parent_names, parent_len}
 use Rattle.reference.specs.Tree.{Path, Tree, touched, all_touched}
 use Rattle.reference.specs.Calls.{Outcome, parent, same_path, once, parents_of, changed, does}
 use Rattle.reference.specs.Shape.{IsMoment, IsTree, IsCall}
@@ -49,16 +50,6 @@ ArePaths (p ∷ ps) = IsPath p × ArePaths ps
 touch_all : (at : ℕ) (ps : List Path) (t : Tree) (m : Metadata) (d : Blocks) → IsMoment at → ArePaths ps → IndexesMean t m d → IndexesMean (all_touched at t ps) (touch_at at ps m) d
 touch_all at [] t m d early paths i = i
 touch_all at (p ∷ ps) t m d early paths i = touch_all at ps (touched at t p) (edit_at (enc p) (touch at) m) d early paths.1 (touch_law at t p m d early i paths.0)
-
-parent_names : (p : Path) → EachName p → EachName (parent p)
-parent_names [] h = tt
-parent_names (n ∷ []) h = tt
-parent_names (n ∷ m ∷ p) h = (h.0, parent_names (m ∷ p) h.1)
-
-parent_len : (p : Path) → text_len (parent p) ≤ text_len p
-parent_len [] = omega arith
-parent_len (n ∷ []) = omega arith
-parent_len (n ∷ m ∷ p) = omega (arith, parent_len (m ∷ p))
 
 parent_is : (p : Path) → IsPath p → IsPath (parent p)
 parent_is p h = record { names = parent_names p h.names; fits = let short : text_len (parent p) ≤ text_len p = parent_len p in let few : text_len p ≤ 1023 = h.fits in omega arith }

@@ -19,7 +19,7 @@ trimmed_none [] h = refl
 trimmed_none (x ∷ xs) h = trimmed_is x xs ∙ ap (keep x) (trimmed_none xs (λ k. h (suc k))) ∙ ap (λ (y : ℕ). keep y []) (h 0)
 
 -- lists whose bytes are one, but for zeros behind them, are trimmed to one
-trimmed_same : (xs ys : List ℕ) → ((k : ℕ) → get_or xs k 0 ≡ get_or ys k 0) → trimmed xs ≡ trimmed ys
+pub trimmed_same : (xs ys : List ℕ) → ((k : ℕ) → get_or xs k 0 ≡ get_or ys k 0) → trimmed xs ≡ trimmed ys
 trimmed_same [] ys h = sym (trimmed_none ys (λ k. sym (h k)))
 trimmed_same (x ∷ xs) [] h = trimmed_none (x ∷ xs) h
 trimmed_same (x ∷ xs) (y ∷ ys) h =

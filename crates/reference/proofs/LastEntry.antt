@@ -13,7 +13,7 @@ use Rattle.reference.specs.Looks.{Look, Directory, Bytes, look, seen}
 use Rattle.reference.specs.Shape.{AllAbove, IsTree, RisingEntries}
 use Rattle.reference.specs.Tree.{by_bytes, by_order, Tree, Dir, File, Entries, nothing, entry, named, put, set_entry, edited, At, Found, Missing, Blocked, found, onward, entry_at}
 use Rattle.reference.proofs.Edits.{fold-Missing, fold-Blocked}
-use Rattle.reference.proofs.PathOrder.{by_first_name, none_below_root, not_below_itself, below_trans}
+use Rattle.reference.proofs.PathOrder.{by_first_name, none_below_root, not_below_itself}
 use Rattle.reference.proofs.ShownTrees.{first_at, later_at}
 use Rattle.reference.proofs.Standing.{rising-found}
 use Rattle.reference.proofs.TreeEdits.{looks_may}
@@ -49,7 +49,7 @@ put_end version base n x (entry m y rest) h =
 none_behind : (n : Name) (rest : Entries) → AllAbove n rest → EachOf (λ m. (by_bytes m n ≡ Less) ⊎ (m ≡ n)) rest → rest ≡ nothing
 none_behind n nothing h g = refl
 none_behind n (entry m x rest) h g = absurd (⊎_elim
-    (λ (l : by_bytes m n ≡ Less). not_below_itself n (below_trans n m n h.0 l))
+    (λ (l : by_bytes m n ≡ Less). not_below_itself n (nat_list_cmp_total.trans n m n h.0 l))
     (λ (e : m ≡ n). not_below_itself n (subst (λ (k : Name). by_bytes n k ≡ Less) e h.0))
     g.0)
 

@@ -3,6 +3,8 @@ use Rattle.std.proofs.Common.{◌≡◌, ◌≢◌, ◌⊎◌, inl, inr, ⊎_eli
 use Rattle.std.specs.declared.cmp.Ordering.TheVariants.{Less}
 use Rattle.std.proofs.lemmas.Bool.{cases_lt}
 use Rattle.std.proofs.lemmas.List.{get_or-replicate, get_or_past, length-replicate}
+use Rattle.std.proofs.lemmas.Cmp.{nat_list_cmp_total}
+use Rattle.std.proofs.lemmas.Option.{same_Some}
 use Rattle.pathkey.specs.Enc.{enc}
 use Rattle.pathkey.specs.Names.{Path, IsPath, parent}
 use Rattle.pathkey.proofs.OrderFacts.{same_true, apart}
@@ -17,7 +19,7 @@ use Rattle.reference.proofs.Edits.{fold-Missing}
 use Rattle.reference.proofs.FreshIndexes.{empty_tree}
 use Rattle.reference.proofs.LastBlock.{ZeroFrom, LastBlock, zeros_behind, length_kept, block_end, no_more_lines}
 use Rattle.reference.proofs.LastEntry.{image_end}
-use Rattle.reference.proofs.PathOrder.{none_below_root, not_below_itself, below_trans}
+use Rattle.reference.proofs.PathOrder.{none_below_root, not_below_itself}
 use Rattle.reference.proofs.Points.{Bare, bare_none, bare_empty, bare_file, IsPoint, looks_other, looks_itself, point_from_edit}
 use Rattle.reference.proofs.PutTwice.{put_twice}
 use Rattle.reference.proofs.Standing.{directory_parent, file_sighted, parent_from_found}
@@ -131,7 +133,7 @@ ready v root p ls m h =
     let t : Tree = tree_of_lines root ls in
     let before : (q : Path) (l : Look) → look t q ≡ Some l → by_bytes (enc q) (enc p) ≡ Less = λ q l e. ⊎_elim
     (λ (s : q ≡ last_path ls). subst (λ (r : Path). by_bytes (enc r) (enc p) ≡ Less) (sym s) h.rises)
-    (λ (s : by_bytes (enc q) (enc (last_path ls)) ≡ Less). below_trans (enc q) (enc (last_path ls)) (enc p) s h.rises)
+    (λ (s : by_bytes (enc q) (enc (last_path ls)) ≡ Less). nat_list_cmp_total.trans (enc q) (enc (last_path ls)) (enc p) s h.rises)
     (m.last q l e)
     in
     record {
@@ -231,9 +233,6 @@ line_more version text front p at b i v e h =
     ∙ sym (append_assoc front (lines version p (File at b)) (spelled version (BlockLine i v) ++ 10 ∷ []))
     ∙ ap (λ (s : Text). s ++ (spelled version (BlockLine i v) ++ 10 ∷ [])) (sym e)
 
-some_number : (n k : ℕ) → ◌≡◌ {A = Option ℕ} (Some n) (Some k) → n ≡ k
-some_number n k e = cc
-
 -- nothing is seen below an empty root
 only_root : (date : ℕ) (q : Path) (l : Look) → look (Dir date nothing) q ≡ Some l → q ≡ []
 only_root date [] l e = refl
@@ -283,7 +282,7 @@ block_made version root i v ls m h =
         at = date;
         bytes = c;
         there = ap (λ (u : Tree). entry_at u p) same ∙ file_sighted (entry_at t p) c date at.itself;
-        long = length_kept b i v is_last ∙ long ∙ some_number h.len k (sym h.file ∙ e);
+        long = length_kept b i v is_last ∙ long ∙ same_Some h.len k (sym h.file ∙ e);
         zeros = zeros_behind b i v is_last;
         some = f.some;
         front = f.front;

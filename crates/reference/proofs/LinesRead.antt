@@ -105,7 +105,8 @@ path_text_injective (n ∷ p) (m ∷ q) u v e =
 
 -- ---- which line a text tells
 
-abbrev first : Text → ℕ
+-- the first byte
+abbrev pub first : Text → ℕ
 first [] = 0
 first (x ∷ xs) = x
 
@@ -126,7 +127,8 @@ length_cut Second n m a b few_n few_m h g e =
     let parts : (decimal n ≡ decimal m) × (decimal a ≡ decimal b) = cut (decimal n) (decimal m) 32 32 (decimal a) (decimal b) (few_visible n few_n) (few_visible m few_m) (omega arith) (omega arith) e in
     (decimal_injective n m (omega arith) (omega arith) parts.0, decimal_injective a b h g parts.1)
 
-no_block : (v : Version) → (directory_letter v ≢ 98) × (file_letter v ≢ 98)
+-- no line of an entry begins with the letter of a block's line
+pub no_block : (v : Version) → (directory_letter v ≢ 98) × (file_letter v ≢ 98)
 no_block First = ((λ e. omega arith), (λ e. omega arith))
 no_block Second = ((λ e. omega arith), (λ e. omega arith))
 

@@ -57,7 +57,7 @@ origin {V} o n m k v e =
     ] refl
 
 -- metadata tells that something is seen
-looked : (l : Option Sight) (v : Meta) → meta_of l ≡ Some v → (k : Sight) × (l ≡ Some k)
+pub looked : (l : Option Sight) (v : Meta) → meta_of l ≡ Some v → (k : Sight) × (l ≡ Some k)
 looked None v h = absurd (cc)
 looked (Some k) v h = (k, refl)
 

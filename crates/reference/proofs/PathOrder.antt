@@ -2,11 +2,11 @@
 use Rattle.std.proofs.Common.{◌≡◌, ◌⊎◌, inl, inr, ⊎_elim, ℕ, ◌<◌, ◌≤◌, List, [], ◌∷◌, ◌++◌, refl, sym, ap, subst, ◌∙◌, arith, Ordering}
 use Rattle.std.specs.Ordering.{nat_cmp, ordering_then}
 use Rattle.std.specs.declared.cmp.Ordering.TheVariants.{Less, Greater}
-use Rattle.std.proofs.lemmas.Cmp.{nat_list_cmp_total}
 use Rattle.std.proofs.lemmas.Bool.{cases_lt}
 use Rattle.pathkey.specs.Order.{by_bytes}
 use Rattle.pathkey.specs.Names.{Name, HasNameBytes}
-use Rattle.pathkey.proofs.OrderFacts.{cmp_less, cmp_equal, cmp_greater}
+use Rattle.pathkey.proofs.OrderFacts.{cmp_equal, cmp_greater}
+use Rattle.pathkey.proofs.KeyFacts.{head_less}
 
 -- lists with one beginning are ordered as what follows it
 pub behind_beginning : (s y z : List ℕ) → by_bytes (s ++ y) (s ++ z) ≡ by_bytes y z
@@ -23,9 +23,6 @@ by_first x c a b P h less same = ⊎_elim
     (cases_lt c x))
     (cases_lt x c)
 
-less_first : (x c : ℕ) (a b : List ℕ) → x < c → by_bytes (x ∷ a) (c ∷ b) ≡ Less
-less_first x c a b h = ap (λ (o : Ordering). ordering_then o (by_bytes a b)) (cmp_less x c h)
-
 same_first : (x : ℕ) (a b : List ℕ) → by_bytes (x ∷ a) (x ∷ b) ≡ by_bytes a b
 same_first x a b = ap (λ (o : Ordering). ordering_then o (by_bytes a b)) (cmp_equal x)
 
@@ -35,7 +32,7 @@ by_first_name [] [] a b u v h = inr (refl, h)
 by_first_name [] (c ∷ m) a b u v h = inl refl
 by_first_name (x ∷ n) [] a b u v h = by_first x 0 (n ++ 0 ∷ a) b _ h (λ l. absurd (omega arith)) (λ e g. absurd (let low : 0 < x = u.0 in omega arith))
 by_first_name (x ∷ n) (c ∷ m) a b u v h = by_first x c (n ++ 0 ∷ a) (m ++ 0 ∷ b) _ h
-    (λ l. inl (less_first x c n m l))
+    (λ l. inl (head_less x c n m l))
     (λ e g. ⊎_elim
     (λ (l : by_bytes n m ≡ Less). inl (subst (λ (k : ℕ). by_bytes (x ∷ n) (k ∷ m) ≡ Less) e (same_first x n m ∙ l)))
     (λ (p : (n ≡ m) × (by_bytes a b ≡ Less)). inr (cc (e, p.0), p.1))
@@ -44,10 +41,10 @@ by_first_name (x ∷ n) (c ∷ m) a b u v h = by_first x c (n ++ 0 ∷ a) (m ++ 
 -- a lesser first name is a lesser key
 pub lesser_name : (n m : Name) (a b : List ℕ) → HasNameBytes m → by_bytes n m ≡ Less → by_bytes (n ++ 0 ∷ a) (m ++ 0 ∷ b) ≡ Less
 lesser_name [] [] a b v h = absurd (cc)
-lesser_name [] (c ∷ m) a b v h = less_first 0 c a (m ++ 0 ∷ b) v.0
+lesser_name [] (c ∷ m) a b v h = head_less 0 c a (m ++ 0 ∷ b) v.0
 lesser_name (x ∷ n) [] a b v h = absurd (cc)
 lesser_name (x ∷ n) (c ∷ m) a b v h = by_first x c n m _ h
-    (λ l. less_first x c (n ++ 0 ∷ a) (m ++ 0 ∷ b) l)
+    (λ l. head_less x c (n ++ 0 ∷ a) (m ++ 0 ∷ b) l)
     (λ e g. subst (λ (k : ℕ). by_bytes (x ∷ (n ++ 0 ∷ a)) (k ∷ (m ++ 0 ∷ b)) ≡ Less) e (same_first x (n ++ 0 ∷ a) (m ++ 0 ∷ b) ∙ lesser_name n m a b v.3 g))
 
 -- no key lies below the root's
@@ -59,6 +56,3 @@ none_below_root (x ∷ k) h = cc
 pub not_below_itself : (k : List ℕ) → by_bytes k k ≡ Less → ⊥
 not_below_itself [] h = cc
 not_below_itself (x ∷ k) h = not_below_itself k (sym (same_first x k k) ∙ h)
-
-pub below_trans : (a b c : List ℕ) → by_bytes a b ≡ Less → by_bytes b c ≡ Less → by_bytes a c ≡ Less
-below_trans a b c h g = nat_list_cmp_total.trans a b c h g

@@ -53,7 +53,7 @@ updated m n s w u q =
     ∙ ap (λ (o : Option Tree). cond (eq_by_cmp by_bytes q s) (option_map tree_of w) o) (sym (get-snapshots_of m q))
 
 -- names that byte order does not tell apart are one
-bytes_differ : finite.IsAntisymmetric by_bytes
+pub bytes_differ : finite.IsAntisymmetric by_bytes
 bytes_differ = finite.slice_cmp-IsAntisymmetric finite.nat_cmp-IsAntisymmetric
 
 -- a name that is given a tree

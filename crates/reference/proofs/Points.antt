@@ -1,11 +1,11 @@
 -- What an edit changes where no entry below its path comes or goes: what is seen at its path, and nothing else.
-use Rattle.std.proofs.Common.{◌≡◌, ◌≢◌, ℕ, List, [], ◌∷◌, ◌++◌, false, sym, ap, refl, ◌∙◌, Option, Some, None}
+use Rattle.std.proofs.Common.{◌≡◌, ◌≢◌, ℕ, List, [], ◌∷◌, ◌++◌, false, sym, ap, refl, ◌∙◌, Option, Some, None, append-nil}
 use Rattle.std.specs.Prelude.{fold, option_map}
 use Rattle.reference.specs.Tree.{Name, Path, Tree, Dir, File, nothing, At, Found, Missing, Blocked, found, onward, entry_at, edited, touched}
 use Rattle.reference.specs.Calls.{is_found, is_directory, path_fault, parent_fault}
 use Rattle.reference.specs.Looks.{look, rest_of, Sight, look_of, sighted, sight, sight_after, redated, sight_touched}
 use Rattle.reference.proofs.Edits.{alike, look_sighted, sight_law, touched_law, fold-Missing, fold-Blocked}
-use Rattle.reference.proofs.EntryPaths.{append-nil, rest_of_from, rest_of-append, rest_of_itself, along}
+use Rattle.reference.proofs.EntryPaths.{rest_of_from, rest_of-append, rest_of_itself, along}
 
 -- an edit is not seen outside what is at or below its path
 pub edit_outside : (t : Tree) (p : Path) (o : Option Tree) (q : Path) → p ≢ [] → parent_fault t p ≡ None → ((r : Path) → q ≡ p ++ r → ⊥) → sight (edited t p o) q ≡ sight t q

@@ -1,5 +1,5 @@
 -- What a rename changes, at each path.
-use Rattle.std.proofs.Common.{◌≡◌, ◌≢◌, ℕ, ◌+◌, ◌≤◌, [], ◌∷◌, ◌++◌, true, false, sym, ap, refl, ◌∙◌, subst, arith, Some, None, ◌⊎◌, inl, inr, ⊎_elim}
+use Rattle.std.proofs.Common.{◌≡◌, ◌≢◌, ℕ, ◌+◌, ◌≤◌, [], ◌∷◌, ◌++◌, true, false, sym, ap, refl, ◌∙◌, subst, arith, Some, None, ◌⊎◌, inl, inr, ⊎_elim, append-nil}
 use Rattle.std.specs.Prelude.{fold}
 use Rattle.std.proofs.lemmas.Bool.{ltb-false}
 use Rattle.reference.specs.Tree.{Name, Path, Tree, Dir, File, nothing, entry, At, Found, Missing, Blocked, onward, entry_at, edited}
@@ -8,7 +8,7 @@ use Rattle.reference.specs.Looks.{Look, Directory, seen, look, sighted, sight}
 use Rattle.reference.specs.declared.call.Call.TheVariants.{Rename}
 use Rattle.reference.specs.declared.reply.Reply.TheVariants.{Done}
 use Rattle.reference.proofs.Edits.{unseen, fold-Missing, fold-Blocked}
-use Rattle.reference.proofs.EntryPaths.{append-nil, same_path_itself, along}
+use Rattle.reference.proofs.EntryPaths.{same_path_itself, along}
 use Rattle.reference.proofs.Standing.{found_from, parent_directory, parent_from_found, below_deepest}
 use Rattle.reference.proofs.CallCases.{MayMove, renamed_cases}
 use Rattle.reference.proofs.CallAnswers.{Gives, not_done}

@@ -8,15 +8,12 @@ use Rattle.reference.specs.Tree.{by_bytes, same, by_order, Name, Path, Tree, Dir
 use Rattle.reference.specs.Shape.{AllAbove, Rising, RisingEntries}
 use Rattle.pathkey.proofs.OrderFacts.{equal}
 
-below_trans : (a b c : Name) → by_bytes a b ≡ Less → by_bytes b c ≡ Less → by_bytes a c ≡ Less
-below_trans a b c h g = nat_list_cmp_total.trans a b c h g
-
 pub flipped : (a b : Name) → by_bytes a b ≡ Greater → by_bytes b a ≡ Less
 flipped a b h = nat_list_cmp_total.antisymm b a ∙ ap ordering_reverse h
 
 pub above_trans : (a b : Name) (es : Entries) → by_bytes a b ≡ Less → AllAbove b es → AllAbove a es
 above_trans a b nothing h g = tt
-above_trans a b (entry m x rest) h g = (below_trans a b m h g.0, above_trans a b rest h g.1)
+above_trans a b (entry m x rest) h g = (nat_list_cmp_total.trans a b m h g.0, above_trans a b rest h g.1)
 
 above-put : (a n : Name) (x : Tree) (es : Entries) → by_bytes a n ≡ Less → AllAbove a es → AllAbove a (put n x es)
 above-put a n x nothing h g = (h, tt)

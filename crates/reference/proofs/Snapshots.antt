@@ -3,7 +3,7 @@ use Rattle.std.proofs.Common.{◌≡◌, ℕ, ◌+◌, ◌<◌, List, [], ◌∷
 use Rattle.std.specs.Prelude.{Ok, Err, nat_le, nat_lt}
 use Rattle.std.specs.Option.{is_some}
 use Rattle.std.specs.FinMap as finmap
-use Rattle.std.proofs.lemmas.Bool.{and_parts, ltb-true}
+use Rattle.std.proofs.lemmas.Bool.{and_parts, ltb-true, not-true}
 use Rattle.std.proofs.lemmas.Bool.Decides.{nat_tests}
 use Rattle.std.proofs.lemmas.Cmp.{nat_list_cmp_total}
 use Rattle.pathkey.specs.Order.{by_bytes}
@@ -65,10 +65,6 @@ abbrev pub have_room : Tree → Snapshots → List Name → Bool
 have_room t es [] = true
 have_room t es (n ∷ ns) = (not (is_some (finmap.find by_bytes n es)) && nat_lt (length es) 64) && have_room t ((n, t) ∷ es) ns
 
-not_true : (b : Bool) → not b ≡ true → b ≡ false
-not_true true h = absurd (cc)
-not_true false h = refl
-
 below_64 : (n : ℕ) → nat_lt n 64 ≡ true → nat_le 64 n ≡ false
 below_64 n h = let l : n < 64 = ltb-true n 64 h in grind (arith, nat_tests)
 
@@ -90,7 +86,7 @@ has_room : (t : Tree) (es : Snapshots) (n : Name) (ns : List Name) → have_room
 has_room t es n ns h =
     let parts : ((not (is_some (finmap.find by_bytes n es)) && nat_lt (length es) 64) ≡ true) × (have_room t ((n, t) ∷ es) ns ≡ true) = and_parts _ _ h in
     let first : (not (is_some (finmap.find by_bytes n es)) ≡ true) × (nat_lt (length es) 64 ≡ true) = and_parts _ _ parts.0 in
-    record { new = is_kept es n ∙ not_true _ first.0; few = below_64 (length es) first.1; rest = parts.1 }
+    record { new = is_kept es n ∙ not-true _ first.0; few = below_64 (length es) first.1; rest = parts.1 }
 
 -- what was settled, before the answers of the events that follow
 abbrev pub settled_first : World × Snapped → List Event → List Answer
