@@ -1,7 +1,6 @@
 -- What the messages of a write make of a block index, one after the other.
 use Rattle.std.proofs.Common.{◌≡◌, ◌≢◌, ℕ, ◌+◌, ◌-◌, ◌*◌, ◌/◌, ◌<◌, ◌≤◌, List, [], ◌∷◌, ◌++◌, length, map, true, false, Bool, cond, ltb, sym, ap, refl, ◌∙◌, subst, ◌⊎◌, inl, inr, ⊎_elim, Option, Some, arith}
-use Rattle.std.proofs.lemmas.Bool.{cases_lt, ltb-true, ltb-false, lt-ltb, le-ltb, false_from_ne_true}
-use Rattle.std.specs.Prelude.{◌&&◌}
+use Rattle.std.proofs.lemmas.Bool.{cases_lt, ltb-true, ltb-false, lt-ltb, le-ltb, false_from_ne_true, and_left, and_right, and_from}
 use Rattle.std.specs.List.{range_with_len}
 use Rattle.std.proofs.lemmas.List.FromFn.{map-range_with_len_more}
 use Rattle.message.specs.declared.msg.Msg.{Msg}
@@ -25,25 +24,13 @@ Change = ℕ → Option (List ℕ) → Option (List ℕ)
 abbrev pub up_to : ℕ → Change → Change
 up_to n change i o = cond (ltb i n) (change i o) o
 
-and_false_left : (a b : Bool) → a ≡ false → (a && b) ≡ false
-and_false_left true b e = absurd (cc)
-and_false_left false b e = refl
-
-and_false_right : (a b : Bool) → b ≡ false → (a && b) ≡ false
-and_false_right true b e = e
-and_false_right false b e = refl
-
-and_true : (a b : Bool) → a ≡ true → b ≡ true → (a && b) ≡ true
-and_true true b e f = f
-and_true false b e f = absurd (cc)
-
 by_touch : (off : ℕ) (w : List ℕ) (i : ℕ) (o : Option (List ℕ)) (t : Bool) → touches off w i ≡ t → patched off w i o ≡ cond t (Some (over (held o) (off - 4096 * i) (piece off w i))) o
 by_touch off w i o t e = ap (λ (t : Bool). cond t (Some (over (held o) (off - 4096 * i) (piece off w i))) o) e
 
 -- a write leaves a block that it does not reach
 left_alone : (off : ℕ) (w : List ℕ) (i : ℕ) (o : Option (List ℕ)) → (4096 * i + 4096 ≤ off) ⊎ (off + length w ≤ 4096 * i) → patched off w i o ≡ o
-left_alone off w i o (inl h) = by_touch off w i o false (and_false_left _ _ (le-ltb off (4096 * i + 4096) h))
-left_alone off w i o (inr h) = by_touch off w i o false (and_false_right _ _ (le-ltb (4096 * i) (off + length w) h))
+left_alone off w i o (inl h) = by_touch off w i o false (and_left _ _ (le-ltb off (4096 * i + 4096) h))
+left_alone off w i o (inr h) = by_touch off w i o false (and_right _ _ (le-ltb (4096 * i) (off + length w) h))
 
 -- no messages change no block
 pub no_change : (p : Path) (change : Change) (d : Blocks) → ((i : ℕ) (o : Option (List ℕ)) → i < most_blocks → change i o ≡ o) → BlocksChange change p d d
@@ -70,7 +57,7 @@ patch_effect p off w i k o b e = ap (λ (t : Bool). cond t (Some (over (held o) 
 
 -- the change of a block that a write touches
 touched : (off : ℕ) (w : List ℕ) (i : ℕ) (o : Option (List ℕ)) → off < 4096 * i + 4096 → 4096 * i < off + length w → Some (over (held o) (off - 4096 * i) (piece off w i)) ≡ patched off w i o
-touched off w i o h g = sym (by_touch off w i o true (and_true _ _ (lt-ltb off (4096 * i + 4096) h) (lt-ltb (4096 * i) (off + length w) g)))
+touched off w i o h g = sym (by_touch off w i o true (and_from _ _ (lt-ltb off (4096 * i + 4096) h) (lt-ltb (4096 * i) (off + length w) g)))
 
 -- the patch of one block more changes that block more
 pub write_goes_on : (p : Path) (off : ℕ) (w : List ℕ) (i : ℕ) (ms : Messages) → IsPath p → i < most_blocks → off < 4096 * i + 4096 → 4096 * i < off + length w

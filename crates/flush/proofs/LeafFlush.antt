@@ -1,6 +1,6 @@
 -- A flush of one slot into a leaf, in the words of its row.
 use Rattle.std.proofs.Common.{◌≡◌, ℕ, suc, ◌+◌, ◌-◌, ◌<◌, ◌≤◌, Bool, true, false, List, [], ◌∷◌, length, get_or, take, drop, refl, ap, sym, ◌∙◌, subst, arith, cond, pred, Option, Some, None, inl, inr, ⊎_elim, length-drop, length-append}
-use Rattle.std.specs.Prelude.{◌&&◌, nat_le, IsTrue, ◌⊎◌, ⊤, Result, Ok, Err, is_ok, is_err, OnOk, OnErr}
+use Rattle.std.specs.Prelude.{◌&&◌, nat_le, IsTrue, ◌⊎◌, ⊤, Result, Ok, Err, is_err, is_ok, OnErr}
 use Rattle.std.proofs.Math.ListN.{set}
 use Rattle.std.proofs.Math.Seq.{take-length}
 use Rattle.std.proofs.lemmas.List.{length-take-le}
@@ -57,12 +57,7 @@ some_leaf S h =
     let p = both (is_between 4 64 S.fanout && is_between S.fanout 1024 S.pending) (is_between 4 1024 S.leaf) h in
     leb-true 4 S.leaf (both (nat_le 4 S.leaf) (nat_le S.leaf 1024) p.1).0
 
--- what holds of a result that is one
-pub applied_ok : {T X : Type 0} (r : Result T X) (A : Type 0) → OnOk r A → is_ok r ≡ true → A
-applied_ok (Ok x) A a h = a
-applied_ok (Err e) A a h = (cc)
-
--- and of one that is none
+-- what holds of a result that is no value
 pub same_err : {T X : Type 0} (r : Result T X) (A : Type 0) → OnErr r A → is_ok r ≡ false → A
 same_err (Ok x) A a h = (cc)
 same_err (Err e) A a h = a

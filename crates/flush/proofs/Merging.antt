@@ -1,8 +1,9 @@
 -- A pass over a leaf's entries and its messages: the message of a key, applied between what is done and what is left.
-use Rattle.std.proofs.Common.{◌≡◌, ℕ, zero, suc, ◌+◌, ◌<◌, ◌≤◌, Bool, true, false, List, [], ◌∷◌, ◌++◌, length, take, drop, refl, ap, sym, ◌∙◌, subst, Option, Some, None, cond, arith, length-append, append-nil, length-take, append_assoc, length-drop, take-append-drop, min, get_or, slice_get, ◌-◌}
+use Rattle.std.proofs.Common.{◌≡◌, ℕ, zero, suc, ◌+◌, ◌<◌, ◌≤◌, Bool, true, false, List, [], ◌∷◌, ◌++◌, length, take, drop, refl, ap, sym, ◌∙◌, subst, Option, Some, None, cond, arith, length-append, append-nil, length-take, append_assoc, length-drop, min, get_or, slice_get, ◌-◌}
 use Rattle.std.specs.Prelude.{◌||◌, ◌&&◌}
 use Rattle.std.specs.Option.{option_or}
-use Rattle.std.proofs.lemmas.List.{drop-take}
+use Rattle.std.proofs.Math.Seq.{take-add}
+use Rattle.std.proofs.lemmas.List.{take-take}
 use Rattle.std.proofs.lemmas.Bool.{or_parts, false_from_ne_true}
 use Rattle.pathkey.specs.Order.{same}
 use Rattle.pathkey.specs.Keys.{is_below}
@@ -174,25 +175,6 @@ module _ {U V : Type 0} where
 
 -- ---- messages in parts
 
-module _ {X : Type 0} where
-  -- the first of the first
-  take-first : (n m : ℕ) (xs : List X) → n ≤ m → take n (take m xs) ≡ take n xs
-  take-first zero zero [] h = refl
-  take-first zero (suc m) [] h = refl
-  take-first (suc n) zero [] h = refl
-  take-first (suc n) (suc m) [] h = refl
-  take-first zero zero (x ∷ xs) h = refl
-  take-first zero (suc m) (x ∷ xs) h = refl
-  take-first (suc n) zero (x ∷ xs) h = absurd (omega arith)
-  take-first (suc n) (suc m) (x ∷ xs) h = ap (λ (zs : List X). x ∷ zs) (take-first n m xs (omega arith))
-
-  -- the first of a list, in two parts
-  take-add : (n m : ℕ) (xs : List X) → take (n + m) xs ≡ take n xs ++ take m (drop n xs)
-  take-add n m xs =
-      sym (take-append-drop n (take (n + m) xs))
-      ∙ ap (λ zs. zs ++ drop n (take (n + m) xs)) (take-first n (n + m) xs (omega arith))
-      ∙ ap (λ zs. take n xs ++ zs) (drop-take n m xs)
-
 module _ {U V : Type 0} (means : U → Option V → Option V) (most : ℕ) (ms : List (Msg U V)) where
   -- messages behind others
   pub filled_then : (a b : ℕ) (old mid new : List (List ℕ × V)) → IsFilled means most ms a old mid → IsFilled means most (drop a ms) b mid new → IsFilled means most ms (a + b) old new
@@ -209,7 +191,7 @@ module _ {U V : Type 0} (means : U → Option V → Option V) (most : ℕ) (ms :
       let few : n ≤ min k (length ms) = omega (arith, p.within, length-take k ms) in
       record {
         within = omega (arith, few);
-        applied = subst (λ (xs : List (Msg U V)). Applied means xs old new) (take-first n k ms (omega (arith, few))) p.applied;
+        applied = subst (λ (xs : List (Msg U V)). Applied means xs old new) (take-take n k ms (omega (arith, few))) p.applied;
         few = p.few;
         none = p.none;
       }

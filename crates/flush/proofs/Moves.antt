@@ -1,6 +1,6 @@
 -- Messages that are moved into slots.
 use Rattle.std.proofs.Common.{◌≡◌, ℕ, zero, suc, ◌+◌, ◌++◌, ◌<◌, ◌≤◌, List, [], ◌∷◌, length, take, drop, get_or, refl, ap, sym, ◌∙◌, subst, Option, Some, None, true, Result, arith, length-drop}
-use Rattle.std.specs.Prelude.{Ok, Err, OnErr, IfOk}
+use Rattle.std.specs.Prelude.{Ok, Err, IfOk}
 use Rattle.std.specs.List.{All}
 use Rattle.std.specs.Option.{option_to_list}
 use Rattle.std.proofs.Math.ListN.{set}
@@ -28,11 +28,6 @@ use Rattle.node.proofs.Sinking.{pending-taken}
 use Rattle.node.proofs.Wholes.{at_holder, see-pending, taken-at, taken-none}
 use Rattle.flush.specs.Sunk.{Moved, MovedInto, Sunk, spare}
 use Rattle.flush.proofs.Counts.{piece_count-append, piece_count-none}
-
--- what holds, holds where there is an error
-pub on_err : {T E P : Type 0} (r : Result T E) → P → OnErr r P
-on_err (Ok x) p = tt
-on_err (Err e) p = p
 
 module _ {U V : Type 0} where
   -- the messages of parts

@@ -1,6 +1,5 @@
 -- Which nodes can be walked by numbers of slots, and how far down.
-use Rattle.std.proofs.Common.{◌≡◌, ℕ, zero, suc, pred, ◌+◌, ◌-◌, ◌++◌, ◌^◌, ◌<◌, ◌≤◌, List, [], ◌∷◌, length, get_or, ap, sym, ◌∙◌, subst, Option, None, arith}
-use Rattle.std.proofs.lemmas.List.{length-append}
+use Rattle.std.proofs.Common.{◌≡◌, ℕ, zero, suc, pred, ◌-◌, ◌^◌, ◌<◌, ◌≤◌, List, [], ◌∷◌, length, get_or, ap, sym, ◌∙◌, subst, Option, None, arith}
 use Rattle.flush.specs.Heaviest.{flush_into, IsWalkable, AreWalkable}
 use Rattle.node.specs.declared.node.Slot.{Slot}
 use Rattle.node.specs.declared.shape.Shape.{Shape}
@@ -13,10 +12,6 @@ use Rattle.node.specs.See.{seen_slots}
 use Rattle.node.specs.Weights.{longest}
 use Rattle.node.proofs.Roots.{small_shape}
 use Rattle.node.proofs.Sizes.{exact_levels, root_levels}
-
--- the way to a child is one number longer
-pub length-under : (under at : List ℕ) (i : ℕ) → under ≡ at ++ i ∷ [] → length under ≡ length at + 1
-length-under under at i e = ap length e ∙ length-append at (i ∷ [])
 
 module _ {U V : Type 0} where
   -- the child of the slot that the code reads

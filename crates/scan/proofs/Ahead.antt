@@ -16,10 +16,6 @@ abbrev pub ahead : List ℕ → List (List ℕ) → ℕ
 ahead c [] = 0
 ahead c (b ∷ bs) = cond (before c b) 1 0 + ahead c bs
 
--- no key stands before itself
-not_before_itself : (c : List ℕ) → before c c ≡ false
-not_before_itself c = not_before_from_reaches c c (reaches-refl c)
-
 fewer_by : (b c : Bool) (m n : ℕ) → (b ≡ true → c ≡ true) → m ≤ n → cond b 1 0 + m ≤ cond c 1 0 + n
 fewer_by true true m n f h = omega arith
 fewer_by true false m n f h = absurd (let e : false ≡ true = f refl in cc)
@@ -45,7 +41,7 @@ less_later false false m n f h = omega arith
 -- fewer lie after a later one of them
 pub ahead_falls : (c d : List ℕ) (bs : List (List ℕ)) → before c d ≡ true → Contains bs d → ahead d bs < ahead c bs
 ahead_falls c d [] l h = absurd (let b = h.1 in omega (arith, b))
-ahead_falls c d (b ∷ bs) l (zero, h, e) = less_here (before d b) (before c b) (ahead d bs) (ahead c bs) (ap (before d) e ∙ not_before_itself d) (ap (before c) e ∙ l) (fewer c d bs l)
+ahead_falls c d (b ∷ bs) l (zero, h, e) = less_here (before d b) (before c b) (ahead d bs) (ahead c bs) (ap (before d) e ∙ not_before_from_reaches d d (reaches-refl d)) (ap (before c) e ∙ l) (fewer c d bs l)
 ahead_falls c d (b ∷ bs) l (suc i, h, e) = less_later (before d b) (before c b) (ahead d bs) (ahead c bs) (λ t. lt_le c d b l (reaches-from_before d b t)) (ahead_falls c d bs l (i, omega (arith, h), e))
 
 earlier_by : (c : Bool) (a b d : List ℕ) → cond c a b ≡ d → (Some a ≡ Some d) ⊎ (Some b ≡ Some d)

@@ -2,13 +2,14 @@
 use Rattle.std.proofs.Common.{◌≡◌, ℕ, zero, suc, ◌-◌, ◌<◌, true, false, List, [], ◌∷◌, ◌++◌, length, get_or, refl, ap, sym, ◌∙◌, subst, Bool, Option, Some, None, arith, ◌⊎◌, inl, inr}
 use Rattle.std.specs.Prelude.{All, Contains}
 use Rattle.std.specs.Option.{option_to_list}
+use Rattle.std.proofs.lemmas.Map.Made.{Contains-tail}
+use Rattle.std.proofs.lemmas.List.Elements.{All-contains}
 use Rattle.pathkey.specs.Keys.{is_below, next_key}
 use Rattle.message.specs.Ranges.{reaches, before, within}
 use Rattle.message.proofs.KeyOrder.{both, le_le, reaches-refl, reaches-from_before, reaches-from_not_before, not_before_from_reaches, below_next}
 use Rattle.message.proofs.NextKey.{in_range, reaches-next}
 use Rattle.scan.specs.Pairs.{HasNone, IsFirst, IsScan, AreAhead, IsGiven}
 use Rattle.scan.proofs.Joins.{scan_zero}
-use Rattle.scan.proofs.Pieces.{of_one}
 
 -- a list without elements
 pub no_items : {X : Type 0} (xs : List X) → length xs ≡ 0 → xs ≡ []
@@ -19,11 +20,6 @@ no_items (x ∷ xs) e = absurd (omega (arith, e))
 none_of : {V : Type 0} (o : Option V) → ((v : V) → o ≡ Some v → ⊥) → o ≡ None
 none_of None h = refl
 none_of (Some v) h = absurd (h v refl)
-
--- an element that is not the first stands behind it
-in_tail : {X : Type 0} (p : X) (ps : List X) (x : X) → Contains (p ∷ ps) x → (p ≡ x → ⊥) → Contains ps x
-in_tail p ps x (zero, h, e) n = absurd (n e)
-in_tail p ps x (suc i, h, e) n = (i, omega (arith, h), e)
 
 module _ {V : Type 0} (f : List ℕ → Option V) where
   module _ (from : List ℕ) (hi : Option (List ℕ)) (n : ℕ) (p : List ℕ × V) (ps : List (List ℕ × V)) (s : IsScan f from hi n (p ∷ ps)) where
@@ -43,7 +39,7 @@ module _ {V : Type 0} (f : List ℕ → Option V) where
         let q = both (reaches lo k) (before k p.0) w in
         let r = both (reaches from p.0) (is_below p.0 hi) head_there.0 in
         none_of (f k) (λ v e. elim (s.complete k v (in_range from k hi (le_le from lo k low q.0) (below_next k p.0 hi q.1 r.1)) e) [
-          | inl c ↦ (let h : before k p.0 ≡ false = not_before_from_reaches p.0 k (of_one (λ (x : List ℕ × V). reaches p.0 x.0 ≡ true) (p ∷ ps) (k, v) all_from c) in absurd (let g = q.1 in cc))
+          | inl c ↦ (let h : before k p.0 ≡ false = not_before_from_reaches p.0 k (All-contains (λ (x : List ℕ × V). reaches p.0 x.0 ≡ true) (p ∷ ps) (k, v) all_from c) in absurd (let g = q.1 in cc))
           | inr x ↦ (let h : before k p.0 ≡ false = not_before_from_reaches p.0 k (reaches-from_before p.0 k (x.1 0 p (omega arith))) in absurd (let g = q.1 in cc))
         ])
 
@@ -57,9 +53,9 @@ module _ {V : Type 0} (f : List ℕ → Option V) where
         let r = both (reaches from p.0) (is_below p.0 hi) head_there.0 in
         let after : before p.0 k ≡ true = sym (reaches-next p.0 k) ∙ q.0 in
         elim (s.complete k v (in_range from k hi (le_le from p.0 k r.0 (reaches-from_before p.0 k after)) q.1) e) [
-          | inl c ↦ inl (in_tail p ps (k, v) c (λ same.
+          | inl c ↦ inl (Contains-tail p ps (k, v) (λ same.
               let h : before p.0 k ≡ false = ap (λ (x : List ℕ × V). before p.0 x.0) (sym same) ∙ not_before_from_reaches p.0 p.0 (reaches-refl p.0) in
-              absurd (cc)))
+              absurd (cc)) c)
           | inr x ↦ inr (omega (arith, x.0), λ j d l. x.1 (suc j) d (omega (arith, l)))
         ]
 

@@ -2,15 +2,10 @@
 use Rattle.std.proofs.Common.{◌≡◌, ℕ, true, false, List, ◌∙◌, subst, Option, Some, None}
 use Rattle.pathkey.specs.Keys.{is_below}
 use Rattle.message.specs.Ranges.{reaches, before, within}
-use Rattle.message.proofs.KeyOrder.{both, le_le, reaches-from_not_before, not_before_from_reaches, begins_before_end, below_next}
+use Rattle.message.proofs.KeyOrder.{both, le_le, reaches-from_not_before, not_before_from_reaches, below_next}
 use Rattle.scan.specs.Pairs.{HasNone, IsFirst}
 use Rattle.message.proofs.NextKey.{by_bool, in_range}
-
--- below an end that a key does not lie below, each key stands before that key
-pub past_end : (from k : List ℕ) (hi : Option (List ℕ)) → is_below from hi ≡ false → is_below k hi ≡ true → before k from ≡ true
-past_end from k hi e h = by_bool (before k from) (before k from ≡ true) (λ t. t) (λ f. absurd (
-    let t : is_below from hi ≡ true = begins_before_end from k hi (reaches-from_not_before k from f) h in
-    cc))
+use Rattle.message.proofs.PointKeys.{below_past}
 
 module _ {V : Type 0} (f : List ℕ → Option V) where
   -- before its beginning a range has no value
@@ -27,7 +22,7 @@ module _ {V : Type 0} (f : List ℕ → Option V) where
 
   -- up to a key that is past the end of the range
   pub none_past : (lo from : List ℕ) (hi : Option (List ℕ)) → HasNone f lo (Some from) → is_below from hi ≡ false → HasNone f lo hi
-  none_past lo from hi a e k h = let p = both (reaches lo k) (is_below k hi) h in a k (in_range lo k (Some from) p.0 (past_end from k hi e p.1))
+  none_past lo from hi a e k h = let p = both (reaches lo k) (is_below k hi) h in a k (in_range lo k (Some from) p.0 (below_past from k hi e p.1))
 
   -- none up to a key, and a first pair from there on
   pub first_join : (lo c : List ℕ) (hi stop : Option (List ℕ)) (p : List ℕ × V) → HasNone f lo (Some c) → reaches lo c ≡ true → ((k : List ℕ) → is_below k stop ≡ true → is_below k hi ≡ true) → IsFirst f c stop (Some p) → IsFirst f lo hi (Some p)

@@ -13,7 +13,7 @@ use Rattle.node.proofs.EntryFacts.{lookup-drop}
 use Rattle.node.proofs.EntryPlaces.{is_entry, after_entry}
 use Rattle.scan.specs.Pairs.{HasNone, IsFirst}
 use Rattle.message.proofs.NextKey.{in_range}
-use Rattle.scan.proofs.Firsts.{past_end}
+use Rattle.message.proofs.PointKeys.{below_past}
 
 module _ {V : Type 0} (es : List (List ℕ × V)) (lo : List ℕ) (i : ℕ) (c : IsCount es (Some lo) i) where
   -- all entries stand before the range
@@ -66,4 +66,4 @@ module _ {V : Type 0} (es : List (List ℕ × V)) (lo : List ℕ) (i : ℕ) (c :
 
     -- the entry lies past the range
     pub entry_is_past : (hi : Option (List ℕ)) → is_below e.0 hi ≡ false → HasNone (lookup es) lo hi
-    entry_is_past hi u = none_before hi (λ k h. past_end e.0 k hi u h)
+    entry_is_past hi u = none_before hi (λ k h. below_past e.0 k hi u h)

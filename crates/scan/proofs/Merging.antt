@@ -11,13 +11,13 @@ use Rattle.message.specs.Ranges.{reaches, before, within}
 use Rattle.message.specs.Stretches.{all_ends}
 use Rattle.message.proofs.KeyOrder.{both, le_le, lt_le, le_lt, reaches-refl, reaches-from_before, reaches-from_not_before, not_before_from_reaches, begins_before_end, below_next}
 use Rattle.message.proofs.NextKey.{by_bool, in_range, one_key, before-next, reaches-next, reaches-from_before_next, one_before_next}
-use Rattle.message.proofs.PointKeys.{left_by_ranges, forgets, point_end}
+use Rattle.message.proofs.PointKeys.{left_by_ranges, forgets, point_end, below_past}
 use Rattle.scan.specs.Pairs.{HasNone, IsFirst, IsScan, AddsScan}
 use Rattle.scan.specs.Stretches.{pair_of}
 use Rattle.scan.specs.Merging.{AreAll, StartsFrom, IsMoved, HasPoint, laid, LeavesGaps, IsMerged}
 use Rattle.scan.proofs.Ahead.{ahead, ahead_falls, fewer}
 use Rattle.scan.proofs.AtHand.{all_from, head_first, tail_scan, found_none}
-use Rattle.scan.proofs.Firsts.{none_start, past_end}
+use Rattle.scan.proofs.Firsts.{none_start}
 use Rattle.scan.proofs.Joins.{HasWalked, walk_start, walk_on, walk_end, walk_full, walk_over, adds_none, adds_zero, adds_one, adds_join, adds_moved, next_inside, next_reached, scan_none}
 use Rattle.scan.proofs.Pieces.{short_law}
 
@@ -96,7 +96,7 @@ module _ {V : Type 0} (f : List ℕ → Option V) where
   -- none before an end before which none of them stands
   pub none_until : (lo : List ℕ) (hi stop : Option (List ℕ)) (ps : List (List ℕ × V)) → AreAll f lo hi ps → ((k : List ℕ) → is_below k stop ≡ true → is_below k hi ≡ true) → StartsFrom stop ps → HasNone f lo stop
   none_until lo hi stop [] s inside h k w = let q = both (reaches lo k) (is_below k stop) w in none_of_all lo hi s k (in_range lo k hi q.0 (inside k q.1))
-  none_until lo hi stop (p ∷ ps) s inside h k w = let q = both (reaches lo k) (is_below k stop) w in (first_of_all lo hi p ps s).2 k (in_range lo k (Some p.0) q.0 (past_end p.0 k stop h q.1))
+  none_until lo hi stop (p ∷ ps) s inside h k w = let q = both (reaches lo k) (is_below k stop) w in (first_of_all lo hi p ps s).2 k (in_range lo k (Some p.0) q.0 (below_past p.0 k stop h q.1))
 
 -- ---- pairs that are moved
 

@@ -4,7 +4,7 @@ use Rattle.std.specs.Prelude.{All, AllPairs, Contains}
 use Rattle.std.proofs.Math.ListN.{get_or-append}
 use Rattle.std.proofs.Math.Seq.{get_or-append_seam}
 use Rattle.std.proofs.lemmas.List.{append-nil}
-use Rattle.std.proofs.lemmas.List.Elements.{All-append, All-push, All-weaker, Contains-append_left, Contains-append_right, Contains-push}
+use Rattle.std.proofs.lemmas.List.Elements.{All-append, All-push, All-weaker, Contains-append_left, Contains-append_right, Contains-push, All-contains}
 use Rattle.std.proofs.lemmas.List.Kept.{AllPairs-cons}
 use Rattle.pathkey.specs.Keys.{is_below, next_key}
 use Rattle.message.specs.Ranges.{reaches, before, within}
@@ -18,10 +18,6 @@ pairs_append R [] ys a b c = b
 pairs_append R (x ∷ xs) ys a b c = AllPairs-cons R x (xs ++ ys)
     (All-append (R x) xs ys (λ j d l. a 0 (suc j) d (omega arith) (omega arith)) (c 0 x (omega arith)))
     (pairs_append R xs ys (λ i j d l m. a (suc i) (suc j) d (omega arith) (omega arith)) b (λ i d l. c (suc i) d (omega arith)))
-
--- what holds of all elements holds of one of them
-pub of_one : {X : Type 0} (P : X → Type 0) (xs : List X) (x : X) → All P xs → Contains xs x → P x
-of_one P xs x h c = subst P c.2 (h c.0 x c.1)
 
 module _ {V : Type 0} where
   -- each pair stands at or before the last one, so before the next key
@@ -54,7 +50,7 @@ module _ {V : Type 0} where
     -- the range behind the last key lies in the whole range
     goes_on : (q : List ℕ) → within (next_key k) hi q ≡ true → within lo hi q ≡ true
     goes_on q w =
-        let last : within lo hi k ≡ true = (of_one (λ (p : List ℕ × V). (within lo hi p.0 ≡ true) × (f p.0 ≡ Some p.1)) ps (k, ends.1) s.sound last_there).0 in
+        let last : within lo hi k ≡ true = (All-contains (λ (p : List ℕ × V). (within lo hi p.0 ≡ true) × (f p.0 ≡ Some p.1)) ps (k, ends.1) s.sound last_there).0 in
         let low : reaches lo k ≡ true = (both (reaches lo k) (is_below k hi) last).0 in
         let on : (reaches (next_key k) q ≡ true) × (is_below q hi ≡ true) = both (reaches (next_key k) q) (is_below q hi) w in
         in_range lo q hi (le_le lo k q low (le_le k (next_key k) q (reaches-from_before k (next_key k) (before-next k)) on.0)) on.1
@@ -64,7 +60,7 @@ module _ {V : Type 0} where
     join_complete q v w e = elim (s.complete q v w e) [
       | inl c ↦ inl (Contains-append_left ps qs (q, v) c)
       | inr x ↦
-          let behind : before k q ≡ true = of_one (λ (p : List ℕ × V). before p.0 q ≡ true) ps (k, ends.1) x.1 last_there in
+          let behind : before k q ≡ true = All-contains (λ (p : List ℕ × V). before p.0 q ≡ true) ps (k, ends.1) x.1 last_there in
           let there : within (next_key k) hi q ≡ true = in_range (next_key k) q hi (reaches-next k q ∙ behind) (both (reaches lo q) (is_below q hi) w).1 in
           elim (t.complete q v there e) [
             | inl c ↦ inl (Contains-append_right ps qs (q, v) c)

@@ -1,14 +1,16 @@
 -- A slot's subtree that goes at once, in the words of its row.
-use Rattle.std.proofs.Common.{◌≡◌, ℕ, zero, suc, ◌-◌, ◌<◌, Bool, true, List, [], ◌∷◌, length, get_or, take, drop, refl, ap, sym, ◌∙◌, subst, arith, cond, Option, Some, None, pred, length-drop}
+use Rattle.std.proofs.Common.{◌≡◌, ℕ, zero, suc, ◌-◌, ◌<◌, Bool, true, List, [], ◌∷◌, length, get_or, take, drop, refl, ap, sym, ◌∙◌, subst, arith, cond, Option, None, pred, length-drop}
 use Rattle.std.proofs.Math.ListN.{set}
 use Rattle.std.proofs.lemmas.List.{take_all}
 use Rattle.std.specs.Prelude.{◌&&◌}
+use Rattle.std.proofs.lemmas.Bool.{both_ways}
 use Rattle.pathkey.specs.Keys.{is_below, is_in}
 use Rattle.pathkey.specs.declared.range.KeyRange.{KeyRange}
 use Rattle.message.specs.declared.msg.Msg.{Msg}
 use Rattle.message.specs.declared.msg.Msg.TheVariants.{Put, Del, DelRange, Edit}
 use Rattle.message.specs.Ranges.{reaches, within, ends_within}
-use Rattle.message.proofs.KeyOrder.{both, le_le, lt_le}
+use Rattle.message.proofs.KeyOrder.{both, le_le}
+use Rattle.message.proofs.RangesApart.{below_later}
 use Rattle.node.specs.declared.node.Slot.{Slot}
 use Rattle.node.specs.declared.shape.Shape.{Shape}
 use Rattle.node.specs.declared.step.StepReply.{StepReply}
@@ -23,7 +25,6 @@ use Rattle.node.specs.Sinks.{Sinks}
 use Rattle.node.specs.StepRows.{can_drop_covered, IsBare}
 use Rattle.node.specs.Steps.{Formed, Replies}
 use Rattle.node.proofs.StepDone.{replies_did}
-use Rattle.node.proofs.Outcome.{clash}
 use Rattle.node.proofs.Sinking.{touch_only-drop}
 use Rattle.node.proofs.Sizes.{lawful_depth}
 use Rattle.node.proofs.Splice.{slots-split, slots-set_split, slot_count-take, slots_from-joined}
@@ -31,18 +32,12 @@ use Rattle.split_merge.specs.Swept.{bare, Swept}
 
 -- ---- the range
 
--- a key before an end lies before each later end
-below_within : (a b : Option (List ℕ)) (k : List ℕ) → ends_within a b ≡ true → is_below k a ≡ true → is_below k b ≡ true
-below_within a None k h l = refl
-below_within None (Some b) k h l = (cc)
-below_within (Some a) (Some b) k h l = lt_le k a b l h
-
 -- a range that covers another holds its keys
 in_covering : (r : KeyRange) (lo : List ℕ) (e : Option (List ℕ)) (k : List ℕ) → (reaches r.lo lo && ends_within e r.hi) ≡ true → within lo e k ≡ true → is_in r k ≡ true
 in_covering r lo e k c w =
     let p = both (reaches r.lo lo) (ends_within e r.hi) c in
     let q = both (reaches lo k) (is_below k e) w in
-    ap (λ z. z && is_below k r.hi) (le_le r.lo lo k p.0 q.0) ∙ below_within e r.hi k p.1 q.1
+    ap (λ z. z && is_below k r.hi) (le_le r.lo lo k p.0 q.0) ∙ below_later k e r.hi p.1 q.1
 
 module _ {U V : Type 0} where
   -- ---- the empty subtree
@@ -100,10 +95,10 @@ module _ {U V : Type 0} where
 
     -- likewise for each oldest message: one that covers the slot is a range-delete
     did : (ms : List (Msg U V)) (c : PNode U V) → Replies means DropCovered shape root i (Did 1) (from ms c) (from (drop 1 ms) (bare lo c))
-    did [] c h lp hi l able may = absurd (clash _ able (able_there hi [] c))
-    did (Put q v ∷ ms) c h lp hi l able may = absurd (clash _ able (able_there hi (Put q v ∷ ms) c))
-    did (Del q ∷ ms) c h lp hi l able may = absurd (clash _ able (able_there hi (Del q ∷ ms) c))
-    did (Edit q u ∷ ms) c h lp hi l able may = absurd (clash _ able (able_there hi (Edit q u ∷ ms) c))
+    did [] c h lp hi l able may = absurd (both_ways _ (able_there hi [] c) able)
+    did (Put q v ∷ ms) c h lp hi l able may = absurd (both_ways _ (able_there hi (Put q v ∷ ms) c) able)
+    did (Del q ∷ ms) c h lp hi l able may = absurd (both_ways _ (able_there hi (Del q ∷ ms) c) able)
+    did (Edit q u ∷ ms) c h lp hi l able may = absurd (both_ways _ (able_there hi (Edit q u ∷ ms) c) able)
     did (DelRange r ∷ ms) c h lp hi l able may = replies_did means DropCovered shape root i 1 b (more lo (DelRange r ∷ ms) c none) (more lo ms (bare lo c) none) a at_i refl tt tt refl (λ z. z) (λ q z. omega (arith, z)) (λ g e w able. swept r ms c g (next_lo e a) w (sym (able_there e (DelRange r ∷ ms) c) ∙ able)) (λ z. z) h lp hi l able may
 
     -- what each reply says of the node

@@ -2,7 +2,6 @@ pub mod InnerSplit
 pub mod Splittable
 pub mod Mergeable
 pub mod Merging
-pub mod Untouched
 pub mod RootUp
 pub mod Covered
 pub mod RootDown

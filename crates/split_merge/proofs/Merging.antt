@@ -5,12 +5,13 @@ use Rattle.std.proofs.lemmas.List.{get_or_default}
 use Rattle.std.proofs.lemmas.List.Edits.{get_or-remove_below}
 use Rattle.std.specs.List.{insert, remove}
 use Rattle.std.specs.Prelude.{◌&&◌}
-use Rattle.std.proofs.lemmas.Bool.{false_from_ne_true}
+use Rattle.std.proofs.lemmas.Bool.{false_from_ne_true, and_right}
 use Rattle.pathkey.specs.Keys.{is_below}
 use Rattle.message.specs.declared.msg.Msg.{Msg}
 use Rattle.message.specs.Ranges.{reaches, before, within}
 use Rattle.message.specs.Effects.{effects, Takes}
 use Rattle.message.proofs.KeyOrder.{reaches-from_before, not_before_from_reaches, before_from_not_reaches, le_le, both as both_of, below_next}
+use Rattle.message.proofs.Telling.{untouched}
 use Rattle.node.specs.declared.node.Slot.{Slot}
 use Rattle.node.specs.declared.shape.Shape.{Shape}
 use Rattle.node.specs.declared.step.StepReply.TheVariants.{Did, NotThere}
@@ -26,16 +27,14 @@ use Rattle.node.specs.Sinks.{Sinks}
 use Rattle.node.specs.Steps.{Replies, Formed, HasNoRoom, MayHaveRoom, width}
 use Rattle.node.proofs.StepDone.{replies_did}
 use Rattle.node.proofs.EntryFacts.{rises-append, lookup-front, lookup-back}
-use Rattle.node.proofs.Placing.{and_false}
 use Rattle.node.proofs.Splice.{starts-more, slot_count-take, slot_count-joined, pending-joined, slots_from-joined, lawful-join, slots_value-joined}
 use Rattle.split_merge.specs.Merged.{are_alike, both, IsJoined, MergeReplies}
 use Rattle.split_merge.proofs.Mergeable.{slots_from-two, can_merge_leaves-last, can_merge_inner-last, unlike_leaves, unlike_inner, same_many}
 use Rattle.split_merge.proofs.Splittable.{not_less}
-use Rattle.split_merge.proofs.Untouched.{effects_untouched}
 
 -- a key behind the pivot lies outside the range before it
 past_pivot : (lo p k : List ℕ) → reaches p k ≡ true → within lo (Some p) k ≡ false
-past_pivot lo p k r = and_false (reaches lo k) (before k p) (not_before_from_reaches p k r)
+past_pivot lo p k r = and_right (reaches lo k) (before k p) (not_before_from_reaches p k r)
 
 -- a key outside a range is outside one that lies in it
 outside_part : (lo lp k : List ℕ) (e d : Option (List ℕ)) → (reaches lp k ≡ true → reaches lo k ≡ true) → (is_below k d ≡ true → is_below k e ≡ true) → within lo e k ≡ false → within lp d k ≡ false
@@ -114,8 +113,8 @@ module _ {U V : Type 0} (means : U → Option V → Option V) (S : Shape) where
         above = λ k v i.
             let q = both_of (reaches lo k) (is_below k e) i in
             t.meaning k v ∙ (elim (reaches p k) as (λ b. reaches p k ≡ b → effects means rm k (effects means lm k v) ≡ effects means (cond b rm lm) k v) [
-              | true ↦ λ a. ap (effects means rm k) (effects_untouched means lm k v (w.1 k (past_pivot lo p k a)))
-              | false ↦ λ a. effects_untouched means rm k (effects means lm k v) (w.3.1 k (ap (λ z. z && is_below k e) a))
+              | true ↦ λ a. ap (effects means rm k) (untouched means lm k v (w.1 k (past_pivot lo p k a)))
+              | false ↦ λ a. untouched means rm k (effects means lm k v) (w.3.1 k (ap (λ z. z && is_below k e) a))
             ]) refl;
       }
 

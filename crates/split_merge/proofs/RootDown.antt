@@ -1,5 +1,5 @@
 -- The only child of a root in the root's place.
-use Rattle.std.proofs.Common.{◌≡◌, ℕ, true, false, List, [], ◌∷◌, ◌++◌, length, get_or, refl, ap, sym, ◌∙◌, subst, arith, cond, Option, Some, None, pred}
+use Rattle.std.proofs.Common.{◌≡◌, ℕ, true, false, List, [], ◌∷◌, ◌++◌, length, refl, ap, sym, ◌∙◌, subst, arith, cond, Option, Some, None, pred}
 use Rattle.std.specs.Prelude.{◌&&◌}
 use Rattle.std.proofs.lemmas.List.{append_assoc, append-nil}
 use Rattle.pathkey.specs.Keys.{is_below}
@@ -19,20 +19,10 @@ use Rattle.node.specs.RootSteps.{has_one_inner, with_root, RootLowered, AnswersD
 use Rattle.node.specs.Sinks.{msgs_at}
 use Rattle.node.proofs.Appending.{effects-taken, lawful-appended, value-appended}
 use Rattle.node.proofs.Sinking.{emptied-taken, pending-taken}
-use Rattle.node.specs.Searchable.{IsRoot}
-use Rattle.node.proofs.Placing.{is_root}
 use Rattle.split_merge.specs.Lowered.{Lowered}
 
 module _ {U V : Type 0} (means : U → Option V → Option V) where
   -- ---- the slots, one by one
-
-  -- a list that takes what another has made of messages takes the messages
-  pub takes-made : (a x b c : List (Msg U V)) → Takes means [] x b → Takes means a b c → Takes means a x c
-  takes-made a x b c s t = record {
-    meaning = λ k v. t.meaning k v ∙ s.meaning k (effects means a k v);
-    bound = omega (arith, s.bound, t.bound);
-    touched = λ k h g. t.touched k h (s.touched k refl g);
-  }
 
   -- slots, the last of which has no end, have taken their parts of messages
   abbrev pub HaveAll : List (Msg U V) → List (Slot U V) → List (Slot U V) → Type 0

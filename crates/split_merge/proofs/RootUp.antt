@@ -1,12 +1,14 @@
 -- A new root above the old one.
 use Rattle.std.proofs.Common.{◌≡◌, ℕ, suc, ◌+◌, ◌<◌, ◌≤◌, Bool, true, false, List, [], ◌∷◌, length, map, refl, ap, sym, ◌∙◌, subst, arith, cond, Option, None, pred, length-append}
 use Rattle.std.specs.Prelude.{◌&&◌, IsTrue}
+use Rattle.std.proofs.lemmas.Bool.{and_right, both_ways}
 use Rattle.pathkey.specs.Keys.{is_below}
 use Rattle.message.specs.declared.msg.Msg.{Msg}
 use Rattle.message.specs.Ranges.{reaches, before, within}
 use Rattle.message.specs.Effects.{effects}
 use Rattle.message.proofs.KeyOrder.{reaches-from_before, not_before_from_reaches, from_start, le_le}
 use Rattle.message.proofs.Lists.{effects-append}
+use Rattle.message.proofs.Telling.{untouched}
 use Rattle.node.specs.declared.node.Slot.{Slot}
 use Rattle.node.specs.declared.shape.Shape.{Shape}
 use Rattle.node.specs.declared.step.StepReply.{StepReply}
@@ -19,18 +21,15 @@ use Rattle.node.specs.Lawful.{IsLawfulNode, IsLawfulRoot, AreLawfulSlots, IsLawf
 use Rattle.node.specs.StepRows.{emptied}
 use Rattle.node.specs.RootSteps.{levels, has_one_slot, with_root, RootRaised, AnswersUp}
 use Rattle.node.specs.Sinks.{msgs_at, child_value}
-use Rattle.node.proofs.Outcome.{clash}
-use Rattle.node.proofs.Placing.{and_false}
 use Rattle.node.proofs.Sizes.{root_levels}
 use Rattle.node.proofs.Splice.{slots_value_parts}
 use Rattle.split_merge.specs.Raised.{hollow, all_msgs, IsAbove, Raised, Refused}
-use Rattle.split_merge.proofs.Untouched.{effects_untouched}
 
 module _ {U V : Type 0} where
   -- k lies past a slot behind which one begins at or before k
   pub past : (lo : List ℕ) (hi : Option (List ℕ)) (ss : PSlots U V) (k : List ℕ) → begins_by ss k ≡ true → within lo (next_lo hi ss) k ≡ false
   past lo hi none k e = (cc)
-  past lo hi (more lp ms n ss) k e = and_false (reaches lo k) (before k lp) (not_before_from_reaches lp k e)
+  past lo hi (more lp ms n ss) k e = and_right (reaches lo k) (before k lp) (not_before_from_reaches lp k e)
 
   -- slots seen without messages are the slots emptied
   pub emptied-hollow : (xs : List (Slot U V)) → slots (map hollow xs) ≡ emptied (seen_slots xs)
@@ -83,7 +82,7 @@ module _ {U V : Type 0} where
     effects-later : (S : Shape) (h : ℕ) (hi : Option (List ℕ)) (ss : PSlots U V) (k : List ℕ) (v : Option V) → AreLawfulSlots S ss h hi → begins_by ss k ≡ false → effects means (all_msgs ss) k v ≡ v
     effects-later S h hi none k v l e = refl
     effects-later S h hi (more lo ms n ss) k v l e =
-        effects-append means ms (all_msgs ss) k v ∙ effects-later S h hi ss k _ l.3 (not_behind lo ss k l.0 e) ∙ effects_untouched means ms k v (l.1 k (ap (λ z. z && is_below k (next_lo hi ss)) e))
+        effects-append means ms (all_msgs ss) k v ∙ effects-later S h hi ss k _ l.3 (not_behind lo ss k l.0 e) ∙ untouched means ms k v (l.1 k (ap (λ z. z && is_below k (next_lo hi ss)) e))
       where
         -- slots behind one that begins behind a key begin behind it
         not_by : (c : Bool) (lo lp k : List ℕ) → reaches lp k ≡ c → before lo lp ≡ true → reaches lo k ≡ false → c ≡ false
@@ -100,7 +99,7 @@ module _ {U V : Type 0} where
     effects-all S h hi none k v l = refl
     effects-all S h hi (more lo ms n ss) k v l =
         effects-append means ms (all_msgs ss) k v ∙ (elim (begins_by ss k) as (λ c. begins_by ss k ≡ c → effects means (all_msgs ss) k (effects means ms k v) ≡ effects means (cond c (msgs_at ss k) ms) k v) [
-          | true ↦ λ e. ap (effects means (all_msgs ss) k) (effects_untouched means ms k v (l.1 k (past lo hi ss k e))) ∙ effects-all S h hi ss k v l.3
+          | true ↦ λ e. ap (effects means (all_msgs ss) k) (untouched means ms k v (l.1 k (past lo hi ss k e))) ∙ effects-all S h hi ss k v l.3
           | false ↦ λ e. effects-later S h hi ss k _ l.3 e
         ]) refl
 
@@ -164,7 +163,7 @@ module _ {U V : Type 0} where
         value_kept = λ k. value-above means a.shape l.levels ss n k m.4 q.2;
         shape_kept = refl;
         did = (refl, raised-above means a.shape l.levels ss n m.4 q.2);
-        not_there = (λ z. (cc), λ z. absurd (clash (has_one_slot (inner ss)) z q.0));
+        not_there = (λ z. (cc), λ z. absurd (both_ways (has_one_slot (inner ss)) q.0 z));
         no_room = (λ z. (cc), λ z. absurd (omega (arith, z.1, q.1)));
         unchanged = tt;
       }
@@ -172,6 +171,6 @@ module _ {U V : Type 0} where
   -- and where it has refused
   pub answers_refused : (means : U → Option V → Option V) (r : StepReply) (a : PTree U V) → Refused means r a.root → AnswersUp means r a a
   answers_refused means (Did n) a q = absurd q
-  answers_refused means NotThere a q = record { value_kept = λ k. refl; shape_kept = refl; did = tt; not_there = (λ z. q, λ z. refl); no_room = (λ z. (cc), λ z. absurd (clash (has_one_slot a.root) q z.0)); unchanged = refl }
-  answers_refused means NoRoom a q = record { value_kept = λ k. refl; shape_kept = refl; did = tt; not_there = (λ z. (cc), λ z. absurd (clash (has_one_slot a.root) z q.0)); no_room = (λ z. q, λ z. refl); unchanged = refl }
-  answers_refused means NoMemory a q = record { value_kept = λ k. refl; shape_kept = refl; did = tt; not_there = (λ z. (cc), λ z. absurd (clash (has_one_slot a.root) z q.0)); no_room = (λ z. (cc), λ z. absurd (omega (arith, z.1, q.1))); unchanged = refl }
+  answers_refused means NotThere a q = record { value_kept = λ k. refl; shape_kept = refl; did = tt; not_there = (λ z. q, λ z. refl); no_room = (λ z. (cc), λ z. absurd (both_ways (has_one_slot a.root) z.0 q)); unchanged = refl }
+  answers_refused means NoRoom a q = record { value_kept = λ k. refl; shape_kept = refl; did = tt; not_there = (λ z. (cc), λ z. absurd (both_ways (has_one_slot a.root) q.0 z)); no_room = (λ z. q, λ z. refl); unchanged = refl }
+  answers_refused means NoMemory a q = record { value_kept = λ k. refl; shape_kept = refl; did = tt; not_there = (λ z. (cc), λ z. absurd (both_ways (has_one_slot a.root) q.0 z)); no_room = (λ z. (cc), λ z. absurd (omega (arith, z.1, q.1))); unchanged = refl }

@@ -1,7 +1,8 @@
-use Rattle.std.proofs.Common.{◌≡◌, ◌∙◌, ◌-◌, ap, sym, subst, rules, arith}
+use Rattle.std.proofs.Common.{◌≡◌, ◌∙◌, ◌-◌, ap, length, sym, subst, rules, arith}
+use Rattle.std.proofs.lemmas.List.{length_push}
 use Rattle.flush.specs.Heaviest.{IsFirstOf, IsWalkable, loads}
 use Rattle.flush.proofs.Loads.{first-own, first-below, first-reached}
-use Rattle.flush.proofs.Walks.{length-under, walkable_below, above_leaves, flush_into-is}
+use Rattle.flush.proofs.Walks.{walkable_below, above_leaves, flush_into-is}
 use Rattle.node.specs.declared.place.TreeStep.{TreeStep}
 use Rattle.node.specs.Places.{way}
 use Rattle.node.specs.Pure.{inner}
@@ -56,7 +57,7 @@ first_heavy-requires g t c κs within =
     let here = subst (IsWalkable c.args.levels) (sym was) c.requires.even in
     let low = walkable_below c.args.levels xs i s c.deref.result.now c.slot_above-i.ensures.bound c.index-slots-i.is child here.2 in
     let reached = first-reached c.args.least xs i s c.deref.result.now child c.index-slots-i.is c.slot_above-i.ensures.first in
-    let longer = length-under (way c.below.result) (way c.args.at) i c.below.ensures in
+    let longer = ap length c.below.ensures ∙ length_push (way c.args.at) i in
     (omega (arith, c.decreases, here.0), (search rules, (search rules, (low, (omega (arith, longer, here.0, c.requires.short), (c.requires.some, reached))))))
 
 pub returns : goal.returns

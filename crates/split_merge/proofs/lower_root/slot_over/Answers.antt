@@ -2,7 +2,7 @@ use Rattle.std.proofs.Common.{subst}
 use Rattle.std.specs.Option.{option_copied}
 use Rattle.message.specs.Effects.{Takes}
 use Rattle.message.specs.Cuts.{pieces}
-use Rattle.split_merge.proofs.RootDown.{takes-made}
+use Rattle.message.proofs.Composing.{takes-instead}
 use Rattle.split_merge.proofs.lower_root.slot_over.Goals as goal
 
 pub returns : goal.returns
@@ -13,4 +13,4 @@ returns g c =
     let new = c.sink_all.new.to.0 in
     let own = pieces slot.lo (option_copied c.args.hi) c.args.list.now.0 in
     let took = subst (λ old. Takes means old part new) c.in_ok-pending.ensures c.in_ok-sink_all.ensures.ok in
-    (c.in_ok-lo.ensures, takes-made means slot.pending.0 own part new c.in_ok-part.ensures took, c.in_ok-child.ensures, tt)
+    (c.in_ok-lo.ensures, takes-instead means slot.pending.0 own part new c.in_ok-part.ensures took, c.in_ok-child.ensures, tt)

@@ -1,7 +1,8 @@
 use Rattle.std.proofs.Common.{arith, ap, sym, ◌∙◌, ◌≤◌, ◌<◌, length, suc, add-one}
 use Rattle.node.specs.See.{seen_slots}
+use Rattle.message.proofs.MovingRanges.{done}
 use Rattle.split_merge.specs.Merged.{are_alike}
-use Rattle.split_merge.proofs.Mergeable.{when_ok, when_err}
+use Rattle.split_merge.proofs.Mergeable.{when_err}
 use Rattle.split_merge.proofs.Merging.{without_next, unlike, alike_left, merged_left, put_back}
 use Rattle.split_merge.proofs.merge.merge_slots.Goals as goal
 
@@ -35,7 +36,7 @@ returns-then-is_ok g c = λ S root.
     let b = c.index-2.result.now in
     let h : suc c.args.i < length xs = omega (arith, c.has_next.ensures.yes c.if-not-has_next.false, ap length c.as_slice.ensures.value) in
     let kinds = sym (λ j. are_alike (c.deref.ensures j) (c.deref-2.ensures j)) ∙ sym c.are_of_one_kind.ensures ∙ c.if-not-are_of_one_kind.false in
-    let joint = when_ok c.join.result (sym c.is_ok.ensures.value ∙ c.if-is_ok.true) c.join.ensures.ok in
+    let joint = done c.join.result (sym c.is_ok.ensures.value ∙ c.if-is_ok.true) c.join.ensures.ok in
     merged_left g.U.Update.means c.args.i xs c.remove-right.new.self.items c.index_mut.result.now c.remove-right.result h (rw add-one at c.remove-right.ensures.items) c.index_mut.ensures.value (rw add-one at c.remove-right.ensures.value) S root a b c.join.new.left c.index.ensures (rw add-one at c.index-2.ensures) kinds joint
 
 pub returns : goal.returns

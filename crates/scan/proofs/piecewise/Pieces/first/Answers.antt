@@ -1,8 +1,9 @@
 use Rattle.std.proofs.Common.{◌<◌, arith, ap, sym, subst, length, nat_lt, [], refl}
 use Rattle.std.proofs.lemmas.Bool.Decides.{nat_tests}
+use Rattle.std.proofs.lemmas.List.{nil_from_length}
 use Rattle.node.specs.Meaning.{value}
 use Rattle.scan.specs.Pairs.{IsScan}
-use Rattle.scan.proofs.AtHand.{piece_given, ahead_over, no_items}
+use Rattle.scan.proofs.AtHand.{piece_given, ahead_over}
 use Rattle.scan.proofs.piecewise.Pieces.first.Goals as goal
 
 pub returns-in-Some : goal.returns-in-Some
@@ -24,4 +25,4 @@ returns g c =
     (subst (IsScan f lo hi c.max-most.result) (sym c.from_vec.ensures.items) c.in_ok-piece.ensures)
     (λ t. let same = ap length c.from_vec.ensures.items in let few : c.len.result < c.max-most.result = grind (arith, nat_tests, t) in omega (arith, same, few, c.len.ensures, c.in_ok-piece.piece.ok.0))
     c.pop_front.ensures.items
-    (λ none. let z = rw none at c.pop_front.ensures.cases in no_items c.pop_front.new.self.items (omega (arith, z.1, c.pop_front.new.self.ok.0)))
+    (λ none. let z = rw none at c.pop_front.ensures.cases in nil_from_length c.pop_front.new.self.items (omega (arith, z.1, c.pop_front.new.self.ok.0)))

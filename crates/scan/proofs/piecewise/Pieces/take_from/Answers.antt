@@ -1,8 +1,9 @@
 use Rattle.std.proofs.Common.{◌≡◌, ap, sym, subst, ◌∙◌, false, true, arith}
 use Rattle.std.specs.Ordering.{is_lt}
+use Rattle.std.proofs.lemmas.List.{nil_from_length}
 use Rattle.message.specs.Ranges.{before}
 use Rattle.scan.specs.Pairs.{AreAhead}
-use Rattle.scan.proofs.AtHand.{ahead_passed, ahead_given, no_items}
+use Rattle.scan.proofs.AtHand.{ahead_passed, ahead_given}
 use Rattle.scan.proofs.piecewise.Pieces.take_from.Goals as goal
 
 pub returns-then-not-is_lt : goal.returns-then-not-is_lt
@@ -23,5 +24,5 @@ passed-preserved g c = λ f hi a.
 
 pub returns : goal.returns
 returns g c = λ f hi a.
-    let none = no_items c.passed.self.pairs.items (omega (arith, c.in_default.ensures.cases.0, c.passed.self.pairs.ok.0)) in
+    let none = nil_from_length c.passed.self.pairs.items (omega (arith, c.in_default.ensures.cases.0, c.passed.self.pairs.ok.0)) in
     subst (AreAhead f c.args.lo.now hi c.passed.self.all) none (c.passed.invariant f hi a)
