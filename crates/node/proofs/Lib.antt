@@ -20,5 +20,6 @@ pub mod Sizes
 pub mod Grafting
 pub mod Weighing
 pub mod Wholes
-pub mod Points
+pub mod RangeHomes
+pub mod Homes
 pub mod Below

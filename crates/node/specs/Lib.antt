@@ -8,6 +8,7 @@ pub mod Lawful
 pub mod Appended
 pub mod Searchable
 pub mod Batches
+pub mod Homes
 pub mod Leaves
 pub mod Places
 pub mod Site

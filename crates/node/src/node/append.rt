@@ -2,19 +2,19 @@
 //!
 //! An append has two steps. `prepare` cuts the messages at the pivots and reserves room in every slot that takes
 //! some: it may be refused memory, and the tree looks the same. `put_batch` (in `kept`) moves the parts into that room and
-//! cannot fail. So two trees are appended to together: prepare, prepare, put, put. A few messages for one key each go to
-//! their slots as they are, without a part for each slot.
+//! cannot fail. So two trees are appended to together: prepare, prepare, put, put. A few messages that have all their keys in
+//! one slot each go to their slots as they are, without a part for each slot.
 ghost use Rattle.std.specs.Prelude.{◌≡◌, true, OnOk, OnErr, IfOk, map, length, ◌++◌, [], None};
 ghost use Rattle.std.specs.Option.{option_copied, option_to_list};
 ghost use Rattle.node.specs.Appended.{parts as parts_of, placed, HaveTaken, IsAppended};
-ghost use Rattle.node.specs.Batches.{batch_parts, HasRoomFor, HaveRoomEach, KeepsRoom};
+ghost use Rattle.node.specs.Batches.{batch_parts, HasRoomFor, HaveHomes, KeepsRoom};
 ghost use Rattle.node.specs.Pure.{inner};
 ghost use Rattle.node.specs.Searchable.{AreRising, Fits, AllFit, IsRoot, HasRoom, see_list};
 ghost use Rattle.node.specs.See.{see_slot, seen_slots};
 
 use super::Slot;
 use super::kept::put_kept;
-use super::search::{next_pivot, slot_of};
+use super::search::{home_of, next_pivot, slot_of};
 use message::{Changes, Msg, Update};
 use pathkey::{Key, NoMemory};
 use std::alloc::Global;
@@ -138,33 +138,38 @@ const FEW: usize = 4;
 /// The messages of an append as the slots take them.
 #[derive(Drop)]
 pub enum Batch<U: Changes> {
-    /// A few messages for one key each: each goes to the slot that holds its key, as it is.
-    Points(Vec<Msg<U>>),
+    /// A few messages, each of which goes as it is to the slot with the number in its place.
+    Whole(Vec<Msg<U>>, [usize; FEW]),
     /// The part of each slot.
     Parts(Vec<Vec<Msg<U>>>),
 }
 
-/// Reserves room for `count` messages in the slot of each of the messages, and says whether each is for one key. The slots
-/// mean what they meant, and have the room that they had, whatever it answers.
-fn reserve_points<U: Update>(
+/// Reserves room for `count` messages in the slot that takes each of the messages as it is, and notes its number in the
+/// message's place; says whether each has one. The slots mean what they meant, and have the room that they had, whatever it
+/// answers.
+fn reserve_homes<U: Update>(
     slots: &mut [Slot<U>],
     count: usize,
     msgs: &[Msg<U>],
+    homes: &mut [usize],
 ) -> Result<bool, NoMemory>
     requires { IsRoot (inner (seen_slots slots.old)) }
     ensures same { map see_slot slots.new ≡ map see_slot slots.old }
     ensures stays { KeepsRoom count slots.old slots.new }
-    ensures room { IfOk result (λ all. all ≡ true → HaveRoomEach count slots.new msgs.now) }
+    ensures room { IfOk result (λ all. all ≡ true → HaveHomes count slots.new msgs.now homes.new) }
 {
     let Some((msg, later)) = msgs.split_first() else {
         return Ok(true);
     };
-    let Some(key) = msg.point() else {
+    let Some((home, homes)) = homes.split_first_mut() else {
         return Ok(false);
     };
-    let i = slot_of(slots, key);
+    let Some(i) = home_of(slots, msg) else {
+        return Ok(false);
+    };
     slots[i].pending.reserve(count)?;
-    reserve_points(slots, count, later)
+    *home = i;
+    reserve_homes(slots, count, later, homes)
 }
 
 /// Cuts the messages for a root's slots and reserves room for the parts in them.
@@ -183,7 +188,7 @@ fn prepare_parts<U: Update>(
     Ok(parts)
 }
 
-/// Likewise, but a few messages for one key each go to their slots as they are.
+/// Likewise, but a few messages that have all their keys in one slot each go to their slots as they are.
 pub fn prepare<U: Update>(
     alloc: Global,
     slots: &mut [Slot<U>],
@@ -195,8 +200,9 @@ pub fn prepare<U: Update>(
     ensures parts { IfOk result (λ b. batch_parts b (seen_slots slots.old) ≡ parts_of None msgs.items (seen_slots slots.old)) }
 {
     let count = msgs.len();
-    if count <= FEW && reserve_points(slots, count, msgs.as_slice())? {
-        return Ok(Batch::Points(msgs));
+    let mut homes = [0; FEW];
+    if count <= FEW && reserve_homes(slots, count, msgs.as_slice(), &mut homes)? {
+        return Ok(Batch::Whole(msgs, homes));
     }
     Ok(Batch::Parts(prepare_parts(alloc, slots, msgs)?))
 }

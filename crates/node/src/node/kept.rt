@@ -2,14 +2,14 @@
 ghost use Rattle.std.specs.Prelude.{◌≡◌, ◌↔◌, ◌+◌, ◌<◌, ◌≤◌, ◌++◌, [], ◌∷◌, true, None, OnOk, OnErr, map, length, get_or};
 ghost use Rattle.message.specs.Effects.{Takes};
 ghost use Rattle.node.specs.Appended.{parts, HaveTaken, IsAppended};
-ghost use Rattle.node.specs.Batches.{batch_parts, HasRoomFor, HaveRoomEach};
+ghost use Rattle.node.specs.Batches.{batch_parts, HasRoomFor, HaveHomes};
 ghost use Rattle.node.specs.Grafts.{IsFirstKept, KeepLists, KeepsLists};
 ghost use Rattle.node.specs.Pure.{inner};
 ghost use Rattle.node.specs.Searchable.{IsRoot, HasRoom, see_list};
 ghost use Rattle.node.specs.See.{see_slot, seen_slots};
 
 use super::append::{Batch, prepare};
-use super::search::slot_of;
+use super::search::home_of;
 use super::{Body, Node, Slot};
 use message::{Msg, Pending, Taken, Update};
 use pathkey::NoMemory;
@@ -80,24 +80,25 @@ fn put_message<U: Update>(pending: &mut Pending<U>, msg: Msg<U>, plain: bool)
     }
 }
 
-/// Puts messages for one key each behind what waits in the slots that hold their keys, where there is room for them; where
-/// a slot's number is above 0, what waits stays as it was.
-fn put_points<U: Update>(slots: &mut [Slot<U>], msgs: &mut Taken<U>, kept: &[u32])
-    requires root { IsRoot (inner (seen_slots slots.old)) }
-    requires room { HaveRoomEach (length msgs.old) slots.old msgs.old }
+/// Puts each message as it is behind what waits in the slot with the number in its place, where there is room for it; where a
+/// slot's number in `kept` is above 0, what waits stays as it was.
+fn put_whole<U: Update>(slots: &mut [Slot<U>], msgs: &mut Taken<U>, homes: &[usize], kept: &[u32])
+    requires { HaveHomes (length msgs.old) slots.old msgs.old homes.now }
     ensures taken { HaveTaken U.means (seen_slots slots.old) (parts None msgs.old (seen_slots slots.old)) (seen_slots slots.new) }
     ensures kept { KeepLists kept.now (parts None msgs.old (seen_slots slots.old)) (seen_slots slots.old) (seen_slots slots.new) }
 {
     let Some(msg) = msgs.next() else {
         return;
     };
-    let Some(key) = msg.point() else {
+    let Some((home, homes)) = homes.split_first() else {
         unreachable!()
     };
-    let i = slot_of(slots, key);
+    let i = *home;
+    let is_there = i < slots.len();
+    prove!(is_there);
     let plain = is_kept(kept, i);
     put_message(&mut slots[i].pending, msg, plain);
-    put_points(slots, msgs, kept)
+    put_whole(slots, msgs, homes, kept)
 }
 
 /// Puts the messages behind what waits in the slots, where there is room for them; where a slot's number is above 0, what
@@ -108,9 +109,9 @@ fn put_batch<U: Update>(slots: &mut [Slot<U>], batch: Batch<U>, kept: &[u32])
     ensures kept { KeepLists kept.now (batch_parts batch (seen_slots slots.old)) (seen_slots slots.old) (seen_slots slots.new) }
 {
     match batch {
-        Batch::Points(msgs) => {
+        Batch::Whole(msgs, homes) => {
             let mut msgs = Taken::of(msgs);
-            put_points(slots, &mut msgs, kept);
+            put_whole(slots, &mut msgs, &homes, kept);
         }
         Batch::Parts(parts) => {
             let mut parts = parts;
@@ -136,7 +137,31 @@ fn append_slots<U: Update>(
     Ok(())
 }
 
-/// Likewise for two roots: both or neither.
+/// Puts a message behind all others of a list, or leaves the list as it was.
+fn push<U: Update>(pending: &mut Pending<U>, msg: Msg<U>) -> Result<(), NoMemory>
+    ensures ok { OnOk result (Takes U.means pending.old.0 (msg ∷ []) pending.new.0) }
+    ensures err { OnErr result (pending.new.0 ≡ pending.old.0) }
+{
+    pending.reserve(1)?;
+    pending.push_reserved(msg);
+    Ok(())
+}
+
+/// Puts one message behind what waits in a root's slots. It makes no list of messages where one slot takes it as it is.
+fn append_one<U: Update>(alloc: Global, slots: &mut [Slot<U>], msg: Msg<U>) -> Result<(), NoMemory>
+    requires { IsRoot (inner (seen_slots slots.old)) }
+    ensures ok { OnOk result (IsAppended U.means (msg ∷ []) (inner (seen_slots slots.old)) (inner (seen_slots slots.new))) }
+    ensures err { OnErr result (map see_slot slots.new ≡ map see_slot slots.old) }
+{
+    let Some(i) = home_of(slots, &msg) else {
+        let mut msgs = Vec::with_capacity(alloc, 1)?;
+        msgs.push(msg)?;
+        return append_slots(alloc, slots, msgs, &[]);
+    };
+    push(&mut slots[i].pending, msg)
+}
+
+/// Puts messages behind what waits in the slots of two roots, as `append_slots` does: both or neither.
 fn append_both_slots<A: Update, B: Update>(
     alloc: Global,
     first: &mut [Slot<A>],
@@ -163,6 +188,18 @@ fn append_both_slots<A: Update, B: Update>(
 }
 
 impl<U: Update> Node<U> {
+    /// Puts one message into the slots of a root.
+    pub(crate) fn append_one(&mut self, alloc: Global, msg: Msg<U>) -> Result<(), NoMemory>
+        requires { IsRoot self.old }
+        ensures ok { OnOk result (IsAppended U.means (msg ∷ []) self.old self.new) }
+        ensures err { OnErr result (self.new ≡ self.old) }
+    {
+        let Body::Inner(slots) = self.body_mut() else {
+            unreachable!()
+        };
+        append_one(alloc, slots.as_mut_slice(), msg)
+    }
+
     /// Puts messages into the slots of a root; where a slot's number is above 0, what waits stays as it was.
     pub fn append_kept(
         &mut self,

@@ -1,17 +1,21 @@
 //! Which slot holds a key, and where a slot ends.
-ghost use Rattle.std.specs.Prelude.{◌≡◌, ◌<◌, true, length, IfSome, MatchOption};
+ghost use Rattle.std.specs.Prelude.{◌≡◌, ◌<◌, ◌&&◌, true, length, None, IfSome, MatchOption};
 ghost use Rattle.std.specs.Option.{option_copied};
+ghost use Rattle.pathkey.specs.Keys.{is_below};
+ghost use Rattle.message.specs.Ranges.{ends_within};
+ghost use Rattle.node.specs.Homes.{IsHome};
 ghost use Rattle.node.specs.Lawful.{next_lo};
 ghost use Rattle.node.specs.Meaning.{holder, slot_number};
 ghost use Rattle.node.specs.Pure.{inner, is_leaf};
-ghost use Rattle.node.specs.Searchable.{AreRising};
+ghost use Rattle.node.specs.Searchable.{AreRising, IsRoot};
 ghost use Rattle.node.specs.See.{see, seen_slots};
 ghost use Rattle.node.specs.Site.{end_of};
 
 use super::{Body, Node, Slot};
+use message::ends::is_before_end;
 use message::search::count_passing;
-use message::{Changes, Update};
-use pathkey::Key;
+use message::{Changes, Msg, Update};
+use pathkey::{Key, KeyRange};
 
 /// The number of the slot whose range holds the key, found by a search in strides.
 pub fn slot_of<U: Update>(slots: &[Slot<U>], key: &Key) -> usize
@@ -55,6 +59,47 @@ pub fn end_of<'a, U: Update>(slots: &'a [Slot<U>], i: usize, hi: Option<&'a Key>
     ensures { option_copied result ≡ end_of (option_copied hi.entry) (seen_slots slots.now) i }
 {
     next_pivot(&slots[i + 1..], hi)
+}
+
+/// Whether the end stands at or before the end `most`; `None` is no end.
+fn ends_by(end: Option<&Key>, most: Option<&Key>) -> bool
+    ensures { result ≡ ends_within (option_copied end.entry) (option_copied most.entry) }
+{
+    match (end, most) {
+        (_, None) => true,
+        (None, Some(_)) => false,
+        (Some(end), Some(most)) => end.cmp(most).is_le(),
+    }
+}
+
+/// Whether the range has a key, and ends where the slot with number `i` does or before that; the last slot has no end.
+fn ends_in<U: Update>(slots: &[Slot<U>], i: usize, range: &KeyRange) -> bool
+    requires { i < length slots.now }
+    ensures { result ≡ (is_below range.now.lo range.now.hi && ends_within range.now.hi (end_of None (seen_slots slots.now) i)) }
+{
+    let nothing: Option<Key> = None;
+    let end = end_of(slots, i, nothing.as_ref());
+    is_before_end(&range.lo, range.hi.as_ref()) && ends_by(range.hi.as_ref(), end)
+}
+
+/// The number of the root's slot that takes the message as it is, since all its keys lie there; none where it has keys of
+/// several slots, or no key.
+pub(crate) fn home_of<U: Update>(slots: &[Slot<U>], msg: &Msg<U>) -> Option<usize>
+    requires { IsRoot (inner (seen_slots slots.now)) }
+    ensures bound { IfSome result (λ i. i < length slots.now) }
+    ensures home { IfSome result (λ i. IsHome i msg.now (seen_slots slots.now)) }
+{
+    match msg {
+        Msg::DelRange(range) => {
+            let i = slot_of(slots, &range.lo);
+            if ends_in(slots, i, range) {
+                Some(i)
+            } else {
+                None
+            }
+        }
+        Msg::Put(key, _) | Msg::Del(key) | Msg::Edit(key, _) => Some(slot_of(slots, key)),
+    }
 }
 
 impl<U: Changes> Node<U> {

@@ -1,5 +1,5 @@
 //! New messages in trees of which some of the root's slots keep their lists.
-ghost use Rattle.std.specs.Prelude.{◌≡◌, OnOk, OnErr, IsOk, []};
+ghost use Rattle.std.specs.Prelude.{◌≡◌, OnOk, OnErr, IsOk, [], ◌∷◌};
 ghost use Rattle.node.specs.Appended.{Appended};
 ghost use Rattle.node.specs.Grafts.{KeepsLists};
 
@@ -31,6 +31,16 @@ impl<U: Update> Tree<U> {
             return Ok(());
         }
         Arc::make_mut(root)?.append_kept(alloc, msgs, kept)
+    }
+
+    /// Puts one message into the root's slots, or leaves the tree as it was: what `append` does with this message alone, without
+    /// a list of messages.
+    pub fn append_one(&mut self, alloc: Global, msg: Msg<U>) -> Result<(), NoMemory>
+        ensures ok { OnOk result (Appended U.means (msg ∷ []) self.old self.new) }
+        ensures err { OnErr result (self.new ≡ self.old) }
+    {
+        let root = &mut self.root;
+        Arc::make_mut(root)?.append_one(alloc, msg)
     }
 }
 
