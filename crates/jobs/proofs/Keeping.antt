@@ -2,10 +2,10 @@
 use Rattle.std.proofs.Common.{◌≡◌, ℕ, ◌+◌, ◌<◌, List, [], ◌∷◌, refl, ap, sym, ◌∙◌, subst, arith, Option, Some}
 use Rattle.std.specs.Prelude.{OnOk, OnErr, Result, Ok, Err}
 use Rattle.message.specs.declared.msg.Msg.{Msg}
+use Rattle.message.proofs.MovingRanges.{either_way}
 use Rattle.node.specs.Pure.{PNode, PTree}
 use Rattle.node.specs.Appended.{Appended}
 use Rattle.node.specs.Grafts.{KeepsLists, Grafted, AtRootSlot, CanReplace}
-use Rattle.node.proofs.Roots.{by_result}
 use Rattle.jobs.specs.declared.mark.Mark.{Mark}
 use Rattle.node.specs.Lawful.{IsLawful, IsLawfulNode}
 use Rattle.node.proofs.Placing.{is_root}
@@ -42,7 +42,7 @@ module _ {U V : Type 0} (means : U → Option V → Option V) where
   -- the same of an append that may be refused
   pub kept_append : {T X : Type 0} (r : Result T X) (msgs : List (Msg U V)) (a b : PTree U V) (ms : List Mark) (given : ℕ) (kept : List ℕ) → AreMarks a.root 0 ms given → kept ≡ kept_in ms a.root → OnOk r (Appended means msgs a b) → OnOk r (KeepsLists kept msgs a.root b.root) → OnErr r (b ≡ a) → AllKept means a b ms given
   kept_append r msgs a b ms given kept h e ok lists err =
-      by_result r (Appended means msgs a b × KeepsLists kept msgs a.root b.root) (b ≡ a) (AllKept means a b ms given) (two r (Appended means msgs a b) (KeepsLists kept msgs a.root b.root) ok lists) err (λ q. kept_appended msgs a b ms given kept h e q.0 q.1) (λ q. kept_same a b ms given h q)
+      either_way r (two r (Appended means msgs a b) (KeepsLists kept msgs a.root b.root) ok lists) err (λ q. kept_appended msgs a b ms given kept h e q.0 q.1) (λ q. kept_same a b ms given h q)
     where
       two : {T X : Type 0} (r : Result T X) (A B : Type 0) → OnOk r A → OnOk r B → OnOk r (A × B)
       two (Ok x) A B p q = (p, q)

@@ -3,6 +3,8 @@ use Rattle.std.proofs.Common.{◌≡◌, ℕ, ◌+◌, ◌<◌, ◌≤◌, Bool,
 use Rattle.std.specs.Prelude.{◌==◌}
 use Rattle.std.specs.List.{remove}
 use Rattle.std.proofs.lemmas.Bool.Decides.{nat_tests}
+use Rattle.std.proofs.lemmas.Bool.{cond_both}
+use Rattle.std.proofs.lemmas.Option.{same_Some}
 use Rattle.pathkey.specs.Order.{same}
 use Rattle.pathkey.proofs.OrderFacts.{same_itself, same_false, apart}
 use Rattle.node.specs.Pure.{PNode}
@@ -25,20 +27,15 @@ pub each_last : (P : Mark → Type 0) (ms : List Mark) (n : Mark) → Each P ms 
 each_last P [] n h p = (p, tt)
 each_last P (x ∷ xs) n h p = (h.0, each_last P xs n h.1 p)
 
--- a chosen list of two
-pub by_test : (b : Bool) (P : List Mark → Type 0) (xs ys : List Mark) → (b ≡ true → P xs) → (b ≡ false → P ys) → P (cond b xs ys)
-by_test true P xs ys f g = f refl
-by_test false P xs ys f g = g refl
-
 -- what holds of each holds of the marks but one
 pub each_without : (P : Mark → Type 0) (t : ℕ) (ms : List Mark) → Each P ms → Each P (without t ms)
 each_without P t [] h = tt
-each_without P t (m ∷ ms) h = by_test (m.ticket == t) (Each P) ms (m ∷ without t ms) (λ e. h.1) (λ e. (h.0, each_without P t ms h.1))
+each_without P t (m ∷ ms) h = cond_both (m.ticket == t) ms (m ∷ without t ms) (Each P) (λ e. h.1) (λ e. (h.0, each_without P t ms h.1))
 
 -- the marks but one are no more
 pub fewer_without : (t : ℕ) (ms : List Mark) → length (without t ms) ≤ length ms
 fewer_without t [] = omega arith
-fewer_without t (m ∷ ms) = by_test (m.ticket == t) (λ z. length z ≤ length (m ∷ ms)) ms (m ∷ without t ms) (λ e. omega arith) (λ e. let q = fewer_without t ms in omega (arith, q))
+fewer_without t (m ∷ ms) = cond_both (m.ticket == t) ms (m ∷ without t ms) (λ z. length z ≤ length (m ∷ ms)) (λ e. omega arith) (λ e. let q = fewer_without t ms in omega (arith, q))
 
 -- where no mark has the ticket, all stay
 pub without_none : (t : ℕ) (ms : List Mark) → place_of t ms ≡ None → ms ≡ without t ms
@@ -58,16 +55,13 @@ pub without_place : (t i : ℕ) (ms : List Mark) → place_of t ms ≡ Some i �
 without_place t i [] h = (cc)
 without_place t i (m ∷ ms) h =
     (elim (m.ticket == t) as (λ b. cond b (Some 0) (one_more (place_of t ms)) ≡ Some i → remove (m ∷ ms) i ≡ cond b ms (m ∷ without t ms)) [
-      | true ↦ λ e. subst (λ j. remove (m ∷ ms) j ≡ ms) (number 0 i e) refl
+      | true ↦ λ e. subst (λ j. remove (m ∷ ms) j ≡ ms) (same_Some 0 i e) refl
       | false ↦ λ e. later (place_of t ms) (λ j q. without_place t j ms q) refl e
     ]) h
   where
-    number : (i j : ℕ) → Some i ≡ Some j → i ≡ j
-    number i j e = (cc)
-
     later : (o : Option ℕ) → ((j : ℕ) → place_of t ms ≡ Some j → remove ms j ≡ without t ms) → place_of t ms ≡ o → one_more o ≡ Some i → remove (m ∷ ms) i ≡ m ∷ without t ms
     later None f q e = (cc)
-    later (Some j) f q e = subst (λ n. remove (m ∷ ms) n ≡ m ∷ without t ms) (sym (add-one j) ∙ number (j + 1) i e) (ap (λ z. m ∷ z) (f j q))
+    later (Some j) f q e = subst (λ n. remove (m ∷ ms) n ≡ m ∷ without t ms) (sym (add-one j) ∙ same_Some (j + 1) i e) (ap (λ z. m ∷ z) (f j q))
 
 -- numbers that are tested equal are one
 pub one_number : (x y : ℕ) → (x == y) ≡ true → x ≡ y
@@ -76,10 +70,7 @@ one_number x y e = grind (arith, nat_tests)
 -- a place among the others
 pub place_later : (i : ℕ) (o : Option ℕ) → one_more o ≡ Some i → (j : ℕ) × (o ≡ Some j) × (j + 1 ≡ i)
 place_later i None e = (cc)
-place_later i (Some j) e = (j, refl, number (j + 1) i e)
-  where
-    number : (x y : ℕ) → Some x ≡ Some y → x ≡ y
-    number x y e = (cc)
+place_later i (Some j) e = (j, refl, same_Some (j + 1) i e)
 
 -- the mark with the ticket is one of those that begin elsewhere
 found : (lo : List ℕ) (t : ℕ) (m : Mark) (xs : List Mark) (j : ℕ) → NoneAt m.range.lo xs → Each (λ n. n.ticket ≡ t → n.range.lo ≡ lo) xs → place_of t xs ≡ Some j → m.range.lo ≡ lo → ⊥
@@ -95,12 +86,9 @@ pub at_place : (Q : Mark → Type 0) (t i : ℕ) (ms : List Mark) (d : Mark) →
 at_place Q t i [] d e h = (cc)
 at_place Q t i (m ∷ ms) d e h =
     (elim (m.ticket == t) as (λ b. (m.ticket == t) ≡ b → cond b (Some 0) (one_more (place_of t ms)) ≡ Some i → Q (get_or (m ∷ ms) i d)) [
-      | true ↦ λ u v. subst (λ n. Q (get_or (m ∷ ms) n d)) (number 0 i v) (h.0 (one_number m.ticket t u))
+      | true ↦ λ u v. subst (λ n. Q (get_or (m ∷ ms) n d)) (same_Some 0 i v) (h.0 (one_number m.ticket t u))
       | false ↦ λ u v. let p = place_later i (place_of t ms) v in subst (λ n. Q (get_or (m ∷ ms) n d)) (sym (add-one p.0) ∙ p.2) (at_place Q t p.0 ms d p.1 h.1)
     ]) refl e
-  where
-    number : (x y : ℕ) → Some x ≡ Some y → x ≡ y
-    number x y e = (cc)
 
 module _ {U V : Type 0} where
   -- each mark stands
@@ -127,7 +115,7 @@ module _ {U V : Type 0} where
   pub marks_without : (root : PNode U V) (t from : ℕ) (ms : List Mark) (given : ℕ) → AreMarks root from ms given → AreMarks root from (without t ms) given
   marks_without root t from [] given h = h
   marks_without root t from (m ∷ ms) given h =
-      by_test (m.ticket == t) (λ z. AreMarks root from z given) ms (m ∷ without t ms)
+      cond_both (m.ticket == t) ms (m ∷ without t ms) (λ z. AreMarks root from z given)
       (λ e. from_earlier root (m.ticket + 1) from ms given (omega (arith, h.0)) h.3)
       (λ e. (h.0, h.1, each_without (λ n. same n.range.lo m.range.lo ≡ false) t ms h.2, marks_without root t (m.ticket + 1) ms given h.3))
 

@@ -1,5 +1,6 @@
 -- What a step leaves of the marks.
 use Rattle.std.proofs.Common.{◌≡◌, ℕ, ◌+◌, ◌≤◌, length, Bool, true, false, List, [], ◌∷◌, refl, sym, subst, arith, Option}
+use Rattle.std.proofs.lemmas.Bool.{cond_both}
 use Rattle.node.specs.declared.step.StepKind.{StepKind}
 use Rattle.node.specs.declared.step.StepKind.TheVariants.{FlushInner, FlushLeaf, SplitInner, MergeLeaves, MergeInner, RootUp, RootDown, DropCovered}
 use Rattle.node.specs.declared.step.StepReply.{StepReply}
@@ -13,14 +14,14 @@ use Rattle.pathkey.specs.Order.{same}
 use Rattle.jobs.specs.declared.mark.Mark.{Mark}
 use Rattle.jobs.specs.Marks.{AllKept, Each, Stands, AreMarks, KeepsContent, those}
 use Rattle.jobs.specs.Survive.{survives, left_by}
-use Rattle.jobs.proofs.MarkFacts.{each_map, each_two, standing, moved, from_earlier, by_test, marks_none}
+use Rattle.jobs.proofs.MarkFacts.{each_map, each_two, standing, moved, from_earlier, marks_none}
 use Rattle.jobs.proofs.Moves.{still_stands, still_has, step_moves}
 use Rattle.jobs.proofs.Keeping.{kept_same}
 
 -- what holds of each holds of those
 pub each_those : (P : Mark → Type 0) (f : Mark → Bool) (ms : List Mark) → Each P ms → Each P (those f ms)
 each_those P f [] h = tt
-each_those P f (m ∷ ms) h = by_test (f m) (Each P) (m ∷ those f ms) (those f ms) (λ e. (h.0, each_those P f ms h.1)) (λ e. each_those P f ms h.1)
+each_those P f (m ∷ ms) h = cond_both (f m) (m ∷ those f ms) (those f ms) (Each P) (λ e. (h.0, each_those P f ms h.1)) (λ e. each_those P f ms h.1)
 
 -- what holds of each holds of those that a step leaves
 pub each_left : (P : Mark → Type 0) (r : StepReply) (f : Mark → Bool) (ms : List Mark) → Each P ms → Each P (left_by r f ms)
@@ -32,7 +33,7 @@ each_left P NoMemory f ms h = h
 -- those are no more
 fewer_those : (f : Mark → Bool) (ms : List Mark) → length (those f ms) ≤ length ms
 fewer_those f [] = omega arith
-fewer_those f (m ∷ ms) = by_test (f m) (λ z. length z ≤ length (m ∷ ms)) (m ∷ those f ms) (those f ms) (λ e. let q = fewer_those f ms in omega (arith, q)) (λ e. let q = fewer_those f ms in omega (arith, q))
+fewer_those f (m ∷ ms) = cond_both (f m) (m ∷ those f ms) (those f ms) (λ z. length z ≤ length (m ∷ ms)) (λ e. let q = fewer_those f ms in omega (arith, q)) (λ e. let q = fewer_those f ms in omega (arith, q))
 
 -- nor are those that a step leaves
 pub fewer_left : (r : StepReply) (f : Mark → Bool) (ms : List Mark) → length (left_by r f ms) ≤ length ms
@@ -44,7 +45,7 @@ fewer_left NoMemory f ms = omega arith
 -- and the test does
 those_pass : (f : Mark → Bool) (ms : List Mark) → Each (λ m. f m ≡ true) (those f ms)
 those_pass f [] = tt
-those_pass f (m ∷ ms) = by_test (f m) (Each (λ x. f x ≡ true)) (m ∷ those f ms) (those f ms) (λ e. (e, those_pass f ms)) (λ e. those_pass f ms)
+those_pass f (m ∷ ms) = cond_both (f m) (m ∷ those f ms) (those f ms) (Each (λ x. f x ≡ true)) (λ e. (e, those_pass f ms)) (λ e. those_pass f ms)
 
 -- where the test holds of none, none is left
 those_none : (ms : List Mark) → those (λ m. false) ms ≡ []
@@ -57,7 +58,7 @@ module _ {U V : Type 0} where
   marks_those root f from [] given h = h
   marks_those root f from (m ∷ ms) given h =
       let rest = marks_those root f (m.ticket + 1) ms given h.3 in
-      by_test (f m) (λ z. AreMarks root from z given) (m ∷ those f ms) (those f ms)
+      cond_both (f m) (m ∷ those f ms) (those f ms) (λ z. AreMarks root from z given)
       (λ e. (h.0, h.1, each_those (λ n. same n.range.lo m.range.lo ≡ false) f ms h.2, rest))
       (λ e. from_earlier root (m.ticket + 1) from (those f ms) given (omega (arith, h.0)) rest)
 

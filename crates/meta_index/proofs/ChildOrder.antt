@@ -11,15 +11,11 @@ use Rattle.pathkey.specs.declared.range.KeyRange.{KeyRange}
 use Rattle.pathkey.proofs.OrderFacts.{cmp_less, cmp_equal, cmp_greater}
 use Rattle.pathkey.proofs.KeyFacts.{enc-append, from_between_high, from_between_low}
 use Rattle.pathkey.proofs.PathFacts.{subtree_end}
+use Rattle.reference.proofs.PathOrder.{behind_beginning}
 use Rattle.message.specs.Ranges.{before, reaches}
 use Rattle.message.proofs.KeyOrder.{from_start}
 
 -- ---- bytes
-
--- one beginning changes no order
-prefix_order : (s y z : List ℕ) → by_bytes (s ++ y) (s ++ z) ≡ by_bytes y z
-prefix_order [] y z = refl
-prefix_order (x ∷ s) y z = ap (λ (o : Ordering). ordering_then o (by_bytes (s ++ y) (s ++ z))) (cmp_equal x) ∙ prefix_order s y z
 
 -- first bytes that are in order decide
 tails : (x c : ℕ) (a b : List ℕ) (P : Ordering → Type 0) → ordering_then (nat_cmp x c) (by_bytes a b) ≡ Less → (x ≡ c → by_bytes a b ≡ Less → P (nat_cmp x c)) → P Less → P (nat_cmp x c)
@@ -70,23 +66,23 @@ end_is p n e h =
 -- what lies at or below one name stands before what lies at or below a later one
 pub child_before : (p : Path) (a b : Name) (q r : Path) → HasNameBytes b → by_bytes a b ≡ Less → before (enc (p ++ a ∷ q)) (enc (p ++ b ∷ r)) ≡ true
 child_before p a b q r u h =
-    ap is_lt (ap (λ (k : Key). by_bytes k (enc (p ++ b ∷ r))) (enc-append p (a ∷ q)) ∙ ap (by_bytes (enc p ++ (a ++ 0 ∷ enc q))) (enc-append p (b ∷ r)) ∙ prefix_order (enc p) (a ++ 0 ∷ enc q) (b ++ 0 ∷ enc r))
+    ap is_lt (ap (λ (k : Key). by_bytes k (enc (p ++ b ∷ r))) (enc-append p (a ∷ q)) ∙ ap (by_bytes (enc p ++ (a ++ 0 ∷ enc q))) (enc-append p (b ∷ r)) ∙ behind_beginning (enc p) (a ++ 0 ∷ enc q) (b ++ 0 ∷ enc r))
     ∙ name_before a b (enc q) (0 ∷ enc r) u h
 
 -- and so does the end of the earlier one, or at it
 pub end_before : (p : Path) (a b : Name) (r : Path) → HasNameBytes b → by_bytes a b ≡ Less → reaches (end_key p a) (enc (p ++ b ∷ r)) ≡ true
 end_before p a b r u h =
-    ap is_le (ap (by_bytes (end_key p a)) (enc-append p (b ∷ r)) ∙ prefix_order (enc p) (a ++ 1 ∷ []) (b ++ 0 ∷ enc r))
+    ap is_le (ap (by_bytes (end_key p a)) (enc-append p (b ∷ r)) ∙ behind_beginning (enc p) (a ++ 1 ∷ []) (b ++ 0 ∷ enc r))
     ∙ end_reaches a b (0 ∷ enc r) u h
 
 -- what lies at or below a name stands before that end
 pub child_inside : (p : Path) (n : Name) (r : Path) → before (enc (p ++ n ∷ r)) (end_key p n) ≡ true
 child_inside p n r =
-    ap is_lt (ap (λ (k : Key). by_bytes k (end_key p n)) (enc-append p (n ∷ r)) ∙ prefix_order (enc p) (n ++ 0 ∷ enc r) (n ++ 1 ∷ []))
+    ap is_lt (ap (λ (k : Key). by_bytes k (end_key p n)) (enc-append p (n ∷ r)) ∙ behind_beginning (enc p) (n ++ 0 ∷ enc r) (n ++ 1 ∷ []))
     ∙ from_between_high n (enc r)
 
 -- and the entry of that name comes first
 pub child_first : (p : Path) (n : Name) (r : Path) → reaches (enc (p ++ n ∷ [])) (enc (p ++ n ∷ r)) ≡ true
 child_first p n r =
-    ap is_le (ap (λ (k : Key). by_bytes k (enc (p ++ n ∷ r))) (enc-append p (n ∷ [])) ∙ ap (by_bytes (enc p ++ (n ++ 0 ∷ []))) (enc-append p (n ∷ r)) ∙ prefix_order (enc p) (n ++ 0 ∷ []) (n ++ 0 ∷ enc r))
+    ap is_le (ap (λ (k : Key). by_bytes k (enc (p ++ n ∷ r))) (enc-append p (n ∷ [])) ∙ ap (by_bytes (enc p ++ (n ++ 0 ∷ []))) (enc-append p (n ∷ r)) ∙ behind_beginning (enc p) (n ++ 0 ∷ []) (n ++ 0 ∷ enc r))
     ∙ from_between_low n (enc r)

@@ -1,5 +1,5 @@
 -- Paths as lists of names: beginnings, what is left after one, texts' lengths, and the walk along them.
-use Rattle.std.proofs.Common.{◌≡◌, ◌≢◌, ◌+◌, ◌≤◌, [], ◌∷◌, ◌++◌, Bool, true, false, cond, sym, ap, refl, subst, arith, Some, None, append-nil}
+use Rattle.std.proofs.Common.{◌≡◌, ◌≢◌, ◌+◌, ◌≤◌, [], ◌∷◌, ◌++◌, Bool, true, false, cond, sym, ap, refl, subst, arith, Some, None}
 use Rattle.std.specs.Prelude.{fold}
 use Rattle.std.proofs.lemmas.Grind.{fold-append}
 use Rattle.std.proofs.lemmas.Bool.{and_from}
@@ -7,6 +7,10 @@ use Rattle.pathkey.specs.Names.{EachName, IsPath, is_root, is_under, parent, sam
 use Rattle.pathkey.proofs.OrderFacts.{same_itself, same_true}
 use Rattle.reference.specs.Tree.{same, Name, Path, Tree, Found, entry_at, onward}
 use Rattle.reference.specs.Looks.{rest_of}
+
+pub append-nil : (p : Path) → p ++ [] ≡ p
+append-nil [] = refl
+append-nil (n ∷ p) = ap (λ (q : Path). n ∷ q) (append-nil p)
 
 -- ---- what is left of a path after a beginning
 pub rest_of_from : (p q r : Path) → rest_of p q ≡ Some r → q ≡ p ++ r

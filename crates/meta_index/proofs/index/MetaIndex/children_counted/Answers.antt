@@ -1,15 +1,12 @@
-use Rattle.std.proofs.Common.{◌≡◌, ◌+◌, ◌++◌, ◌∙◌, ap, subst, true, length, arith, length-append, List, ◌∷◌, []}
+use Rattle.std.proofs.Common.{◌≡◌, ◌∙◌, ap, subst, true, length, arith}
 use Rattle.std.specs.Prelude.{IfSome}
+use Rattle.std.proofs.lemmas.List.{length_push}
 use Rattle.message.specs.Ranges.{before}
 use Rattle.message.proofs.NextKey.{reaches-next}
 use Rattle.scan.proofs.AtHand.{ahead_none, given_first, given_ahead}
 use Rattle.meta_index.specs.Means.{metadata}
 use Rattle.meta_index.proofs.Steps.{listing_starts, listing_ends, always_child, listing_goes_on}
 use Rattle.meta_index.proofs.index.MetaIndex.children_counted.Goals as goal
-
--- a list with one element more is longer by one
-one_longer : {X : Type 0} (xs ys : List X) (x : X) → ys ≡ xs ++ x ∷ [] → length ys ≡ length xs + 1
-one_longer xs ys x e = omega (arith, ap length e, length-append xs (x ∷ []))
 
 pub entries-init : goal.entries-init
 entries-init c = record {
@@ -31,7 +28,7 @@ entries-preserved c = record {
       c.in-Some-2.child c.in-Some-2.is c.kind_of.result c.kind_of.ensures c.push.new.self.items c.in_ok-push.ensures.items;
   ahead = given_ahead (metadata c.args.self.now) c.entries.rest.lo c.entries.rest.hi c.in_ok-key.field-0 (c.in-Some.key, c.in-Some.meta) c.first.new.self.all c.first.new.self.pairs.items c.in-Some.is c.in_ok-key.ensures
       c.in-Some-2.child.end (reaches-next c.in-Some.key c.in-Some-2.child.end ∙ subst (λ o. IfSome o (λ x. before c.in-Some.key x.end ≡ true)) c.in-Some-2.is c.in_ok-child.ensures.behind);
-  counted = omega (arith, c.entries.invariant.counted, one_longer _ _ _ c.in_ok-push.ensures.items);
+  counted = omega (arith, c.entries.invariant.counted, ap length c.in_ok-push.ensures.items ∙ length_push c.entries.entries.items _);
 }
 
 pub returns-clause-listed : goal.returns-clause-listed
