@@ -2,10 +2,9 @@
 ghost use Rattle.std.specs.Prelude.{None, [], IfOk};
 ghost use Rattle.node.specs.Lawful.{Rises};
 
-use crate::rows::{Holds, all_hold};
 use node::node::leaf::{applied, divide, position};
 use pathkey::{Key, NoMemory};
-use samples::{Digit, Plain, are_numbered, batch, key, number};
+use samples::{Digit, Holds, Plain, all_hold, are_numbered, batch, key, number};
 use std::alloc::Global;
 
 /// The entries after the messages.

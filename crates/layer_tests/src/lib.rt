@@ -1,11 +1,9 @@
-//! Tests of each layer below the file calls by itself: paths and keys, messages, nodes, steps, jobs, look-ups and searches; and of
-//! whole trees, where steps of every kind work between messages, and each look-up is compared with a plain row of numbers.
+//! Tests of each layer of the tree above its pending lists: nodes, steps, jobs, look-ups and searches; and of whole trees, where steps of
+//! every kind work between messages, and each look-up is compared with a plain row of numbers.
 //!
 //! They stand in a crate of their own, since what a crate with tests proves is proved once more with them.
 #![tactic(auto)]
 
-#[cfg(test)]
-mod keys;
 #[cfg(test)]
 mod leaf_flushes;
 #[cfg(test)]
@@ -13,19 +11,13 @@ mod leaves;
 #[cfg(test)]
 mod look_ups;
 #[cfg(test)]
-mod messages;
-#[cfg(test)]
 mod nodes;
 #[cfg(test)]
 mod pair;
 #[cfg(test)]
-mod rows;
-#[cfg(test)]
 mod searches;
 #[cfg(test)]
 mod settling;
-#[cfg(test)]
-mod shared_lists;
 #[cfg(test)]
 mod some_steps;
 #[cfg(test)]

@@ -1,10 +1,9 @@
 //! Appends of messages on numbers, at keys of one byte, seen in the slots where they wait.
-use crate::rows::{Holds, all_hold};
 use crate::trees::{Course, SMALL, all_go, append, goes_anew, has, new_tree};
 use flush::flush_leaf;
 use message::Msg;
 use node::{Body, Node, Place, Shape, Slot, StepReply, Tree, append_both};
-use samples::{Digit, Plain, batch, waits};
+use samples::{Digit, Holds, Plain, all_hold, batch, waits};
 use std::alloc::Global;
 
 fn slot_count(node: &Node<Digit>) -> usize {

@@ -1,11 +1,10 @@
 //! Trees of several shapes, from which relief takes all that is pending.
-use crate::rows::{Holds, all_hold};
 use crate::some_steps::{Done, try_step};
 use crate::trees::new_tree;
 use message::Msg;
 use node::{Shape, StepReply, Tree};
 use pathkey::{Key, KeyRange, NoMemory};
-use samples::{Digit, Random};
+use samples::{Digit, Holds, Random, all_hold};
 use std::alloc::Global;
 use steps::relieve;
 

@@ -1,15 +1,19 @@
 //! Samples that the tests of several crates share: an update, messages in plain numbers, a plain row under the same
-//! messages, file calls and replies as a table can hold them, and numbers that look random.
+//! messages, file calls and replies as a table can hold them, rows that are asked one by one, and numbers that look random.
 #![tactic(auto)]
 
 pub mod ask;
 pub mod digit;
+pub mod files;
 pub mod plain;
 pub mod random;
 pub mod row;
+pub mod rows;
 
 pub use ask::{Ask, Told};
 pub use digit::Digit;
+pub use files::file_name;
 pub use plain::{Plain, are, are_numbered, batch, key, number, range, waits};
 pub use random::Random;
 pub use row::Row;
+pub use rows::{Holds, all_hold};

@@ -1,8 +1,7 @@
 //! Messages on numbers, at keys of one byte, beside the same messages told in plain numbers.
-use crate::rows::{Holds, all_hold};
 use message::{Msg, Pending, cut, touches};
 use pathkey::{Key, KeyRange, NoMemory};
-use samples::{Digit, Plain, are, batch, key, range, waits};
+use samples::{Digit, Holds, Plain, all_hold, are, batch, key, range, waits};
 use std::alloc::Global;
 
 fn list_of(alloc: Global, msgs: &[Plain]) -> Result<Pending<Digit>, NoMemory> {

@@ -2,11 +2,11 @@
 //!
 //! What a row says is asked by functions that ensure nothing, so that no proof of a test reads what a text parses as, and of which each
 //! holds one value with a destructor. They answer by a `bool` or an `Option`; where memory is refused that is `false` or `None`.
-use crate::rows::{Holds, all_hold};
 use pathkey::{
     Errno, Key, KeyRange, NoMemory, Path, SnapName, block_key, blocks_from, dec, enc, rekey,
     subtree,
 };
+use samples::{Holds, all_hold};
 use std::alloc::{AllocError, Global};
 use std::cmp::Ordering;
 
