@@ -1,19 +1,23 @@
 -- The order of the keys of what lies below a path: by the next name, each with all that lies below it.
-use Rattle.std.proofs.Common.{◌≡◌, ℕ, ◌<◌, List, [], ◌∷◌, ◌++◌, true, refl, sym, ap, subst, ◌∙◌, arith, ⊎_elim, append_assoc, Some}
+use Rattle.std.proofs.Common.{◌≡◌, ℕ, ◌<◌, List, [], ◌∷◌, ◌++◌, true, eqb, refl, sym, ap, subst, ◌∙◌, arith, ⊎_elim, append_assoc}
+use Rattle.std.specs.Cmp.{both_ways}
+use Rattle.std.specs.List.{starts_with}
 use Rattle.std.specs.declared.cmp.Ordering.{Ordering}
 use Rattle.std.specs.declared.cmp.Ordering.TheVariants.{Less, Greater}
 use Rattle.std.specs.Ordering.{is_lt, is_le, nat_cmp, ordering_then}
 use Rattle.std.proofs.lemmas.Bool.{cases_order}
+use Rattle.std.proofs.lemmas.Bool.Decides.{Decides-eqb}
+use Rattle.std.proofs.lemmas.Slice.Eq.{starts_is}
 use Rattle.pathkey.specs.Order.{by_bytes}
 use Rattle.pathkey.specs.Names.{Name, Path, HasNameBytes}
-use Rattle.pathkey.specs.Keys.{Key, enc, subtree}
-use Rattle.pathkey.specs.declared.range.KeyRange.{KeyRange}
+use Rattle.pathkey.specs.Keys.{Key, enc}
 use Rattle.pathkey.proofs.OrderFacts.{cmp_less, cmp_equal, cmp_greater}
-use Rattle.pathkey.proofs.KeyFacts.{enc-append, from_between_high, from_between_low}
 use Rattle.pathkey.proofs.PathFacts.{subtree_end}
 use Rattle.reference.proofs.PathOrder.{behind_beginning}
+use Rattle.pathkey.proofs.KeyFacts.{between, enc-append, from_between_high, from_between_low}
 use Rattle.message.specs.Ranges.{before, reaches}
 use Rattle.message.proofs.KeyOrder.{from_start}
+use Rattle.scan.specs.Pairs.{IsEndOf}
 
 -- ---- bytes
 
@@ -55,13 +59,13 @@ end_reaches (x ∷ a) (c ∷ b) z u h = tails x c a b (λ o. is_le (ordering_the
 abbrev pub end_key : Path → Name → Key
 end_key p n = enc p ++ (n ++ 1 ∷ [])
 
--- it is the end of the subtree
-pub end_is : (p : Path) (n : Name) (e : Key) → (subtree (p ++ n ∷ [])).hi ≡ Some e → e ≡ end_key p n
-end_is p n e h =
-    let key : enc (p ++ n ∷ []) ≡ (enc p ++ n) ++ 0 ∷ [] = enc-append p (n ∷ []) ∙ sym (append_assoc (enc p) n (0 ∷ [])) in
-    let hi : Some e ≡ Some ((enc p ++ n) ++ 1 ∷ []) = sym h ∙ sym (ap (λ (r : KeyRange). r.hi) (subtree_end (p ++ n ∷ []) (enc p ++ n) 0 key)) in
-    let is : e ≡ (enc p ++ n) ++ 1 ∷ [] = cc in
-    is ∙ append_assoc (enc p) n (1 ∷ [])
+-- a path's key ends with a byte 0, and the keys that begin with it end where that byte becomes 1
+pub end_of_zero : (s : List ℕ) → IsEndOf (s ++ 1 ∷ []) (s ++ 0 ∷ [])
+end_of_zero s k low =
+    let reads = starts_is {E = eqb} Decides-eqb k (s ++ 0 ∷ []) (starts_with eqb k (s ++ 0 ∷ [])) refl in
+    both_ways (before k (s ++ 1 ∷ [])) (starts_with eqb k (s ++ 0 ∷ []))
+    (λ t. let at : (z : Key) × (k ≡ s ++ 0 ∷ z) = between s k low t in reads.1 at.0 (at.1 ∙ sym (append_assoc s (0 ∷ []) at.0)))
+    (λ t. let is = reads.0 t ∙ append_assoc s (0 ∷ []) _ in subst (λ (x : Key). before x (s ++ 1 ∷ []) ≡ true) (sym is) (from_between_high s _))
 
 -- what lies at or below one name stands before what lies at or below a later one
 pub child_before : (p : Path) (a b : Name) (q r : Path) → HasNameBytes b → by_bytes a b ≡ Less → before (enc (p ++ a ∷ q)) (enc (p ++ b ∷ r)) ≡ true

@@ -1,6 +1,5 @@
 pub mod Climbing
 pub mod BelowPath
-pub mod ChildKeys
 pub mod ChildOrder
 pub mod Listed
 pub mod Steps

@@ -1,33 +1,23 @@
 -- The steps of a listing in the words of the code.
-use Rattle.std.proofs.Common.{◌≡◌, ℕ, List, [], ◌∷◌, ◌++◌, refl, sym, ap, subst, ◌∙◌, Option, Some, None}
-use Rattle.std.specs.Prelude.{MatchOption, Vec}
+use Rattle.std.proofs.Common.{◌≡◌, ℕ, List, [], ◌∷◌, ◌++◌, Bool, sym, ap, subst, ◌∙◌, append_assoc, Option, Some, None}
+use Rattle.std.specs.Prelude.{Vec}
 use Rattle.std.specs.declared.alloc.Global.{Global}
 use Rattle.std.proofs.lemmas.List.{map-append}
-use Rattle.pathkey.specs.Names.{Name, Path, IsPath, last_name}
-use Rattle.pathkey.specs.Keys.{Key, subtree}
+use Rattle.pathkey.specs.Names.{Name, Path, IsPath}
+use Rattle.pathkey.specs.Keys.{Key, enc, next_key}
 use Rattle.pathkey.specs.declared.range.KeyRange.{KeyRange}
-use Rattle.scan.specs.Pairs.{IsFirst}
+use Rattle.pathkey.proofs.KeyFacts.{enc-append}
+use Rattle.scan.specs.Pairs.{AreFrom, IsFirst, IsGiven}
 use Rattle.reference.specs.Tree.{Tree, entry_at}
 use Rattle.reference.specs.Calls.{names_of}
 use Rattle.reference.specs.Pairs.{pairs_of}
 use Rattle.reference.specs.declared.reply.Kind.{Kind}
 use Rattle.reference.specs.declared.reply.Meta.{Meta}
-use Rattle.meta_index.specs.declared.entries.Child.{Child}
 use Rattle.meta_index.specs.declared.index.MetaIndex.{MetaIndex}
 use Rattle.meta_index.specs.Below.{below, kind_told}
-use Rattle.meta_index.specs.Children.{IsChildAt}
 use Rattle.meta_index.specs.Means.{metadata, IsMeantBy}
-use Rattle.meta_index.proofs.ChildOrder.{end_is}
+use Rattle.meta_index.proofs.ChildOrder.{end_key}
 use Rattle.meta_index.proofs.Listed.{Listed, listed_none, Next, next_listed, all_listed}
-
-last_of : (p : Path) (n : Name) → last_name (p ++ n ∷ []) ≡ Some n
-last_of [] n = refl
-last_of (m ∷ []) n = refl
-last_of (m ∷ k ∷ p) n = last_of (k ∷ p) n
-
-below_root : (p : Path) (n : Name) → p ++ n ∷ [] ≡ [] → ⊥
-below_root [] n e = cc
-below_root (m ∷ p) n e = cc
 
 -- one pair more
 pairs_push : (items : List (Kind × Vec ℕ Global)) (kind : Kind) (name : Vec ℕ Global) (k : Kind) (n : Name) → kind ≡ k → name.items ≡ n → pairs_of (items ++ (kind, name) ∷ []) ≡ pairs_of items ++ (k, n) ∷ []
@@ -36,33 +26,60 @@ pairs_push items kind name k n e f =
     ∙ ap (λ (x : Kind). pairs_of items ++ (x, name.items) ∷ []) e
     ∙ ap (λ (x : Name). pairs_of items ++ (k, x) ∷ []) f
 
+-- so many entries of the directory p are listed; `next` is the first pair behind them and all that lies below them, and the
+-- pairs at hand are those behind it
+pub record GoesOn (t : Tree) (m : MetaIndex) (p : Path) (items : List (Kind × Vec ℕ Global)) (hi : Option Key) (next : Option (Key × Meta)) (all : Bool) (ps : List (Key × Meta)) : Type 0 where
+  pub lo : Key
+  pub listed : Listed t m p (pairs_of items) lo hi
+  pub given : IsGiven (metadata m) lo hi next all ps
+
+-- where the end of the keys at and below an entry stands, of which this is the key
+entry_end : (p : Path) (n : Name) → end_key p n ≡ (enc p ++ n) ++ 1 ∷ []
+entry_end p n = sym (append_assoc (enc p) n (1 ∷ []))
+
 module _ (t : Tree) (m : MetaIndex) (p : Path) (means : IsMeantBy t m) where
   -- before the first entry
-  pub listing_starts : (items : List (Kind × Vec ℕ Global)) (r : KeyRange) → IsPath p → items ≡ [] → r ≡ below p → Listed t m p (pairs_of items) r.lo r.hi
-  listing_starts items r is_path none is =
-      subst (λ (x : List (Kind × Vec ℕ Global)). Listed t m p (pairs_of x) r.lo r.hi) (sym none)
-      (subst (λ (x : KeyRange). Listed t m p [] x.lo x.hi) (sym is) (listed_none t m p is_path means))
+  pub listing_starts : (items : List (Kind × Vec ℕ Global)) (r : KeyRange) (next : Option (Key × Meta)) (all : Bool) (ps : List (Key × Meta)) → IsPath p → items ≡ [] → r ≡ below p → IsGiven (metadata m) r.lo r.hi next all ps → GoesOn t m p items r.hi next all ps
+  listing_starts items r next all ps is_path none is given = record {
+    lo = r.lo;
+    listed = subst (λ (x : List (Kind × Vec ℕ Global)). Listed t m p (pairs_of x) r.lo r.hi) (sym none)
+        (subst (λ (x : KeyRange). Listed t m p [] x.lo x.hi) (sym is) (listed_none t m p is_path means));
+    given = given;
+  }
 
-  module _ (items : List (Kind × Vec ℕ Global)) (lo : Key) (hi : Option Key) (listed : Listed t m p (pairs_of items) lo hi) where
-    -- where no key is left
-    pub listing_ends : (first : Option (Key × Meta)) → IsFirst (metadata m) lo hi first → first ≡ None → pairs_of items ≡ names_of (entry_at t p)
-    listing_ends first h e = all_listed t m p means (pairs_of items) lo hi listed (subst (λ (o : Option (Key × Meta)). IsFirst (metadata m) lo hi o) e h)
+  module _ (items : List (Kind × Vec ℕ Global)) (hi : Option Key) (next : Option (Key × Meta)) (all : Bool) (ps : List (Key × Meta)) (goes : GoesOn t m p items hi next all ps) where
+    -- where no pair is left
+    pub listing_ends : next ≡ None → pairs_of items ≡ names_of (entry_at t p)
+    listing_ends e = all_listed t m p means (pairs_of items) goes.lo hi goes.listed (subst (λ (o : Option (Key × Meta)). IsGiven (metadata m) goes.lo hi o all ps) e goes.given)
 
-    module _ (first : Option (Key × Meta)) (h : IsFirst (metadata m) lo hi first) (k : Key) (v : Meta) (is : first ≡ Some (k, v)) where
-      next : Next t m p (pairs_of items) hi k v
-      next = next_listed t m p means (pairs_of items) lo hi k v listed (subst (λ (o : Option (Key × Meta)). IsFirst (metadata m) lo hi o) is h)
+    module _ (k : Key) (v : Meta) (is : next ≡ Some (k, v)) where
+      given : IsFirst (metadata m) goes.lo hi (Some (k, v)) × AreFrom (metadata m) (next_key k) hi all ps
+      given = subst (λ (o : Option (Key × Meta)). IsGiven (metadata m) goes.lo hi o all ps) is goes.given
 
-      -- each key that is found is that of an entry
-      pub always_child : (o : Option Child) → IsChildAt k o → o ≡ None → ⊥
-      always_child o of e = below_root p next.name (subst (λ (x : Option Child). MatchOption x (p ++ next.name ∷ [] ≡ []) (λ c. (last_name (p ++ next.name ∷ []) ≡ Some c.name.items) × ((subtree (p ++ next.name ∷ [])).hi ≡ Some c.end))) e (of (p ++ next.name ∷ []) next.path next.key))
+      found : Next t m p (pairs_of items) hi k v
+      found = next_listed t m p means (pairs_of items) goes.lo hi k v goes.listed given.0
 
-      -- which comes behind those that are listed
-      pub listing_goes_on : (o : Option Child) → IsChildAt k o → (child : Child) → o ≡ Some child → (kind : Kind) → kind ≡ kind_told v → (more : List (Kind × Vec ℕ Global)) → more ≡ items ++ (kind, child.name) ∷ [] → Listed t m p (pairs_of more) child.end hi
-      listing_goes_on o of child e kind kind_is more more_is =
-          let at : (last_name (p ++ next.name ∷ []) ≡ Some child.name.items) × ((subtree (p ++ next.name ∷ [])).hi ≡ Some child.end) = subst (λ (x : Option Child). MatchOption x (p ++ next.name ∷ [] ≡ []) (λ c. (last_name (p ++ next.name ∷ []) ≡ Some c.name.items) × ((subtree (p ++ next.name ∷ [])).hi ≡ Some c.end))) e (of (p ++ next.name ∷ []) next.path next.key) in
-          let name : Some next.name ≡ Some child.name.items = sym (last_of p next.name) ∙ at.0 in
-          let name_is : next.name ≡ child.name.items = cc in
-          let pairs : pairs_of more ≡ pairs_of items ++ (kind_told v, next.name) ∷ [] =
-          ap pairs_of more_is ∙ pairs_push items kind child.name (kind_told v) next.name kind_is (sym name_is) in
-          subst (λ (x : List (Kind × Name)). Listed t m p x child.end hi) (sym pairs)
-          (subst (λ (x : Key). Listed t m p (pairs_of items ++ (kind_told v, next.name) ∷ []) x hi) (sym (end_is p next.name child.end at.1)) next.more)
+      -- its key is the directory's, its name and a byte 0
+      entry_key : k ≡ enc p ++ (found.name ++ 0 ∷ [])
+      entry_key = found.key ∙ enc-append p (found.name ∷ [])
+
+      whole_key : k ≡ (enc p ++ found.name) ++ 0 ∷ []
+      whole_key = entry_key ∙ sym (append_assoc (enc p) found.name (0 ∷ []))
+
+      -- the pair is that of the next entry
+      pub listing_goes_on : (directory : Key) → directory ≡ enc p → (name : Vec ℕ Global) → ((n : Name) → k ≡ directory ++ (n ++ 0 ∷ []) → name.items ≡ n)
+          → (kind : Kind) → kind ≡ kind_told v → (more : List (Kind × Vec ℕ Global)) → more ≡ items ++ (kind, name) ∷ []
+          → (high : Option Key) → high ≡ hi → (further : Option (Key × Meta)) (none_left : Bool) (rest : List (Key × Meta))
+          → ((s : List ℕ) → k ≡ s ++ 0 ∷ [] → AreFrom (metadata m) (next_key k) hi all ps → IsGiven (metadata m) (s ++ 1 ∷ []) hi further none_left rest)
+          → GoesOn t m p more high further none_left rest
+      listing_goes_on directory at name name_of kind kind_is more more_is high high_is further none_left rest goes_past =
+          let name_is : name.items ≡ found.name = name_of found.name (entry_key ∙ ap (λ (d : Key). d ++ (found.name ++ 0 ∷ [])) (sym at)) in
+          let pairs : pairs_of more ≡ pairs_of items ++ (kind_told v, found.name) ∷ [] = ap pairs_of more_is ∙ pairs_push items kind name (kind_told v) found.name kind_is name_is in
+          let end : Key = (enc p ++ found.name) ++ 1 ∷ [] in
+          let here : Listed t m p (pairs_of items ++ (kind_told v, found.name) ∷ []) end hi = subst (λ (x : Key). Listed t m p (pairs_of items ++ (kind_told v, found.name) ∷ []) x hi) (entry_end p found.name) found.more in
+          let past : IsGiven (metadata m) end hi further none_left rest = goes_past (enc p ++ found.name) whole_key given.1 in
+          record {
+            lo = end;
+            listed = subst (λ (o : Option Key). Listed t m p (pairs_of more) end o) (sym high_is) (subst (λ (x : List (Kind × Name)). Listed t m p x end hi) (sym pairs) here);
+            given = subst (λ (o : Option Key). IsGiven (metadata m) end o further none_left rest) (sym high_is) past;
+          }

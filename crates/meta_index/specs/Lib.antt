@@ -1,4 +1,3 @@
 pub mod Updates
 pub mod Means
 pub mod Below
-pub mod Children

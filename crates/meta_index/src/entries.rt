@@ -1,11 +1,9 @@
-//! What lies below a path: the range of its keys, and the entry of a directory that a key names.
-ghost use Rattle.std.specs.Prelude.{◌≡◌, IfOk, IfSome, true};
-ghost use Rattle.message.specs.Ranges.{before};
+//! What lies below a path: the range of its keys, and what the key of a directory's entry tells.
+ghost use Rattle.std.specs.Prelude.{◌≡◌, ◌∷◌, ◌++◌, ℕ, List, [], IfOk};
 ghost use Rattle.meta_index.specs.Below.{below, kind_told};
-ghost use Rattle.meta_index.specs.Children.{IsChildAt};
 ghost use Rattle.pathkey.specs.Names.{IsPath};
 
-use pathkey::{Key, KeyRange, NoMemory, Path, dec, subtree};
+use pathkey::{Key, KeyRange, NoMemory, Path, subtree};
 use reference::{Kind, Meta};
 use std::alloc::Global;
 
@@ -19,32 +17,26 @@ pub(crate) fn keys_below(alloc: Global, path: &Path) -> Result<KeyRange, NoMemor
     Ok(KeyRange { lo, hi })
 }
 
-/// An entry of a directory.
-#[derive(Drop)]
-pub(crate) struct Child {
-    /// The last name of its path.
-    pub(crate) name: Vec<u8>,
-    /// The least key behind all that lies below it.
-    pub(crate) end: Key,
+/// The last name of the path with this key, where the other key is that of the directory above: what stands between that one and
+/// the byte 0 at the end.
+pub(crate) fn name_behind<'a>(directory: &Key, key: &'a Key) -> &'a [u8]
+    ensures { (n : List ℕ) → key.now ≡ directory.now ++ (n ++ 0 ∷ []) → result.now ≡ n }
+{
+    let front = directory.as_bytes().len().min(key.as_bytes().len());
+    match key.as_bytes()[front..].split_last() {
+        None => &[],
+        Some((_, name)) => name,
+    }
 }
 
-/// The entry whose path has this key; none for the root. Of a key that no path has nothing is promised.
-pub(crate) fn child_at(alloc: Global, key: &Key) -> Result<Option<Child>, NoMemory>
-    ensures entry { IfOk result (λ r. IsChildAt key.now r) }
-    ensures behind { IfOk result (λ r. IfSome r (λ child. before key.now child.end ≡ true)) }
+/// The least key behind all that lies at the path with this key, or below it: the key with its last byte, which is 0, made 1.
+pub(crate) fn end_below(alloc: Global, key: &Key) -> Result<Key, NoMemory>
+    ensures { IfOk result (λ end. (s : List ℕ) → key.now ≡ s ++ 0 ∷ [] → end ≡ s ++ 1 ∷ []) }
 {
-    let Some(path) = dec(alloc, key)? else {
-        return Ok(None);
-    };
-    let Some(last) = path.last() else {
-        return Ok(None);
-    };
-    let name = Vec::from_slice(alloc, last)?;
-    let hi = subtree(alloc, &path)?.hi;
-    let Some(end) = hi else {
-        return Ok(None);
-    };
-    Ok(Some(Child { name, end }))
+    let mut bytes = Vec::from_slice(alloc, key.as_bytes())?;
+    bytes.pop();
+    bytes.push(1)?;
+    Key::from_bytes(alloc, bytes.as_slice())
 }
 
 /// Whether the metadata are those of a directory or of a file.

@@ -1,22 +1,22 @@
 //! The metadata index, and what stands at a path.
-ghost use Rattle.std.specs.Prelude.{◌≡◌, ◌+◌, IfOk, OnOk, IsTrue, None, length, not};
+ghost use Rattle.std.specs.Prelude.{◌≡◌, ◌+◌, ◌∷◌, ◌++◌, ℕ, List, [], IfOk, OnOk, IsTrue, None, length, not};
 ghost use Rattle.std.specs.Result.{result_err};
 ghost use Rattle.meta_index.specs.Means.{IsMeantBy, metadata, told};
 ghost use Rattle.node.specs.Shapes.{is_shape};
-ghost use Rattle.pathkey.specs.Keys.{subtree};
+ghost use Rattle.pathkey.specs.Keys.{next_key, subtree};
 ghost use Rattle.reference.specs.Calls.{is_found, is_full, names_of, parent, parent_fault};
 ghost use Rattle.reference.specs.Looks.{look};
 ghost use Rattle.reference.specs.Pairs.{pairs_of};
 ghost use Rattle.reference.specs.Tree.{Dir, Tree as DirectoryTree, entry_at, nothing};
-ghost use Rattle.scan.specs.Pairs.{IsScan};
+ghost use Rattle.scan.specs.Pairs.{AreFrom, IsGiven, IsScan};
 
 use crate::at::At;
-use crate::entries::{child_at, keys_below, kind_of};
+use crate::entries::{end_below, keys_below, kind_of, name_behind};
 use crate::update::MetaUpdate;
 use lookup::get;
 use message::Msg;
 use node::{Shape, Tree};
-use pathkey::{Errno, Key, NoMemory, Path, subtree};
+use pathkey::{Errno, Key, KeyRange, NoMemory, Path, subtree};
 use reference::{Kind, Meta};
 use scan::piecewise::Pieces;
 use scan::{first_in, scan};
@@ -149,15 +149,37 @@ impl MetaIndex {
         let mut rest = keys_below(alloc, path)?;
         let mut pieces = Pieces::new(alloc);
         *searches = 1;
-        'entries: while let Some((key, meta)) = pieces.first(alloc, &self.tree, &rest)? {
-            let Some(child) = child_at(alloc, &key)? else {
-                return Ok(entries);
-            };
-            entries.push((kind_of(meta), child.name))?;
-            rest.lo = child.end;
+        let mut next = pieces.first(alloc, &self.tree, &rest)?;
+        'entries: while let Some((key, meta)) = next {
+            let name = Vec::from_slice(alloc, name_behind(path.key(), &key))?;
+            entries.push((kind_of(meta), name))?;
+            next = self.first_past(alloc, &key, &mut rest, &mut pieces)?;
             *searches += 1;
         }
         Ok(entries)
+    }
+
+    /// The first pair of the range behind all that lies at the path with this key, or below it.
+    ///
+    /// What lies there is passed by its first bytes; the key where it ends is made for a new piece alone.
+    fn first_past(
+        &self,
+        alloc: Global,
+        key: &Key,
+        rest: &mut KeyRange,
+        pieces: &mut Pieces<MetaUpdate>,
+    ) -> Result<Option<(Key, Meta)>, NoMemory>
+        ensures hi { rest.new.hi ≡ rest.old.hi }
+        ensures given { IfOk result (λ r. (s : List ℕ) → key.now ≡ s ++ 0 ∷ [] → AreFrom (metadata self.now) (next_key key.now) rest.old.hi pieces.old.all pieces.old.pairs.items → IsGiven (metadata self.now) (s ++ 1 ∷ []) rest.old.hi r pieces.new.all pieces.new.pairs.items) }
+    {
+        if let Some(pair) = pieces.take_past(key) {
+            return Ok(Some(pair));
+        }
+        if pieces.all {
+            return Ok(None);
+        }
+        rest.lo = end_below(alloc, key)?;
+        pieces.first(alloc, &self.tree, rest)
     }
 
     /// The first `limit` pairs of the path's subtree, its own too, in key order, or all where there are fewer. It fails

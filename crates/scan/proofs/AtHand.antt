@@ -1,14 +1,22 @@
 -- The pairs of a scan, one after the other.
-use Rattle.std.proofs.Common.{◌≡◌, ℕ, zero, suc, ◌-◌, ◌<◌, true, false, List, [], ◌∷◌, ◌++◌, length, get_or, refl, ap, sym, ◌∙◌, subst, Bool, Option, Some, None, arith, ◌⊎◌, inl, inr}
-use Rattle.std.specs.Prelude.{All, Contains}
+use Rattle.std.proofs.Common.{◌≡◌, ℕ, zero, suc, ◌+◌, ◌-◌, ◌<◌, true, false, cond, eqb, List, [], ◌∷◌, ◌++◌, length, drop, get_or, refl, ap, sym, ◌∙◌, subst, Bool, Option, Some, None, arith, ◌⊎◌, inl, inr, append-nil}
+use denote.Ref.{Bor}
+use denote.Param.Members.{Mut}
+use Rattle.std.specs.Prelude.{All, Contains, MatchOption}
+use Rattle.std.specs.Fn.{Called, ComputesKey}
+use Rattle.std.specs.List.{starts_with, prefix_len}
 use Rattle.std.specs.Option.{option_to_list}
 use Rattle.std.proofs.lemmas.Map.Made.{Contains-tail}
 use Rattle.std.proofs.lemmas.List.Elements.{All-contains}
+use Rattle.std.proofs.lemmas.Bool.Decides.{Decides-eqb}
+use Rattle.std.proofs.lemmas.Fn.{always_returns_same}
+use Rattle.std.proofs.lemmas.List.Elements.{All-weaker}
+use Rattle.std.proofs.lemmas.Slice.Eq.{starts_is}
 use Rattle.pathkey.specs.Keys.{is_below, next_key}
 use Rattle.message.specs.Ranges.{reaches, before, within}
 use Rattle.message.proofs.KeyOrder.{both, le_le, reaches-refl, reaches-from_before, reaches-from_not_before, not_before_from_reaches, below_next}
-use Rattle.message.proofs.NextKey.{in_range, reaches-next}
-use Rattle.scan.specs.Pairs.{HasNone, IsFirst, IsScan, AreAhead, IsGiven}
+use Rattle.message.proofs.NextKey.{by_bool, in_range, reaches-next}
+use Rattle.scan.specs.Pairs.{HasNone, IsFirst, IsScan, AreFrom, AreAhead, IsGiven, from_unpassed, IsTaken, IsEndOf}
 use Rattle.scan.proofs.Joins.{scan_zero}
 
 -- a list without elements
@@ -72,19 +80,15 @@ module _ {V : Type 0} (f : List ℕ → Option V) where
 
   -- none is taken yet
   pub ahead_none : (lo : List ℕ) (hi : Option (List ℕ)) (all : Bool) (ps : List (List ℕ × V)) → all ≡ false → ps ≡ [] → AreAhead f lo hi all ps
-  ahead_none lo hi all ps a e = (lo, 0, reaches-refl lo, subst (λ (xs : List (List ℕ × V)). IsScan f lo hi 0 xs) (sym e) (scan_zero f lo hi), λ t. absurd (let g : all ≡ false = a in cc))
-
-  -- and they are ahead of a later key too
-  pub ahead_later : (lo later : List ℕ) (hi : Option (List ℕ)) (all : Bool) (ps : List (List ℕ × V)) → reaches lo later ≡ true → AreAhead f lo hi all ps → AreAhead f later hi all ps
-  ahead_later lo later hi all ps h (from, n, low, s, short) = (from, n, le_le from lo later low h, s, short)
+  ahead_none lo hi all ps a e = (lo, reaches-refl lo, (0, subst (λ (xs : List (List ℕ × V)). IsScan f lo hi 0 xs) (sym e) (scan_zero f lo hi), λ t. absurd (let g : all ≡ false = a in cc)))
 
   -- the first of them stands before the range
   pub ahead_passed : (lo : List ℕ) (hi : Option (List ℕ)) (all : Bool) (p : List ℕ × V) (ps : List (List ℕ × V)) → before p.0 lo ≡ true → AreAhead f lo hi all (p ∷ ps) → AreAhead f lo hi all ps
-  ahead_passed lo hi all p ps b (from, n, low, s, short) = (next_key p.0, n - 1, reaches-next p.0 lo ∙ b, tail_scan from hi n p ps s, λ t. omega (arith, short t))
+  ahead_passed lo hi all p ps b (from, low, (n, s, short)) = (next_key p.0, reaches-next p.0 lo ∙ b, (n - 1, tail_scan from hi n p ps s, λ t. omega (arith, short t)))
 
   -- or is given
   pub ahead_given : (lo : List ℕ) (hi : Option (List ℕ)) (all : Bool) (p : List ℕ × V) (ps : List (List ℕ × V)) → before p.0 lo ≡ false → AreAhead f lo hi all (p ∷ ps) → IsGiven f lo hi (Some p) all ps
-  ahead_given lo hi all p ps b (from, n, low, s, short) = (head_first from hi n p ps s lo low b, (next_key p.0, n - 1, reaches-refl (next_key p.0), tail_scan from hi n p ps s, λ t. omega (arith, short t)))
+  ahead_given lo hi all p ps b (from, low, (n, s, short)) = (head_first from hi n p ps s lo low b, (n - 1, tail_scan from hi n p ps s, λ t. omega (arith, short t)))
 
   -- a scan that had room for a pair and found none
   pub found_none : (lo : List ℕ) (hi : Option (List ℕ)) (n : ℕ) → 0 < n → IsScan f lo hi n [] → HasNone f lo hi
@@ -96,7 +100,7 @@ module _ {V : Type 0} (f : List ℕ → Option V) where
 
   -- none is left
   pub ahead_over : (lo : List ℕ) (hi : Option (List ℕ)) (all : Bool) (ps : List (List ℕ × V)) → all ≡ true → ps ≡ [] → AreAhead f lo hi all ps → HasNone f lo hi
-  ahead_over lo hi all ps t e (from, n, low, s, short) k w =
+  ahead_over lo hi all ps t e (from, low, (n, s, short)) k w =
       let q = both (reaches lo k) (is_below k hi) w in
       let none : length ps ≡ 0 = ap length e in
       found_none from hi n (omega (arith, short t)) (subst (λ (xs : List (List ℕ × V)). IsScan f from hi n xs) e s) k (in_range from k hi (le_le from lo k low q.0) q.1)
@@ -107,7 +111,7 @@ module _ {V : Type 0} (f : List ℕ → Option V) where
   piece_given lo hi n (Some p) all piece ps some s short e nil =
       let t : IsScan f lo hi n (p ∷ ps) = subst (λ (xs : List (List ℕ × V)). IsScan f lo hi n xs) e s in
       let h : (within lo hi p.0 ≡ true) × (f p.0 ≡ Some p.1) = t.sound 0 p (omega arith) in
-      ahead_given lo hi all p ps (not_before_from_reaches lo p.0 (both (reaches lo p.0) (is_below p.0 hi) h.0).0) (lo, n, reaches-refl lo, t, λ x. subst (λ (xs : List (List ℕ × V)). length xs < n) e (short x))
+      ahead_given lo hi all p ps (not_before_from_reaches lo p.0 (both (reaches lo p.0) (is_below p.0 hi) h.0).0) (lo, reaches-refl lo, (n, t, λ x. subst (λ (xs : List (List ℕ × V)). length xs < n) e (short x)))
 
   -- what is given is the first pair
   pub given_first : (lo : List ℕ) (hi : Option (List ℕ)) (r : Option (List ℕ × V)) (all : Bool) (ps : List (List ℕ × V)) → IsGiven f lo hi r all ps → IsFirst f lo hi r
@@ -118,4 +122,71 @@ module _ {V : Type 0} (f : List ℕ → Option V) where
   pub given_ahead : (lo : List ℕ) (hi : Option (List ℕ)) (r : Option (List ℕ × V)) (p : List ℕ × V) (all : Bool) (ps : List (List ℕ × V)) → r ≡ Some p → IsGiven f lo hi r all ps → (next : List ℕ) → reaches (next_key p.0) next ≡ true → AreAhead f next hi all ps
   given_ahead lo hi r p all ps e g next h =
       let given : IsGiven f lo hi (Some p) all ps = subst (λ x. IsGiven f lo hi x all ps) e g in
-      ahead_later (next_key p.0) next hi all ps h given.1
+      (next_key p.0, h, given.1)
+
+-- ---- pairs that are passed by a test of their keys
+
+module _ {V : Type 0} (test : List ℕ → Bool) (p : List ℕ × V) (ps : List (List ℕ × V)) where
+  -- a pair that passes the test is none of those that are left
+  pub unpassed_behind : test p.0 ≡ true → from_unpassed test (p ∷ ps) ≡ from_unpassed test ps
+  unpassed_behind e =
+      let more : 1 + prefix_len (λ (q : List ℕ × V). test q.0) ps ≡ suc (prefix_len (λ (q : List ℕ × V). test q.0) ps) = omega arith in
+      ap (λ (b : Bool). drop (cond b (1 + prefix_len (λ (q : List ℕ × V). test q.0) ps) 0) (p ∷ ps)) e ∙ ap (λ (n : ℕ). drop n (p ∷ ps)) more
+
+  -- and one that does not is the first of them
+  pub unpassed_first : test p.0 ≡ false → from_unpassed test (p ∷ ps) ≡ p ∷ ps
+  unpassed_first e = ap (λ (b : Bool). drop (cond b (1 + prefix_len (λ (q : List ℕ × V). test q.0) ps) 0) (p ∷ ps)) e
+
+  -- which is taken out
+  pub unpassed_taken : (old : List (List ℕ × V)) → from_unpassed test old ≡ from_unpassed test (p ∷ ps) → test p.0 ≡ false → IsTaken test old (Some p) ps
+  unpassed_taken old e u = (e ∙ unpassed_first u, λ none. absurd (let clash : Some p ≡ None = none in cc))
+
+-- two tests that answer alike at the keys pass the same pairs
+pub unpassed_alike : {V : Type 0} (a b : List ℕ → Bool) (ps : List (List ℕ × V)) → All (λ p. a p.0 ≡ b p.0) ps → from_unpassed a ps ≡ from_unpassed b ps
+unpassed_alike a b [] h = refl
+unpassed_alike a b (p ∷ ps) h =
+    let same : a p.0 ≡ b p.0 = h 0 p (omega arith) in
+    by_bool (a p.0) (from_unpassed a (p ∷ ps) ≡ from_unpassed b (p ∷ ps))
+    (λ t. unpassed_behind a p ps t ∙ unpassed_alike a b ps (λ j d l. h (suc j) d (omega (arith, l))) ∙ sym (unpassed_behind b p ps (sym same ∙ t)))
+    (λ t. unpassed_first a p ps t ∙ sym (unpassed_first b p ps (sym same ∙ t)))
+
+module _ {V : Type 0} (f : List ℕ → Option V) (lo : List ℕ) (hi : Option (List ℕ)) (all : Bool) where
+  -- the first of the pairs is given from lo on, and where there is none, none is ahead
+  abbrev pub Gives : List (List ℕ × V) → Type 0
+  Gives [] = AreAhead f lo hi all []
+  Gives (p ∷ ps) = IsGiven f lo hi (Some p) all ps
+
+  -- those that stand before lo are passed
+  pub ahead_gives : (ps : List (List ℕ × V)) → AreAhead f lo hi all ps → Gives (from_unpassed (λ k. before k lo) ps)
+  ahead_gives [] a = a
+  ahead_gives (p ∷ ps) a = by_bool (before p.0 lo) (Gives (from_unpassed (λ k. before k lo) (p ∷ ps)))
+      (λ t. subst Gives (sym (unpassed_behind (λ k. before k lo) p ps t)) (ahead_gives ps (ahead_passed f lo hi all p ps t a)))
+      (λ t. subst Gives (sym (unpassed_first (λ k. before k lo) p ps t)) (ahead_given f lo hi all p ps t a))
+
+  taken_by : (taken : Option (List ℕ × V)) (new : List (List ℕ × V)) → (taken ≡ None → new ≡ []) → Gives (option_to_list taken ++ new) → MatchOption taken (AreAhead f lo hi all []) (λ p. IsGiven f lo hi (Some p) all new)
+  taken_by None new nil g = subst Gives (nil refl) g
+  taken_by (Some p) new nil g = g
+
+  -- the first that does not stand before lo was taken out
+  pub ahead_taken : (old : List (List ℕ × V)) (taken : Option (List ℕ × V)) (new : List (List ℕ × V)) → IsTaken (λ k. before k lo) old taken new → AreAhead f lo hi all old → MatchOption taken (AreAhead f lo hi all []) (λ p. IsGiven f lo hi (Some p) all new)
+  ahead_taken old taken new h a = taken_by taken new h.1 (subst Gives h.0 (ahead_gives old a))
+
+-- the clause of `take_unless`, where each call of the closure gives the test of a key
+pub taken_by_test : {V F : Type 0} {g : Mut F (Bor (List ℕ) × Unit {0}) Bool} {f : F} (test : List ℕ → Bool) (old : List (List ℕ × V)) (taken : Option (List ℕ × V)) (new : List (List ℕ × V))
+    → ((t : List ℕ → Bool) → ComputesKey g t f → IsTaken t old taken new)
+    → ((a : Bor (List ℕ) × Unit {0}) (r : Bool) (f' : F) → Called g f a r f' → (r ≡ test a.0.now) × (f' ≡ f)) → IsTaken test old taken new
+taken_by_test {g = g} {f = f} test old taken new clause h = clause test (always_returns_same g (λ a r. r ≡ test a.0.now) f h)
+
+-- a list begins with itself
+begins_itself : (k : List ℕ) → starts_with eqb k k ≡ true
+begins_itself k = (starts_is {E = eqb} Decides-eqb k k (starts_with eqb k k) refl).1 [] (sym (append-nil k))
+
+module _ {V : Type 0} (f : List ℕ → Option V) (front end : List ℕ) (hi : Option (List ℕ)) (all : Bool) (is_end : IsEndOf end front) where
+  -- the first that does not begin with `front` was taken out, where all stand behind that key
+  pub past_taken : (old : List (List ℕ × V)) (taken : Option (List ℕ × V)) (new : List (List ℕ × V)) → IsTaken (λ k. starts_with eqb k front) old taken new → AreFrom f (next_key front) hi all old → MatchOption taken (AreAhead f end hi all []) (λ p. IsGiven f end hi (Some p) all new)
+  past_taken old taken new h (n, s, short) =
+      let behind : before front end ≡ true = is_end front (reaches-refl front) ∙ begins_itself front in
+      let alike : All (λ p. before p.0 end ≡ starts_with eqb p.0 front) old = All-weaker (λ p. (within (next_key front) hi p.0 ≡ true) × (f p.0 ≡ Some p.1)) (λ p. before p.0 end ≡ starts_with eqb p.0 front)
+      (λ p there. is_end p.0 (reaches-from_before front p.0 (sym (reaches-next front p.0) ∙ (both (reaches (next_key front) p.0) (is_below p.0 hi) there.0).0))) old s.sound in
+      ahead_taken f end hi all old taken new (unpassed_alike (λ k. before k end) (λ k. starts_with eqb k front) old alike ∙ h.0, h.1)
+      (next_key front, reaches-next front end ∙ behind, (n, s, short))

@@ -1,5 +1,7 @@
 -- What the searches of a range of keys find. f is any function from keys to values, as what a tree means at each key.
-use Rattle.std.specs.Prelude.{◌≡◌, ℕ, ◌-◌, ◌<◌, ◌≤◌, ◌⊎◌, Bool, true, List, [], ◌∷◌, ◌++◌, Option, Some, None, length, All, AllPairs, Contains}
+use Rattle.std.specs.Prelude.{◌≡◌, ℕ, ◌-◌, ◌<◌, ◌≤◌, ◌⊎◌, Bool, true, List, [], ◌∷◌, ◌++◌, Option, Some, None, length, drop, eqb, All, AllPairs, Contains}
+use Rattle.std.specs.List.{starts_with, prefix_len}
+use Rattle.std.specs.Option.{option_to_list}
 use Rattle.pathkey.specs.Keys.{next_key}
 use Rattle.message.specs.Ranges.{reaches, within, before}
 
@@ -37,11 +39,27 @@ module _ {V : Type 0} where
   abbrev pub HasAll : (List ℕ → Option V) → List ℕ → Option (List ℕ) → List (List ℕ × V) → Type 0
   HasAll f lo hi ps = (k : List ℕ) (v : V) → within lo hi k ≡ true → f k ≡ Some v → Contains ps (k, v)
 
-  -- the pairs are a scan, up to hi, from a key on that stands at lo or before it, and where it is said of all, no pair is missing
-  abbrev pub AreAhead : (List ℕ → Option V) → List ℕ → Option (List ℕ) → Bool → List (List ℕ × V) → Type 0
-  AreAhead f lo hi all ps = (from : List ℕ) × (n : ℕ) × (reaches from lo ≡ true) × IsScan f from hi n ps × (all ≡ true → length ps < n)
+  -- the pairs are a scan of what stands from a key on up to hi, and where it is said of all, no pair is missing
+  abbrev pub AreFrom : (List ℕ → Option V) → List ℕ → Option (List ℕ) → Bool → List (List ℕ × V) → Type 0
+  AreFrom f from hi all ps = (n : ℕ) × IsScan f from hi n ps × (all ≡ true → length ps < n)
 
-  -- this is the first pair from lo up to hi, if there is one, and the pairs are ahead of it
+  -- the same from a key on that stands at lo or before it
+  abbrev pub AreAhead : (List ℕ → Option V) → List ℕ → Option (List ℕ) → Bool → List (List ℕ × V) → Type 0
+  AreAhead f lo hi all ps = (from : List ℕ) × (reaches from lo ≡ true) × AreFrom f from hi all ps
+
+  -- this is the first pair from lo up to hi, if there is one, and the pairs are those behind it
   abbrev pub IsGiven : (List ℕ → Option V) → List ℕ → Option (List ℕ) → Option (List ℕ × V) → Bool → List (List ℕ × V) → Type 0
   IsGiven f lo hi None all ps = HasNone f lo hi
-  IsGiven f lo hi (Some p) all ps = IsFirst f lo hi (Some p) × AreAhead f (next_key p.0) hi all ps
+  IsGiven f lo hi (Some p) all ps = IsFirst f lo hi (Some p) × AreFrom f (next_key p.0) hi all ps
+
+  -- the pairs from the first on whose key does not pass the test
+  abbrev pub from_unpassed : (List ℕ → Bool) → List (List ℕ × V) → List (List ℕ × V)
+  from_unpassed test ps = drop (prefix_len (λ p. test p.0) ps) ps
+
+  -- of the old pairs the first whose key does not pass the test was taken out, if there is one, and those before it
+  abbrev pub IsTaken : (List ℕ → Bool) → List (List ℕ × V) → Option (List ℕ × V) → List (List ℕ × V) → Type 0
+  IsTaken test old taken new = (from_unpassed test old ≡ option_to_list taken ++ new) × (taken ≡ None → new ≡ [])
+
+-- from the key `front` on, the keys before the end are those that begin with it
+abbrev pub IsEndOf : List ℕ → List ℕ → Type 0
+IsEndOf end front = (k : List ℕ) → reaches front k ≡ true → before k end ≡ starts_with eqb k front

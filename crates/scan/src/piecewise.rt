@@ -1,7 +1,9 @@
 //! The pairs of a range one after the other, taken from the tree piece by piece.
-ghost use Rattle.std.specs.Prelude.{◌≡◌, ℕ, [], List, Option, Some, false, IfOk, MatchOption};
+ghost use Rattle.std.specs.Prelude.{◌≡◌, ℕ, [], List, Option, Some, Bool, false, IfOk, IfNone, MatchOption};
+ghost use Rattle.std.specs.Fn.{ComputesKey};
 ghost use Rattle.node.specs.Meaning.{value as value_at};
-ghost use Rattle.scan.specs.Pairs.{AreAhead, IsGiven};
+ghost use Rattle.pathkey.specs.Keys.{next_key};
+ghost use Rattle.scan.specs.Pairs.{AreAhead, AreFrom, IsEndOf, IsGiven, IsTaken};
 
 use crate::scan;
 use message::Update;
@@ -11,7 +13,7 @@ use std::alloc::Global;
 use std::collections::VecDeque;
 
 /// The most pairs of the first piece.
-const FIRST: usize = 8;
+const FIRST: usize = 32;
 
 /// The most pairs of a piece.
 const MOST: usize = 256;
@@ -68,12 +70,35 @@ impl<U: Update> Pieces<U> {
         Ok(self.pairs.pop_front())
     }
 
+    /// Takes out the first pair whose key does not begin with this one, and those before it.
+    ///
+    /// It is for a caller that passes all that lies below the pair which was given last. Where none is left, the others of the range
+    /// begin at the least key behind all that begin so, unless `all` says that there are no others.
+    pub fn take_past(&mut self, front: &Key) -> Option<(Key, U::Value)>
+        ensures all { self.new.all ≡ self.old.all }
+        ensures none { IfNone result (self.new.pairs.items ≡ []) }
+        ensures given { (f : List ℕ → Option U.Value) (hi : Option (List ℕ)) (end : List ℕ) → IsEndOf end front.now → AreFrom f (next_key front.now) hi self.old.all self.old.pairs.items → MatchOption result (AreAhead f end hi self.new.all []) (λ p. IsGiven f end hi (Some p) self.new.all self.new.pairs.items) }
+    {
+        self.take_unless(|key| key.as_bytes().starts_with(front.as_bytes()))
+    }
+
     /// Takes out the first pair that does not stand before the key, and those before it.
     fn take_from(&mut self, lo: &Key) -> Option<(Key, U::Value)>
         ensures { (f : List ℕ → Option U.Value) (hi : Option (List ℕ)) → AreAhead f lo.now hi self.old.all self.old.pairs.items → MatchOption result (AreAhead f lo.now hi self.new.all []) (λ p. IsGiven f lo.now hi (Some p) self.new.all self.new.pairs.items) }
     {
+        self.take_unless(|key| key.cmp(lo).is_lt())
+    }
+
+    /// Takes out the first pair whose key is not passed, and those before it.
+    fn take_unless<P: FnMut(&Key) -> bool>(&mut self, passed: P) -> Option<(Key, U::Value)>
+        requires { P.IsAlwaysCallable passed }
+        ensures all { self.new.all ≡ self.old.all }
+        ensures none { IfNone result (self.new.pairs.items ≡ []) }
+        ensures taken { (test : List ℕ → Bool) → ComputesKey P.FnMut test passed → IsTaken test self.old.pairs.items result self.new.pairs.items }
+    {
+        let mut passed = passed;
         'passed: while let Some(pair) = self.pairs.pop_front() {
-            if !pair.0.cmp(lo).is_lt() {
+            if !passed(&pair.0) {
                 return Some(pair);
             }
             self.most = 1;

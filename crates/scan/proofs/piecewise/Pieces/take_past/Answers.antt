@@ -1,0 +1,13 @@
+use Rattle.std.proofs.Common.{rules, eqb, sym, subst}
+use Rattle.std.specs.List.{starts_with}
+use Rattle.pathkey.specs.Keys.{next_key}
+use Rattle.scan.specs.Pairs.{AreFrom}
+use Rattle.scan.proofs.AtHand.{taken_by_test, past_taken}
+use Rattle.scan.proofs.piecewise.Pieces.take_past.Goals as goal
+
+pub returns-clause-given : goal.returns-clause-given
+returns-clause-given g c = λ f hi end is_end from.
+    let front = c.args.front.now in
+    let old = c.args.self.now.pairs.items in
+    let taken = taken_by_test (λ k. starts_with eqb k front) old c.take_unless.result _ c.take_unless.ensures.taken (λ a r q h. search rules) in
+    past_taken f front end hi _ is_end old c.take_unless.result _ taken (subst (λ b. AreFrom f (next_key front) hi b old) (sym c.take_unless.ensures.all) from)
