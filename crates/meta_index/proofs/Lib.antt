@@ -1,4 +1,5 @@
 pub mod Climbing
+pub mod Parents
 pub mod BelowPath
 pub mod ChildOrder
 pub mod Listed

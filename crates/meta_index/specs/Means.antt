@@ -1,6 +1,8 @@
 -- When a metadata index means a directory tree, and what it tells of the tree.
-use Rattle.std.specs.Prelude.{◌≡◌, Option, None, length, MatchOption}
+use Rattle.std.specs.Prelude.{◌≡◌, ℕ, Option, None, Result, Ok, Err, length, MatchOption}
 use Rattle.pathkey.specs.Names.{Path}
+use Rattle.pathkey.specs.declared.errno.Errno.{Errno}
+use Rattle.pathkey.specs.declared.errno.Errno.TheVariants.{ENOENT, ENOTDIR}
 use Rattle.node.specs.Meaning.{value}
 use Rattle.reference.specs.Tree.{Tree, Dir, File, At, Found, Missing, Blocked, entry_at}
 use Rattle.reference.specs.Shape.{IsTree}
@@ -27,6 +29,18 @@ told (Found (Dir date es)) = meta.TheVariants.Found (DirMeta date)
 told (Found (File date b)) = meta.TheVariants.Found (FileMeta (length b) date)
 told Missing = meta.TheVariants.Missing
 told Blocked = meta.TheVariants.Blocked
+
+-- what is told of the directory that stands at a path: its moment of last change; or why none stands there
+abbrev pub moment_told : At → Result ℕ Errno
+moment_told (Found (Dir date es)) = Ok date
+moment_told (Found (File date b)) = Err ENOTDIR
+moment_told Missing = Err ENOENT
+moment_told Blocked = Err ENOTDIR
+
+-- the moment of a directory that was found, without its path
+abbrev pub moment_in : Result (Path × ℕ) Errno → Result ℕ Errno
+moment_in (Ok dated) = Ok dated.1
+moment_in (Err fault) = Err fault
 
 -- what stands at a name that a place lacks
 abbrev pub beyond : At → At

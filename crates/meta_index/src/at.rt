@@ -1,6 +1,6 @@
 //! What stands at a path, as far as metadata tell.
 ghost use Rattle.std.specs.Prelude.{◌≡◌};
-ghost use Rattle.meta_index.specs.Means.{beyond, told};
+ghost use Rattle.meta_index.specs.Means.{beyond, moment_told, told};
 ghost use Rattle.reference.specs.Calls.{no_directory_fault, path_fault};
 ghost use Rattle.reference.specs.Tree as trees;
 
@@ -44,9 +44,18 @@ impl At {
     pub fn fault_of_directory(self) -> Option<Errno>
         ensures { (here : trees.At) → self ≡ told here → result ≡ no_directory_fault here }
     {
+        self.moment_of_directory().err()
+    }
+
+    /// The moment of last change of the directory that stands at the path; or why none does.
+    pub(crate) fn moment_of_directory(self) -> Result<u64, Errno>
+        ensures { (here : trees.At) → self ≡ told here → result ≡ moment_told here }
+    {
         match self {
-            At::Found(Meta::File { .. }) => Some(Errno::ENOTDIR),
-            at => at.fault_of_path(),
+            At::Found(Meta::Dir { modified }) => Ok(modified),
+            At::Found(Meta::File { .. }) => Err(Errno::ENOTDIR),
+            At::Missing => Err(Errno::ENOENT),
+            At::Blocked => Err(Errno::ENOTDIR),
         }
     }
 }

@@ -1,7 +1,7 @@
 //! The metadata index, and what stands at a path.
 ghost use Rattle.std.specs.Prelude.{◌≡◌, ◌+◌, ◌∷◌, ◌++◌, ℕ, List, [], IfOk, OnOk, IsTrue, None, length, not};
 ghost use Rattle.std.specs.Result.{result_err};
-ghost use Rattle.meta_index.specs.Means.{IsMeantBy, metadata, told};
+ghost use Rattle.meta_index.specs.Means.{IsMeantBy, metadata, moment_in, moment_told, told};
 ghost use Rattle.node.specs.Shapes.{is_shape};
 ghost use Rattle.pathkey.specs.Keys.{next_key, subtree};
 ghost use Rattle.reference.specs.Calls.{is_found, is_full, names_of, parent, parent_fault};
@@ -82,12 +82,28 @@ impl MetaIndex {
         ensures parent { IfOk result (λ found. IfOk found (λ p. p ≡ parent path.now)) }
         ensures fault { IfOk result (λ found. (t : DirectoryTree) → IsMeantBy t self.now → result_err found ≡ parent_fault t path.now) }
     {
-        let Some(parent) = path.parent(alloc)? else {
-            return Ok(Ok(Path::root(alloc)));
+        match self.find_dated_parent(alloc, path)? {
+            Ok((parent, _)) => Ok(Ok(parent)),
+            Err(fault) => Ok(Err(fault)),
+        }
+    }
+
+    /// Likewise, with the parent's moment of last change. It fails only for want of memory.
+    pub fn find_dated_parent(
+        &self,
+        alloc: Global,
+        path: &Path,
+    ) -> Result<Result<(Path, u64), Errno>, NoMemory>
+        ensures parent { IfOk result (λ found. IfOk found (λ dated. dated.0 ≡ parent path.now)) }
+        ensures moment { IfOk result (λ found. (t : DirectoryTree) → IsMeantBy t self.now → moment_in found ≡ moment_told (entry_at t (parent path.now))) }
+    {
+        let parent = match path.parent(alloc)? {
+            Some(parent) => parent,
+            None => Path::root(alloc),
         };
-        match self.find(alloc, &parent)?.fault_of_directory() {
-            Some(fault) => Ok(Err(fault)),
-            None => Ok(Ok(parent)),
+        match self.find(alloc, &parent)?.moment_of_directory() {
+            Ok(modified) => Ok(Ok((parent, modified))),
+            Err(fault) => Ok(Err(fault)),
         }
     }
 
