@@ -3,10 +3,13 @@
 //! No claim rests on its choices.
 use crate::pace::Pace;
 use node::StepReply;
-use volume::{Step, TRIES, Volume};
+use volume::{Index, Step, TRIES, Volume};
 
-/// At most so many steps after each line, of the index in which more pieces wait. As long as less than a quarter of what a node may
-/// hold waits there, none is done: a flush of few messages costs about as much as one of many.
+/// For how many lines a pace that found nothing to do does not look again: a look weighs both roots.
+const REST: u8 = 7;
+
+/// At most so many steps after each line, of the index in which more pieces wait. As long as fewer messages than an eighth of what
+/// a node may hold wait in its heaviest slot, none is done: a flush of few messages costs about as much as one of many.
 #[derive(Drop)]
 pub struct Tidy {
     turns: u16,
@@ -17,6 +20,8 @@ pub struct Tidy {
     stuck: u8,
     /// Whether nothing was found to do since the last line.
     is_idle: bool,
+    /// For how many lines it does not look, since nothing was to do.
+    rest: u8,
 }
 
 impl Tidy {
@@ -27,6 +32,7 @@ impl Tidy {
             last: None,
             stuck: 0,
             is_idle: false,
+            rest: 0,
         }
     }
 
@@ -41,6 +47,10 @@ impl Tidy {
 
 impl Pace for Tidy {
     fn turns(&mut self) -> u16 {
+        if self.rest > 0 {
+            self.rest -= 1;
+            return 0;
+        }
         self.is_idle = false;
         self.turns
     }
@@ -51,6 +61,9 @@ impl Pace for Tidy {
         }
         self.last = self.choose(volume);
         self.is_idle = self.last.is_none();
+        if self.is_idle {
+            self.rest = REST;
+        }
         self.last
     }
 
@@ -64,17 +77,28 @@ impl Pace for Tidy {
 }
 
 /// The heaviest flush of the index in which more pieces wait, that of the metadata where both have as many; none where too few
-/// wait there.
+/// wait in its heaviest slot.
 fn heaviest(volume: &Volume) -> Option<Step> {
     let index = volume.busier();
-    if volume.pending(index) < u128::from(enough(volume)) {
+    if longest(volume, index) < enough(volume) {
         return None;
     }
     let step = volume.heaviest(index)?;
     Some(Step { index, step })
 }
 
-/// How many pieces have to wait in an index before its heaviest slot is flushed.
-fn enough(volume: &Volume) -> u16 {
-    volume.indexes().meta.tree.shape().pending / 4
+/// How many messages wait in the longest list of an index.
+fn longest(volume: &Volume, index: Index) -> usize {
+    let indexes = volume.indexes();
+    let weight = match index {
+        Index::Meta => indexes.meta.tree.root().weight(),
+        Index::Block => indexes.block.tree.root().weight(),
+    };
+    weight.longest
+}
+
+/// How many messages have to wait in a slot before it is flushed.
+fn enough(volume: &Volume) -> usize {
+    let pending = volume.indexes().meta.tree.shape().pending;
+    (usize::from(pending) / 8).max(1)
 }
