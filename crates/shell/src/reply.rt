@@ -1,15 +1,16 @@
 //! Writes replies as text.
-ghost use Rattle.std.specs.Prelude.{◌≡◌, ◌++◌, OnOk, OnErr, codes, flat_map};
+ghost use Rattle.std.specs.Prelude.{◌≡◌, ◌++◌, All, OnOk, OnErr, codes, flat_map};
 ghost use Rattle.std.specs.Io.KnownBytes.{Appends};
 ghost use Rattle.pathkey.specs.Numbers.{word_of};
 ghost use Rattle.reference.specs.Pairs.{pairs_of};
-ghost use Rattle.lines.specs.Parts.{AppendsPart};
+ghost use Rattle.lines.specs.Parts.{AppendsPart, Gathers};
 ghost use Rattle.reference.specs.declared.reply.Reply.TheVariants.{Names, Stat};
 ghost use Rattle.shell.specs.Replies.{entry_line, reply_text, name_word, stat_word};
-ghost use Rattle.lines.specs.Texts.{hex_text};
+ghost use Rattle.lines.specs.Texts.{IsPlain, hex_text};
 
+use lines::gathered::Gathered;
 use lines::output::{WriteFailed, put};
-use lines::text::{put_hex, put_number, put_number_line, put_percent};
+use lines::text::{is_plain, put_hex, put_number, put_number_line, put_percent};
 use pathkey::Errno;
 use reference::{Kind, Reply};
 use std::io::Write;
@@ -92,9 +93,44 @@ fn put_entries<W: Write>(writer: &mut W, entries: &[(Kind, Vec<u8>)]) -> Result<
     ensures ok { OnOk result (Appends (W.contents writer.old) (W.contents writer.new) (flat_map entry_line (pairs_of entries.now))) }
     ensures err { OnErr result (AppendsPart (W.contents writer.old) (W.contents writer.new) (flat_map entry_line (pairs_of entries.now))) }
 {
+    let mut gathered = Gathered::new();
     for (kind, name) in entries {
-        put_entry(writer, *kind, name.as_slice())?;
+        gather_entry(&mut gathered, writer, *kind, name.as_slice())?;
     }
+    gathered.write_out(writer)
+}
+
+// Puts the line of an entry behind what is gathered; of a name with an escaped byte all is written.
+fn gather_entry<W: Write>(
+    gathered: &mut Gathered,
+    writer: &mut W,
+    kind: Kind,
+    name: &[u8],
+) -> Result<(), WriteFailed>
+    ensures ok { OnOk result (Gathers (W.contents writer.old) gathered.old (entry_line (kind, name.now)) (W.contents writer.new) gathered.new) }
+    ensures err { OnErr result (AppendsPart (W.contents writer.old) (W.contents writer.new) (gathered.old ++ entry_line (kind, name.now))) }
+{
+    if is_plain(name) {
+        return gather_plain(gathered, writer, kind, name);
+    }
+    gathered.write_out(writer)?;
+    put_entry(writer, kind, name)
+}
+
+// The same of a name of which each byte stands for itself.
+fn gather_plain<W: Write>(
+    gathered: &mut Gathered,
+    writer: &mut W,
+    kind: Kind,
+    name: &[u8],
+) -> Result<(), WriteFailed>
+    requires { All IsPlain name.now }
+    ensures ok { OnOk result (Gathers (W.contents writer.old) gathered.old (entry_line (kind, name.now)) (W.contents writer.new) gathered.new) }
+    ensures err { OnErr result (AppendsPart (W.contents writer.old) (W.contents writer.new) (gathered.old ++ entry_line (kind, name.now))) }
+{
+    gathered.put(writer, name_word(kind))?;
+    gathered.put(writer, name)?;
+    gathered.put(writer, b"\n")?;
     Ok(())
 }
 
