@@ -34,6 +34,13 @@ impl Shape {
         leaf: 256,
     };
 
+    /// The shape for large trees, of tens of thousands of entries and more: 64 slots, 1,024 pending pieces, 1,024 entries.
+    pub const LARGE: Shape = Shape {
+        fanout: 64,
+        pending: 1024,
+        leaf: 1024,
+    };
+
     /// Whether a tree may have the shape.
     pub fn ok(&self) -> bool
         ensures { result ≡ is_shape self.now }
