@@ -43,6 +43,7 @@ pub fn copy_end(alloc: Global, end: Option<&Key>) -> Result<Option<Key>, NoMemor
 }
 
 /// Whether the key lies before the end; `None` is no end.
+#[inline(always)]
 pub fn is_before_end(key: &Key, end: Option<&Key>) -> bool
     ensures { result ≡ is_below key.now (option_copied end.entry) }
 {

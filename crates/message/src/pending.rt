@@ -84,6 +84,7 @@ impl<U: Update> Pending<U> {
 
     /// Adds a message, newer than all others, into reserved room. What it makes idle goes, and an update joins those of its key
     /// where it can.
+    #[inline(always)]
     pub fn push_reserved(&mut self, msg: Msg<U>)
         requires { 0 < self.old.1 }
         ensures takes { Takes U.means self.old.0 (msg ∷ []) self.new.0 }
@@ -129,6 +130,7 @@ impl<U: Update> Pending<U> {
     // ---- what is counted
 
     /// How many messages the list holds.
+    #[inline(always)]
     pub fn len(&self) -> usize
         ensures { result ≡ length self.now.0 }
     {
@@ -147,6 +149,7 @@ impl<U: Update> Pending<U> {
     // ---- the oldest message
 
     /// The oldest message, if there is one.
+    #[inline(always)]
     fn oldest(&self) -> Option<Eldest<'_, U>>
         ensures { option_map eldest_msg result ≡ slice_get self.now.0 0 }
     {
@@ -592,6 +595,7 @@ impl<U: Update> Pending<U> {
 }
 
 /// Lays a message over the sorted part, or puts it behind the others where it finds no place there.
+#[inline(always)]
 fn lay<U: Update>(sorted: &mut Sorted<U>, fresh: &mut Tail<U>, msg: Msg<U>)
     requires { 0 < fresh.old.1 }
     ensures takes { Takes U.means (sorted.old ++ fresh.old.0) (msg ∷ []) (sorted.new ++ fresh.new.0) }

@@ -134,6 +134,7 @@ impl<U: Update> Points<U> {
 
     /// Puts one message, which does not ask what was there, in the place of the key's messages, and answers how many they
     /// were. On want of memory it comes back.
+    #[inline(always)]
     pub(crate) fn overwrite(&mut self, key: Key, run: Run<U>) -> Result<usize, (Key, Run<U>)>
         requires { (v w : Option U.Value) → run_effect U.means run v ≡ run_effect U.means run w }
         ensures ordered { Rises self.new }
@@ -152,6 +153,7 @@ impl<U: Update> Points<U> {
 
     /// Lays an update over the key, and answers how many messages stood there and how many do now. On want of memory the
     /// update comes back.
+    #[inline(always)]
     pub(crate) fn edit(
         &mut self,
         alloc: Global,
@@ -268,6 +270,7 @@ fn take_among<U: Update>(
 }
 
 /// Puts one message in the place of the key's messages in the row in which the key stands or would, as [`Points::overwrite`] does.
+#[inline(always)]
 fn overwrite_among<U: Update>(
     rows: &mut Vec<Row<Run<U>>>,
     n: usize,
@@ -290,6 +293,7 @@ fn overwrite_among<U: Update>(
 }
 
 /// Lays an update over the key in the row in which it stands or would, as [`Points::edit`] does.
+#[inline(always)]
 fn edit_among<U: Update>(
     rows: &mut Vec<Row<Run<U>>>,
     n: usize,
@@ -417,6 +421,7 @@ fn take_over<U: Update>(
 }
 
 /// Puts one message in the place of the key's messages in a row, as [`Points::overwrite`] does.
+#[inline(always)]
 fn overwrite_in<U: Update>(
     row: &mut Row<Run<U>>,
     key: Key,
@@ -438,6 +443,7 @@ fn overwrite_in<U: Update>(
 }
 
 /// Lays an update over the key of a row, as [`Points::edit`] does.
+#[inline(always)]
 fn edit_in<U: Update>(
     row: &mut Row<Run<U>>,
     alloc: Global,
@@ -453,6 +459,7 @@ fn edit_in<U: Update>(
 }
 
 /// Puts an update at a key that has no messages.
+#[inline(always)]
 fn put_edit<U: Update>(
     row: &mut Row<Run<U>>,
     i: usize,

@@ -58,6 +58,7 @@ impl Ranges {
     }
 
     /// How many ranges there are.
+    #[inline(always)]
     pub(crate) fn len(&self) -> usize
         ensures len { result ≡ length self.now }
     {

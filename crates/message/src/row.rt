@@ -60,6 +60,7 @@ impl<T: Drop> Item<T> {
     }
 
     /// The key of the entry.
+    #[inline(always)]
     pub(crate) fn key(&self) -> &Key
         ensures { result.now ≡ self.now.0 }
     {
@@ -67,6 +68,7 @@ impl<T: Drop> Item<T> {
     }
 
     /// The value of the entry.
+    #[inline(always)]
     pub(crate) fn value(&self) -> &T
         ensures { result.now ≡ self.now.1 }
     {
@@ -85,6 +87,7 @@ impl<T: Drop> Item<T> {
     }
 
     /// The head of the key.
+    #[inline(always)]
     fn head(&self) -> u64
         ensures { IsHeaded result self.now.0 }
     {
@@ -92,6 +95,7 @@ impl<T: Drop> Item<T> {
     }
 
     /// Whether the entry stands before the key. Heads that differ say it alone.
+    #[inline(always)]
     fn is_before(&self, key: &Key) -> bool
         ensures { result ≡ is_gt (by_bytes key.now self.now.0) }
     {
@@ -103,6 +107,7 @@ impl<T: Drop> Item<T> {
     }
 
     /// Whether the entry has the key.
+    #[inline(always)]
     fn is_at(&self, key: &Key) -> bool
         ensures { result ≡ same key.now self.now.0 }
     {
@@ -134,6 +139,7 @@ impl<T: Drop> Row<T> {
     }
 
     /// How many entries there are.
+    #[inline(always)]
     pub(crate) fn len(&self) -> usize
         ensures len { result ≡ length self.now }
         ensures small { result < 2 ^ 63 }
@@ -142,6 +148,7 @@ impl<T: Drop> Row<T> {
     }
 
     /// The entries, in the order of their keys.
+    #[inline(always)]
     pub(crate) fn entries(&self) -> &[Item<T>]
         ensures entries { result.now ≡ self.now }
         ensures len { length result.now ≡ length self.now }
@@ -160,6 +167,7 @@ impl<T: Drop> Row<T> {
     }
 
     /// Whether the first entry has the key or stands before it. Heads that differ say it alone.
+    #[inline(always)]
     pub(crate) fn begins_by(&self, key: &Key) -> bool
         ensures { result ≡ begins_by key.now self.now }
     {
@@ -184,6 +192,7 @@ impl<T: Drop> Row<T> {
     }
 
     /// The entry with this number, if there is one.
+    #[inline(always)]
     pub(crate) fn entry(&self, i: usize) -> Option<(&Key, &T)>
         ensures { option_map (λ p. (p.0.now, p.1.now)) result ≡ slice_get self.now i }
     {
@@ -375,6 +384,7 @@ impl<T: Drop> Row<T> {
 }
 
 /// The head of the first entry's key; 0 where there is none.
+#[inline(always)]
 fn first_head<T: Drop>(items: &[Item<T>]) -> u64
     ensures { BeginsHeaded result items.now }
 {

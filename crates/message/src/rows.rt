@@ -54,6 +54,7 @@ pub(crate) fn end_row<T: Drop>(rows: &[Row<T>], end: Option<&Key>) -> usize
 }
 
 /// The first entry of all.
+#[inline(always)]
 pub(crate) fn first_in<T: Drop>(rows: &[Row<T>]) -> Option<(&Key, &T)>
     requires { AreRows rows.now }
     ensures { option_map (λ p. (p.0.now, p.1.now)) result ≡ slice_get (joined rows.now) 0 }

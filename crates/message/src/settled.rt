@@ -68,6 +68,7 @@ impl<U: Update> Settled<U> {
     }
 
     /// How many messages the list holds.
+    #[inline(always)]
     pub(crate) fn len(&self) -> usize
         ensures len { result ≡ length self.now }
         ensures small { result ≤ 2 ^ 62 }
@@ -84,6 +85,7 @@ impl<U: Update> Settled<U> {
     }
 
     /// The oldest message, if there is one.
+    #[inline(always)]
     pub(crate) fn oldest(&self) -> Option<Eldest<'_, U>>
         ensures { option_map eldest_msg result ≡ slice_get self.now 0 }
     {
@@ -97,6 +99,7 @@ impl<U: Update> Settled<U> {
     }
 
     /// Lays a message that gives the key a value.
+    #[inline(always)]
     fn put(&mut self, key: Key, value: U::Value) -> Result<(), Msg<U>>
         requires { length self.old < 2 ^ 62 }
         ensures takes { OnOk result (Takes U.means self.old (msg.Put key value ∷ []) self.new) }
@@ -116,6 +119,7 @@ impl<U: Update> Settled<U> {
     }
 
     /// Lays a message that takes the key's value away.
+    #[inline(always)]
     fn del(&mut self, key: Key) -> Result<(), Msg<U>>
         requires { length self.old < 2 ^ 62 }
         ensures takes { OnOk result (Takes U.means self.old (msg.Del key ∷ []) self.new) }
@@ -132,6 +136,7 @@ impl<U: Update> Settled<U> {
     }
 
     /// Lays an update over the key's value.
+    #[inline(always)]
     fn edit(&mut self, alloc: Global, key: Key, update: U) -> Result<(), Msg<U>>
         requires { length self.old < 2 ^ 62 }
         ensures takes { OnOk result (Takes U.means self.old (msg.Edit key update ∷ []) self.new) }
@@ -167,6 +172,7 @@ impl<U: Update> Settled<U> {
 
     /// Adds a message, newer than all others. It comes back where memory is refused, or where the list holds [`MOST`]
     /// messages; the list then is as it was.
+    #[inline(always)]
     pub(crate) fn push(&mut self, alloc: Global, msg: Msg<U>) -> Result<(), Msg<U>>
         ensures takes { OnOk result (Takes U.means self.old (msg ∷ []) self.new) }
         ensures unchanged { OnErr result (self.new ≡ self.old) }

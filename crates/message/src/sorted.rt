@@ -57,6 +57,7 @@ impl<U: Update> Sorted<U> {
     }
 
     /// How many messages the list holds.
+    #[inline(always)]
     pub(crate) fn len(&self) -> usize
         ensures len { result ≡ length self.now }
         ensures small { result ≤ 2 ^ 62 }
@@ -79,6 +80,7 @@ impl<U: Update> Sorted<U> {
     }
 
     /// The oldest message, if there is one.
+    #[inline(always)]
     pub(crate) fn oldest(&self) -> Option<Eldest<'_, U>>
         ensures { option_map eldest_msg result ≡ slice_get self.now 0 }
     {
@@ -90,6 +92,7 @@ impl<U: Update> Sorted<U> {
 
     /// Adds a message, newer than all others. It comes back where memory is refused, or where the list holds [`MOST`]
     /// messages; the list then is as it was.
+    #[inline(always)]
     pub(crate) fn push(&mut self, alloc: Global, msg: Msg<U>) -> Result<(), Msg<U>>
         ensures takes { OnOk result (Takes U.means self.old (msg ∷ []) self.new) }
         ensures unchanged { OnErr result (self.new ≡ self.old) }

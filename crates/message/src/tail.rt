@@ -56,6 +56,7 @@ impl<U: Update> Tail<U> {
     }
 
     /// How many messages it holds.
+    #[inline(always)]
     pub(crate) fn len(&self) -> usize
         ensures len { result ≡ length self.now.0 }
         ensures small { result < 2 ^ 63 }

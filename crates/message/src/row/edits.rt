@@ -14,6 +14,7 @@ use std::sync::Arc;
 impl<U: Update> Row<Run<U>> {
     /// Lays an update over the run with this number, whose key it has, and answers how many messages stood there and how many
     /// do now. On want of memory the update comes back.
+    #[inline(always)]
     pub(crate) fn edit(
         &mut self,
         i: usize,
@@ -31,6 +32,7 @@ impl<U: Update> Row<Run<U>> {
 
 impl<U: Update> Item<Run<U>> {
     /// Lays an update over the run, as [`Row::edit`] does. An entry that is shared is copied first.
+    #[inline(always)]
     fn edit(&mut self, alloc: Global, key: Key, update: U) -> Result<(usize, usize), (Key, U)>
         ensures key { self.new.0 ≡ self.old.0 }
         ensures meaning { OnOk result ((o : Option U.Value) → run_effect U.means self.new.1 o ≡ U.means update (run_effect U.means self.old.1 o)) }
@@ -50,6 +52,7 @@ impl<U: Update> Item<Run<U>> {
     }
 
     /// Takes a copy in the place of an entry that is shared.
+    #[inline(always)]
     fn part(&mut self, alloc: Global) -> Result<(), NoMemory>
         ensures key { self.new.0 ≡ self.old.0 }
         ensures effect { (o : Option U.Value) → run_effect U.means self.new.1 o ≡ run_effect U.means self.old.1 o }
@@ -86,6 +89,7 @@ impl<U: Update> Item<Run<U>> {
 }
 
 /// Lays an update over a run, as [`Row::edit`] does.
+#[inline(always)]
 fn edit_run<U: Update>(
     run: &mut Run<U>,
     alloc: Global,
