@@ -89,9 +89,7 @@ pub fn append(
     limit: usize,
 ) -> Result<(), NoMemory> {
     for i in 0..numbers.count {
-        let mut one = Vec::with_capacity(alloc, 1)?;
-        one.push(what.msg(numbers.key(alloc, i)?, i))?;
-        tree.append(alloc, one)?;
+        tree.append_one(alloc, what.msg(numbers.key(alloc, i)?, i))?;
         relieve_above(alloc, tree, limit)?;
     }
     Ok(())
