@@ -3,6 +3,7 @@ use Rattle.std.proofs.Common.{◌≡◌, ℕ, zero, suc, ◌+◌, ◌++◌, ◌<
 use Rattle.std.specs.Prelude.{IfOk, OnOk, OnErr, Result, Ok, Err}
 use Rattle.std.proofs.Math.ListN.{set}
 use Rattle.std.proofs.lemmas.List.{append_assoc}
+use Rattle.std.proofs.lemmas.Result.{on_ok_weaker}
 use Rattle.message.specs.declared.msg.Msg.{Msg}
 use Rattle.message.specs.Effects.{Takes}
 use Rattle.message.specs.Cuts.{pieces}
@@ -18,7 +19,6 @@ use Rattle.node.specs.Searchable.{HasRoomAt, IsRoot}
 use Rattle.node.specs.See.{see_slot, seen_slots}
 use Rattle.node.proofs.Appending.{next_lo-taken}
 use Rattle.message.proofs.Parting.{pieces-append}
-use Rattle.node.proofs.Roots.{on_ok}
 use Rattle.node.proofs.Wholes.{see-pending, room-get, kept-at, kept-none, taken-at, taken-none}
 
 -- ---- one slot gets another list
@@ -165,8 +165,7 @@ module _ {U V : Type 0} where
 module _ {U V : Type 0} {T X : Type 0} (r : Result T X) (m : Msg U V) (xs : List (Slot U V)) (i : ℕ) (d : Slot U V) (p : List (Msg U V) × ℕ) where
   pub one_appended : (means : U → Option V → Option V) → IsHome i m (seen_slots xs) → i < length xs → OnOk r (Takes means (get_or xs i d).pending.0 (m ∷ []) p.0) → OnOk r (HaveTaken means (seen_slots xs) (parts None (m ∷ []) (seen_slots xs)) (seen_slots (relisted xs i d p)))
   one_appended means h b ok =
-      let after = HaveTaken means (seen_slots xs) (parts None (m ∷ []) (seen_slots xs)) (seen_slots (relisted xs i d p)) in
-      on_ok r (Takes means (get_or xs i d).pending.0 (m ∷ []) p.0) after ok (λ t. subst (λ z. HaveTaken means (seen_slots xs) z (seen_slots (relisted xs i d p))) h (taken-at means (m ∷ []) xs i d p b t))
+      on_ok_weaker r (λ (t : Takes means (get_or xs i d).pending.0 (m ∷ []) p.0). subst (λ z. HaveTaken means (seen_slots xs) z (seen_slots (relisted xs i d p))) h (taken-at means (m ∷ []) xs i d p b t)) ok
 
 module _ {U V : Type 0} {T X : Type 0} where
   pub one_refused : (r : Result T X) (xs : List (Slot U V)) (i : ℕ) (d : Slot U V) (p : List (Msg U V) × ℕ) → OnErr r (p.0 ≡ (get_or xs i d).pending.0) → OnErr r (map see_slot (relisted xs i d p) ≡ map see_slot xs)

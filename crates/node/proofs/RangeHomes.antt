@@ -2,7 +2,7 @@
 use Rattle.std.proofs.Common.{◌≡◌, ℕ, ◌+◌, ◌++◌, Bool, true, false, List, [], ◌∷◌, refl, ap, sym, ◌∙◌, subst, Option, Some, None, cond, add-one}
 use Rattle.std.specs.Prelude.{◌&&◌}
 use Rattle.std.specs.Option.{option_to_list}
-use Rattle.std.proofs.lemmas.Bool.{false_from_ne_true}
+use Rattle.std.proofs.lemmas.Bool.{and_right, false_from_ne_true}
 use Rattle.pathkey.specs.Keys.{is_below}
 use Rattle.pathkey.specs.declared.range.KeyRange.{KeyRange}
 use Rattle.message.specs.declared.msg.Msg.{Msg}
@@ -20,7 +20,6 @@ use Rattle.node.specs.Pure.{PNode, PSlots, inner, none, more}
 use Rattle.node.specs.Searchable.{AreRising, IsRoot}
 use Rattle.node.specs.See.{seen_slots}
 use Rattle.node.specs.Site.{end_of}
-use Rattle.node.proofs.Placing.{and_false}
 use Rattle.node.proofs.Wholes.{root_holds}
 
 -- ---- ends and beginnings
@@ -59,7 +58,7 @@ module _ {U V : Type 0} where
       let l = later_key lo r.lo in
       let e = earlier_end (Some p) r.hi in
       let late : before l p ≡ false = not_before_from_reaches p l (le_le p r.lo l h (from_second lo r.lo)) in
-      no_keys lo (Some p) r (ap (λ c. c && is_below l e) (sym (reaches-refl l)) ∙ cut_within lo r.lo (Some p) r.hi l (and_false (reaches lo l) (before l p) late))
+      no_keys lo (Some p) r (ap (λ c. c && is_below l e) (sym (reaches-refl l)) ∙ cut_within lo r.lo (Some p) r.hi l (and_right (reaches lo l) (before l p) late))
 
   -- a slot that begins where the range ends, or behind
   behind_range : (lo : List ℕ) (hi : Option (List ℕ)) (r : KeyRange) → before r.lo lo ≡ true → is_below lo r.hi ≡ false → cut_to {U = U} {V = V} lo hi (DelRange r) ≡ None
