@@ -5,14 +5,15 @@ use Rattle.std.proofs.lemmas.Bool.{cases_lt}
 use Rattle.std.specs.Io.KnownBytes.{Appends}
 use Rattle.std.proofs.KnownBytes.{Appends-trans}
 use Rattle.std.specs.Prelude.{◌==◌, Any, codes, decimal}
-use Rattle.images.specs.Image.{behind, listed_blocks}
 use Rattle.lines.proofs.Known.{part_after, part_before}
 use Rattle.lines.specs.Parts.{AppendsPart}
 use Rattle.lines.specs.Texts.{hex_text}
 use Rattle.reference.specs.Image.{block_line, block_lines, trimmed}
 use Rattle.reference.specs.Indexes.{most_blocks}
 use Rattle.reference.proofs.ImageBytes.{keep, trimmed_is}
-use Rattle.volume.specs.Walks.{AreBlocks, IsBlock, block_bytes}
+use Rattle.reference.specs.Tree.{File, At, Found}
+use Rattle.std.specs.Option.{option_to_list}
+use Rattle.volume.specs.Walks.{AreBlocks, AreBlocksAt, IsBlock, block_bytes}
 use Rattle.volume.proofs.Walks.{past_bytes}
 
 -- ---- trailing zeros
@@ -139,22 +140,11 @@ begins b i = ⊎_elim
 
 -- ---- a walk from block to block
 
--- the number behind that of the last block
-pub behind_last : (i : ℕ) (xs : List (ℕ × List ℕ)) (x : ℕ × List ℕ) → 0 < length xs → x ≡ get_or xs (length xs - 1) x → behind i xs ≡ x.0 + 1
-behind_last i [] x some is = absurd (omega (arith, some))
-behind_last i (y ∷ []) x some is = sym (ap (λ (z : ℕ × List ℕ). z.0 + 1) is)
-behind_last i (y ∷ z ∷ zs) x some is =
-    let e : length (y ∷ z ∷ zs) - 1 ≡ suc (length (z ∷ zs) - 1) = omega arith in
-    behind_last (y.0 + 1) (z ∷ zs) x (omega arith) (is ∙ ap (λ (k : ℕ). get_or (y ∷ z ∷ zs) k x) e)
+module _ (b : List ℕ) (i : ℕ) (x : ℕ × List ℕ) (are : AreBlocks b i 1 (x ∷ [])) where
+  next : (i ≤ x.0) × (x.0 < most_blocks) × IsBlock b x.0 x.1
+  next = are.sound 0 x (omega arith)
 
-module _ (b : List ℕ) (i n : ℕ) (x : ℕ × List ℕ) (xs : List (ℕ × List ℕ)) (are : AreBlocks b i n (x ∷ xs)) where
-  first : (i ≤ x.0) × (x.0 < most_blocks) × IsBlock b x.0 x.1
-  first = are.sound 0 x (omega arith)
-
-  later : (k : ℕ) (d : ℕ × List ℕ) → k < length xs → x.0 < (get_or xs k d).0
-  later k d l = are.rising 0 (suc k) d (omega arith) (omega (arith, l))
-
-  -- a block before the first has only zeros
+  -- a block before the next has only zeros
   skipped : (j : ℕ) → i ≤ j → j < x.0 → Blank b j
   skipped j g f = elim (are.complete j g) [
     | inl a ↦ absurd (listed a)
@@ -164,54 +154,20 @@ module _ (b : List ℕ) (i n : ℕ) (x : ℕ × List ℕ) (xs : List (ℕ × Lis
     ]
   ]
     where
-      listed : Any (λ y. y.0 ≡ j) (x ∷ xs) → ⊥
+      listed : Any (λ y. y.0 ≡ j) (x ∷ []) → ⊥
       listed (zero, y, l, e, is) = let s : x.0 ≡ y.0 = ap (λ (z : ℕ × List ℕ). z.0) e in let r : y.0 ≡ j = is in omega arith
-      listed (suc k, y, l, e, is) =
-          let s : (get_or xs k y).0 ≡ y.0 = ap (λ (z : ℕ × List ℕ). z.0) e in
-          let r : y.0 ≡ j = is in
-          let t : x.0 < (get_or xs k y).0 = later k y (omega (arith, l)) in
-          omega arith
+      listed (suc k, y, l, e, is) = omega (arith, l)
 
-  first_line : block_lines b (x.0 + 1) ≡ block_lines b i ++ block_line x.0 (trimmed x.1)
-  first_line =
+  -- so its line follows those before it
+  next_line : block_lines b (x.0 + 1) ≡ block_lines b i ++ block_line x.0 (trimmed x.1)
+  next_line =
       ap (block_lines b) (add-one x.0)
-      ∙ ap (λ (l : List ℕ). l ++ block_line x.0 (trimmed (block_bytes b x.0))) (none_between b i x.0 first.0 skipped)
-      ∙ ap (λ (l : List ℕ). block_lines b i ++ block_line x.0 l) (block_trimmed b x.0 x.1 first.2)
+      ∙ ap (λ (l : List ℕ). l ++ block_line x.0 (trimmed (block_bytes b x.0))) (none_between b i x.0 next.0 skipped)
+      ∙ ap (λ (l : List ℕ). block_lines b i ++ block_line x.0 l) (block_trimmed b x.0 x.1 next.2)
 
-  -- those behind the first are a walk from the next number on
-  others : AreBlocks b (x.0 + 1) (n - 1) xs
-  others = record {
-    few = omega (arith, are.few);
-    sound = λ k d l.
-        let h = are.sound (suc k) d (omega (arith, l)) in
-        let s : x.0 < (get_or xs k d).0 = later k d l in
-        (omega arith, h.1, h.2);
-    rising = λ k j d a l. are.rising (suc k) (suc j) d (omega (arith, a)) (omega (arith, l));
-    complete = λ j g. let at : i ≤ x.0 = first.0 in elim (are.complete j (omega arith)) [
-      | inl a ↦ inl (listed j g a)
-      | inr c ↦ elim c [
-        | inl z ↦ inr (inl z)
-        | inr m ↦ inr (inr (omega (arith, m.0), λ k d l. m.1 (suc k) d (omega (arith, l))))
-      ]
-    ];
-  }
-    where
-      listed : (j : ℕ) → x.0 + 1 ≤ j → Any (λ y. y.0 ≡ j) (x ∷ xs) → Any (λ y. y.0 ≡ j) xs
-      listed j g (zero, y, l, e, is) = absurd (let s : x.0 ≡ y.0 = ap (λ (z : ℕ × List ℕ). z.0) e in let r : y.0 ≡ j = is in omega arith)
-      listed j g (suc k, y, l, e, is) = (k, y, omega (arith, l), e, is)
-
--- the lines of the blocks that were listed follow those before them
-pub lines_so_far : (b : List ℕ) (i n : ℕ) (bs : List (ℕ × List ℕ)) → AreBlocks b i n bs → block_lines b (behind i bs) ≡ block_lines b i ++ listed_blocks bs
-lines_so_far b i n [] are = sym (append-nil (block_lines b i))
-lines_so_far b i n (x ∷ xs) are =
-    lines_so_far b (x.0 + 1) (n - 1) xs (others b i n x xs are)
-    ∙ ap (λ (l : List ℕ). l ++ listed_blocks xs) (first_line b i n x xs are)
-    ∙ append_assoc (block_lines b i) (block_line x.0 (trimmed x.1)) (listed_blocks xs)
-
--- where fewer were listed than were asked for, all lines are written
-pub all_lines : (b : List ℕ) (i n : ℕ) (bs : List (ℕ × List ℕ)) → AreBlocks b i n bs → length bs < n → block_lines b (behind i bs) ≡ block_lines b (count b)
-all_lines b i n (x ∷ xs) are few = all_lines b (x.0 + 1) (n - 1) xs (others b i n x xs are) (omega (arith, few))
-all_lines b i n [] are few = ⊎_elim
+-- where there is no next, all lines are written
+no_next : (b : List ℕ) (i : ℕ) → AreBlocks b i 1 [] → block_lines b i ≡ block_lines b (count b)
+no_next b i are = ⊎_elim
     (λ (h : i < count b). sym (none_between b i (count b) (omega arith) (λ j g f. blank j g)))
     (λ (h : count b ≤ i). none_between b (count b) i h (λ j g f. behind_all b j g))
     (cases_lt i (count b))
@@ -221,7 +177,7 @@ all_lines b i n [] are few = ⊎_elim
       | inl a ↦ absurd (let l = a.2 in omega (arith, l))
       | inr c ↦ elim c [
         | inl z ↦ block_trimmed b j [] z
-        | inr m ↦ absurd (omega (arith, m.0, few))
+        | inr m ↦ absurd (omega (arith, m.0))
       ]
     ]
 
@@ -231,18 +187,23 @@ all_lines b i n [] are few = ⊎_elim
 pub lines_part : (a c : Option (List ℕ)) (b : List ℕ) (i : ℕ) → Appends a c (block_lines b i) → AppendsPart a c (block_lines b (count b))
 lines_part a c b i w = (block_lines b i, (begins b i).0, (begins b i).1, w)
 
-module _ (a m c : Option (List ℕ)) (b : List ℕ) (i n : ℕ) (bs : List (ℕ × List ℕ)) (are : AreBlocks b i n bs) (so_far : Appends a m (block_lines b i)) where
-  -- the lines of the blocks that come next
-  pub piece_more : Appends m c (listed_blocks bs) → Appends a c (block_lines b (behind i bs))
-  piece_more w = subst (Appends a c) (sym (lines_so_far b i n bs are)) (Appends-trans a m c (block_lines b i) (listed_blocks bs) so_far w)
+-- what a walk gave is what comes next in the file
+pub of_file : (at : At) (date : ℕ) (b : List ℕ) (i : ℕ) (r : Option (ℕ × List ℕ)) (bs : List (ℕ × List ℕ)) → at ≡ Found (File date b) → option_to_list r ≡ bs → AreBlocksAt at i 1 (option_to_list r) → AreBlocks b i 1 bs
+of_file at date b i r bs there e are = subst (AreBlocks b i 1) e (subst (λ (x : At). AreBlocksAt x i 1 (option_to_list r)) there are)
 
-  -- which are the last where the piece is short
-  pub piece_all : length bs < n → Appends m c (listed_blocks bs) → Appends a c (block_lines b (count b))
-  piece_all few w = subst (Appends a c) (all_lines b i n bs are few) (piece_more w)
+-- there is no next block
+pub lines_end : (a c : Option (List ℕ)) (b : List ℕ) (i : ℕ) → AreBlocks b i 1 [] → Appends a c (block_lines b i) → Appends a c (block_lines b (count b))
+lines_end a c b i are w = subst (Appends a c) (no_next b i are) w
 
-  -- a part of them
-  pub piece_part : AppendsPart m c (listed_blocks bs) → AppendsPart a c (block_lines b (count b))
-  piece_part part =
-      let rest : List ℕ = (begins b (behind i bs)).0 in
-      let whole : block_lines b (count b) ≡ (block_lines b i ++ listed_blocks bs) ++ rest = (begins b (behind i bs)).1 ∙ ap (λ (l : List ℕ). l ++ rest) (lines_so_far b i n bs are) in
-      subst (AppendsPart a c) (sym whole) (part_before a c _ rest (part_after a m c (block_lines b i) (listed_blocks bs) so_far part))
+module _ (a m c : Option (List ℕ)) (b : List ℕ) (i : ℕ) (x : ℕ × List ℕ) (are : AreBlocks b i 1 (x ∷ [])) (so_far : Appends a m (block_lines b i)) where
+  -- the line of the next block
+  pub lines_more : Appends m c (block_line x.0 (trimmed x.1)) → Appends a c (block_lines b (x.0 + 1))
+  lines_more w = subst (Appends a c) (sym (next_line b i x are)) (Appends-trans a m c (block_lines b i) (block_line x.0 (trimmed x.1)) so_far w)
+
+  -- a part of it
+  pub lines_more_part : AppendsPart m c (block_line x.0 (trimmed x.1)) → AppendsPart a c (block_lines b (count b))
+  lines_more_part part =
+      let rest : List ℕ = (begins b (x.0 + 1)).0 in
+      let line : List ℕ = block_line x.0 (trimmed x.1) in
+      let whole : block_lines b (count b) ≡ (block_lines b i ++ line) ++ rest = (begins b (x.0 + 1)).1 ∙ ap (λ (l : List ℕ). l ++ rest) (next_line b i x are) in
+      subst (AppendsPart a c) (sym whole) (part_before a c (block_lines b i ++ line) rest (part_after a m c (block_lines b i) line so_far part))

@@ -1,6 +1,6 @@
 -- The lines of the entries of an image.
 use Rattle.std.specs.Prelude.{ℕ, List, [], ◌∷◌, ◌+◌, ◌/◌, ◌++◌, length, decimal, flat_map}
-use Rattle.reference.specs.Image.{Text, Version, First, Second, directory_letter, file_letter, moment_text, block_line, block_lines, path_text, trimmed}
+use Rattle.reference.specs.Image.{Text, Version, First, Second, directory_letter, file_letter, moment_text, block_lines, path_text}
 use Rattle.reference.specs.Tree.{Path, Tree, Dir, File, At, Found, entry_at}
 use Rattle.reference.specs.declared.reply.Meta.{Meta}
 use Rattle.images.specs.declared.version.ImageVersion.{ImageVersion}
@@ -36,12 +36,3 @@ listed_lines t es = flat_map (λ e. lines_there e.0 (entry_at t e.0)) es
 abbrev pub last_of : Path → List (Path × Meta) → Path
 last_of p [] = p
 last_of p (e ∷ es) = last_of e.0 es
-
--- the number behind that of the last of the blocks; i where there is none
-abbrev pub behind : ℕ → List (ℕ × List ℕ) → ℕ
-behind i [] = i
-behind i (x ∷ xs) = behind (x.0 + 1) xs
-
--- the lines of blocks, one after the other
-abbrev pub listed_blocks : List (ℕ × List ℕ) → Text
-listed_blocks bs = flat_map (λ x. block_line x.0 (trimmed x.1)) bs

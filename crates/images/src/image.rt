@@ -3,9 +3,8 @@
 ghost use Rattle.std.specs.Prelude.{◌≡◌, ◌<◌, ◌≤◌, ◌++◌, ◌∷◌, ◌+◌, ◌/◌, [], ℕ, List, All, codes, decimal, drop, flat_map, length, take, OnOk, OnErr};
 ghost use Rattle.std.specs.Io.KnownBytes.{Appends};
 ghost use Rattle.reference.specs.Image.{Second, block_line, block_lines, image, moment_text, path_text, percent, trimmed};
-ghost use Rattle.reference.specs.Indexes.{most_blocks};
 ghost use Rattle.reference.specs.Tree.{File, Found, Tree, entry_at};
-ghost use Rattle.images.specs.Image.{behind, directory_text, file_text, last_of, lines_there, listed_blocks, listed_lines, version_of};
+ghost use Rattle.images.specs.Image.{directory_text, file_text, last_of, lines_there, listed_lines, version_of};
 ghost use Rattle.lines.specs.Parts.{AppendsPart};
 ghost use Rattle.volume.specs.Volumes.{MeanRooted};
 ghost use Rattle.volume.specs.Walks.{IsEntry};
@@ -18,7 +17,7 @@ use reference::Meta;
 use std::alloc::Global;
 use std::io::Write;
 use thiserror::Error;
-use volume::{Block, Frozen};
+use volume::{BlockWalk, Frozen};
 
 /// Why an image was not printed to its end.
 #[derive(Debug, Drop, PartialEq, Eq, Error)]
@@ -43,7 +42,7 @@ impl From<WriteFailed> for ImageFault {
     }
 }
 
-/// How many entries, or blocks, the first piece of a walk may have.
+/// How many entries the first piece of a walk may have.
 const FIRST: usize = 8;
 
 /// How many a piece may have at most.
@@ -51,7 +50,7 @@ const MOST: usize = 256;
 
 /// Prints the image of a tree that stands still, in version 2; where it fails, what was printed is a beginning of it.
 ///
-/// It walks through the entries, and in each file through the blocks, piece by piece. It holds a piece of each.
+/// It walks through the entries, and beside them through the blocks, piece by piece. It holds a piece of each.
 pub fn print_image<W: Write>(
     alloc: Global,
     frozen: &Frozen,
@@ -79,12 +78,13 @@ fn print_all<W: Write>(
     ensures err { (t : Tree) → MeanRooted frozen.now t → OnErr result (AppendsPart (W.contents writer.old) (W.contents writer.new) (image Second t)) }
 {
     put_number_line(writer, b"D / ", frozen.modified())?;
+    let mut blocks = BlockWalk::new(alloc, frozen);
     let mut most = FIRST;
     // No tree has more entries.
     for _ in 0..u64::MAX {
         let piece = frozen.entries(alloc, last, most)?;
         let count = piece.len();
-        print_piece(alloc, frozen, piece, last, writer)?;
+        print_piece(alloc, &mut blocks, piece, last, writer)?;
         if count < most {
             return Ok(());
         }
@@ -104,16 +104,17 @@ fn grown(most: usize) -> usize
 /// Writes the lines of a piece but for those of its first entry, or a beginning of them. The path is then that of its last.
 fn print_piece<W: Write>(
     alloc: Global,
-    frozen: &Frozen,
+    blocks: &mut BlockWalk,
     mut piece: Vec<(Path, Meta)>,
     last: &mut Path,
     writer: &mut W,
 ) -> Result<(), ImageFault>
-    ensures ok { (t : Tree) → MeanRooted frozen.now t → All (λ e. IsEntry t e.0 e.1) piece.items → OnOk result (Appends (W.contents writer.old) (W.contents writer.new) (listed_lines t (drop 1 piece.items))) }
-    ensures err { (t : Tree) → MeanRooted frozen.now t → All (λ e. IsEntry t e.0 e.1) piece.items → OnErr result (AppendsPart (W.contents writer.old) (W.contents writer.new) (listed_lines t (drop 1 piece.items))) }
+    ensures ok { (t : Tree) → MeanRooted blocks.old t → All (λ e. IsEntry t e.0 e.1) piece.items → OnOk result (Appends (W.contents writer.old) (W.contents writer.new) (listed_lines t (drop 1 piece.items))) }
+    ensures err { (t : Tree) → MeanRooted blocks.old t → All (λ e. IsEntry t e.0 e.1) piece.items → OnErr result (AppendsPart (W.contents writer.old) (W.contents writer.new) (listed_lines t (drop 1 piece.items))) }
     ensures last { last.new ≡ last_of last.old piece.items }
+    ensures tree { blocks.new ≡ blocks.old }
 {
-    let told = print_entries(alloc, frozen, behind_first(piece.as_slice()), writer);
+    let told = print_entries(alloc, blocks, behind_first(piece.as_slice()), writer);
     if let Some((path, _)) = piece.pop() {
         *last = path;
     }
@@ -134,15 +135,16 @@ fn behind_first(entries: &[(Path, Meta)]) -> &[(Path, Meta)]
 /// Writes the lines of entries, or a beginning of them.
 fn print_entries<W: Write>(
     alloc: Global,
-    frozen: &Frozen,
+    blocks: &mut BlockWalk,
     entries: &[(Path, Meta)],
     writer: &mut W,
 ) -> Result<(), ImageFault>
-    ensures ok { (t : Tree) → MeanRooted frozen.now t → All (λ e. IsEntry t e.0 e.1) entries.now → OnOk result (Appends (W.contents writer.old) (W.contents writer.new) (listed_lines t entries.now)) }
-    ensures err { (t : Tree) → MeanRooted frozen.now t → All (λ e. IsEntry t e.0 e.1) entries.now → OnErr result (AppendsPart (W.contents writer.old) (W.contents writer.new) (listed_lines t entries.now)) }
+    ensures ok { (t : Tree) → MeanRooted blocks.old t → All (λ e. IsEntry t e.0 e.1) entries.now → OnOk result (Appends (W.contents writer.old) (W.contents writer.new) (listed_lines t entries.now)) }
+    ensures err { (t : Tree) → MeanRooted blocks.old t → All (λ e. IsEntry t e.0 e.1) entries.now → OnErr result (AppendsPart (W.contents writer.old) (W.contents writer.new) (listed_lines t entries.now)) }
+    ensures tree { blocks.new ≡ blocks.old }
 {
     for (path, meta) in entries {
-        print_entry(alloc, frozen, path, *meta, writer)?;
+        print_entry(alloc, blocks, path, *meta, writer)?;
     }
     Ok(())
 }
@@ -150,19 +152,20 @@ fn print_entries<W: Write>(
 /// Writes the lines of the entry at a path, or a beginning of them.
 fn print_entry<W: Write>(
     alloc: Global,
-    frozen: &Frozen,
+    blocks: &mut BlockWalk,
     path: &Path,
     meta: Meta,
     writer: &mut W,
 ) -> Result<(), ImageFault>
-    ensures ok { (t : Tree) → MeanRooted frozen.now t → IsEntry t path.now meta → OnOk result (Appends (W.contents writer.old) (W.contents writer.new) (lines_there path.now (entry_at t path.now))) }
-    ensures err { (t : Tree) → MeanRooted frozen.now t → IsEntry t path.now meta → OnErr result (AppendsPart (W.contents writer.old) (W.contents writer.new) (lines_there path.now (entry_at t path.now))) }
+    ensures ok { (t : Tree) → MeanRooted blocks.old t → IsEntry t path.now meta → OnOk result (Appends (W.contents writer.old) (W.contents writer.new) (lines_there path.now (entry_at t path.now))) }
+    ensures err { (t : Tree) → MeanRooted blocks.old t → IsEntry t path.now meta → OnErr result (AppendsPart (W.contents writer.old) (W.contents writer.new) (lines_there path.now (entry_at t path.now))) }
+    ensures tree { blocks.new ≡ blocks.old }
 {
     match meta {
         Meta::Dir { modified } => Ok(put_directory(writer, ImageVersion::Second, path, modified)?),
         Meta::File { len, modified } => {
             put_file(writer, ImageVersion::Second, path, len, modified)?;
-            print_blocks(alloc, frozen, path, writer)
+            print_blocks(alloc, blocks, path, writer)
         }
     }
 }
@@ -170,46 +173,18 @@ fn print_entry<W: Write>(
 /// Writes the lines of a file's blocks, or a beginning of them.
 fn print_blocks<W: Write>(
     alloc: Global,
-    frozen: &Frozen,
+    blocks: &mut BlockWalk,
     path: &Path,
     writer: &mut W,
 ) -> Result<(), ImageFault>
-    ensures ok { (t : Tree) (date : ℕ) (b : List ℕ) → MeanRooted frozen.now t → entry_at t path.now ≡ Found (File date b) → OnOk result (Appends (W.contents writer.old) (W.contents writer.new) (block_lines b (length b / 4096 + 1))) }
-    ensures err { (t : Tree) (date : ℕ) (b : List ℕ) → MeanRooted frozen.now t → entry_at t path.now ≡ Found (File date b) → OnErr result (AppendsPart (W.contents writer.old) (W.contents writer.new) (block_lines b (length b / 4096 + 1))) }
+    ensures ok { (t : Tree) (date : ℕ) (b : List ℕ) → MeanRooted blocks.old t → entry_at t path.now ≡ Found (File date b) → OnOk result (Appends (W.contents writer.old) (W.contents writer.new) (block_lines b (length b / 4096 + 1))) }
+    ensures err { (t : Tree) (date : ℕ) (b : List ℕ) → MeanRooted blocks.old t → entry_at t path.now ≡ Found (File date b) → OnErr result (AppendsPart (W.contents writer.old) (W.contents writer.new) (block_lines b (length b / 4096 + 1))) }
+    ensures tree { blocks.new ≡ blocks.old }
 {
     let mut from = 0;
-    let mut most = FIRST;
-    // No file has more blocks.
-    for _ in 0..u64::MAX {
-        let piece = frozen.blocks(alloc, path, from, most)?;
-        put_blocks(writer, piece.as_slice())?;
-        if piece.len() < most {
-            return Ok(());
-        }
-        from = number_behind(piece.as_slice(), from);
-        most = grown(most);
-    }
-    Err(ImageFault::Memory)
-}
-
-/// The number behind that of the last block; `from` where there is none.
-fn number_behind(blocks: &[(u32, Block)], from: u32) -> u32
-    requires { All (λ x. x.0 < most_blocks) blocks.now }
-    ensures { result ≡ behind from blocks.now }
-{
-    match blocks.last() {
-        Some((number, _)) => *number + 1,
-        None => from,
-    }
-}
-
-/// Writes the lines of blocks, or a beginning of them.
-fn put_blocks<W: Write>(writer: &mut W, blocks: &[(u32, Block)]) -> Result<(), WriteFailed>
-    ensures ok { OnOk result (Appends (W.contents writer.old) (W.contents writer.new) (listed_blocks blocks.now)) }
-    ensures err { OnErr result (AppendsPart (W.contents writer.old) (W.contents writer.new) (listed_blocks blocks.now)) }
-{
-    for (number, block) in blocks {
-        put_block(writer, *number, block.as_slice())?;
+    'file: while let Some((number, block)) = blocks.next(alloc, path, from)? {
+        put_block(writer, number, block.as_slice())?;
+        from = number + 1;
     }
     Ok(())
 }

@@ -45,7 +45,7 @@ pub fn read_image_line(
     let Some(line) = guess_line(alloc, version, text)? else {
         return Ok(None);
     };
-    let written = write_line(alloc, version, &line)?;
+    let written = write_line(alloc, version, &line, text.len())?;
     if written.as_slice() == text {
         drop(written);
         Ok(Some(line))
@@ -56,12 +56,17 @@ pub fn read_image_line(
     }
 }
 
-/// The one spelling of a line in a version, without its line feed.
-fn write_line(alloc: Global, version: ImageVersion, line: &ImageLine) -> Result<Vec<u8>, NoMemory>
+/// The one spelling of a line in a version, without its line feed. There is room from the start for one of so many bytes.
+fn write_line(
+    alloc: Global,
+    version: ImageVersion,
+    line: &ImageLine,
+    bytes: usize,
+) -> Result<Vec<u8>, NoMemory>
     requires { IsLine (version_of version) (line_of line.now) }
     ensures { IfOk result (λ text. text.items ≡ spelled (version_of version) (line_of line.now)) }
 {
-    let mut text = Vec::new(alloc);
+    let mut text = Vec::with_capacity(alloc, bytes.saturating_add(1))?;
     match put_line(&mut text, version, line) {
         Ok(()) => {
             text.pop();

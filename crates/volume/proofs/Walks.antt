@@ -194,7 +194,7 @@ module _ (t : Tree) (d : Blocks) (means : BlocksMean t d) (p : Path) (is_path : 
     pub bytes : List ℕ
     pub file : look t p ≡ Some (Bytes bytes)
 
-  found_block : (k : ℕ) (q : Key × List ℕ) → k < length ps → FoundBlock (get_or ps k q).0
+  pub found_block : (k : ℕ) (q : Key × List ℕ) → k < length ps → FoundBlock (get_or ps k q).0
   found_block k q l =
       let pair = found.sound k q l in
       let of : BlockOf t (get_or ps k q).0 = means.only_blocks (get_or ps k q).0 (get_or ps k q).1 pair.1 in

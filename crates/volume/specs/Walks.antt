@@ -1,5 +1,5 @@
 -- What a walk through a tree lists: its entries in key order, and the blocks of a file.
-use Rattle.std.specs.Prelude.{◌≡◌, ℕ, ◌*◌, ◌<◌, ◌≤◌, ◌⊎◌, true, List, [], ◌++◌, Some, length, take, drop, replicate, map, All, AllPairs, Any, Contains}
+use Rattle.std.specs.Prelude.{◌≡◌, ◌≢◌, ℕ, ◌*◌, ◌^◌, ◌<◌, ◌≤◌, ◌⊎◌, true, List, [], ◌∷◌, ◌++◌, Option, Some, None, length, take, drop, replicate, map, All, AllPairs, Any, Contains}
 use Rattle.message.specs.Ranges.{before, reaches}
 use Rattle.pathkey.specs.Keys.{Key, block_key, enc}
 use Rattle.pathkey.specs.Names.{IsPath}
@@ -62,3 +62,9 @@ pub record AreNumbered (p : Path) (ps : List (Key × List ℕ)) (bs : List (ℕ 
 -- the same, whatever path the keys are of
 pub record ReadsNumbers (ps : List (Key × List ℕ)) (bs : List (ℕ × List ℕ)) : Type 0 where
   pub of_path : (p : Path) → All (λ q. IsOfBlock p q.0) ps → AreNumbered p ps bs
+
+-- a pair and a block: the block is the pair's, with the number that its key tells, if that is the path's with a byte 0 behind it
+abbrev pub IsOwn : Path → Option (Key × List ℕ) → Option (ℕ × List ℕ) → Type 0
+IsOwn p None x = x ≡ None
+IsOwn p (Some q) None = (z : Key) → q.0 ≢ enc p ++ 0 ∷ z
+IsOwn p (Some q) (Some x) = ((z : Key) × (q.0 ≡ enc p ++ 0 ∷ z)) × ((r : Path) (i : ℕ) → i < 2 ^ 32 → q.0 ≡ block_key r i → x.0 ≡ i) × (x.1 ≡ q.1)

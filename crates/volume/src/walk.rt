@@ -1,19 +1,22 @@
-//! A walk through a tree that stands still: its entries, or the blocks of a file, so many at a time.
+//! A walk through a tree that stands still: its entries, or the blocks of a file, so many at a time, or the blocks of file after file.
 //!
 //! What is asked for at once is one walk of an index from its root, and no search for each entry.
-ghost use Rattle.std.specs.Prelude.{◌≡◌, ◌<◌, ◌^◌, ℕ, List, All, IfOk};
-ghost use Rattle.pathkey.specs.Keys.{block_key};
+ghost use Rattle.std.specs.Prelude.{◌≡◌, ◌<◌, ◌≤◌, ◌^◌, ◌↔◌, ◌++◌, ◌∷◌, ℕ, List, All, IfOk, IfSome, true};
+ghost use Rattle.std.specs.Option.{option_to_list};
+ghost use Rattle.pathkey.specs.Keys.{block_key, enc};
 ghost use Rattle.reference.specs.Indexes.{PathOf, most_blocks};
 ghost use Rattle.reference.specs.Tree.{Tree, entry_at};
 ghost use Rattle.volume.specs.Volumes.{MeanRooted};
-ghost use Rattle.volume.specs.Walks.{AreBlocksAt, AreEntries, ReadsNumbers, ReadsPaths};
+ghost use Rattle.volume.specs.Walks.{AreBlocksAt, AreEntries, IsOwn, ReadsNumbers, ReadsPaths};
 
+use crate::cursor::Cursor;
 use crate::frozen::Frozen;
-use block_index::Block;
-use pathkey::{Key, KeyRange, NoMemory, Path, blocks_from, dec};
+use block_index::{Block, BlockUpdate};
+use pathkey::{Key, KeyRange, NoMemory, Path, block_key, blocks_from, dec};
 use reference::Meta;
 use scan::scan;
 use std::alloc::Global;
+use std::marker::Model;
 
 impl Frozen {
     /// The entries from a path on in key order, the root too, each with its path: the first `limit`, or all where there are fewer.
@@ -57,6 +60,95 @@ impl Frozen {
         let pairs = scan(alloc, &self.indexes().block.tree, &rest, limit)?;
         self.means_a_tree();
         with_numbers(alloc, pairs)
+    }
+}
+
+/// The stored blocks of one file after the other, of a tree that stands still. Contracts see the tree.
+///
+/// Where files are asked for in the order of their paths, and the blocks of each in the order of their numbers, all come from one
+/// walk of the index, and none is searched for. What is asked for in another order is searched for.
+#[derive(Drop)]
+pub struct BlockWalk<'a> {
+    frozen: &'a Frozen,
+    cursor: Cursor<BlockUpdate>,
+}
+
+impl<'a> Model for BlockWalk<'a> {
+    ghost use Rattle.volume.specs.Codes.{coded_rooted};
+    ghost use Rattle.volume.specs.declared.rooted.Rooted.{Rooted};
+
+    ghost Value = { Rooted };
+
+    ghost coded = { coded_rooted };
+
+    ghost use Rattle.std.specs.Prelude.{◌≡◌, None};
+    ghost use Rattle.block_index.specs.Means.{blocks};
+    ghost use Rattle.volume.specs.Cursors.{StandsAt};
+
+    ghost view = { λ w. w.frozen.now };
+
+    ghost invariant = { λ w. (StandsAt (blocks w.frozen.now.indexes.block) w.cursor.range w.cursor.first w.cursor.pieces.all w.cursor.pieces.pairs.items) × (w.cursor.range.hi ≡ None) };
+}
+
+impl<'a> BlockWalk<'a> {
+    /// A walk through the blocks of a tree. It takes no memory.
+    pub fn new(alloc: Global, frozen: &'a Frozen) -> BlockWalk<'a>
+        ensures { result ≡ frozen.now }
+    {
+        BlockWalk {
+            frozen,
+            cursor: Cursor::new(alloc),
+        }
+    }
+
+    /// The first stored block of the file at the path from a number on, with its number; none where the file has no more, and where
+    /// no file stands there. A block that is not stored has only zeros.
+    ///
+    /// The block is one more owner of its bytes. It fails only for want of memory; the same may be asked again then.
+    pub fn next(
+        &mut self,
+        alloc: Global,
+        path: &Path,
+        from: u32,
+    ) -> Result<Option<(u32, Block)>, NoMemory>
+        ensures block { IfOk result (λ r. (t : Tree) → MeanRooted self.old t → AreBlocksAt (entry_at t path.now) from 1 (option_to_list r)) }
+        ensures number { IfOk result (λ r. IfSome r (λ x. (from ≤ x.0) × (x.0 < most_blocks))) }
+        ensures tree { self.new ≡ self.old }
+    {
+        // What `key` promises says that the path is one.
+        let _key = path.key();
+        if path.is_root() {
+            return Ok(None);
+        }
+        let frozen = self.frozen;
+        let key = block_key(alloc, path, from)?;
+        self.cursor.go_to(alloc, &frozen.indexes().block.tree, key)?;
+        frozen.means_a_tree();
+        own_block(&self.cursor.first, path)
+    }
+}
+
+/// The block of a pair, with its number, if the pair's key is that of a block of the path.
+fn own_block(pair: &Option<(Key, Block)>, path: &Path) -> Result<Option<(u32, Block)>, NoMemory>
+    ensures { IfOk result (λ r. IsOwn path.now pair.now r) }
+{
+    let Some((key, block)) = pair else {
+        return Ok(None);
+    };
+    if is_of(key, path) {
+        Ok(Some((block_number(key), block.copy()?)))
+    } else {
+        Ok(None)
+    }
+}
+
+/// Whether a key is the path's with a byte 0 behind it, and more or nothing.
+fn is_of(key: &Key, path: &Path) -> bool
+    ensures { result ≡ true ↔ ((z : List ℕ) × (key.now ≡ enc path.now ++ 0 ∷ z)) }
+{
+    match key.as_bytes().strip_prefix(path.key().as_bytes()) {
+        Some([0, ..]) => true,
+        _ => false,
     }
 }
 

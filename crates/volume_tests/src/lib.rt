@@ -5,6 +5,8 @@
 #[cfg(test)]
 mod asked;
 #[cfg(test)]
+mod block_walks;
+#[cfg(test)]
 mod command_lines;
 #[cfg(test)]
 mod condensed;
