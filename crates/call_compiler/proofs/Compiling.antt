@@ -30,11 +30,11 @@ meta_meant i t means = record { tree = means.tree; meta = means.meta }
 
 -- every call may send nothing
 pub nothing_sent : (i : Indexes) (call : Call) (at : ℕ) → Sends i call at no_messages
-nothing_sent i (Mkdir p) at = omega arith
-nothing_sent i (Create p) at = omega arith
+nothing_sent i (Mkdir p) at = (omega arith, λ t means dated. omega arith)
+nothing_sent i (Create p) at = (omega arith, λ t means dated. omega arith)
 nothing_sent i (Write p off w) at = inl refl
-nothing_sent i (Truncate p n) at = (omega arith, λ t means short. omega arith)
-nothing_sent i (Unlink p) at = omega arith
+nothing_sent i (Truncate p n) at = (omega arith, λ t means short. omega arith, λ t means b there long. refl)
+nothing_sent i (Unlink p) at = (omega arith, λ t means empty clear. refl)
 nothing_sent i (Rmdir p) at = omega arith
 nothing_sent i (Rename o n) at = inl refl
 nothing_sent i (Rmtree p) at = omega arith

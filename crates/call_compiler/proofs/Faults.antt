@@ -1,11 +1,11 @@
 -- The reply of a call whose first fault is known.
-use Rattle.std.proofs.Common.{◌≡◌, ℕ, ◌+◌, List, [], ◌∷◌, ◌++◌, length, Bool, true, false, cond, refl, ap, ◌∙◌, Option, Some, None}
+use Rattle.std.proofs.Common.{◌≡◌, ℕ, ◌+◌, List, [], ◌∷◌, ◌++◌, length, Bool, true, false, cond, refl, sym, ap, ◌∙◌, Option, Some, None}
 use Rattle.std.specs.Prelude.{nat_lt, not, ◌&&◌, take, drop}
 use Rattle.pathkey.specs.Names.{Path}
 use Rattle.pathkey.specs.declared.errno.Errno.{Errno}
-use Rattle.pathkey.specs.declared.errno.Errno.TheVariants.{EISDIR, EPERM, EINVAL, ENAMETOOLONG, EFBIG}
+use Rattle.pathkey.specs.declared.errno.Errno.TheVariants.{EEXIST, EISDIR, EPERM, EINVAL, ENAMETOOLONG, EFBIG}
 use Rattle.reference.specs.Tree.{Tree, Dir, File, nothing, At, Found, entry_at, with_entry, without, over, sized}
-use Rattle.reference.specs.Calls.{Outcome, when, first_fault, unless, is_empty, bytes_of, greatest_file, greatest_read, faults_of_new, faults_of_file, faults_of_write, faults_of_truncate, faults_of_unlink, faults_of_rmdir, faults_of_rmtree, faults_of_read, same_path, text_len, deepest_at, placed, faults_of_rename_from, faults_of_place, faults_of_rename, parent, once, renamed, all_touching, changed, does}
+use Rattle.reference.specs.Calls.{Outcome, when, is_found, parent_fault, first_fault, unless, is_empty, bytes_of, greatest_file, greatest_read, faults_of_new, faults_of_file, faults_of_write, faults_of_truncate, faults_of_unlink, faults_of_rmdir, faults_of_rmtree, faults_of_read, same_path, text_len, deepest_at, placed, faults_of_rename_from, faults_of_place, faults_of_rename, parent, once, renamed, all_touching, changed, does}
 use Rattle.reference.specs.declared.call.Call.TheVariants.{Mkdir, Create, Write, Truncate, Unlink, Rmdir, Rename, Rmtree, Read}
 use Rattle.reference.specs.declared.reply.Reply.TheVariants.{Done, Count, Data, Fault}
 use Rattle.reference.proofs.Faults.{unless_fault, unless_none}
@@ -41,6 +41,19 @@ last_stays_away : (b : Bool) (e : Errno) → b ≡ false → first_fault (when b
 last_stays_away b e h = ap (λ (x : Bool). first_fault (when x e ∷ [])) h
 
 -- ---- `mkdir`, `create`, `rmdir`, `rmtree`
+
+-- the fault of the parent comes first, since the root has none
+pub new_refused : (t : Tree) (p : Path) (e : Errno) → parent_fault t p ≡ Some e → Some e ≡ first_fault (faults_of_new t p)
+new_refused t [] e h = absurd (cc)
+new_refused t (n ∷ p) e h = sym (ap (λ (x : Option Errno). first_fault (x ∷ when (is_found (entry_at t (n ∷ p))) EEXIST ∷ [])) h)
+
+pub new_exists : (t : Tree) (p : Path) → parent_fault t p ≡ None → is_found (entry_at t p) ≡ true → Some EEXIST ≡ first_fault (faults_of_new t p)
+new_exists t [] h there = refl
+new_exists t (n ∷ p) h there = sym (ap (λ (x : Option Errno). first_fault (x ∷ when (is_found (entry_at t (n ∷ p))) EEXIST ∷ [])) h ∙ ap (λ (b : Bool). first_fault (when b EEXIST ∷ [])) there)
+
+pub new_may : (t : Tree) (p : Path) → parent_fault t p ≡ None → is_found (entry_at t p) ≡ false → None ≡ first_fault (faults_of_new t p)
+new_may t [] h free = absurd (cc)
+new_may t (n ∷ p) h free = sym (ap (λ (x : Option Errno). first_fault (x ∷ when (is_found (entry_at t (n ∷ p))) EEXIST ∷ [])) h ∙ ap (λ (b : Bool). first_fault (when b EEXIST ∷ [])) free)
 
 pub mkdir_refused : (at : ℕ) (t : Tree) (p : Path) (e : Errno) → first_fault (faults_of_new t p) ≡ Some e → (does at t (Mkdir p)).1 ≡ Fault e
 unfolding does changed

@@ -8,3 +8,4 @@ pub mod Overlay
 pub mod Renames
 pub mod Walking
 pub mod RootMoment
+pub mod Idle

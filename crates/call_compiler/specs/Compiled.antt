@@ -1,5 +1,5 @@
 -- What a file call is compiled to, by the directory tree that the indexes mean.
-use Rattle.std.specs.Prelude.{◌≡◌, ◌≤◌, ◌+◌, ◌⊎◌, ℕ, Bool, length, List, [], ◌∷◌}
+use Rattle.std.specs.Prelude.{◌≡◌, ◌≤◌, ◌+◌, ◌⊎◌, ◌==◌, ◌&&◌, ℕ, nat_le, Bool, true, false, cond, length, List, [], ◌∷◌, None, Ok}
 use Rattle.std.specs.List.{list_any}
 use Rattle.block_index.specs.Changed.{patches}
 use Rattle.block_index.specs.Means.{blocks}
@@ -10,13 +10,14 @@ use Rattle.message.specs.declared.msg.Msg.TheVariants.{Edit}
 use Rattle.message.specs.Effects.{effects}
 use Rattle.meta_index.specs.declared.update.MetaUpdate.{MetaUpdate}
 use Rattle.meta_index.specs.declared.update.MetaUpdate.TheVariants.{Grow, Touch}
-use Rattle.meta_index.specs.Means.{metadata}
+use Rattle.meta_index.specs.Means.{metadata, moment_told}
 use Rattle.meta_index.specs.Updates.{means as meta_means}
-use Rattle.pathkey.specs.Keys.{Key, enc}
-use Rattle.pathkey.specs.Names.{Path, is_root}
+use Rattle.pathkey.specs.Keys.{Key, blocks_from, enc, is_in}
+use Rattle.pathkey.specs.Names.{Path, is_root, parent}
+use Rattle.pathkey.specs.declared.range.KeyRange.{KeyRange}
 use Rattle.pathkey.specs.declared.errno.Errno.{Errno}
 use Rattle.pathkey.specs.declared.errno.Errno.TheVariants.{ENOENT, ENOTDIR}
-use Rattle.reference.specs.Tree.{Tree, At, Found, Missing, Blocked, entry_at}
+use Rattle.reference.specs.Tree.{Tree, File, At, Found, Missing, Blocked, entry_at}
 use Rattle.reference.specs.Calls.{bytes_of, stat_of, parents_of, does}
 use Rattle.reference.specs.Indexes.{Metadata, Blocks, IndexesMean}
 use Rattle.reference.specs.declared.call.Call.{Call}
@@ -69,21 +70,52 @@ touches at (p ∷ ps) = Edit (enc p) (Touch at) ∷ touches at ps
 abbrev pub touches_root : Call → Bool
 touches_root c = list_any is_root (parents_of c)
 
--- the messages of a write of w at off: the length is raised and the moment set, and each block that the bytes touch gets
--- its slice of them
-abbrev pub write_messages : Path → ℕ → List ℕ → ℕ → Messages
-write_messages p off w at = record { meta = Edit (enc p) (Grow (off + length w) at) ∷ []; block = patches p off w }
+-- a file of that length and moment has at least n bytes, and this moment
+abbrev pub has_grown : ℕ → ℕ → ℕ → ℕ → Bool
+has_grown n at len date = nat_le n len && (date == at)
+
+-- the same of what stands at a path
+abbrev pub has_grown_at : ℕ → ℕ → At → Bool
+has_grown_at n at (Found (File date b)) = has_grown n at (length b) date
+has_grown_at n at _ = false
+
+-- the message that raises the length of the file at the key to n and sets its moment; none where it has both
+abbrev pub growth : Key → ℕ → ℕ → Bool → List (Msg MetaUpdate Meta)
+growth k n at has = cond has [] (Edit k (Grow n at) ∷ [])
+
+-- the messages of a write of w at off: each block that the bytes touch gets its slice of them, and the file grows
+abbrev pub write_messages : Path → ℕ → List ℕ → ℕ → Bool → Messages
+write_messages p off w at has = record { meta = growth (enc p) (off + length w) at has; block = patches p off w }
+
+-- no key of the range has a value
+abbrev pub AreClear : Blocks → KeyRange → Type 0
+AreClear d r = (k : Key) → is_in r k ≡ true → d k ≡ None
+
+-- where the directory in which an entry is made has the moment already, there is no message for it
+abbrev pub SendsNew : Indexes → Path → ℕ → Messages → Type 0
+SendsNew i p at msgs = (t : Tree) → MeanTree i t → moment_told (entry_at t (parent p)) ≡ Ok at → count msgs ≤ 1
+
+-- where the file that goes has neither bytes nor blocks, there is no message for blocks
+abbrev pub SendsGone : Indexes → Path → Messages → Type 0
+SendsGone i p msgs = (t : Tree) → MeanTree i t → bytes_of (entry_at t p) ≡ [] → AreClear (blocks i.block) (blocks_from p 0) → msgs.block ≡ []
+
+-- where a file has the length and the moment already, there is no message
+abbrev pub SendsCut : Indexes → Path → ℕ → ℕ → Messages → Type 0
+SendsCut i p n at msgs = (t : Tree) → MeanTree i t → (b : List ℕ) → entry_at t p ≡ Found (File at b) → length b ≡ n → msgs ≡ no_messages
 
 -- what a call may send over both indexes: one message where an entry comes or an empty directory goes, two where a
 -- file goes, three where it is cut, one where it is lengthened, two where an entry goes with all below it, for a write
--- its patches and one, for each entry and block that is moved one and three besides, and nothing for a call that only
--- reads; and one more for each directory that gets the moment
+-- its patches and one, which it leaves out where the file has the length and the moment already, for each entry and block
+-- that is moved one and three besides, and nothing for a call that only reads; and one more for each directory that gets
+-- the moment
 abbrev pub Sends : Indexes → Call → ℕ → Messages → Type 0
-Sends i (Mkdir p) at msgs = count msgs ≤ 1 + length (parents_of (Mkdir p))
-Sends i (Create p) at msgs = count msgs ≤ 1 + length (parents_of (Create p))
-Sends i (Write p off w) at msgs = (msgs ≡ no_messages) ⊎ (msgs ≡ write_messages p off w at)
-Sends i (Truncate p n) at msgs = (count msgs ≤ 3) × ((t : Tree) → MeanTree i t → length (bytes_of (entry_at t p)) ≤ n → count msgs ≤ 1)
-Sends i (Unlink p) at msgs = count msgs ≤ 2 + length (parents_of (Unlink p))
+Sends i (Mkdir p) at msgs = (count msgs ≤ 1 + length (parents_of (Mkdir p))) × SendsNew i p at msgs
+Sends i (Create p) at msgs = (count msgs ≤ 1 + length (parents_of (Create p))) × SendsNew i p at msgs
+Sends i (Write p off w) at msgs =
+    (msgs ≡ no_messages)
+    ⊎ ((has : Bool) × (msgs ≡ write_messages p off w at has) × ((t : Tree) → MeanTree i t → has ≡ has_grown_at (off + length w) at (entry_at t p)))
+Sends i (Truncate p n) at msgs = (count msgs ≤ 3) × ((t : Tree) → MeanTree i t → length (bytes_of (entry_at t p)) ≤ n → count msgs ≤ 1) × SendsCut i p n at msgs
+Sends i (Unlink p) at msgs = (count msgs ≤ 2 + length (parents_of (Unlink p))) × SendsGone i p msgs
 Sends i (Rmdir p) at msgs = count msgs ≤ 1 + length (parents_of (Rmdir p))
 Sends i (Rmtree p) at msgs = count msgs ≤ 2 + length (parents_of (Rmtree p))
 Sends i (Read p off n) at msgs = msgs ≡ no_messages

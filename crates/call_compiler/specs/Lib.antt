@@ -2,3 +2,4 @@ pub mod Compiled
 pub mod Files
 pub mod Laws
 pub mod Moves
+pub mod Touches

@@ -1,13 +1,13 @@
 //! The messages that a call is compiled to.
 ghost use Rattle.std.specs.Prelude.{◌≡◌, [], ◌∷◌, IfOk};
-ghost use Rattle.call_compiler.specs.Compiled.{messages, no_messages, touches};
-ghost use Rattle.reference.specs.Calls.{parent};
+ghost use Rattle.call_compiler.specs.Compiled.{messages, no_messages};
+ghost use Rattle.call_compiler.specs.Touches.{needed_touches};
 
-use crate::touching::{directory_of, touch};
+use crate::touching::{Directory, touch};
 use block_index::BlockUpdate;
 use message::Msg;
 use meta_index::MetaUpdate;
-use pathkey::{Errno, NoMemory, Path};
+use pathkey::{Errno, NoMemory};
 use reference::Reply;
 use std::alloc::Global;
 
@@ -57,31 +57,16 @@ pub(crate) fn done(
 /// comes to: it is done, and the directory gets the moment.
 pub(crate) fn done_in(
     alloc: Global,
-    directory: &Path,
+    directory: &Directory,
     at: u64,
     msg: Msg<MetaUpdate>,
     block: Vec<Msg<BlockUpdate>>,
 ) -> Result<(Reply, Batch), NoMemory>
     ensures reply { IfOk result (λ c. c.0 ≡ Reply.Done) }
-    ensures messages { IfOk result (λ c. messages c.1 ≡ record { meta = msg ∷ touches at (directory.now ∷ []); block = block.items }) }
+    ensures messages { IfOk result (λ c. messages c.1 ≡ record { meta = msg ∷ needed_touches at directory.now; block = block.items }) }
 {
     let mut meta = Vec::with_capacity(alloc, 2)?;
     meta.push(msg)?;
     touch(alloc, &mut meta, directory, at)?;
     Ok((Reply::Done, Batch { meta, block }))
-}
-
-/// Likewise, of a call that puts an entry at the path or takes it out: its directory gets the moment.
-pub(crate) fn done_in_directory(
-    alloc: Global,
-    path: &Path,
-    at: u64,
-    msg: Msg<MetaUpdate>,
-    block: Vec<Msg<BlockUpdate>>,
-) -> Result<(Reply, Batch), NoMemory>
-    ensures reply { IfOk result (λ c. c.0 ≡ Reply.Done) }
-    ensures messages { IfOk result (λ c. messages c.1 ≡ record { meta = msg ∷ touches at (parent path.now ∷ []); block = block.items }) }
-{
-    let directory = directory_of(alloc, path)?;
-    done_in(alloc, &directory, at, msg, block)
 }

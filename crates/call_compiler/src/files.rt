@@ -1,25 +1,59 @@
-//! The file that a call names.
-ghost use Rattle.std.specs.Prelude.{◌≡◌, ◌≢◌, ◌≤◌, ◌^◌, [], IfOk};
+//! The file that a call names, and its blocks.
+ghost use Rattle.std.specs.Prelude.{◌≡◌, ◌≢◌, ◌≤◌, ◌^◌, ◌==◌, ◌&&◌, [], IfOk, false, length};
+ghost use Rattle.block_index.specs.Means.{blocks};
+ghost use Rattle.block_index.specs.Updates.{means as block_means};
+ghost use Rattle.call_compiler.specs.Compiled.{AreClear, has_grown};
 ghost use Rattle.call_compiler.specs.Files.{IsShort, TellsFile};
+ghost use Rattle.message.specs.Effects.{effects};
 ghost use Rattle.meta_index.specs.Means.{IsMeantBy, told};
+ghost use Rattle.pathkey.specs.Keys.{Key, blocks_from as blocks_of};
+ghost use Rattle.reference.specs.Indexes.{cleared};
 ghost use Rattle.reference.specs.Tree as trees;
 
 use crate::indexes::Indexes;
+use block_index::BlockUpdate;
+use message::Msg;
 use meta_index::{At, Meta};
-use pathkey::{Errno, NoMemory, Path};
+use pathkey::{Errno, KeyRange, NoMemory, Path, blocks_from};
 use reference::GREATEST_FILE;
+use scan::first_in;
 use std::alloc::Global;
 
-/// The length of the file at the path; or why none stands there, `directory` where a directory does.
+/// A file that stands at a path.
+#[derive(Clone, Copy)]
+pub(crate) struct FoundFile {
+    /// Its length in bytes.
+    pub(crate) len: u64,
+    /// Its moment of last change.
+    pub(crate) modified: u64,
+}
+
+impl FoundFile {
+    /// Whether it has at least so many bytes, and the moment.
+    pub(crate) fn has_grown(self, end: u64, at: u64) -> bool
+        ensures { result ≡ has_grown end at self.len self.modified }
+    {
+        end <= self.len && self.modified == at
+    }
+
+    /// Whether it has just so many bytes, and the moment.
+    pub(crate) fn has_exactly(self, len: u64, at: u64) -> bool
+        ensures { result ≡ (self.len == len && (self.modified == at)) }
+    {
+        self.len == len && self.modified == at
+    }
+}
+
+/// The file at the path; or why none stands there, `directory` where a directory does.
 pub(crate) fn find_file(
     alloc: Global,
     indexes: &Indexes,
     path: &Path,
     directory: Errno,
-) -> Result<Result<u64, Errno>, NoMemory>
+) -> Result<Result<FoundFile, Errno>, NoMemory>
     ensures told { IfOk result (λ file. (t : trees.Tree) → IsMeantBy t indexes.now.meta → TellsFile (trees.entry_at t path.now) directory file) }
     ensures path { IfOk result (λ file. IfOk file (λ _. path.now ≢ [])) }
-    ensures short { IfOk result (λ file. IfOk file (λ len. len ≤ 2 ^ 40)) }
+    ensures short { IfOk result (λ file. IfOk file (λ f. f.len ≤ 2 ^ 40)) }
 {
     if path.is_root() {
         return Ok(Err(directory));
@@ -28,15 +62,56 @@ pub(crate) fn find_file(
     Ok(file_of(at, directory))
 }
 
-/// The length of the file that stands at a path; or why none stands there. No file is longer than the limit.
-fn file_of(at: At, directory: Errno) -> Result<u64, Errno>
+/// The file that stands at a path; or why none stands there. No file is longer than the limit.
+fn file_of(at: At, directory: Errno) -> Result<FoundFile, Errno>
     ensures told { (here : trees.At) → at ≡ told here → IsShort here → TellsFile here directory result }
-    ensures short { IfOk result (λ len. len ≤ 2 ^ 40) }
+    ensures short { IfOk result (λ f. f.len ≤ 2 ^ 40) }
 {
     match at {
-        At::Found(Meta::File { len, .. }) => Ok(len.min(GREATEST_FILE)),
+        At::Found(Meta::File { len, modified }) => Ok(FoundFile {
+            len: len.min(GREATEST_FILE),
+            modified,
+        }),
         At::Found(Meta::Dir { .. }) => Err(directory),
         At::Missing => Err(Errno::ENOENT),
         At::Blocked => Err(Errno::ENOTDIR),
     }
+}
+
+/// The message that takes out the blocks of the file at the path; none where it has neither a byte nor a block.
+pub(crate) fn without_blocks(
+    alloc: Global,
+    indexes: &Indexes,
+    path: &Path,
+    file: FoundFile,
+) -> Result<Vec<Msg<BlockUpdate>>, NoMemory>
+    requires file { path.now ≢ [] }
+    ensures cleared { IfOk result (λ msgs. (k : Key) → effects block_means msgs.items k (blocks indexes.now.block k) ≡ cleared (blocks_of path.now 0) (blocks indexes.now.block) k) }
+    ensures few { IfOk result (λ msgs. length msgs.items ≤ 1) }
+    ensures none { IfOk result (λ msgs. file.len ≡ 0 → AreClear (blocks indexes.now.block) (blocks_of path.now 0) → msgs.items ≡ []) }
+{
+    let range = blocks_from(alloc, path, 0)?;
+    let mut msgs = Vec::new(alloc);
+    if may_have_blocks(alloc, indexes, &range, file)? {
+        msgs.push(Msg::DelRange(range))?;
+    }
+    Ok(msgs)
+}
+
+/// Whether there may be a block in the range, where the blocks of a file stand. Of a file with bytes none is asked for:
+/// the search would cost more than a range-delete.
+fn may_have_blocks(
+    alloc: Global,
+    indexes: &Indexes,
+    range: &KeyRange,
+    file: FoundFile,
+) -> Result<bool, NoMemory>
+    ensures none { IfOk result (λ some. some ≡ false → AreClear (blocks indexes.now.block) range.now) }
+    ensures asked { IfOk result (λ some. file.len ≡ 0 → AreClear (blocks indexes.now.block) range.now → some ≡ false) }
+{
+    if file.len > 0 {
+        return Ok(true);
+    }
+    let first = first_in(alloc, &indexes.block.tree, range)?;
+    Ok(first.is_some())
 }

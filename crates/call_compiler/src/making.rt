@@ -2,12 +2,14 @@
 ghost use Rattle.std.specs.Prelude.{◌≡◌, IfOk};
 ghost use Rattle.std.specs.Result.{result_err};
 ghost use Rattle.call_compiler.specs.Compiled.{IsCompiled, messages};
+ghost use Rattle.call_compiler.specs.Touches.{IsDated};
 ghost use Rattle.meta_index.specs.Means.{IsMeantBy};
 ghost use Rattle.reference.specs.Calls.{faults_of_new, first_fault, parent};
-ghost use Rattle.reference.specs.Tree.{Tree};
+ghost use Rattle.reference.specs.Tree.{Tree, entry_at};
 
 use crate::batch::{Batch, done_in, refused};
 use crate::indexes::Indexes;
+use crate::touching::Directory;
 use message::Msg;
 use meta_index::Meta;
 use pathkey::{Errno, NoMemory, Path};
@@ -61,16 +63,20 @@ fn directory_of_new(
     alloc: Global,
     indexes: &Indexes,
     path: &Path,
-) -> Result<Result<Path, Errno>, NoMemory>
-    ensures directory { IfOk result (λ found. IfOk found (λ p. p ≡ parent path.now)) }
+) -> Result<Result<Directory, Errno>, NoMemory>
+    ensures directory { IfOk result (λ found. IfOk found (λ d. d.path ≡ parent path.now)) }
+    ensures moment { IfOk result (λ found. IfOk found (λ d. (t : Tree) → IsMeantBy t indexes.now.meta → IsDated (entry_at t (parent path.now)) d)) }
     ensures fault { IfOk result (λ found. (t : Tree) → IsMeantBy t indexes.now.meta → result_err found ≡ first_fault (faults_of_new t path.now)) }
 {
-    let directory = indexes.meta.find_parent(alloc, path)?;
-    if directory.is_err() {
-        return Ok(directory);
-    }
+    let (parent, modified) = match indexes.meta.find_dated_parent(alloc, path)? {
+        Ok(dated) => dated,
+        Err(fault) => return Ok(Err(fault)),
+    };
     if indexes.meta.has(alloc, path)? {
         return Ok(Err(Errno::EEXIST));
     }
-    Ok(directory)
+    Ok(Ok(Directory {
+        path: parent,
+        modified: Some(modified),
+    }))
 }

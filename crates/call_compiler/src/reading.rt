@@ -22,14 +22,14 @@ pub fn read(
 ) -> Result<(Reply, Batch), NoMemory>
     ensures { (at : ℕ) → IfOk result (λ c. IsCompiled indexes.now (Call.Read path.now offset count) at c.0 (messages c.1)) }
 {
-    let len = match find_file(alloc, indexes, path, Errno::EISDIR)? {
-        Ok(len) => len,
+    let file = match find_file(alloc, indexes, path, Errno::EISDIR)? {
+        Ok(file) => file,
         Err(fault) => return Ok(refused(alloc, fault)),
     };
     if count > GREATEST_READ {
         return Ok(refused(alloc, Errno::EINVAL));
     }
-    let bytes = indexes.block.read(alloc, path, offset, count, len)?;
+    let bytes = indexes.block.read(alloc, path, offset, count, file.len)?;
     let data = FileBytes::from_vec(bytes);
     Ok(without_messages(alloc, Reply::Data(data)))
 }

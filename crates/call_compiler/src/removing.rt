@@ -5,11 +5,12 @@ ghost use Rattle.meta_index.specs.Means.{IsMeantBy};
 ghost use Rattle.reference.specs.Calls.{faults_of_rmdir, faults_of_rmtree, first_fault};
 ghost use Rattle.reference.specs.Tree.{Tree};
 
-use crate::batch::{Batch, done_in_directory, refused};
-use crate::files::find_file;
+use crate::batch::{Batch, done_in, refused};
+use crate::files::{find_file, without_blocks};
 use crate::indexes::Indexes;
+use crate::touching::directory_of;
 use message::Msg;
-use pathkey::{Errno, NoMemory, Path, blocks_from, subtree};
+use pathkey::{Errno, NoMemory, Path, subtree};
 use reference::{Call, Reply};
 use std::alloc::Global;
 
@@ -23,12 +24,13 @@ pub fn unlink(
     ensures { IfOk result (λ c. IsCompiled indexes.now (Call.Unlink path.now) at c.0 (messages c.1)) }
 {
     let key = path.key();
-    if let Err(fault) = find_file(alloc, indexes, path, Errno::EPERM)? {
-        return Ok(refused(alloc, fault));
-    }
-    let mut block = Vec::with_capacity(alloc, 1)?;
-    block.push(Msg::DelRange(blocks_from(alloc, path, 0)?))?;
-    done_in_directory(alloc, path, at, Msg::Del(key.copy(alloc)?), block)
+    let file = match find_file(alloc, indexes, path, Errno::EPERM)? {
+        Ok(file) => file,
+        Err(fault) => return Ok(refused(alloc, fault)),
+    };
+    let block = without_blocks(alloc, indexes, path, file)?;
+    let directory = directory_of(alloc, path)?;
+    done_in(alloc, &directory, at, Msg::Del(key.copy(alloc)?), block)
 }
 
 /// Takes an empty directory out (rmdir).
@@ -45,7 +47,8 @@ pub fn rmdir(
         return Ok(refused(alloc, fault));
     }
     let del = Msg::Del(key.copy(alloc)?);
-    done_in_directory(alloc, path, at, del, Vec::new(alloc))
+    let directory = directory_of(alloc, path)?;
+    done_in(alloc, &directory, at, del, Vec::new(alloc))
 }
 
 /// Why no empty directory can be taken out at the path; none where one can.
@@ -84,7 +87,8 @@ pub fn rmtree(
     let range = subtree(alloc, path)?;
     let mut block = Vec::with_capacity(alloc, 1)?;
     block.push(Msg::DelRange(range.copy(alloc)?))?;
-    done_in_directory(alloc, path, at, Msg::DelRange(range), block)
+    let directory = directory_of(alloc, path)?;
+    done_in(alloc, &directory, at, Msg::DelRange(range), block)
 }
 
 /// Why no entry with all below it can be taken out at the path, or moved from it; none where one can.

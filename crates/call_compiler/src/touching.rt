@@ -1,7 +1,8 @@
 //! The moments of directories: the messages that set them, and whether the root gets one.
-ghost use Rattle.std.specs.Prelude.{◌≡◌, ◌∷◌, [], ◌++◌, IfOk, OnOk};
+ghost use Rattle.std.specs.Prelude.{◌≡◌, ◌∷◌, [], ◌++◌, IfOk, None, OnOk};
 ghost use Rattle.std.specs.List.{list_any};
 ghost use Rattle.call_compiler.specs.Compiled.{touches, touches_root};
+ghost use Rattle.call_compiler.specs.Touches.{has_moment, needed_touches};
 ghost use Rattle.reference.specs.Calls.{is_root, once, parent};
 
 use message::Msg;
@@ -10,26 +11,55 @@ use pathkey::{NoMemory, Path};
 use reference::Call;
 use std::alloc::Global;
 
-/// The directory of a path; the root is its own.
-pub(crate) fn directory_of(alloc: Global, path: &Path) -> Result<Path, NoMemory>
-    ensures { IfOk result (λ p. p ≡ parent path.now) }
-{
-    match path.parent(alloc)? {
-        Some(directory) => Ok(directory),
-        None => Ok(Path::root(alloc)),
+/// A directory in which a call puts an entry or takes one out.
+#[derive(Drop)]
+pub(crate) struct Directory {
+    /// Where it stands.
+    pub(crate) path: Path,
+    /// Its moment of last change, if the call has looked it up.
+    pub(crate) modified: Option<u64>,
+}
+
+impl Directory {
+    /// Whether the directory is known to have the moment.
+    fn has_moment(&self, at: u64) -> bool
+        ensures { result ≡ has_moment at self.now }
+    {
+        match self.modified {
+            Some(modified) => modified == at,
+            None => false,
+        }
     }
 }
 
-/// Puts the message that sets the moment at the path behind the others.
+/// The directory of a path, which is not looked up; the root is its own.
+pub(crate) fn directory_of(alloc: Global, path: &Path) -> Result<Directory, NoMemory>
+    ensures path { IfOk result (λ d. d.path ≡ parent path.now) }
+    ensures moment { IfOk result (λ d. d.modified ≡ None) }
+{
+    let directory = match path.parent(alloc)? {
+        Some(parent) => parent,
+        None => Path::root(alloc),
+    };
+    Ok(Directory {
+        path: directory,
+        modified: None,
+    })
+}
+
+/// Puts the message that sets the directory's moment behind the others, unless the directory is known to have it.
 pub(crate) fn touch(
     alloc: Global,
     msgs: &mut Vec<Msg<MetaUpdate>>,
-    path: &Path,
+    directory: &Directory,
     at: u64,
 ) -> Result<(), NoMemory>
-    ensures { OnOk result (msgs.new.items ≡ msgs.old.items ++ touches at (path.now ∷ [])) }
+    ensures { OnOk result (msgs.new.items ≡ msgs.old.items ++ needed_touches at directory.now) }
 {
-    let key = path.key().copy(alloc)?;
+    if directory.has_moment(at) {
+        return Ok(());
+    }
+    let key = directory.path.key().copy(alloc)?;
     msgs.push(Msg::Edit(key, MetaUpdate::Touch(at)))?;
     Ok(())
 }
@@ -47,7 +77,7 @@ pub(crate) fn touch_directories(
     let from = directory_of(alloc, old)?;
     let to = directory_of(alloc, new)?;
     touch(alloc, msgs, &from, at)?;
-    if from.is_same(&to) {
+    if from.path.is_same(&to.path) {
         return Ok(());
     }
     touch(alloc, msgs, &to, at)

@@ -1,17 +1,17 @@
 //! Calls that change the bytes of a file: `write` and `truncate`.
 ghost use Rattle.std.specs.Prelude.{◌≡◌, ◌≢◌, ◌<◌, ◌≤◌, ◌^◌, [], IfOk, length};
 ghost use Rattle.block_index.specs.Changed.{CutsWhereMeant};
-ghost use Rattle.call_compiler.specs.Compiled.{IsCompiled, messages};
+ghost use Rattle.call_compiler.specs.Compiled.{IsCompiled, growth, has_grown, messages};
 ghost use Rattle.reference.specs.Shape.{AreBytes};
 
 use crate::batch::{Batch, done, refused, without_messages};
-use crate::files::find_file;
+use crate::files::{FoundFile, find_file};
 use crate::indexes::Indexes;
 use block_index::{BlockIndex, BlockUpdate};
 use bytes::Bytes;
 use message::Msg;
 use meta_index::MetaUpdate;
-use pathkey::{Errno, NoMemory, Path};
+use pathkey::{Errno, Key, NoMemory, Path};
 use reference::{Call, GREATEST_FILE, Reply, fits_file};
 use std::alloc::Global;
 
@@ -27,9 +27,10 @@ pub fn write(
     ensures { IfOk result (λ c. IsCompiled indexes.now (Call.Write path.now offset bytes.now) at c.0 (messages c.1)) }
 {
     let key = path.key();
-    if let Err(fault) = find_file(alloc, indexes, path, Errno::EISDIR)? {
-        return Ok(refused(alloc, fault));
-    }
+    let file = match find_file(alloc, indexes, path, Errno::EISDIR)? {
+        Ok(file) => file,
+        Err(fault) => return Ok(refused(alloc, fault)),
+    };
     if bytes.is_empty() {
         return Ok(without_messages(alloc, Reply::Count(0)));
     }
@@ -38,8 +39,25 @@ pub fn write(
     }
     let len = count(bytes.as_slice());
     let block = indexes.block.write_msgs(alloc, path, offset, bytes)?;
-    let grow = Msg::Edit(key.copy(alloc)?, MetaUpdate::Grow(offset + len, at));
-    done(alloc, Reply::Count(len), grow, block)
+    let meta = growth(alloc, key, file, offset + len, at)?;
+    Ok((Reply::Count(len), Batch { meta, block }))
+}
+
+/// The message that raises the length of the file at the key to `end` and gives it the moment; none where it has both.
+fn growth(
+    alloc: Global,
+    key: &Key,
+    file: FoundFile,
+    end: u64,
+    at: u64,
+) -> Result<Vec<Msg<MetaUpdate>>, NoMemory>
+    ensures { IfOk result (λ msgs. msgs.items ≡ growth key.now end at (has_grown end at file.len file.modified)) }
+{
+    let mut msgs = Vec::new(alloc);
+    if !file.has_grown(end, at) {
+        msgs.push(Msg::Edit(key.copy(alloc)?, MetaUpdate::Grow(end, at)))?;
+    }
+    Ok(msgs)
 }
 
 /// How many bytes there are.
@@ -61,14 +79,17 @@ pub fn truncate(
     ensures { IfOk result (λ c. IsCompiled indexes.now (Call.Truncate path.now len) at c.0 (messages c.1)) }
 {
     let key = path.key();
-    let old = match find_file(alloc, indexes, path, Errno::EISDIR)? {
-        Ok(old) => old,
+    let file = match find_file(alloc, indexes, path, Errno::EISDIR)? {
+        Ok(file) => file,
         Err(fault) => return Ok(refused(alloc, fault)),
     };
     if len > GREATEST_FILE {
         return Ok(refused(alloc, Errno::EFBIG));
     }
-    let block = cut_from(alloc, &indexes.block, path, old, len)?;
+    if file.has_exactly(len, at) {
+        return Ok(without_messages(alloc, Reply::Done));
+    }
+    let block = cut_from(alloc, &indexes.block, path, file.len, len)?;
     let set = Msg::Edit(key.copy(alloc)?, MetaUpdate::SetLen(len, at));
     done(alloc, Reply::Done, set, block)
 }

@@ -24,6 +24,25 @@ type Counts = (usize, usize);
 /// A call, its reply, and its messages.
 type Row = (Ask<'static>, Told<'static>, Counts);
 
+/// The moments of a table's calls.
+#[derive(Clone, Copy)]
+enum Moments {
+    /// Each call has a moment of its own, the row's number.
+    Rising,
+    /// All calls have this one.
+    One(u64),
+}
+
+impl Moments {
+    /// The moment of the call with this number.
+    fn of(self, number: usize) -> u64 {
+        match self {
+            Moments::Rising => number as u64,
+            Moments::One(at) => at,
+        }
+    }
+}
+
 /// Whether these are as many messages as the counts say. They are appended.
 fn are_sent(alloc: Global, indexes: &mut Indexes, batch: Batch, counts: Counts) -> bool {
     batch.meta.len() == counts.0
@@ -32,34 +51,35 @@ fn are_sent(alloc: Global, indexes: &mut Indexes, batch: Batch, counts: Counts) 
 }
 
 /// What a call is compiled to. It ensures nothing, so that no proof of a test reads what a call means.
-fn compiled(alloc: Global, indexes: &Indexes, call: &Call) -> Option<(Reply, Batch)> {
-    compile(alloc, indexes, call, 0).ok()
+fn compiled(alloc: Global, indexes: &Indexes, call: &Call, at: u64) -> Option<(Reply, Batch)> {
+    compile(alloc, indexes, call, at).ok()
 }
 
-/// Whether a call is answered as its row says. What it sends is appended.
-fn does(alloc: Global, indexes: &mut Indexes, call: &Call, row: &Row) -> bool {
-    match compiled(alloc, indexes, call) {
+/// Whether a call at a moment is answered as its row says. What it sends is appended.
+fn does(alloc: Global, indexes: &mut Indexes, call: &Call, at: u64, row: &Row) -> bool {
+    match compiled(alloc, indexes, call, at) {
         Some((reply, batch)) => are_sent(alloc, indexes, batch, row.2) && row.1.is(&reply),
         None => false,
     }
 }
 
-/// Whether the row's call is answered as the row says. What it sends is appended.
-fn is_answered(alloc: Global, indexes: &mut Indexes, row: &Row) -> bool {
+/// Whether the row's call at a moment is answered as the row says. What it sends is appended.
+fn is_answered(alloc: Global, indexes: &mut Indexes, at: u64, row: &Row) -> bool {
     match row.0.call(alloc) {
-        Ok(call) => does(alloc, indexes, &call, row),
+        Ok(call) => does(alloc, indexes, &call, at, row),
         Err(_) => false,
     }
 }
 
 /// Asks the calls in turn; how many are answered as their rows say, before the first that is not.
-fn answered_in(alloc: Global, indexes: &mut Indexes, rows: &[Row]) -> usize {
+fn answered_in(alloc: Global, indexes: &mut Indexes, moments: Moments, rows: &[Row]) -> usize {
     let mut count = 0usize;
     for row in rows {
-        if !is_answered(alloc, indexes, row) {
+        let next = count.saturating_add(1);
+        if !is_answered(alloc, indexes, moments.of(next), row) {
             return count;
         }
-        count = count.saturating_add(1);
+        count = next;
     }
     count
 }
@@ -70,9 +90,9 @@ fn new_indexes(alloc: Global) -> Result<Indexes, NoMemory> {
 }
 
 /// The same from nothing but the root directory.
-fn answered(alloc: Global, rows: &[Row]) -> usize {
+fn answered(alloc: Global, moments: Moments, rows: &[Row]) -> usize {
     match new_indexes(alloc) {
-        Ok(mut indexes) => answered_in(alloc, &mut indexes, rows),
+        Ok(mut indexes) => answered_in(alloc, &mut indexes, moments, rows),
         Err(_) => 0,
     }
 }
@@ -312,32 +332,110 @@ const MOVES: &[Row] = &[
     (Ask::Rmdir("/b"), Told::Done, (2, 0)),
 ];
 
-/// Each table, with what it shows.
-const TABLES: &[(&str, &[Row])] = &[
+/// A file that has no block, also where it once had one, and one that has a byte.
+const BLOCKS_OF_FILES: &[Row] = &[
+    (Ask::Create("/e"), Told::Done, (2, 0)),
+    (Ask::Unlink("/e"), Told::Done, (2, 0)),
+    (Ask::Create("/f"), Told::Done, (2, 0)),
+    (Ask::Write("/f", 5_000, b"\xaa"), Told::Count(1), (1, 1)),
+    (Ask::Truncate("/f", 0), Told::Done, (1, 1)),
+    (Ask::Create("/f-g"), Told::Done, (2, 0)),
+    (Ask::Write("/f-g", 0, b"\xbb"), Told::Count(1), (1, 1)),
+    (Ask::Unlink("/f"), Told::Done, (2, 0)),
+    (Ask::Read("/f-g", 0, 9), Told::Data(b"\xbb"), (0, 0)),
+    // a file without blocks that has bytes: no block is asked for
+    (Ask::Truncate("/f-g", 0), Told::Done, (1, 1)),
+    (Ask::Truncate("/f-g", 9), Told::Done, (1, 0)),
+    (Ask::Unlink("/f-g"), Told::Done, (2, 1)),
+];
+
+/// Calls of one moment, in a root that has another at first.
+const ONE_MOMENT: &[Row] = &[
+    (Ask::Create("/f"), Told::Done, (2, 0)),
+    (Ask::Create("/g"), Told::Done, (1, 0)),
+    (Ask::Mkdir("/a"), Told::Done, (1, 0)),
+    (Ask::Create("/a/x"), Told::Done, (1, 0)),
+    (Ask::Write("/f", 0, b"\xaa\xbb"), Told::Count(2), (1, 1)),
+    (Ask::Write("/f", 1, b"\xcc"), Told::Count(1), (0, 1)),
+    (Ask::Write("/f", 1, b"\xdd\xee"), Told::Count(2), (1, 1)),
+    (Ask::Stat("/f"), Told::File(3), (0, 0)),
+    (Ask::Read("/f", 0, 9), Told::Data(b"\xaa\xdd\xee"), (0, 0)),
+    (Ask::Truncate("/f", 3), Told::Done, (0, 0)),
+    (Ask::Truncate("/f", 4), Told::Done, (1, 0)),
+    (Ask::Truncate("/f", 3), Told::Done, (1, 2)),
+    (Ask::Unlink("/f"), Told::Done, (2, 1)),
+    (Ask::Unlink("/g"), Told::Done, (2, 0)),
+    (Ask::Rmtree("/a"), Told::Done, (2, 1)),
+];
+
+/// The same where each call has a moment of its own.
+const RISING_MOMENTS: &[Row] = &[
+    (Ask::Create("/f"), Told::Done, (2, 0)),
+    (Ask::Create("/g"), Told::Done, (2, 0)),
+    (Ask::Mkdir("/a"), Told::Done, (2, 0)),
+    (Ask::Create("/a/x"), Told::Done, (2, 0)),
+    (Ask::Write("/f", 0, b"\xaa\xbb"), Told::Count(2), (1, 1)),
+    (Ask::Write("/f", 1, b"\xcc"), Told::Count(1), (1, 1)),
+    (Ask::Truncate("/f", 2), Told::Done, (1, 0)),
+    (Ask::Unlink("/f"), Told::Done, (2, 1)),
+];
+
+/// Each table, with what it shows, and the moments of its calls.
+const TABLES: &[(&str, Moments, &[Row])] = &[
     (
         "a new entry wants a directory above, which gets its moment, and a free name",
+        Moments::Rising,
         NEW_ENTRIES,
     ),
-    ("an empty directory goes", EMPTY_DIRECTORY),
-    ("a write is a patch for each block that it touches", WRITES),
-    ("a file ends at the limit", ENDS),
-    ("a truncate cuts the blocks behind its end", TRUNCATES),
-    ("a file goes with its bytes", FILES),
+    ("an empty directory goes", Moments::Rising, EMPTY_DIRECTORY),
+    (
+        "a write is a patch for each block that it touches",
+        Moments::Rising,
+        WRITES,
+    ),
+    ("a file ends at the limit", Moments::Rising, ENDS),
+    (
+        "a truncate cuts the blocks behind its end",
+        Moments::Rising,
+        TRUNCATES,
+    ),
+    ("a file goes with its bytes", Moments::Rising, FILES),
     (
         "a subtree goes by a range-delete for each index, and the moment of its directory",
+        Moments::Rising,
         SUBTREES,
     ),
-    ("a move that is refused sends nothing", REFUSED_MOVES),
+    (
+        "a move that is refused sends nothing",
+        Moments::Rising,
+        REFUSED_MOVES,
+    ),
     (
         "a move is one message for each pair, the ranges, and the moments of its directories",
+        Moments::Rising,
         MOVES,
+    ),
+    (
+        "an unlink clears no range of a file without bytes and blocks",
+        Moments::Rising,
+        BLOCKS_OF_FILES,
+    ),
+    (
+        "what has its length and the moment is not told them again",
+        Moments::One(7),
+        ONE_MOMENT,
+    ),
+    (
+        "what has another moment is told the new one",
+        Moments::Rising,
+        RISING_MOMENTS,
     ),
 ];
 
 /// Whether all tables are answered as they say; the name of the first that is not.
 fn all_answered(alloc: Global) -> Result<(), &'static str> {
-    for (name, rows) in TABLES {
-        if answered(alloc, rows) != rows.len() {
+    for (name, moments, rows) in TABLES {
+        if answered(alloc, *moments, rows) != rows.len() {
             return Err(name);
         }
     }

@@ -55,15 +55,26 @@ impl<'a> Snap<'a> {
     }
 }
 
-/// The reply to a file call.
-fn reply_to(alloc: Global, volume: &mut Volume, call: &Call) -> Reply {
-    volume.call(alloc, call, 0)
+/// The reply to a file call at a moment.
+fn reply_to(alloc: Global, volume: &mut Volume, call: &Call, at: u64) -> Reply {
+    volume.call(alloc, call, at)
 }
 
-/// Whether a file call is answered so.
+/// Whether a file call at moment 0 is answered so.
 pub fn answers(alloc: Global, volume: &mut Volume, ask: Ask<'_>, told: Told<'_>) -> bool {
+    answers_at(alloc, volume, ask, 0, told)
+}
+
+/// Whether a file call at a moment is answered so.
+pub fn answers_at(
+    alloc: Global,
+    volume: &mut Volume,
+    ask: Ask<'_>,
+    at: u64,
+    told: Told<'_>,
+) -> bool {
     match ask.call(alloc) {
-        Ok(call) => told.is(&reply_to(alloc, volume, &call)),
+        Ok(call) => told.is(&reply_to(alloc, volume, &call, at)),
         Err(_) => false,
     }
 }

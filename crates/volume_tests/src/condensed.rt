@@ -1,6 +1,6 @@
 //! What waits for a file that is written byte by byte, and for a directory that gets many files.
 
-use crate::asked::{USUAL, answers, new_volume, waiting};
+use crate::asked::{USUAL, answers, answers_at, new_volume, waiting};
 use samples::{Ask, Told};
 use std::alloc::Global;
 use volume::{Index, Volume};
@@ -53,42 +53,52 @@ fn settles(alloc: Global, volume: &mut Volume) -> bool {
     false
 }
 
-/// Whether the file with this number is made.
-fn is_created(alloc: Global, volume: &mut Volume, number: u32) -> bool {
+/// Whether the file with this number is made at a moment.
+fn is_created(alloc: Global, volume: &mut Volume, number: u32, at: u64) -> bool {
     match format!(in alloc; "/a/f{number:03}") {
-        Ok(text) => answers(alloc, volume, Ask::Create(text.as_str()), Told::Done),
+        Ok(text) => answers_at(alloc, volume, Ask::Create(text.as_str()), at, Told::Done),
         Err(_) => false,
     }
 }
 
-/// Whether a thousand files are made in one directory.
-fn create_all(alloc: Global, volume: &mut Volume) -> bool {
+/// Whether a thousand files are made in one directory, the first at moment 0 and each other so much later than the one before.
+fn create_all(alloc: Global, volume: &mut Volume, later: u64) -> bool {
     for number in 0..1_000 {
-        if !is_created(alloc, volume, number) {
+        if !is_created(
+            alloc,
+            volume,
+            number,
+            u64::from(number).saturating_mul(later),
+        ) {
             return false;
         }
     }
     true
 }
 
-/// Whether a message waits then for each file, and one alone for their directory, which stands in a leaf.
-fn touches_once(alloc: Global, volume: &mut Volume) -> bool {
+/// Whether so many messages wait then: one for each file, and none or one for their directory, which stands in a leaf.
+fn leaves(alloc: Global, volume: &mut Volume, later: u64, wanted: u128) -> bool {
     answers(alloc, volume, Ask::Mkdir("/a"), Told::Done)
         && settles(alloc, volume)
-        && create_all(alloc, volume)
-        && waiting(volume, Index::Meta) == 1_001
+        && create_all(alloc, volume, later)
+        && waiting(volume, Index::Meta) == wanted
         && waiting(volume, Index::Block) == 0
 }
 
 /// The same of a new volume.
-fn touches_once_anew(alloc: Global) -> bool {
+fn leaves_anew(alloc: Global, later: u64, wanted: u128) -> bool {
     match new_volume(alloc, USUAL) {
-        Ok(mut volume) => touches_once(alloc, &mut volume),
+        Ok(mut volume) => leaves(alloc, &mut volume, later, wanted),
         Err(_) => false,
     }
 }
 
 #[test]
 fn a_thousand_files_leave_one_touch_of_their_directory(rt: HostRuntime) {
-    assert!(rt; touches_once_anew(rt.alloc()));
+    assert!(rt; leaves_anew(rt.alloc(), 1, 1_001));
+}
+
+#[test]
+fn a_directory_that_has_the_moment_is_not_touched(rt: HostRuntime) {
+    assert!(rt; leaves_anew(rt.alloc(), 0, 1_000));
 }

@@ -1,9 +1,14 @@
-use Rattle.std.proofs.Common.{arith, [], ◌∷◌, ap, ◌∙◌}
+use Rattle.std.proofs.Common.{arith, List, ◌∷◌, ap, ◌∙◌}
+use Rattle.message.specs.declared.msg.Msg.{Msg}
 use Rattle.message.specs.declared.msg.Msg.TheVariants.{Del}
-use Rattle.pathkey.specs.Keys.{Key}
-use Rattle.call_compiler.specs.Compiled.{messages, touches}
+use Rattle.meta_index.specs.declared.update.MetaUpdate.{MetaUpdate}
+use Rattle.pathkey.specs.Keys.{Key, enc}
+use Rattle.call_compiler.specs.Compiled.{messages}
+use Rattle.call_compiler.specs.Touches.{needed_touches}
+use Rattle.reference.specs.declared.reply.Meta.{Meta}
 use Rattle.reference.specs.Calls.{parent}
 use Rattle.call_compiler.proofs.Compiling.{if_ok_both, halves}
+use Rattle.call_compiler.proofs.Idle.{unknown_touches}
 use Rattle.call_compiler.proofs.Entries.{rmdir_is_refused, rmdir_is_done}
 use Rattle.call_compiler.proofs.removing.rmdir.Goals as goal
 
@@ -12,7 +17,12 @@ returns-in-Some c = rmdir_is_refused c.args.indexes.now c.args.path.now c.args.a
     c.in_ok-fault.field-0 c.in_ok-fault.ensures c.in-Some.fault c.in-Some.is c.refused.ensures.reply c.refused.ensures.messages
 
 pub returns : goal.returns
-returns c = if_ok_both c.done_in_directory.result _ _ _
+returns c =
+    let d = c.in_ok-directory.directory in
+    if_ok_both c.done_in.result _ _ _
     (λ a reply sent. rmdir_is_done c.args.indexes.now c.args.path.now c.args.at a.0 (messages a.1) c.in_ok-fault.field-0 c.in_ok-fault.ensures c.in_default.is (omega (arith, c.ranges.at.fits)) c.key-key.ensures.valid reply
-    (sent ∙ halves _ _ _ _ (ap (λ (k : Key). Del k ∷ touches c.args.at (parent c.args.path.now ∷ [])) (c.in_ok-copy.ensures ∙ c.key-key.ensures.value)) c.new.ensures.items))
-    c.done_in_directory.ensures.reply c.done_in_directory.ensures.messages
+    (sent ∙ halves _ _ _ _
+    (ap (λ (k : Key). Del k ∷ needed_touches c.args.at d) (c.in_ok-copy.ensures ∙ c.key-key.ensures.value)
+    ∙ ap (λ (ts : List (Msg MetaUpdate Meta)). Del (enc c.args.path.now) ∷ ts) (unknown_touches c.args.at d (parent c.args.path.now) c.in_ok-directory.ensures.path c.in_ok-directory.ensures.moment))
+    c.new.ensures.items))
+    c.done_in.ensures.reply c.done_in.ensures.messages
