@@ -1,3 +1,4 @@
 mod Steps
 mod Boxes
+mod Pointers
 mod Handed

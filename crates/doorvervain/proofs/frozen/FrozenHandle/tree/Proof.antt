@@ -1,37 +1,9 @@
 -- `tree` opens the handle, and lends what lies at its pointer until the borrow ends.
-use Rattle.std.proofs.Common.{◌≡◌, List, [], ◌∷◌, refl, sym, ap, ◌∙◌}
-use Prim.Native.Nat.{ℕ}
-use seplogic.Ra.Ura.{Ura}
-use base.Fraction.{full_share}
-use base.Logic.{ent, sep, never, fst∗}
-use base.Fml.{Fml, GName, ftrue, fsep, flft}
-use mir.Syntax.{named}
-use mir.Raw.{raw as bare}
-use mir.Val.{Val, vptr}
-use types.Logic.{Logic, sem}
-use types.Kit.{‵, ◌⊛◌, some, later, at_ret, ◌$◌, ◌∵◌, !, qed, move, keep, drop, use1, join, split, split3, fsplit, fsplit3, fjoin, fpick, fpack, group, pick, await, rewrite, frame, suffices, done}
-use types.Part.{whole, sub, look_in}
-use types.Run.{enter, addr, load, stop, fld, of_opd, first, blocks, exec, returns}
-use types.ByLocal.{alloc_all, pass_all, free_all, look_at, get, through, sets, sets_last, env}
-use contract.Running.{tables}
-use denote.Exit.{no}
-use denote.Follow.{follows, lends_Part}
-use denote.Laws.{shows}
-use denote.Memory.{cell_at, lone, mem, part_at, part_of}
-use denote.RawPtr.{Ptr, block_ptr, null_ptr, in_a_block}
-use denote.Ref.{MutRef, mut_vals, mut_Tells}
-use denote.Signature.{plain, mut_ref_to}
-use denote.Steps.{nothing, opens, peeks}
+use Rattle.doorvervain.proofs.Steps.{List, [], ◌∷◌, refl, sym, ap, ◌∙◌, full_share, never, fst∗, GName, ftrue, flft, named, bare, Val, vptr, sem, ‵, ◌⊛◌, some, later, at_ret, ◌$◌, ◌∵◌, !, qed, move, keep, drop, use1, join, split, split3, fsplit, fsplit3, fjoin, fpick, group, pick, await, rewrite, frame, suffices, done, whole, sub, look_in, enter, addr, load, stop, fld, of_opd, first, blocks, exec, returns, alloc_all, pass_all, free_all, look_at, get, through, sets, sets_last, env, tables, no, follows, lends_Part, shows, cell_at, lone, mem, Ptr, null_ptr, in_a_block, MutRef, mut_vals, mut_Tells, plain, mut_ref_to, nothing, opens, peeks, Struct, says, Stays, stay_dropped, walk_of, ends_at, Goes-spent_ref, after, proved, box_owns}
 use denote.Struct.Owning.{shape}
-use denote.Struct.Struct.{Struct}
-use denote.Triple.Walked.{says, Stays, stay_dropped, walk_of, ends_at, Goes-spent_ref}
-use Rattle.std.proofs.VecSteps.Shapes.{after}
-use Rattle.std.proofs.raw_atomic.Walks.{proved}
-use Rattle.std.specs.Box.Ownership.{box_owns}
-use Rattle.std.specs.Global.{Global}
 use Rattle.std.specs.contracts.impls.GlobalAllocator.TheImpl.{ghosts}
+use Rattle.doorvervain.proofs.Pointers.{Frame, whole_again}
 use Rattle.doorvervain.specs.Follows.{with_tree}
-use Rattle.doorvervain.specs.declared.frozen.FrozenHandle.{FrozenHandle}
 use Rattle.volume.specs.contracts.frozen.Frozen.{the_row as X}
 use Rattle.doorvervain.specs.contracts.frozen.FrozenHandle.{the_row as R, the_type}
 use Rattle.doorvervain.specs.contracts.frozen.FrozenHandle.tree as f
@@ -41,20 +13,6 @@ use Rattle.doorvervain.proofs.frozen.FrozenHandle.tree.Code as code
 
 abbrev stayed : Stays f.ended.signature.params f.ended.kept
 stayed = (stay_dropped (mut_ref_to (0 ∷ []) tt (plain (λ _. R))) no, tt)
-
--- the handle but for the value that it holds: its pointer, where that lies, and the right to free the value's block
-abbrev Frame : FrozenHandle → List Val → (b o b' o' : ℕ) → Global → Fml
-Frame h us b o b' o' alloc = fsep (fsep ((Struct (shape the_type)).own_val (h.at, tt) us) (cell_at full_share R.mir us b o)) (ghosts.dealloc_token alloc (bare (lone X.mir)) (block_ptr b' o'))
-
-module _ {M : Type 1} {𝓤 : Ura M} (𝓛 : Logic 𝓤) (h : FrozenHandle) (us : List Val) (b o b' o' : ℕ) (alloc : Global) where
-  whole_again : h.at ≡ block_ptr b' o' → (x : X.Denot) → ent 𝓤 (sep 𝓤 (sem 𝓛 ((mem X).own_at x b' o')) (sem 𝓛 (Frame h us b o b' o' alloc))) (sem 𝓛 ((mem R).own_at (with_tree h x) b o))
-  unfolding part_of
-  whole_again e x =
-      qed 𝓛 (‵ (part_at X full_share x b' o') ∷ ‵ (Frame h us b o b' o' alloc) ∷ []) ∵ move ! (1 ∷ []) $ fsplit ! $ fsplit ! $
-      -- [the pointer; its cell; the right to free; the value]
-      move ! (3 ∷ 2 ∷ []) $ fjoin ! $ rewrite ! 0 (λ (p : Ptr). ‵ (box_owns (ghosts.dealloc_token alloc) X p x)) (sym e) refl $
-      fpack ! Global (λ a. box_owns (ghosts.dealloc_token a) X h.at x) alloc $ move ! (1 ∷ 0 ∷ []) $ fjoin ! $ move ! (1 ∷ 0 ∷ []) $ fjoin ! $
-      fpack ! (List Val) (λ vs. fsep (cell_at full_share R.mir vs b o) (R.own_val (with_tree h x) vs)) us $ done !
 
 pub tree_spec : {M : Type 1} → statement M
 tree_spec 𝓤 𝓛 𝓜 𝓡 wired =
@@ -81,7 +39,8 @@ tree_spec 𝓤 𝓛 𝓜 𝓡 wired =
     exec ! 𝓣.C 𝓣.Λ (env code.Mir.locals l) (after 3 (code.function).body) (at_ret _ ((walk_of 𝓛 f.ended stayed c).post y)) $
     sets ! (of_opd ! (get ! refl)) refl (tt, tt) $
     rewrite ! 3 Cell (sym word) refl $ move ! (2 ∷ 3 ∷ []) $ fjoin ! $ move ! (0 ∷ 2 ∷ []) $ fjoin ! $ move ! (2 ∷ 3 ∷ 4 ∷ 1 ∷ 0 ∷ []) $ group ! 5 $
-    let Rest = sem 𝓛 (Frame h us b o b' o' alloc) in let back = whole_again 𝓛 h us b o b' o' alloc e in
+    let own = (Struct (shape the_type)).own_val (h.at, tt) us in let Rest = sem 𝓛 (Frame R X own us b o b' o' alloc) in
+    let back = λ (x : X.Denot). whole_again 𝓛 R X (with_tree h x) x h.at own us b o b' o' alloc e refl in
     use1 𝓛 (later (some (λ (δ : GName). ‵ ((MutRef (named 0) κ X).own_val (record { ref_ptr = (b', o'); ghost_name = δ; now = h.tree }) (vptr b' o' ∷ [])) ⊛ ‵ (flft κ q) ⊛ ‵ (follows R X γ δ (with_tree h)))))
     (lends_Part 𝓛 R X (with_tree h) (named 0) κ q b o b' o' γ Rest back (R.coded.code h) (R.coded.code h) h.tree) $ await ! tt $ pick ! (λ δ. split3 ! $
     returns ! (look_at ! 0 refl) $ free_all ! refl $ keep ! (0 ∷ 1 ∷ 2 ∷ []) $

@@ -1,33 +1,6 @@
 -- `fill` writes the pointer of the parts, and the place owns from then on what they owned.
-use Rattle.std.proofs.Common.{◌≡◌, List, [], ◌∷◌, ◌++◌, refl, sym, subst}
-use base.Fraction.{full_share}
-use base.Logic.{SProp, ent, id⊢, never, fst∗}
-use base.Fml.{ftrue, fsep, flft}
-use mir.Syntax.{named}
-use mir.Raw.{raw as bare}
-use mir.Val.{Val, vptr, vunit, vstruct, of_list}
-use prog.Wp.{WpFn}
-use types.Logic.{sem}
-use types.Kit.{‵, ◌⊛◌, ◌$◌, ◌∵◌, !, qed, move, keep, drop, split, join, fsplit, fsplit3, fjoin, fjoin3, feq_i, feq_l, fpick, fpack, rewrite, suffices, use1, done}
-use types.Part.{whole, sub, store_in}
-use types.Run.{enter, stop, fld, of_opd, assigns, unit_lit, returns}
-use types.ByLocal.{alloc_all, pass_all, free_all, look_at, get, get_in, through, sets}
-use contract.Running.{tables}
-use denote.Exit.{yes}
-use denote.Laws.{shows}
-use denote.Memory.{cell_at, lone}
-use denote.RattleType.{Valss}
+use Rattle.doorvervain.proofs.Steps.{◌≡◌, List, [], ◌∷◌, ◌++◌, refl, sym, subst, full_share, SProp, ent, id⊢, never, fst∗, ftrue, fsep, flft, named, bare, Val, vptr, vunit, vstruct, of_list, WpFn, sem, ‵, ◌⊛◌, ◌$◌, ◌∵◌, !, qed, move, keep, drop, split, join, fsplit, fsplit3, fjoin, fjoin3, feq_i, feq_l, fpick, fpack, rewrite, suffices, use1, done, whole, sub, store_in, enter, stop, fld, of_opd, assigns, unit_lit, returns, alloc_all, pass_all, free_all, look_at, get, get_in, through, sets, tables, yes, shows, cell_at, lone, Valss, within, Ptr, RawPtr, block_ptr, null_ptr, ptr_val, in_a_block, MutRef, Slot, plain, nothing, opens, closes, peeks, says, Stays, stay_ref, stay_dropped, walk_of, ends_at, Goes-ref, Goes-dropped, proved_at, Some, box_owns, Global}
 use denote.Struct.Owning.{shape}
-use denote.Struct.Struct.{within}
-use denote.RawPtr.{Ptr, RawPtr, block_ptr, null_ptr, ptr_val, in_a_block}
-use denote.Ref.{MutRef}
-use denote.Signature.{Slot, plain}
-use denote.Steps.{nothing, opens, closes, peeks}
-use denote.Triple.Walked.{says, Stays, stay_ref, stay_dropped, walk_of, ends_at, Goes-ref, Goes-dropped}
-use Rattle.std.proofs.raw_atomic.Walks.{proved_at}
-use Rattle.std.specs.Prelude.{Some}
-use Rattle.std.specs.Box.Ownership.{box_owns}
-use Rattle.std.specs.Global.{Global}
 use Rattle.std.specs.contracts.alloc.Global.{the_row as Heap}
 use Rattle.std.specs.contracts.impls.GlobalAllocator.TheImpl.{ghosts}
 use Rattle.std.proofs.alloc.Global.TheLaws as heap

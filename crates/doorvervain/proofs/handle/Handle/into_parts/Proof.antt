@@ -1,25 +1,7 @@
 -- `into_parts` keeps the pointer, and what lies there goes with it.
-use Rattle.std.proofs.Common.{List, [], ◌∷◌, refl, lit<}
-use lib.Dec.{T}
-use mathlib.Core.Bool.{Bool, true, false, ◌&&◌}
-use mir.Syntax.{ty_ptr}
-use base.Logic.{id⊢}
-use base.Fml.{ftrue, fsep}
-use mir.Val.{Val, vstruct, of_list, has_ty, WT}
-use types.Kit.{‵, ◌⊛◌, ◌$◌, ◌∵◌, !, qed, move, keep, drop, join, split, fsplit, fjoin, fpick, fpack, feq_i, suffices, use1, done}
-use types.Part.{whole, sub, agg}
-use types.Run.{enter, stop, fld, of_opd, and_then, no_more, returns}
-use types.ByLocal.{alloc_all, pass_all, free_all, look_at, get, get_in, sets}
-use contract.Running.{tables}
-use denote.Exit.{yes}
-use denote.RattleType.{Valss}
-use denote.RawPtr.{Ptr, RawPtr, block_ptr, null_ptr, ptr_val}
-use denote.Signature.{Slot, plain, type_at}
-use denote.Steps.{nothing}
+use Rattle.doorvervain.proofs.Steps.{List, [], ◌∷◌, refl, ty_ptr, id⊢, ftrue, fsep, Val, vstruct, of_list, has_ty, ‵, ◌⊛◌, ◌$◌, ◌∵◌, !, qed, move, keep, drop, join, split, fsplit, fjoin, fpick, fpack, feq_i, suffices, use1, done, whole, sub, agg, enter, stop, fld, of_opd, and_then, no_more, returns, alloc_all, pass_all, free_all, look_at, get, get_in, sets, tables, yes, Valss, RawPtr, ptr_val, Slot, plain, type_at, nothing, within, says, Stays, stay_dropped, walk_of, ends_at, Goes-dropped, proved}
 use denote.Struct.Owning.{shape}
-use denote.Struct.Struct.{within}
-use denote.Triple.Walked.{says, Stays, stay_dropped, walk_of, ends_at, Goes-dropped}
-use Rattle.std.proofs.raw_atomic.Walks.{proved}
+use Rattle.doorvervain.proofs.Pointers.{ptr_good, and_true}
 use Rattle.std.specs.contracts.alloc.Global.{the_row as Heap}
 use Rattle.std.specs.contracts.impls.GlobalAllocator.TheImpl.{ghosts}
 use Rattle.std.proofs.alloc.Global.TheLaws as heap
@@ -39,14 +21,6 @@ of_heap = plain (λ _. Heap)
 
 abbrev stayed : Stays f.ended.signature.params f.ended.kept
 stayed = (stay_dropped of_handle yes, (stay_dropped of_heap yes, tt))
-
-ptr_good : (p : Ptr) → T (has_ty ty_ptr (ptr_val p)) × WT (ptr_val p)
-ptr_good (block_ptr b o) = (tt, tt)
-ptr_good null_ptr = (tt, record { fits = lit< tt })
-
-and_true : (x : Bool) → T x → T (x && true)
-and_true true t = tt
-and_true false t = absurd t
 
 pub into_parts_spec : {M : Type 1} → statement M
 into_parts_spec 𝓤 𝓛 𝓜 𝓡 wired =

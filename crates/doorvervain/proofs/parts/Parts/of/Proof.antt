@@ -1,36 +1,7 @@
 -- `of` takes the box apart by `Box::into_raw_with_allocator`, and the parts own what that ensures.
-use Rattle.std.proofs.Common.{◌≡◌, List, [], ◌∷◌, ◌++◌, refl, sym, ap, subst}
-use base.Logic.{SProp, ent, id⊢, never, fst∗}
-use base.Fml.{ftrue, fsep, flft}
-use mir.MapTy.{inst_fn}
-use mir.Syntax.{Args, a_type, dcons, dnil}
-use mir.Raw.{raw as bare}
-use mir.Val.{Val, vstruct, of_list}
-use prog.Wp.{WpFn}
-use types.Logic.{sem}
-use types.Kit.{‵, raw, ◌⊛◌, some, later, ◌$◌, ◌∵◌, !, qed, move, drop, split, split3, join, done, fsplit, fjoin, feq_l, fpick, pick, await, rewrite, suffices, use1}
-use types.Part.{whole, sub, agg}
-use types.Run.{enter, stop, fld, of_opd, and_then, no_more, returns}
-use types.ByLocal.{alloc_all, pass_all, free_all, look_at, get, get_in, sets, lands_as}
-use contract.Monad.{fact}
-use contract.Running.{tables}
-use denote.Exit.{no}
-use denote.Builtin.{RawPtr}
-use denote.Param.{bounded}
-use denote.RawPtr.{Ptr, block_ptr, null_ptr, ptr_val, in_a_block}
-use denote.Signature.{Slot, plain, type_at}
-use denote.Steps.{heard, nothing, only}
-use denote.Struct.Tuple.{Tuple}
-use denote.Triple.Call.{calls_at}
-use denote.Triple.Clauses.{Lasts, lasts}
-use denote.Triple.Spec.{triple_of}
-use denote.Triple.Table.{framed}
-use denote.Triple.Walked.{says, Stays, stay_dropped, walk_of, ends_at}
-use Rattle.std.proofs.alloc.Calls.{token, handle_tells, Goes-blank}
+use Rattle.doorvervain.proofs.Steps.{◌≡◌, List, [], ◌∷◌, ◌++◌, refl, sym, ap, subst, SProp, ent, id⊢, never, fst∗, ftrue, fsep, flft, inst_fn, Args, a_type, dcons, dnil, bare, Val, vstruct, of_list, WpFn, sem, ‵, raw, ◌⊛◌, some, later, ◌$◌, ◌∵◌, !, qed, move, drop, split, split3, join, done, fsplit, fjoin, feq_l, fpick, pick, await, rewrite, suffices, use1, whole, sub, agg, enter, stop, fld, of_opd, and_then, no_more, returns, alloc_all, pass_all, free_all, look_at, get, get_in, sets, lands_as, fact, tables, no, RawPtr, bounded, Ptr, block_ptr, null_ptr, ptr_val, in_a_block, Slot, plain, type_at, heard, nothing, only, Tuple, calls_at, Lasts, lasts, triple_of, framed, says, Stays, stay_dropped, walk_of, ends_at, token, handle_tells, Goes-blank, proved_at, box_owns}
 use Rattle.std.proofs.BoxSteps.Form.{Bx, D, R, P, B, τ, word, box_typed}
 use Rattle.std.proofs.BoxSteps.Steps.{box_out, box_in}
-use Rattle.std.proofs.raw_atomic.Walks.{proved_at}
-use Rattle.std.specs.Box.Ownership.{box_owns}
 use Rattle.std.specs.contracts.boxed.Box.into_raw_with_allocator as taken
 use Rattle.std.proofs.boxed.Box.into_raw_with_allocator.Met.{met}
 use Rattle.doorvervain.specs.contracts.parts.Parts.of as f
