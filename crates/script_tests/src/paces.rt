@@ -2,8 +2,7 @@
 use crate::asked::{SMALL, USUAL, new_volume};
 use crate::pieces::{Piece, built};
 use crate::streams::has_image;
-use crate::told::first_leaf;
-use node::StepReply;
+use node::{Place, StepKind, StepReply, TreeStep};
 use shell::{Pace, ScriptFault, Tidy, run_script};
 use std::alloc::Global;
 use volume::{Index, Step, Volume};
@@ -31,6 +30,16 @@ fn answers<P: Pace>(
     run(alloc, volume, script, &mut out, pace).is_ok() && out.as_slice() == wanted
 }
 
+/// The flush of the leaf below the root's first slot.
+fn first_leaf() -> TreeStep {
+    let at = Place::root();
+    TreeStep {
+        kind: StepKind::FlushLeaf,
+        at,
+        slot: 0,
+    }
+}
+
 /// Picks the flush of the leaf below the first slot of the metadata's root once, after the first line.
 #[derive(Drop)]
 struct Once {
@@ -47,7 +56,10 @@ impl Pace for Once {
     }
 
     fn pick(&mut self, _volume: &Volume) -> Option<Step> {
-        Some(first_leaf(Index::Meta))
+        Some(Step {
+            index: Index::Meta,
+            step: first_leaf(),
+        })
     }
 
     fn saw(&mut self, reply: StepReply) {
