@@ -1,16 +1,21 @@
 //! Volumes of many files, from whose roots jobs can be taken.
-use crate::asked::{SMALL, call_of, is, name_of};
-use crate::depth::{FILES, TURNS, file_name};
+use crate::asked::{SMALL, call_of, name_of};
 use crate::own::{OWNED, PLACE, mark_of};
 use engine::Room;
-use samples::{Ask, Told};
+use samples::{Ask, Told, file_name};
 use std::alloc::Global;
 use volume::{Index, TakeReply, Volume};
+
+/// How many files there are.
+const FILES: u32 = 300;
+
+/// How many steps are made at most.
+const STEPS: u32 = 10_000;
 
 /// Whether a call of the volume is answered so.
 pub fn answers(alloc: Global, volume: &mut Volume, ask: Ask<'_>, told: Told<'_>) -> bool {
     match call_of(alloc, ask) {
-        Some(call) => is(told, &volume.call(alloc, &call, 0)),
+        Some(call) => told.is(&volume.call(alloc, &call, 0)),
         None => false,
     }
 }
@@ -35,7 +40,7 @@ fn fills(alloc: Global, volume: &mut Volume) -> bool {
     for number in 0..FILES {
         is_right &= makes_one(alloc, volume, number);
     }
-    for _ in 0..TURNS {
+    for _ in 0..STEPS {
         if volume.relieve(alloc).is_none() {
             return is_right;
         }
@@ -105,11 +110,6 @@ fn room_of(alloc: Global, volume: Option<Volume>) -> Option<Room> {
         Some(volume) => Room::new(alloc, volume).ok(),
         None => None,
     }
-}
-
-/// A room with such a volume.
-pub fn filled_room(alloc: Global) -> Option<Room> {
-    room_of(alloc, filled_volume(alloc))
 }
 
 /// Whether a job was taken of the slot of the metadata's root in which the most messages wait.

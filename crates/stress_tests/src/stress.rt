@@ -2,7 +2,7 @@
 //! between.
 ghost use Rattle.std.specs.Prelude.{◌≡◌};
 
-use crate::ends::{Snap, fault_of};
+use crate::asked::name_of;
 use crate::filled::{FIRST, kept_room};
 use crate::own::{CLIENTS, LATER, Own, rest, work};
 use crate::tally::{Course, Tally};
@@ -55,7 +55,10 @@ fn restores_one<J: Naming, R: Wait>(
     client: &mut Client<J>,
     text: &str,
 ) -> bool {
-    fault_of(rt, alloc, client, Snap::Restore, text).is_none()
+    match name_of(alloc, text) {
+        Some(name) => client.restore(rt, &name).is_ok(),
+        None => false,
+    }
 }
 
 /// Restores a snapshot, and tells when it begins and ends.

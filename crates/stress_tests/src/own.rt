@@ -1,14 +1,12 @@
 //! A client among others: files that it alone writes, and calls on names that all share.
 ghost use Rattle.std.specs.Prelude.{◌≡◌};
 
-use crate::asked::call_of;
-use crate::depth::file_name;
-use crate::ends::{Snap, fault_of};
+use crate::asked::{call_of, name_of};
 use crate::tally::{Course, Tally};
 use engine::{Client, Naming};
 use pathkey::Errno;
 use reference::{Call, Reply};
-use samples::Ask;
+use samples::{Ask, file_name};
 use std::alloc::Global;
 use std::sync::Wait;
 use std::thread::Parker;
@@ -285,11 +283,24 @@ fn reads<J: Naming, R: Wait>(
     own.note_read(file, tally.course, ended, tally.begun(), found)
 }
 
-/// Keeps or drops the later snapshot.
-fn snaps<J: Naming, R: Wait>(rt: &R, alloc: Global, client: &mut Client<J>, snap: Snap) -> bool {
-    match fault_of(rt, alloc, client, snap, LATER) {
-        Some(fault) => fault == Errno::EEXIST || fault == Errno::ENOENT,
-        None => true,
+/// Whether a call on the later snapshot was done, or refused since there is one, or none.
+fn is_settled(settled: Result<(), Errno>) -> bool {
+    matches!(settled, Ok(()) | Err(Errno::EEXIST) | Err(Errno::ENOENT))
+}
+
+/// Keeps the later snapshot.
+fn keeps<J: Naming, R: Wait>(rt: &R, alloc: Global, client: &mut Client<J>) -> bool {
+    match name_of(alloc, LATER) {
+        Some(name) => is_settled(client.snapshot(rt, alloc, &name)),
+        None => false,
+    }
+}
+
+/// Drops the later snapshot.
+fn drops<J: Naming, R: Wait>(rt: &R, alloc: Global, client: &mut Client<J>) -> bool {
+    match name_of(alloc, LATER) {
+        Some(name) => is_settled(client.drop_snapshot(rt, &name)),
+        None => false,
     }
 }
 
@@ -318,8 +329,8 @@ fn next<J: Naming, R: Wait>(
         0..=9 => writes(rt, alloc, client, own, tally, drawn),
         10..=14 => reads(rt, alloc, client, own, tally, drawn),
         15..=19 => reads(rt, alloc, client, own, tally, last),
-        20 => snaps(rt, alloc, client, Snap::Keep),
-        21 => snaps(rt, alloc, client, Snap::Drop),
+        20 => keeps(rt, alloc, client),
+        21 => drops(rt, alloc, client),
         _ => shares(rt, alloc, client, drawn),
     }
 }
