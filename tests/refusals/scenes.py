@@ -1,7 +1,7 @@
 """The scenes: what each one is called, what stands before it, what is asked, and how it is judged.
 
-A scene runs `refusals` with its words and its opening on standard input. `free` ones must do as ever with every request refused; of
-the others each request is refused once. Of those that run `list_costs` nothing is refused: their requests are counted.
+A scene runs `refusals` with its words and its opening on standard input, or the whole of `betr`. `free` ones must do as ever with every
+request refused; of the others each request is refused once. Of those of `list_costs` nothing is refused: their requests are counted.
 """
 import dataclasses
 from collections.abc import Callable

@@ -150,8 +150,3 @@ pub fn gives_back<J: Naming, R: Wait>(
     let second = flusher.turn(rt, alloc, &mut Nothing);
     is_ready && first == TurnReply::NoMemory && second == TurnReply::Installed
 }
-
-/// Whether the first turn of an engine takes a job.
-pub fn takes_at_first<J: Naming, R: Wait>(rt: &R, alloc: Global, mut flusher: Flusher<J>) -> bool {
-    flusher.turn(rt, alloc, &mut Nothing) == TurnReply::Installed
-}

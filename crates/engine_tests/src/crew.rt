@@ -16,6 +16,11 @@ pub fn two_flushers<J: Naming>(engine: &mut Engine<J>) -> Option<(Flusher<J>, Fl
     Some((one, other))
 }
 
+/// Whether a client is put back.
+fn takes_back<J: Naming>(clients: &mut Clients<J>, client: Client<J>) -> bool {
+    clients.push(client).is_ok()
+}
+
 /// Ends an engine with its two clients.
 pub fn end<J: Naming, R: Wait>(
     rt: &R,
@@ -24,7 +29,11 @@ pub fn end<J: Naming, R: Wait>(
     one: Client<J>,
     other: Client<J>,
 ) -> Option<Report> {
-    clients.push(one).ok()?;
-    clients.push(other).ok()?;
-    engine.close(rt, clients).ok()
+    let first = takes_back(&mut clients, one);
+    let second = takes_back(&mut clients, other);
+    if first && second {
+        engine.close(rt, clients).ok()
+    } else {
+        None
+    }
 }

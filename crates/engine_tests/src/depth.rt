@@ -5,9 +5,8 @@ ghost use Rattle.std.specs.Prelude.{◌≡◌};
 use crate::asked::answers;
 use engine::{Between, Client, Flusher, Naming, TurnReply};
 use node::{ShapeReport, StepReply};
-use samples::{Ask, Told};
+use samples::{Ask, Told, file_name};
 use std::alloc::Global;
-use std::fmt::Write;
 use std::sync::Wait;
 use volume::Frozen;
 
@@ -15,7 +14,7 @@ use volume::Frozen;
 pub const FILES: u32 = 300;
 
 /// How many turns are made at most.
-pub const TURNS: u32 = 10_000;
+const TURNS: u32 = 10_000;
 
 /// How many turns there were.
 #[derive(Drop)]
@@ -27,13 +26,6 @@ impl Between for Count {
     fn between(&mut self) {
         self.turns = self.turns.saturating_add(1);
     }
-}
-
-/// The path of a file.
-pub fn file_name(alloc: Global, number: u32) -> Option<String> {
-    let mut text = String::new(alloc);
-    write!(text, "/f{number:03}").ok()?;
-    Some(text)
 }
 
 /// Whether a file is made.

@@ -1,5 +1,4 @@
-//! Tests of engines: threads with a client each and flushers beside them, how an engine ends, and long runs over names
-//! that all clients share.
+//! Tests of engines: threads with a client each and flushers beside them, how an engine ends, and what each turn of a flusher does.
 #![tactic(auto)]
 
 #[cfg(test)]
@@ -15,21 +14,11 @@ mod depth;
 #[cfg(test)]
 mod ends;
 #[cfg(test)]
-mod filled;
-#[cfg(test)]
-mod folded;
-#[cfg(test)]
 mod meeting;
-#[cfg(test)]
-mod own;
 #[cfg(test)]
 mod rows;
 #[cfg(test)]
 mod scene;
-#[cfg(test)]
-mod stress;
-#[cfg(test)]
-mod tally;
 #[cfg(test)]
 mod typed;
 #[cfg(test)]

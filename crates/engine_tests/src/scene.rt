@@ -2,9 +2,8 @@
 ghost use Rattle.std.specs.Prelude.{◌≡◌};
 
 use crate::asked::{SMALL, new_room};
-use crate::between::{Deed, gives_back, goes_on, takes_at_first};
+use crate::between::{Deed, gives_back, goes_on};
 use crate::depth::{sinks, sinks_beside};
-use crate::filled::{filled_room, marked_room};
 use crate::unlocked::writes_meanwhile;
 use engine::{Client, Engine, Flusher, Naming, Room};
 use std::alloc::Global;
@@ -23,19 +22,8 @@ enum Scene {
     GoesOn(Deed),
     /// A job is given back.
     GivesBack,
-    /// The first turn takes a job, in a volume that had a mark.
-    TakesAtFirst,
     /// A client writes while a flusher builds.
     WritesMeanwhile,
-}
-
-/// The room of a scene.
-fn room_of(alloc: Global, scene: Scene) -> Option<Room> {
-    match scene {
-        Scene::WritesMeanwhile => filled_room(alloc),
-        Scene::TakesAtFirst => marked_room(alloc),
-        _ => new_room(alloc, SMALL),
-    }
 }
 
 /// Whether it is seen of this client and this flusher.
@@ -51,7 +39,6 @@ fn plays<J: Naming + Send + Sync, R: Threads + Wait + Sync>(
         Scene::SinksBeside(files) => sinks_beside(rt, alloc, client, flusher, files),
         Scene::GoesOn(deed) => goes_on(rt, alloc, client, flusher, deed),
         Scene::GivesBack => gives_back(rt, alloc, client, flusher),
-        Scene::TakesAtFirst => takes_at_first(rt, alloc, flusher),
         Scene::WritesMeanwhile => writes_meanwhile(rt, alloc, client, flusher),
     }
 }
@@ -97,7 +84,7 @@ fn run<R: Threads + Wait + Sync>(rt: &R, alloc: Global, room: Room, scene: Scene
 
 /// Whether it is seen.
 fn is_seen<R: Threads + Wait + Sync>(rt: &R, alloc: Global, scene: Scene) -> bool {
-    match room_of(alloc, scene) {
+    match new_room(alloc, SMALL) {
         Some(room) => run(rt, alloc, room, scene),
         None => false,
     }
@@ -131,11 +118,6 @@ fn a_write_stays_beside_the_job(rt: HostRuntime) {
 #[test]
 fn a_refused_job_leaves_no_mark(rt: HostRuntime) {
     assert!(rt; is_seen(&rt, rt.alloc(), Scene::GivesBack));
-}
-
-#[test]
-fn an_engine_opens_without_marks(rt: HostRuntime) {
-    assert!(rt; is_seen(&rt, rt.alloc(), Scene::TakesAtFirst));
 }
 
 #[test]

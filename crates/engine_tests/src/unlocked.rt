@@ -2,9 +2,9 @@
 ghost use Rattle.std.specs.Prelude.{◌≡◌};
 
 use crate::asked::answers;
-use crate::depth::shapes;
+use crate::depth::{FILES, makes_all, shapes, turns_until_idle};
 use engine::{Between, Client, Flusher, Naming, TurnReply};
-use samples::{Ask, Told};
+use samples::{Ask, Told, file_name};
 use std::alloc::Global;
 use std::sync::Wait;
 use std::sync::atomic::{AtomicBool, Ordering};
@@ -132,6 +132,39 @@ fn writes<J: Naming, R: Wait>(rt: &R, alloc: Global, mut client: Client<J>, flag
     )
 }
 
+/// Writes a byte to the file of a number.
+fn fills_one<J: Naming, R: Wait>(
+    rt: &R,
+    alloc: Global,
+    client: &mut Client<J>,
+    number: u32,
+) -> bool {
+    match file_name(alloc, number) {
+        Some(text) => answers(
+            rt,
+            alloc,
+            client,
+            Ask::Write(text.as_str(), 0, b"a"),
+            Told::Count(1),
+        ),
+        None => false,
+    }
+}
+
+/// Makes many files with a byte each, and then turns until nothing waits.
+fn fills<J: Naming, R: Wait>(
+    rt: &R,
+    alloc: Global,
+    client: &mut Client<J>,
+    flusher: &mut Flusher<J>,
+) -> bool {
+    let mut is_right = makes_all(rt, alloc, client);
+    for number in 0..FILES {
+        is_right &= fills_one(rt, alloc, client, number);
+    }
+    is_right && turns_until_idle(rt, alloc, flusher).is_some()
+}
+
 /// Whether both trees have two inner levels or more, and one file more waits.
 fn is_ready<J: Naming, R: Wait>(rt: &R, alloc: Global, client: &mut Client<J>) -> bool {
     match shapes(rt, client) {
@@ -149,9 +182,9 @@ pub fn writes_meanwhile<J: Naming + Send + Sync, R: Threads + Wait + Sync>(
     rt: &R,
     alloc: Global,
     mut client: Client<J>,
-    flusher: Flusher<J>,
+    mut flusher: Flusher<J>,
 ) -> bool {
-    let is_ready = is_ready(rt, alloc, &mut client);
+    let is_ready = fills(rt, alloc, &mut client, &mut flusher) && is_ready(rt, alloc, &mut client);
     let flags = Flags::new();
     let told = &flags;
     let (built, read) = join(

@@ -1,7 +1,7 @@
 //! Command lines: read, and run over a script.
-use crate::told::{put, put_no_memory, put_number};
-use crate::window;
 use clap::error::ErrorKind;
+use refused_trees::told::{put, put_no_memory, put_number};
+use refused_trees::window;
 use shell::{Options, read_words, run_words};
 use std::alloc::Global;
 use std::fs::Files;

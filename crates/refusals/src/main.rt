@@ -5,23 +5,10 @@
 //! which requests for memory are the call's, and can refuse them (`tests/refusals/run` at the top).
 #![tactic(auto)]
 
-pub mod clients;
-pub mod engines;
-pub mod frame;
-pub mod held;
-pub mod image_scenes;
 pub mod line_scenes;
-pub mod live;
-pub mod looks;
 pub mod opening;
-pub mod runs;
 pub mod scenes;
-pub mod small;
-pub mod standing;
-pub mod told;
-pub mod trees;
-pub mod values;
-pub mod window;
+pub mod script;
 
 use crate::scenes::play;
 use std::alloc::Global;

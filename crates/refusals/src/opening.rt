@@ -1,18 +1,11 @@
 //! The volume that stands before a call: a script is run over a new volume of the smallest shape, with a step after each line.
-use crate::told::put;
-use node::Shape;
+use refused_trees::told::put;
+use refused_trees::trees::SMALL;
 use shell::{Tidy, run_script};
 use std::alloc::Global;
 use volume::Volume;
 
-/// The smallest shape.
-pub const SMALL: Shape = Shape {
-    fanout: 4,
-    pending: 4,
-    leaf: 4,
-};
-
-/// Runs a script with so many steps after each line; whether it came to its end.
+/// Runs a script with a step after each line; whether it came to its end.
 fn run(alloc: Global, volume: &mut Volume, script: &[u8], out: &mut Vec<u8>) -> bool {
     let mut rest = script;
     run_script(alloc, volume, &mut rest, out, &mut Tidy::new(1)).is_ok()

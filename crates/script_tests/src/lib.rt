@@ -1,0 +1,20 @@
+//! Tests of scripts and images over typed readers and writers: those that fail in the middle, paces, words of a line, replies, and command
+//! lines as they are read.
+#![tactic(auto)]
+
+#[cfg(test)]
+mod asked;
+#[cfg(test)]
+mod command_lines;
+#[cfg(test)]
+mod loaded;
+#[cfg(test)]
+mod paces;
+#[cfg(test)]
+mod pieces;
+#[cfg(test)]
+mod replies;
+#[cfg(test)]
+mod streams;
+#[cfg(test)]
+mod words;

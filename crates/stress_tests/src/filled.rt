@@ -1,0 +1,147 @@
+//! Volumes of many files, from whose roots jobs can be taken.
+use crate::asked::{SMALL, call_of, name_of};
+use crate::own::{OWNED, PLACE, mark_of};
+use engine::Room;
+use samples::{Ask, Told, file_name};
+use std::alloc::Global;
+use volume::{Index, TakeReply, Volume};
+
+/// How many files there are.
+const FILES: u32 = 300;
+
+/// How many steps are made at most.
+const STEPS: u32 = 10_000;
+
+/// Whether a call of the volume is answered so.
+pub fn answers(alloc: Global, volume: &mut Volume, ask: Ask<'_>, told: Told<'_>) -> bool {
+    match call_of(alloc, ask) {
+        Some(call) => told.is(&volume.call(alloc, &call, 0)),
+        None => false,
+    }
+}
+
+/// Makes a file with a byte.
+fn makes(alloc: Global, volume: &mut Volume, text: &str) -> bool {
+    answers(alloc, volume, Ask::Create(text), Told::Done)
+        && answers(alloc, volume, Ask::Write(text, 0, b"a"), Told::Count(1))
+}
+
+/// Makes the file of a number.
+fn makes_one(alloc: Global, volume: &mut Volume, number: u32) -> bool {
+    match file_name(alloc, number) {
+        Some(text) => makes(alloc, volume, text.as_str()),
+        None => false,
+    }
+}
+
+/// Makes all files, and then steps until nothing waits.
+fn fills(alloc: Global, volume: &mut Volume) -> bool {
+    let mut is_right = true;
+    for number in 0..FILES {
+        is_right &= makes_one(alloc, volume, number);
+    }
+    for _ in 0..STEPS {
+        if volume.relieve(alloc).is_none() {
+            return is_right;
+        }
+    }
+    false
+}
+
+/// A volume of many files with a byte each, in which nothing waits.
+pub fn filled_volume(alloc: Global) -> Option<Volume> {
+    let mut volume = Volume::new(alloc, SMALL).ok()?;
+    if fills(alloc, &mut volume) {
+        Some(volume)
+    } else {
+        None
+    }
+}
+
+/// The name of the snapshot that keeps the first marks.
+pub const FIRST: &str = "s";
+
+/// Writes the first mark to the file of a number.
+fn writes_first(alloc: Global, volume: &mut Volume, number: u32) -> bool {
+    let bytes = mark_of(u64::from(number), 0);
+    match file_name(alloc, number) {
+        Some(text) => {
+            answers(
+                alloc,
+                volume,
+                Ask::Write(text.as_str(), PLACE, &bytes),
+                Told::Count(8),
+            )
+        }
+        None => false,
+    }
+}
+
+/// Keeps the snapshot.
+fn keeps(alloc: Global, volume: &mut Volume) -> bool {
+    match name_of(alloc, FIRST) {
+        Some(name) => volume.snapshot(alloc, &name).is_ok(),
+        None => false,
+    }
+}
+
+/// A volume of many files with the first marks, which all wait in the roots, and a snapshot of that.
+fn kept_volume(alloc: Global) -> Option<Volume> {
+    let mut volume = filled_volume(alloc)?;
+    let mut is_right = true;
+    for number in 0..OWNED {
+        is_right &= writes_first(alloc, &mut volume, number);
+    }
+    if is_right && keeps(alloc, &mut volume) {
+        Some(volume)
+    } else {
+        None
+    }
+}
+
+/// A room with such a volume.
+pub fn kept_room(alloc: Global) -> Option<Room> {
+    room_of(alloc, kept_volume(alloc))
+}
+
+/// A room with a volume, if there is one.
+fn room_of(alloc: Global, volume: Option<Volume>) -> Option<Room> {
+    match volume {
+        Some(volume) => Room::new(alloc, volume).ok(),
+        None => None,
+    }
+}
+
+/// Whether a job was taken of the slot of the metadata's root in which the most messages wait.
+fn takes(alloc: Global, volume: &mut Volume) -> bool {
+    let Some(load) = volume.load(Index::Meta) else {
+        return false;
+    };
+    matches!(
+        volume.take_job(alloc, Index::Meta, load.slot),
+        TakeReply::Taken(_)
+    )
+}
+
+/// Whether jobs were taken of the two slots of the metadata's root in which a new file waits, and the moment of its directory.
+fn marks(alloc: Global, volume: &mut Volume) -> bool {
+    answers(alloc, volume, Ask::Create("/z"), Told::Done)
+        && takes(alloc, volume)
+        && takes(alloc, volume)
+        && volume.load(Index::Meta).is_none()
+}
+
+/// A volume of many files, and one more that waits behind marks.
+fn marked_volume(alloc: Global) -> Option<Volume> {
+    let mut volume = filled_volume(alloc)?;
+    if marks(alloc, &mut volume) {
+        Some(volume)
+    } else {
+        None
+    }
+}
+
+/// A room with such a volume.
+pub fn marked_room(alloc: Global) -> Option<Room> {
+    room_of(alloc, marked_volume(alloc))
+}

@@ -1,0 +1,57 @@
+//! An engine that is opened over a volume with marks has none.
+ghost use Rattle.std.specs.Prelude.{◌≡◌};
+
+use crate::filled::marked_room;
+use engine::{Between, Engine, Flusher, Naming, Room, TurnReply};
+use std::alloc::Global;
+use std::marker::Brand;
+use std::sync::Wait;
+
+/// Builds the job, and does nothing else.
+#[derive(Drop)]
+struct Nothing;
+
+impl Between for Nothing {
+    fn between(&mut self) {}
+}
+
+/// Whether a turn takes a job and installs it.
+fn installs<J: Naming, R: Wait>(rt: &R, alloc: Global, mut flusher: Flusher<J>) -> bool {
+    flusher.turn(rt, alloc, &mut Nothing) == TurnReply::Installed
+}
+
+/// The same of a flusher of this engine.
+fn installs_with<J: Naming, R: Wait>(rt: &R, alloc: Global, engine: &mut Engine<J>) -> bool {
+    match engine.flusher() {
+        Ok(flusher) => installs(rt, alloc, flusher),
+        Err(_) => false,
+    }
+}
+
+/// The same of an engine in this room.
+fn installs_in<J: Naming, R: Wait>(rt: &R, alloc: Global, room: Room) -> bool
+    requires { (room.0 ≡ J.table) × (room.1 ≡ J.opening) × (J.clients ≡ 1) }
+{
+    match Engine::<J>::open(alloc, room, 1) {
+        Ok((mut engine, _clients)) => installs_with(rt, alloc, &mut engine),
+        Err(_) => false,
+    }
+}
+
+/// An engine in this room.
+fn run<R: Wait>(rt: &R, alloc: Global, room: Room) -> bool {
+    installs_in::<Brand, R>(rt, alloc, room)
+}
+
+/// Whether the first turn takes a job, in a volume of whose slots all that have messages had marks.
+fn takes_at_first<R: Wait>(rt: &R, alloc: Global) -> bool {
+    match marked_room(alloc) {
+        Some(room) => run(rt, alloc, room),
+        None => false,
+    }
+}
+
+#[test]
+fn an_engine_opens_without_marks(rt: HostRuntime) {
+    assert!(rt; takes_at_first(&rt, rt.alloc()));
+}

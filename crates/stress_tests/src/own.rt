@@ -1,0 +1,361 @@
+//! A client among others: files that it alone writes, and calls on names that all share.
+ghost use Rattle.std.specs.Prelude.{◌≡◌};
+
+use crate::asked::{call_of, name_of};
+use crate::tally::{Course, Tally};
+use engine::{Client, Naming};
+use pathkey::Errno;
+use reference::{Call, Reply};
+use samples::{Ask, file_name};
+use std::alloc::Global;
+use std::sync::Wait;
+use std::thread::Parker;
+use std::time::Duration;
+
+/// How many clients there are.
+pub const CLIENTS: usize = 8;
+
+/// How many files each client alone writes.
+const FILES: usize = 16;
+
+/// How many files there are that one client alone writes.
+pub const OWNED: u32 = 128;
+
+/// Where a mark stands: over the end of a block, so that it lies in two.
+pub const PLACE: u64 = 4_092;
+
+/// Above this is the number of the file in a mark.
+const TAG: u64 = 1 << 32;
+
+/// The name of a snapshot that clients keep and drop.
+pub const LATER: &str = "t";
+
+/// What all clients ask for, over names that they share.
+const SHARED: &[Ask] = &[
+    Ask::Mkdir("/d"),
+    Ask::Create("/d/x"),
+    Ask::Write("/d/x", 4_090, b"over the end of a block"),
+    Ask::Read("/d/x", 0, 5_000),
+    Ask::Rename("/d/x", "/y"),
+    Ask::Mkdir("/d/e"),
+    Ask::Write("/y", 0, b"shared"),
+    Ask::Truncate("/y", 4_091),
+    Ask::Readdir("/"),
+    Ask::Rename("/d", "/e"),
+    Ask::Stat("/e/x"),
+    Ask::Unlink("/y"),
+    Ask::Readdir("/d"),
+    Ask::Rename("/e", "/d"),
+    Ask::Rmdir("/d/e"),
+    Ask::Rmtree("/d"),
+];
+
+/// The eight bytes of a file's mark: the number of the file, and how many marks came before, none at the first.
+pub fn mark_of(file: u64, count: u64) -> [u8; 8] {
+    file.wrapping_mul(TAG).wrapping_add(count).to_be_bytes()
+}
+
+/// What a client was answered.
+#[derive(Clone, Copy)]
+enum Found {
+    Count(u64),
+    /// So many bytes, which stand for this number.
+    Mark(usize, u64),
+    Fault(Errno),
+    Other,
+}
+
+impl Found {
+    /// Whether a whole mark was written.
+    fn is_written(self) -> bool {
+        matches!(self, Found::Count(8))
+    }
+
+    /// Whether memory was refused.
+    fn is_refused(self) -> bool {
+        matches!(self, Found::Fault(Errno::ENOMEM))
+    }
+}
+
+/// Rests for so short a time that others get the lock.
+pub fn rest<R: Wait>(rt: &R) {
+    Parker::new().park_timeout(rt, Duration::from_micros(20));
+}
+
+/// What a client knows of one of its files. At first it has the mark of number 0, and the first snapshot keeps that.
+#[derive(Clone, Copy)]
+struct Known {
+    /// The number of the mark that the client wrote last.
+    written: u64,
+    /// How many restores had ended before that was written.
+    ended: u64,
+    /// How many restores had begun when that was answered.
+    begun: u64,
+    /// Whether the client has read since that it is gone.
+    is_gone: bool,
+}
+
+impl Known {
+    /// Whether a read may find the mark of this number, where so many restores had ended before the read, and so many
+    /// had begun when it was answered.
+    ///
+    /// Where no restore came since the last mark was written, it is that mark. Where a restore of the first snapshot
+    /// surely came, it is the first mark, and stays so. Where one may have come, it is either. Where a later snapshot
+    /// may have come back, it is any mark that was written.
+    fn may_be(self, number: u64, course: Course, ended: u64, begun: u64) -> bool {
+        if self.ended == begun {
+            return number == self.written;
+        }
+        match course {
+            Course::Later => number <= self.written,
+            Course::First | Course::Rests => {
+                number == 0 || (number == self.written && !self.is_gone && ended <= self.begun)
+            }
+        }
+    }
+}
+
+/// What a client knows of its own files.
+#[derive(Drop)]
+pub struct Own {
+    client: usize,
+    seed: u64,
+    /// The file that it wrote last.
+    last: usize,
+    files: [Known; FILES],
+}
+
+impl Own {
+    /// What a client knows at first, by its number.
+    pub fn new(client: usize) -> Own {
+        let first = Known {
+            written: 0,
+            ended: 0,
+            begun: 0,
+            is_gone: false,
+        };
+        Own {
+            client: client % CLIENTS,
+            seed: (client as u64).wrapping_add(1),
+            last: 0,
+            files: [first; FILES],
+        }
+    }
+
+    /// The next number, which looks random.
+    fn draw(&mut self) -> usize {
+        self.seed = self
+            .seed
+            .wrapping_mul(6_364_136_223_846_793_005)
+            .wrapping_add(1_442_695_040_888_963_407);
+        ((self.seed >> 40) % 4_096) as usize
+    }
+
+    /// The number of a file among all: files that lie beside one another are of different clients.
+    fn number(&self, file: usize) -> u32 {
+        ((file % FILES) * CLIENTS + self.client % CLIENTS) as u32
+    }
+
+    /// Notes that the next mark was written to a file, where so many restores had ended before, and so many have begun.
+    fn note_write(&mut self, file: usize, ended: u64, begun: u64) {
+        let known = &mut self.files[file % FILES];
+        known.written = known.written.wrapping_add(1);
+        known.ended = ended;
+        known.begun = begun;
+        known.is_gone = false;
+        self.last = file;
+    }
+
+    /// Notes what a read found in a file, where so many restores had ended before, and so many have begun. Whether it
+    /// may be so.
+    fn note_read(
+        &mut self,
+        file: usize,
+        course: Course,
+        ended: u64,
+        begun: u64,
+        found: Found,
+    ) -> bool {
+        let Found::Mark(8, mark) = found else {
+            return false;
+        };
+        let is_of_file = mark / TAG == u64::from(self.number(file));
+        let known = &mut self.files[file % FILES];
+        let is_right = known.may_be(mark % TAG, course, ended, begun);
+        known.is_gone = mark % TAG != known.written;
+        is_of_file && is_right
+    }
+}
+
+/// The number that bytes stand for.
+fn number_of(bytes: &[u8]) -> u64 {
+    let mut number: u64 = 0;
+    for byte in bytes {
+        number = number.wrapping_mul(256).wrapping_add(u64::from(*byte));
+    }
+    number
+}
+
+/// What a reply says.
+fn found_in(reply: &Reply) -> Found {
+    match reply {
+        Reply::Count(count) => Found::Count(*count),
+        Reply::Data(bytes) => Found::Mark(bytes.as_slice().len(), number_of(bytes.as_slice())),
+        Reply::Fault(fault) => Found::Fault(*fault),
+        _ => Found::Other,
+    }
+}
+
+/// What a call of the client is answered.
+fn found_by<J: Naming, R: Wait>(
+    rt: &R,
+    alloc: Global,
+    client: &mut Client<J>,
+    call: &Call,
+) -> Found {
+    let reply = client.call(rt, alloc, call, 0);
+    found_in(&reply)
+}
+
+/// What the client is answered.
+fn asks<J: Naming, R: Wait>(rt: &R, alloc: Global, client: &mut Client<J>, ask: Ask<'_>) -> Found {
+    match call_of(alloc, ask) {
+        Some(call) => found_by(rt, alloc, client, &call),
+        None => Found::Other,
+    }
+}
+
+/// What the client is answered where it writes a mark to the file of a number.
+fn writes_mark<J: Naming, R: Wait>(
+    rt: &R,
+    alloc: Global,
+    client: &mut Client<J>,
+    file: u32,
+    count: u64,
+) -> Found {
+    let bytes = mark_of(u64::from(file), count);
+    match file_name(alloc, file) {
+        Some(text) => asks(rt, alloc, client, Ask::Write(text.as_str(), PLACE, &bytes)),
+        None => Found::Other,
+    }
+}
+
+/// What the client is answered where it reads the mark of the file of a number.
+fn reads_mark<J: Naming, R: Wait>(
+    rt: &R,
+    alloc: Global,
+    client: &mut Client<J>,
+    file: u32,
+) -> Found {
+    match file_name(alloc, file) {
+        Some(text) => asks(rt, alloc, client, Ask::Read(text.as_str(), PLACE, 9)),
+        None => Found::Other,
+    }
+}
+
+/// Writes the next mark to one of its files.
+fn writes<J: Naming, R: Wait>(
+    rt: &R,
+    alloc: Global,
+    client: &mut Client<J>,
+    own: &mut Own,
+    tally: &Tally,
+    file: usize,
+) -> bool {
+    let ended = tally.ended();
+    let count = own.files[file % FILES].written.wrapping_add(1);
+    let found = writes_mark(rt, alloc, client, own.number(file), count);
+    own.note_write(file, ended, tally.begun());
+    found.is_written()
+}
+
+/// Reads what one of its files holds.
+fn reads<J: Naming, R: Wait>(
+    rt: &R,
+    alloc: Global,
+    client: &mut Client<J>,
+    own: &mut Own,
+    tally: &Tally,
+    file: usize,
+) -> bool {
+    let ended = tally.ended();
+    let found = reads_mark(rt, alloc, client, own.number(file));
+    own.note_read(file, tally.course, ended, tally.begun(), found)
+}
+
+/// Whether a call on the later snapshot was done, or refused since there is one, or none.
+fn is_settled(settled: Result<(), Errno>) -> bool {
+    matches!(settled, Ok(()) | Err(Errno::EEXIST) | Err(Errno::ENOENT))
+}
+
+/// Keeps the later snapshot.
+fn keeps<J: Naming, R: Wait>(rt: &R, alloc: Global, client: &mut Client<J>) -> bool {
+    match name_of(alloc, LATER) {
+        Some(name) => is_settled(client.snapshot(rt, alloc, &name)),
+        None => false,
+    }
+}
+
+/// Drops the later snapshot.
+fn drops<J: Naming, R: Wait>(rt: &R, alloc: Global, client: &mut Client<J>) -> bool {
+    match name_of(alloc, LATER) {
+        Some(name) => is_settled(client.drop_snapshot(rt, &name)),
+        None => false,
+    }
+}
+
+/// A call on names that all share: whatever is answered, there is memory.
+fn shares<J: Naming, R: Wait>(
+    rt: &R,
+    alloc: Global,
+    client: &mut Client<J>,
+    number: usize,
+) -> bool {
+    let found = asks(rt, alloc, client, SHARED[number % SHARED.len()]);
+    !found.is_refused()
+}
+
+/// The next call.
+fn next<J: Naming, R: Wait>(
+    rt: &R,
+    alloc: Global,
+    client: &mut Client<J>,
+    own: &mut Own,
+    tally: &Tally,
+) -> bool {
+    let drawn = own.draw();
+    let last = own.last;
+    match drawn / 128 {
+        0..=9 => writes(rt, alloc, client, own, tally, drawn),
+        10..=14 => reads(rt, alloc, client, own, tally, drawn),
+        15..=19 => reads(rt, alloc, client, own, tally, last),
+        20 => keeps(rt, alloc, client),
+        21 => drops(rt, alloc, client),
+        _ => shares(rt, alloc, client, drawn),
+    }
+}
+
+/// Calls, the last on one of the client's own files, as long as the flushers want more of them. Whether each was
+/// answered as it may be, and recorded once.
+pub fn work<J: Naming, R: Wait>(
+    rt: &R,
+    alloc: Global,
+    client: &mut Client<J>,
+    mut own: Own,
+    tally: &Tally,
+) -> bool {
+    let mut is_right = true;
+    let mut made: u64 = 1;
+    for _ in 0..u32::MAX {
+        if !tally.wants(made) {
+            break;
+        }
+        is_right &= next(rt, alloc, client, &mut own, tally);
+        made = made.saturating_add(1);
+        if tally.wants_rest(made) {
+            rest(rt);
+        }
+    }
+    is_right &= reads(rt, alloc, client, &mut own, tally, 0);
+    is_right && client.made() == made
+}
