@@ -1,5 +1,5 @@
 //! Requests for memory that are refused in trees and in pending lists, and what the scenes of all layers share: the frame that makes
-//! a call between two lines, the words of a scene, and what is told of a call (`refusals/run` at the top).
+//! a call between two lines, the words of a scene, and what is told of a call (`tests/refusals/run` at the top).
 #![tactic(auto)]
 
 pub mod deeds;
