@@ -7,7 +7,7 @@ use Rattle.message.proofs.NextKey.{in_range, reaches-next}
 use Rattle.pathkey.specs.Keys.{Key, is_below, next_key}
 use Rattle.pathkey.specs.declared.range.KeyRange.{KeyRange}
 use Rattle.scan.specs.Pairs.{AreAhead, HasNone, IsFirst, IsGiven, IsScan}
-use Rattle.scan.proofs.AtHand.{ahead_later, ahead_none}
+use Rattle.scan.proofs.AtHand.{ahead_none}
 use Rattle.volume.specs.Cursors.{StandsAt, is_passed}
 
 module _ {V : Type 0} (f : List ℕ → Option V) where
@@ -16,10 +16,14 @@ module _ {V : Type 0} (f : List ℕ → Option V) where
   stands_new r None all ps n a e = ahead_none f r.lo r.hi all ps a e
   stands_new r (Some p) all ps n a e = absurd (cc)
 
-  -- a later key, which the pairs are ahead of too
+  -- the pairs are ahead of a later key too
+  ahead_later : (lo later : List ℕ) (hi : Option (List ℕ)) (all : Bool) (ps : List (List ℕ × V)) → reaches lo later ≡ true → AreAhead f lo hi all ps → AreAhead f later hi all ps
+  ahead_later lo later hi all ps h (from, low, scanned) = (from, le_le from lo later low h, scanned)
+
+  -- a later key, before which the first pair does not lie
   pub stands_later : (r : KeyRange) (later : Key) (o : Option (List ℕ × V)) (all : Bool) (ps : List (List ℕ × V)) → before later r.lo ≡ false → is_passed o later ≡ false
       → StandsAt f r o all ps → StandsAt f (record { lo = later; hi = r.hi }) o all ps
-  stands_later r later None all ps h p s = ahead_later f r.lo later r.hi all ps (reaches-from_not_before later r.lo h) s
+  stands_later r later None all ps h p s = ahead_later r.lo later r.hi all ps (reaches-from_not_before later r.lo h) s
   stands_later r later (Some q) all ps h p ((w, at, none), ahead) =
       let low : reaches r.lo later ≡ true = reaches-from_not_before later r.lo h in
       let high : is_below q.0 r.hi ≡ true = (both (reaches r.lo q.0) (is_below q.0 r.hi) w).1 in (
@@ -38,7 +42,7 @@ module _ {V : Type 0} (f : List ℕ → Option V) where
       → StandsAt f r o all ps → StandsAt f (record { lo = later; hi = r.hi }) n all ps
   stands_passed r later None n all ps p e s = absurd (cc)
   stands_passed r later (Some q) (Some z) all ps p e s = absurd (cc)
-  stands_passed r later (Some q) None all ps p e (first, ahead) = ahead_later f (next_key q.0) later r.hi all ps (reaches-next q.0 later ∙ p) ahead
+  stands_passed r later (Some q) None all ps p e (first, behind) = (next_key q.0, reaches-next q.0 later ∙ p, behind)
 
   -- nothing was given
   pub given_none : (lo : Key) (hi : Option Key) (o : Option (List ℕ × V)) (all : Bool) (ps : List (List ℕ × V)) → o ≡ None → IsGiven f lo hi o all ps → HasNone f lo hi
@@ -48,7 +52,7 @@ module _ {V : Type 0} (f : List ℕ → Option V) where
   -- none is left
   pub stands_ended : (r : KeyRange) (o : Option (List ℕ × V)) (ps : List (List ℕ × V)) → is_some o ≡ false → ps ≡ [] → HasNone f r.lo r.hi → StandsAt f r o true ps
   stands_ended r (Some p) ps n e none = absurd (cc)
-  stands_ended r None ps n e none = (r.lo, 1, reaches-refl r.lo, subst (λ (xs : List (List ℕ × V)). IsScan f r.lo r.hi 1 xs) (sym e) empty, λ _. (let l : length ps ≡ 0 = ap length e in omega arith))
+  stands_ended r None ps n e none = (r.lo, reaches-refl r.lo, (1, subst (λ (xs : List (List ℕ × V)). IsScan f r.lo r.hi 1 xs) (sym e) empty, λ _. (let l : length ps ≡ 0 = ap length e in omega arith)))
     where
       empty : IsScan f r.lo r.hi 1 []
       empty = record {
