@@ -102,8 +102,8 @@ impl Between for Nothing {
     fn between(&mut self) {}
 }
 
-/// Many files, nothing waits; then a snapshot, and one file more. It alone waits in the metadata, since a turn brings the moment of its
-/// directory down.
+/// Many files, nothing waits; then a snapshot, and one file more. It alone waits in the metadata, since its directory has its moment
+/// already.
 pub fn prepares<J: Naming, R: Wait>(
     rt: &R,
     alloc: Global,
@@ -114,7 +114,6 @@ pub fn prepares<J: Naming, R: Wait>(
         && turns_until_idle(rt, alloc, flusher).is_some()
         && fault_of(rt, alloc, client, Snap::Keep, "s").is_none()
         && answers(rt, alloc, client, Ask::Create("/z"), Told::Done)
-        && flusher.turn(rt, alloc, &mut Nothing) == TurnReply::Installed
 }
 
 /// A turn between whose taking and installing the client does this: whether turn and client are answered as they have to be.

@@ -123,10 +123,9 @@ fn takes(alloc: Global, volume: &mut Volume) -> bool {
     )
 }
 
-/// Whether jobs were taken of the two slots of the metadata's root in which a new file waits, and the moment of its directory.
+/// Whether a job was taken of the one slot of the metadata's root in which a message waits: a new file, whose directory has its moment.
 fn marks(alloc: Global, volume: &mut Volume) -> bool {
     answers(alloc, volume, Ask::Create("/z"), Told::Done)
-        && takes(alloc, volume)
         && takes(alloc, volume)
         && volume.load(Index::Meta).is_none()
 }
