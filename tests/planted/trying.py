@@ -27,6 +27,13 @@ ANSWER_ELSEWHERE = re.compile(r"(?:\./)?proofs/\S+\.antt:\d+:\d+: error: ")
 WEAK = re.compile(r"has no field|is not in scope|has no `|that can be named|was not admitted")
 UNREAD = re.compile(r"(?:\./)?((?:src|specs)/\S+?):(\d+):\d+: error")
 REFUSED = ": refused, as it must be"
+# What `rt` says of a refusal that tells nothing of a contract: the edit took away a name that a proof cites.
+BY_NAME_ALONE = "only because a proof file names"
+
+
+def is_refusal(line: str, label: str) -> bool:
+    """Whether the line of `rt` says that the edit of this label is refused, and not for a lost name alone."""
+    return label + REFUSED in line and BY_NAME_ALONE not in line
 
 
 class NotProved(Exception):
@@ -241,9 +248,9 @@ class Trial:
         shutil.rmtree(folder)
         label = {edit: f"must-fail {self.crate.name}/{edit.path.name}" for edit in edits}
         lines = said.split("\n")
-        refused = {edit for edit in edits if any(label[edit] + REFUSED in it for it in lines)}
+        refused = {edit for edit in edits if any(is_refusal(it, label[edit]) for it in lines)}
         for line in lines:
-            if REFUSED not in line or "only by a limit" in line or "only because" in line:
+            if REFUSED not in line or "only by a limit" in line or BY_NAME_ALONE in line:
                 self.say(line)
         return refused
 
