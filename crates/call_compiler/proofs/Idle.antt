@@ -1,5 +1,5 @@
 -- Messages that change nothing need not be sent.
-use Rattle.std.proofs.Common.{◌≡◌, ℕ, ◌≤◌, List, max, [], ◌∷◌, true, false, cond, refl, sym, ap, ◌∙◌, subst, arith, Option, Some, None}
+use Rattle.std.proofs.Common.{◌≡◌, ℕ, List, max, [], ◌∷◌, true, false, cond, refl, sym, ap, ◌∙◌, subst, arith, Option, Some, None}
 use Rattle.std.specs.Prelude.{◌==◌, nat_le, Ok}
 use Rattle.std.proofs.Math.Nat.{max-eq_left}
 use Rattle.std.proofs.lemmas.Bool.{and_parts, leb-true, eqb-true}
@@ -14,10 +14,11 @@ use Rattle.meta_index.specs.Updates.{means as meta_means}
 use Rattle.meta_index.proofs.Fresh.{means_alike}
 use Rattle.pathkey.specs.Enc.{enc}
 use Rattle.pathkey.specs.Keys.{Key, is_in}
-use Rattle.pathkey.specs.Names.{Path, IsPath, EachName, parent, text_len}
+use Rattle.pathkey.specs.Names.{Path, IsPath, parent}
 use Rattle.pathkey.specs.Order.{same}
 use Rattle.pathkey.specs.declared.range.KeyRange.{KeyRange}
 use Rattle.pathkey.proofs.OrderFacts.{same_true}
+use Rattle.pathkey.proofs.PathFacts.{parent_len, parent_names}
 use Rattle.reference.specs.Tree.{Tree, Dir, File, At, Found, Missing, Blocked, entry_at}
 use Rattle.reference.specs.Indexes.{Metadata, Blocks, cleared, edit_at, grow, meta_of, touch}
 use Rattle.reference.specs.Looks.{sighted}
@@ -46,16 +47,6 @@ idle_edit q change f idle k = elim (same q k) as (λ b. same q k ≡ b → f k �
 ] refl
 
 -- ---- moments of directories
-
-parent_names : (p : Path) → EachName p → EachName (parent p)
-parent_names [] h = tt
-parent_names (n ∷ []) h = tt
-parent_names (n ∷ m ∷ p) h = (h.0, parent_names (m ∷ p) h.1)
-
-parent_len : (p : Path) → text_len (parent p) ≤ text_len p
-parent_len [] = omega arith
-parent_len (n ∷ []) = omega arith
-parent_len (n ∷ m ∷ p) = omega (arith, parent_len (m ∷ p))
 
 parent_is : (p : Path) → IsPath p → IsPath (parent p)
 parent_is p h = record { names = parent_names p h.names; fits = omega (arith, parent_len p, h.fits) }

@@ -37,6 +37,7 @@ use Rattle.reference.proofs.Deepest.{Deepest, deepest_there}
 use Rattle.reference.proofs.Edits.{alike, look_from}
 use Rattle.reference.proofs.EntryPaths.{append-nil as path_nil, along}
 use Rattle.reference.proofs.IndexLaws.{rename_law}
+use Rattle.reference.proofs.MovedKeys.{looked}
 use Rattle.reference.proofs.RenameLooks.{IsMoved, none_below, rename_moves}
 use Rattle.reference.proofs.Standing.{found_from, seen_found, file_seen, rising-found, below_deepest}
 use Rattle.reference.proofs.Touching.{reply_is, done_law}
@@ -78,11 +79,7 @@ subtrees_apart o n old new above below k inside = false_from_ne_true (is_in (sub
       | inr f ↦ let r = under_from_key n o f.0 new.names old.names (sym f.1) in above r.0 r.1
     ])
 
--- metadata tells that something is seen, and what is seen has metadata
-looked : (s : Option Sight) (v : Meta) → meta_of s ≡ Some v → (k : Sight) × (s ≡ Some k)
-looked None v h = absurd (cc)
-looked (Some k) v h = (k, refl)
-
+-- what is seen has metadata
 metadata_seen : (s : Sight) → (v : Meta) × (meta_of (Some s) ≡ Some v)
 metadata_seen (Seen Directory date) = (_, refl)
 metadata_seen (Seen (Bytes b) date) = (_, refl)

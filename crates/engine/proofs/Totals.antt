@@ -1,5 +1,6 @@
 -- The calls of all clients are all calls, and a list of no more clients than the engine has, in which each is there, has each once.
 use Rattle.std.proofs.Common.{◌≡◌, ◌≢◌, ◌⊎◌, ℕ, ◌+◌, ◌<◌, ◌≤◌, List, [], ◌∷◌, ◌++◌, length, zero, suc, Bool, ◌==◌, if◌then◌else◌, refl, sym, ap, ◌∙◌, subst, arith, inl, inr, ⊎_elim, eq-eqb, ne_eqb}
+use Rattle.std.proofs.lemmas.Bool.{cases_eq}
 use Rattle.engine.specs.Histories.{Entry, own, AllBelow}
 use Rattle.engine.specs.Clients.{Known}
 use Rattle.engine.specs.Ends.{Agrees, AllAgree, times_in, HasEach, EachOnce, Within, made_by_all}
@@ -81,14 +82,8 @@ one_below (suc n) c lt =
     let here : (if n == c then 1 else 0) ≡ 0 = ap weight (ne_eqb n c other) in
     let rest : once_below n c ≡ 1 = one_below n c (below-or n c lt other) in
     omega (arith, here, rest))
-    (same-or n c)
+    (cases_eq n c)
   where
-    same-or : (a b : ℕ) → (a ≡ b) ⊎ (a ≢ b)
-    same-or zero zero = inl refl
-    same-or zero (suc b) = inr (λ e. let x = e in absurd (omega arith))
-    same-or (suc a) zero = inr (λ e. let x = e in absurd (omega arith))
-    same-or (suc a) (suc b) = ⊎_elim (λ (e : a ≡ b). inl (ap suc e)) (λ (n : a ≢ b). inr (λ e. n (omega (arith, e)))) (same-or a b)
-
     below-or : (n c : ℕ) → c < suc n → n ≢ c → c < n
     below-or zero zero lt other = absurd (other refl)
     below-or zero (suc c) lt other = omega (arith, lt)

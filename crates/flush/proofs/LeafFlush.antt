@@ -1,6 +1,6 @@
 -- A flush of one slot into a leaf, in the words of its row.
 use Rattle.std.proofs.Common.{◌≡◌, ℕ, suc, ◌+◌, ◌-◌, ◌<◌, ◌≤◌, Bool, true, false, List, [], ◌∷◌, length, get_or, take, drop, refl, ap, sym, ◌∙◌, subst, arith, cond, pred, Option, Some, None, inl, inr, ⊎_elim, length-drop, length-append}
-use Rattle.std.specs.Prelude.{◌&&◌, nat_le, IsTrue, ◌⊎◌, ⊤, Result, Ok, Err, is_err, is_ok, OnErr}
+use Rattle.std.specs.Prelude.{◌&&◌, nat_le, IsTrue, ◌⊎◌, ⊤, Result, Ok, Err, is_err}
 use Rattle.std.proofs.Math.ListN.{set}
 use Rattle.std.proofs.Math.Seq.{take-length}
 use Rattle.std.proofs.lemmas.List.{length-take-le}
@@ -56,11 +56,6 @@ pub some_leaf : (S : Shape) → IsTrue (is_shape S) → 4 ≤ S.leaf
 some_leaf S h =
     let p = both (is_between 4 64 S.fanout && is_between S.fanout 1024 S.pending) (is_between 4 1024 S.leaf) h in
     leb-true 4 S.leaf (both (nat_le 4 S.leaf) (nat_le S.leaf 1024) p.1).0
-
--- what holds of a result that is no value
-pub same_err : {T X : Type 0} (r : Result T X) (A : Type 0) → OnErr r A → is_ok r ≡ false → A
-same_err (Ok x) A a h = (cc)
-same_err (Err e) A a h = a
 
 module _ {U V : Type 0} (means : U → Option V → Option V) where
   -- ---- room for a message

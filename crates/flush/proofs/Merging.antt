@@ -16,7 +16,7 @@ use Rattle.message.proofs.KeyOrder.{both, reaches-refl, from_start, within-same,
 use Rattle.node.specs.Lawful.{first_key, Rises, TouchOnly}
 use Rattle.node.specs.Meaning.{lookup}
 use Rattle.node.specs.Leaves.{Applied}
-use Rattle.node.proofs.EntryFacts.{first_below, rises_from, rises-append, lookup-append, lookup_outside}
+use Rattle.node.proofs.EntryFacts.{first_below, rises_from, rises-append, lookup-append, lookup_outside, or_none}
 use Rattle.node.proofs.Applying.{applied_then, applied_more}
 use Rattle.flush.specs.Merge.{HoldsOnly, IsFilled, IsLaidBehind}
 
@@ -101,10 +101,6 @@ module _ {V : Type 0} where
   as_many xs ys zs ts h = sym (length-append xs ys) ∙ ap length h ∙ length-append zs ts
 
   -- a look-up of which the middle changes
-  or_none : (o : Option V) → option_or o None ≡ o
-  or_none None = refl
-  or_none (Some v) = refl
-
   changed_between : (x h a y : Option V) (t : Bool) (f : Option V → Option V) → (t ≡ true → (x ≡ None) × (y ≡ None)) → a ≡ cond t (f h) h → option_or x (option_or a y) ≡ cond t (f (option_or x (option_or h y))) (option_or x (option_or h y))
   changed_between None h a None true f n e = or_none a ∙ e ∙ ap f (sym (or_none h))
   changed_between None h a (Some v) true f n e = absurd (let q : Some v ≡ None = (n refl).1 in (cc))

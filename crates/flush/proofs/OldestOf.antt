@@ -1,5 +1,6 @@
 -- The oldest message of a list, as the code asks for it, and the oldest few.
-use Rattle.std.proofs.Common.{◌≡◌, ℕ, zero, suc, ◌<◌, ◌≤◌, List, [], ◌∷◌, length, take, refl, ap, sym, ◌∙◌, subst, Option, Some, None, arith, Bool, false, true, Result, ⊎_elim}
+use Rattle.std.proofs.Common.{◌≡◌, ℕ, zero, suc, ◌<◌, ◌≤◌, List, [], ◌∷◌, length, length-take, take, refl, ap, sym, ◌∙◌, subst, Option, Some, None, arith, Bool, false, true, Result, ⊎_elim}
+use Rattle.std.proofs.lemmas.List.{take-take}
 use Rattle.std.proofs.lemmas.Option.{same_Some}
 use Rattle.std.specs.Prelude.{Ok, Err, is_ok, is_err}
 use Rattle.pathkey.specs.Order.{same}
@@ -21,17 +22,10 @@ first_of (x ∷ ys) h = (x, ys, refl)
 
 -- the first few of the first few
 pub take_few : {X : Type 0} (xs : List X) (k n : ℕ) → k ≤ length (take n xs) → take k (take n xs) ≡ take k xs
-take_few xs zero n h = refl
-take_few [] (suc k) zero h = refl
-take_few [] (suc k) (suc n) h = refl
-take_few (x ∷ xs) (suc k) zero h = absurd (omega (arith, h))
-take_few (x ∷ xs) (suc k) (suc n) h = ap (λ ys. x ∷ ys) (take_few xs k n (omega (arith, h)))
+take_few xs k n h = take-take k n xs (omega (arith, h, length-take n xs))
 
 pub few_long : {X : Type 0} (xs : List X) (n k : ℕ) → k ≤ length (take n xs) → k ≤ length xs
-few_long xs zero k h = omega (arith, h)
-few_long [] (suc n) k h = h
-few_long (x ∷ xs) (suc n) zero h = omega arith
-few_long (x ∷ xs) (suc n) (suc k) h = let q = few_long xs n k (omega (arith, h)) in omega (arith, q)
+few_long xs n k h = omega (arith, h, length-take n xs)
 
 module _ {U V : Type 0} where
   -- a message that may give a value to a key touches that key alone

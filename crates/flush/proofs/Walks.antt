@@ -11,7 +11,7 @@ use Rattle.node.specs.RootSteps.{levels}
 use Rattle.node.specs.See.{seen_slots}
 use Rattle.node.specs.Weights.{longest}
 use Rattle.node.proofs.Roots.{small_shape}
-use Rattle.node.proofs.Sizes.{exact_levels, root_levels}
+use Rattle.node.proofs.Sizes.{exact_levels, low_root, root_levels}
 
 module _ {U V : Type 0} where
   -- the child of the slot that the code reads
@@ -53,18 +53,13 @@ module _ {U V : Type 0} where
     walkable_root h (leaf es) l = absurd l
     walkable_root h (inner ss) l = (l.0, omega (arith, l.2, few), walkable_slots h ss None l.4)
 
-  -- a lawful root is at most 16 levels high
-  root_low : (S : Shape) (h : ℕ) (n : PNode U V) → IsLawfulRoot S n h → h ≤ 16
-  root_low S h (leaf es) l = absurd l
-  root_low S h (inner ss) l = l.1
-
   -- the height that was counted is that of the lawful tree
   height_is : (t : PTree U V) (x : ℕ) (n : PNode U V) (l : IsLawful t) → n ≡ t.root → x ≤ levels n → (x < 2 ^ 127 → x ≡ levels n) → x ≡ l.levels
   height_is t x n l e low exact = exact_levels t x n e l low exact ∙ root_levels t.shape l.levels t.root l.root
 
   -- it is at most 16
   pub height_low : (t : PTree U V) (x : ℕ) (n : PNode U V) → IsLawful t → n ≡ t.root → x ≤ levels n → (x < 2 ^ 127 → x ≡ levels n) → x ≤ 16
-  height_low t x n l e low exact = omega (arith, height_is t x n l e low exact, root_low t.shape l.levels t.root l.root)
+  height_low t x n l e low exact = omega (arith, height_is t x n l e low exact, low_root t.shape t.root l.levels l.root)
 
   -- and a walk goes so far down
   pub walkable_tree : (t : PTree U V) (x : ℕ) (n : PNode U V) → IsLawful t → n ≡ t.root → x ≤ levels n → (x < 2 ^ 127 → x ≡ levels n) → IsWalkable x n

@@ -11,20 +11,13 @@ use Rattle.lines.specs.Texts.{hex_text}
 use Rattle.reference.specs.Image.{block_line, block_lines, trimmed}
 use Rattle.reference.specs.Indexes.{most_blocks}
 use Rattle.reference.proofs.ImageBytes.{keep, trimmed_is}
+use Rattle.reference.proofs.LastBlock.{trimmed_same}
 use Rattle.reference.specs.Tree.{File, At, Found}
 use Rattle.std.specs.Option.{option_to_list}
 use Rattle.volume.specs.Walks.{AreBlocks, AreBlocksAt, IsBlock, block_bytes}
 use Rattle.volume.proofs.Walks.{past_bytes}
 
 -- ---- trailing zeros
-
--- bytes that agree, with zeros behind their ends, are trimmed to the same
-pub same_trimmed : (xs ys : List ℕ) → ((j : ℕ) → get_or xs j 0 ≡ get_or ys j 0) → trimmed xs ≡ trimmed ys
-same_trimmed [] [] h = refl
-same_trimmed [] (y ∷ ys) h = ap (keep 0) (same_trimmed [] ys (λ j. h (suc j))) ∙ ap (λ (b : ℕ). keep b (trimmed ys)) (h 0) ∙ sym (trimmed_is y ys)
-same_trimmed (x ∷ xs) [] h = trimmed_is x xs ∙ ap (λ (b : ℕ). keep b (trimmed xs)) (h 0) ∙ ap (keep 0) (same_trimmed xs [] (λ j. h (suc j)))
-same_trimmed (x ∷ xs) (y ∷ ys) h =
-    trimmed_is x xs ∙ ap (λ (b : ℕ). keep b (trimmed xs)) (h 0) ∙ ap (keep y) (same_trimmed xs ys (λ j. h (suc j))) ∙ sym (trimmed_is y ys)
 
 -- bytes that end in another than zero are trimmed
 trimmed_end : (xs : List ℕ) (b : ℕ) → b ≢ 0 → trimmed (xs ++ b ∷ []) ≡ xs ++ b ∷ []
@@ -39,7 +32,7 @@ trimmed_end (x ∷ xs) b ne = trimmed_is x (xs ++ b ∷ []) ∙ ap (keep x) (tri
 
 -- a last byte that is zero goes
 pub trimmed_less : (bytes : List ℕ) (k : ℕ) → get_or bytes k 0 ≡ 0 → trimmed (take k bytes) ≡ trimmed (take (k + 1) bytes)
-trimmed_less bytes k e = same_trimmed (take k bytes) (take (k + 1) bytes) at
+trimmed_less bytes k e = trimmed_same (take k bytes) (take (k + 1) bytes) at
   where
     at : (j : ℕ) → get_or (take k bytes) j 0 ≡ get_or (take (k + 1) bytes) j 0
     at j = ⊎_elim
@@ -83,7 +76,7 @@ zero_at n k = ⊎_elim
 
 -- zeros behind bytes are trimmed away
 trimmed_zeros : (v : List ℕ) (n : ℕ) → trimmed (v ++ zeros_of n) ≡ trimmed v
-trimmed_zeros v n = same_trimmed (v ++ zeros_of n) v (λ j. ⊎_elim
+trimmed_zeros v n = trimmed_same (v ++ zeros_of n) v (λ j. ⊎_elim
     (λ (h : j < length v). get_or_append_left v (zeros_of n) 0 j h)
     (λ (h : length v ≤ j). get_or-append_right v (zeros_of n) (length v) j 0 refl h ∙ zero_at n (j - length v) ∙ sym (get_or_past v j 0 h))
     (cases_lt j (length v)))

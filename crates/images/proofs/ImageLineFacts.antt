@@ -23,6 +23,7 @@ use Rattle.reference.specs.Image.{Text, Version, First, Second, directory_letter
 use Rattle.reference.specs.ImageLines.{Line, DirectoryLine, FileLine, BlockLine, spelled, IsLine, IsBlock, IsTold}
 use Rattle.reference.specs.Shape.{AreBytes}
 use Rattle.reference.proofs.ImageTexts.{Visible, path_visible, decimal_visible, percent_cases}
+use Rattle.reference.proofs.LinesRead.{no_block as no_block_letter}
 use Rattle.reference.proofs.OneImage.{letters_differ}
 use Rattle.images.specs.Image.{directory_text, file_text}
 use Rattle.images.specs.ImageLines.{CutsMoment, Guesses, IsRoot}
@@ -218,11 +219,6 @@ behind [] = []
 behind (x ∷ []) = []
 behind (x ∷ y ∷ xs) = xs
 
--- the letters of the kinds of lines differ
-no_block_letter : (v : Version) → (directory_letter v ≢ 98) × (file_letter v ≢ 98)
-no_block_letter First = ((λ e. omega arith), (λ e. omega arith))
-no_block_letter Second = ((λ e. omega arith), (λ e. omega arith))
-
 module _ (v : Version) (words : Text) where
   pub no_directory : ((p : Path) (at : ℕ) → IsLine v (DirectoryLine p at) → words ≡ path_text p ++ moment_text v at → ⊥) → Guesses v (directory_letter v ∷ 32 ∷ words) None
   no_directory h = no_guess v (directory_letter v ∷ 32 ∷ words) go
@@ -299,14 +295,6 @@ block_words words front back i b h few e = cut_parts words front back (decimal i
 -- the number that a word spells
 pub number_spelled : (word : Text) (n : ℕ) → n < 2 ^ 64 → word ≡ decimal n → number_of word ≡ Some n
 number_spelled word n h e = ap number_of e ∙ number_read n h
-
-pub some_is : (n m : ℕ) → ◌≡◌ {A = Option ℕ} (Some n) (Some m) → n ≡ m
-some_is n m e = cc
-
-pub some_both : (n a m b : ℕ) → ◌≡◌ {A = Option (ℕ × ℕ)} (Some (n, a)) (Some (m, b)) → (n ≡ m) × (a ≡ b)
-some_both n a m b e =
-    let same : (n, a) ≡ (m, b) = cc in
-    (ap (λ (p : ℕ × ℕ). p.0) same, ap (λ (p : ℕ × ℕ). p.1) same)
 
 pub never_cut_number : (text : Text) (i : ℕ) (r : Text) → All (λ b. b ≢ 32) text → i < 2 ^ 28 → text ≡ decimal i ++ 32 ∷ r → ⊥
 never_cut_number text i r h few e = no_space_there (decimal i) r (subst NoSpace e (no_space_from_all text h))

@@ -4,6 +4,7 @@ use Rattle.std.specs.Prelude.{IfOk, IfSome}
 use Rattle.std.specs.Result.{is_ok}
 use Rattle.std.specs.declared.cmp.Ordering.TheVariants.{Less}
 use Rattle.std.proofs.lemmas.Bool.{cases_lt, ltb-false, le-ltb}
+use Rattle.std.proofs.lemmas.Option.{same_Some}
 use Rattle.pathkey.specs.Enc.{enc}
 use Rattle.pathkey.specs.Names.{Path, IsPath, parent}
 use Rattle.pathkey.specs.Order.{by_bytes}
@@ -234,15 +235,12 @@ block_at old v i j off b number same count block fits counts =
     subst (λ (k : ℕ). LoadsNext (BlockLine i b) old (record { volume = v; version = old.version; lines = number; last = old.last; modified = old.modified; len = old.len; next = k + 1 })) (sym same)
     (block_done old v i b fits.file number counts.0 count block fits.is_file fits.behind (omega arith) told)
 
-some_same : (n k : ℕ) → ◌≡◌ {A = Option ℕ} (Some n) (Some k) → n ≡ k
-some_same n k e = cc
-
 pub no_file_refused : (old : Loading) (i : ℕ) (b : List ℕ) → old.len ≡ None → MayNotFollow (BlockLine i b) old
 no_file_refused old i b none = λ s is follows. let clash : ◌≡◌ {A = Option ℕ} None (Some follows.len) = sym none ∙ is.len ∙ follows.file in cc
 
 pub block_refused : (old : Loading) (i : ℕ) (b : List ℕ) (len : ℕ) → old.len ≡ Some len → (i < old.next) ⊎ (len < 4096 * i + length b) → MayNotFollow (BlockLine i b) old
 block_refused old i b len file bad = λ s is follows.
-    let same : len ≡ follows.len = some_same len follows.len (sym file ∙ is.len ∙ follows.file) in
+    let same : len ≡ follows.len = same_Some len follows.len (sym file ∙ is.len ∙ follows.file) in
     let rises : next_block s.lines ≤ i = follows.rises in
     let inside : 4096 * i + length b ≤ follows.len = follows.inside in
     let at : old.next ≡ next_block s.lines = is.next in

@@ -21,13 +21,14 @@ use Rattle.jobs.proofs.MarkFacts.{each_map, each_two, standing, moved, kept_some
 use Rattle.jobs.proofs.Moves.{still_stands, still_has, append_moves, graft_moves}
 
 module _ {U V : Type 0} (means : U → Option V → Option V) where
+  -- where the tree stays, so does the content of each mark
+  pub contents_stay : (t : PTree U V) (ms : List Mark) → Each (KeepsContent means t t) ms
+  contents_stay t [] = tt
+  contents_stay t (m ∷ ms) = (λ c h. h, contents_stay t ms)
+
   -- where nothing changes
   pub kept_same : (a b : PTree U V) (ms : List Mark) (given : ℕ) → AreMarks a.root 0 ms given → b ≡ a → AllKept means a b ms given
-  kept_same a b ms given h e = subst (λ t. AllKept means a t ms given) (sym e) (h, all ms)
-    where
-      all : (ms : List Mark) → Each (KeepsContent means a a) ms
-      all [] = tt
-      all (m ∷ ms) = (λ c h. h, all ms)
+  kept_same a b ms given h e = subst (λ t. AllKept means a t ms given) (sym e) (h, contents_stay a ms)
 
   -- an append that keeps the lists of marked slots
   kept_appended : (msgs : List (Msg U V)) (a b : PTree U V) (ms : List Mark) (given : ℕ) (kept : List ℕ) → AreMarks a.root 0 ms given → kept ≡ kept_in ms a.root → Appended means msgs a b → KeepsLists kept msgs a.root b.root → AllKept means a b ms given

@@ -2,8 +2,7 @@
 use Rattle.std.proofs.Common.{◌≡◌, ℕ, ◌+◌, ◌<◌, ◌≤◌, Bool, true, false, List, [], ◌∷◌, ◌++◌, length, get_or, refl, ap, sym, ◌∙◌, subst, arith, cond, Option, Some, None, add-one}
 use Rattle.std.specs.Prelude.{◌==◌}
 use Rattle.std.specs.List.{remove}
-use Rattle.std.proofs.lemmas.Bool.Decides.{nat_tests}
-use Rattle.std.proofs.lemmas.Bool.{cond_both}
+use Rattle.std.proofs.lemmas.Bool.{both_ways, cond_both, eqb-true}
 use Rattle.std.proofs.lemmas.Option.{same_Some}
 use Rattle.pathkey.specs.Order.{same}
 use Rattle.pathkey.proofs.OrderFacts.{same_itself, same_false, apart}
@@ -37,18 +36,24 @@ pub fewer_without : (t : ℕ) (ms : List Mark) → length (without t ms) ≤ len
 fewer_without t [] = omega arith
 fewer_without t (m ∷ ms) = cond_both (m.ticket == t) ms (m ∷ without t ms) (λ z. length z ≤ length (m ∷ ms)) (λ e. omega arith) (λ e. let q = fewer_without t ms in omega (arith, q))
 
+-- without a place among the others
+pub none_later : (o : Option ℕ) → one_more o ≡ None → o ≡ None
+none_later None e = refl
+none_later (Some i) e = (cc)
+
+-- a place among the others
+pub place_later : (i : ℕ) (o : Option ℕ) → one_more o ≡ Some i → (j : ℕ) × (o ≡ Some j) × (j + 1 ≡ i)
+place_later i None e = (cc)
+place_later i (Some j) e = (j, refl, same_Some (j + 1) i e)
+
 -- where no mark has the ticket, all stay
 pub without_none : (t : ℕ) (ms : List Mark) → place_of t ms ≡ None → ms ≡ without t ms
 without_none t [] h = refl
 without_none t (m ∷ ms) h =
     (elim (m.ticket == t) as (λ b. cond b (Some 0) (one_more (place_of t ms)) ≡ None → m ∷ ms ≡ cond b ms (m ∷ without t ms)) [
       | true ↦ λ e. (cc)
-      | false ↦ λ e. ap (λ z. m ∷ z) (without_none t ms (none (place_of t ms) e))
+      | false ↦ λ e. ap (λ z. m ∷ z) (without_none t ms (none_later (place_of t ms) e))
     ]) h
-  where
-    none : (o : Option ℕ) → one_more o ≡ None → o ≡ None
-    none None e = refl
-    none (Some i) e = (cc)
 
 -- the mark taken away by its number
 pub without_place : (t i : ℕ) (ms : List Mark) → place_of t ms ≡ Some i → remove ms i ≡ without t ms
@@ -63,21 +68,12 @@ without_place t i (m ∷ ms) h =
     later None f q e = (cc)
     later (Some j) f q e = subst (λ n. remove (m ∷ ms) n ≡ m ∷ without t ms) (sym (add-one j) ∙ same_Some (j + 1) i e) (ap (λ z. m ∷ z) (f j q))
 
--- numbers that are tested equal are one
-pub one_number : (x y : ℕ) → (x == y) ≡ true → x ≡ y
-one_number x y e = grind (arith, nat_tests)
-
--- a place among the others
-pub place_later : (i : ℕ) (o : Option ℕ) → one_more o ≡ Some i → (j : ℕ) × (o ≡ Some j) × (j + 1 ≡ i)
-place_later i None e = (cc)
-place_later i (Some j) e = (j, refl, same_Some (j + 1) i e)
-
 -- the mark with the ticket is one of those that begin elsewhere
 found : (lo : List ℕ) (t : ℕ) (m : Mark) (xs : List Mark) (j : ℕ) → NoneAt m.range.lo xs → Each (λ n. n.ticket ≡ t → n.range.lo ≡ lo) xs → place_of t xs ≡ Some j → m.range.lo ≡ lo → ⊥
 found lo t m [] j a g e z = (cc)
 found lo t m (x ∷ xs) j a g e z =
     (elim (x.ticket == t) as (λ b. (x.ticket == t) ≡ b → cond b (Some 0) (one_more (place_of t xs)) ≡ Some j → ⊥) [
-      | true ↦ λ u v. apart x.range.lo m.range.lo a.0 (g.0 (one_number x.ticket t u) ∙ sym z)
+      | true ↦ λ u v. apart x.range.lo m.range.lo a.0 (g.0 (eqb-true x.ticket t u) ∙ sym z)
       | false ↦ λ u v. let p = place_later j (place_of t xs) v in found lo t m xs p.0 a.1 g.1 p.1 z
     ]) refl e
 
@@ -86,7 +82,7 @@ pub at_place : (Q : Mark → Type 0) (t i : ℕ) (ms : List Mark) (d : Mark) →
 at_place Q t i [] d e h = (cc)
 at_place Q t i (m ∷ ms) d e h =
     (elim (m.ticket == t) as (λ b. (m.ticket == t) ≡ b → cond b (Some 0) (one_more (place_of t ms)) ≡ Some i → Q (get_or (m ∷ ms) i d)) [
-      | true ↦ λ u v. subst (λ n. Q (get_or (m ∷ ms) n d)) (same_Some 0 i v) (h.0 (one_number m.ticket t u))
+      | true ↦ λ u v. subst (λ n. Q (get_or (m ∷ ms) n d)) (same_Some 0 i v) (h.0 (eqb-true m.ticket t u))
       | false ↦ λ u v. let p = place_later i (place_of t ms) v in subst (λ n. Q (get_or (m ∷ ms) n d)) (sym (add-one p.0) ∙ p.2) (at_place Q t p.0 ms d p.1 h.1)
     ]) refl e
 
@@ -137,16 +133,13 @@ module _ {U V : Type 0} where
   pub kept_some : (root : PNode U V) (from : ℕ) (ms : List Mark) (given : ℕ) → AreMarks root from ms given → Each (λ m. 0 < kept_at ms m.range.lo) ms
   kept_some root from [] given h = tt
   kept_some root from (m ∷ ms) given h = (
-    by_number (same m.range.lo m.range.lo) m.count (kept_at ms m.range.lo) (λ e. has_some root m h.1) (λ e. absurd (clash (same_itself m.range.lo) e)),
+    by_number (same m.range.lo m.range.lo) m.count (kept_at ms m.range.lo) (λ e. has_some root m h.1) (λ e. absurd (both_ways (same m.range.lo m.range.lo) e (same_itself m.range.lo))),
     each_map (λ n. 0 < kept_at ms n.range.lo) (λ n. 0 < kept_at (m ∷ ms) n.range.lo) ms (λ n k. by_number (same m.range.lo n.range.lo) m.count (kept_at ms n.range.lo) (λ e. has_some root m h.1) (λ e. k)) (kept_some root (m.ticket + 1) ms given h.3),
   )
     where
       by_number : (b : Bool) (x y : ℕ) → (b ≡ true → 0 < x) → (b ≡ false → 0 < y) → 0 < cond b x y
       by_number true x y f g = f refl
       by_number false x y f g = g refl
-
-      clash : {b : Bool} → b ≡ true → b ≡ false → ⊥
-      clash p q = (cc)
 
   -- a slot that keeps none has no mark
   pub none_at : (root : PNode U V) (lo : List ℕ) (from : ℕ) (ms : List Mark) (given : ℕ) → AreMarks root from ms given → kept_at ms lo ≡ 0 → NoneAt lo ms
@@ -167,7 +160,7 @@ module _ {U V : Type 0} where
   others_apart lo t from [] root given h f p = tt
   others_apart lo t from (m ∷ ms) root given h f p =
       (elim (m.ticket == t) as (λ b. (m.ticket == t) ≡ b → cond b (Some 0) (one_more (place_of t ms)) ≡ Some p.0 → Each (λ n. n.range.lo ≡ lo → ⊥) (cond b ms (m ∷ without t ms))) [
-        | true ↦ λ e q. each_map (λ n. same n.range.lo m.range.lo ≡ false) (λ n. n.range.lo ≡ lo → ⊥) ms (λ n a z. apart n.range.lo m.range.lo a (z ∙ sym (f.0 (one_number m.ticket t e)))) h.2
+        | true ↦ λ e q. each_map (λ n. same n.range.lo m.range.lo ≡ false) (λ n. n.range.lo ≡ lo → ⊥) ms (λ n a z. apart n.range.lo m.range.lo a (z ∙ sym (f.0 (eqb-true m.ticket t e)))) h.2
         | false ↦ λ e q. (λ z. first (place_of t ms) refl q z, others_apart lo t (m.ticket + 1) ms root given h.3 f.1 (there (place_of t ms) refl q))
       ]) refl p.1
     where

@@ -1,6 +1,7 @@
 -- What is read of a slot of which a job is taken.
 use Rattle.std.proofs.Common.{◌≡◌, ℕ, zero, suc, ◌+◌, ◌<◌, ◌≤◌, Bool, true, false, List, [], ◌∷◌, ◌++◌, length, get_or, take, drop, refl, ap, sym, ◌∙◌, subst, arith, Option, None, pred}
 use Rattle.std.specs.Prelude.{◌&&◌, ◌==◌, IsTrue}
+use Rattle.std.proofs.lemmas.Bool.{eqb-true}
 use Rattle.std.proofs.lemmas.List.{length-take-le}
 use Rattle.message.specs.declared.msg.Msg.{Msg}
 use Rattle.message.specs.Effects.{effects}
@@ -28,7 +29,7 @@ use Rattle.jobs.specs.Job.{PJob, FitBelow, IsJob}
 use Rattle.jobs.specs.Marks.{IsMarked, Stands, MarkHas, AreMarks, kept_at}
 use Rattle.jobs.specs.Replies.{IsJobOf, IsOf, can_take_at, can_take_first, mark_of}
 use Rattle.jobs.specs.Taking.{AreOldest, AreRootSlots, CanBeTaken}
-use Rattle.jobs.proofs.MarkFacts.{one_number, none_at, marks_more}
+use Rattle.jobs.proofs.MarkFacts.{none_at, marks_more}
 use Rattle.jobs.proofs.Slots.{LawfulSlot, lawful_at}
 
 module _ {U V : Type 0} where
@@ -126,7 +127,7 @@ module _ {U V : Type 0} where
   keeps_none : (ms : List Mark) (l : List ℕ) (i : ℕ) (hi : Option (List ℕ)) (ss : PSlots U V) → can_take_first ms (slots_from i ss) ≡ true → AtSlot (λ b e xs c. b ≡ l) i hi ss → kept_at ms l ≡ 0
   keeps_none ms l i hi none t h = absurd h
   keeps_none ms l zero hi (more lo xs n ss) t h =
-      let free = one_number (kept_at ms lo) 0 (both (can_flush_inner (more lo xs n ss)) (kept_at ms lo == 0) t).1 in
+      let free = eqb-true (kept_at ms lo) 0 (both (can_flush_inner (more lo xs n ss)) (kept_at ms lo == 0) t).1 in
       subst (λ z. kept_at ms z ≡ 0) h free
   keeps_none ms l (suc i) hi (more lo xs n ss) t h = keeps_none ms l i hi ss t h
 

@@ -19,11 +19,6 @@ use Rattle.message.proofs.NextKey.{by_bool, in_range, reaches-next}
 use Rattle.scan.specs.Pairs.{HasNone, IsFirst, IsScan, AreFrom, AreAhead, IsGiven, from_unpassed, IsTaken, IsEndOf}
 use Rattle.scan.proofs.Joins.{scan_zero}
 
--- a list without elements
-pub no_items : {X : Type 0} (xs : List X) → length xs ≡ 0 → xs ≡ []
-no_items [] e = refl
-no_items (x ∷ xs) e = absurd (omega (arith, e))
-
 -- no value can be the one
 none_of : {V : Type 0} (o : Option V) → ((v : V) → o ≡ Some v → ⊥) → o ≡ None
 none_of None h = refl

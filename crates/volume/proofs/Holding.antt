@@ -1,12 +1,14 @@
 -- Jobs that a run holds: where they stand in its list, and that they stay held.
-use Rattle.std.proofs.Common.{◌≡◌, ℕ, ◌+◌, ◌<◌, Bool, true, false, List, [], ◌∷◌, ◌++◌, length, get_or, refl, ap, sym, ◌∙◌, subst, arith, cond, Option, Some, None, inl, inr, add-one}
+use Rattle.std.proofs.Common.{◌≡◌, ℕ, ◌+◌, ◌<◌, Bool, true, false, List, [], ◌∷◌, ◌++◌, length, get_or, refl, ap, sym, ◌∙◌, subst, arith, cond, Some, None, inl, inr, add-one}
 use Rattle.std.specs.Prelude.{◌==◌}
 use Rattle.std.specs.List.{remove}
 use Rattle.std.proofs.lemmas.Bool.Decides.{nat_tests}
+use Rattle.std.proofs.lemmas.Option.{same_Some}
 use Rattle.block_index.specs.Updates.{means as block_means}
 use Rattle.jobs.specs.Content.{job_content, done_content}
 use Rattle.jobs.specs.Marks.{one_more}
 use Rattle.jobs.proofs.Fitting.{built_fits}
+use Rattle.jobs.proofs.MarkFacts.{none_later, place_later}
 use Rattle.meta_index.specs.Updates.{means as meta_means}
 use Rattle.volume.specs.Held.{held_ticket, MayInstall, place_of, with_ticket, others, without_held, IsHeld, AreHeld}
 use Rattle.volume.specs.Jobs.{AnswersTaking}
@@ -101,35 +103,23 @@ all_left t (h ∷ hs) e =
 
 -- ---- its place
 
-none_more : (o : Option ℕ) → one_more o ≡ None → o ≡ None
-none_more None e = refl
-none_more (Some i) e = (cc)
-
-same_number : (i j : ℕ) → Some i ≡ Some j → i ≡ j
-same_number i j e = (cc)
-
 -- there is none without a place
 pub none_there : (t : ℕ) (hs : List Held) → place_of t hs ≡ None → with_ticket t hs ≡ None
 none_there t [] e = refl
 none_there t (h ∷ hs) e =
     (elim (held_ticket h == t) as (λ b. cond b (Some 0) (one_more (place_of t hs)) ≡ None → cond b (Some h) (with_ticket t hs) ≡ None) [
       | true ↦ λ q. (cc)
-      | false ↦ λ q. none_there t hs (none_more (place_of t hs) q)
+      | false ↦ λ q. none_there t hs (none_later (place_of t hs) q)
     ]) e
-
--- a place among the later ones
-later : (i : ℕ) (o : Option ℕ) → one_more o ≡ Some i → (j : ℕ) × (o ≡ Some j) × (j + 1 ≡ i)
-later i None e = (cc)
-later i (Some j) e = (j, refl, same_number (j + 1) i e)
 
 -- it is the job at its place, and the others are those that are left without it
 pub found_there : (t i : ℕ) (hs : List Held) (d : Held) → place_of t hs ≡ Some i → (with_ticket t hs ≡ Some (get_or hs i d)) × (others t hs ≡ remove hs i)
 found_there t i [] d e = (cc)
 found_there t i (h ∷ hs) d e =
     (elim (held_ticket h == t) as (λ b. cond b (Some 0) (one_more (place_of t hs)) ≡ Some i → (cond b (Some h) (with_ticket t hs) ≡ Some (get_or (h ∷ hs) i d)) × (cond b hs (h ∷ others t hs) ≡ remove (h ∷ hs) i)) [
-      | true ↦ λ q. subst (λ n. (Some h ≡ Some (get_or (h ∷ hs) n d)) × (hs ≡ remove (h ∷ hs) n)) (same_number 0 i q) (refl, refl)
+      | true ↦ λ q. subst (λ n. (Some h ≡ Some (get_or (h ∷ hs) n d)) × (hs ≡ remove (h ∷ hs) n)) (same_Some 0 i q) (refl, refl)
       | false ↦ λ q.
-          let p = later i (place_of t hs) q in
+          let p = place_later i (place_of t hs) q in
           let r = found_there t p.0 hs d p.1 in
           subst (λ n. (with_ticket t hs ≡ Some (get_or (h ∷ hs) n d)) × (h ∷ others t hs ≡ remove (h ∷ hs) n)) (sym (add-one p.0) ∙ p.2) (r.0, ap (λ z. h ∷ z) r.1)
     ]) e
@@ -144,7 +134,7 @@ found_first t [] h ys e q =
 found_first t (x ∷ xs) h ys e q =
     (elim (held_ticket x == t) as (λ b. cond b (Some 0) (one_more (place_of t xs)) ≡ None → cond b (Some 0) (one_more (place_of t (xs ++ h ∷ ys))) ≡ Some (length (x ∷ xs))) [
       | true ↦ λ d. (cc)
-      | false ↦ λ d. ap one_more (found_first t xs h ys (none_more (place_of t xs) d) q) ∙ ap (λ (n : ℕ). Some n) (add-one (length xs))
+      | false ↦ λ d. ap one_more (found_first t xs h ys (none_later (place_of t xs) d) q) ∙ ap (λ (n : ℕ). Some n) (add-one (length xs))
     ]) e
 
 -- nor has one more that has another
@@ -157,7 +147,7 @@ none_with t [] h e q =
 none_with t (x ∷ xs) h e q =
     (elim (held_ticket x == t) as (λ b. cond b (Some 0) (one_more (place_of t xs)) ≡ None → cond b (Some 0) (one_more (place_of t (xs ++ h ∷ []))) ≡ None) [
       | true ↦ λ d. (cc)
-      | false ↦ λ d. ap one_more (none_with t xs h (none_more (place_of t xs) d) q)
+      | false ↦ λ d. ap one_more (none_with t xs h (none_later (place_of t xs) d) q)
     ]) e
 
 -- one more that is cancelled

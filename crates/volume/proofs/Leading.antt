@@ -1,5 +1,5 @@
 -- From what a call did to a volume to what it means: the answer fits each world that was meant, and the next one is meant.
-use Rattle.std.proofs.Common.{◌≡◌, ℕ, ◌+◌, ◌<◌, ◌≤◌, List, Bool, true, false, cond, refl, sym, ap, subst, ◌∙◌, inl, inr, Option, Some, None, Ok, Err, arith, ◌-◌, [], ◌∷◌}
+use Rattle.std.proofs.Common.{◌≡◌, ℕ, ◌+◌, ◌<◌, ◌≤◌, List, Bool, true, false, cond, refl, sym, ap, subst, ◌∙◌, inl, inr, Option, Some, None, Ok, Err, arith, ◌-◌, []}
 use Rattle.std.specs.Prelude.{◌&&◌, Result, IsOk, IfOk, OnErr, IfSome, IfNone}
 use Rattle.std.specs.Result.{IsErrAnd}
 use Rattle.std.specs.FinMap as finite
@@ -17,10 +17,10 @@ use Rattle.reference.specs.declared.reply.Reply.TheVariants.{Fault}
 use Rattle.reference.proofs.NeverLacks.{no_lack}
 use Rattle.reference.proofs.Touching.{reply_is}
 use Rattle.reference.proofs.Snapshots.{takes, takes_no_more, drops}
-use Rattle.jobs.specs.Marks.{PMarked, Each, KeepsContent, kept_in}
-use Rattle.jobs.specs.declared.mark.Mark.{Mark}
+use Rattle.jobs.specs.Marks.{PMarked, kept_in}
+use Rattle.jobs.proofs.Keeping.{contents_stay}
 use Rattle.node.proofs.Grafting.{keeps_nothing}
-use Rattle.node.specs.Pure.{PTree}
+use Rattle.node.proofs.Outcome.{on_undone}
 use Rattle.node.specs.Steps.{UnlessDid}
 use Rattle.node.specs.declared.place.TreeStep.{TreeStep}
 use Rattle.node.specs.declared.step.StepReply.TheVariants.{Did, NotThere as StepNotThere, NoRoom as StepNoRoom, NoMemory as StepNoMemory}
@@ -43,7 +43,7 @@ use Rattle.volume.specs.Volumes.{Kept, PVolume, Alike, MeanRooted, Means, IsVolu
 use Rattle.volume.specs.declared.rooted.Rooted.{Rooted}
 use Rattle.volume.specs.Changes.{Leads, Does, Batched, Called, Settles, KeptAs, Dropped, Restored, StepsLive, Stepped}
 use Rattle.volume.proofs.Pairs.{same_names, alike_insert, alike_remove, found_alike, same_len}
-use Rattle.volume.proofs.Trees.{tree_kept, tree_same_values, step_same, unless_then}
+use Rattle.volume.proofs.Trees.{tree_kept, tree_same_values, step_same}
 
 -- a volume of these parts
 abbrev pub volume : PLive → ℕ → Kept → PVolume
@@ -53,12 +53,8 @@ volume l modified m = record { live = record { indexes = l.indexes; modified = m
 pub kept_all : (l : PLive) → KeepsMarks l l
 kept_all l = record { meta = whole (meta_marked l); block = whole (block_marked l); given = omega arith }
   where
-    each : {U V : Type 0} (means : U → Option V → Option V) (t : PTree U V) (ms : List Mark) → Each (KeepsContent means t t) ms
-    each means t [] = tt
-    each means t (m ∷ ms) = (λ c h. h, each means t ms)
-
     whole : {U V : Type 0} {means : U → Option V → Option V} (m : PMarked U V) → Keeps means m m
-    whole {means} m = record { content = each means m.tree m.marks; fits = λ t c lt h. h }
+    whole {means} m = record { content = contents_stay means m.tree m.marks; fits = λ t c lt h. h }
 
 pub kept_same : (l m : PLive) → m ≡ l → KeepsMarks l m
 kept_same l m e = subst (λ (x : PLive). KeepsMarks l x) (sym e) (kept_all l)
@@ -270,7 +266,7 @@ stepped_after s t r q a b d e first later = subst (λ (x : PLive). StepsLive t q
 pub stepped : (v : PVolume) (s : Step) (r : StepReply) (l : PLive) → StepsLive s r (live_of v) l → Stepped s r v (volume l v.live.modified v.snapshots)
 stepped v s r l is = record {
   keeps = λ w m. record { live = record { indexes = tree_kept s.index s.step r v.live.indexes l.indexes is.index w.live m.live.indexes; root = m.live.root }; snapshots = m.snapshots };
-  refused = unless_then r (l ≡ live_of v) (volume l v.live.modified v.snapshots ≡ v) (live_same s r (live_of v) l is) (λ e. ap (λ (k : PLive). volume k v.live.modified v.snapshots) e);
+  refused = on_undone r (l ≡ live_of v) (volume l v.live.modified v.snapshots ≡ v) (λ e. ap (λ (k : PLive). volume k v.live.modified v.snapshots) e) (live_same s r (live_of v) l is);
   live = is;
   root = refl;
   snapshots = refl;

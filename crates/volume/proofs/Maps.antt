@@ -13,6 +13,7 @@ use Rattle.std.specs.BTreeMap.{BTreeMap, is_at}
 use Rattle.std.specs.BTreeMap as tree
 use Rattle.std.proofs.lemmas.Cmp.{nat_list_cmp_total}
 use Rattle.pathkey.specs.Order.{by_bytes}
+use Rattle.reference.proofs.PlainSnapshots.{bytes_differ}
 use Rattle.volume.specs.Volumes.{Kept, kept}
 use Rattle.volume.specs.declared.rooted.Rooted.{Rooted}
 
@@ -31,10 +32,6 @@ updated m n s w u q =
     ∙ u.0 q
     ∙ ap (λ (b : Bool). cond b w (tree.get by_bytes m q)) ((eq_by_cmp_equiv nat_list_cmp_total).symm s q)
     ∙ ap (λ (o : Option Rooted). cond (eq_by_cmp by_bytes q s) w o) (sym (get-kept m q))
-
--- names that byte order does not tell apart are one
-pub bytes_differ : finite.IsAntisymmetric by_bytes
-bytes_differ = finite.slice_cmp-IsAntisymmetric finite.nat_cmp-IsAntisymmetric
 
 -- a name that is given indexes
 pub inserted : (m n : BTreeMap (List ℕ) Rooted) (s : List ℕ) (x : Rooted) → tree.Updates by_bytes m n s (Some x) → kept n ≡ finite.insert (kept m) s x

@@ -1,6 +1,7 @@
 -- Live indexes with their marks: what stays of the marks where one index changes, or both take messages.
 use Rattle.std.proofs.Common.{◌≡◌, ℕ, ◌+◌, ◌≤◌, ◌^◌, List, [], ◌∷◌, ◌++◌, length, refl, ap, sym, subst, arith, Option}
 use Rattle.std.specs.Prelude.{Result, Ok, Err, OnOk, OnErr}
+use Rattle.std.proofs.lemmas.Result.{on_err_weaker, on_ok_weaker}
 use Rattle.block_index.specs.Updates.{means as block_means}
 use Rattle.block_index.specs.declared.update.BlockUpdate.{BlockUpdate}
 use Rattle.call_compiler.specs.Compiled.{Messages}
@@ -10,7 +11,7 @@ use Rattle.jobs.specs.Marks.{PMarked, AreMarks, AllKept, Each, KeepsContent, kep
 use Rattle.jobs.specs.Survive.{survives, left_by}
 use Rattle.jobs.specs.declared.mark.Mark.{Mark}
 use Rattle.jobs.proofs.Fitting.{keeps_fits, keeps_fits-here, keeps_fits-more}
-use Rattle.jobs.proofs.Keeping.{kept_append}
+use Rattle.jobs.proofs.Keeping.{contents_stay, kept_append}
 use Rattle.jobs.proofs.MarkFacts.{each_without, fewer_without, marks_given, marks_without}
 use Rattle.jobs.proofs.Stepping.{each_left, fewer_left}
 use Rattle.meta_index.specs.Updates.{means as meta_means}
@@ -33,22 +34,17 @@ abbrev marked : {U V : Type 0} → PTree U V → List Mark → ℕ → PMarked U
 marked t ms given = record { tree = t; marks = ms; given = given }
 
 module _ {U V : Type 0} (means : U → Option V → Option V) where
-  -- where the tree stays, so does the content of each mark
-  pub same_content : (t : PTree U V) (ms : List Mark) → Each (KeepsContent means t t) ms
-  same_content t [] = tt
-  same_content t (m ∷ ms) = (λ c h. h, same_content t ms)
-
   -- a tree that changed, with some of its marks
   pub keeps_some : (a b : PTree U V) (ms new : List Mark) (given more : ℕ) → ((P : Mark → Type 0) → Each P ms → Each P new) → Each (KeepsContent means a b) new → Keeps means (marked a ms given) (marked b new more)
   keeps_some a b ms new given more sub k = record { content = k; fits = keeps_fits means a b ms new given more (marked a ms given) refl sub k }
 
   -- the same tree, with some of its marks
   pub keeps_here : (t : PTree U V) (ms new : List Mark) (given more : ℕ) → ((P : Mark → Type 0) → Each P ms → Each P new) → Keeps means (marked t ms given) (marked t new more)
-  keeps_here t ms new given more sub = record { content = same_content t new; fits = keeps_fits-here means t ms new given more (marked t ms given) refl sub }
+  keeps_here t ms new given more sub = record { content = contents_stay means t new; fits = keeps_fits-here means t ms new given more (marked t ms given) refl sub }
 
   -- the same tree, with one mark more under the next ticket
   pub keeps_more : (t : PTree U V) (ms new : List Mark) (given more : ℕ) (m : Mark) → new ≡ ms ++ m ∷ [] → m.ticket ≡ given → Keeps means (marked t ms given) (marked t new more)
-  keeps_more t ms new given more m e k = record { content = same_content t new; fits = keeps_fits-more means t ms new given more m (marked t ms given) refl e k }
+  keeps_more t ms new given more m e k = record { content = contents_stay means t new; fits = keeps_fits-more means t ms new given more m (marked t ms given) refl e k }
 
 -- ---- both
 
@@ -139,14 +135,6 @@ cancelled_keeps l ticket ms bs e f = record {
 
 -- ---- appending
 
-ok_map : {T X A B : Type 0} (r : Result T X) → (A → B) → OnOk r A → OnOk r B
-ok_map (Ok x) f h = f h
-ok_map (Err x) f h = tt
-
-err_map : {T X A B : Type 0} (r : Result T X) → (A → B) → OnErr r A → OnErr r B
-err_map (Ok x) f h = tt
-err_map (Err x) f h = f h
-
 -- indexes that took messages, or did not, beside lists that are kept where there are marks
 pub record AppendsKept {T X : Type 0} (r : Result T X) (msgs : Messages) (l : PLive) (new : Indexes) : Type 0 where
   pub taken : OnOk r (HaveTaken msgs l.indexes new)
@@ -157,12 +145,12 @@ pub record AppendsKept {T X : Type 0} (r : Result T X) (msgs : Messages) (l : PL
 meta_all : {T X : Type 0} (r : Result T X) (msgs : Messages) (l : PLive) (new : Indexes) → AreMarked l → AppendsKept r msgs l new → AllKept meta_means l.indexes.meta.tree new.meta.tree l.marks.meta l.marks.given
 meta_all r msgs l new is h =
     kept_append meta_means r msgs.meta l.indexes.meta.tree new.meta.tree l.marks.meta l.marks.given (kept_in l.marks.meta l.indexes.meta.tree.root) is.meta refl
-    (ok_map r (λ (q : HaveTaken msgs l.indexes new). q.meta) h.taken) h.meta (err_map r (λ (e : new ≡ l.indexes). ap (λ (x : Indexes). x.meta.tree) e) h.err)
+    (on_ok_weaker r (λ (q : HaveTaken msgs l.indexes new). q.meta) h.taken) h.meta (on_err_weaker r (λ (e : new ≡ l.indexes). ap (λ (x : Indexes). x.meta.tree) e) h.err)
 
 block_all : {T X : Type 0} (r : Result T X) (msgs : Messages) (l : PLive) (new : Indexes) → AreMarked l → AppendsKept r msgs l new → AllKept block_means l.indexes.block.tree new.block.tree l.marks.block l.marks.given
 block_all r msgs l new is h =
     kept_append block_means r msgs.block l.indexes.block.tree new.block.tree l.marks.block l.marks.given (kept_in l.marks.block l.indexes.block.tree.root) is.block refl
-    (ok_map r (λ (q : HaveTaken msgs l.indexes new). q.block) h.taken) h.block (err_map r (λ (e : new ≡ l.indexes). ap (λ (x : Indexes). x.block.tree) e) h.err)
+    (on_ok_weaker r (λ (q : HaveTaken msgs l.indexes new). q.block) h.taken) h.block (on_err_weaker r (λ (e : new ≡ l.indexes). ap (λ (x : Indexes). x.block.tree) e) h.err)
 
 pub appended_lasts : {T X : Type 0} (r : Result T X) (msgs : Messages) (l : PLive) (new : Indexes) → AreMarked l → AppendsKept r msgs l new → AreMarked (record l { indexes = new })
 appended_lasts r msgs l new is h = record { meta = (meta_all r msgs l new is h).0; block = (block_all r msgs l new is h).0; few = is.few; given = is.given }

@@ -30,7 +30,7 @@ use Rattle.volume.specs.Runs.{told, takings, with_taken, PRun, Beside, Takes, Fi
 use Rattle.volume.specs.Volumes.{PVolume, Both, MeanRooted, Means, IsVolume}
 use Rattle.volume.specs.declared.rooted.Rooted.{Rooted}
 use Rattle.volume.proofs.Holding.{one_less}
-use Rattle.volume.proofs.Maps.{bytes_differ}
+use Rattle.reference.proofs.PlainSnapshots.{bytes_differ}
 
 -- ---- a volume means at most one world
 

@@ -14,6 +14,7 @@ use Rattle.meta_index.specs.Updates.{means as meta_means}
 use Rattle.meta_index.specs.declared.index.MetaIndex.{MetaIndex}
 use Rattle.meta_index.specs.declared.update.MetaUpdate.{MetaUpdate}
 use Rattle.meta_index.proofs.Fresh.{means_alike}
+use Rattle.node.proofs.Outcome.{on_undone}
 use Rattle.node.specs.Appended.{Appended}
 use Rattle.node.specs.Meaning.{value}
 use Rattle.node.specs.Places.{way}
@@ -24,7 +25,6 @@ use Rattle.node.specs.declared.place.TreeStep.{TreeStep}
 use Rattle.node.specs.declared.step.StepKind.{StepKind}
 use Rattle.node.specs.declared.step.StepKind.TheVariants.{FlushInner, FlushLeaf, SplitInner, MergeLeaves, MergeInner, RootUp, RootDown, DropCovered}
 use Rattle.node.specs.declared.step.StepReply.{StepReply}
-use Rattle.node.specs.declared.step.StepReply.TheVariants.{Did, NotThere, NoRoom, NoMemory}
 use Rattle.reference.specs.Calls.{does}
 use Rattle.reference.specs.Indexes.{MetaMeans, BlocksMean}
 use Rattle.reference.specs.Tree.{Tree}
@@ -116,17 +116,11 @@ tree_same means RootUp p i r a b s = s.unchanged
 tree_same means RootDown p i r a b s = s.unchanged
 tree_same means DropCovered p i r a b s = s.unchanged
 
-pub unless_then : (r : StepReply) (P Q : Type 0) → UnlessDid r P → (P → Q) → UnlessDid r Q
-unless_then (Did n) P Q h f = tt
-unless_then NotThere P Q h f = f h
-unless_then NoRoom P Q h f = f h
-unless_then NoMemory P Q h f = f h
-
 -- and so the indexes
 pub step_same : (x : Index) (step : TreeStep) (r : StepReply) (a b : Indexes) → StepsIn x step r a b → UnlessDid r (b ≡ a)
 step_same Meta step r a b s =
-    unless_then r (b.meta.tree ≡ a.meta.tree) (b ≡ a) (tree_same meta_means step.kind (way step.at) step.slot r a.meta.tree b.meta.tree s.0)
-    (λ e. same_halves a b (ap (λ (t : PTree MetaUpdate MetaValue). record { tree = t }) e) s.1)
+    on_undone r (b.meta.tree ≡ a.meta.tree) (b ≡ a) (λ e. same_halves a b (ap (λ (t : PTree MetaUpdate MetaValue). record { tree = t }) e) s.1)
+    (tree_same meta_means step.kind (way step.at) step.slot r a.meta.tree b.meta.tree s.0)
 step_same Block step r a b s =
-    unless_then r (b.block.tree ≡ a.block.tree) (b ≡ a) (tree_same block_means step.kind (way step.at) step.slot r a.block.tree b.block.tree s.0)
-    (λ e. same_halves a b s.1 (ap (λ (t : PTree BlockUpdate (List ℕ)). record { tree = t }) e))
+    on_undone r (b.block.tree ≡ a.block.tree) (b ≡ a) (λ e. same_halves a b s.1 (ap (λ (t : PTree BlockUpdate (List ℕ)). record { tree = t }) e))
+    (tree_same block_means step.kind (way step.at) step.slot r a.block.tree b.block.tree s.0)

@@ -2,7 +2,7 @@
 use Rattle.std.proofs.Common.{◌≡◌, ℕ, ◌+◌, ◌-◌, ◌*◌, ◌^◌, ◌<◌, ◌≤◌, min, List, [], ◌∷◌, ◌++◌, length, drop, get_or, replicate, true, false, refl, sym, ap, subst, ◌∙◌, ◌⊎◌, inl, inr, ⊎_elim, arith, Option, Some, None, length-take, length-drop}
 use Rattle.std.specs.Prelude.{All, AllPairs, Any, Contains}
 use Rattle.std.proofs.lemmas.Bool.{cases_lt, and_parts}
-use Rattle.std.proofs.lemmas.List.{ext_get_or, get_or-append_right, get_or-drop, get_or-map, get_or-replicate, get_or-take, get_or_append_left, get_or_past, length-append, length-map, length-replicate, map-append}
+use Rattle.std.proofs.lemmas.List.{ext_get_or, get_or-append_right, get_or-drop, get_or-map, get_or-replicate, get_or-take, get_or_append_left, get_or_past, length-append, length-map, length-replicate, map-append, nil_from_length}
 use Rattle.std.proofs.lemmas.List.Elements.{All-pop, All-push}
 use Rattle.block_index.specs.Means.{blocks}
 use Rattle.call_compiler.specs.declared.indexes.Indexes.{Indexes}
@@ -20,7 +20,6 @@ use Rattle.reference.specs.Shape.{IsTree}
 use Rattle.reference.specs.Tree.{Tree, Dir, File, At, Found, Missing, Blocked, entry_at}
 use Rattle.reference.specs.declared.reply.Meta.{Meta}
 use Rattle.scan.specs.Pairs.{IsScan}
-use Rattle.scan.proofs.AtHand.{no_items}
 use Rattle.volume.specs.Walks.{AreBlocks, AreBlocksAt, AreEntries, AreNumbered, IsBlock, IsEntry, IsOfBlock, ReadsNumbers, ReadsPaths, block_bytes}
 
 -- ---- entries
@@ -233,7 +232,7 @@ module _ (t : Tree) (d : Blocks) (is : IsTree t) (means : BlocksMean t d) (p : P
 
   -- there is none where no file stands
   no_blocks : ((b : List ℕ) → look t p ≡ Some (Bytes b) → ⊥) → bs ≡ []
-  no_blocks none = no_items bs (⊎_elim
+  no_blocks none = nil_from_length bs (⊎_elim
       (λ (h : 0 < length ps). let first : FoundBlock t d means p is_path from limit fits ps found (get_or ps 0 ([], [])).0 = found_block t d means p is_path from limit fits ps found 0 ([], []) h in absurd (none first.bytes first.file))
       (λ (h : length ps ≤ 0). let n : length bs ≡ length ps = many_blocks in omega arith)
       (cases_lt 0 (length ps)))

@@ -2,7 +2,8 @@ use Rattle.std.proofs.Common.{sym, ◌∙◌, subst, length, ◌<◌}
 use Rattle.std.specs.Prelude.{◌⊎◌}
 use Rattle.message.proofs.MovingRanges.{done}
 use Rattle.flush.specs.Leaf.{AddsNone}
-use Rattle.flush.proofs.LeafFlush.{same_err, stays_within}
+use Rattle.node.proofs.Roots.{when_err}
+use Rattle.flush.proofs.LeafFlush.{stays_within}
 use Rattle.flush.proofs.room.apply_within.Goals as goal
 
 pub returns-clause-applied : goal.returns-clause-applied
@@ -15,4 +16,4 @@ returns-clause-few g c = λ t.
     stays_within g.U.Update.means c.args.most c.args.msg.now es c.apply.new.entries.items c.requires (done c.apply.result (sym c.is_ok.ensures.value ∙ t) c.apply.ensures.ok) room
 
 pub returns-clause-same : goal.returns-clause-same
-returns-clause-same g c = λ f. same_err c.apply.result _ c.apply.ensures.err (sym c.is_ok.ensures.value ∙ f)
+returns-clause-same g c = λ f. when_err c.apply.result (sym c.is_ok.ensures.value ∙ f) c.apply.ensures.err

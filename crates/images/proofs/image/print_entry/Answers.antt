@@ -2,7 +2,8 @@ use Rattle.std.proofs.Common.{Some, ◌∙◌, ap, sym, subst}
 use Rattle.images.proofs.ImageBlocks.{count}
 use Rattle.images.proofs.ImageEntries.{FileThere, directory_there, file_there}
 use Rattle.images.specs.Image.{file_text}
-use Rattle.lines.proofs.Known.{on_err, on_err_map, part_after, part_before}
+use Rattle.std.proofs.lemmas.Result.{on_err_weaker}
+use Rattle.lines.proofs.Known.{on_err, part_after, part_before}
 use Rattle.lines.specs.Parts.{AppendsPart}
 use Rattle.reference.specs.Image.{Second, block_lines}
 use Rattle.reference.specs.Tree.{entry_at}
@@ -22,6 +23,6 @@ pub returns-in_ok-put_file-in-File-clause-err : goal.returns-in_ok-put_file-in-F
 returns-in_ok-put_file-in-File-clause-err g c = λ t mean told.
     let q = c.args.path.now in
     let parts : FileThere (entry_at t q) q c.in-File.len c.in-File.modified = file_there (entry_at t q) q c.in-File.len c.in-File.modified (told ∙ ap Some c.in-File.is) in
-    on_err_map c.print_blocks.result _ _
+    on_err_weaker c.print_blocks.result
     (λ w. subst (AppendsPart _ _) (sym parts.text) (part_after _ _ _ (file_text Second q c.in-File.len c.in-File.modified) (block_lines parts.bytes (count parts.bytes)) c.in_ok-put_file-in-File.ensures.ok w))
     (c.print_blocks.ensures.err t c.in-File.modified parts.bytes mean parts.is)

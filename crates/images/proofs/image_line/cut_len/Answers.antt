@@ -1,7 +1,8 @@
 use Rattle.std.proofs.Common.{◌≡◌, ◌^◌, ◌<◌, ℕ, Option, Some, None, decimal, sym, ap, ◌∙◌, arith}
 use Rattle.std.specs.Prelude.{option_map}
+use Rattle.std.proofs.lemmas.Option.{same_Some}
 use Rattle.images.specs.Image.{version_of}
-use Rattle.images.proofs.ImageLineFacts.{decimal_free, len_spelled, no_moment_cut, some_is}
+use Rattle.images.proofs.ImageLineFacts.{decimal_free, len_spelled, no_moment_cut}
 use Rattle.images.proofs.image_line.cut_len.Goals as goal
 
 pub returns-in_default-clause-complete : goal.returns-in_default-clause-complete
@@ -17,11 +18,11 @@ returns-in_default-read_number-clause-complete c = λ n at few told e.
 pub returns-then-len-gt-GREATEST_FILE-clause-complete : goal.returns-then-len-gt-GREATEST_FILE-clause-complete
 returns-then-len-gt-GREATEST_FILE-clause-complete c = λ n at few told e.
     let spelled = len_spelled (version_of c.args.version) c.args.numbers.now c.in-Some.number.now _ c.cut_moment.ensures c.in-Some.at (ap (option_map _) c.in-Some.is) n at few told e in
-    let same : c.in-Some-read_number.len ≡ n = some_is _ _ (sym c.in-Some-read_number.is ∙ c.read_number.ensures ∙ spelled.0) in
+    let same : c.in-Some-read_number.len ≡ n = same_Some _ _ (sym c.in-Some-read_number.is ∙ c.read_number.ensures ∙ spelled.0) in
     absurd (omega (arith, c.if-len-gt-GREATEST_FILE.true))
 
 pub returns-clause-complete : goal.returns-clause-complete
 returns-clause-complete c = λ n at few told e.
     let spelled = len_spelled (version_of c.args.version) c.args.numbers.now c.in-Some.number.now _ c.cut_moment.ensures c.in-Some.at (ap (option_map _) c.in-Some.is) n at few told e in
-    let same : c.in-Some-read_number.len ≡ n = some_is _ _ (sym c.in-Some-read_number.is ∙ c.read_number.ensures ∙ spelled.0) in
+    let same : c.in-Some-read_number.len ≡ n = same_Some _ _ (sym c.in-Some-read_number.is ∙ c.read_number.ensures ∙ spelled.0) in
     ap (λ (k : ℕ). Some (k, c.in-Some.at)) same ∙ ap (λ (k : ℕ). Some (n, k)) spelled.1

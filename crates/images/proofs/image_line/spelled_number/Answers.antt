@@ -1,5 +1,6 @@
 use Rattle.std.proofs.Common.{◌≡◌, ℕ, Option, Some, None, decimal, true, sym, ap, ◌∙◌}
-use Rattle.images.proofs.ImageLineFacts.{number_spelled, some_is}
+use Rattle.std.proofs.lemmas.Option.{same_Some}
+use Rattle.images.proofs.ImageLineFacts.{number_spelled}
 use Rattle.images.proofs.image_line.spelled_number.Goals as goal
 
 pub returns-in_default : goal.returns-in_default
@@ -8,5 +9,5 @@ returns-in_default c = λ n few e.
 
 pub returns-else-writes : goal.returns-else-writes
 returns-else-writes c = λ n few e.
-    let same : c.in-Some.number ≡ n = some_is _ _ (sym c.in-Some.is ∙ c.read_number.ensures ∙ number_spelled c.args.word.now n few e) in
+    let same : c.in-Some.number ≡ n = same_Some _ _ (sym c.in-Some.is ∙ c.read_number.ensures ∙ number_spelled c.args.word.now n few e) in
     let yes : c.writes.result ≡ true = c.writes.ensures.1 (e ∙ ap decimal (sym same)) in cc

@@ -1,5 +1,5 @@
 use Rattle.std.proofs.Common.{◌≡◌, refl, rules, ◌∙◌, arith}
-use Rattle.lines.proofs.Known.{on_ok_map}
+use Rattle.std.proofs.lemmas.Result.{on_ok_weaker}
 use Rattle.images.proofs.LoadFacts.{all_loaded, end_bad, piece_refused, reads_nothing, reads_piece}
 use Rattle.images.proofs.load.Loading.take_all.Goals as goal
 
@@ -15,7 +15,7 @@ pub returns-then-n-eq0-clause-ok : goal.returns-then-n-eq0-clause-ok
 returns-then-n-eq0-clause-ok g c =
     let n : c.in-Ok.n ≡ 0 = c.if-n-eq0.true in
     let end = c.in-Ok.ensures.end n (omega (arith, c.loop.invariant.size, c.requires.piece)) in
-    on_ok_map _ _ _ (λ loads. all_loaded _ _ _ _ _ _ c.loop.invariant.read c.in-Ok.ensures.ok (rw n refl) end (rw c.as_slice.ensures.value at loads)) c.end.ensures.ok
+    on_ok_weaker _ (λ loads. all_loaded _ _ _ _ _ _ c.loop.invariant.read c.in-Ok.ensures.ok (rw n refl) end (rw c.as_slice.ensures.value at loads)) c.end.ensures.ok
 
 pub returns-then-n-eq0-clause-bad : goal.returns-then-n-eq0-clause-bad
 returns-then-n-eq0-clause-bad g c =
@@ -35,4 +35,4 @@ loop-preserved g c = record {
 }
 
 pub returns-then-n-eq0-clause-form : goal.returns-then-n-eq0-clause-form
-returns-then-n-eq0-clause-form g c = on_ok_map _ _ _ (λ loads. c.loop.invariant.form) c.end.ensures.ok
+returns-then-n-eq0-clause-form g c = on_ok_weaker _ (λ loads. c.loop.invariant.form) c.end.ensures.ok

@@ -1,7 +1,7 @@
 use Rattle.std.proofs.Common.{subst}
 use Rattle.images.specs.Image.{version_of}
 use Rattle.images.specs.ImageLines.{Spells}
-use Rattle.lines.proofs.Known.{on_ok_map}
+use Rattle.std.proofs.lemmas.Result.{on_ok_weaker}
 use Rattle.images.proofs.LoadFacts.{long_refused, root_loaded, root_refused, unspelled_refused, next_loaded, next_refused}
 use Rattle.images.proofs.load.Loading.take_line.Goals as goal
 
@@ -25,7 +25,7 @@ returns-in-Ok-None-clause-bad c = λ n e. (cc, unspelled_refused c.args.line.now
 pub returns-in-Ok-Some-clause-ok : goal.returns-in-Ok-Some-clause-ok
 returns-in-Ok-Some-clause-ok c =
     let spells = subst (Spells (version_of c.args.self.now.version) c.args.line.now) c.in-Ok-Some.field-0-is c.in-Ok-Some.ensures in
-    on_ok_map _ _ _ (λ loads. next_loaded c.args.line.now _ c.args.self.now _ (λ z. c.if-self-eq0.false z) spells.1 loads) c.take_next.ensures.ok
+    on_ok_weaker _ (λ loads. next_loaded c.args.line.now _ c.args.self.now _ (λ z. c.if-self-eq0.false z) spells.1 loads) c.take_next.ensures.ok
 
 pub returns-then-self-eq0-clause-ok : goal.returns-then-self-eq0-clause-ok
-returns-then-self-eq0-clause-ok c = on_ok_map _ _ _ (root_loaded c.args.line.now c.args.self.now _ c.if-self-eq0.true) c.take_root.ensures.ok
+returns-then-self-eq0-clause-ok c = on_ok_weaker _ (root_loaded c.args.line.now c.args.self.now _ c.if-self-eq0.true) c.take_root.ensures.ok
