@@ -1,5 +1,6 @@
 -- What was told of a call that changes a volume is its reply.
-use Rattle.std.proofs.Common.{◌≡◌, ◌⊎◌, ℕ, List, [], ◌∷◌, length, Bool, true, false, cond, refl, sym, subst, ap, ◌∙◌, Option, Some, None, inl, inr}
+use Rattle.std.proofs.Common.{◌≡◌, ◌⊎◌, ℕ, List, [], ◌∷◌, length, cond, refl, sym, subst, ap, ◌∙◌, Option, inl, inr}
+use Rattle.std.proofs.lemmas.Bool.{cond_both}
 use Rattle.pathkey.specs.Names.{same_path}
 use Rattle.pathkey.specs.declared.errno.Errno.{Errno}
 use Rattle.pathkey.specs.declared.errno.Errno.TheVariants.{ENOMEM}
@@ -10,6 +11,7 @@ use Rattle.reference.specs.declared.call.Call.{Call}
 use Rattle.reference.specs.declared.call.Call.TheVariants.{Mkdir, Create, Write, Truncate, Unlink, Rmdir, Rename, Rmtree, Read, Stat as AskStat, Readdir}
 use Rattle.reference.specs.declared.reply.Reply.{Reply}
 use Rattle.reference.specs.declared.reply.Reply.TheVariants.{Done, Count, Fault}
+use Rattle.reference.proofs.NoFaults.{unless_holds}
 use Rattle.reference.proofs.Touching.{reply_is}
 use Rattle.volume.specs.Changes.{Called}
 use Rattle.volume.specs.Volumes.{PVolume, IsVolume}
@@ -21,18 +23,9 @@ use Rattle.byte_calls.specs.Changes.{Changes, done_of, settled, told}
 abbrev Replies : Reply → Reply → Type 0
 Replies d r = (r ≡ d) ⊎ ((e : Errno) × (r ≡ Fault e))
 
-by_faults : (t : Tree) (fs : List (Option Errno)) (o : Outcome) (d : Reply) → Replies d o.1 → Replies d (unless t fs o).1
-by_faults t [] o d h = h
-by_faults t (None ∷ fs) o d h = by_faults t fs o d h
-by_faults t (Some e ∷ fs) o d h = inr (e, refl)
-
-by_test : (b : Bool) (o p : Outcome) (d : Reply) → Replies d o.1 → Replies d p.1 → Replies d (cond b o p).1
-by_test true o p d h k = h
-by_test false o p d h k = k
-
 -- it is done where no fault is found
 is_done : (t : Tree) (fs : List (Option Errno)) (x : Tree) (d : Reply) → Replies d (unless t fs (x, d)).1
-is_done t fs x d = by_faults t fs (x, d) d (inl refl)
+is_done t fs x d = unless_holds (λ o. Replies d o.1) t fs (x, d) (λ e. inr (e, refl)) (λ none. inl refl)
 
 wrote : (t x : Tree) (w : List ℕ) → Replies (Count (length w)) (cond {A = Outcome} (is_empty w) (t, Count 0) (x, Count (length w))).1
 wrote t x [] = inl refl
@@ -42,15 +35,15 @@ replies : (at : ℕ) (c : Call) (t : Tree) → Changes c → Replies (done_of c)
 unfolding changed
 replies at (Mkdir p) t h = is_done t (faults_of_new t p) (with_entry t p (Dir at nothing)) Done
 replies at (Create p) t h = is_done t (faults_of_new t p) (with_entry t p (File at [])) Done
-replies at (Write p off w) t h = by_faults t (faults_of_write t p off w) _ (Count (length w)) (wrote t (with_entry t p (File at (over (bytes_of (entry_at t p)) off w))) w)
+replies at (Write p off w) t h = unless_holds (λ o. Replies (Count (length w)) o.1) t (faults_of_write t p off w) _ (λ e. inr (e, refl)) (λ none. wrote t (with_entry t p (File at (over (bytes_of (entry_at t p)) off w))) w)
 replies at (Truncate p n) t h = is_done t (faults_of_truncate t p n) (with_entry t p (File at (sized (bytes_of (entry_at t p)) n))) Done
 replies at (Unlink p) t h = is_done t (faults_of_unlink t p) (without t p) Done
 replies at (Rmdir p) t h = is_done t (faults_of_rmdir t p) (without t p) Done
 replies at (Rmtree p) t h = is_done t (faults_of_rmtree t p) (without t p) Done
 replies at (Rename o n) t h =
-    by_faults t (faults_of_rename_from t o) _ Done
-    (by_test (same_path o n) (t, Done) (unless t (faults_of_rename t o n) (placed (without t o) n (entry_at t o), Done)) Done
-    (inl refl) (is_done t (faults_of_rename t o n) (placed (without t o) n (entry_at t o)) Done))
+    unless_holds (λ x. Replies Done x.1) t (faults_of_rename_from t o) _ (λ e. inr (e, refl)) (λ none.
+    cond_both {A = Outcome} (same_path o n) (t, Done) (unless t (faults_of_rename t o n) (placed (without t o) n (entry_at t o), Done)) (λ x. Replies Done x.1)
+    (λ e. inl refl) (λ e. is_done t (faults_of_rename t o n) (placed (without t o) n (entry_at t o)) Done))
 replies at (Read p off n) t h = absurd h
 replies at (AskStat p) t h = absurd h
 replies at (Readdir p) t h = absurd h

@@ -1,5 +1,5 @@
 -- What was told of a look is its reply.
-use Rattle.std.proofs.Common.{◌≡◌, ◌⊎◌, ℕ, ◌≤◌, List, [], ◌∷◌, length, take, drop, refl, sym, subst, ap, ◌∙◌, Option, Some, None, Result, Ok, Err, inl, inr, arith}
+use Rattle.std.proofs.Common.{◌≡◌, ◌⊎◌, ℕ, ◌≤◌, List, length, take, drop, refl, sym, subst, ap, ◌∙◌, Option, Result, Ok, Err, inl, inr, arith}
 use Rattle.std.specs.Prelude.{⊤}
 use Rattle.std.proofs.lemmas.List.{length-take}
 use Rattle.volume.specs.declared.rooted.Rooted.{Rooted}
@@ -12,6 +12,7 @@ use Rattle.reference.specs.declared.call.Call.TheVariants.{Read, Stat as AskStat
 use Rattle.reference.specs.declared.reply.Kind.{Kind}
 use Rattle.reference.specs.declared.reply.Reply.{Reply}
 use Rattle.reference.specs.declared.reply.Reply.TheVariants.{Data, Names, Fault}
+use Rattle.reference.proofs.NoFaults.{unless_holds}
 use Rattle.volume.specs.Told.{Tells}
 use Rattle.volume.specs.Volumes.{MeanSome}
 use Rattle.byte_calls.specs.Looks.{data_of, meta_of, names_of, stat_reply}
@@ -30,9 +31,7 @@ names_reply (Err e) = Fault e
 
 module _ (back : Reply → Reply) (fault : (e : Errno) → back (Fault e) ≡ Fault e) where
   by_faults : (t : Tree) (fs : List (Option Errno)) (d : Reply) → back d ≡ d → back (unless t fs (t, d)).1 ≡ (unless t fs (t, d)).1
-  by_faults t [] d h = h
-  by_faults t (None ∷ fs) d h = by_faults t fs d h
-  by_faults t (Some e ∷ fs) d h = fault e
+  by_faults t fs d h = unless_holds (λ o. back o.1 ≡ o.1) t fs (t, d) fault (λ none. h)
 
   -- so it is of a reply that the tree has, and of want of memory
   told_back : (r d : Reply) → back d ≡ d → (r ≡ d) ⊎ (r ≡ Fault ENOMEM) → back r ≡ r
@@ -59,17 +58,12 @@ abbrev IsShort : ℕ → Reply → Type 0
 IsShort n (Data bytes) = length bytes ≤ n
 IsShort n _ = ⊤
 
-short_by_faults : (t : Tree) (fs : List (Option Errno)) (n : ℕ) (bytes : List ℕ) → length bytes ≤ n → IsShort n (unless t fs (t, Data bytes)).1
-short_by_faults t [] n bytes h = h
-short_by_faults t (None ∷ fs) n bytes h = short_by_faults t fs n bytes h
-short_by_faults t (Some e ∷ fs) n bytes h = tt
-
 take_short : (n : ℕ) (bytes : List ℕ) → length (take n bytes) ≤ n
 take_short n bytes = let e = length-take n bytes in omega (arith, e)
 
 short_read : (t : Tree) (p : Path) (off n : ℕ) → IsShort n (does 0 t (Read p off n)).1
 unfolding does changed
-short_read t p off n = short_by_faults t (faults_of_read t p n) n (take n (drop off (bytes_of (entry_at t p)))) (take_short n (drop off (bytes_of (entry_at t p))))
+short_read t p off n = unless_holds (λ o. IsShort n o.1) t (faults_of_read t p n) (t, Data (take n (drop off (bytes_of (entry_at t p))))) (λ e. tt) (λ none. take_short n (drop off (bytes_of (entry_at t p))))
 
 short_told : (n : ℕ) (r d : Reply) → IsShort n d → (r ≡ d) ⊎ (r ≡ Fault ENOMEM) → IsShort n r
 short_told n r d h (inl e) = subst (IsShort n) (sym e) h

@@ -7,6 +7,7 @@ use Rattle.std.specs.Str.Parse.{digits_value}
 use Rattle.std.proofs.lemmas.Bool.{lt-ltb, cases_lt, eqb-true}
 use Rattle.std.proofs.lemmas.Fmt.{decimal_digit, first_decimal, digits_decimal, digits_value-decimal}
 use Rattle.std.proofs.lemmas.List.{get_or_past}
+use Rattle.std.proofs.lemmas.Option.{same_Some}
 use Rattle.std.proofs.lemmas.List.Elements.{recursion_from_All, All-cons, All-head, All-nil, All-tail, All-get_or}
 use Rattle.hex.specs.Hex.{decode_of, IsBytes}
 use Rattle.hex.specs.declared.error.FromHexError.{FromHexError}
@@ -308,14 +309,11 @@ some_block (Some c) b h e = let same : c ≡ b = cc in subst IsBlock same h
 
 -- ---- the moment that ends a line
 
-some_pair : (x y : Text × ℕ) → ◌≡◌ {A = Option (Text × ℕ)} (Some x) (Some y) → x ≡ y
-some_pair x y e = cc
-
 -- what was cut off is what was spelled
 pub moment_cut : (v : Version) (words : Text) (cut : Option (Text × ℕ)) → CutsMoment v words cut → (front : Text) (a : ℕ) → cut ≡ Some (front, a) → (last : Text) (at : ℕ) → All (λ b. b ≢ 32) last → IsTold v at
     → words ≡ last ++ moment_text v at → (front ≡ last) × (a ≡ at)
 moment_cut v words cut h front a is last at free told e =
-    let same : (front, a) ≡ (last, at) = some_pair (front, a) (last, at) (sym is ∙ h.complete last at free told e) in
+    let same : (front, a) ≡ (last, at) = same_Some {A = Text × ℕ} (front, a) (last, at) (sym is ∙ h.complete last at free told e) in
     (ap (λ (p : Text × ℕ). p.0) same, ap (λ (p : Text × ℕ). p.1) same)
 
 -- and something was, where something is spelled
@@ -383,7 +381,7 @@ cuts_last words front back n h number few = record {
   valid = few;
   complete = λ last at free told e.
       let parts = moment_words words front back last at h free e in
-      let same : n ≡ at = some_is n at (sym number ∙ number_spelled back at told parts.1) in
+      let same : n ≡ at = same_Some n at (sym number ∙ number_spelled back at told parts.1) in
       ap (λ (w : Text). Some (w, n)) parts.0 ∙ ap (λ (k : ℕ). Some (last, k)) same;
 }
 

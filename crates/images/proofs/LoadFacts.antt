@@ -44,7 +44,7 @@ use Rattle.images.specs.Image.{version_of}
 use Rattle.images.specs.Loads.{AreSoFar, Begun, Counts, FitsAt, alone, text_of, text_so_far, with_line, count_so_far, IsLoading, LoadsNext, LoadsRoot, LoadsLine, MayNotFollow, RefusesLine, HasRead, LoadsPiece, RefusesPiece, LoadsEnd, RefusesEnd, ReadsSoFar, Loaded, LoadsAll, IsBadIn, entry_line, form_of, len_of, new_form}
 use Rattle.std.specs.Io.KnownBytes.{Consumes, IsAtEnd}
 use Rattle.std.proofs.KnownBytes.{Consumes-nil, Consumes-trans}
-use Rattle.lines.proofs.Known.{known_text, known_whole}
+use Rattle.lines.proofs.Known.{gave_all, known_text, known_whole}
 use Rattle.lines.proofs.HeldFacts.{holds_nothing}
 use Rattle.lines.specs.Held.{Holds, IsFree}
 use Rattle.images.specs.declared.load.LoadFault.{LoadFault}
@@ -389,13 +389,13 @@ reads_piece had has now items piece items' l m (text, read, h) more loads = (tex
 -- the end of the reader
 pub all_loaded : (had has now : Option (List ℕ)) (items none : Text) (l : Loading) → ReadsSoFar had has items l → Consumes has now none → none ≡ [] → IsAtEnd now → LoadsEnd items l → LoadsAll had now l.volume
 all_loaded had has now items none l (text, read, h) more no_bytes end loads =
-    let whole : Consumes had now text = subst (Consumes had now) (ap (λ (t : Text). text ++ t) no_bytes ∙ append-nil text) (Consumes-trans had has now text none read more) in
+    let whole : Consumes had now text = gave_all had has now text none read more no_bytes in
     let both : IsSomeImage text × Loaded text l.volume = loaded text l (loads text h) in
     (text, whole, end, both.0, both.1)
 
 pub end_bad : (had has now : Option (List ℕ)) (items none : Text) (n : ℕ) (l : Loading) → ReadsSoFar had has items l → Consumes has now none → none ≡ [] → IsAtEnd now → RefusesEnd items n l → IsBadIn had n
 end_bad had has now items none n l (text, read, h) more no_bytes end refuses =
-    let whole : Consumes had now text = subst (Consumes had now) (ap (λ (t : Text). text ++ t) no_bytes ∙ append-nil text) (Consumes-trans had has now text none read more) in
+    let whole : Consumes had now text = gave_all had has now text none read more no_bytes in
     (text, known_whole had now text whole end, refuses text h)
 
 pub piece_refused : (had has now : Option (List ℕ)) (items piece : Text) (n : ℕ) (l : Loading) → ReadsSoFar had has items l → Consumes has now piece → RefusesPiece items piece n l → IsBadIn had n

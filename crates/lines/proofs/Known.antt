@@ -1,7 +1,7 @@
 -- What is known of bytes that were read or written in part.
 use Rattle.std.proofs.Common.{◌≡◌, ℕ, List, [], ◌++◌, None, Some, IfSome, Result, Ok, Err, OnErr, OnOk, Option, sym, ap, ◌∙◌, subst, append_assoc, append-nil}
 use Rattle.std.specs.Io.KnownBytes.{Appends, Consumes, IsAtEnd}
-use Rattle.std.proofs.KnownBytes.{Appends-trans}
+use Rattle.std.proofs.KnownBytes.{Appends-trans, Consumes-trans}
 use Rattle.lines.specs.Parts.{AppendsPart, Gathers}
 
 -- what holds in any case holds where the answer is an error
@@ -33,6 +33,10 @@ pub known_text : (a b : Option (List ℕ)) (read : List ℕ) → Consumes a b re
 known_text None b read c = ([], tt)
 known_text (Some x) None read c = absurd c
 known_text (Some x) (Some y) read c = (y, c)
+
+-- a last read that gave nothing
+pub gave_all : (had has end : Option (List ℕ)) (text none : List ℕ) → Consumes had has text → Consumes has end none → none ≡ [] → Consumes had end text
+gave_all had has end text none read last empty = subst (Consumes had end) (ap (λ l. text ++ l) empty ∙ append-nil text) (Consumes-trans had has end text none read last)
 
 -- a reader at its end had in all what it gave
 pub known_whole : (a b : Option (List ℕ)) (read : List ℕ) → Consumes a b read → IsAtEnd b → IfSome a (λ all. all ≡ read)

@@ -1,6 +1,7 @@
 -- A call's reply is of the call's kind, and a call that only looks changes nothing.
-use Rattle.std.proofs.Common.{◌≡◌, ◌⊎◌, ℕ, List, [], ◌∷◌, length, Bool, true, false, cond, refl, sym, ap, subst, ◌∙◌, Option, Some, None, inl, inr}
+use Rattle.std.proofs.Common.{◌≡◌, ◌⊎◌, ℕ, List, [], ◌∷◌, length, Bool, true, false, cond, refl, sym, ap, subst, ◌∙◌, Option, inl, inr}
 use Rattle.std.specs.Prelude.{◌&&◌, Result, Ok, Err, IfOk}
+use Rattle.std.proofs.lemmas.Bool.{cond_both}
 use Rattle.call_compiler.specs.Compiled.{IsCompiled, Messages, MeanTree, Sends, no_messages, touches_root}
 use Rattle.call_compiler.specs.declared.indexes.Indexes.{Indexes}
 use Rattle.pathkey.specs.Names.{same_path}
@@ -19,23 +20,14 @@ use Rattle.volume.specs.Typed.{IsCount, IsData, IsNames, IsOfKind, IsSettled, Is
 use Rattle.volume.specs.Rooted.{after_call, reply_to}
 use Rattle.volume.specs.Volumes.{PVolume, MeanSome, live_of}
 use Rattle.volume.specs.declared.rooted.Rooted.{Rooted}
+use Rattle.reference.proofs.NoFaults.{unless_holds}
 use Rattle.reference.proofs.Touching.{reply_is}
 use Rattle.volume.proofs.Leading.{volume, call_done, kept_all, nothing_comes}
 
 -- ---- kinds of replies
 
-module _ (P : Reply → Type 0) (fault : (e : Errno) → P (Fault e)) where
-  by_faults : (t : Tree) (fs : List (Option Errno)) (o : Outcome) → P o.1 → P (unless t fs o).1
-  by_faults t [] o h = h
-  by_faults t (None ∷ fs) o h = by_faults t fs o h
-  by_faults t (Some e ∷ fs) o h = fault e
-
-by_test : (b : Bool) (o p : Outcome) → IsSettled o.1 → IsSettled p.1 → IsSettled (cond b o p).1
-by_test true o p h k = h
-by_test false o p h k = k
-
 settles : (t : Tree) (fs : List (Option Errno)) (x : Tree) → IsSettled (unless t fs (x, Done)).1
-settles t fs x = by_faults IsSettled (λ e. tt) t fs (x, Done) tt
+settles t fs x = unless_holds (λ o. IsSettled o.1) t fs (x, Done) (λ e. tt) (λ none. tt)
 
 counts : (t x : Tree) (w : List ℕ) → IsCount (cond {A = Outcome} (is_empty w) (t, Count 0) (x, Count (length w))).1
 counts t x [] = tt
@@ -51,18 +43,18 @@ changed_kind : (c : Call) (at : ℕ) (t : Tree) → IsOfKind c (changed at t c).
 unfolding changed
 changed_kind (Mkdir p) at t = settles t (faults_of_new t p) (with_entry t p (Dir at nothing))
 changed_kind (Create p) at t = settles t (faults_of_new t p) (with_entry t p (File at []))
-changed_kind (Write p off w) at t = by_faults IsCount (λ e. tt) t (faults_of_write t p off w) _ (counts t (with_entry t p (File at (over (bytes_of (entry_at t p)) off w))) w)
+changed_kind (Write p off w) at t = unless_holds (λ o. IsCount o.1) t (faults_of_write t p off w) _ (λ e. tt) (λ none. counts t (with_entry t p (File at (over (bytes_of (entry_at t p)) off w))) w)
 changed_kind (Truncate p n) at t = settles t (faults_of_truncate t p n) (with_entry t p (File at (sized (bytes_of (entry_at t p)) n)))
 changed_kind (Unlink p) at t = settles t (faults_of_unlink t p) (without t p)
 changed_kind (Rmdir p) at t = settles t (faults_of_rmdir t p) (without t p)
 changed_kind (Rmtree p) at t = settles t (faults_of_rmtree t p) (without t p)
 changed_kind (Rename o n) at t =
-    by_faults IsSettled (λ e. tt) t (faults_of_rename_from t o) _
-    (by_test (same_path o n) (t, Done) (unless t (faults_of_rename t o n) (placed (without t o) n (entry_at t o), Done))
-    tt (settles t (faults_of_rename t o n) (placed (without t o) n (entry_at t o))))
-changed_kind (Read p off n) at t = by_faults IsData (λ e. tt) t (faults_of_read t p n) _ tt
-changed_kind (AskStat p) at t = by_faults IsStat (λ e. tt) t (faults_of_stat t p) (t, stat_of (entry_at t p)) (stands (entry_at t p))
-changed_kind (Readdir p) at t = by_faults IsNames (λ e. tt) t (faults_of_readdir t p) (t, Names (names_of (entry_at t p))) tt
+    unless_holds (λ x. IsSettled x.1) t (faults_of_rename_from t o) _ (λ e. tt) (λ none.
+    cond_both {A = Outcome} (same_path o n) (t, Done) (unless t (faults_of_rename t o n) (placed (without t o) n (entry_at t o), Done)) (λ x. IsSettled x.1)
+    (λ e. tt) (λ e. settles t (faults_of_rename t o n) (placed (without t o) n (entry_at t o))))
+changed_kind (Read p off n) at t = unless_holds (λ o. IsData o.1) t (faults_of_read t p n) _ (λ e. tt) (λ none. tt)
+changed_kind (AskStat p) at t = unless_holds (λ o. IsStat o.1) t (faults_of_stat t p) (t, stat_of (entry_at t p)) (λ e. tt) (λ none. stands (entry_at t p))
+changed_kind (Readdir p) at t = unless_holds (λ o. IsNames o.1) t (faults_of_readdir t p) (t, Names (names_of (entry_at t p))) (λ e. tt) (λ none. tt)
 
 of_kind : (c : Call) (at : ℕ) (t : Tree) → IsOfKind c (does at t c).1
 of_kind c at t = subst (IsOfKind c) (sym (reply_is at t c)) (changed_kind c at t)
