@@ -1,6 +1,6 @@
 -- The calls that make an entry or take one out: `mkdir`, `create`, `rmdir` and `rmtree`.
 use Rattle.std.proofs.Common.{◌≡◌, ℕ, ◌≤◌, [], ◌∷◌, Bool, true, false, cond, refl, subst, sym, ◌∙◌, arith, Option, Some, None}
-use Rattle.std.specs.Prelude.{Result, Ok, IfOk, MatchOption}
+use Rattle.std.specs.Prelude.{Ok, MatchOption}
 use Rattle.std.proofs.lemmas.Bool.{eq-eqb}
 use Rattle.block_index.specs.Means.{blocks}
 use Rattle.message.specs.declared.msg.Msg.TheVariants.{Put, Del, DelRange}
@@ -27,11 +27,7 @@ use Rattle.call_compiler.proofs.Compiling.{After, meta_meant, compiled_refused, 
 use Rattle.call_compiler.proofs.Idle.{after_alike, touched_alike}
 use Rattle.call_compiler.proofs.Faults.{mkdir_refused, mkdir_done, create_refused, create_done, rmdir_refused, rmdir_done, rmtree_refused, rmtree_done}
 
--- what is told of the directory that was found
-pub of_found : (P : Directory → Type 0) (found : Result Directory Errno) (d : Directory) → found ≡ Ok d → IfOk found P → P d
-of_found P found d is told = subst (λ (r : Result Directory Errno). IfOk r P) is told
-
--- it is the path's, and has the moment that is told
+-- the directory that was found is the path's, and has the moment that is told
 abbrev pub IsParent : Indexes → Path → Directory → Type 0
 IsParent i p d = (d.path ≡ parent p) × ((t : Tree) → IsMeantBy t i.meta → IsDated (entry_at t (parent p)) d)
 

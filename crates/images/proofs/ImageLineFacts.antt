@@ -1,5 +1,5 @@
 -- What is guessed of a line of an image is the line that it spells.
-use Rattle.std.proofs.Common.{◌≡◌, ◌≢◌, ◌⊎◌, ⊎_elim, ◌↔◌, ℕ, ◌/◌, ◌%◌, ◌^◌, ◌<◌, ◌≤◌, List, [], ◌∷◌, ◌++◌, length, drop, get_or, true, false, Bool, cond, ◌==◌, nat_lt, refl, sym, ap, subst, ◌∙◌, arith, append_assoc, append-nil, Option, Some, None, Result, Ok, Err, decimal, flat_map, codes, All}
+use Rattle.std.proofs.Common.{◌≡◌, ◌≢◌, ◌⊎◌, ⊎_elim, ℕ, ◌/◌, ◌%◌, ◌^◌, ◌<◌, ◌≤◌, List, [], ◌∷◌, ◌++◌, length, drop, get_or, true, false, cond, ◌==◌, nat_lt, refl, sym, ap, subst, ◌∙◌, arith, append_assoc, append-nil, Option, Some, None, Result, Ok, Err, decimal, flat_map, codes, All}
 use Rattle.std.specs.Prelude.{IfSome}
 use Rattle.std.specs.List.{list_all}
 use Rattle.std.specs.Char.{is_ascii_digit}
@@ -299,9 +299,6 @@ number_spelled word n h e = ap number_of e ∙ number_read n h
 
 pub never_cut_number : (text : Text) (i : ℕ) (r : Text) → All (λ b. b ≢ 32) text → i < 2 ^ 28 → text ≡ decimal i ++ 32 ∷ r → ⊥
 never_cut_number text i r h few e = no_space_there (decimal i) r (subst NoSpace e (no_space_from_all text h))
-
-pub no_block_of : (bytes : List ℕ) (b : Bool) → ((b ≡ true) ↔ IsBlock bytes) → b ≡ false → IsBlock bytes → ⊥
-no_block_of bytes b both none is = let yes : b ≡ true = both.1 is in cc
 
 pub some_block : (guess : Option (List ℕ)) (b : List ℕ) → IfSome guess IsBlock → guess ≡ Some b → IsBlock b
 some_block None b h e = absurd (cc)

@@ -1,7 +1,8 @@
 -- Jobs that a run holds: where they stand in its list, and that they stay held.
-use Rattle.std.proofs.Common.{◌≡◌, ℕ, ◌+◌, ◌<◌, Bool, true, false, List, [], ◌∷◌, ◌++◌, length, get_or, refl, ap, sym, ◌∙◌, subst, arith, cond, Some, None, inl, inr, add-one}
+use Rattle.std.proofs.Common.{◌≡◌, ℕ, ◌+◌, ◌<◌, true, false, List, [], ◌∷◌, ◌++◌, length, get_or, refl, ap, sym, ◌∙◌, subst, arith, cond, Some, None, inl, inr, add-one}
 use Rattle.std.specs.Prelude.{◌==◌}
 use Rattle.std.specs.List.{remove}
+use Rattle.std.proofs.lemmas.Bool.{cond_both}
 use Rattle.std.proofs.lemmas.Bool.Decides.{nat_tests}
 use Rattle.std.proofs.lemmas.Option.{same_Some}
 use Rattle.block_index.specs.Updates.{means as block_means}
@@ -64,25 +65,17 @@ held_more (x ∷ xs) h l a k = (a.0, held_more xs h l a.1 k)
 
 -- ---- the first with a ticket
 
-same_job : (x y : Held) → Some x ≡ Some y → x ≡ y
-same_job x y e = (cc)
-
--- a chosen list of two
-by_test : (b : Bool) (P : List Held → Type 0) (xs ys : List Held) → P xs → P ys → P (cond b xs ys)
-by_test true P xs ys p q = p
-by_test false P xs ys p q = q
-
 pub found_held : (t : ℕ) (hs : List Held) (job : Held) (l : PLive) → with_ticket t hs ≡ Some job → AreHeld l hs → IsHeld l job
 found_held t [] job l e a = (cc)
 found_held t (h ∷ hs) job l e a =
     (elim (held_ticket h == t) as (λ b. cond b (Some h) (with_ticket t hs) ≡ Some job → IsHeld l job) [
-      | true ↦ λ q. subst (IsHeld l) (same_job h job q) a.0
+      | true ↦ λ q. subst (IsHeld l) (same_Some h job q) a.0
       | false ↦ λ q. found_held t hs job l q a.1
     ]) e
 
 pub others_held : (t : ℕ) (hs : List Held) (l : PLive) → AreHeld l hs → AreHeld l (others t hs)
 others_held t [] l a = tt
-others_held t (h ∷ hs) l a = by_test (held_ticket h == t) (AreHeld l) hs (h ∷ others t hs) a.1 (a.0, others_held t hs l a.1)
+others_held t (h ∷ hs) l a = cond_both (held_ticket h == t) hs (h ∷ others t hs) (AreHeld l) (λ e. a.1) (λ e. (a.0, others_held t hs l a.1))
 
 pub one_less : (t : ℕ) (hs : List Held) (job : Held) → with_ticket t hs ≡ Some job → length (others t hs) + 1 ≡ length hs
 one_less t [] job e = (cc)

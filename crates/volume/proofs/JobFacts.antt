@@ -1,5 +1,6 @@
 -- From what one tree's marks answer to what the live indexes of a volume answer.
 use Rattle.std.proofs.Common.{◌≡◌, ℕ, ◌+◌, ◌≤◌, List, [], ◌∷◌, ◌++◌, length, refl, ap, sym, ◌∙◌, subst, arith, Option, None, false, ◌↔◌}
+use Rattle.std.proofs.lemmas.List.{length_push}
 use Rattle.block_index.specs.Updates.{means as block_means}
 use Rattle.block_index.specs.declared.update.BlockUpdate.{BlockUpdate}
 use Rattle.jobs.specs.Content.{job_content}
@@ -71,11 +72,7 @@ block_taken l i job new of e lawful fits free = record {
 
 -- as many marks and one more
 pub one_more_mark : (ms new : List Mark) (m : Mark) → new ≡ ms ++ m ∷ [] → length new ≡ length ms + 1
-one_more_mark ms new m e = ap length e ∙ at_end ms
-  where
-    at_end : (xs : List Mark) → length (xs ++ m ∷ []) ≡ length xs + 1
-    at_end [] = refl
-    at_end (x ∷ xs) = let r = at_end xs in omega (arith, r)
+one_more_mark ms new m e = ap length e ∙ length_push ms m
 
 -- ---- installing
 
