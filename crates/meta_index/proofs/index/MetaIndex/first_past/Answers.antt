@@ -45,15 +45,15 @@ returns-clause-asked c =
     IfOk-weaker c.first.result
     (λ r. IsPiece (walked_for lo old m) r c.first.new.self.all c.first.new.self.pairs.items)
     (λ r. (g : ℕ) → IsFrugal g (length c.args.pieces.now.pairs.items) c.args.pieces.now.most c.args.pieces.now.walks c.args.pieces.now.asked c.args.pieces.now.all
-        → AsksFor g r (length c.first.new.self.pairs.items) c.first.new.self.most c.first.new.self.walks c.first.new.self.asked c.first.new.self.all)
+    → AsksFor g r (length c.first.new.self.pairs.items) c.first.new.self.most c.first.new.self.walks c.first.new.self.asked c.first.new.self.all)
     (λ r piece g was.
-        let paid = none_frugal (λ k. starts_with eqb k c.args.key.now) c.args.pieces.now.pairs.items old g c.args.pieces.now.most m c.args.pieces.now.walks c.args.pieces.now.asked c.args.pieces.now.all
-            c.in_default.ensures.taken c.take_past.ensures.most (sym c.take_past.ensures.all ∙ c.if-pieces.false) was in
-        let walks = c.take_past.ensures.counts.0 in
-        let asked = c.take_past.ensures.counts.1 in
-        first_asks lo old all g m c.take_past.new.self.walks c.take_past.new.self.asked c.first.new.self.walks c.first.new.self.asked c.first.new.self.most r c.first.new.self.all c.first.new.self.pairs.items
-        c.in_default.ensures.none c.if-pieces.false (omega (arith, asked, paid.0)) paid.1 (omega (arith, walks, was.few)) (omega (arith, asked, was.paid)) (omega (arith, walks, asked, was.each))
-        c.first.ensures.walks c.first.ensures.asked c.first.ensures.most piece)
+    let paid = none_frugal (λ k. starts_with eqb k c.args.key.now) c.args.pieces.now.pairs.items old g c.args.pieces.now.most m c.args.pieces.now.walks c.args.pieces.now.asked c.args.pieces.now.all
+    c.in_default.ensures.taken c.take_past.ensures.most (sym c.take_past.ensures.all ∙ c.if-pieces.false) was in
+    let walks = c.take_past.ensures.counts.0 in
+    let asked = c.take_past.ensures.counts.1 in
+    first_asks lo old all g m c.take_past.new.self.walks c.take_past.new.self.asked c.first.new.self.walks c.first.new.self.asked c.first.new.self.most r c.first.new.self.all c.first.new.self.pairs.items
+    c.in_default.ensures.none c.if-pieces.false (omega (arith, asked, paid.0)) paid.1 (omega (arith, walks, was.few)) (omega (arith, asked, was.paid)) (omega (arith, walks, asked, was.each))
+    c.first.ensures.walks c.first.ensures.asked c.first.ensures.most piece)
     (c.first.ensures.piece (walked_at_none lo old all c.in_default.ensures.none c.if-pieces.false))
 
 pub first-requires : goal.first-requires
