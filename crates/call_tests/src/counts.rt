@@ -36,8 +36,8 @@ fn fill(alloc: Global, index: &mut MetaIndex) -> bool {
         && put(alloc, index, "/b", Meta::Dir { modified: 0 })
 }
 
-/// What stands in the root.
-const BOTH: Asked = Asked::Listed(&[(Kind::Dir, "a"), (Kind::Dir, "b")], 3);
+/// What stands in the root: two names, for which the tree is walked three times at most, for 36 pairs.
+const BOTH: Asked = Asked::Listed(&[(Kind::Dir, "a"), (Kind::Dir, "b")], 3, 36);
 
 /// Whether listings of an index with 2,000 files in one directory pass them all at once.
 fn passes(alloc: Global, index: &mut MetaIndex) -> bool {

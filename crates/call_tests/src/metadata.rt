@@ -262,11 +262,21 @@ fn has_names(alloc: Global, index: &MetaIndex, path: &Path, wanted: &[Name]) -> 
     }
 }
 
-/// Whether so many searches list these entries of the directory at a path.
-fn is_listed(alloc: Global, index: &MetaIndex, path: &Path, names: &[Name], wanted: u64) -> bool {
+/// Whether the entries of the directory at a path are these, and are listed by so many walks of the tree at most.
+fn is_walked(alloc: Global, index: &MetaIndex, path: &Path, names: &[Name], most: u64) -> bool {
     let mut searches = 0;
     match index.children_counted(alloc, path, &mut searches) {
-        Ok(entries) => are_named(&entries, names) && searches == wanted,
+        Ok(entries) => are_named(&entries, names) && searches > 0 && searches <= most,
+        Err(_) => false,
+    }
+}
+
+/// Whether they are listed by walks that ask for so many pairs at most.
+fn is_measured(alloc: Global, index: &MetaIndex, path: &Path, names: &[Name], most: u64) -> bool {
+    let mut walks = 0;
+    let mut pairs = 0;
+    match index.children_measured(alloc, path, &mut walks, &mut pairs) {
+        Ok(entries) => are_named(&entries, names) && walks > 0 && pairs <= most,
         Err(_) => false,
     }
 }
@@ -345,8 +355,8 @@ pub enum Asked {
     Empty(bool),
     /// The entries of the directory.
     Names(&'static [Name]),
-    /// The entries of the directory, and how many searches list them.
-    Listed(&'static [Name], u64),
+    /// The entries of the directory, and how many walks of the tree list them at most, and how many pairs these ask for.
+    Listed(&'static [Name], u64, u64),
     /// Whether nothing lies below, and how many searches tell.
     Told(bool, u64),
     /// So many pairs of its subtree, and the paths of those that come.
@@ -474,7 +484,10 @@ fn is_answered(alloc: Global, index: &MetaIndex, path: &Path, asked: Asked) -> b
         Asked::Fault(fault) => has_fault(alloc, index, path, fault),
         Asked::Empty(empty) => is_empty_at(alloc, index, path) == Some(empty),
         Asked::Names(names) => has_names(alloc, index, path, names),
-        Asked::Listed(names, wanted) => is_listed(alloc, index, path, names, wanted),
+        Asked::Listed(names, walks, pairs) => {
+            is_walked(alloc, index, path, names, walks)
+                && is_measured(alloc, index, path, names, pairs)
+        }
         Asked::Told(empty, wanted) => is_told(alloc, index, path, empty, wanted),
         Asked::Below(limit, wanted) => holds(alloc, index, path, None, limit, wanted),
         Asked::Behind(behind, limit, wanted) => {

@@ -5,3 +5,4 @@ pub mod ChildOrder
 pub mod Listed
 pub mod Steps
 pub mod Fresh
+pub mod Spending

@@ -1,3 +1,4 @@
 pub mod Updates
 pub mod Means
 pub mod Below
+pub mod Asked

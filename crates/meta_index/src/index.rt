@@ -1,6 +1,7 @@
 //! The metadata index, and what stands at a path.
-ghost use Rattle.std.specs.Prelude.{◌≡◌, ◌+◌, ◌∷◌, ◌++◌, ℕ, List, [], IfOk, OnOk, IsTrue, None, length, not};
+ghost use Rattle.std.specs.Prelude.{◌≡◌, ◌+◌, ◌*◌, ◌<◌, ◌≤◌, ◌∷◌, ◌++◌, ℕ, List, [], IfOk, OnOk, IsTrue, None, length, not};
 ghost use Rattle.std.specs.Result.{result_err};
+ghost use Rattle.meta_index.specs.Asked.{AsksFor, IsFrugal};
 ghost use Rattle.meta_index.specs.Means.{IsMeantBy, metadata, moment_in, moment_told, told};
 ghost use Rattle.node.specs.Shapes.{is_shape};
 ghost use Rattle.pathkey.specs.Keys.{next_key, subtree};
@@ -150,8 +151,8 @@ impl MetaIndex {
         self.children_counted(alloc, path, &mut searches)
     }
 
-    /// Likewise, and leaves in `searches` how often it asked for a first pair: once for each entry, and once more. The tree itself
-    /// it asks no more often, since the pairs come from it in pieces.
+    /// Likewise, and leaves in `searches` how often it walked the tree: for each entry once at most, and once more. No walk asks for
+    /// more than 256 pairs.
     pub fn children_counted(
         &self,
         alloc: Global,
@@ -159,19 +160,37 @@ impl MetaIndex {
         searches: &mut u64,
     ) -> Result<Vec<(Kind, Vec<u8>)>, NoMemory>
         ensures listed { IfOk result (λ v. (t : DirectoryTree) → IsMeantBy t self.now → pairs_of v.items ≡ names_of (entry_at t path.now)) }
-        ensures counted { IfOk result (λ v. searches.new ≡ length v.items + 1) }
+        ensures counted { IfOk result (λ v. (0 < searches.new) × (searches.new ≤ length v.items + 1) × (length v.items ≤ 256 * searches.new)) }
+    {
+        let mut pairs = 0;
+        self.children_measured(alloc, path, searches, &mut pairs)
+    }
+
+    /// Likewise, and leaves in `pairs` for how many pairs these walks asked, all together: for each entry two at most, and 32 more,
+    /// whatever lies below the entries.
+    pub fn children_measured(
+        &self,
+        alloc: Global,
+        path: &Path,
+        walks: &mut u64,
+        pairs: &mut u64,
+    ) -> Result<Vec<(Kind, Vec<u8>)>, NoMemory>
+        ensures listed { IfOk result (λ v. (t : DirectoryTree) → IsMeantBy t self.now → pairs_of v.items ≡ names_of (entry_at t path.now)) }
+        ensures walked { IfOk result (λ v. (0 < walks.new) × (walks.new ≤ length v.items + 1)) }
+        ensures asked { IfOk result (λ v. (length v.items ≤ pairs.new) × (pairs.new ≤ 2 * length v.items + 32)) }
+        ensures each { OnOk result (pairs.new ≤ 256 * walks.new) }
     {
         let mut entries = Vec::new(alloc);
         let mut rest = keys_below(alloc, path)?;
         let mut pieces = Pieces::new(alloc);
-        *searches = 1;
         let mut next = pieces.first(alloc, &self.tree, &rest)?;
         'entries: while let Some((key, meta)) = next {
             let name = Vec::from_slice(alloc, name_behind(path.key(), &key))?;
             entries.push((kind_of(meta), name))?;
             next = self.first_past(alloc, &key, &mut rest, &mut pieces)?;
-            *searches += 1;
         }
+        *walks = pieces.walks;
+        *pairs = pieces.asked;
         Ok(entries)
     }
 
@@ -186,6 +205,7 @@ impl MetaIndex {
         pieces: &mut Pieces<MetaUpdate>,
     ) -> Result<Option<(Key, Meta)>, NoMemory>
         ensures hi { rest.new.hi ≡ rest.old.hi }
+        ensures asked { IfOk result (λ r. (g : ℕ) → IsFrugal g (length pieces.old.pairs.items) pieces.old.most pieces.old.walks pieces.old.asked pieces.old.all → AsksFor g r (length pieces.new.pairs.items) pieces.new.most pieces.new.walks pieces.new.asked pieces.new.all) }
         ensures given { IfOk result (λ r. (s : List ℕ) → key.now ≡ s ++ 0 ∷ [] → AreFrom (metadata self.now) (next_key key.now) rest.old.hi pieces.old.all pieces.old.pairs.items → IsGiven (metadata self.now) (s ++ 1 ∷ []) rest.old.hi r pieces.new.all pieces.new.pairs.items) }
     {
         if let Some(pair) = pieces.take_past(key) {

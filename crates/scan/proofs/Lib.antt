@@ -10,3 +10,4 @@ pub mod Searching
 pub mod LeafFirst
 pub mod LeafWalk
 pub mod Merging
+pub mod Sizes

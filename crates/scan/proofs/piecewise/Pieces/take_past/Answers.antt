@@ -3,7 +3,14 @@ use Rattle.std.specs.List.{starts_with}
 use Rattle.pathkey.specs.Keys.{next_key}
 use Rattle.scan.specs.Pairs.{AreFrom}
 use Rattle.scan.proofs.AtHand.{taken_by_test, past_taken}
+use Rattle.scan.proofs.Sizes.{sized_by_test}
 use Rattle.scan.proofs.piecewise.Pieces.take_past.Goals as goal
+
+pub returns-clause-taken : goal.returns-clause-taken
+returns-clause-taken g c = taken_by_test (λ k. starts_with eqb k c.args.front.now) c.args.self.now.pairs.items c.take_unless.result _ c.take_unless.ensures.taken (λ a r q h. search rules)
+
+pub returns-clause-most : goal.returns-clause-most
+returns-clause-most g c = sized_by_test (λ k. starts_with eqb k c.args.front.now) c.args.self.now.pairs.items c.args.self.now.most _ c.take_unless.ensures.most (λ a r q h. search rules)
 
 pub returns-clause-given : goal.returns-clause-given
 returns-clause-given g c = λ f hi end is_end from.

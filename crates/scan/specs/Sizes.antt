@@ -1,0 +1,32 @@
+-- How large the pieces of a range are, and when the tree is walked for one. Pairs are at hand; n is how many the next piece may have.
+use Rattle.std.specs.Prelude.{◌≡◌, ℕ, ◌+◌, ◌-◌, ◌^◌, ◌≤◌, min, max, Bool, true, false, not, cond, List, [], ◌∷◌, ◌++◌, Option, length}
+use Rattle.std.specs.Option.{option_to_list}
+use Rattle.message.specs.Ranges.{before}
+use Rattle.scan.specs.Pairs.{from_unpassed}
+
+-- a count, raised by m where it is said so, and to 2^64 - 1 at most
+abbrev pub raised : Bool → ℕ → ℕ → ℕ
+raised said m count = cond said (min (count + m) (2 ^ 64 - 1)) count
+
+module _ {V : Type 0} where
+  -- how many pairs the next piece may have once those were passed that pass the test: one where any was, else as many as before
+  abbrev pub size_past : (List ℕ → Bool) → List (List ℕ × V) → ℕ → ℕ
+  size_past test [] n = n
+  size_past test (p ∷ ps) n = cond (test p.0) 1 n
+
+  -- no pair is left at hand, and there may be others
+  abbrev pub wants_more : Bool → List (List ℕ × V) → Bool
+  wants_more all [] = not all
+  wants_more all (p ∷ ps) = false
+
+  -- the tree is walked for the first pair from lo on: none of those at hand stands there, and there may be others
+  abbrev pub is_walked : List ℕ → Bool → List (List ℕ × V) → Bool
+  is_walked lo all ps = wants_more all (from_unpassed (λ k. before k lo) ps)
+
+  -- for how many pairs it is walked then
+  abbrev pub walked_for : List ℕ → List (List ℕ × V) → ℕ → ℕ
+  walked_for lo ps n = max (size_past (λ k. before k lo) ps n) 1
+
+  -- a piece of n pairs, or of fewer where no other is left: the one that was given, and those at hand
+  abbrev pub IsPiece : ℕ → Option (List ℕ × V) → Bool → List (List ℕ × V) → Type 0
+  IsPiece n given all ps = (length (option_to_list given ++ ps) ≤ n) × (all ≡ false → length (option_to_list given ++ ps) ≡ n)
