@@ -1,7 +1,8 @@
 -- What was told of a call that changes a volume is its reply.
-use Rattle.std.proofs.Common.{◌≡◌, ◌⊎◌, ℕ, List, [], ◌∷◌, length, cond, refl, sym, subst, ap, ◌∙◌, Option, inl, inr}
+use Rattle.std.proofs.Common.{◌≡◌, ◌⊎◌, ℕ, List, [], ◌∷◌, length, Bool, true, false, cond, refl, sym, subst, ap, ◌∙◌, Option, Some, None, Result, Ok, Err, IsOk, inl, inr}
 use Rattle.std.proofs.lemmas.Bool.{cond_both}
-use Rattle.pathkey.specs.Names.{same_path}
+use Rattle.pathkey.specs.Names.{Path, same_path}
+use Rattle.pathkey.specs.Outcomes.{IsOrLacksMemory}
 use Rattle.pathkey.specs.declared.errno.Errno.{Errno}
 use Rattle.pathkey.specs.declared.errno.Errno.TheVariants.{ENOMEM}
 use Rattle.reference.specs.Calls.{Outcome, changed, does, unless, faults_of_new, faults_of_write, faults_of_truncate, faults_of_unlink, faults_of_rmdir, faults_of_rmtree, faults_of_rename_from, faults_of_rename, placed, is_empty, bytes_of}
@@ -14,8 +15,9 @@ use Rattle.reference.specs.declared.reply.Reply.TheVariants.{Done, Count, Fault}
 use Rattle.reference.proofs.NoFaults.{unless_holds}
 use Rattle.reference.proofs.Touching.{reply_is}
 use Rattle.volume.specs.Changes.{Called}
-use Rattle.volume.specs.Volumes.{PVolume, IsVolume}
-use Rattle.byte_calls.specs.Changes.{Changes, done_of, settled, told}
+use Rattle.volume.specs.Volumes.{PVolume, IsVolume, live_of}
+use Rattle.volume.proofs.Leading.{lacks_call}
+use Rattle.byte_calls.specs.Changes.{Asks, Changes, asked, done_of, settled, told}
 
 -- ---- what the table of calls replies
 
@@ -66,3 +68,23 @@ fitting at w c r h (inr e) = inr (ENOMEM, (cc))
 pub called_told : (c : Call) (at : ℕ) (r : Reply) (old new : PVolume) → Changes c → IsVolume old → Called c at r old new → Called c at (told (done_of c) (settled r)) old new
 called_told c at r old new h v k =
     subst (λ x. Called c at x old new) (sym (told_reply c r (fitting at v.world c r h (k.leads v.world v.means).0))) k
+
+-- ---- memory that is refused before the volume is called
+
+-- it is a reply of the call
+not_called : (c : Call) (at : ℕ) (v : PVolume) → Called c at (Fault ENOMEM) v v
+not_called c at v = lacks_call v c at (live_of v) refl
+
+-- the path was read, and then memory was refused
+pub read_uncalled : (call : Path → Call) (at : ℕ) (read : Result Path Errno) (p : Path) (v : PVolume) → IsOrLacksMemory (Ok p) read → Asks (asked call read) at (Err ENOMEM) v v
+read_uncalled call at read p v (inl is) = subst (λ (r : Result Path Errno). Asks (asked call r) at (Err ENOMEM) v v) is (not_called (call p) at v)
+read_uncalled call at read p v (inr lacks) = absurd (cc)
+
+-- no path was read: the text is none, or memory was refused
+pub unread : (call : Path → Call) (at : ℕ) (read answer : Result Path Errno) (e : Errno) (v : PVolume) → IsOrLacksMemory answer read → answer ≡ Err e → Asks (asked call read) at (Err e) v v
+unread call at read answer e v (inl is) err = subst (λ (r : Result Path Errno). Asks (asked call r) at (Err e) v v) (sym err ∙ is) (refl, refl)
+unread call at read answer e v (inr lacks) err = lacking read lacks.1
+  where
+    lacking : (r : Result Path Errno) → IsOk r → Asks (asked call r) at (Err e) v v
+    lacking (Ok p) some = let same : e ≡ ENOMEM = (cc) in subst (λ (x : Errno). Called (call p) at (Fault x) v v) (sym same) (not_called (call p) at v)
+    lacking (Err f) some = absurd (cc)

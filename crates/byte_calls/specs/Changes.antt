@@ -1,8 +1,7 @@
 -- Calls asked in texts that change a volume.
-use Rattle.std.specs.Prelude.{◌≡◌, ◌⊎◌, ℕ, length, Result, Ok, Err, ⊤}
+use Rattle.std.specs.Prelude.{◌≡◌, ℕ, length, Result, Ok, Err, ⊤}
 use Rattle.pathkey.specs.Names.{Path}
 use Rattle.pathkey.specs.declared.errno.Errno.{Errno}
-use Rattle.pathkey.specs.declared.errno.Errno.TheVariants.{ENOMEM}
 use Rattle.reference.specs.declared.call.Call.{Call}
 use Rattle.reference.specs.declared.call.Call.TheVariants.{Mkdir, Create, Write, Unlink, Rmdir, Rename, Rmtree, Read, Stat as AskStat, Readdir}
 use Rattle.reference.specs.declared.reply.Reply.{Reply}
@@ -62,8 +61,8 @@ told r (Err e) = Fault e
 abbrev pub Refuses : {A : Type 0} → Errno → Result A Errno → PVolume → PVolume → Type 0
 Refuses e result old new = (result ≡ Err e) × (new ≡ old)
 
--- texts that ask for no call are refused, and nothing changes; else the volume was called at the moment, and what it replied is told, or
--- memory was refused on the way to it
+-- texts that ask for no call are refused, and nothing changes; else what is told is the volume's reply to the call at the moment: want of
+-- memory too is told only as the volume itself may reply it
 abbrev pub Asks : Result Call Errno → ℕ → Result (Unit {0}) Errno → PVolume → PVolume → Type 0
 Asks (Err e) at result old new = Refuses e result old new
-Asks (Ok c) at result old new = Called c at (told (done_of c) result) old new ⊎ Refuses ENOMEM result old new
+Asks (Ok c) at result old new = Called c at (told (done_of c) result) old new

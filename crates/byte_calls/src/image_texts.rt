@@ -1,5 +1,5 @@
 //! Images: a tree as text, out and in.
-ghost use Rattle.std.specs.Prelude.{◌≡◌, ◌↔◌, ℕ, Err, IfOk, false};
+ghost use Rattle.std.specs.Prelude.{◌≡◌, ◌≢◌, ◌↔◌, ℕ, Err, IfOk, false};
 ghost use Rattle.node.specs.Shapes.{is_shape};
 ghost use Rattle.reference.specs.Image.{Second, image};
 ghost use Rattle.reference.specs.ImageLines.{IsBadAt};
@@ -9,7 +9,7 @@ ghost use Rattle.byte_calls.specs.Images.{Prints};
 ghost use Rattle.volume.specs.Volumes.{MeanRooted};
 
 use crate::looks::lay;
-use images::{LoadFault, load_image, print_image};
+use images::{LoadFault, load_text, print_image};
 use node::Shape;
 use pathkey::Errno;
 use std::alloc::Global;
@@ -31,13 +31,14 @@ pub fn print(alloc: Global, tree: &Frozen, out: &mut [u8]) -> Result<usize, Errn
 }
 
 /// A new volume with the tree whose image the text is, without snapshots, in trees of this shape. It fails where the shape is not
-/// ok, where memory is refused, and where the text is no image: `Bad` has the number of the first line with which it is none.
+/// ok, where memory is refused, and where the text is no image: `Bad` has the number of the first line with which it is none. Nothing is
+/// read, so `Read` is never answered.
 pub fn load(alloc: Global, shape: Shape, text: &[u8]) -> Result<Volume, LoadFault>
     ensures loaded { IfOk result (Loaded text.now) }
     ensures form { IfOk result (λ v. form_of v ≡ new_form shape) }
     ensures bad { (n : ℕ) → result ≡ Err (LoadFault.Bad n) → IsBadAt n text.now }
     ensures shape { (result ≡ Err LoadFault.Shape) ↔ (is_shape shape ≡ false) }
+    ensures read { result ≢ Err LoadFault.Read }
 {
-    let mut rest = text;
-    load_image(alloc, shape, &mut rest)
+    load_text(alloc, shape, text)
 }

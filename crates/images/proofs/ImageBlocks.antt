@@ -16,6 +16,8 @@ use Rattle.reference.specs.Tree.{File, At, Found}
 use Rattle.std.specs.Option.{option_to_list}
 use Rattle.volume.specs.Walks.{AreBlocks, AreBlocksAt, IsBlock, block_bytes}
 use Rattle.volume.proofs.Walks.{past_bytes}
+use Rattle.images.specs.Image.{AppendsLines}
+use Rattle.images.proofs.WholeLines.{blocks_end}
 
 -- ---- trailing zeros
 
@@ -179,6 +181,10 @@ no_next b i are = ⊎_elim
 -- the lines of the first blocks, as a part of all
 pub lines_part : (a c : Option (List ℕ)) (b : List ℕ) (i : ℕ) → Appends a c (block_lines b i) → AppendsPart a c (block_lines b (count b))
 lines_part a c b i w = (block_lines b i, (begins b i).0, (begins b i).1, w)
+
+-- and as whole lines of it
+pub lines_whole : (a c : Option (List ℕ)) (b : List ℕ) (i : ℕ) → Appends a c (block_lines b i) → AppendsLines a c (block_lines b (count b))
+lines_whole a c b i w = (block_lines b i, (begins b i).0, (begins b i).1, w, blocks_end b i)
 
 -- what a walk gave is what comes next in the file
 pub of_file : (at : At) (date : ℕ) (b : List ℕ) (i : ℕ) (r : Option (ℕ × List ℕ)) (bs : List (ℕ × List ℕ)) → at ≡ Found (File date b) → option_to_list r ≡ bs → AreBlocksAt at i 1 (option_to_list r) → AreBlocks b i 1 bs

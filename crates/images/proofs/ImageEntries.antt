@@ -25,7 +25,8 @@ use Rattle.reference.proofs.Edits.{fold-Missing, fold-Blocked}
 use Rattle.reference.proofs.ShownTrees.{first_at as first_stands, later_at}
 use Rattle.meta_index.proofs.BelowPath.{in_below}
 use Rattle.meta_index.proofs.ChildOrder.{child_before}
-use Rattle.images.specs.Image.{directory_text, entry_lines, file_text, last_of, lines_there, listed_lines}
+use Rattle.images.specs.Image.{AppendsLines, EndsLine, directory_text, entry_lines, file_text, last_of, lines_there, listed_lines}
+use Rattle.images.proofs.WholeLines.{ends_after, lines_after, lines_before, listed_end}
 use Rattle.lines.specs.Texts.{number_line}
 use Rattle.volume.specs.Walks.{AreEntries, IsEntry}
 use Rattle.volume.proofs.Walks.{stands}
@@ -381,16 +382,20 @@ module _ (t : Tree) (last : Path) (v : Meta) (n : ℕ) (es : List (Path × Meta)
 
 -- of the image, all is written up to the lines of the entry at a path
 abbrev pub PrintedTo : Option (List ℕ) → Option (List ℕ) → Tree → Path → Type 0
-PrintedTo a c t last = (done : Text) × (image Second t ≡ done ++ image_from (next_key (enc last)) t) × Appends a c done × ((v : Meta) × IsEntry t last v)
+PrintedTo a c t last = (done : Text) × (image Second t ≡ done ++ image_from (next_key (enc last)) t) × Appends a c done × ((v : Meta) × IsEntry t last v) × EndsLine done
 
 -- the root's line
 pub printed_root : (a c : Option (List ℕ)) (t : Tree) (date : ℕ) (last : Path) → IsTree t → moment t ≡ date → last ≡ [] → Appends a c (number_line (codes "D / ") date) → PrintedTo a c t last
 printed_root a c t date last is same root w =
-    subst (PrintedTo a c t) (sym root) (number_line (codes "D / ") date, image_starts t date is same, w, told_of t)
+    subst (PrintedTo a c t) (sym root) (number_line (codes "D / ") date, image_starts t date is same, w, told_of t, inr (codes "D / " ++ decimal date, refl))
 
 -- what is printed is a beginning
 pub printed_part : (a c : Option (List ℕ)) (t : Tree) (last : Path) → PrintedTo a c t last → AppendsPart a c (image Second t)
-printed_part a c t last (done, split, w, there) = (done, image_from (next_key (enc last)) t, split, w)
+printed_part a c t last (done, split, w, there, ends) = (done, image_from (next_key (enc last)) t, split, w)
+
+-- and whole lines
+pub printed_lines : (a c : Option (List ℕ)) (t : Tree) (last : Path) → PrintedTo a c t last → AppendsLines a c (image Second t)
+printed_lines a c t last (done, split, w, there, ends) = (done, image_from (next_key (enc last)) t, split, w, ends)
 
 -- the root's line is the first
 pub root_part : (a c : Option (List ℕ)) (t : Tree) (date : ℕ) → IsTree t → moment t ≡ date → AppendsPart a c (number_line (codes "D / ") date) → AppendsPart a c (image Second t)
@@ -408,11 +413,12 @@ module _ (a m c : Option (List ℕ)) (t : Tree) (last : Path) (n : ℕ) (es : Li
         so_far.1 ∙ ap (λ (l : Text). so_far.0 ++ l) lines_first ∙ sym (append_assoc so_far.0 lines rest),
         Appends-trans a m c so_far.0 lines so_far.2 w,
         piece_last t last so_far.3.0 n es is are so_far.3.1 some,
+        ends_after so_far.0 lines so_far.4 (listed_end t (drop 1 es)),
       )
 
   pub printed_all : length es < n → Appends m c (listed_lines t (drop 1 es)) → Appends a c (image Second t)
   printed_all few w =
-      let (done, split, written, there) = printed_piece w in
+      let (done, split, written, there, ends) = printed_piece w in
       subst (Appends a c) (sym (split ∙ ap (λ (l : Text). done ++ l) (piece_ends t last so_far.3.0 n es is are so_far.3.1 some few) ∙ append-nil done)) written
 
   pub printed_piece_part : AppendsPart m c (listed_lines t (drop 1 es)) → AppendsPart a c (image Second t)
@@ -420,6 +426,12 @@ module _ (a m c : Option (List ℕ)) (t : Tree) (last : Path) (n : ℕ) (es : Li
       let lines : Text = listed_lines t (drop 1 es) in
       let rest : Text = image_from (next_key (enc (last_of last es))) t in
       subst (AppendsPart a c) (sym (so_far.1 ∙ ap (λ (l : Text). so_far.0 ++ l) lines_first)) (part_after a m c so_far.0 (lines ++ rest) so_far.2 (part_before m c lines rest part))
+
+  pub printed_piece_lines : AppendsLines m c (listed_lines t (drop 1 es)) → AppendsLines a c (image Second t)
+  printed_piece_lines part =
+      let lines : Text = listed_lines t (drop 1 es) in
+      let rest : Text = image_from (next_key (enc (last_of last es))) t in
+      subst (AppendsLines a c) (sym (so_far.1 ∙ ap (λ (l : Text). so_far.0 ++ l) lines_first)) (lines_after a m c so_far.0 (lines ++ rest) so_far.4 so_far.2 (lines_before m c lines rest part))
 
 -- the entries of a piece are entries
 pub all_entries : (t : Tree) (last : Path) (n : ℕ) (es : List (Path × Meta)) → AreEntries t last n es → All (λ e. IsEntry t e.0 e.1) es

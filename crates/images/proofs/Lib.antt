@@ -3,3 +3,4 @@ pub mod ImageLineFacts
 pub mod LoadFacts
 pub mod LoadCutting
 pub mod ImageBlocks
+pub mod WholeLines

@@ -1,6 +1,6 @@
 -- One line more of an image: what it makes of what was loaded.
 use Rattle.std.proofs.Common.{◌≡◌, ◌≢◌, ◌⊎◌, inl, inr, ⊎_elim, ℕ, ◌+◌, ◌*◌, ◌<◌, ◌≤◌, List, [], ◌∷◌, ◌++◌, length, true, false, refl, sym, ap, subst, ◌∙◌, arith, append_assoc, append-nil, Option, Some, None, Result, Ok, Err}
-use Rattle.std.specs.Prelude.{IfOk, IfSome}
+use Rattle.std.specs.Prelude.{IfOk, IfSome, MatchOption}
 use Rattle.std.specs.Result.{is_ok}
 use Rattle.std.specs.declared.cmp.Ordering.TheVariants.{Less}
 use Rattle.std.proofs.lemmas.Bool.{cases_lt, ltb-false, le-ltb}
@@ -41,12 +41,14 @@ use Rattle.volume.specs.Changes.{Called, Receives}
 use Rattle.volume.specs.Plants.{Plants}
 use Rattle.volume.specs.Volumes.{PVolume, IsNew, Means}
 use Rattle.images.specs.Image.{version_of}
-use Rattle.images.specs.Loads.{AreSoFar, Begun, Counts, FitsAt, alone, text_of, text_so_far, with_line, count_so_far, IsLoading, LoadsNext, LoadsRoot, LoadsLine, MayNotFollow, RefusesLine, HasRead, LoadsPiece, RefusesPiece, LoadsEnd, RefusesEnd, ReadsSoFar, Loaded, LoadsAll, IsBadIn, entry_line, form_of, len_of, new_form}
-use Rattle.std.specs.Io.KnownBytes.{Consumes, IsAtEnd}
-use Rattle.std.proofs.KnownBytes.{Consumes-nil, Consumes-trans}
+use Rattle.images.specs.ImageLines.{Spells, line_of}
+use Rattle.images.specs.Loads.{AreSoFar, Begun, Counts, FitsAt, alone, text_of, text_so_far, with_line, count_so_far, IsLoading, LoadsNext, LoadsRoot, LoadsLine, MayNotFollow, RefusesLine, HasRead, LoadsPiece, RefusesPiece, LoadsEnd, RefusesEnd, ReadsSoFar, HasBegun, Loaded, LoadsAll, IsBadIn, entry_line, form_of, len_of, new_form}
+use Rattle.std.specs.Io.KnownBytes.{Consumes, IsAtEnd, Keeps}
+use Rattle.std.proofs.KnownBytes.{Consumes-kept, Consumes-nil, Consumes-trans}
 use Rattle.lines.proofs.Known.{gave_all, known_text, known_whole}
 use Rattle.lines.proofs.HeldFacts.{holds_nothing}
 use Rattle.lines.specs.Held.{Holds, IsFree}
+use Rattle.images.specs.declared.image_line.ImageLine.{ImageLine}
 use Rattle.images.specs.declared.load.LoadFault.{LoadFault}
 use Rattle.images.specs.declared.load.LoadFault.TheVariants.{Bad}
 use Rattle.images.specs.declared.load.Loading.{Loading}
@@ -281,6 +283,19 @@ pub next_loaded : (line : Text) (l : Line) (old new : Loading) → old.lines ≢
 next_loaded line l old new some e loads None is = absurd (some is.count)
 next_loaded line l old new some e loads (Some b) is = (with_line l b, loads b is, ap (λ (t : Text). text_of b ++ (t ++ 10 ∷ [])) (sym (e ∙ ap (λ (v : Version). spelled v l) is.version)))
 
+-- what was read of a line: none, or a line that may follow or not
+pub read_refused : (line : Text) (told : Option ImageLine) (old : Loading) → old.lines ≢ 0 → Spells (version_of old.version) line told → IfSome told (λ l. MayNotFollow (line_of l) old) → RefusesLine line old
+read_refused line None old some spells never = unspelled_refused line old some spells
+read_refused line (Some l) old some spells never = next_refused line (line_of l) old some spells.0 spells.1 never
+
+pub read_loaded : (line : Text) (told : Option ImageLine) (old new : Loading) → old.lines ≢ 0 → Spells (version_of old.version) line told → MatchOption told ⊥ (λ l. LoadsNext (line_of l) old new) → LoadsLine line old new
+read_loaded line None old new some spells loads = absurd loads
+read_loaded line (Some l) old new some spells loads = next_loaded line (line_of l) old new some spells.1 loads
+
+pub read_valid : (v : Version) (line : Text) (told : Option ImageLine) → Spells v line told → IfSome told (λ l. IsLine v (line_of l))
+read_valid v line None spells = tt
+read_valid v line (Some l) spells = spells.0
+
 -- the first line begins an image
 pub root_loaded : (line : Text) (old new : Loading) → old.lines ≡ 0 → LoadsRoot line old new → LoadsLine line old new
 root_loaded line old new none loads None is =
@@ -378,6 +393,16 @@ loaded text l (b, is, text_is) =
       record { version = b.version; tree = tree_of_lines b.root b.lines; is_tree = m.0; image_is = m.1 ∙ sym text_is; told = m.2; means = is.means },
     )
 
+-- a whole text at once
+pub text_loaded : (items piece items' : Text) (l m : Loading) → HasRead [] items l → LoadsPiece items piece items' l m → LoadsEnd items' m → Loaded piece m.volume
+text_loaded items piece items' l m start loads end = (loaded piece m (end piece (loads [] start))).1
+
+pub text_bad : (items piece : Text) (n : ℕ) (l : Loading) → HasRead [] items l → RefusesPiece items piece n l → IsBadAt n piece
+text_bad items piece n l start refuses = subst (IsBadAt n) (append-nil piece) (refuses [] [] start)
+
+pub text_end_bad : (items piece items' : Text) (n : ℕ) (l m : Loading) → HasRead [] items l → LoadsPiece items piece items' l m → RefusesEnd items' n m → IsBadAt n piece
+text_end_bad items piece items' n l m start loads refuses = refuses piece (loads [] start)
+
 -- ---- over a reader
 
 pub reads_nothing : (had : Option (List ℕ)) (items : Text) (l : Loading) → HasRead [] items l → ReadsSoFar had had items l
@@ -403,6 +428,10 @@ piece_refused had has now items piece n l (text, read, h) more refuses =
     let known : (rest : List ℕ) × IfSome had (λ all. all ≡ (text ++ piece) ++ rest) = known_text had now (text ++ piece) (Consumes-trans had has now text piece read more) in
     ((text ++ piece) ++ known.0, known.1, subst (IsBadAt n) (sym (append_assoc text piece known.0)) (refuses text known.0 h))
 
+-- a read was refused
+pub read_failed : (had has now : Option (List ℕ)) (items : Text) (l : Loading) → ReadsSoFar had has items l → Keeps has now → HasBegun had now
+read_failed had has now items l (text, read, h) kept = (text, Consumes-kept had has now text read kept, (h.so_far, h.left, h.loading.are, h.holds.free, h.cut))
+
 pub bad_number : (number n : ℕ) → ◌≡◌ {A = Result (Unit {0}) LoadFault} (Err (Bad number)) (Err (Bad n)) → number ≡ n
 bad_number number n e = cc
 
@@ -412,8 +441,8 @@ planted_ok (Ok x) p m old new e h = h
 planted_ok (Err f) p m old new e h = absurd (cc)
 
 -- a fault is one whatever it stands in the place of
-pub same_fault : {A : Type 0} (fault : LoadFault) (n : ℕ) → ◌≡◌ {A = Result A LoadFault} (Err fault) (Err (Bad n)) → ◌≡◌ {A = Result (Unit {0}) LoadFault} (Err fault) (Err (Bad n))
-same_fault fault n e = cc
+pub same_fault : {A : Type 0} (fault other : LoadFault) → ◌≡◌ {A = Result A LoadFault} (Err fault) (Err other) → ◌≡◌ {A = Result (Unit {0}) LoadFault} (Err fault) (Err other)
+same_fault fault other e = cc
 
 -- ---- the form of the volume
 

@@ -1,5 +1,6 @@
 -- The lines of the entries of an image.
-use Rattle.std.specs.Prelude.{ℕ, List, [], ◌∷◌, ◌+◌, ◌/◌, ◌++◌, length, decimal, flat_map}
+use Rattle.std.specs.Prelude.{◌≡◌, ◌⊎◌, ℕ, List, [], ◌∷◌, ◌+◌, ◌/◌, ◌++◌, length, decimal, flat_map, Option}
+use Rattle.std.specs.Io.KnownBytes.{Appends}
 use Rattle.reference.specs.Image.{Text, Version, First, Second, directory_letter, file_letter, moment_text, block_lines, path_text}
 use Rattle.reference.specs.Tree.{Path, Tree, Dir, File, At, Found, entry_at}
 use Rattle.reference.specs.declared.reply.Meta.{Meta}
@@ -36,3 +37,11 @@ listed_lines t es = flat_map (λ e. lines_there e.0 (entry_at t e.0)) es
 abbrev pub last_of : Path → List (Path × Meta) → Path
 last_of p [] = p
 last_of p (e ∷ es) = last_of e.0 es
+
+-- it is nothing, or ends with a line feed
+abbrev pub EndsLine : Text → Type 0
+EndsLine text = (text ≡ []) ⊎ ((front : Text) × (text ≡ front ++ 10 ∷ []))
+
+-- a beginning of the text was appended, and it is whole lines
+abbrev pub AppendsLines : Option (List ℕ) → Option (List ℕ) → Text → Type 0
+AppendsLines old new text = (part : Text) × (rest : Text) × (text ≡ part ++ rest) × Appends old new part × EndsLine part

@@ -1,5 +1,5 @@
 -- How far an image is loaded, line by line.
-use Rattle.std.specs.Prelude.{◌≡◌, ◌+◌, ◌*◌, ◌≤◌, ℕ, ⊤, List, [], ◌∷◌, ◌++◌, length, Option, Some, None, IfSome}
+use Rattle.std.specs.Prelude.{◌≡◌, ◌≢◌, ◌+◌, ◌*◌, ◌≤◌, ℕ, ⊤, List, [], ◌∷◌, ◌++◌, length, Option, Some, None, IfSome}
 use Rattle.std.specs.FinMap as finite
 use Rattle.std.specs.Io.KnownBytes.{Consumes, IsAtEnd}
 use Rattle.reference.specs.Image.{Text, Version, image, root_line}
@@ -104,6 +104,10 @@ pub record FitsAt (i len : ℕ) (l : Loading) (offset : ℕ) : Type 0 where
 abbrev pub Counts : Call → ℕ → PVolume → PVolume → Type 0
 Counts call at old new = (n : ℕ) × Called call at (Count n) old new
 
+-- the line is that of no root
+abbrev pub IsNoRoot : Text → Type 0
+IsNoRoot line = (v : Version) (at : ℕ) → IsTold v at → line ≢ root_line v at
+
 -- the line may not follow
 abbrev pub MayNotFollow : Line → Loading → Type 0
 MayNotFollow l old = (b : Begun) → IsLoading (Some b) old → MayFollow b.version l b.lines → ⊥
@@ -155,6 +159,14 @@ RefusesEnd items n l = (text : Text) → HasRead text items l → IsBadAt n text
 -- so far the reader gave a text, of which this was loaded and held
 abbrev pub ReadsSoFar : Option (List ℕ) → Option (List ℕ) → Text → Loading → Type 0
 ReadsSoFar had has items l = (text : Text) × Consumes had has text × HasRead text items l
+
+-- the whole lines of a text are the first of an image, or there is none yet
+abbrev pub IsBegun : Text → Type 0
+IsBegun text = (so_far : Option Begun) × (left : Text) × AreSoFar so_far × IsFree left × (text ≡ text_so_far so_far ++ left)
+
+-- what the reader gave is so: no line of it is bad
+abbrev pub HasBegun : Option (List ℕ) → Option (List ℕ) → Type 0
+HasBegun had has = (text : Text) × Consumes had has text × IsBegun text
 
 -- ---- whole texts
 

@@ -1,10 +1,11 @@
 //! Prints the image of a tree that stands still: one line for each entry in key order, and for a file one for each block
 //! that holds a byte other than zero. It prints version 2, which tells moments.
-ghost use Rattle.std.specs.Prelude.{◌≡◌, ◌<◌, ◌≤◌, ◌++◌, ◌∷◌, ◌+◌, ◌/◌, [], ℕ, List, All, codes, decimal, drop, flat_map, length, take, OnOk, OnErr};
+ghost use Rattle.std.specs.Prelude.{◌≡◌, ◌<◌, ◌≤◌, ◌++◌, ◌∷◌, ◌+◌, ◌/◌, [], ℕ, List, All, Err, codes, decimal, drop, flat_map, length, take, OnOk, OnErr};
 ghost use Rattle.std.specs.Io.KnownBytes.{Appends};
 ghost use Rattle.reference.specs.Image.{Second, block_line, block_lines, image, moment_text, path_text, percent, trimmed};
 ghost use Rattle.reference.specs.Tree.{File, Found, Tree, entry_at};
-ghost use Rattle.images.specs.Image.{directory_text, file_text, last_of, lines_there, listed_lines, version_of};
+ghost use Rattle.images.specs.Image.{AppendsLines, directory_text, file_text, last_of, lines_there, listed_lines, version_of};
+ghost use Rattle.images.specs.declared.image.ImageFault.TheVariants as fault;
 ghost use Rattle.lines.specs.Parts.{AppendsPart};
 ghost use Rattle.volume.specs.Volumes.{MeanRooted};
 ghost use Rattle.volume.specs.Walks.{IsEntry};
@@ -31,12 +32,16 @@ pub enum ImageFault {
 }
 
 impl From<NoMemory> for ImageFault {
+    ghost from_gives = { λ _ e. e ≡ fault.Memory };
+
     fn from(_refused: NoMemory) -> ImageFault {
         ImageFault::Memory
     }
 }
 
 impl From<WriteFailed> for ImageFault {
+    ghost from_gives = { λ _ e. e ≡ fault.Write };
+
     fn from(_failed: WriteFailed) -> ImageFault {
         ImageFault::Write
     }
@@ -48,7 +53,8 @@ const FIRST: usize = 8;
 /// How many a piece may have at most.
 const MOST: usize = 256;
 
-/// Prints the image of a tree that stands still, in version 2; where it fails, what was printed is a beginning of it.
+/// Prints the image of a tree that stands still, in version 2; where it fails, what was printed is a beginning of it. It is whole lines
+/// where memory is refused: a line that was begun can fail by the writer alone.
 ///
 /// It walks through the entries, and beside them through the blocks, piece by piece. It holds a piece of each.
 pub fn print_image<W: Write>(
@@ -58,6 +64,7 @@ pub fn print_image<W: Write>(
 ) -> Result<(), ImageFault>
     ensures ok { (t : Tree) → MeanRooted frozen.now t → OnOk result (Appends (W.contents writer.old) (W.contents writer.new) (image Second t)) }
     ensures err { (t : Tree) → MeanRooted frozen.now t → OnErr result (AppendsPart (W.contents writer.old) (W.contents writer.new) (image Second t)) }
+    ensures memory { (t : Tree) → MeanRooted frozen.now t → result ≡ Err ImageFault.Memory → AppendsLines (W.contents writer.old) (W.contents writer.new) (image Second t) }
 {
     let mut last = Path::root(alloc);
     let told = print_all(alloc, frozen, &mut last, writer);
@@ -76,6 +83,7 @@ fn print_all<W: Write>(
     requires { last.old ≡ [] }
     ensures ok { (t : Tree) → MeanRooted frozen.now t → OnOk result (Appends (W.contents writer.old) (W.contents writer.new) (image Second t)) }
     ensures err { (t : Tree) → MeanRooted frozen.now t → OnErr result (AppendsPart (W.contents writer.old) (W.contents writer.new) (image Second t)) }
+    ensures memory { (t : Tree) → MeanRooted frozen.now t → result ≡ Err ImageFault.Memory → AppendsLines (W.contents writer.old) (W.contents writer.new) (image Second t) }
 {
     put_number_line(writer, b"D / ", frozen.modified())?;
     let mut blocks = BlockWalk::new(alloc, frozen);
@@ -111,6 +119,7 @@ fn print_piece<W: Write>(
 ) -> Result<(), ImageFault>
     ensures ok { (t : Tree) → MeanRooted blocks.old t → All (λ e. IsEntry t e.0 e.1) piece.items → OnOk result (Appends (W.contents writer.old) (W.contents writer.new) (listed_lines t (drop 1 piece.items))) }
     ensures err { (t : Tree) → MeanRooted blocks.old t → All (λ e. IsEntry t e.0 e.1) piece.items → OnErr result (AppendsPart (W.contents writer.old) (W.contents writer.new) (listed_lines t (drop 1 piece.items))) }
+    ensures memory { (t : Tree) → MeanRooted blocks.old t → All (λ e. IsEntry t e.0 e.1) piece.items → result ≡ Err ImageFault.Memory → AppendsLines (W.contents writer.old) (W.contents writer.new) (listed_lines t (drop 1 piece.items)) }
     ensures last { last.new ≡ last_of last.old piece.items }
     ensures tree { blocks.new ≡ blocks.old }
 {
@@ -141,6 +150,7 @@ fn print_entries<W: Write>(
 ) -> Result<(), ImageFault>
     ensures ok { (t : Tree) → MeanRooted blocks.old t → All (λ e. IsEntry t e.0 e.1) entries.now → OnOk result (Appends (W.contents writer.old) (W.contents writer.new) (listed_lines t entries.now)) }
     ensures err { (t : Tree) → MeanRooted blocks.old t → All (λ e. IsEntry t e.0 e.1) entries.now → OnErr result (AppendsPart (W.contents writer.old) (W.contents writer.new) (listed_lines t entries.now)) }
+    ensures memory { (t : Tree) → MeanRooted blocks.old t → All (λ e. IsEntry t e.0 e.1) entries.now → result ≡ Err ImageFault.Memory → AppendsLines (W.contents writer.old) (W.contents writer.new) (listed_lines t entries.now) }
     ensures tree { blocks.new ≡ blocks.old }
 {
     for (path, meta) in entries {
@@ -159,6 +169,7 @@ fn print_entry<W: Write>(
 ) -> Result<(), ImageFault>
     ensures ok { (t : Tree) → MeanRooted blocks.old t → IsEntry t path.now meta → OnOk result (Appends (W.contents writer.old) (W.contents writer.new) (lines_there path.now (entry_at t path.now))) }
     ensures err { (t : Tree) → MeanRooted blocks.old t → IsEntry t path.now meta → OnErr result (AppendsPart (W.contents writer.old) (W.contents writer.new) (lines_there path.now (entry_at t path.now))) }
+    ensures memory { (t : Tree) → MeanRooted blocks.old t → IsEntry t path.now meta → result ≡ Err ImageFault.Memory → AppendsLines (W.contents writer.old) (W.contents writer.new) (lines_there path.now (entry_at t path.now)) }
     ensures tree { blocks.new ≡ blocks.old }
 {
     match meta {
@@ -179,6 +190,7 @@ fn print_blocks<W: Write>(
 ) -> Result<(), ImageFault>
     ensures ok { (t : Tree) (date : ℕ) (b : List ℕ) → MeanRooted blocks.old t → entry_at t path.now ≡ Found (File date b) → OnOk result (Appends (W.contents writer.old) (W.contents writer.new) (block_lines b (length b / 4096 + 1))) }
     ensures err { (t : Tree) (date : ℕ) (b : List ℕ) → MeanRooted blocks.old t → entry_at t path.now ≡ Found (File date b) → OnErr result (AppendsPart (W.contents writer.old) (W.contents writer.new) (block_lines b (length b / 4096 + 1))) }
+    ensures memory { (t : Tree) (date : ℕ) (b : List ℕ) → MeanRooted blocks.old t → entry_at t path.now ≡ Found (File date b) → result ≡ Err ImageFault.Memory → AppendsLines (W.contents writer.old) (W.contents writer.new) (block_lines b (length b / 4096 + 1)) }
     ensures tree { blocks.new ≡ blocks.old }
 {
     let mut from = 0;

@@ -10,5 +10,5 @@ pub mod load;
 pub mod version;
 
 pub use image::{ImageFault, print_image};
-pub use load::{LoadFault, load_image};
+pub use load::{LoadFault, load_image, load_text};
 pub use version::ImageVersion;

@@ -2,20 +2,22 @@
 //!
 //! One line is held at a time, and of a file no block beside the volume's own. Of the lines before, only what decides which line
 //! may follow is kept. The first line tells the version; of version 1 each moment is 0.
-ghost use Rattle.std.specs.Prelude.{◌≡◌, ◌≢◌, ◌↔◌, Ok, All, ◌≤◌, ◌<◌, ◌+◌, ◌++◌, ◌∷◌, [], ℕ, List, Some, None, Err, false, true, length, IfSome, vec_capacity, IfOk, OnOk, OnErr, codes};
+ghost use Rattle.std.specs.Prelude.{◌≡◌, ◌≢◌, ◌↔◌, Ok, All, ◌≤◌, ◌<◌, ◌+◌, ◌^◌, ◌++◌, ◌∷◌, [], ℕ, List, Some, None, Err, false, true, length, IfSome, MatchOption, vec_capacity, IfOk, OnOk, OnErr, codes};
+ghost use Rattle.std.specs.declared.cmp.Ordering.TheVariants.{Less};
+ghost use Rattle.pathkey.specs.Enc.{enc};
+ghost use Rattle.pathkey.specs.Order.{by_bytes};
 ghost use Rattle.node.specs.Shapes.{is_shape};
-ghost use Rattle.reference.specs.Image.{Version, root_line};
 ghost use Rattle.reference.specs.Plant.{modified_of};
 ghost use Rattle.reference.specs.Tree.{Dir, nothing};
 ghost use Rattle.reference.specs.declared.reply.Meta.{Meta as MetaValue};
 ghost use Rattle.volume.specs.Plants.{Plants};
 ghost use Rattle.reference.specs.declared.call.Call.TheVariants.{Write};
 ghost use Rattle.volume.specs.Volumes.{Means};
-ghost use Rattle.reference.specs.ImageLines.{IsBlock, IsLine, IsTold, Line};
+ghost use Rattle.reference.specs.ImageLines.{IsBadAt, IsBlock, IsLine, IsTold, Line};
 ghost use Rattle.reference.specs.ImageLines.{BlockLine, DirectoryLine, FileLine};
 ghost use Rattle.images.specs.Image.{version_of};
 ghost use Rattle.images.specs.ImageLines.{line_of};
-ghost use Rattle.images.specs.Loads.{Counts, FitsAt, HasRead, IsBadIn, LoadsAll, LoadsEnd, LoadsLine, LoadsNext, LoadsPiece, LoadsRoot, MayNotFollow, RefusesEnd, RefusesLine, RefusesPiece, alone, entry_line, form_of, len_of, new_form};
+ghost use Rattle.images.specs.Loads.{Counts, FitsAt, HasBegun, HasRead, IsBadIn, IsNoRoot, Loaded, LoadsAll, LoadsEnd, LoadsLine, LoadsNext, LoadsPiece, LoadsRoot, MayNotFollow, RefusesEnd, RefusesLine, RefusesPiece, alone, entry_line, form_of, len_of, new_form};
 
 use crate::image_line::{ImageLine, read_image_line, read_root};
 use crate::version::ImageVersion;
@@ -52,11 +54,13 @@ pub enum LoadFault {
 
 /// The volume whose tree has the image that the reader gives, without snapshots and marks, in trees of this shape. It fails where the shape is not
 /// ok, where memory or a read is refused, and where the text is no image: `Bad` has the number of the first line with which it is none.
+/// Where a read is refused, no line was bad that was read before.
 pub fn load_image<R: Read>(alloc: Global, shape: Shape, reader: &mut R) -> Result<Volume, LoadFault>
     ensures loaded { IfOk result (LoadsAll (R.remaining reader.old) (R.remaining reader.new)) }
     ensures form { IfOk result (λ v. form_of v ≡ new_form shape) }
     ensures bad { (n : ℕ) → result ≡ Err (LoadFault.Bad n) → IsBadIn (R.remaining reader.old) n }
     ensures shape { (result ≡ Err LoadFault.Shape) ↔ (is_shape shape ≡ false) }
+    ensures read { result ≡ Err LoadFault.Read → HasBegun (R.remaining reader.old) (R.remaining reader.new) }
 {
     if !shape.ok() {
         return Err(LoadFault::Shape);
@@ -67,6 +71,46 @@ pub fn load_image<R: Read>(alloc: Global, shape: Shape, reader: &mut R) -> Resul
     load_into(alloc, volume, reader)
 }
 
+/// The same of a text that is at hand. Nothing is read, so it never answers `Read`, and no line is copied but one that has no end.
+pub fn load_text(alloc: Global, shape: Shape, text: &[u8]) -> Result<Volume, LoadFault>
+    ensures loaded { IfOk result (Loaded text.now) }
+    ensures form { IfOk result (λ v. form_of v ≡ new_form shape) }
+    ensures bad { (n : ℕ) → result ≡ Err (LoadFault.Bad n) → IsBadAt n text.now }
+    ensures shape { (result ≡ Err LoadFault.Shape) ↔ (is_shape shape ≡ false) }
+    ensures read { result ≢ Err LoadFault.Read }
+{
+    if !shape.ok() {
+        return Err(LoadFault::Shape);
+    }
+    match Volume::new(alloc, shape) {
+        Ok(volume) => load_whole(alloc, volume, text),
+        Err(_refused) => Err(LoadFault::Memory),
+    }
+}
+
+/// The volume, which is new, once the image that the text is was loaded into it.
+fn load_whole(alloc: Global, volume: Volume, text: &[u8]) -> Result<Volume, LoadFault>
+    requires { Means volume (alone (Dir 0 nothing)) }
+    ensures loaded { IfOk result (Loaded text.now) }
+    ensures form { IfOk result (λ v. form_of v ≡ form_of volume) }
+    ensures bad { (n : ℕ) → result ≡ Err (LoadFault.Bad n) → IsBadAt n text.now }
+    ensures shape { result ≢ Err LoadFault.Shape }
+    ensures read { result ≢ Err LoadFault.Read }
+{
+    let Ok(mut held) = Vec::with_capacity(alloc, LONGEST_LINE + 1) else {
+        drop(volume);
+        return Err(LoadFault::Memory);
+    };
+    let mut loading = Loading::new(alloc, volume);
+    if let Err(fault) = loading.take_text(alloc, &mut held, text) {
+        drop(loading);
+        drop(held);
+        return Err(fault);
+    }
+    drop(held);
+    Ok(loading.volume)
+}
+
 /// The volume, which is new, once the image is loaded into it.
 fn load_into<R: Read>(alloc: Global, volume: Volume, reader: &mut R) -> Result<Volume, LoadFault>
     requires { Means volume (alone (Dir 0 nothing)) }
@@ -74,6 +118,7 @@ fn load_into<R: Read>(alloc: Global, volume: Volume, reader: &mut R) -> Result<V
     ensures form { IfOk result (λ v. form_of v ≡ form_of volume) }
     ensures bad { (n : ℕ) → result ≡ Err (LoadFault.Bad n) → IsBadIn (R.remaining reader.old) n }
     ensures shape { result ≢ Err LoadFault.Shape }
+    ensures read { result ≡ Err LoadFault.Read → HasBegun (R.remaining reader.old) (R.remaining reader.new) }
 {
     let Ok(mut piece) = Vec::from_elem(alloc, 0u8, PIECE) else {
         drop(volume);
@@ -147,6 +192,7 @@ impl Loading {
         ensures form { OnOk result (form_of self.new.volume ≡ form_of self.old.volume) }
         ensures bad { (n : ℕ) → result ≡ Err (LoadFault.Bad n) → IsBadIn (R.remaining reader.old) n }
         ensures shape { result ≢ Err LoadFault.Shape }
+        ensures read { result ≡ Err LoadFault.Read → HasBegun (R.remaining reader.old) (R.remaining reader.new) }
     {
         // No input has more pieces.
         for _ in 0..u64::MAX {
@@ -163,6 +209,22 @@ impl Loading {
         Err(LoadFault::Read)
     }
 
+    /// Loads a whole text, in the given buffer.
+    fn take_text(&mut self, alloc: Global, held: &mut Vec<u8>, text: &[u8]) -> Result<(), LoadFault>
+        requires room { 65536 < vec_capacity held.old }
+        requires start { HasRead [] held.old.items self.old }
+        ensures ok { OnOk result (Loaded text.now self.new.volume) }
+        ensures form { OnOk result (form_of self.new.volume ≡ form_of self.old.volume) }
+        ensures bad { (n : ℕ) → result ≡ Err (LoadFault.Bad n) → IsBadAt n text.now }
+        ensures shape { result ≢ Err LoadFault.Shape }
+        ensures read { result ≢ Err LoadFault.Read }
+    {
+        if let Err(fault) = self.take_piece(alloc, held, text) {
+            return Err(fault);
+        }
+        self.end(held.as_slice())
+    }
+
     /// Loads each line that ends in a piece of the text, and holds what follows the last of them.
     fn take_piece(
         &mut self,
@@ -176,6 +238,7 @@ impl Loading {
         ensures form { OnOk result (form_of self.new.volume ≡ form_of self.old.volume) }
         ensures bad { (n : ℕ) → result ≡ Err (LoadFault.Bad n) → RefusesPiece held.old.items piece.now n self.old }
         ensures shape { result ≢ Err LoadFault.Shape }
+        ensures read { result ≢ Err LoadFault.Read }
     {
         let mut rest = piece;
         while let Some((end, after)) = cut_line(rest) {
@@ -197,6 +260,7 @@ impl Loading {
         ensures form { OnOk result (form_of self.new.volume ≡ form_of self.old.volume) }
         ensures bad { (n : ℕ) → result ≡ Err (LoadFault.Bad n) → RefusesPiece held.old.items (end.now ++ 10 ∷ []) n self.old }
         ensures shape { result ≢ Err LoadFault.Shape }
+        ensures read { result ≢ Err LoadFault.Read }
     {
         let number = self.next_number()?;
         if held.is_empty() {
@@ -215,6 +279,8 @@ impl Loading {
         ensures ok { OnOk result (LoadsEnd held.now self.now) }
         ensures bad { (n : ℕ) → result ≡ Err (LoadFault.Bad n) → RefusesEnd held.now n self.now }
         ensures shape { result ≢ Err LoadFault.Shape }
+        ensures read { result ≢ Err LoadFault.Read }
+        ensures memory { result ≡ Err LoadFault.Memory → 2 ^ 64 ≤ self.now.lines + 1 }
     {
         let number = self.next_number()?;
         if !held.is_empty() {
@@ -230,6 +296,7 @@ impl Loading {
     fn next_number(&self) -> Result<u64, LoadFault>
         ensures ok { IfOk result (λ n. n ≡ self.now.lines + 1) }
         ensures err { OnErr result (result ≡ Err LoadFault.Memory) }
+        ensures many { OnErr result (2 ^ 64 ≤ self.now.lines + 1) }
     {
         match self.lines.checked_add(1) {
             Some(number) => Ok(number),
@@ -245,6 +312,9 @@ impl Loading {
         ensures form { OnOk result (form_of self.new.volume ≡ form_of self.old.volume) }
         ensures bad { (n : ℕ) → result ≡ Err (LoadFault.Bad n) → (n ≡ number) × RefusesLine line.now self.old }
         ensures shape { result ≢ Err LoadFault.Shape }
+        ensures read { result ≢ Err LoadFault.Read }
+        ensures long { 65536 < length line.now → result ≡ Err (LoadFault.Bad number) }
+        ensures root { self.old.lines ≡ 0 → IsNoRoot line.now → result ≡ Err (LoadFault.Bad number) }
     {
         if line.len() > LONGEST_LINE {
             return Err(LoadFault::Bad(number));
@@ -253,9 +323,30 @@ impl Loading {
             return self.take_root(alloc, line, number);
         }
         match read_image_line(alloc, self.version, line) {
-            Ok(Some(line)) => self.take_next(alloc, line, number),
-            Ok(None) => Err(LoadFault::Bad(number)),
+            Ok(read) => self.take_read(alloc, read, number),
             Err(NoMemory) => Err(LoadFault::Memory),
+        }
+    }
+
+    /// Loads the line that was read of a text behind the root's; the text is bad where it spells none.
+    fn take_read(
+        &mut self,
+        alloc: Global,
+        told: Option<ImageLine>,
+        number: u64,
+    ) -> Result<(), LoadFault>
+        requires line { IfSome told (λ l. IsLine (version_of self.old.version) (line_of l)) }
+        requires number { number ≡ self.old.lines + 1 }
+        ensures ok { OnOk result (MatchOption told ⊥ (λ l. LoadsNext (line_of l) self.old self.new)) }
+        ensures form { OnOk result (form_of self.new.volume ≡ form_of self.old.volume) }
+        ensures bad { (n : ℕ) → result ≡ Err (LoadFault.Bad n) → (n ≡ number) × IfSome told (λ l. MayNotFollow (line_of l) self.old) }
+        ensures none { told ≡ None → result ≡ Err (LoadFault.Bad number) }
+        ensures shape { result ≢ Err LoadFault.Shape }
+        ensures read { result ≢ Err LoadFault.Read }
+    {
+        match told {
+            Some(line) => self.take_next(alloc, line, number),
+            None => Err(LoadFault::Bad(number)),
         }
     }
 
@@ -264,8 +355,10 @@ impl Loading {
         requires { number ≡ self.old.lines + 1 }
         ensures ok { OnOk result (LoadsRoot line.now self.old self.new) }
         ensures form { OnOk result (form_of self.new.volume ≡ form_of self.old.volume) }
-        ensures bad { (n : ℕ) → result ≡ Err (LoadFault.Bad n) → (n ≡ number) × ((v : Version) (at : ℕ) → IsTold v at → line.now ≢ root_line v at) }
+        ensures bad { (n : ℕ) → result ≡ Err (LoadFault.Bad n) → (n ≡ number) × IsNoRoot line.now }
+        ensures root { IsNoRoot line.now → result ≡ Err (LoadFault.Bad number) }
         ensures shape { result ≢ Err LoadFault.Shape }
+        ensures read { result ≢ Err LoadFault.Read }
     {
         let Some((version, modified)) = read_root(line) else {
             return Err(LoadFault::Bad(number));
@@ -287,6 +380,7 @@ impl Loading {
         ensures form { OnOk result (form_of self.new.volume ≡ form_of self.old.volume) }
         ensures bad { (n : ℕ) → result ≡ Err (LoadFault.Bad n) → (n ≡ number) × MayNotFollow (line_of line) self.old }
         ensures shape { result ≢ Err LoadFault.Shape }
+        ensures read { result ≢ Err LoadFault.Read }
     {
         match line {
             ImageLine::Directory(path, modified) => {
@@ -313,7 +407,9 @@ impl Loading {
         ensures ok { OnOk result (LoadsNext (entry_line path meta) self.old self.new) }
         ensures form { OnOk result (form_of self.new.volume ≡ form_of self.old.volume) }
         ensures bad { (n : ℕ) → result ≡ Err (LoadFault.Bad n) → (n ≡ number) × MayNotFollow (entry_line path meta) self.old }
+        ensures order { by_bytes (enc self.old.last) (enc path) ≢ Less → result ≡ Err (LoadFault.Bad number) }
         ensures shape { result ≢ Err LoadFault.Shape }
+        ensures read { result ≢ Err LoadFault.Read }
     {
         if self.last.key().cmp(path.key()) != Ordering::Less {
             drop(path);
@@ -345,7 +441,9 @@ impl Loading {
         ensures ok { OnOk result (LoadsNext (BlockLine index bytes) self.old self.new) }
         ensures form { OnOk result (form_of self.new.volume ≡ form_of self.old.volume) }
         ensures bad { (n : ℕ) → result ≡ Err (LoadFault.Bad n) → (n ≡ number) × MayNotFollow (BlockLine index bytes) self.old }
+        ensures place { ((offset : ℕ) → ¬ (FitsAt index (length bytes) self.old offset)) → result ≡ Err (LoadFault.Bad number) }
         ensures shape { result ≢ Err LoadFault.Shape }
+        ensures read { result ≢ Err LoadFault.Read }
     {
         let Some(offset) = self.offset_of(index, bytes.len() as u64) else {
             return Err(LoadFault::Bad(number));
@@ -436,6 +534,7 @@ fn entry_fault(fault: Errno, number: u64) -> LoadFault
     ensures memory { (result ≡ LoadFault.Memory) ↔ (fault ≡ Errno.ENOMEM) }
     ensures bad { (n : ℕ) → result ≡ LoadFault.Bad n → (n ≡ number) × (fault ≢ Errno.ENOMEM) }
     ensures shape { result ≢ LoadFault.Shape }
+    ensures read { result ≢ LoadFault.Read }
 {
     if fault == Errno::ENOMEM {
         LoadFault::Memory

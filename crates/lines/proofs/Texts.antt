@@ -19,7 +19,7 @@ module _ {X : Type 0} (f : X → List ℕ) (d : X) where
       ∙ ap (λ t. flat_map f (take i xs) ++ t) (append-nil (f (get_or xs i d)))
 
   -- the text of those before an element, of it, and of those behind it
-  texts_around : (xs : List X) (i : ℕ) → i < length xs → (flat_map f (take i xs) ++ f (get_or xs i d)) ++ flat_map f (drop (i + 1) xs) ≡ flat_map f xs
+  pub texts_around : (xs : List X) (i : ℕ) → i < length xs → (flat_map f (take i xs) ++ f (get_or xs i d)) ++ flat_map f (drop (i + 1) xs) ≡ flat_map f xs
   texts_around xs i lt =
       ap (λ t. t ++ flat_map f (drop (i + 1) xs)) (sym (taken_more xs i lt))
       ∙ sym (flat_map-append f (take (i + 1) xs) (drop (i + 1) xs)) ∙ ap (flat_map f) (take-append-drop (i + 1) xs)

@@ -10,7 +10,8 @@ use std::marker::Model;
 /// How many bytes are gathered at most.
 const ROOM: usize = 1_024;
 
-/// Text on its way to a writer, which waits here until it fills the room. It takes no memory of an allocator.
+/// Text on its way to a writer, which waits here until it fills the room. It takes no memory of an allocator. What waits is lost where
+/// it is dropped: `write_out` comes first.
 #[derive(Drop)]
 pub struct Gathered {
     room: [u8; ROOM],

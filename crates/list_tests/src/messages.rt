@@ -440,6 +440,36 @@ fn is_cut_at_a_pivot(rt: HostRuntime) -> Result<(), usize> {
     all_hold(rt.alloc(), PARTED)
 }
 
+/// A list of the messages, of which the first has left.
+fn without_first(alloc: Global, msgs: &[Plain]) -> Result<Pending<Digit>, NoMemory> {
+    let mut list = list_of(alloc, msgs)?;
+    if list.len() > 0 {
+        list.drop_front(1);
+    }
+    Ok(list)
+}
+
+/// Two lists, before the key 5 and behind it, as one. Each has two updates of one key, of which the first has left.
+fn joined_half_gone(alloc: Global) -> Result<Pending<Digit>, NoMemory> {
+    let front = without_first(alloc, &[Plain::Edit(3, 1), Plain::Edit(3, 2)])?;
+    let back = without_first(alloc, &[Plain::Edit(7, 3), Plain::Edit(7, 4)])?;
+    front.joined(alloc, back, &key(alloc, 5)?)
+}
+
+/// Whether the lists were joined, and both updates that are left wait.
+fn waits_joined(alloc: Global, joined: Result<Pending<Digit>, NoMemory>) -> bool {
+    match joined {
+        Ok(all) => waits(alloc, &all, &[Plain::Edit(3, 2), Plain::Edit(7, 4)]),
+        Err(NoMemory) => false,
+    }
+}
+
+#[test]
+fn two_lists_that_are_half_gone_are_joined(rt: HostRuntime) {
+    let alloc = rt.alloc();
+    assert!(rt; waits_joined(alloc, joined_half_gone(alloc)));
+}
+
 /// How many numbers a long list has.
 const LONG: u16 = 1_000;
 

@@ -1,5 +1,5 @@
 //! Updates of the metadata at one path: the length of a file set or raised, and the moment of last change.
-ghost use Rattle.std.specs.Prelude.{◌≡◌, Some, Option, IfSome, is_some};
+ghost use Rattle.std.specs.Prelude.{◌≡◌, Some, Option, IfOk, IfSome, is_some};
 ghost use Rattle.meta_index.specs.Updates.{joins, means as meant};
 ghost use Rattle.reference.specs.declared.reply.Meta.{Meta as MetaValue};
 
@@ -87,7 +87,10 @@ impl Update for MetaUpdate {
         }
     }
 
-    fn join(&self, _alloc: Global, later: &MetaUpdate) -> Result<Option<MetaUpdate>, NoMemory> {
+    fn join(&self, _alloc: Global, later: &MetaUpdate) -> Result<Option<MetaUpdate>, NoMemory>
+        ensures means { IfOk result (λ r. IfSome r (λ one. (old : Option MetaValue) → meant one old ≡ meant later.now (meant self.now old))) }
+        ensures some { IfOk result (λ r. is_some r ≡ joins self.now later.now) }
+    {
         Ok(self.joined(*later))
     }
 

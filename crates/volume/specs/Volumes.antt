@@ -1,7 +1,8 @@
 -- What callers see of a volume, and which world it means.
-use Rattle.std.specs.Prelude.{◌≡◌, ℕ, ◌≤◌, List, Option, Some, None, ⊤}
+use Rattle.std.specs.Prelude.{◌≡◌, ℕ, ◌≤◌, ◌↔◌, List, Option, Some, None, IsSome, Contains, ⊤}
 use Rattle.std.specs.BTreeMap.{BTreeMap}
 use Rattle.std.specs.FinMap as finite
+use Rattle.std.specs.List.Sorted.{IsStrictlySortedBy}
 use Rattle.call_compiler.specs.Compiled.{MeanTree}
 use Rattle.node.specs.declared.shape.Shape.{Shape}
 use Rattle.pathkey.specs.Order.{by_bytes}
@@ -28,6 +29,15 @@ live_of v = record { indexes = v.live.indexes; marks = v.marks }
 -- the entries of a map, as a finite map
 abbrev pub kept : BTreeMap (List ℕ) Rooted → Kept
 kept m = finite.from_entries m.entries
+
+-- its names, one after the other
+abbrev pub names_in : Kept → List (List ℕ)
+names_in m = finite.keys m
+
+-- these are the names that the map has, and no others; they rise in byte order, so none stands twice
+pub record AreNames (m : Kept) (names : List (List ℕ)) : Type 0 where
+  pub rising : IsStrictlySortedBy by_bytes names
+  pub all : (s : List ℕ) → IsSome (finite.get m s) ↔ Contains names s
 
 -- the indexes mean the directory tree, and the moment is that of its root
 pub record MeanRooted (r : Rooted) (t : Tree) : Type 0 where

@@ -1,8 +1,8 @@
 //! The named snapshots of a volume: names with the indexes that stood when they were taken, and the moments of their roots.
-ghost use Rattle.std.specs.Prelude.{◌≡◌, ◌≤◌, ◌<◌, true, false, OnOk, OnErr, IfOk, IfErr, Some, None, is_some, IfSome};
+ghost use Rattle.std.specs.Prelude.{◌≡◌, ◌≤◌, ◌<◌, true, false, OnOk, OnErr, IfOk, IfErr, Some, None, is_some, IfSome, slice_get};
 ghost use Rattle.std.specs.FinMap as finite;
 ghost use Rattle.std.specs.Option.{option_copied};
-ghost use Rattle.volume.specs.Volumes.{most_snapshots};
+ghost use Rattle.volume.specs.Volumes.{AreNames, most_snapshots, names_in};
 
 use crate::rooted::Rooted;
 use pathkey::{NoMemory, SnapName};
@@ -53,9 +53,11 @@ impl Snapshots {
         self.named.get(name)
     }
 
-    /// The snapshots' name with this number, in the order of names; none past the last. It takes no memory, and no claim
-    /// rests on it.
-    pub fn name(&self, number: usize) -> Option<&SnapName> {
+    /// The snapshots' name with this number, in the rising order of names, counted from 0; none past the last. It takes no memory.
+    pub fn name(&self, number: usize) -> Option<&SnapName>
+        ensures number { option_copied result ≡ slice_get (names_in self.now) number }
+        ensures names { AreNames self.now (names_in self.now) }
+    {
         self.named.keys().nth(number)
     }
 

@@ -1,5 +1,5 @@
 //! A volume, and what is asked of it.
-ghost use Rattle.std.specs.Prelude.{◌≡◌, ◌⊎◌, ◌↔◌, false, MatchResult, IfOk, IfNone, IfSome, None, Some};
+ghost use Rattle.std.specs.Prelude.{◌≡◌, ◌⊎◌, ◌↔◌, false, MatchResult, IfOk, IfNone, IfSome, None, Some, slice_get};
 ghost use Rattle.node.specs.Shapes.{is_shape};
 ghost use Rattle.std.specs.FinMap as finite;
 ghost use Rattle.reference.specs.declared.call.Call.{Call as FileCall};
@@ -10,7 +10,7 @@ ghost use Rattle.volume.specs.Plants.{Plants};
 ghost use Rattle.volume.specs.Rooted.{reply_to};
 ghost use Rattle.volume.specs.Jobs.{AnswersInstalling, AnswersTaking, DoneFits};
 ghost use Rattle.volume.specs.Marked.{KeepsMarks, no_marks, without_mark};
-ghost use Rattle.volume.specs.Volumes.{IsNew, IsVolume, MeanRooted, Means, live_of};
+ghost use Rattle.volume.specs.Volumes.{AreNames, IsNew, IsVolume, MeanRooted, Means, live_of, names_in};
 ghost use Rattle.volume.specs.Typed.{Asks, Compiles, IsOfKind};
 ghost use Rattle.volume.specs.Told.{Finds, HeaviestIn, busier, pending_in, report_in};
 
@@ -231,9 +231,11 @@ impl Volume {
         self.snapshots.get(name)
     }
 
-    /// The snapshots' name with this number, in the order of names; none past the last. It takes no memory, and no claim
-    /// rests on it.
-    pub fn snapshot_name(&self, number: usize) -> Option<&SnapName> {
+    /// The snapshots' name with this number, in the rising order of names, counted from 0; none past the last. It takes no memory.
+    pub fn snapshot_name(&self, number: usize) -> Option<&SnapName>
+        ensures number { option_copied result ≡ slice_get (names_in self.now.snapshots) number }
+        ensures names { AreNames self.now.snapshots (names_in self.now.snapshots) }
+    {
         self.snapshots.name(number)
     }
 

@@ -1,6 +1,7 @@
 use Rattle.std.proofs.Common.{◌<◌, ◌∙◌, length, sym, subst, arith}
 use Rattle.lines.proofs.Known.{on_err}
-use Rattle.images.proofs.ImageEntries.{PrintedTo, all_entries, printed_all, printed_part, printed_piece, printed_piece_part, printed_root, root_part}
+use Rattle.images.proofs.ImageEntries.{PrintedTo, all_entries, printed_all, printed_lines, printed_part, printed_piece, printed_piece_lines, printed_piece_part, printed_root, root_part}
+use Rattle.std.proofs.lemmas.Result.{err_from_is_err_and}
 use Rattle.volume.specs.Volumes.{MeanRooted}
 use Rattle.images.proofs.image.print_all.Goals as goal
 
@@ -43,3 +44,16 @@ loop-preserved g c = record {
       (printed_piece _ _ _ t c.loop.last c.loop.most c.in_ok-piece.piece.items mean.indexes.tree are c.loop.invariant.some (c.loop.invariant.lines t mean)
       (c.in_ok-print_piece.ensures.ok t (subst (λ r. MeanRooted r t) (sym c.loop.invariant.tree) mean) (all_entries t c.loop.last c.loop.most c.in_ok-piece.piece.items are)));
 }
+
+pub returns-in_err-piece-clause-memory : goal.returns-in_err-piece-clause-memory
+returns-in_err-piece-clause-memory g c = λ t mean e. printed_lines _ _ t c.loop.last (c.loop.invariant.lines t mean)
+
+pub returns-in_err-print_piece-clause-memory : goal.returns-in_err-print_piece-clause-memory
+returns-in_err-print_piece-clause-memory g c = λ t mean e.
+    let p = err_from_is_err_and c.from_residual-in_err-print_piece.result c.from_residual-in_err-print_piece.ensures.1 in
+    let are = c.in_ok-piece.ensures t mean in
+    printed_piece_lines _ _ _ t c.loop.last c.loop.most c.in_ok-piece.piece.items mean.indexes.tree are c.loop.invariant.some (c.loop.invariant.lines t mean)
+    (c.in_err-print_piece.ensures.memory t (subst (λ r. MeanRooted r t) (sym c.loop.invariant.tree) mean) (all_entries t c.loop.last c.loop.most c.in_ok-piece.piece.items are) (cc))
+
+pub returns-clause-memory : goal.returns-clause-memory
+returns-clause-memory g c = λ t mean e. printed_lines _ _ t c.loop.last (c.loop.invariant.lines t mean)

@@ -1,7 +1,7 @@
 use Rattle.std.proofs.Common.{[], ◌∷◌, ℕ, List, ap, sym, subst, ◌∙◌}
 use Rattle.std.specs.Io.KnownBytes.{Appends}
 use Rattle.std.specs.Option.{option_to_list}
-use Rattle.images.proofs.ImageBlocks.{lines_end, lines_more, lines_more_part, lines_part, of_file}
+use Rattle.images.proofs.ImageBlocks.{lines_end, lines_more, lines_more_part, lines_part, lines_whole, of_file}
 use Rattle.lines.proofs.Known.{on_err}
 use Rattle.lines.specs.Parts.{AppendsPart}
 use Rattle.reference.specs.Image.{block_line, trimmed}
@@ -33,3 +33,6 @@ pub returns-clause-ok : goal.returns-clause-ok
 returns-clause-ok g c = λ t date b mean there.
     let are : AreBlocks b c.file.from 1 [] = of_file _ date b c.file.from c.in_ok-number.field-0 [] there (ap option_to_list c.in_default.is) (c.in_ok-number.ensures.block t (subst (λ r. MeanRooted r t) (sym c.file.invariant.tree) mean)) in
     lines_end _ _ b c.file.from are (c.file.invariant.lines t date b mean there)
+
+pub returns-in_err-number-clause-memory : goal.returns-in_err-number-clause-memory
+returns-in_err-number-clause-memory g c = λ t date b mean there e. lines_whole _ _ b c.file.from (c.file.invariant.lines t date b mean there)

@@ -1,7 +1,8 @@
 use Rattle.std.proofs.Common.{Some, ◌∙◌, ap, sym, subst}
 use Rattle.images.proofs.ImageBlocks.{count}
 use Rattle.images.proofs.ImageEntries.{FileThere, directory_there, file_there}
-use Rattle.images.specs.Image.{file_text}
+use Rattle.images.specs.Image.{AppendsLines, file_text}
+use Rattle.images.proofs.WholeLines.{file_ends, lines_after}
 use Rattle.std.proofs.lemmas.Result.{on_err_weaker}
 use Rattle.lines.proofs.Known.{on_err, part_after, part_before}
 use Rattle.lines.specs.Parts.{AppendsPart}
@@ -26,3 +27,11 @@ returns-in_ok-put_file-in-File-clause-err g c = λ t mean told.
     on_err_weaker c.print_blocks.result
     (λ w. subst (AppendsPart _ _) (sym parts.text) (part_after _ _ _ (file_text Second q c.in-File.len c.in-File.modified) (block_lines parts.bytes (count parts.bytes)) c.in_ok-put_file-in-File.ensures.ok w))
     (c.print_blocks.ensures.err t c.in-File.modified parts.bytes mean parts.is)
+
+pub returns-in_ok-put_file-in-File-clause-memory : goal.returns-in_ok-put_file-in-File-clause-memory
+returns-in_ok-put_file-in-File-clause-memory g c = λ t mean told e.
+    let q = c.args.path.now in
+    let parts : FileThere (entry_at t q) q c.in-File.len c.in-File.modified = file_there (entry_at t q) q c.in-File.len c.in-File.modified (told ∙ ap Some c.in-File.is) in
+    subst (AppendsLines _ _) (sym parts.text)
+    (lines_after _ _ _ (file_text Second q c.in-File.len c.in-File.modified) (block_lines parts.bytes (count parts.bytes)) (file_ends Second q c.in-File.len c.in-File.modified)
+    c.in_ok-put_file-in-File.ensures.ok (c.print_blocks.ensures.memory t c.in-File.modified parts.bytes mean parts.is e))

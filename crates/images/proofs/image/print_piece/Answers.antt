@@ -2,7 +2,7 @@ use Rattle.std.proofs.Common.{◌≡◌, List, ◌∙◌, ap, drop, sym, subst, 
 use Rattle.std.proofs.lemmas.List.Elements.{All-drop}
 use Rattle.std.specs.Io.KnownBytes.{Appends}
 use Rattle.std.specs.Prelude.{All}
-use Rattle.images.specs.Image.{last_of, listed_lines}
+use Rattle.images.specs.Image.{AppendsLines, last_of, listed_lines}
 use Rattle.images.proofs.ImageEntries.{last_pushed, none_last}
 use Rattle.std.proofs.lemmas.Result.{on_err_weaker, on_ok_weaker}
 use Rattle.lines.specs.Parts.{AppendsPart}
@@ -29,3 +29,9 @@ returns-clause-last g c = elim c.match-pop.branch [
   | in-Some w ↦ w.last-is ∙ sym (ap (last_of c.args.last.now) w.in-Some.ensures.items ∙ last_pushed c.args.last.now c.pop.new.self.items (w.in-Some.path, w.in-Some.field-0-1))
   | in_default w ↦ w.last-is ∙ sym (none_last c.args.last.now c.args.piece.items (omega (arith, w.in_default.ensures.cases.0, c.args.piece.ok)))
 ]
+
+pub returns-clause-memory : goal.returns-clause-memory
+returns-clause-memory g c = λ t mean all e.
+    let others : c.behind_first.result.now ≡ drop 1 c.args.piece.items = c.behind_first.ensures ∙ ap (λ (l : List (Path × Meta)). drop 1 l) c.as_slice.ensures.value in
+    subst (AppendsLines _ _) (ap (listed_lines t) others)
+    (c.print_entries-told.ensures.memory t mean (subst (λ (es : List (Path × Meta)). All (λ e. IsEntry t e.0 e.1) es) (sym others) (All-drop (λ (e : Path × Meta). IsEntry t e.0 e.1) 1 c.args.piece.items all)) e)

@@ -1,6 +1,7 @@
 use Rattle.std.proofs.Common.{◌≡◌, refl, rules, ◌∙◌, arith}
 use Rattle.std.proofs.lemmas.Result.{on_ok_weaker}
-use Rattle.images.proofs.LoadFacts.{all_loaded, end_bad, piece_refused, reads_nothing, reads_piece}
+use Rattle.std.proofs.KnownBytes.{Keeps-refl}
+use Rattle.images.proofs.LoadFacts.{all_loaded, end_bad, piece_refused, read_failed, reads_nothing, reads_piece}
 use Rattle.images.proofs.load.Loading.take_all.Goals as goal
 
 pub loop-init : goal.loop-init
@@ -36,3 +37,15 @@ loop-preserved g c = record {
 
 pub returns-then-n-eq0-clause-form : goal.returns-then-n-eq0-clause-form
 returns-then-n-eq0-clause-form g c = on_ok_weaker _ (λ loads. c.loop.invariant.form) c.end.ensures.ok
+
+pub returns-in_default-clause-read : goal.returns-in_default-clause-read
+returns-in_default-clause-read g c = λ e. read_failed _ _ _ _ _ c.loop.invariant.read c.in_default.ensures.err
+
+pub returns-then-n-eq0-clause-read : goal.returns-then-n-eq0-clause-read
+returns-then-n-eq0-clause-read g c = λ e. absurd (c.end.ensures.read e)
+
+pub returns-in-Err-clause-read : goal.returns-in-Err-clause-read
+returns-in-Err-clause-read g c = λ e. absurd (c.take_piece.ensures.read (c.in-Err.is ∙ e))
+
+pub returns-clause-read : goal.returns-clause-read
+returns-clause-read g c = λ e. read_failed _ _ _ _ _ c.loop.invariant.read (Keeps-refl _)

@@ -17,3 +17,11 @@ returns-clause-ok c = block_at c.args.self.now c.write_bytes.new.volume c.args.i
 
 pub returns-clause-form : goal.returns-clause-form
 returns-clause-form c = counted_form _ _ _ _ (c.write_bytes.ensures (search rules))
+
+pub returns-then-not-write_bytes-clause-place : goal.returns-then-not-write_bytes-clause-place
+returns-then-not-write_bytes-clause-place c = λ none.
+    absurd (none c.in-Some.offset (subst (λ (k : ℕ). FitsAt c.args.index k c.args.self.now c.in-Some.offset) c.len.ensures.value c.in-Some.ensures.fits))
+
+pub returns-clause-place : goal.returns-clause-place
+returns-clause-place c = λ none.
+    absurd (none c.in-Some.offset (subst (λ (k : ℕ). FitsAt c.args.index k c.args.self.now c.in-Some.offset) c.len.ensures.value c.in-Some.ensures.fits))

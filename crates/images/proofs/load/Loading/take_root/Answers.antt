@@ -15,3 +15,13 @@ returns-clause-ok c =
 
 pub returns-clause-form : goal.returns-clause-form
 returns-clause-form c = planted_form _ _ _ _ (c.plant_root.ensures (search rules))
+
+pub returns-then-not-plant_root-clause-root : goal.returns-then-not-plant_root-clause-root
+returns-then-not-plant_root-clause-root c = λ none.
+    let read = root_read c.args.line.now _ c.read_root.ensures (version_of c.in-Some.version) c.in-Some.modified (ap (option_map _) c.in-Some.is) in
+    absurd (none (version_of c.in-Some.version) c.in-Some.modified read.0 read.1)
+
+pub returns-clause-root : goal.returns-clause-root
+returns-clause-root c = λ none.
+    let read = root_read c.args.line.now _ c.read_root.ensures (version_of c.in-Some.version) c.in-Some.modified (ap (option_map _) c.in-Some.is) in
+    absurd (none (version_of c.in-Some.version) c.in-Some.modified read.0 read.1)

@@ -1,0 +1,173 @@
+//! Calls by texts and buffers of more than a block, with ample memory: no contract can say that memory is found.
+use crate::asked::{USUAL, freeze, new_volume};
+use crate::pieces::{Piece, built};
+use byte_calls::{PathCall, frozen_readdir, load, on_path, print, read, readdir, stat, write};
+use images::LoadFault;
+use reference::Meta;
+use std::alloc::Global;
+use volume::{Frozen, Volume};
+
+/// Whether the file is made. No function that asks ensures anything, so that no proof of a test reads the contract of a call.
+fn makes(alloc: Global, volume: &mut Volume) -> bool {
+    on_path(alloc, volume, PathCall::Create, b"/f", 1).is_ok()
+}
+
+/// Whether bytes are written into the file, from its third on.
+fn writes(alloc: Global, volume: &mut Volume, bytes: &[u8]) -> bool {
+    write(alloc, volume, b"/f", 2, bytes, 3).is_ok()
+}
+
+/// How many bytes are read from there into a buffer.
+fn count_read(alloc: Global, volume: &Volume, room: &mut [u8]) -> Option<usize> {
+    read(alloc, volume, b"/f", 2, room).ok()
+}
+
+/// What is told of the file.
+fn told(alloc: Global, volume: &Volume) -> Option<Meta> {
+    stat(alloc, volume, b"/f").ok()
+}
+
+/// How many bytes the listing of the root takes.
+fn size_listed(alloc: Global, volume: &Volume, room: &mut [u8]) -> Option<usize> {
+    readdir(alloc, volume, b"/", room).ok()
+}
+
+/// The same of a tree that stands still.
+fn size_frozen(alloc: Global, tree: &Frozen, room: &mut [u8]) -> Option<usize> {
+    frozen_readdir(alloc, tree, b"/", room).ok()
+}
+
+/// How many bytes its image takes.
+fn size_printed(alloc: Global, tree: &Frozen, room: &mut [u8]) -> Option<usize> {
+    print(alloc, tree, room).ok()
+}
+
+/// The volume of an image.
+fn loaded(alloc: Global, text: &[u8]) -> Result<Volume, LoadFault> {
+    load(alloc, USUAL, text)
+}
+
+/// How many bytes are written, and read back.
+const LONG: usize = 10_000;
+
+/// So many bytes, each of another value than the one before.
+fn long_bytes(alloc: Global) -> Option<Vec<u8>> {
+    let mut bytes = Vec::new(alloc);
+    for place in 0..LONG {
+        bytes.push((place % 251) as u8).ok()?;
+    }
+    Some(bytes)
+}
+
+/// Whether the bytes are read back, in a buffer with room for more.
+fn reads(alloc: Global, volume: &Volume, bytes: &[u8]) -> bool {
+    let mut room = [0u8; 12_000];
+    count_read(alloc, volume, &mut room) == Some(bytes.len()) && room.starts_with(bytes)
+}
+
+/// Whether the file has the bytes behind its first two, and the moment of their writing.
+fn has(alloc: Global, volume: &Volume, bytes: &[u8]) -> bool {
+    let file = Meta::File {
+        len: 10_002,
+        modified: 3,
+    };
+    told(alloc, volume) == Some(file) && reads(alloc, volume, bytes)
+}
+
+/// Whether the bytes are written into a new volume, and read back.
+fn keeps(alloc: Global, bytes: &[u8]) -> bool {
+    match new_volume(alloc, USUAL) {
+        Ok(mut volume) => {
+            makes(alloc, &mut volume)
+                && writes(alloc, &mut volume, bytes)
+                && has(alloc, &volume, bytes)
+        }
+        Err(_) => false,
+    }
+}
+
+/// Whether long bytes are kept.
+fn keeps_long(alloc: Global) -> bool {
+    match long_bytes(alloc) {
+        Some(bytes) => keeps(alloc, bytes.as_slice()),
+        None => false,
+    }
+}
+
+#[test]
+fn more_bytes_than_a_block_are_written_and_read(rt: HostRuntime) {
+    assert!(rt; keeps_long(rt.alloc()));
+}
+
+/// An image with 1,000 directories, of more than two blocks.
+const DIRECTORIES: [Piece; 2] = [Piece::Text("d /\n"), Piece::Numbered("d /a", 1_000, 2_000)];
+
+/// The same, and behind it a line that is none of an image.
+const SPOILED: [Piece; 3] = [
+    Piece::Text("d /\n"),
+    Piece::Numbered("d /a", 1_000, 2_000),
+    Piece::Text("x\n"),
+];
+
+/// Whether the image of a tree is printed, in version 2.
+fn prints(alloc: Global, tree: &Frozen) -> bool {
+    let mut room = [0u8; 12_000];
+    size_printed(alloc, tree, &mut room) == Some(11_006) && room.starts_with(b"D / 0\nD /a1000 0\n")
+}
+
+/// Whether its root is listed.
+fn lists(alloc: Global, tree: &Frozen) -> bool {
+    let mut room = [0u8; 8_000];
+    size_frozen(alloc, tree, &mut room) == Some(7_000) && room.starts_with(b"da1000\0da1001\0")
+}
+
+/// Whether the root of a volume is listed, and the tree that it freezes is shown.
+fn shows(alloc: Global, volume: &Volume) -> bool {
+    let mut room = [0u8; 8_000];
+    if size_listed(alloc, volume, &mut room) != Some(7_000) {
+        return false;
+    }
+    match freeze(volume) {
+        Ok(tree) => lists(alloc, &tree) && prints(alloc, &tree),
+        Err(_) => false,
+    }
+}
+
+/// Whether a text is loaded, and what it has is shown.
+fn loads(alloc: Global, text: &[u8]) -> bool {
+    match loaded(alloc, text) {
+        Ok(volume) => shows(alloc, &volume),
+        Err(_) => false,
+    }
+}
+
+/// The same of a text in pieces.
+fn loads_pieces(alloc: Global) -> bool {
+    match built(alloc, &DIRECTORIES) {
+        Some(text) => loads(alloc, text.as_slice()),
+        None => false,
+    }
+}
+
+#[test]
+fn a_long_text_is_loaded_listed_and_printed(rt: HostRuntime) {
+    assert!(rt; loads_pieces(rt.alloc()));
+}
+
+/// Why a text is not loaded.
+fn fault(alloc: Global, text: &[u8]) -> Option<LoadFault> {
+    loaded(alloc, text).err()
+}
+
+/// Whether a text in pieces is refused at the line behind the root and the directories.
+fn refuses_pieces(alloc: Global) -> bool {
+    match built(alloc, &SPOILED) {
+        Some(text) => fault(alloc, text.as_slice()) == Some(LoadFault::Bad(1_002)),
+        None => false,
+    }
+}
+
+#[test]
+fn a_long_text_is_refused_at_its_bad_line(rt: HostRuntime) {
+    assert!(rt; refuses_pieces(rt.alloc()));
+}
