@@ -3,14 +3,15 @@ ghost use Rattle.std.specs.Prelude.{◌≡◌, [], ◌∷◌, ◌++◌, ◌<◌,
 ghost use Rattle.engine.specs.Histories.{entry, LegalFrom, AllBelow, StartsWith, own};
 ghost use Rattle.engine.specs.Seats.{IsEngineSeat, IsClientSeat, IsFlusherSeat, Shows, Makes, Looks};
 ghost use Rattle.engine.specs.Clients.{FindsAfter, Watches, watched};
-ghost use Rattle.engine.specs.Takings.{BuiltOf, IsTaken, KnowsMarks};
+ghost use Rattle.engine.specs.Takings.{BuiltOf, IsTaken, KnowsMarks, Picks};
+ghost use Rattle.engine.specs.Turns.{Cancels, Found, Puts, Relieves};
 ghost use Rattle.reference.specs.Worlds.{World};
 ghost use Rattle.volume.specs.Jobs.{IfTaken};
 ghost use Rattle.volume.specs.Volumes.{Means, live_of};
 
 use crate::act::Act;
 use crate::flusher::TurnReply;
-use crate::pick::{pick, put};
+use crate::pick::{pick, put, relieve};
 use crate::rule::{Naming, Seat, Words};
 use crate::ties::{announce, learn, make, record_taking, show, tie};
 use jobs::Ticket;
@@ -57,6 +58,7 @@ fn take_recorded<J: Naming>(
     ensures history { engine.new.me.0.history ≡ engine.old.me.0.history }
     ensures knows { KnowsMarks engine.new.me.0.takings (live_of volume.new) }
     ensures means { (w : World) → Means volume.old w → Means volume.new w }
+    ensures picks { Picks result volume.old volume.new }
     ensures taken { IfTaken result (λ job. IsTaken engine.new.me.0.takings job) }
 {
     match pick(volume, alloc) {
@@ -138,9 +140,12 @@ impl<J: Naming> Desk<J> {
         ensures same { self.new ≡ self.old }
         ensures flusher { IsFlusherSeat J.table J.opening result.0 }
         ensures seen { (result.0.me.0.seen ≡ self.old) × Watches J.opening (watched flusher.me.0) (watched result.0.me.0) }
+        ensures held { Found J.opening (watched flusher.me.0) (watched result.0.me.0) (Relieves result.1) }
     {
+        self.volume.means_a_world();
         let flusher = show::<J>(words, &mut self.seat, flusher);
-        let reply = self.step(alloc);
+        let reply = relieve(&mut self.volume, alloc);
+        self.volume.means_a_world();
         (flusher, reply)
     }
 
@@ -151,9 +156,12 @@ impl<J: Naming> Desk<J> {
         ensures same { self.new ≡ self.old }
         ensures flusher { IsFlusherSeat J.table J.opening result.0 }
         ensures watches { Watches J.opening (watched flusher.me.0) (watched result.0.me.0) }
+        ensures held { Found J.opening (watched flusher.me.0) (watched result.0.me.0) (Picks result.1) }
         ensures taken { IfTaken result.1 (λ job. IsTaken result.0.me.0.seen_takings job) }
     {
+        self.volume.means_a_world();
         let reply = take_recorded::<J>(alloc, words, &mut self.seat, &mut self.volume);
+        self.volume.means_a_world();
         let flusher = show::<J>(words, &mut self.seat, flusher);
         (flusher, reply)
     }
@@ -166,27 +174,29 @@ impl<J: Naming> Desk<J> {
         ensures same { self.new ≡ self.old }
         ensures flusher { IsFlusherSeat J.table J.opening result.0 }
         ensures watches { Watches J.opening (watched flusher.me.0) (watched result.0.me.0) }
+        ensures held { Found J.opening (watched flusher.me.0) (watched result.0.me.0) (Puts done result.1) }
     {
+        self.volume.means_a_world();
         let flusher = show::<J>(words, &mut self.seat, flusher);
         let reply = put(&mut self.volume, done);
+        self.volume.means_a_world();
         (flusher, reply)
     }
 
-    /// The job with the ticket is not to be installed.
-    pub fn cancel(&mut self, ticket: Ticket)
-        ensures { self.new ≡ self.old }
+    /// The flusher sees the history, and the job with the ticket is not to be installed: its mark goes.
+    pub fn cancel(&mut self, words: &Words, flusher: Seat, ticket: Ticket) -> Seat
+        requires words { (words.now.table_id ≡ J.table) × (0 < J.table.words) }
+        requires flusher { IsFlusherSeat J.table J.opening flusher }
+        ensures same { self.new ≡ self.old }
+        ensures flusher { IsFlusherSeat J.table J.opening result }
+        ensures watches { Watches J.opening (watched flusher.me.0) (watched result.me.0) }
+        ensures held { Found J.opening (watched flusher.me.0) (watched result.me.0) (Cancels ticket.number) }
     {
+        self.volume.means_a_world();
+        let flusher = show::<J>(words, &mut self.seat, flusher);
         self.volume.cancel(ticket);
-    }
-
-    /// Does one tree step of the volume.
-    fn step(&mut self, alloc: Global) -> TurnReply
-        ensures { self.new ≡ self.old }
-    {
-        match self.volume.relieve(alloc) {
-            Some(relief) => TurnReply::Stepped(relief.reply),
-            None => TurnReply::Idle,
-        }
+        self.volume.means_a_world();
+        flusher
     }
 
     /// How many calls there are, modulo 2^64.

@@ -4,6 +4,7 @@ ghost use Rattle.engine.specs.Histories.{Entry, LegalFrom, own};
 ghost use Rattle.engine.specs.Seats.{IsClientSeat, IsFlusherSeat, Shows, Makes, Looks};
 ghost use Rattle.engine.specs.Clients.{FindsAfter, Watches, watched};
 ghost use Rattle.engine.specs.Takings.{BuiltOf, IsTaken};
+ghost use Rattle.engine.specs.Turns.{Cancels, Finishes, Held, PutsIn, RelievesIn, TakesIn, Turns};
 ghost use Rattle.volume.specs.Jobs.{IfTaken};
 
 use crate::act::Act;
@@ -110,6 +111,7 @@ impl<J: Naming> Hub<J> {
         requires flusher { IsFlusherSeat J.table J.opening flusher × LegalFrom J.opening flusher.me.0.seen }
         ensures flusher { IsFlusherSeat J.table J.opening result.0 }
         ensures watches { Watches J.opening (watched flusher.me.0) (watched result.0.me.0) }
+        ensures turned { Turns J.opening result.1 (watched flusher.me.0) (watched result.0.me.0) }
     {
         let (flusher, reply) = self.take(rt, alloc, flusher);
         match reply {
@@ -136,6 +138,7 @@ impl<J: Naming> Hub<J> {
         requires taken { IsTaken flusher.me.0.seen_takings job }
         ensures flusher { IsFlusherSeat J.table J.opening result.0 }
         ensures watches { Watches J.opening (watched flusher.me.0) (watched result.0.me.0) }
+        ensures finishes { Finishes J.opening job result.1 (watched flusher.me.0) (watched result.0.me.0) }
     {
         match between.build(alloc, job) {
             Ok(done) => {
@@ -143,7 +146,7 @@ impl<J: Naming> Hub<J> {
                 self.install(rt, flusher, done)
             }
             Err(job) => {
-                self.cancel(rt, job.ticket());
+                let flusher = self.cancel(rt, flusher, job.ticket());
                 (flusher, TurnReply::NoMemory)
             }
         }
@@ -154,6 +157,7 @@ impl<J: Naming> Hub<J> {
         requires flusher { IsFlusherSeat J.table J.opening flusher × LegalFrom J.opening flusher.me.0.seen }
         ensures flusher { IsFlusherSeat J.table J.opening result.0 }
         ensures watches { Watches J.opening (watched flusher.me.0) (watched result.0.me.0) }
+        ensures takes { TakesIn J.opening result.1 (watched flusher.me.0) (watched result.0.me.0) }
         ensures taken { IfTaken result.1 (λ job. IsTaken result.0.me.0.seen_takings job) }
     {
         let mut guard = self.desk.lock(rt);
@@ -169,6 +173,7 @@ impl<J: Naming> Hub<J> {
         requires built { BuiltOf flusher.me.0.seen_takings done }
         ensures flusher { IsFlusherSeat J.table J.opening result.0 }
         ensures watches { Watches J.opening (watched flusher.me.0) (watched result.0.me.0) }
+        ensures puts { PutsIn J.opening done result.1 (watched flusher.me.0) (watched result.0.me.0) }
     {
         let mut guard = self.desk.lock(rt);
         match &mut *guard {
@@ -177,11 +182,17 @@ impl<J: Naming> Hub<J> {
         }
     }
 
-    /// Cancels a job under the lock.
-    fn cancel<R: Wait>(&self, rt: &R, ticket: Ticket) {
+    /// Cancels a job under the lock; nothing where the engine has ended.
+    fn cancel<R: Wait>(&self, rt: &R, flusher: Seat, ticket: Ticket) -> Seat
+        requires flusher { IsFlusherSeat J.table J.opening flusher × LegalFrom J.opening flusher.me.0.seen }
+        ensures flusher { IsFlusherSeat J.table J.opening result }
+        ensures watches { Watches J.opening (watched flusher.me.0) (watched result.me.0) }
+        ensures cancels { Held J.opening (watched flusher.me.0) (watched result.me.0) (Cancels ticket.number) }
+    {
         let mut guard = self.desk.lock(rt);
-        if let Some(desk) = &mut *guard {
-            desk.cancel(ticket);
+        match &mut *guard {
+            Some(desk) => desk.cancel(self.words(), flusher, ticket),
+            None => flusher,
         }
     }
 
@@ -190,6 +201,7 @@ impl<J: Naming> Hub<J> {
         requires flusher { IsFlusherSeat J.table J.opening flusher × LegalFrom J.opening flusher.me.0.seen }
         ensures flusher { IsFlusherSeat J.table J.opening result.0 }
         ensures watches { Watches J.opening (watched flusher.me.0) (watched result.0.me.0) }
+        ensures relieves { RelievesIn J.opening result.1 (watched flusher.me.0) (watched result.0.me.0) }
     {
         let mut guard = self.desk.lock(rt);
         match &mut *guard {

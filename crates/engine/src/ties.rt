@@ -2,7 +2,7 @@
 ghost use Rattle.std.specs.Prelude.{◌≡◌, [], ◌∷◌, ◌++◌, ◌+◌, ◌%◌, ◌^◌, ◌<◌, ◌≤◌, length, true};
 ghost use Rattle.engine.specs.Histories.{entry, LegalFrom, FitsAfter, StartsWith, own};
 ghost use Rattle.engine.specs.Clients.{Watches, watched};
-ghost use Rattle.engine.specs.Takings.{times_taken};
+ghost use Rattle.engine.specs.Takings.{TakenOnce, times_taken};
 ghost use Rattle.engine.specs.Views.{guest, watcher, recorded, took, announced_more, learned, keeper};
 ghost use Rattle.volume.specs.Jobs.{ticket_of};
 ghost use Rattle.engine.specs.Seats.{IsEngineSeat, IsClientSeat, IsFlusherSeat};
@@ -109,6 +109,7 @@ pub fn learn_flusher<J: Naming>(words: &Words, flusher: &mut Seat)
     ensures legal { LegalFrom J.opening flusher.old.me.0.told }
     ensures told { StartsWith flusher.old.me.0.told flusher.old.me.0.seen }
     ensures takings { StartsWith flusher.old.me.0.told_takings flusher.old.me.0.seen_takings }
+    ensures once { TakenOnce flusher.old.me.0.told_takings }
 {
     words.load::<Learns>(flusher, 0);
 }
@@ -122,6 +123,7 @@ pub fn show<J: Naming>(words: &Words, engine: &mut Seat, flusher: Seat) -> Seat
     ensures flusher { IsFlusherSeat J.table J.opening result }
     ensures seen { (result.me.0.seen ≡ engine.old.me.0.history) × (result.me.0.seen_takings ≡ engine.old.me.0.takings) }
     ensures watches { Watches J.opening (watched flusher.me.0) (watched result.me.0) }
+    ensures once { TakenOnce result.me.0.seen_takings }
 {
     let mut flusher = tie_flusher::<J>(words, engine, flusher);
     learn_flusher::<J>(words, &mut flusher);
