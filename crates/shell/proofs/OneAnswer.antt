@@ -1,5 +1,5 @@
 -- Where memory is never wanting, the answers to a script and the world after it follow from its lines.
-use Rattle.std.proofs.Common.{◌≡◌, ◌≢◌, ◌⊎◌, ℕ, List, [], ◌∷◌, ◌++◌, ◌==◌, true, false, cond, refl, sym, ap, subst, ◌∙◌, inl, inr, append_assoc, codes, length}
+use Rattle.std.proofs.Common.{◌≡◌, ◌≢◌, ◌⊎◌, ℕ, List, [], ◌∷◌, ◌++◌, ◌==◌, true, false, cond, refl, sym, ap, subst, ◌∙◌, inl, inr, append-nil, append_assoc, codes, length}
 use Rattle.std.specs.List.{All, flat_map}
 use Rattle.std.proofs.lemmas.List.Elements.{All-head, All-tail}
 use Rattle.std.specs.Prelude.{decimal, Ok, Err}
@@ -33,11 +33,7 @@ IsEnded text = (text ≡ []) ⊎ ((front : List ℕ) × (text ≡ front ++ 10 �
 -- two texts that are ended
 ended_both : (a b : List ℕ) → IsEnded a → IsEnded b → IsEnded (a ++ b)
 ended_both a b (inl none) second = subst (λ (l : List ℕ). IsEnded (l ++ b)) (sym none) second
-ended_both a b (inr (front, is)) (inl none) = inr (front, ap (λ l. a ++ l) none ∙ go a ∙ is)
-  where
-    go : (l : List ℕ) → l ++ [] ≡ l
-    go [] = refl
-    go (x ∷ l) = ap (λ m. x ∷ m) (go l)
+ended_both a b (inr (front, is)) (inl none) = inr (front, ap (λ l. a ++ l) none ∙ append-nil a ∙ is)
 ended_both a b (inr first) (inr (front, is)) = inr (a ++ front, ap (λ l. a ++ l) is ∙ sym (append_assoc a front (10 ∷ [])))
 
 -- a text and then a line feed

@@ -1,5 +1,6 @@
 use Rattle.shell.specs.Replies.{entry_line}
-use Rattle.lines.proofs.Known.{gathers_written, on_err, on_err_map, on_ok_map, part_after, part_before}
+use Rattle.std.proofs.lemmas.Result.{on_err_weaker, on_ok_weaker}
+use Rattle.lines.proofs.Known.{gathers_written, on_err, part_after, part_before}
 use Rattle.shell.proofs.reply.gather_entry.Goals as goal
 
 pub returns-in_err-write_out-clause-err : goal.returns-in_err-write_out-clause-err
@@ -8,8 +9,8 @@ returns-in_err-write_out-clause-err g c =
 
 pub returns-clause-ok : goal.returns-clause-ok
 returns-clause-ok g c =
-    on_ok_map c.put_entry.result _ _ (λ written. gathers_written _ _ _ c.args.gathered.now (entry_line (c.args.kind, c.args.name.now)) _ c.in_ok-write_out.ensures.ok written c.in_ok-write_out.ensures.empty) c.put_entry.ensures.ok
+    on_ok_weaker c.put_entry.result (λ written. gathers_written _ _ _ c.args.gathered.now (entry_line (c.args.kind, c.args.name.now)) _ c.in_ok-write_out.ensures.ok written c.in_ok-write_out.ensures.empty) c.put_entry.ensures.ok
 
 pub returns-clause-err : goal.returns-clause-err
 returns-clause-err g c =
-    on_err_map c.put_entry.result _ _ (λ part. part_after _ _ _ c.args.gathered.now (entry_line (c.args.kind, c.args.name.now)) c.in_ok-write_out.ensures.ok part) c.put_entry.ensures.err
+    on_err_weaker c.put_entry.result (λ part. part_after _ _ _ c.args.gathered.now (entry_line (c.args.kind, c.args.name.now)) c.in_ok-write_out.ensures.ok part) c.put_entry.ensures.err

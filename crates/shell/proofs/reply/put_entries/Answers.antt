@@ -4,7 +4,8 @@ use Rattle.std.specs.Io.KnownBytes.{Appends}
 use Rattle.std.proofs.lemmas.List.{take_all}
 use Rattle.lines.specs.Parts.{AppendsPart}
 use Rattle.shell.specs.Replies.{entry_line}
-use Rattle.lines.proofs.Known.{gathered_all, gathered_some, gathers-trans, on_err, on_err_map, on_ok_map}
+use Rattle.std.proofs.lemmas.Result.{on_err_weaker, on_ok_weaker}
+use Rattle.lines.proofs.Known.{gathered_all, gathered_some, gathers-trans, on_err}
 use Rattle.lines.proofs.Texts.{each_gathered, taken_more}
 use Rattle.shell.proofs.Texts.{entry_text, entries_text, gathers_same, part_same}
 use Rattle.shell.proofs.reply.put_entries.Goals as goal
@@ -35,9 +36,9 @@ loop-kind-preserved g c =
 pub returns-clause-ok : goal.returns-clause-ok
 returns-clause-ok g c =
     let all = ap (flat_map entry_text) (take_all _ c.args.entries.now c.loop-kind-test.false) ∙ sym (entries_text c.args.entries.now) in
-    on_ok_map c.write_out.result _ _ (λ written. subst (Appends _ _) all (gathered_all _ _ _ [] c.loop-kind.gathered _ c.loop-kind.invariant written)) c.write_out.ensures.ok
+    on_ok_weaker c.write_out.result (λ written. subst (Appends _ _) all (gathered_all _ _ _ [] c.loop-kind.gathered _ c.loop-kind.invariant written)) c.write_out.ensures.ok
 
 pub returns-clause-err : goal.returns-clause-err
 returns-clause-err g c =
     let all = ap (flat_map entry_text) (take_all _ c.args.entries.now c.loop-kind-test.false) ∙ sym (entries_text c.args.entries.now) in
-    on_err_map c.write_out.result _ _ (λ part. subst (AppendsPart _ _) all (gathered_some _ _ _ [] c.loop-kind.gathered _ c.loop-kind.invariant part)) c.write_out.ensures.err
+    on_err_weaker c.write_out.result (λ part. subst (AppendsPart _ _) all (gathered_some _ _ _ [] c.loop-kind.gathered _ c.loop-kind.invariant part)) c.write_out.ensures.err
