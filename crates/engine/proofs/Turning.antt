@@ -1,13 +1,11 @@
 -- What a turn of a flusher did: what is done to the volume, the holds of the lock, and the turn of two holds.
-use Rattle.std.proofs.Common.{◌≡◌, ◌≢◌, ◌⊎◌, ℕ, List, [], ◌∷◌, refl, sym, ap, ◌∙◌, subst, inl, inr}
-use Rattle.std.specs.Prelude.{None, Some}
+use Rattle.std.proofs.Common.{◌≡◌, ◌⊎◌, ℕ, List, [], ◌∷◌, refl, sym, ap, ◌∙◌, subst, inl, inr}
 use Rattle.reference.specs.Worlds.{World}
-use Rattle.volume.specs.Jobs.{AnswersInstalling, Builds, IfTaken, done_ticket, mark_for, ticket_of}
+use Rattle.volume.specs.Jobs.{AnswersInstalling, Builds, IfTaken, done_ticket, ticket_of}
 use Rattle.volume.specs.Marked.{without_mark}
 use Rattle.volume.specs.Volumes.{IsVolume, PVolume, Means, live_of}
 use Rattle.volume.specs.declared.job.Done.{Done}
 use Rattle.volume.specs.declared.job.Done.TheVariants.{Meta as MetaDone, Block as BlockDone}
-use Rattle.volume.specs.declared.job.InstallReply.{InstallReply}
 use Rattle.volume.specs.declared.job.InstallReply.TheVariants.{Installed as WasInstalled, Stale as WasStale, NoMemory as NoMemoryFor}
 use Rattle.volume.specs.declared.job.Job.{Job}
 use Rattle.volume.specs.declared.job.Job.TheVariants.{Meta as MetaJob, Block as BlockJob}
@@ -20,7 +18,7 @@ use Rattle.engine.specs.Histories.{Entry, Stands}
 use Rattle.engine.specs.Seats.{Holds}
 use Rattle.engine.specs.Clients.{Watched, Watches, watched, first_view}
 use Rattle.engine.specs.Takings.{IsTaken, KnowsMarks, Picks}
-use Rattle.engine.specs.Turns.{Untouched, TakesJob, PutIn, Cancels, Puts, Relieves, Hold, Found, Held, TakesIn, PutsIn, RelievesIn, Finishes, WithJob, WithoutJob, Turns}
+use Rattle.engine.specs.Turns.{Untouched, TakesJob, PutIn, Cancels, Puts, Relieves, Hold, Found, Held, TakesIn, PutsIn, RelievesIn, Finishes, WithJob, Turns}
 use Rattle.engine.proofs.Histories.{holds-still}
 use Rattle.engine.proofs.Picking.{whole}
 
@@ -123,18 +121,6 @@ turns-job o (Stepped r) v w h = absurd h.3
 turns-job o Installed v w h = h
 turns-job o Stale v w h = h
 turns-job o NoMemory v w h = inr h
-
-pub turns-step : (o : PVolume) (r : TurnReply) (v w : Watched) → WithoutJob o r v w → Turns o r v w
-turns-step o Idle v w h = h
-turns-step o (Stepped r) v w h = h
-turns-step o Installed v w h = absurd h.2
-turns-step o Stale v w h = absurd h.2
-turns-step o NoMemory v w h = absurd h.2
-
--- where no job was taken nothing was done
-pub none-taken : (o : PVolume) (r : TakeReply) (v w : Watched) → (r ≡ NotThere) ⊎ (r ≡ NoRoom) → TakesIn o r v w → Held o v w Untouched
-none-taken o r v w (inl e) h = subst (λ (x : TakeReply). TakesIn o x v w) e h
-none-taken o r v w (inr e) h = subst (λ (x : TakeReply). TakesIn o x v w) e h
 
 -- ---- what is seen of a flusher
 
