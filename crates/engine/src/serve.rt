@@ -26,15 +26,9 @@ pub trait Work {
     ghost does: { Self → PVolume → Known → Known → Type 0 } = { λ _ _ _ _. ⊤ };
 
     /// Does it by this client, which has this number and has seen nothing.
-    fn work<J: Naming, R: Wait>(
-        &self,
-        rt: &R,
-        alloc: Global,
-        number: usize,
-        client: &mut Client<J>,
-    )
-        requires number { client.old ≡ newcomer number }
-        ensures done { does self.now J.opening client.old client.new };
+    fn work<J: Naming, R: Wait>(&self, rt: &R, alloc: Global, number: usize, client: &mut Client<J>)
+        requires { client.old ≡ newcomer number }
+        ensures { does self.now J.opening client.old client.new };
 }
 
 /// Why there is no report.
@@ -146,18 +140,14 @@ fn work_beside<J: Naming + Send + Sync, W: Work + Sync, R: Threads + Wait + Sync
     scope(
         scope_env(),
         rt,
-        |scope| work_in(scope, rt, alloc, clients, staff, &is_done, work),
+        |scope|
+            requires { clients ≡ fresh J.clients }
+        { work_in(scope, rt, alloc, clients, staff, &is_done, work) },
     )
 }
 
 /// The flushers start, the clients work, and then the flushers are told that they are done.
-fn work_in<
-    's,
-    E,
-    J: Naming + Send + Sync + 's,
-    W: Work + Sync,
-    R: Threads + Wait + Sync,
->(
+fn work_in<'s, E, J: Naming + Send + Sync + 's, W: Work + Sync, R: Threads + Wait + Sync>(
     scope: &Scope<'s, E>,
     rt: &'s R,
     alloc: Global,

@@ -9,3 +9,6 @@ returns-in-Ok-clause-ends g c = record {
   once = subst (λ (n : ℕ). EachOnce n c.work_beside-worked.result) (c.hire_all-staff.ensures ∙ c.requires.all) c.in-Ok.ensures.ends.0;
   ends = c.in-Ok.ensures.ends.1;
 }
+
+pub returns-clause-back : goal.returns-clause-back
+returns-clause-back g c = (c.work_beside-worked.result, c.work_beside-worked.ensures)
