@@ -1,8 +1,9 @@
 -- The calls of all clients are all calls, and a list of no more clients than the engine has, in which each is there, has each once.
-use Rattle.std.proofs.Common.{◌≡◌, ◌≢◌, ◌⊎◌, ℕ, ◌+◌, ◌<◌, ◌≤◌, List, [], ◌∷◌, ◌++◌, length, zero, suc, Bool, ◌==◌, if◌then◌else◌, refl, sym, ap, ◌∙◌, subst, arith, inl, inr, ⊎_elim, eq-eqb, ne_eqb}
+use Rattle.std.proofs.Common.{◌≡◌, ◌≢◌, ◌⊎◌, ℕ, ◌+◌, ◌<◌, ◌≤◌, List, [], ◌∷◌, ◌++◌, length, length-append, zero, suc, Bool, ◌==◌, if◌then◌else◌, slice_index_or, refl, sym, ap, ◌∙◌, subst, arith, inl, inr, ⊎_elim, eq-eqb, ne_eqb}
+use Rattle.std.proofs.lemmas.List.{get_or_append_left, get_or_push}
 use Rattle.std.proofs.lemmas.Bool.{cases_eq}
 use Rattle.engine.specs.Histories.{Entry, own, AllBelow}
-use Rattle.engine.specs.Clients.{Known}
+use Rattle.engine.specs.Clients.{Known, newcomer, fresh}
 use Rattle.engine.specs.Ends.{Agrees, AllAgree, times_in, HasEach, EachOnce, Within, made_by_all}
 
 -- the calls of each of them in one history
@@ -104,6 +105,24 @@ top-or zero zero lt = inl refl
 top-or zero (suc c) lt = absurd (omega (arith, lt))
 top-or (suc n) zero lt = inr (omega arith)
 top-or (suc n) (suc c) lt = ⊎_elim (λ (e : c ≡ n). inl (ap suc e)) (λ (l : c < n). inr (omega (arith, l))) (top-or n c (omega (arith, lt)))
+
+-- ---- clients that have seen nothing
+
+pub fresh-length : (n : ℕ) → length (fresh n) ≡ n
+fresh-length zero = refl
+fresh-length (suc n) = omega (arith, length-append (fresh n) (newcomer n ∷ []), fresh-length n)
+
+pub fresh-at : (n i : ℕ) (d : Known) → i < n → slice_index_or (fresh n) i d ≡ newcomer i
+fresh-at zero i d lt = absurd (omega (arith, lt))
+fresh-at (suc n) i d lt =
+    ⊎_elim
+    (λ (same : i ≡ n). get_or_push (fresh n) (newcomer n) d i (fresh-length n ∙ sym same) ∙ ap newcomer (sym same))
+    (λ (less : i < n).
+    let there : i < length (fresh n) = subst (λ m. i < m) (sym (fresh-length n)) less in
+    get_or_append_left (fresh n) (newcomer n ∷ []) d i there ∙ fresh-at n i d less)
+    (top-or n i lt)
+
+-- ---- each client of the engine
 
 pub has-more : (n : ℕ) (ks : List Known) → HasEach n ks → 1 ≤ times_in n ks → HasEach (n + 1) ks
 has-more n ks has top c lt = ⊎_elim (λ (same : c ≡ n). subst (λ x. 1 ≤ times_in x ks) (sym same) top) (λ (less : c < n). has c less) (top-or n c (omega (arith, lt)))

@@ -1,5 +1,5 @@
 -- What the end of an engine says.
-use Rattle.std.specs.Prelude.{◌≡◌, List, [], ◌∷◌, ℕ, ◌+◌, ◌%◌, ◌^◌, ◌<◌, ◌≤◌, ◌==◌, if◌then◌else◌, length, ⊤}
+use Rattle.std.specs.Prelude.{◌≡◌, List, [], ◌∷◌, ℕ, ◌+◌, ◌%◌, ◌^◌, ◌<◌, ◌≤◌, ◌==◌, if◌then◌else◌, length, slice_index_or}
 use Rattle.volume.specs.declared.rooted.Rooted.{Rooted}
 use Rattle.volume.specs.Volumes.{PVolume}
 use Rattle.engine.specs.declared.engine.CloseFault.{CloseFault}
@@ -8,7 +8,7 @@ use Rattle.engine.specs.declared.serve.ServeFault.{ServeFault}
 use Rattle.engine.specs.declared.serve.ServeFault.TheVariants.{NotOpened, NotClosed}
 use Rattle.engine.specs.Histories.{Entry, LegalFrom, StartsWith, own}
 use Rattle.engine.specs.Seats.{Shows}
-use Rattle.engine.specs.Clients.{Known}
+use Rattle.engine.specs.Clients.{Known, newcomer}
 
 -- a history that begins with what the client has seen, and has no other calls of it
 abbrev pub Agrees : List Entry → Known → Type 0
@@ -61,11 +61,20 @@ pub record Ends (o : PVolume) (clients : List Known) (count : ℕ) (tree : Roote
   pub all_made : length history ≡ made_by_all clients
   pub leaves : Shows o history tree
 
--- what is left of an engine that so many clients of a volume worked on: each was there once, and it ended with them
-abbrev pub Served : PVolume → ℕ → ℕ → Rooted → Type 0
-Served o n count tree = (clients : List Known) × EachOnce n clients × Ends o clients count tree
+-- what n clients know that did the work: each did it once, from when it had seen nothing on, by its own number
+pub record Worked (does : Known → Known → Type 0) (n : ℕ) (clients : List Known) : Type 0 where
+  pub count : length clients ≡ n
+  pub each : (i : ℕ) (d : Known) → i < n → does (newcomer i) (slice_index_or clients i d)
 
--- a fault that came before any client worked gives the volume back
-abbrev pub GivesVolume : PVolume → ServeFault → Type 0
-GivesVolume o (NotOpened volume) = volume ≡ o
-GivesVolume o NotClosed = ⊤
+-- what is left of an engine over a volume: n clients did the work, each is there once, and the engine ended with what they
+-- then knew
+pub record Served (does : Known → Known → Type 0) (o : PVolume) (n : ℕ) (count : ℕ) (tree : Rooted) : Type 0 where
+  pub clients : List Known
+  pub worked : Worked does n clients
+  pub once : EachOnce n clients
+  pub ends : Ends o clients count tree
+
+-- why there is no report: no client worked, and the volume comes back; or all have worked, and it is lost
+abbrev pub GivesVolume : (Known → Known → Type 0) → PVolume → ℕ → ServeFault → Type 0
+GivesVolume does o n (NotOpened volume) = volume ≡ o
+GivesVolume does o n NotClosed = (clients : List Known) × Worked does n clients

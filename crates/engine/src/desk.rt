@@ -7,7 +7,7 @@ ghost use Rattle.engine.specs.Takings.{BuiltOf, IsTaken, KnowsMarks, Picks};
 ghost use Rattle.engine.specs.Turns.{Cancels, Found, Puts, Relieves};
 ghost use Rattle.reference.specs.Worlds.{World};
 ghost use Rattle.volume.specs.Jobs.{IfTaken};
-ghost use Rattle.volume.specs.Volumes.{Means, live_of};
+ghost use Rattle.volume.specs.Volumes.{IsVolume, Means, live_of};
 
 use crate::act::Act;
 use crate::flusher::TurnReply;
@@ -75,7 +75,8 @@ fn take_recorded<J: Naming>(
 impl<J: Naming> Desk<J> {
     /// The desk of an engine of which nothing was asked. It cancels the marks that stand.
     pub fn new(mut volume: Volume, seat: Seat) -> Desk<J>
-        requires { IsEngineSeat J.table J.opening seat × (seat.me.0.history ≡ []) × (seat.me.0.takings ≡ []) × (volume ≡ J.opening) }
+        requires seat { IsEngineSeat J.table J.opening seat × (seat.me.0.history ≡ []) × (seat.me.0.takings ≡ []) }
+        requires volume { (volume ≡ J.opening) × IsVolume J.opening }
         ensures { result ≡ [] }
     {
         volume.cancel_all();

@@ -53,6 +53,28 @@ impl<J: Naming> Hub<J> {
         }
     }
 
+    /// Both clients see the history, under one hold of the lock.
+    pub fn meet<R: Wait>(&self, rt: &R, one: Seat, other: Seat) -> (Seat, Seat)
+        requires one { IsClientSeat J.table J.opening one × (one.me.0.announced ≡ own one.me.0.client one.me.0.seen) }
+        requires other { IsClientSeat J.table J.opening other × (other.me.0.announced ≡ own other.me.0.client other.me.0.seen) }
+        ensures one { IsClientSeat J.table J.opening result.0 × Looks J.opening one.me.0 result.0.me.0 }
+        ensures other { IsClientSeat J.table J.opening result.1 × Looks J.opening other.me.0 result.1.me.0 }
+        ensures same { result.0.me.0.seen ≡ result.1.me.0.seen }
+    {
+        let mut guard = self.desk.lock(rt);
+        match &mut *guard {
+            Some(desk) => {
+                let one = desk.look(self.words(), one);
+                let other = desk.look(self.words(), other);
+                (one, other)
+            }
+            None => {
+                for _ in rt.forever() {}
+                unreachable!()
+            }
+        }
+    }
+
     /// The client sees the history, and takes the live tree that it leaves.
     pub fn freeze<R: Wait>(&self, rt: &R, client: Seat) -> (Seat, Result<Frozen, NoMemory>)
         requires client { IsClientSeat J.table J.opening client }

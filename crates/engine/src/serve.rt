@@ -1,6 +1,7 @@
 //! A room that clients serve, each in a thread of its own, beside flushers: an engine from its opening to its end.
 ghost use Rattle.std.specs.Prelude.{◌≡◌, ◌≤◌, IfOk, IfErr};
-ghost use Rattle.engine.specs.Ends.{Served, GivesVolume};
+ghost use Rattle.engine.specs.Clients.{newcomer, fresh};
+ghost use Rattle.engine.specs.Ends.{Worked, Served, GivesVolume};
 
 use crate::client::Client;
 use crate::clients::Clients;
@@ -16,14 +17,18 @@ use volume::Volume;
 
 /// What each client of an engine does. All of them share it, so what they answer goes into atomics or locks of it.
 pub trait Work {
-    /// Does it by this client, which has this number.
-    fn work<J: Naming, R: Wait>(
-        &self,
-        rt: &R,
-        alloc: Global,
-        number: usize,
-        client: &mut Client<J>,
-    );
+    ghost use Rattle.std.specs.Prelude.{⊤};
+    ghost use Rattle.engine.specs.Clients.{Known};
+    ghost use Rattle.volume.specs.Volumes.{PVolume};
+
+    /// What it does to a client of an engine over this volume: what the client knows before it and after it. `Room::serve`
+    /// promises it of each client. A work that gives none says nothing.
+    ghost does: { Self → PVolume → Known → Known → Type 0 } = { λ _ _ _ _. ⊤ };
+
+    /// Does it by this client, which has this number and has seen nothing.
+    fn work<J: Naming, R: Wait>(&self, rt: &R, alloc: Global, number: usize, client: &mut Client<J>)
+        requires { client.old ≡ newcomer number }
+        ensures { does self.now J.opening client.old client.new };
 }
 
 /// Why there is no report.
@@ -31,7 +36,7 @@ pub trait Work {
 pub enum ServeFault {
     /// Memory was refused before any client worked. The volume is as it was.
     NotOpened(Volume),
-    /// All clients have worked, and a further owner of the tree's nodes was refused.
+    /// All clients have worked, and a further owner of the tree's nodes was refused. The volume is lost.
     NotClosed,
 }
 
@@ -39,6 +44,9 @@ impl Room {
     /// Opens an engine with so many clients, of which each does the work once, at once in as many threads as there can be. So
     /// many flushers make turns meanwhile, in threads of their own; one for which there is no thread or no memory is left out.
     /// Then the engine is closed. All threads have ended when it returns.
+    ///
+    /// Each client did the work once, from when it had seen nothing on. One legal history begins with all that the clients then
+    /// have seen, and has just their calls. The report's tree is the live one that it leaves.
     pub fn serve<W: Work + Sync, R: Threads + Wait + Sync>(
         self,
         rt: &R,
@@ -48,8 +56,8 @@ impl Room {
         work: &W,
     ) -> Result<Report, ServeFault>
         requires few { (1 ≤ clients) × (clients ≤ 64) }
-        ensures ends { IfOk result (λ r. Served self.1 clients r.calls r.tree) }
-        ensures back { IfErr result (GivesVolume self.1) }
+        ensures ends { IfOk result (λ r. Served (W.does work.now self.1) self.1 clients r.calls r.tree) }
+        ensures back { IfErr result (GivesVolume (W.does work.now self.1) self.1 clients) }
     {
         serve_in::<Brand, W, R>(rt, alloc, self, clients, flushers, work)
     }
@@ -66,8 +74,8 @@ fn serve_in<J: Naming + Send + Sync, W: Work + Sync, R: Threads + Wait + Sync>(
 ) -> Result<Report, ServeFault>
     requires names { (room.0 ≡ J.table) × (room.1 ≡ J.opening) × (clients ≡ J.clients) }
     requires few { (1 ≤ clients) × (clients ≤ 64) }
-    ensures ends { IfOk result (λ r. Served room.1 clients r.calls r.tree) }
-    ensures back { IfErr result (GivesVolume room.1) }
+    ensures ends { IfOk result (λ r. Served (W.does work.now room.1) room.1 clients r.calls r.tree) }
+    ensures back { IfErr result (GivesVolume (W.does work.now room.1) room.1 clients) }
 {
     match Engine::<J>::open(alloc, room, clients) {
         Ok((engine, clients)) => work_and_end(rt, alloc, engine, clients, flushers, work),
@@ -80,16 +88,21 @@ fn work_and_end<J: Naming + Send + Sync, W: Work + Sync, R: Threads + Wait + Syn
     rt: &R,
     alloc: Global,
     mut engine: Engine<J>,
-    mut clients: Clients<J>,
+    clients: Clients<J>,
     flushers: u8,
     work: &W,
 ) -> Result<Report, ServeFault>
-    ensures ends { IfOk result (λ r. Served J.opening engine r.calls r.tree) }
-    ensures back { IfErr result (GivesVolume J.opening) }
+    requires all { engine ≡ J.clients }
+    requires fresh { clients ≡ fresh J.clients }
+    ensures ends { IfOk result (λ r. Served (W.does work.now J.opening) J.opening J.clients r.calls r.tree) }
+    ensures back { IfErr result (GivesVolume (W.does work.now J.opening) J.opening J.clients) }
 {
     let staff = hire_all(alloc, &mut engine, flushers);
-    work_beside(rt, alloc, clients.as_mut_slice(), staff, work);
-    end(rt, engine, clients)
+    let worked = work_beside(rt, alloc, clients, staff, work);
+    match engine.close(rt, worked) {
+        Ok(report) => Ok(report),
+        Err(_) => Err(ServeFault::NotClosed),
+    }
 }
 
 /// So many flushers, without those for which there is no memory.
@@ -116,18 +129,42 @@ fn hire_into<J: Naming>(engine: &mut Engine<J>, staff: &mut Vec<Flusher<J>>)
 fn work_beside<J: Naming + Send + Sync, W: Work + Sync, R: Threads + Wait + Sync>(
     rt: &R,
     alloc: Global,
-    clients: &mut [Client<J>],
+    clients: Clients<J>,
     staff: Vec<Flusher<J>>,
     work: &W,
-) {
+) -> Clients<J>
+    requires { clients ≡ fresh J.clients }
+    ensures { Worked (W.does work.now J.opening) J.clients result }
+{
     let is_done = AtomicBool::new(false);
-    scope(scope_env(), rt, |scope| {
-        for flusher in staff {
-            start(scope, rt, alloc, flusher, &is_done);
-        }
-        work_all(rt, alloc, clients, work);
-        is_done.store(true, Ordering::SeqCst);
-    });
+    scope(
+        scope_env(),
+        rt,
+        |scope|
+            requires { clients ≡ fresh J.clients }
+        { work_in(scope, rt, alloc, clients, staff, &is_done, work) },
+    )
+}
+
+/// The flushers start, the clients work, and then the flushers are told that they are done.
+fn work_in<'s, E, J: Naming + Send + Sync + 's, W: Work + Sync, R: Threads + Wait + Sync>(
+    scope: &Scope<'s, E>,
+    rt: &'s R,
+    alloc: Global,
+    mut clients: Clients<J>,
+    staff: Vec<Flusher<J>>,
+    is_done: &'s AtomicBool,
+    work: &W,
+) -> Clients<J>
+    requires { clients ≡ fresh J.clients }
+    ensures { Worked (W.does work.now J.opening) J.clients result }
+{
+    for flusher in staff {
+        start(scope, rt, alloc, flusher, is_done);
+    }
+    work_all(rt, alloc, clients.as_mut_slice(), work);
+    is_done.store(true, Ordering::SeqCst);
+    clients
 }
 
 /// Starts a flusher in a thread of its own, if there is one.
@@ -157,7 +194,10 @@ fn work_all<J: Naming + Send + Sync, W: Work + Sync, R: Threads + Wait + Sync>(
     alloc: Global,
     clients: &mut [Client<J>],
     work: &W,
-) {
+)
+    requires { clients.old ≡ fresh J.clients }
+    ensures { Worked (W.does work.now J.opening) J.clients clients.new }
+{
     let count = clients.len().max(1);
     for_each_mut(
         rt,
@@ -165,19 +205,4 @@ fn work_all<J: Naming + Send + Sync, W: Work + Sync, R: Threads + Wait + Sync>(
         count,
         &|number, client| work.work(rt, alloc, number, client),
     );
-}
-
-/// Ends the engine with its clients.
-fn end<J: Naming, R: Wait>(
-    rt: &R,
-    engine: Engine<J>,
-    clients: Clients<J>,
-) -> Result<Report, ServeFault>
-    ensures ends { IfOk result (λ r. Served J.opening engine r.calls r.tree) }
-    ensures back { IfErr result (GivesVolume J.opening) }
-{
-    match engine.close(rt, clients) {
-        Ok(report) => Ok(report),
-        Err(_) => Err(ServeFault::NotClosed),
-    }
 }
