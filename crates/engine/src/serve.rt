@@ -203,6 +203,9 @@ fn work_all<J: Naming + Send + Sync, W: Work + Sync, R: Threads + Wait + Sync>(
         rt,
         clients,
         count,
-        &|number, client| work.work(rt, alloc, number, client),
+        &|number: usize, client: &mut Client<J>|
+            requires { client.old ≡ newcomer number }
+            ensures { W.does work.entry.now J.opening client.old client.new }
+        { work.work(rt, alloc, number, client) },
     );
 }

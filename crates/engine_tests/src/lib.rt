@@ -16,13 +16,9 @@ mod ends;
 #[cfg(test)]
 mod meeting;
 #[cfg(test)]
-mod past;
-#[cfg(test)]
 mod rows;
 #[cfg(test)]
 mod scene;
-#[cfg(test)]
-mod served;
 #[cfg(test)]
 mod typed;
 #[cfg(test)]

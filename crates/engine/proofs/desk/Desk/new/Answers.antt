@@ -1,4 +1,4 @@
-use Rattle.std.proofs.Common.{ap, subst, sym}
+use Rattle.std.proofs.Common.{ap}
 use Rattle.volume.specs.Volumes.{PVolume, live_of}
 use Rattle.engine.proofs.Histories.{holds-new, holds-same}
 use Rattle.engine.proofs.Takings.{knows-new}
