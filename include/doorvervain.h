@@ -64,7 +64,8 @@ enum {
 // What stands at a path.
 enum { DOORVERVAIN_DIRECTORY = 1, DOORVERVAIN_FILE = 2 };
 
-// ---- the symbols of the archive. They take no null pointer; call the functions below them.
+// ---- the symbols of the archive. They take no null pointer; call the functions below them. On every way out each sets its other
+// results as those functions say, whatever stood there.
 
 uint8_t doorvervain_raw_open(uint16_t fanout, uint16_t pending, uint16_t leaf, struct doorvervain *out);
 void doorvervain_raw_close(struct doorvervain fs);
@@ -164,13 +165,13 @@ static inline uint8_t doorvervain_open(struct doorvervain *fs, uint16_t fanout, 
 
 // Makes a volume of an image: text that doorvervain_image or `betr --image` wrote. An image of version 1, which tells no
 // moments, is taken too: each is 0 then. The shape is as doorvervain_open has it.
-// EINVAL: no such shape, and `line` is 0; or no image, and `line` is the first line with which it is none. ENOMEM. Where it
-// is refused, the volume is closed. What `fs` held before is not freed.
+// EINVAL: no such shape, and `line` is 0; or no image, and `line` is the first line with which it is none. ENOMEM. `line` is 0
+// with any other answer. Where it is refused, the volume is closed. What `fs` held before is not freed.
 static inline uint8_t doorvervain_load(struct doorvervain *fs, uint16_t fanout, uint16_t pending, uint16_t leaf,
     const uint8_t *text, size_t length, uint64_t *line) {
+    if (fs) fs->at = NULL;
+    if (line) *line = 0;
     if (!fs || !line || (!text && length)) return DOORVERVAIN_NULL;
-    fs->at = NULL;
-    *line = 0;
     return doorvervain_raw_load(fanout, pending, leaf, doorvervain_from(text), length, line, fs);
 }
 
@@ -270,10 +271,10 @@ static inline uint8_t doorvervain_read(struct doorvervain *fs, const uint8_t *pa
 static inline uint8_t doorvervain_stat(
     struct doorvervain *fs, const uint8_t *path, size_t length, uint8_t *kind, uint64_t *size,
     uint64_t *modified) {
+    if (kind) *kind = 0;
+    if (size) *size = 0;
+    if (modified) *modified = 0;
     if (!kind || !size || !modified) return DOORVERVAIN_NULL;
-    *kind = 0;
-    *size = 0;
-    *modified = 0;
     uint8_t lacks = doorvervain_lacks(fs, path, length);
     return lacks ? lacks : doorvervain_raw_stat(fs, doorvervain_from(path), length, kind, size, modified);
 }
@@ -347,10 +348,10 @@ static inline uint8_t doorvervain_frozen_read(struct doorvervain_frozen *tree, c
 static inline uint8_t doorvervain_frozen_stat(
     struct doorvervain_frozen *tree, const uint8_t *path, size_t length, uint8_t *kind, uint64_t *size,
     uint64_t *modified) {
+    if (kind) *kind = 0;
+    if (size) *size = 0;
+    if (modified) *modified = 0;
     if (!kind || !size || !modified) return DOORVERVAIN_NULL;
-    *kind = 0;
-    *size = 0;
-    *modified = 0;
     uint8_t lacks = doorvervain_frozen_lacks(tree, path, length);
     return lacks ? lacks : doorvervain_raw_frozen_stat(tree, doorvervain_from(path), length, kind, size, modified);
 }

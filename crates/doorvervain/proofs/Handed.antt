@@ -1,8 +1,85 @@
--- What is told of a value that was handed out.
-use Rattle.std.proofs.Common.{◌≡◌, Result, Ok, Err, Option, Some, IfOk}
-use Rattle.doorvervain.specs.Handed.{Given}
+-- What is told of a value that was handed out, and of an image that was not loaded.
+use Rattle.std.proofs.Common.{◌≡◌, ◌⊎◌, ◌↔◌, ℕ, zero, suc, false, List, Result, Ok, Err, Option, Some, IfOk, IfErr, MatchResult, refl, sym, subst, subst₂, ◌∙◌, inl, inr, arith}
+use Rattle.images.specs.declared.load.LoadFault.{LoadFault}
+use Rattle.images.specs.declared.load.LoadFault.TheVariants.{Shape as BadShape, Bad, Memory, Read}
+use Rattle.node.specs.Shapes.{is_shape}
+use Rattle.node.specs.declared.shape.Shape.{Shape}
+use Rattle.pathkey.specs.declared.errno.Errno.{Errno}
+use Rattle.pathkey.specs.declared.errno.Errno.TheVariants.{EINVAL, ENOMEM}
+use Rattle.reference.specs.ImageLines.{IsBadAt}
+use Rattle.doorvervain.specs.Handed.{FaultTold, Given, HandsOut, NotLoaded}
 
-module _ {X E : Type 0} (P : X → Type 0) where
-  pub given_of : (outcome : Result (Unit {0}) E) (given : Option X) (x : X) → IfOk outcome (λ _. given ≡ Some x) → P x → IfOk outcome (λ _. Given P given)
-  given_of (Ok u) given x e p = record { value = x; is = e; holds = p }
-  given_of (Err e) given x t p = tt
+-- ---- what a value says of a result
+
+pub when_ok : {A E : Type 0} (P : A → Type 0) (Q : E → Type 0) (r : Result A E) → MatchResult r P Q → IfOk r P
+when_ok P Q (Ok x) h = h
+when_ok P Q (Err e) h = tt
+
+pub when_err : {A E : Type 0} (P : A → Type 0) (Q : E → Type 0) (r : Result A E) → MatchResult r P Q → IfErr r Q
+when_err P Q (Ok x) h = tt
+when_err P Q (Err e) h = h
+
+-- what holds anyway
+pub anyway : {A E Q : Type 0} (r : Result A E) → Q → IfOk r (λ _. Q)
+anyway (Ok x) q = q
+anyway (Err e) q = tt
+
+-- ---- what was made, and is handed out
+
+module _ {X : Type 0} (made : Result X Errno) (outcome : Result (Unit {0}) Errno) (given : Option X) where
+  -- what is told is what was made of it
+  pub told_out : (e : Errno) → HandsOut made outcome given → made ≡ Err e → outcome ≡ Err e
+  told_out e h is = subst (λ (m : Result X Errno). HandsOut m outcome given) is h
+
+pub given_out : {X : Type 0} (P : X → Type 0) (made : Result X Errno) (outcome : Result (Unit {0}) Errno) (given : Option X)
+    → HandsOut made outcome given → IfOk made P → IfOk outcome (λ _. Given P given)
+given_out P (Ok x) (Ok u) given h p = record { value = x; is = h.done; holds = p }
+given_out P (Ok x) (Err e) given h p = tt
+given_out P (Err e) outcome given h p = subst (λ (o : Result (Unit {0}) Errno). IfOk o (λ _. Given P given)) (sym h) tt
+
+-- where it is done, something was made
+pub done_out : {X : Type 0} (Q : Type 0) (made : Result X Errno) (outcome : Result (Unit {0}) Errno) (given : Option X)
+    → HandsOut made outcome given → IfOk made (λ _. Q) → IfOk outcome (λ _. Q)
+done_out Q (Ok x) (Ok u) given h q = q
+done_out Q (Ok x) (Err e) given h q = tt
+done_out Q (Err e) outcome given h q = subst (λ (o : Result (Unit {0}) Errno). IfOk o (λ _. Q)) (sym h) tt
+
+-- a refusal is that of what was not made, or want of memory
+pub refused_out : {X : Type 0} (Q : Errno → Type 0) (made : Result X Errno) (outcome : Result (Unit {0}) Errno) (given : Option X)
+    → HandsOut made outcome given → IfErr made Q → IfOk made (λ _. Q ENOMEM) → IfErr outcome Q
+refused_out Q (Ok x) (Ok u) given h q m = tt
+refused_out Q (Ok x) (Err e) given h q m = subst Q (sym h.refused) m
+refused_out Q (Err e) outcome given h q m = subst (λ (o : Result (Unit {0}) Errno). IfErr o Q) (sym h) q
+
+-- EINVAL is told exactly where it was not made for it
+made_refused : {X : Type 0} (made : Result X Errno) (outcome : Result (Unit {0}) Errno) (given : Option X)
+    → HandsOut made outcome given → outcome ≡ Err EINVAL → made ≡ Err EINVAL
+made_refused (Ok x) (Ok u) given h is = (cc)
+made_refused (Ok x) (Err e) given h is = let memory : e ≡ ENOMEM = h.refused in (cc)
+made_refused (Err e) outcome given h is = let told : Err e ≡ Err EINVAL = sym h ∙ is in (cc)
+
+pub shape_told : {X : Type 0} (N : Type 0) (made : Result X Errno) (outcome : Result (Unit {0}) Errno) (given : Option X)
+    → HandsOut made outcome given → (made ≡ Err EINVAL) ↔ N → (outcome ≡ Err EINVAL) ↔ N
+shape_told N made outcome given h k = (λ is. k.0 (made_refused made outcome given h is), λ n. told_out made outcome given EINVAL h (k.1 n))
+
+-- ---- images that were not loaded
+
+-- no text is bad at line 0
+bad_told : (shape : Shape) (text : List ℕ) (n : ℕ) → IsBadAt n text → NotLoaded shape text EINVAL n
+bad_told shape text zero bad = absurd (bad.1 (elim bad.0 [ inl e ↦ absurd (omega arith) | inr is ↦ is ]))
+bad_told shape text (suc n) bad = bad
+
+pub not_loaded : (shape : Shape) (text : List ℕ) (fault : LoadFault) (e : Errno) (line : ℕ)
+    → ((n : ℕ) → fault ≡ Bad n → IsBadAt n text) → (fault ≡ BadShape → is_shape shape ≡ false) → FaultTold fault e line → NotLoaded shape text e line
+not_loaded shape text BadShape e line bad unfit told = subst₂ (NotLoaded shape text) (sym told.0) (sym told.1) (unfit refl)
+not_loaded shape text (Bad n) e line bad unfit told = subst₂ (NotLoaded shape text) (sym told.0) (sym told.1) (bad_told shape text n (bad n refl))
+not_loaded shape text Memory e line bad unfit told = subst₂ (NotLoaded shape text) (sym told.0) (sym told.1) tt
+not_loaded shape text Read e line bad unfit told = subst₂ (NotLoaded shape text) (sym told.0) (sym told.1) tt
+
+pub shape_not_loaded : (fault : LoadFault) (e : Errno) (line : ℕ) → fault ≡ BadShape → FaultTold fault e line → (e ≡ EINVAL) × (line ≡ 0)
+shape_not_loaded fault e line is told = subst (λ (f : LoadFault). FaultTold f e line) is told
+
+-- of a volume that was made, memory may be refused behind it
+pub memory_told : {X : Type 0} (shape : Shape) (text : List ℕ) (made : Result X Errno) (line : ℕ) → IfOk made (λ _. line ≡ 0) → IfOk made (λ _. NotLoaded shape text ENOMEM line)
+memory_told shape text (Ok x) line is = subst (NotLoaded shape text ENOMEM) (sym is) tt
+memory_told shape text (Err e) line is = tt

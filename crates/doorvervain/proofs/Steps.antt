@@ -7,7 +7,7 @@ pub use base.Logic.{SProp, ent, id⊢, never, fst∗, sep}
 pub use base.Fml.{Fml, Lft, Share, GName, ftrue, flft, fsep, fex}
 pub use mir.Syntax.{Fn, named, ty_ptr, Args, a_type, dcons, dnil}
 pub use mir.MapTy.{inst_fn}
-pub use mir.Val.{Val, vptr, vstruct, vcons, vnil, of_list, has_ty, WT, vunit}
+pub use mir.Val.{Val, vptr, vnull, vstruct, vcons, vnil, of_list, has_ty, WT, vunit}
 pub use mir.Raw.{raw as bare}
 pub use lib.Dec.{T}
 pub use prog.Wp.{WpFn}
@@ -17,7 +17,7 @@ pub use contract.Running.{tables}
 pub use types.Logic.{Logic, sem}
 pub use types.Kit.{Goal, Item, Seq, ‵, raw, ◌⊛◌, some, later, at_ret, ◌$◌, ◌∵◌, !, qed, move, keep, drop, use1, split, split3, join, pick, fsplit, fsplit3, fjoin, fpick, fpack, feq_i, feq_l, await, rewrite, suffices, frame, group, done, fjoin3}
 pub use types.Part.{whole, sub, look_in, agg, store_in}
-pub use types.Run.{enter, of_opd, addr, load, stop, fld, no_more, and_then, first, blocks, exec, returns, assigns, unit_lit}
+pub use types.Run.{enter, of_opd, lit, addr, load, stop, fld, no_more, and_then, first, blocks, exec, returns, assigns, unit_lit}
 pub use types.ByLocal.{alloc_all, pass_all, free_all, look_at, get, get_in, through, sets, sets_last, lands_last, env, lands_as}
 pub use denote.Exit.{yes, no}
 pub use denote.Laws.{shows}
@@ -35,7 +35,7 @@ pub use denote.Triple.Walked.{Stays, walk_of, says, stay_dropped, ends_at, Goes-
 pub use Rattle.std.proofs.alloc.Calls.{token, handle_tells, Goes-blank}
 pub use Rattle.std.specs.Box.Ownership.{box_owns}
 pub use denote.Struct.Struct.{within, Struct}
-pub use Rattle.std.specs.Prelude.{Some}
+pub use Rattle.std.specs.Prelude.{Some, None}
 pub use Rattle.std.specs.Global.{Global}
 pub use seplogic.Ra.Ura.{Ura}
 pub use denote.Follow.{follows, lends_Part}

@@ -1,15 +1,28 @@
 -- What the exports that hand a volume or a tree out tell.
-use Rattle.std.specs.Prelude.{◌≡◌, ℕ, false, List, Result, Err, IfErr, IfOk, Option, Some, MatchResult}
+use Rattle.std.specs.Prelude.{◌≡◌, ℕ, zero, suc, ⊤, false, List, Result, Err, IfErr, IfOk, Option, Some, MatchResult}
+use Rattle.images.specs.Loads.{Loaded, form_of, new_form}
+use Rattle.images.specs.declared.load.LoadFault.{LoadFault}
+use Rattle.images.specs.declared.load.LoadFault.TheVariants.{Shape as BadShape, Bad}
 use Rattle.volume.specs.declared.rooted.Rooted.{Rooted}
 use Rattle.node.specs.Shapes.{is_shape}
+use Rattle.node.specs.declared.shape.Shape.{Shape}
 use Rattle.pathkey.specs.declared.errno.Errno.{Errno}
-use Rattle.pathkey.specs.declared.errno.Errno.TheVariants.{ENOMEM}
+use Rattle.pathkey.specs.declared.errno.Errno.TheVariants.{EINVAL, ENOMEM}
+use Rattle.reference.specs.ImageLines.{IsBadAt}
 use Rattle.volume.specs.Volumes.{PVolume}
 use Rattle.byte_calls.specs.Snapshots.{FindsNamed}
 
--- the three numbers are no shape of trees
+-- ---- shapes
+
+-- the shape of trees that three numbers spell, in this order
+abbrev pub shape_of : ℕ → ℕ → ℕ → Shape
+shape_of fanout pending leaf = record { fanout = fanout; pending = pending; leaf = leaf }
+
+-- they are no shape of trees
 abbrev pub NoShape : ℕ → ℕ → ℕ → Type 0
-NoShape fanout pending leaf = is_shape (record { fanout = fanout; pending = pending; leaf = leaf }) ≡ false
+NoShape fanout pending leaf = is_shape (shape_of fanout pending leaf) ≡ false
+
+-- ---- what is handed out
 
 -- a value was given of which this holds
 pub record Given {X : Type 0} (P : X → Type 0) (given : Option X) : Type 0 where
@@ -22,12 +35,32 @@ pub record Hands {X : Type 0} (x : X) (outcome : Result (Unit {0}) Errno) (given
   pub done : IfOk outcome (λ _. given ≡ Some x)
   pub refused : IfErr outcome (λ e. e ≡ ENOMEM)
 
--- a tree that was found is handed out, or memory is refused; a refusal is told as it is
-abbrev pub HandsOut : Result Rooted Errno → Result (Unit {0}) Errno → Option Rooted → Type 0
-HandsOut found outcome given = MatchResult found (λ i. Hands i outcome given) (λ e. outcome ≡ Err e)
+-- what was made is handed out, or memory is refused; a refusal is told as it is
+abbrev pub HandsOut : {X : Type 0} → Result X Errno → Result (Unit {0}) Errno → Option X → Type 0
+HandsOut made outcome given = MatchResult made (λ x. Hands x outcome given) (λ e. outcome ≡ Err e)
 
 -- the tree of the snapshot of that name was looked for, and so handed out
 pub record FindsHanded (name : Result (List ℕ) Errno) (v : PVolume) (outcome : Result (Unit {0}) Errno) (given : Option Rooted) : Type 0 where
   pub found : Result Rooted Errno
   pub finds : FindsNamed name v found
   pub hands : HandsOut found outcome given
+
+-- ---- images
+
+-- the volume means the tree whose image the text is, in trees of the shape and without marks
+abbrev pub LoadedIn : Shape → List ℕ → PVolume → Type 0
+LoadedIn shape text v = Loaded text v × (form_of v ≡ new_form shape)
+
+-- the refusal and the line that tell why an image was not loaded
+abbrev pub FaultTold : LoadFault → Errno → ℕ → Type 0
+FaultTold BadShape e line = (e ≡ EINVAL) × (line ≡ 0)
+FaultTold (Bad n) e line = (e ≡ EINVAL) × (line ≡ n)
+FaultTold _ e line = (e ≡ ENOMEM) × (line ≡ 0)
+
+-- why a text was not loaded: EINVAL and line 0, no tree has the shape; EINVAL and another line, it is the first with which the text is no
+-- image; or ENOMEM and line 0
+abbrev pub NotLoaded : Shape → List ℕ → Errno → ℕ → Type 0
+NotLoaded shape text EINVAL zero = is_shape shape ≡ false
+NotLoaded shape text EINVAL (suc n) = IsBadAt (suc n) text
+NotLoaded shape text ENOMEM zero = ⊤
+NotLoaded shape text _ _ = ⊥

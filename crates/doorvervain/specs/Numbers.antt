@@ -1,5 +1,5 @@
 -- What the number that an export gives tells.
-use Rattle.std.specs.Prelude.{ℕ, zero, suc, List, [], ◌∷◌, slice_index_or, Result, Ok, Err}
+use Rattle.std.specs.Prelude.{◌≡◌, ◌≤◌, ℕ, zero, suc, List, [], ◌∷◌, slice_index_or, Result, Ok, Err}
 use Rattle.pathkey.specs.declared.errno.Errno.{Errno}
 use Rattle.pathkey.specs.declared.errno.Errno.TheVariants.{ENOENT, ENOTDIR, EISDIR, EEXIST, ENOTEMPTY, EPERM, EINVAL, ENAMETOOLONG, EFBIG, EBUSY, ENOMEM, ENOSPC}
 use Rattle.reference.specs.declared.reply.Meta.{Meta}
@@ -8,6 +8,10 @@ use Rattle.reference.specs.declared.reply.Meta.TheVariants.{Dir, File}
 -- the refusals, in the order of their numbers, which begin with 1
 abbrev pub refusals : List Errno
 refusals = ENOENT ∷ ENOTDIR ∷ EISDIR ∷ EEXIST ∷ ENOTEMPTY ∷ EPERM ∷ EINVAL ∷ ENAMETOOLONG ∷ EFBIG ∷ EBUSY ∷ ENOMEM ∷ ENOSPC ∷ []
+
+-- the number is 0 or that of a refusal
+abbrev pub IsNumber : ℕ → Type 0
+IsNumber n = n ≤ 12
 
 -- 0 tells that it was done and gave x; another number tells the refusal of that number
 abbrev pub told_by : {A : Type 0} → ℕ → A → Result A Errno
@@ -18,7 +22,19 @@ told_by (suc n) x = Err (slice_index_or refusals n ENOSPC)
 abbrev pub told : ℕ → Result (Unit {0}) Errno
 told n = told_by n tt
 
--- what the numbers of a stat tell: 1 and any length for a directory, 2 and its length for a file, and the moment
+-- ---- what stands at a path
+
+-- what a kind, a length and a moment tell: 2 for a file, and else a directory
 abbrev pub meta_told : ℕ → ℕ → ℕ → Meta
-meta_told (suc (suc n)) len at = File len at
+meta_told (suc (suc _)) len at = File len at
 meta_told _ len at = Dir at
+
+-- the same, behind the number of the call
+abbrev pub stat_told : ℕ → ℕ → ℕ → ℕ → Result Meta Errno
+stat_told n kind len at = told_by n (meta_told kind len at)
+
+-- the kind, the length and the moment that are given: kind 1 and no length for a directory, kind 2 for a file, and all 0 for a refusal
+abbrev pub Gives : Result Meta Errno → ℕ → ℕ → ℕ → Type 0
+Gives (Ok (Dir at)) kind len moment = (kind ≡ 1) × (len ≡ 0) × (moment ≡ at)
+Gives (Ok (File n at)) kind len moment = (kind ≡ 2) × (len ≡ n) × (moment ≡ at)
+Gives (Err e) kind len moment = (kind ≡ 0) × (len ≡ 0) × (moment ≡ 0)

@@ -5,7 +5,7 @@ ghost use Rattle.reference.specs.Worlds.{DropSnapshot, RestoreSnapshot, TakeSnap
 ghost use Rattle.volume.specs.Changes.{Dropped, KeptAs, Restored};
 ghost use Rattle.byte_calls.specs.Snapshots.{SettlesNamed};
 ghost use Rattle.doorvervain.specs.Changes.{AsksAt, Moves};
-ghost use Rattle.doorvervain.specs.Numbers.{told};
+ghost use Rattle.doorvervain.specs.Numbers.{IsNumber, told};
 
 use crate::handle::Handle;
 use crate::numbers::number;
@@ -15,7 +15,8 @@ use std::alloc::Global;
 /// Makes an empty directory.
 #[unsafe(no_mangle)]
 pub extern "C" fn doorvervain_raw_mkdir(alloc: Global, fs: &mut Handle, path: &[u8], at: u64) -> u8
-    ensures { AsksAt ask.Mkdir path.now at result fs.old.volume fs.new.volume }
+    ensures call { AsksAt ask.Mkdir path.now at result fs.old.volume fs.new.volume }
+    ensures number { IsNumber result }
 {
     number(byte_calls::on_path(alloc, fs.volume(), PathCall::Mkdir, path, at))
 }
@@ -23,7 +24,8 @@ pub extern "C" fn doorvervain_raw_mkdir(alloc: Global, fs: &mut Handle, path: &[
 /// Makes an empty file where nothing stands.
 #[unsafe(no_mangle)]
 pub extern "C" fn doorvervain_raw_create(alloc: Global, fs: &mut Handle, path: &[u8], at: u64) -> u8
-    ensures { AsksAt ask.Create path.now at result fs.old.volume fs.new.volume }
+    ensures call { AsksAt ask.Create path.now at result fs.old.volume fs.new.volume }
+    ensures number { IsNumber result }
 {
     number(byte_calls::on_path(alloc, fs.volume(), PathCall::Create, path, at))
 }
@@ -31,7 +33,8 @@ pub extern "C" fn doorvervain_raw_create(alloc: Global, fs: &mut Handle, path: &
 /// Takes a file out.
 #[unsafe(no_mangle)]
 pub extern "C" fn doorvervain_raw_unlink(alloc: Global, fs: &mut Handle, path: &[u8], at: u64) -> u8
-    ensures { AsksAt ask.Unlink path.now at result fs.old.volume fs.new.volume }
+    ensures call { AsksAt ask.Unlink path.now at result fs.old.volume fs.new.volume }
+    ensures number { IsNumber result }
 {
     number(byte_calls::on_path(alloc, fs.volume(), PathCall::Unlink, path, at))
 }
@@ -39,7 +42,8 @@ pub extern "C" fn doorvervain_raw_unlink(alloc: Global, fs: &mut Handle, path: &
 /// Takes an empty directory out.
 #[unsafe(no_mangle)]
 pub extern "C" fn doorvervain_raw_rmdir(alloc: Global, fs: &mut Handle, path: &[u8], at: u64) -> u8
-    ensures { AsksAt ask.Rmdir path.now at result fs.old.volume fs.new.volume }
+    ensures call { AsksAt ask.Rmdir path.now at result fs.old.volume fs.new.volume }
+    ensures number { IsNumber result }
 {
     number(byte_calls::on_path(alloc, fs.volume(), PathCall::Rmdir, path, at))
 }
@@ -47,7 +51,8 @@ pub extern "C" fn doorvervain_raw_rmdir(alloc: Global, fs: &mut Handle, path: &[
 /// Takes a file out, or a directory with all below it.
 #[unsafe(no_mangle)]
 pub extern "C" fn doorvervain_raw_rmtree(alloc: Global, fs: &mut Handle, path: &[u8], at: u64) -> u8
-    ensures { AsksAt ask.Rmtree path.now at result fs.old.volume fs.new.volume }
+    ensures call { AsksAt ask.Rmtree path.now at result fs.old.volume fs.new.volume }
+    ensures number { IsNumber result }
 {
     number(byte_calls::on_path(alloc, fs.volume(), PathCall::Rmtree, path, at))
 }
@@ -61,7 +66,8 @@ pub extern "C" fn doorvervain_raw_rename(
     new: &[u8],
     at: u64,
 ) -> u8
-    ensures { Moves old.now new.now at result fs.old.volume fs.new.volume }
+    ensures call { Moves old.now new.now at result fs.old.volume fs.new.volume }
+    ensures number { IsNumber result }
 {
     number(byte_calls::rename(alloc, fs.volume(), old, new, at))
 }
@@ -75,7 +81,8 @@ pub extern "C" fn doorvervain_raw_truncate(
     length: u64,
     at: u64,
 ) -> u8
-    ensures { AsksAt (λ p. ask.Truncate p length) path.now at result fs.old.volume fs.new.volume }
+    ensures call { AsksAt (λ p. ask.Truncate p length) path.now at result fs.old.volume fs.new.volume }
+    ensures number { IsNumber result }
 {
     number(byte_calls::truncate(alloc, fs.volume(), path, length, at))
 }
@@ -90,7 +97,8 @@ pub extern "C" fn doorvervain_raw_write(
     bytes: &[u8],
     at: u64,
 ) -> u8
-    ensures { AsksAt (λ p. ask.Write p offset bytes.now) path.now at result fs.old.volume fs.new.volume }
+    ensures call { AsksAt (λ p. ask.Write p offset bytes.now) path.now at result fs.old.volume fs.new.volume }
+    ensures number { IsNumber result }
 {
     number(byte_calls::write(alloc, fs.volume(), path, offset, bytes, at))
 }
@@ -98,7 +106,8 @@ pub extern "C" fn doorvervain_raw_write(
 /// Keeps the live tree under a name.
 #[unsafe(no_mangle)]
 pub extern "C" fn doorvervain_raw_snapshot(alloc: Global, fs: &mut Handle, name: &[u8]) -> u8
-    ensures { SettlesNamed (snap_parsed name.now) TakeSnapshot KeptAs (told result) fs.old.volume fs.new.volume }
+    ensures settles { SettlesNamed (snap_parsed name.now) TakeSnapshot KeptAs (told result) fs.old.volume fs.new.volume }
+    ensures number { IsNumber result }
 {
     number(byte_calls::snapshot(alloc, fs.volume(), name))
 }
@@ -106,7 +115,8 @@ pub extern "C" fn doorvervain_raw_snapshot(alloc: Global, fs: &mut Handle, name:
 /// Removes the snapshot of that name.
 #[unsafe(no_mangle)]
 pub extern "C" fn doorvervain_raw_drop(alloc: Global, fs: &mut Handle, name: &[u8]) -> u8
-    ensures { SettlesNamed (snap_parsed name.now) DropSnapshot Dropped (told result) fs.old.volume fs.new.volume }
+    ensures settles { SettlesNamed (snap_parsed name.now) DropSnapshot Dropped (told result) fs.old.volume fs.new.volume }
+    ensures number { IsNumber result }
 {
     number(byte_calls::drop_snapshot(alloc, fs.volume(), name))
 }
@@ -114,7 +124,8 @@ pub extern "C" fn doorvervain_raw_drop(alloc: Global, fs: &mut Handle, name: &[u
 /// The live tree becomes that of the snapshot, which stays.
 #[unsafe(no_mangle)]
 pub extern "C" fn doorvervain_raw_restore(alloc: Global, fs: &mut Handle, name: &[u8]) -> u8
-    ensures { SettlesNamed (snap_parsed name.now) RestoreSnapshot Restored (told result) fs.old.volume fs.new.volume }
+    ensures settles { SettlesNamed (snap_parsed name.now) RestoreSnapshot Restored (told result) fs.old.volume fs.new.volume }
+    ensures number { IsNumber result }
 {
     number(byte_calls::restore(alloc, fs.volume(), name))
 }

@@ -3,17 +3,18 @@ ghost use Rattle.std.specs.Prelude.{◌≡◌, Some, Option};
 ghost use Rattle.std.specs.Coded.{coded_option};
 ghost use Rattle.volume.specs.declared.rooted.Rooted.{Rooted};
 ghost use Rattle.volume.specs.contracts.frozen.Frozen.{the_row as frozen_row};
-ghost use Rattle.doorvervain.specs.Held.{given_at};
+ghost use Rattle.doorvervain.specs.Held.{IsClosed, given_at};
 
 use crate::parts::Parts;
 use std::alloc::Global;
 use std::marker::Model;
+use std::ptr::null_mut;
 use volume::Frozen;
 
 /// Room for the handle of a frozen tree. Where a tree was given, it is its handle.
 #[repr(C)]
 pub struct FrozenPlace {
-    at: *mut u8,
+    pub(crate) at: *mut u8,
     pub ghost given: { Option Rooted } by { coded_option frozen_row.coded },
 }
 
@@ -28,5 +29,12 @@ impl FrozenPlace {
     {
         let Parts { ptr, alloc: _ } = parts;
         self.at = ptr as *mut u8;
+    }
+
+    /// Leaves nothing here. What was given before is not freed.
+    pub(crate) fn close(&mut self)
+        ensures { IsClosed self.new.at self.new.given }
+    {
+        self.at = null_mut();
     }
 }

@@ -1,4 +1,4 @@
-//! Exports of the calls that only look: the volume, or the tree, is as it was.
+//! Exports of the calls that only look: the volume, or the tree, is as it was. A refusal gives 0 as each other result.
 ghost use Rattle.std.specs.Prelude.{◌≡◌, IfErr};
 ghost use Rattle.byte_calls.specs.Images.{Prints};
 ghost use Rattle.byte_calls.specs.Looks.{Fills};
@@ -6,7 +6,7 @@ ghost use Rattle.reference.specs.Image.{Second, image};
 ghost use Rattle.reference.specs.Tree.{Tree};
 ghost use Rattle.volume.specs.Volumes.{MeanRooted};
 ghost use Rattle.doorvervain.specs.Looks.{ListsAt, ReadsAt, StatsAt};
-ghost use Rattle.doorvervain.specs.Numbers.{meta_told, told_by};
+ghost use Rattle.doorvervain.specs.Numbers.{Gives, IsNumber, stat_told, told_by};
 
 use crate::frozen::FrozenHandle;
 use crate::handle::Handle;
@@ -25,6 +25,8 @@ pub extern "C" fn doorvervain_raw_read(
 ) -> u8
     ensures reply { ReadsAt path.now offset fs.old.volume.live (told_by result got.new) out.old out.new }
     ensures buffer { Fills (told_by result got.new) out.old out.new }
+    ensures number { IsNumber result }
+    ensures refused { IfErr (told_by result got.new) (λ _. got.new ≡ 0) }
     ensures kept { fs.new.volume ≡ fs.old.volume }
 {
     count(byte_calls::read(alloc, fs.volume(), path, offset, out), got)
@@ -41,7 +43,9 @@ pub extern "C" fn doorvervain_raw_stat(
     length_of: &mut u64,
     moment_of: &mut u64,
 ) -> u8
-    ensures reply { StatsAt path.now fs.old.volume.live (told_by result (meta_told kind_of.new length_of.new moment_of.new)) }
+    ensures reply { StatsAt path.now fs.old.volume.live (stat_told result kind_of.new length_of.new moment_of.new) }
+    ensures number { IsNumber result }
+    ensures gives { Gives (stat_told result kind_of.new length_of.new moment_of.new) kind_of.new length_of.new moment_of.new }
     ensures kept { fs.new.volume ≡ fs.old.volume }
 {
     kind(
@@ -63,7 +67,9 @@ pub extern "C" fn doorvervain_raw_readdir(
     size: &mut usize,
 ) -> u8
     ensures reply { ListsAt path.now fs.old.volume.live (told_by result size.new) out.old out.new }
-    ensures refused { IfErr (told_by result size.new) (λ _. out.new ≡ out.old) }
+    ensures number { IsNumber result }
+    ensures refused { IfErr (told_by result size.new) (λ _. size.new ≡ 0) }
+    ensures untouched { IfErr (told_by result size.new) (λ _. out.new ≡ out.old) }
     ensures kept { fs.new.volume ≡ fs.old.volume }
 {
     count(byte_calls::readdir(alloc, fs.volume(), path, out), size)
@@ -81,6 +87,8 @@ pub extern "C" fn doorvervain_raw_frozen_read(
 ) -> u8
     ensures reply { ReadsAt path.now offset tree.old.tree (told_by result got.new) out.old out.new }
     ensures buffer { Fills (told_by result got.new) out.old out.new }
+    ensures number { IsNumber result }
+    ensures refused { IfErr (told_by result got.new) (λ _. got.new ≡ 0) }
     ensures kept { tree.new.tree ≡ tree.old.tree }
 {
     count(
@@ -100,7 +108,9 @@ pub extern "C" fn doorvervain_raw_frozen_stat(
     length_of: &mut u64,
     moment_of: &mut u64,
 ) -> u8
-    ensures reply { StatsAt path.now tree.old.tree (told_by result (meta_told kind_of.new length_of.new moment_of.new)) }
+    ensures reply { StatsAt path.now tree.old.tree (stat_told result kind_of.new length_of.new moment_of.new) }
+    ensures number { IsNumber result }
+    ensures gives { Gives (stat_told result kind_of.new length_of.new moment_of.new) kind_of.new length_of.new moment_of.new }
     ensures kept { tree.new.tree ≡ tree.old.tree }
 {
     kind(
@@ -122,7 +132,9 @@ pub extern "C" fn doorvervain_raw_frozen_readdir(
     size: &mut usize,
 ) -> u8
     ensures reply { ListsAt path.now tree.old.tree (told_by result size.new) out.old out.new }
-    ensures refused { IfErr (told_by result size.new) (λ _. out.new ≡ out.old) }
+    ensures number { IsNumber result }
+    ensures refused { IfErr (told_by result size.new) (λ _. size.new ≡ 0) }
+    ensures untouched { IfErr (told_by result size.new) (λ _. out.new ≡ out.old) }
     ensures kept { tree.new.tree ≡ tree.old.tree }
 {
     count(
@@ -141,6 +153,8 @@ pub extern "C" fn doorvervain_raw_image(
     size: &mut usize,
 ) -> u8
     ensures image { (t : Tree) → MeanRooted tree.old.tree t → Prints (image Second t) (told_by result size.new) out.old out.new }
+    ensures number { IsNumber result }
+    ensures refused { IfErr (told_by result size.new) (λ _. size.new ≡ 0) }
     ensures kept { tree.new.tree ≡ tree.old.tree }
 {
     count(byte_calls::print(alloc, tree.tree(), out), size)

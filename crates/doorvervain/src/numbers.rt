@@ -1,6 +1,6 @@
 //! Outcomes as numbers that C takes.
-ghost use Rattle.std.specs.Prelude.{◌≡◌};
-ghost use Rattle.doorvervain.specs.Numbers.{meta_told, told, told_by};
+ghost use Rattle.std.specs.Prelude.{◌≡◌, IfErr};
+ghost use Rattle.doorvervain.specs.Numbers.{Gives, IsNumber, stat_told, told, told_by};
 
 use pathkey::Errno;
 use reference::Meta;
@@ -14,9 +14,13 @@ const DIRECTORY: u8 = 1;
 /// What C takes for a file.
 const FILE: u8 = 2;
 
+/// The kind where nothing is told.
+const NEITHER: u8 = 0;
+
 /// The number of an outcome: 0, or that of the refusal.
 pub(crate) fn number(outcome: Result<(), Errno>) -> u8
-    ensures { told result ≡ outcome }
+    ensures told { told result ≡ outcome }
+    ensures number { IsNumber result }
 {
     match outcome {
         Ok(()) => DONE,
@@ -24,27 +28,34 @@ pub(crate) fn number(outcome: Result<(), Errno>) -> u8
     }
 }
 
-/// The number of an outcome, and how many bytes it counts, which stay as they were where it is refused.
+/// The number of an outcome, and how many bytes it counts, which are none where it is refused.
 pub(crate) fn count(outcome: Result<usize, Errno>, got: &mut usize) -> u8
-    ensures { told_by result got.new ≡ outcome }
+    ensures told { told_by result got.new ≡ outcome }
+    ensures number { IsNumber result }
+    ensures refused { IfErr outcome (λ _. got.new ≡ 0) }
 {
     match outcome {
         Ok(n) => {
             *got = n;
             DONE
         }
-        Err(fault) => fault.number(),
+        Err(fault) => {
+            *got = 0;
+            fault.number()
+        }
     }
 }
 
-/// The number of an outcome, what stands there, its length and its moment, which stay as they were where it is refused.
+/// The number of an outcome, and what stands there, its length and its moment, which are all 0 where it is refused.
 pub(crate) fn kind(
     outcome: Result<Meta, Errno>,
     kind: &mut u8,
     length: &mut u64,
     moment: &mut u64,
 ) -> u8
-    ensures { told_by result (meta_told kind.new length.new moment.new) ≡ outcome }
+    ensures told { stat_told result kind.new length.new moment.new ≡ outcome }
+    ensures number { IsNumber result }
+    ensures gives { Gives outcome kind.new length.new moment.new }
 {
     match outcome {
         Ok(Meta::Dir { modified }) => {
@@ -59,6 +70,11 @@ pub(crate) fn kind(
             *moment = modified;
             DONE
         }
-        Err(fault) => fault.number(),
+        Err(fault) => {
+            *kind = NEITHER;
+            *length = 0;
+            *moment = 0;
+            fault.number()
+        }
     }
 }

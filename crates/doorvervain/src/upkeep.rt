@@ -4,11 +4,11 @@ ghost use Rattle.pathkey.specs.declared.errno.Errno.TheVariants.{EINVAL, ENOMEM}
 ghost use Rattle.std.specs.Prelude.{◌≡◌, ◌≤◌, ◌<◌, ◌↔◌, ◌⊎◌, false, Err, IfErr, IfOk, Some};
 ghost use Rattle.node.specs.Shapes.{is_shape};
 ghost use Rattle.reference.specs.Worlds.{World};
-ghost use Rattle.images.specs.Loads.{Loaded};
 ghost use Rattle.volume.specs.Volumes.{IsNew, Means};
 ghost use Rattle.byte_calls.specs.Upkeep.{IsIdle, Relieves};
-ghost use Rattle.doorvervain.specs.Handed.{FindsHanded, Given, Hands, HandsOut, NoShape};
-ghost use Rattle.doorvervain.specs.Numbers.{told};
+ghost use Rattle.doorvervain.specs.Handed.{FaultTold, FindsHanded, Given, HandsOut, LoadedIn, NoShape, NotLoaded, shape_of};
+ghost use Rattle.doorvervain.specs.Held.{IsClosed};
+ghost use Rattle.doorvervain.specs.Numbers.{IsNumber, told};
 
 use crate::frozen::FrozenHandle;
 use crate::frozen_place::FrozenPlace;
@@ -23,7 +23,7 @@ use std::alloc::Global;
 use volume::{Frozen, Volume};
 
 /// Makes a volume of the empty root directory in trees of this shape, and puts its handle at `out`:
-/// 0, or EINVAL where the shape is not ok, or ENOMEM.
+/// 0, or EINVAL where the shape is not ok, or ENOMEM. Where it is refused, `out` is closed.
 #[unsafe(no_mangle)]
 pub extern "C" fn doorvervain_raw_open(
     alloc: Global,
@@ -32,9 +32,11 @@ pub extern "C" fn doorvervain_raw_open(
     leaf: u16,
     out: &mut Place,
 ) -> u8
-    ensures new { IfOk (told result) (λ _. Given (IsNew (record { fanout = fanout; pending = pending; leaf = leaf })) out.new.given) }
+    ensures new { IfOk (told result) (λ _. Given (IsNew (shape_of fanout pending leaf)) out.new.given) }
     ensures shape { (told result ≡ Err EINVAL) ↔ NoShape fanout pending leaf }
     ensures refused { IfErr (told result) (λ e. (e ≡ EINVAL) ⊎ (e ≡ ENOMEM)) }
+    ensures closed { IfErr (told result) (λ _. IsClosed out.new.at out.new.given) }
+    ensures number { IsNumber result }
 {
     let shape = Shape {
         fanout,
@@ -45,8 +47,8 @@ pub extern "C" fn doorvervain_raw_open(
 }
 
 /// Makes a volume with the tree whose image the text is, without snapshots, in trees of this shape, and puts its handle at
-/// `out`: 0, or EINVAL, or ENOMEM. The number of the first line with which the text is no image goes to `line`; 0 where
-/// it is the shape that is not ok.
+/// `out`: 0, or EINVAL, or ENOMEM. Where it is refused, `out` is closed. With EINVAL the number of the first line with which the
+/// text is no image goes to `line`, and 0 where no tree has the shape. Else `line` is 0.
 #[unsafe(no_mangle)]
 pub extern "C" fn doorvervain_raw_load(
     alloc: Global,
@@ -57,8 +59,12 @@ pub extern "C" fn doorvervain_raw_load(
     line: &mut u64,
     out: &mut Place,
 ) -> u8
-    ensures loaded { IfOk (told result) (λ _. Given (Loaded text.now) out.new.given) }
-    ensures refused { IfErr (told result) (λ e. (e ≡ EINVAL) ⊎ (e ≡ ENOMEM)) }
+    ensures loaded { IfOk (told result) (λ _. Given (LoadedIn (shape_of fanout pending leaf) text.now) out.new.given) }
+    ensures line { IfOk (told result) (λ _. line.new ≡ 0) }
+    ensures shape { NoShape fanout pending leaf → (told result ≡ Err EINVAL) × (line.new ≡ 0) }
+    ensures refused { IfErr (told result) (λ e. NotLoaded (shape_of fanout pending leaf) text.now e line.new) }
+    ensures closed { IfErr (told result) (λ _. IsClosed out.new.at out.new.given) }
+    ensures number { IsNumber result }
 {
     let shape = Shape {
         fanout,
@@ -74,7 +80,7 @@ pub extern "C" fn doorvervain_raw_close(alloc: Global, fs: Handle) {
     let _volume = fs.into_box(alloc);
 }
 
-/// Freezes the live tree as it stands, and puts its handle at `out`: 0, or ENOMEM.
+/// Freezes the live tree as it stands, and puts its handle at `out`: 0, or ENOMEM, and then `out` is closed.
 #[unsafe(no_mangle)]
 pub extern "C" fn doorvervain_raw_freeze(
     alloc: Global,
@@ -83,12 +89,14 @@ pub extern "C" fn doorvervain_raw_freeze(
 ) -> u8
     ensures given { IfOk (told result) (λ _. out.new.given ≡ Some fs.old.volume.live) }
     ensures refused { IfErr (told result) (λ e. e ≡ ENOMEM) }
+    ensures closed { IfErr (told result) (λ _. IsClosed out.new.at out.new.given) }
+    ensures number { IsNumber result }
     ensures kept { fs.new.volume ≡ fs.old.volume }
 {
     number(hand_out_tree(alloc, byte_calls::freeze(fs.volume()), out))
 }
 
-/// The tree of a snapshot, whose handle is put at `out`: 0, or why there is none.
+/// The tree of a snapshot, whose handle is put at `out`: 0, or why there is none, and then `out` is closed.
 #[unsafe(no_mangle)]
 pub extern "C" fn doorvervain_raw_frozen(
     alloc: Global,
@@ -97,6 +105,8 @@ pub extern "C" fn doorvervain_raw_frozen(
     out: &mut FrozenPlace,
 ) -> u8
     ensures named { FindsHanded (snap_parsed name.now) fs.old.volume (told result) out.new.given }
+    ensures closed { IfErr (told result) (λ _. IsClosed out.new.at out.new.given) }
+    ensures number { IsNumber result }
     ensures kept { fs.new.volume ≡ fs.old.volume }
 {
     number(hand_out_tree(alloc, byte_calls::frozen(alloc, fs.volume(), name), out))
@@ -124,9 +134,10 @@ fn open(alloc: Global, shape: Shape, out: &mut Place) -> Result<(), Errno>
     ensures new { IfOk result (λ _. Given (IsNew shape) out.new.given) }
     ensures shape { (result ≡ Err EINVAL) ↔ (is_shape shape ≡ false) }
     ensures refused { IfErr result (λ e. (e ≡ EINVAL) ⊎ (e ≡ ENOMEM)) }
+    ensures closed { IfErr result (λ _. IsClosed out.new.at out.new.given) }
 {
-    let volume = Volume::new(alloc, shape)?;
-    hand_out(alloc, volume, out)
+    let made = Volume::new(alloc, shape);
+    hand_out(alloc, made, out)
 }
 
 // Loads an image, and puts the handle of its volume at `out`.
@@ -137,25 +148,42 @@ fn load(
     line: &mut u64,
     out: &mut Place,
 ) -> Result<(), Errno>
-    ensures loaded { IfOk result (λ _. Given (Loaded text.now) out.new.given) }
-    ensures refused { IfErr result (λ e. (e ≡ EINVAL) ⊎ (e ≡ ENOMEM)) }
+    ensures loaded { IfOk result (λ _. Given (LoadedIn shape text.now) out.new.given) }
+    ensures line { IfOk result (λ _. line.new ≡ 0) }
+    ensures shape { is_shape shape ≡ false → (result ≡ Err EINVAL) × (line.new ≡ 0) }
+    ensures refused { IfErr result (λ e. NotLoaded shape text.now e line.new) }
+    ensures closed { IfErr result (λ _. IsClosed out.new.at out.new.given) }
+{
+    let made = volume_of(alloc, shape, text, line);
+    hand_out(alloc, made, out)
+}
+
+// The volume of an image, and 0 as the line; else why there is none, and the line that tells it.
+fn volume_of(alloc: Global, shape: Shape, text: &[u8], line: &mut u64) -> Result<Volume, Errno>
+    ensures loaded { IfOk result (λ v. LoadedIn shape text.now v) }
+    ensures line { IfOk result (λ _. line.new ≡ 0) }
+    ensures shape { is_shape shape ≡ false → (result ≡ Err EINVAL) × (line.new ≡ 0) }
+    ensures refused { IfErr result (λ e. NotLoaded shape text.now e line.new) }
 {
     match byte_calls::load(alloc, shape, text) {
-        Ok(volume) => hand_out(alloc, volume, out),
+        Ok(volume) => {
+            *line = 0;
+            Ok(volume)
+        }
         Err(fault) => Err(load_fault(fault, line)),
     }
 }
 
-// Why an image was not loaded, and the number of the line with which it is none.
+// Why an image was not loaded, and the number of the line with which it is none, or 0. `Read` has no number of its own: no text
+// in memory should come to it.
 fn load_fault(fault: LoadFault, line: &mut u64) -> Errno
-    ensures { (result ≡ EINVAL) ⊎ (result ≡ ENOMEM) }
+    ensures { FaultTold fault result line.new }
 {
+    *line = 0;
     match fault {
         LoadFault::Memory => Errno::ENOMEM,
-        LoadFault::Shape | LoadFault::Read => {
-            *line = 0;
-            Errno::EINVAL
-        }
+        LoadFault::Read => Errno::ENOMEM,
+        LoadFault::Shape => Errno::EINVAL,
         LoadFault::Bad(number) => {
             *line = number;
             Errno::EINVAL
@@ -163,25 +191,29 @@ fn load_fault(fault: LoadFault, line: &mut u64) -> Errno
     }
 }
 
-// Puts a volume on the heap, and its handle at `out`.
-fn hand_out(alloc: Global, volume: Volume, out: &mut Place) -> Result<(), Errno>
-    ensures { Hands volume result out.new.given }
+// Puts a volume that was made on the heap, and its handle at `out`. Where there is none, `out` is closed.
+fn hand_out(alloc: Global, made: Result<Volume, Errno>, out: &mut Place) -> Result<(), Errno>
+    ensures handed { HandsOut made result out.new.given }
+    ensures closed { IfErr result (λ _. IsClosed out.new.at out.new.given) }
 {
-    let Ok(whole) = Box::new(alloc, volume) else {
+    out.close();
+    let Ok(whole) = Box::new(alloc, made?) else {
         return Err(Errno::ENOMEM);
     };
     out.fill(Parts::of(whole));
     Ok(())
 }
 
-// Puts a tree that was found on the heap, and its handle at `out`.
+// Puts a tree that was found on the heap, and its handle at `out`. Where there is none, `out` is closed.
 fn hand_out_tree(
     alloc: Global,
     tree: Result<Frozen, Errno>,
     out: &mut FrozenPlace,
 ) -> Result<(), Errno>
-    ensures { HandsOut tree result out.new.given }
+    ensures handed { HandsOut tree result out.new.given }
+    ensures closed { IfErr result (λ _. IsClosed out.new.at out.new.given) }
 {
+    out.close();
     let Ok(whole) = Box::new(alloc, tree?) else {
         return Err(Errno::ENOMEM);
     };

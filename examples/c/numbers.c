@@ -1,0 +1,237 @@
+// Reads each number of the header against the archive, and what a refused call leaves in its other results. It prints what
+// it finds; examples/run compares that with numbers.expected, and the numbers there with those of the header.
+//
+// It calls the symbols of the archive where it can: the functions of the header set most results before they call. It is
+// linked with --wrap=malloc and --wrap=realloc, so that it can refuse memory.
+#include "doorvervain.h"
+#include <stdbool.h>
+#include <stdio.h>
+#include <string.h>
+
+enum { ROOM = 64, SNAPSHOTS = 64, LONGEST_NAME = 255, OLD = 99 };
+
+// The greatest length of a file.
+static const uint64_t GREATEST = (uint64_t)1 << 40;
+
+// Whether each request for memory is refused.
+static bool refused;
+
+void *__real_malloc(size_t size);
+void *__real_realloc(void *old, size_t size);
+
+void *__wrap_malloc(size_t size) { return refused ? NULL : __real_malloc(size); }
+
+void *__wrap_realloc(void *old, size_t size) { return refused ? NULL : __real_realloc(old, size); }
+
+// Gives memory again, and hands the answer on.
+static uint8_t without_memory(uint8_t answer) {
+    refused = false;
+    return answer;
+}
+
+static const uint8_t *bytes_of(const char *text) { return (const uint8_t *)text; }
+
+static uint8_t make_directory(struct doorvervain *fs, const char *path) {
+    return doorvervain_raw_mkdir(fs, bytes_of(path), strlen(path), 3);
+}
+
+static uint8_t make_file(struct doorvervain *fs, const char *path) {
+    return doorvervain_raw_create(fs, bytes_of(path), strlen(path), 5);
+}
+
+static uint8_t remove_directory(struct doorvervain *fs, const char *path) {
+    return doorvervain_raw_rmdir(fs, bytes_of(path), strlen(path), 7);
+}
+
+static uint8_t cut(struct doorvervain *fs, const char *path, uint64_t size) {
+    return doorvervain_raw_truncate(fs, bytes_of(path), strlen(path), size, 9);
+}
+
+// What stands at a path, as DOORVERVAIN_DIRECTORY or DOORVERVAIN_FILE.
+static uint8_t kind_of(struct doorvervain *fs, const char *path) {
+    uint8_t kind = OLD;
+    uint64_t size, modified;
+    (void)doorvervain_raw_stat(fs, bytes_of(path), strlen(path), &kind, &size, &modified);
+    return kind;
+}
+
+// A name of one byte too many, as a path.
+static const char *too_long(void) {
+    static char path[LONGEST_NAME + 3] = "/";
+    memset(path + 1, 'n', LONGEST_NAME + 1);
+    return path;
+}
+
+// Takes snapshots until all names are taken, and says how many: what one more is answered.
+static uint8_t one_snapshot_more(struct doorvervain *fs) {
+    char name[8];
+    int taken = 0;
+    uint8_t number = DOORVERVAIN_DONE;
+    while (!number && taken <= SNAPSHOTS) {
+        size_t length = (size_t)snprintf(name, sizeof name, "s%d", taken);
+        number = doorvervain_raw_snapshot(fs, bytes_of(name), length);
+        taken += !number;
+    }
+    printf("snapshots: %d\n", taken);
+    return number;
+}
+
+// ---- the numbers of the header
+
+// Says a number of the header, and whether it is the one that the archive answers.
+static void read_number(const char *name, uint8_t header, uint8_t answer) {
+    printf("DOORVERVAIN_%s = %d", name, header);
+    if (answer != header) printf(", and %d was answered", answer);
+    printf("\n");
+}
+
+// The same of a number that tells an outcome, and whether the system's number is the one of that name.
+static void read_outcome(const char *name, uint8_t header, int system, uint8_t answer) {
+    if (doorvervain_errno(header) != system) printf("not the system's: ");
+    read_number(name, header, answer);
+}
+
+#define READ_REFUSAL(name, answer) read_outcome(#name, DOORVERVAIN_##name, name, answer)
+
+static void read_numbers(struct doorvervain *fs) {
+    struct doorvervain closed = {0};
+    read_outcome("DONE", DOORVERVAIN_DONE, 0, make_directory(fs, "/d") + make_file(fs, "/d/f"));
+    READ_REFUSAL(ENOENT, make_directory(fs, "/none/d"));
+    READ_REFUSAL(ENOTDIR, make_directory(fs, "/d/f/d"));
+    READ_REFUSAL(EISDIR, cut(fs, "/d", 0));
+    READ_REFUSAL(EEXIST, make_directory(fs, "/d"));
+    READ_REFUSAL(ENOTEMPTY, remove_directory(fs, "/d"));
+    READ_REFUSAL(EPERM, doorvervain_raw_unlink(fs, bytes_of("/d"), 2, 0));
+    READ_REFUSAL(EINVAL, make_directory(fs, "d"));
+    READ_REFUSAL(ENAMETOOLONG, make_directory(fs, too_long()));
+    READ_REFUSAL(EFBIG, cut(fs, "/d/f", GREATEST + 1));
+    READ_REFUSAL(EBUSY, remove_directory(fs, "/"));
+    refused = true;
+    READ_REFUSAL(ENOMEM, without_memory(make_directory(fs, "/e")));
+    READ_REFUSAL(ENOSPC, one_snapshot_more(fs));
+    read_outcome("NULL", DOORVERVAIN_NULL, EFAULT, doorvervain_mkdir(fs, NULL, 3, 0));
+    read_outcome("CLOSED", DOORVERVAIN_CLOSED, EBADF, doorvervain_mkdir(&closed, bytes_of("/e"), 2, 0));
+    read_number("DIRECTORY", DOORVERVAIN_DIRECTORY, kind_of(fs, "/d"));
+    read_number("FILE", DOORVERVAIN_FILE, kind_of(fs, "/d/f"));
+}
+
+// ---- what calls that look leave in their results
+
+static void say_stat(const char *what, struct doorvervain *fs, struct doorvervain_frozen *tree, const char *path) {
+    uint8_t kind = OLD;
+    uint64_t size = OLD, modified = OLD;
+    size_t length = strlen(path);
+    uint8_t number = tree ? doorvervain_raw_frozen_stat(tree, bytes_of(path), length, &kind, &size, &modified)
+                          : doorvervain_raw_stat(fs, bytes_of(path), length, &kind, &size, &modified);
+    printf("%s: %d, kind %d, %llu bytes, moment %llu\n", what, number, kind, (unsigned long long)size,
+        (unsigned long long)modified);
+}
+
+static void say_count(const char *what, uint8_t number, size_t count) { printf("%s: %d, %zu bytes\n", what, number, count); }
+
+static void look(struct doorvervain *fs, struct doorvervain_frozen *tree) {
+    uint8_t buffer[ROOM];
+    size_t count = OLD;
+    say_stat("stat of a directory", fs, NULL, "/d");
+    say_stat("stat of a file", fs, NULL, "/d/f");
+    say_stat("stat of nothing", fs, NULL, "/none");
+    say_stat("frozen stat of a directory", fs, tree, "/d");
+    say_stat("frozen stat of nothing", fs, tree, "/none");
+    uint8_t number = doorvervain_raw_read(fs, bytes_of("/d"), 2, 0, buffer, ROOM, &count);
+    say_count("read of a directory", number, count);
+    count = OLD;
+    number = doorvervain_raw_frozen_read(tree, bytes_of("/d"), 2, 0, buffer, ROOM, &count);
+    say_count("frozen read of a directory", number, count);
+    count = OLD;
+    number = doorvervain_raw_readdir(fs, bytes_of("/d/f"), 4, buffer, ROOM, &count);
+    say_count("readdir of a file", number, count);
+    count = OLD;
+    number = doorvervain_raw_frozen_readdir(tree, bytes_of("/d/f"), 4, buffer, ROOM, &count);
+    say_count("frozen readdir of a file", number, count);
+    count = OLD;
+    refused = true;
+    number = without_memory(doorvervain_raw_image(tree, buffer, ROOM, &count));
+    say_count("image without memory", number, count);
+}
+
+// ---- what calls that make a volume or a tree leave in their places
+
+static const char *state_of(const void *at) { return at ? "open" : "closed"; }
+
+static void say_open(const char *what, uint16_t fanout, uint16_t pending, uint16_t leaf, bool no_memory) {
+    struct doorvervain fs = {&fs};
+    refused = no_memory;
+    uint8_t number = without_memory(doorvervain_raw_open(fanout, pending, leaf, &fs));
+    printf("%s: %d, %s\n", what, number, state_of(fs.at));
+    if (!number) doorvervain_close(&fs);
+}
+
+static void say_load(const char *what, const char *text, uint16_t fanout, uint16_t pending, uint16_t leaf, bool no_memory) {
+    struct doorvervain fs = {&fs};
+    uint64_t line = OLD;
+    refused = no_memory;
+    uint8_t number = without_memory(doorvervain_raw_load(fanout, pending, leaf, bytes_of(text), strlen(text), &line, &fs));
+    printf("%s: %d at line %llu, %s\n", what, number, (unsigned long long)line, state_of(fs.at));
+    if (!number) doorvervain_close(&fs);
+}
+
+static void make(void) {
+    static const char image[] = "D / 5\nD /a 9\nF /a/f 3 7\nb 0 616263\n";
+    say_open("open of the least shape", 4, 4, 4, false);
+    say_open("open of the greatest shape", 64, 1024, 1024, false);
+    say_open("open of too few children", 3, 256, 64, false);
+    say_open("open of too few messages", 16, 15, 64, false);
+    say_open("open of too few entries", 16, 256, 3, false);
+    say_open("open without memory", 16, 256, 64, true);
+    say_load("load", image, 16, 256, 64, false);
+    say_load("load of too few children", image, 3, 256, 64, false);
+    say_load("load of too few messages", image, 16, 15, 64, false);
+    say_load("load of too few entries", image, 16, 256, 3, false);
+    say_load("load of a bad shape without memory", image, 3, 256, 64, true);
+    say_load("load of no image", "", 16, 256, 64, false);
+    say_load("load of a bad third line", "D / 5\nD /a 9\nd /b\n", 16, 256, 64, false);
+    say_load("load without memory", image, 16, 256, 64, true);
+}
+
+static void freeze(struct doorvervain *fs) {
+    struct doorvervain_frozen tree = {&tree};
+    uint8_t number = doorvervain_raw_frozen(fs, bytes_of("none"), 4, &tree);
+    printf("frozen of no snapshot: %d, %s\n", number, state_of(tree.at));
+    tree.at = &tree;
+    refused = true;
+    number = without_memory(doorvervain_raw_freeze(fs, &tree));
+    printf("freeze without memory: %d, %s\n", number, state_of(tree.at));
+    number = doorvervain_raw_frozen(fs, bytes_of("s0"), 2, &tree);
+    printf("frozen of a snapshot: %d, %s\n", number, state_of(tree.at));
+    doorvervain_thaw(&tree);
+}
+
+// ---- what the functions of the header leave in their results where another one is null
+
+static void leave_out(struct doorvervain *fs) {
+    struct doorvervain loaded = {&loaded};
+    uint8_t kind = OLD;
+    uint64_t size = OLD, line = OLD;
+    uint8_t number = doorvervain_stat(fs, bytes_of("/d"), 2, &kind, &size, NULL);
+    printf("stat without a moment: %d, kind %d, %llu bytes\n", number, kind, (unsigned long long)size);
+    number = doorvervain_load(&loaded, 16, 256, 64, NULL, 9, &line);
+    printf("load of a null text: %d at line %llu, %s\n", number, (unsigned long long)line, state_of(loaded.at));
+    loaded.at = &loaded;
+    number = doorvervain_load(&loaded, 16, 256, 64, bytes_of("D / 5\n"), 6, NULL);
+    printf("load without a line: %d, %s\n", number, state_of(loaded.at));
+}
+
+int main(void) {
+    struct doorvervain fs = {0};
+    struct doorvervain_frozen tree = {0};
+    if (doorvervain_open(&fs, 16, 256, 64)) return 1;
+    read_numbers(&fs);
+    if (doorvervain_freeze(&fs, &tree)) return 1;
+    look(&fs, &tree);
+    make();
+    freeze(&fs);
+    leave_out(&fs);
+    doorvervain_thaw(&tree);
+    doorvervain_close(&fs);
+    return 0;
+}
