@@ -284,20 +284,38 @@ static void on_fsync(fuse_req_t req, fuse_ino_t number, int data_only, struct fu
     fuse_reply_err(req, 0);
 }
 
-// The names of an open directory, as they were when it was read from its beginning.
-static struct bytes *listing_of(struct fuse_file_info *info) { return (struct bytes *)(uintptr_t)info->fh; }
+// The names of an open directory, as they were when it was read from its beginning. All of them stand in a row, since a
+// mount may end before they are closed.
+struct listing {
+    struct bytes names;
+    struct listing *before, *after;
+};
+
+static struct listing listings = {.before = &listings, .after = &listings};
+
+static struct listing *listing_of(struct fuse_file_info *info) { return (struct listing *)(uintptr_t)info->fh; }
 
 static void on_opendir(fuse_req_t req, fuse_ino_t number, struct fuse_file_info *info) {
     (void)number;
-    info->fh = (uint64_t)(uintptr_t)calloc(1, sizeof(struct bytes));
-    if (info->fh) fuse_reply_open(req, info);
-    else fuse_reply_err(req, ENOMEM);
+    struct listing *listing = calloc(1, sizeof *listing);
+    if (!listing) {
+        fuse_reply_err(req, ENOMEM);
+        return;
+    }
+    listing->before = &listings;
+    listing->after = listings.after;
+    listings.after = listing->after->before = listing;
+    info->fh = (uint64_t)(uintptr_t)listing;
+    fuse_reply_open(req, info);
 }
 
 static void on_releasedir(fuse_req_t req, fuse_ino_t number, struct fuse_file_info *info) {
     (void)number;
-    bytes_free(listing_of(info));
-    free(listing_of(info));
+    struct listing *listing = listing_of(info);
+    listing->before->after = listing->after;
+    listing->after->before = listing->before;
+    bytes_free(&listing->names);
+    free(listing);
     fuse_reply_err(req, 0);
 }
 
@@ -387,7 +405,7 @@ static void answer_page(fuse_req_t req, fuse_ino_t number, size_t size, off_t at
     struct page page = {req, entry_of(req, number), more, malloc(size), size, 0};
     int fault = begin(req);
     if (!page.out) fault = ENOMEM;
-    if (!fault) fault = fill_page(&page, listing_of(info), at);
+    if (!fault) fault = fill_page(&page, &listing_of(info)->names, at);
     pthread_mutex_unlock(&lock);
     if (fault) fuse_reply_err(req, fault);
     else fuse_reply_buf(req, page.out, page.length);
