@@ -100,6 +100,30 @@ def the_old_image_stands_until_the_new_one_is_whole(folder: Path):
 
 
 @case
+def what_a_mount_left_is_not_cut(folder: Path):
+    part = folder / "image.part"
+    part.write_text("D / 5\n")
+    mount = Mount(folder, "--image", folder / "image")
+    assert not mount.stands and str(part) in mount.said() and part.read_text() == "D / 5\n"
+    part.write_text("")
+    assert Mount(folder, "--image", folder / "image").end() == 0
+    assert is_whole(folder / "image")
+
+
+@case
+def a_program_that_dies_leaves_the_old_image(folder: Path):
+    file = keep_tree(folder)
+    before = file.read_bytes()
+    mount = Mount(folder, "--image", file)
+    task = Path(f"/proc/{mount.process.pid}/task/{mount.process.pid}/children")
+    for program in map(int, task.read_text().split()):
+        os.kill(program, signal.SIGKILL)
+        assert mount.end() == 1 and str(file) in mount.said()
+        assert file.read_bytes() == before and is_whole(file)
+    assert OPTIONS or mount.end() == 0
+
+
+@case
 def an_image_that_was_cut_is_refused(folder: Path):
     file = keep_tree(folder)
     lines = file.read_bytes().splitlines(keepends=True)

@@ -48,12 +48,20 @@ static int open_private(const char *name) {
     return file;
 }
 
+// Takes the file for this mount alone: EBUSY where another one has it, EEXIST where one left something in it.
+static int lock_part(int part) {
+    struct stat stat;
+    if (flock(part, LOCK_EX | LOCK_NB)) return errno == EWOULDBLOCK ? EBUSY : errno;
+    if (fstat(part, &stat)) return errno;
+    return stat.st_size ? EEXIST : 0;
+}
+
 static int open_part(struct image *image) {
     image->out = open_private(image->part);
     if (image->out < 0) return errno;
-    if (!flock(image->out, LOCK_EX | LOCK_NB)) return ftruncate(image->out, 0) ? errno : sum_begin(&image->sum);
-    int fault = errno == EWOULDBLOCK ? EBUSY : errno;
-    close(image->out);
+    int fault = lock_part(image->out);
+    if (!fault) fault = sum_begin(&image->sum);
+    if (fault) close(image->out);
     return fault;
 }
 
@@ -62,6 +70,7 @@ int image_open(struct image *image, const char *file) {
     if (!fault) fault = try_file(image);
     if (!fault) fault = open_part(image);
     if (fault == EBUSY) say(file, "another mount keeps its tree there");
+    else if (fault == EEXIST) say(image->part, "a mount that did not end well left it: look at it, and take it away");
     else say_fault(file, fault);
     return fault;
 }

@@ -7,7 +7,7 @@
 #include <stdlib.h>
 #include <string.h>
 
-enum { STEPS_AT_ONCE = 256 };
+enum { STEPS_AT_ONCE = 256, MOST_ROUNDS = 64 };
 
 void *__real_malloc(size_t count);
 void *__real_calloc(size_t many, size_t count);
@@ -98,10 +98,11 @@ void room_begin(void) {
     was_refused = false;
 }
 
-// Whether steps of the tree gave memory back. What was removed takes memory until they have come to it.
+// Whether steps of the tree gave memory back. What was removed takes memory until they have come to it. A step that finds
+// no memory itself changes nothing, so that they are not tried for ever.
 static bool gives_back(const struct volume *volume) {
     size_t before = atomic_load(&taken);
-    while (volume->way->relieve(volume->self, STEPS_AT_ONCE))
+    for (unsigned i = 0; i < MOST_ROUNDS && volume->way->relieve(volume->self, STEPS_AT_ONCE); i++)
         if (atomic_load(&taken) < before) return true;
     return false;
 }
