@@ -49,7 +49,7 @@ def one_large_file_is_taken_away_while_it_is_read(folder: Path):
         count = os.stat(mount.point / "large").st_size >> 20
         (mount.point / "large").unlink()
         assert all(os.pread(file.fileno(), 1 << 20, i << 20) == PIECE for i in range(count))
-    assert fill(mount.point, count - 4) == count - 4
+    assert fill(mount.point, count * 3 // 4) == count * 3 // 4
     assert mount.end() == 0, mount.said()
 
 
