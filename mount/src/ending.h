@@ -1,7 +1,7 @@
 // How a mount ends, told to who waits for it (`--unmount`).
 //
-// A mount has a pipe that it alone writes to. Who waits asks by ioctl(2) where that is, opens it through /proc, takes the
-// mount away, and reads it to its end: what failed, and last the status.
+// A mount has a pipe that it alone writes to. Who waits asks by ioctl(2) where that is, opens it through /proc, takes
+// the mount away, and reads it to its end: what failed, and last the status.
 #ifndef ENDING_H
 #define ENDING_H
 #include <stdint.h>

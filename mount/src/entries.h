@@ -80,8 +80,8 @@ int entry_spot(const struct entry *entry, const char *name, struct spot *out);
 // Whether the entry lies in the live tree.
 bool entry_is_live(const struct entry *entry);
 
-// Attributes of all below one entry go to those of the same names below another, which come into being. What has no such
-// name below the first gets the attributes of a new one.
+// Attributes of all below one entry go to those of the same names below another, which come into being. What has no
+// such name below the first gets the attributes of a new one.
 int entries_copy(const struct entry *from, struct entry *to);
 
 // Extended attributes: 0, or a number of <errno.h>.

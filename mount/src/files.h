@@ -30,8 +30,8 @@ struct setting {
     uint64_t at; // the moment that is now
 };
 
-// Called once the volume stands. What a loaded image has under the name of the mount's own folder goes, which is said on
-// standard error.
+// Called once the volume stands. What a loaded image has under the name of the mount's own folder goes, which is said
+// on standard error.
 int files_start(struct mount *mount);
 // Nothing is open any more: what was unlinked goes.
 int files_end(struct mount *mount);

@@ -98,7 +98,7 @@ int read_options(int count, char **words, struct options *out) {
     while (!fault && (letter = getopt_long(count, words, "h", known, 0)) != -1) fault = read_option(letter, out);
     if (fault || out->helps) return fault;
     if (optind + 1 != count) return refuse("one folder to mount on is wanted", "");
-    if (out->size && out->making.betr) return refuse("--size cannot tell the memory of another process, as of --pipe", "");
+    if (out->size && out->making.betr) return refuse("--size does not go with --pipe", "");
     out->mount_point = words[optind];
     return 0;
 }

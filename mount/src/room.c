@@ -98,8 +98,8 @@ void room_begin(void) {
     was_refused = false;
 }
 
-// Whether steps of the tree gave memory back. What was removed takes memory until they have come to it. A step that finds
-// no memory itself changes nothing, so that they are not tried for ever.
+// Whether steps of the tree gave memory back. What was removed takes memory until they have come to it. A step that
+// finds no memory itself changes nothing, so that they are not tried for ever.
 static bool gives_back(const struct volume *volume) {
     size_t before = atomic_load(&taken);
     for (unsigned i = 0; i < MOST_ROUNDS && volume->way->relieve(volume->self, STEPS_AT_ONCE); i++)
