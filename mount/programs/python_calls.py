@@ -1,4 +1,5 @@
 """Functions of Python's `os` in the folder that it is started in. What fails is printed, and is the status."""
+import ctypes
 import errno
 import fcntl
 import mmap
@@ -6,6 +7,7 @@ import os
 import random
 import shutil
 import stat
+import subprocess
 import sys
 import tempfile
 import threading
@@ -144,6 +146,57 @@ def a_file_is_open_while_its_folder_is_renamed():
 
 
 @case
+def an_unlinked_file_is_looked_at_by_its_descriptor():
+    put("file", b"abc")
+    file = os.open("file", os.O_PATH)
+    os.unlink("file")
+    put("file", b"another")
+    told = os.fstat(file)
+    assert (told.st_nlink, told.st_size) == (0, 3), told
+    assert get(f"/proc/self/fd/{file}") == b"abc"
+    os.close(file)
+    assert get("file") == b"another"
+
+
+def modified(name: str) -> str:
+    """The time of modification as the file system has it, whatever the kernel knows."""
+    command = ["stat", "--cached=never", "-c", "%.9Y", name]
+    return subprocess.run(command, capture_output=True, text=True, check=True).stdout.strip()
+
+
+@case
+def a_new_file_keeps_its_time():
+    for name in ("new", "new"):
+        file = os.open(name, os.O_CREAT | os.O_TRUNC | os.O_WRONLY, 0o644)
+        told = os.fstat(file).st_mtime_ns
+        os.close(file)
+        assert modified(name) == f"{told // 10**9}.{told % 10**9:09}"
+
+
+@case
+def a_file_that_is_opened_to_be_read_is_cut():
+    put("file", b"abc")
+    os.close(os.open("file", os.O_RDONLY | os.O_TRUNC))
+    assert (get("file"), os.stat("file").st_size) == (b"", 0)
+
+
+@case
+def a_folder_hands_its_group_on():
+    os.mkdir("folder")
+    if os.getuid() == 0:
+        os.chown("folder", 0, 1)
+    os.chmod("folder", 0o2775)
+    put("folder/file", b"")
+    os.mkdir("folder/below")
+    group = os.stat("folder").st_gid
+    assert [os.stat(f"folder/{name}").st_gid for name in ("file", "below")] == [group, group]
+    assert os.stat("folder/below").st_mode & stat.S_ISGID
+    assert not os.stat("folder/file").st_mode & stat.S_ISGID
+    put("folder/below/file", b"")
+    assert os.stat("folder/below/file").st_gid == group
+
+
+@case
 def attributes_are_kept():
     put("file", b"")
     os.chmod("file", 0o640)
@@ -190,6 +243,42 @@ def a_thousand_names():
         put(f"{i:04}", b"")
     assert sorted(os.listdir(".")) == [f"{i:04}" for i in range(1000)]
     assert all(entry.is_file() and entry.stat().st_size == 0 for entry in os.scandir("."))
+
+
+@case
+def numbers_in_a_listing_are_those_of_the_files():
+    for i in range(1500):
+        put(f"a rather long name of a file, so that pages are many: {i:04}", b"")
+    for _ in range(2):
+        told = {entry.name: entry.inode() for entry in os.scandir(".")}
+        assert told == {name: os.stat(name).st_ino for name in told}
+    assert len(told) == 1500
+
+
+def names_from(folder: int, place: int) -> list[bytes]:
+    """The names of the first page of a listing from a place on."""
+    page, names, at = ctypes.create_string_buffer(1 << 16), [], 0
+    os.lseek(folder, place, os.SEEK_SET)
+    count = ctypes.CDLL(None).getdents64(folder, page, len(page))
+    assert count >= 0
+    while at < count:
+        length = int.from_bytes(page.raw[at + 16 : at + 18], sys.byteorder)
+        names.append(page.raw[at + 19 : at + length].split(b"\0")[0])
+        at += length
+    return names
+
+
+@case
+def any_place_in_a_listing():
+    names = {b"q%d" % i + b"x" * i for i in range(20)}
+    for name in names:
+        put(name, b"")
+    folder = os.open(".", os.O_RDONLY)
+    assert set(names_from(folder, 0)) == names | {b".", b".."}
+    size = sum(len(name) + 2 for name in names) + 2
+    for place in [*range(size + 10), 2**31, 2**62]:
+        assert set(names_from(folder, place)) <= names | {b".", b".."}, place
+    os.close(folder)
 
 
 @case

@@ -33,7 +33,7 @@ int bytes_print(struct bytes *bytes, const char *form, ...) {
     return length < 0 || (size_t)length >= sizeof text ? ENOMEM : bytes_append(bytes, text, (size_t)length);
 }
 
-static int read_all(struct bytes *bytes, int file) {
+int bytes_read_all(struct bytes *bytes, int file) {
     for (;;) {
         if (bytes_reserve(bytes, 1 << 16)) return ENOMEM;
         ssize_t got = read(file, bytes->at + bytes->length, bytes->room - bytes->length);
@@ -47,7 +47,7 @@ static int read_all(struct bytes *bytes, int file) {
 int bytes_read_file(struct bytes *bytes, const char *name) {
     int file = open(name, O_RDONLY | O_CLOEXEC);
     if (file < 0) return errno;
-    int fault = read_all(bytes, file);
+    int fault = bytes_read_all(bytes, file);
     close(file);
     return fault;
 }

@@ -93,7 +93,7 @@ static struct entry *new_entry(char *name, bool is_directory) {
     return entry;
 }
 
-struct entry *entry_find(struct entry *parent, const char *name) {
+struct entry *entry_find(const struct entry *parent, const char *name) {
     for (struct entry *entry = slots[slot_of(parent, name)]; entry; entry = entry->same_slot)
         if (entry->parent == parent && !strcmp(entry->name, name)) return entry;
     return 0;
@@ -136,8 +136,10 @@ static void free_attributes(struct attribute *attribute) {
     }
 }
 
-static void free_if_unheld(struct entry *entry) {
-    if (entry->parent || entry->lookups || entry->opens || entry->role == LIVE_ROOT) return;
+bool entry_is_held(const struct entry *entry) { return entry->lookups || entry->opens; }
+
+void entry_free_if_unheld(struct entry *entry) {
+    if (entry->parent || entry_is_held(entry) || entry->role == LIVE_ROOT) return;
     free_attributes(entry->attributes.extended);
     free(entry->name);
     free(entry);
@@ -147,7 +149,7 @@ static void free_if_unheld(struct entry *entry) {
 void entry_take_out(struct entry *entry) {
     while (entry->first) entry_take_out(entry->first);
     link_out(entry);
-    free_if_unheld(entry);
+    entry_free_if_unheld(entry);
 }
 
 void entry_move(struct entry *entry, struct entry *parent, char *name) {
@@ -155,16 +157,6 @@ void entry_move(struct entry *entry, struct entry *parent, char *name) {
     free(entry->name);
     entry->name = name;
     link_in(entry, parent);
-}
-
-void entry_forget(struct entry *entry, uint64_t lookups) {
-    entry->lookups -= lookups < entry->lookups ? lookups : entry->lookups;
-    free_if_unheld(entry);
-}
-
-void entry_close(struct entry *entry) {
-    entry->opens--;
-    free_if_unheld(entry);
 }
 
 // Puts `/NAME` in front of what the spot has.
@@ -208,8 +200,21 @@ static int copy_attributes(const struct entry *from, struct entry *to) {
     return fault;
 }
 
+static void reset_attributes(struct entry *entry) {
+    free_attributes(entry->attributes.extended);
+    entry->attributes = default_attributes(entry->is_directory);
+    for (struct entry *child = entry->first; child; child = child->after) reset_attributes(child);
+}
+
+// What was first seen after the others were kept had the usual attributes when they were.
+static void reset_later(const struct entry *from, struct entry *to) {
+    for (struct entry *child = to->first; child; child = child->after)
+        if (child->role == ORDINARY && !entry_find(from, child->name)) reset_attributes(child);
+}
+
 int entries_copy(const struct entry *from, struct entry *to) {
     int fault = copy_attributes(from, to);
+    reset_later(from, to);
     for (struct entry *child = from->first; child && !fault; child = child->after) {
         if (child->role != ORDINARY) continue;
         struct entry *other = entry_find_or_add(to, child->name, child->is_directory);

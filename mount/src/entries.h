@@ -16,7 +16,7 @@ enum role {
     LIVE_ROOT,       // the root of the mount
     SNAPSHOT_FOLDER, // /.snapshots
     SNAPSHOT_ROOT,   // /.snapshots/NAME
-    UNLINKED_FOLDER, // where unlinked files stand that are still open; no listing shows it
+    UNLINKED_FOLDER, // where unlinked files stand that somebody holds; no listing shows it
 };
 
 struct attribute {
@@ -47,7 +47,7 @@ struct entry {
     char *name;
     enum role role;
     bool is_directory;
-    bool is_unlinked; // an open file whose name is gone
+    bool is_unlinked; // its name is gone, and it stands in the folder for that
     uint64_t lookups; // what the kernel holds
     uint64_t opens;
     struct attributes attributes;
@@ -62,7 +62,7 @@ struct spot {
 
 // The root, with the folders of the mount's own; null where memory is wanting.
 struct entry *entries_start(void);
-struct entry *entry_find(struct entry *parent, const char *name);
+struct entry *entry_find(const struct entry *parent, const char *name);
 // A new entry with default attributes, whose times are now; null where memory is wanting.
 struct entry *entry_add(struct entry *parent, const char *name, bool is_directory);
 struct entry *entry_find_or_add(struct entry *parent, const char *name, bool is_directory);
@@ -70,16 +70,18 @@ struct entry *entry_find_or_add(struct entry *parent, const char *name, bool is_
 void entry_take_out(struct entry *entry);
 // Gives an entry another name, which it then owns.
 void entry_move(struct entry *entry, struct entry *parent, char *name);
-// The kernel holds so many less; the entry is freed where it is out of the tree and nobody holds it.
-void entry_forget(struct entry *entry, uint64_t lookups);
-void entry_close(struct entry *entry);
+// Whether the kernel knows the entry, or somebody has it open.
+bool entry_is_held(const struct entry *entry);
+// Frees an entry that is out of the tree, where nobody holds it.
+void entry_free_if_unheld(struct entry *entry);
 
 // Where an entry lies, or a name in it where one is given: 0, ENOENT where it is out of the tree, or ENAMETOOLONG.
 int entry_spot(const struct entry *entry, const char *name, struct spot *out);
 // Whether the entry lies in the live tree.
 bool entry_is_live(const struct entry *entry);
 
-// Attributes of all below one entry go to those of the same names below another, which come into being.
+// Attributes of all below one entry go to those of the same names below another, which come into being. What has no
+// such name below the first gets the attributes of a new one.
 int entries_copy(const struct entry *from, struct entry *to);
 
 // Extended attributes: 0, or a number of <errno.h>.

@@ -1,8 +1,10 @@
 #define _GNU_SOURCE
 #include "files.h"
+#include "room.h"
 #include "snapshots.h"
 #include <errno.h>
 #include <fcntl.h>
+#include <inttypes.h>
 #include <stdio.h>
 #include <stdlib.h>
 #include <string.h>
@@ -28,13 +30,15 @@ static struct timespec later(struct timespec one, struct timespec other) {
     return is_later ? other : one;
 }
 
+ino_t files_number(const struct entry *entry) { return (ino_t)(uintptr_t)entry; }
+
 static void fill_stat(const struct entry *entry, struct standing standing, struct stat *out) {
     const struct attributes *attributes = &entry->attributes;
     struct timespec modified = time_of(standing.modified);
     bool is_set = attributes->has_modify && attributes->modify_at == standing.modified;
     bool is_gone = !entry->parent && entry->role != LIVE_ROOT;
     *out = (struct stat){
-        .st_ino = (ino_t)(uintptr_t)entry,
+        .st_ino = files_number(entry),
         .st_mode = (standing.is_directory ? S_IFDIR : S_IFREG) | attributes->mode,
         .st_nlink = is_gone || entry->is_unlinked ? 0 : 1,
         .st_uid = attributes->user,
@@ -48,9 +52,40 @@ static void fill_stat(const struct entry *entry, struct standing standing, struc
     };
 }
 
+// The moment of the root, which the coming and going of the mount's own folder leaves.
+static int root_moment(struct mount *mount, uint64_t *out) {
+    struct standing root;
+    int fault = mount->volume.way->stat(mount->volume.self, (struct place){0, "/"}, &root);
+    *out = root.modified;
+    return fault;
+}
+
+static int change_own_folder(struct mount *mount, enum change what) {
+    uint64_t at = 0;
+    int fault = root_moment(mount, &at);
+    return fault ? fault : mount->volume.way->change(mount->volume.self, what, "/" UNLINKED, at);
+}
+
+static int make_own_folder(struct mount *mount) {
+    int fault = mount->has_own_folder ? 0 : change_own_folder(mount, MAKE_DIRECTORY);
+    if (!fault) mount->has_own_folder = true;
+    return fault;
+}
+
+int files_clear_own_folder(struct mount *mount) {
+    int fault = change_own_folder(mount, REMOVE_TREE);
+    if (!fault || fault == ENOENT) mount->has_own_folder = false;
+    return fault == ENOENT ? 0 : fault;
+}
+
 int files_start(struct mount *mount) {
+    struct standing standing;
     mount->root = entries_start();
-    return mount->root ? 0 : ENOMEM;
+    if (!mount->root) return ENOMEM;
+    int fault = mount->volume.way->stat(mount->volume.self, (struct place){0, "/" UNLINKED}, &standing);
+    if (fault) return fault == ENOENT ? 0 : fault;
+    fputs("doorvervain-mount: the image has /" UNLINKED ", a name of the mount's own: that is left out\n", stderr);
+    return files_clear_own_folder(mount);
 }
 
 // An entry of the mount's own, or a snapshot: the file system need not be asked.
@@ -130,6 +165,24 @@ static int may_change_name(const struct entry *parent, const char *name) {
     return fault ? fault : is_reserved(parent, name) ? EPERM : 0;
 }
 
+// A folder with the set-group bit hands its group on, and a folder in it gets the bit too.
+static void inherit_group(const struct entry *parent, struct entry *entry) {
+    if (!(parent->attributes.mode & S_ISGID)) return;
+    entry->attributes.group = parent->attributes.group;
+    if (entry->is_directory) entry->attributes.mode |= S_ISGID;
+}
+
+static int make_entry(struct mount *mount, const struct spot *spot, struct entry *parent, const char *name,
+                      bool is_directory, uint64_t at, struct entry **out) {
+    const struct volume *volume = &mount->volume;
+    struct entry *known = entry_find(parent, name);
+    *out = known ? known : entry_add(parent, name, is_directory);
+    if (!*out) return ENOMEM;
+    int fault = volume->way->change(volume->self, is_directory ? MAKE_DIRECTORY : CREATE, spot->path, at);
+    if (fault && !known) entry_take_out(*out);
+    return fault;
+}
+
 int files_make(struct mount *mount, struct entry *parent, const char *name, const struct attributes *attributes,
                bool is_directory, struct found *out) {
     const struct volume *volume = &mount->volume;
@@ -138,36 +191,29 @@ int files_make(struct mount *mount, struct entry *parent, const char *name, cons
     if (parent->role == SNAPSHOT_FOLDER) return is_directory ? snapshot_take(mount, name, out) : EPERM;
     int fault = may_change_name(parent, name);
     if (!fault) fault = entry_spot(parent, name, &spot);
-    if (!fault) fault = volume->way->change(volume->self, is_directory ? MAKE_DIRECTORY : CREATE, spot.path, at);
     if (fault) return fault;
-    out->entry = entry_find_or_add(parent, name, is_directory);
-    if (!out->entry) {
-        volume->way->change(volume->self, is_directory ? REMOVE_DIRECTORY : UNLINK, spot.path, at);
-        return ENOMEM;
-    }
+    do {
+        room_begin();
+        fault = make_entry(mount, &spot, parent, name, is_directory, at, &out->entry);
+    } while (room_again(volume, &fault));
+    if (fault) return fault;
     out->entry->attributes = *attributes;
     out->entry->attributes.access = time_of(at);
+    inherit_group(parent, out->entry);
     fill_stat(out->entry, (struct standing){.is_directory = is_directory, .modified = at}, &out->stat);
     return 0;
 }
 
-int files_own_folder(struct mount *mount, enum change what) {
-    const struct volume *volume = &mount->volume;
-    struct standing root;
-    int fault = volume->way->stat(volume->self, (struct place){0, "/"}, &root);
-    return fault ? fault : volume->way->change(volume->self, what, "/" UNLINKED, root.modified);
-}
-
-// Moves an open file whose name goes to where no listing shows it. It lives there until it is closed.
-static int set_aside(struct mount *mount, struct entry *entry, const struct spot *spot, uint64_t at) {
-    const struct volume *volume = &mount->volume;
-    char text[sizeof UNLINKED + 32];
-    char *name = 0;
-    int fault = files_own_folder(mount, MAKE_DIRECTORY);
-    if (fault && fault != EEXIST) return fault;
-    if (asprintf(&name, "%llu", (unsigned long long)++mount->unlinked) < 0) return ENOMEM;
-    snprintf(text, sizeof text, "/" UNLINKED "/%s", name);
-    fault = volume->way->rename(volume->self, spot->path, text, at);
+// Moves a file whose name goes to where no listing shows it. It lives there until nobody holds it.
+static int set_aside(struct mount *mount, struct entry *entry, uint64_t at) {
+    char path[sizeof UNLINKED + 32];
+    struct spot spot;
+    int fault = entry_spot(entry, 0, &spot);
+    if (!fault) fault = make_own_folder(mount);
+    if (fault) return fault;
+    snprintf(path, sizeof path, "/" UNLINKED "/%" PRIu64, ++mount->unlinked);
+    char *name = strdup(path + sizeof "/" UNLINKED);
+    fault = name ? mount->volume.way->rename(mount->volume.self, spot.path, path, at) : ENOMEM;
     if (fault) {
         free(name);
         return fault;
@@ -178,8 +224,75 @@ static int set_aside(struct mount *mount, struct entry *entry, const struct spot
     return 0;
 }
 
+// Takes a file out of the tree, and its entry where nothing stands there any more.
+static int take_file(struct mount *mount, struct entry *entry, uint64_t at) {
+    struct spot spot;
+    int fault = entry_spot(entry, 0, &spot);
+    if (!fault) fault = mount->volume.way->change(mount->volume.self, UNLINK, spot.path, at);
+    if (fault && fault != ENOENT) return fault;
+    entry_take_out(entry);
+    return 0;
+}
+
+// Where memory is wanting to set it aside, its bytes go, and whoever holds it has nothing to read.
+int files_settle(struct mount *mount) {
+    struct entry *entry = mount->leaving;
+    if (!entry) return 0;
+    bool is_aside = entry_is_held(entry) && !set_aside(mount, entry, mount->leaving_at);
+    int fault = is_aside ? 0 : take_file(mount, entry, mount->leaving_at);
+    if (!fault) mount->leaving = 0;
+    return fault;
+}
+
+// The kernel that knew the entries is told nothing any more.
+int files_end(struct mount *mount) {
+    if (mount->leaving) mount->leaving->lookups = 0;
+    int fault = files_settle(mount);
+    int other = files_clear_own_folder(mount);
+    return fault ? fault : other;
+}
+
+// Nobody may hold the entry any more: where its name is gone, its bytes go too.
+static int let_go(struct mount *mount, struct entry *entry) {
+    if (entry_is_held(entry)) return 0;
+    if (entry == mount->leaving) return files_settle(mount);
+    if (!entry->is_unlinked || !entry->parent) {
+        entry_free_if_unheld(entry);
+        return 0;
+    }
+    int fault = take_file(mount, entry, moment_now());
+    if (fault) entry_take_out(entry); // The bytes go with the mount's own folder.
+    return fault;
+}
+
+void files_forget(struct mount *mount, struct entry *entry, uint64_t lookups) {
+    entry->lookups -= lookups < entry->lookups ? lookups : entry->lookups;
+    let_go(mount, entry);
+}
+
+// Takes a file's name away. The kernel mostly forgets a file as the next thing that it asks for: so one that it knows
+// and nobody has open is only marked, and the name goes with that, or before anything else is done.
+static int remove_file(struct mount *mount, struct entry *entry, const struct spot *spot, uint64_t at) {
+    if (!entry || !entry_is_held(entry)) {
+        int fault = mount->volume.way->change(mount->volume.self, UNLINK, spot->path, at);
+        if (!fault && entry) entry_take_out(entry);
+        return fault;
+    }
+    if (entry->opens) return set_aside(mount, entry, at);
+    mount->leaving = entry;
+    mount->leaving_at = at;
+    return 0;
+}
+
+static int remove_folder(struct mount *mount, struct entry *entry, const struct spot *spot, uint64_t at) {
+    int fault = mount->volume.way->change(mount->volume.self, REMOVE_DIRECTORY, spot->path, at);
+    if (fault || !entry) return fault;
+    entry->attributes.change = time_of(at);
+    entry_take_out(entry);
+    return 0;
+}
+
 int files_remove(struct mount *mount, struct entry *parent, const char *name, bool is_directory) {
-    const struct volume *volume = &mount->volume;
     uint64_t at = moment_now();
     struct spot spot;
     if (parent->role == SNAPSHOT_FOLDER) return is_directory ? snapshot_drop(mount, name) : EPERM;
@@ -187,40 +300,46 @@ int files_remove(struct mount *mount, struct entry *parent, const char *name, bo
     if (!fault) fault = entry_spot(parent, name, &spot);
     if (fault) return fault;
     struct entry *entry = entry_find(parent, name);
-    bool is_open = !is_directory && entry && entry->opens;
-    if (is_open) fault = set_aside(mount, entry, &spot, at);
-    else fault = volume->way->change(volume->self, is_directory ? REMOVE_DIRECTORY : UNLINK, spot.path, at);
-    if (fault) return fault;
-    if (entry && !is_open) {
-        entry->attributes.change = time_of(at);
-        entry_take_out(entry);
-    }
-    return 0;
+    if (is_directory) return remove_folder(mount, entry, &spot, at);
+    if (entry && entry->is_directory) return EISDIR;
+    return remove_file(mount, entry, &spot, at);
 }
 
-// An open file that another one replaces is set aside first. Where the rename is refused then, it gets its name back,
-// and its directory the moment that it had.
-static int rename_over_open(struct mount *mount, const struct spot *from, const struct spot *to, struct entry *target,
-                            uint64_t at) {
+static int rename_path(struct mount *mount, const struct spot *from, const struct spot *to, uint64_t at) {
     const struct volume *volume = &mount->volume;
+    int fault;
+    do {
+        room_begin();
+        fault = volume->way->rename(volume->self, from->path, to->path, at);
+    } while (room_again(volume, &fault));
+    return fault;
+}
+
+// Gives a file that was set aside its name back, and its directory the moment that it had.
+static void put_back(struct mount *mount, struct entry *entry, const struct spot *to, struct entry *parent, char *name,
+                     uint64_t at) {
+    struct spot aside;
+    int fault = entry_spot(entry, 0, &aside);
+    if (!fault) fault = mount->volume.way->rename(mount->volume.self, aside.path, to->path, at);
+    if (fault) {
+        free(name);
+        return;
+    }
+    entry->is_unlinked = false;
+    entry_move(entry, parent, name);
+}
+
+// A file that somebody holds and another one replaces is set aside first.
+static int rename_over_held(struct mount *mount, const struct spot *from, const struct spot *to, struct entry *target,
+                            uint64_t at) {
     struct entry *parent = target->parent;
     struct standing before;
-    struct spot aside;
     char *name = strdup(target->name);
     int fault = name ? stand_of(mount, parent, &before) : ENOMEM;
-    if (!fault) fault = set_aside(mount, target, to, at);
-    if (!fault) fault = volume->way->rename(volume->self, from->path, to->path, at);
-    if (!fault || !target->is_unlinked) {
-        free(name);
-        return fault;
-    }
-    entry_spot(target, 0, &aside);
-    if (volume->way->rename(volume->self, aside.path, to->path, before.modified)) {
-        free(name);
-        return fault;
-    }
-    target->is_unlinked = false;
-    entry_move(target, parent, name);
+    if (!fault) fault = set_aside(mount, target, at);
+    if (!fault) fault = rename_path(mount, from, to, at);
+    if (fault && target->is_unlinked) put_back(mount, target, to, parent, name, before.modified);
+    else free(name);
     return fault;
 }
 
@@ -234,10 +353,8 @@ static void follow_rename(struct entry *entry, struct entry *target, struct entr
 
 static int rename_spots(struct mount *mount, const struct spot *from, const struct spot *to, struct entry *entry,
                         struct entry *target, uint64_t at) {
-    const struct volume *volume = &mount->volume;
-    bool covers_open = target && target != entry && target->opens && !target->is_directory && !entry->is_directory;
-    if (covers_open) return rename_over_open(mount, from, to, target, at);
-    return volume->way->rename(volume->self, from->path, to->path, at);
+    bool covers_held = target && entry_is_held(target) && !target->is_directory && !entry->is_directory;
+    return covers_held ? rename_over_held(mount, from, to, target, at) : rename_path(mount, from, to, at);
 }
 
 static int may_rename(struct mount *mount, const struct entry *parent, const char *name, const struct entry *new_parent,
@@ -273,23 +390,17 @@ int files_rename(struct mount *mount, struct entry *parent, const char *name, st
 }
 
 int files_open(struct mount *mount, struct entry *entry, int flags) {
-    bool writes = (flags & O_ACCMODE) != O_RDONLY;
-    int fault = writes ? files_may_change(entry) : 0;
-    if (!fault && writes && flags & O_TRUNC) fault = set_length(mount, entry, 0, moment_now());
+    bool cuts = flags & O_TRUNC;
+    bool changes = cuts || (flags & O_ACCMODE) != O_RDONLY;
+    int fault = changes ? files_may_change(entry) : 0;
+    if (!fault && cuts) fault = set_length(mount, entry, 0, moment_now());
     if (!fault) entry->opens++;
     return fault;
 }
 
 int files_close(struct mount *mount, struct entry *entry) {
-    const struct volume *volume = &mount->volume;
-    struct spot spot;
-    int fault = 0;
-    if (entry->opens == 1 && entry->is_unlinked && !entry_spot(entry, 0, &spot)) {
-        fault = volume->way->change(volume->self, UNLINK, spot.path, moment_now());
-        entry_take_out(entry);
-    }
-    entry_close(entry);
-    return fault;
+    entry->opens--;
+    return let_go(mount, entry);
 }
 
 int files_read(struct mount *mount, struct entry *entry, uint64_t offset, char *out, size_t room, size_t *got) {
@@ -309,12 +420,16 @@ int files_read(struct mount *mount, struct entry *entry, uint64_t offset, char *
 
 int files_write(struct mount *mount, struct entry *entry, uint64_t offset, const char *bytes, size_t count,
                 size_t *done) {
+    const struct volume *volume = &mount->volume;
     struct spot spot;
     *done = 0;
     int fault = entry_spot(entry, 0, &spot);
     if (!fault && spot.snapshot) fault = EROFS;
-    if (!fault)
-        fault = mount->volume.way->write(mount->volume.self, spot.path, offset, bytes, count, moment_now(), done);
+    if (fault) return fault;
+    do {
+        room_begin();
+        fault = volume->way->write(volume->self, spot.path, offset, bytes, count, moment_now(), done);
+    } while (room_again(volume, &fault));
     return *done ? 0 : fault;
 }
 
@@ -358,7 +473,10 @@ int files_list(struct mount *mount, struct entry *entry, struct bytes *out) {
     if (entry->role == SNAPSHOT_FOLDER) return list_snapshots(entry, out);
     int fault = entry_spot(entry, 0, &spot);
     if (!fault) fault = mount->volume.way->list(mount->volume.self, (struct place){spot.snapshot, spot.path}, out);
-    if (!fault && (entry->role == LIVE_ROOT || entry->role == SNAPSHOT_ROOT)) leave_out(out, UNLINKED);
+    if (!fault && (entry->role == LIVE_ROOT || entry->role == SNAPSHOT_ROOT)) {
+        leave_out(out, UNLINKED);
+        leave_out(out, SNAPSHOTS);
+    }
     return fault;
 }
 
@@ -369,7 +487,8 @@ int files_find_extended(const struct entry *entry, const char *name, const struc
     return *out ? 0 : ENODATA;
 }
 
-int files_set_extended(struct entry *entry, const char *name, const char *value, size_t length, int flags) {
+int files_set_extended(struct mount *mount, struct entry *entry, const char *name, const char *value, size_t length,
+                       int flags) {
     const struct attribute *known;
     int fault = files_find_extended(entry, name, &known);
     bool stands = !fault;
@@ -377,7 +496,11 @@ int files_set_extended(struct entry *entry, const char *name, const char *value,
     if (files_may_change(entry)) return EROFS;
     if (stands && flags & XATTR_CREATE) return EEXIST;
     if (!stands && flags & XATTR_REPLACE) return ENODATA;
-    return attribute_set(entry, name, value, length);
+    do {
+        room_begin();
+        fault = attribute_set(entry, name, value, length);
+    } while (room_again(&mount->volume, &fault));
+    return fault;
 }
 
 int files_remove_extended(struct entry *entry, const char *name) {

@@ -8,7 +8,10 @@
 struct mount {
     struct volume volume;
     struct entry *root;
-    uint64_t unlinked; // how many files were set aside
+    bool has_own_folder;   // for the files that are set aside
+    uint64_t unlinked;     // how many files were set aside
+    struct entry *leaving; // an unlinked file that the kernel still knows, before it is set aside; null: none
+    uint64_t leaving_at;   // the moment at which it was unlinked
 };
 
 // What an entry is told with.
@@ -27,7 +30,16 @@ struct setting {
     uint64_t at; // the moment that is now
 };
 
+// Called once the volume stands. What a loaded image has under the name of the mount's own folder goes, which is said
+// on standard error.
 int files_start(struct mount *mount);
+// Nothing is open any more: what was unlinked goes.
+int files_end(struct mount *mount);
+// To be called before anything else is done with names, moments or the file that is leaving: where the kernel has not
+// forgotten that one, it is set aside.
+int files_settle(struct mount *mount);
+// The kernel knows an entry by so many look-ups less.
+void files_forget(struct mount *mount, struct entry *entry, uint64_t lookups);
 int files_find(struct mount *mount, struct entry *parent, const char *name, struct found *out);
 int files_stat(struct mount *mount, struct entry *entry, struct stat *out);
 int files_set(struct mount *mount, struct entry *entry, const struct setting *setting);
@@ -52,11 +64,14 @@ int files_list(struct mount *mount, struct entry *entry, struct bytes *out);
 
 // Extended attributes: EOPNOTSUPP for those of the kernel's own.
 int files_find_extended(const struct entry *entry, const char *name, const struct attribute **out);
-int files_set_extended(struct entry *entry, const char *name, const char *value, size_t length, int flags);
+int files_set_extended(struct mount *mount, struct entry *entry, const char *name, const char *value, size_t length,
+                       int flags);
 int files_remove_extended(struct entry *entry, const char *name);
 
-// The folder of files that are unlinked and open comes or goes. The root keeps its moment.
-int files_own_folder(struct mount *mount, enum change what);
+// The folder of files that are set aside goes, with all of them: 0 also where there is none. The root keeps its moment.
+int files_clear_own_folder(struct mount *mount);
+// The number of an entry, as stat(2) tells it.
+ino_t files_number(const struct entry *entry);
 
 // Whether an entry may be changed: 0 or EROFS.
 int files_may_change(const struct entry *entry);

@@ -1,5 +1,6 @@
 // The file system as the static library in this very process.
 #include "doorvervain.h"
+#include "image.h"
 #include "way.h"
 #include <errno.h>
 #include <inttypes.h>
@@ -131,25 +132,23 @@ static int print_image(struct doorvervain_frozen *tree, struct bytes *out) {
     return fault;
 }
 
-static int write_file(const char *file, const struct bytes *bytes) {
-    FILE *out = fopen(file, "we");
-    if (!out) return errno;
-    bool is_short = fwrite(bytes->at, 1, bytes->length, out) != bytes->length;
-    return fclose(out) || is_short ? EIO : 0;
-}
-
-static int save(struct library *library, const char *file) {
+static int save(struct library *library, struct image *image) {
     struct doorvervain_frozen live;
-    struct bytes image = {0};
+    struct bytes text = {0};
     int fault = doorvervain_errno(doorvervain_freeze(&library->volume, &live));
-    if (!fault) fault = print_image(&live, &image);
-    if (!fault) fault = write_file(file, &image);
+    if (!fault) fault = print_image(&live, &text);
+    if (!fault) fault = image_put(image, text.at, text.length);
     doorvervain_thaw(&live);
-    bytes_free(&image);
+    bytes_free(&text);
     return fault;
 }
 
-static int library_close(void *self, const char *image) {
+static unsigned library_relieve(void *self, unsigned steps) {
+    struct library *library = self;
+    return doorvervain_relieve(&library->volume, steps);
+}
+
+static int library_close(void *self, struct image *image) {
     struct library *library = self;
     int fault = image ? save(library, image) : 0;
     forget_tree(library);
@@ -160,7 +159,7 @@ static int library_close(void *self, const char *image) {
 
 static const struct way library_way = {
     library_change, library_rename, library_truncate, library_write, library_read,
-    library_stat,   library_list,   library_keep,     library_close,
+    library_stat,   library_list,   library_keep,     library_relieve, library_close,
 };
 
 static int open_empty(struct library *library) {
@@ -187,5 +186,7 @@ int open_library(const struct making *making, struct volume *out) {
     if (!library) return ENOMEM;
     library->steps = making->steps;
     *out = (struct volume){&library_way, library};
-    return making->image ? load(library, making->image) : open_empty(library);
+    int fault = making->image ? load(library, making->image) : open_empty(library);
+    if (fault) free(library);
+    return fault;
 }

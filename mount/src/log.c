@@ -3,9 +3,12 @@
 // stands as a note.
 #include "script.h"
 #include <errno.h>
+#include <fcntl.h>
 #include <stdio.h>
 #include <stdlib.h>
 #include <string.h>
+#include <sys/stat.h>
+#include <unistd.h>
 
 struct log {
     struct volume over;
@@ -115,7 +118,12 @@ static int log_keep(void *self, enum keeping what, const char *snapshot) {
     return tell_done(log, log->over.way->keep(log->over.self, what, snapshot));
 }
 
-static int log_close(void *self, const char *image) {
+static unsigned log_relieve(void *self, unsigned steps) {
+    struct log *log = self;
+    return log->over.way->relieve(log->over.self, steps);
+}
+
+static int log_close(void *self, struct image *image) {
     struct log *log = self;
     int fault = log->over.way->close(log->over.self, image);
     if (fclose(log->calls) || fclose(log->replies)) fault = EIO;
@@ -126,14 +134,23 @@ static int log_close(void *self, const char *image) {
 }
 
 static const struct way log_way = {
-    log_change, log_rename, log_truncate, log_write, log_read, log_stat, log_list, log_keep, log_close,
+    log_change, log_rename, log_truncate, log_write, log_read, log_stat, log_list, log_keep, log_relieve, log_close,
 };
+
+// The bytes of files that only their owner may read go into a log: so may it only be read.
+static FILE *open_private(const char *name) {
+    int file = open(name, O_WRONLY | O_CREAT | O_TRUNC | O_CLOEXEC, 0600);
+    if (file < 0) return 0;
+    FILE *out = fchmod(file, 0600) ? 0 : fdopen(file, "w");
+    if (!out) close(file);
+    return out;
+}
 
 static FILE *open_part(const char *name, const char *ending) {
     struct bytes file = {0};
     FILE *out = 0;
     if (!bytes_append(&file, name, strlen(name)) && !bytes_append(&file, ending, strlen(ending) + 1))
-        out = fopen(file.at, "we");
+        out = open_private(file.at);
     bytes_free(&file);
     return out;
 }
@@ -143,9 +160,13 @@ int open_log(const struct making *making, struct volume *volume) {
     if (!log) return ENOMEM;
     log->over = *volume;
     log->calls = open_part(making->log, ".in");
-    log->replies = open_part(making->log, ".out");
-    *volume = (struct volume){&log_way, log};
-    if (log->calls && log->replies) return 0;
+    log->replies = log->calls ? open_part(making->log, ".out") : 0;
+    if (log->replies) {
+        *volume = (struct volume){&log_way, log};
+        return 0;
+    }
     fprintf(stderr, "doorvervain-mount: %s.in and %s.out cannot be written\n", making->log, making->log);
+    if (log->calls) fclose(log->calls);
+    free(log);
     return EIO;
 }

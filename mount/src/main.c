@@ -1,17 +1,19 @@
-// Mounts the file system: the command line, the volume, and the loop of requests.
+// Mounts the file system: the command line and the process.
+#include "ending.h"
 #include "options.h"
-#include "readahead.h"
 #include "requests.h"
+#include "serving.h"
 #include <errno.h>
 #include <fcntl.h>
-#include <malloc.h>
-#include <signal.h>
+#include <limits.h>
 #include <stdio.h>
 #include <stdlib.h>
 #include <string.h>
 #include <sys/ioctl.h>
 #include <sys/wait.h>
 #include <unistd.h>
+
+static int parent = -1; // in the background: the pipe to the process that was called
 
 static int say(const char *what, const char *which, int fault) {
     if (fault) fprintf(stderr, "doorvervain-mount: %s%s: %s\n", what, which, strerror(fault));
@@ -30,81 +32,30 @@ static int ask_to_restore(const char *mount_point, const char *name) {
     return say("cannot restore ", name, fault);
 }
 
-// A file is named from the root: who goes into the background stands there.
+// A file is named from the root: who goes into the background stands there. The name lasts as long as the process.
 static const char *full_name(const char *file) {
-    char *folder = file && file[0] != '/' ? getcwd(0, 0) : 0;
-    char *name = folder ? malloc(strlen(folder) + strlen(file) + 2) : 0;
-    if (!name) return file;
+    char folder[PATH_MAX];
+    if (!file || file[0] == '/') return file;
+    char *name = getcwd(folder, sizeof folder) ? malloc(strlen(folder) + strlen(file) + 2) : 0;
+    if (!name) exit(say("no full name of ", file, errno));
     sprintf(name, "%s/%s", folder, file);
-    free(folder);
     return name;
 }
 
 // The folder to mount on, without links and dots on its way.
 static const char *full_path(const char *folder) {
-    char *path = realpath(folder, 0);
-    return path ? path : folder;
-}
-
-static int open_volume(const struct options *options, struct mount *mount) {
-    const struct making *making = &options->making;
-    int fault = making->betr ? open_pipe(making, &mount->volume) : open_library(making, &mount->volume);
-    if (!fault && making->log) fault = open_log(making, &mount->volume);
-    return fault ? fault : files_start(mount);
+    static char path[PATH_MAX];
+    return realpath(folder, path) ? path : folder;
 }
 
 // In the child: tells the parent that the mount stands, and lets go of its terminal.
-static void say_it_stands(int parent) {
+static void say_it_stands(void) {
     if (parent < 0) return;
     int nowhere = open("/dev/null", O_RDWR);
     if (write(parent, "", 1) != 1 || chdir("/")) exit(1);
     for (int file = 0; file < 3; file++) dup2(nowhere, file);
     if (nowhere > 2) close(nowhere);
     close(parent);
-}
-
-static int serve(struct fuse_session *session, int parent) {
-    say_it_stands(parent);
-    return fuse_session_loop(session);
-}
-
-// Nothing unlinked is open any more, so nothing of it goes into the image.
-static int close_volume(struct mount *mount, const char *image) {
-    files_own_folder(mount, REMOVE_TREE);
-    return say("cannot write ", image ? image : "the log", mount->volume.way->close(mount->volume.self, image));
-}
-
-static int mount_and_serve(const struct options *options, struct mount *mount, int parent) {
-    const char *how = options->allows_other ? "default_permissions,allow_other,fsname=doorvervain,subtype=doorvervain"
-                                            : "default_permissions,fsname=doorvervain,subtype=doorvervain";
-    char *words[] = {"doorvervain-mount", "-o", (char *)how, 0};
-    struct fuse_args args = FUSE_ARGS_INIT(3, words);
-    struct fuse_session *session = fuse_session_new(&args, &requests, sizeof requests, mount);
-    fuse_opt_free_args(&args);
-    if (!session) return 1;
-    requests_use(session);
-    int status = fuse_set_signal_handlers(session) || fuse_session_mount(session, options->mount_point);
-    if (!status) {
-        raise_readahead(options->mount_point);
-        status = serve(session, parent) != 0;
-        fuse_session_unmount(session);
-    }
-    fuse_remove_signal_handlers(session);
-    fuse_session_destroy(session);
-    return close_volume(mount, options->image) || status;
-}
-
-// Room for the bytes of a large read is used again, and not asked from the kernel for each.
-static void keep_memory(void) {
-    mallopt(M_MMAP_THRESHOLD, 8 * LARGEST_READ);
-    mallopt(M_TRIM_THRESHOLD, 64 * LARGEST_READ);
-}
-
-static int run(const struct options *options, int parent) {
-    struct mount mount = {0};
-    keep_memory();
-    if (open_volume(options, &mount)) return 1;
-    return mount_and_serve(options, &mount, parent);
 }
 
 // In the parent: waits until the mount stands, or its process has ended.
@@ -116,7 +67,7 @@ static int wait_for(int child_says, pid_t child) {
     return WIFEXITED(status) && WEXITSTATUS(status) ? WEXITSTATUS(status) : 1;
 }
 
-static int run_in_background(const struct options *options) {
+static int serve_in_background(const struct options *options) {
     int ends[2];
     if (pipe(ends)) return say("no pipe", "", errno);
     fcntl(ends[0], F_SETFD, FD_CLOEXEC);
@@ -128,8 +79,17 @@ static int run_in_background(const struct options *options) {
         return wait_for(ends[0], child);
     }
     close(ends[0]);
+    parent = ends[1];
     setsid();
-    return run(options, ends[1]);
+    return serve_mount(options, say_it_stands);
+}
+
+static int serve_options(struct options *options) {
+    options->image = full_name(options->image);
+    options->making.image = full_name(options->making.image);
+    options->making.log = full_name(options->making.log);
+    options->making.betr = full_name(options->making.betr);
+    return options->stays ? serve_mount(options, say_it_stands) : serve_in_background(options);
 }
 
 int main(int count, char **words) {
@@ -140,11 +100,8 @@ int main(int count, char **words) {
         print_help();
         return 0;
     }
-    if (options.restore) return ask_to_restore(options.mount_point, options.restore);
     options.mount_point = full_path(options.mount_point);
-    options.image = full_name(options.image);
-    options.making.image = full_name(options.making.image);
-    options.making.log = full_name(options.making.log);
-    options.making.betr = full_name(options.making.betr);
-    return options.stays ? run(&options, -1) : run_in_background(&options);
+    if (options.restore) return ask_to_restore(options.mount_point, options.restore);
+    if (options.unmounts) return ending_await(options.mount_point);
+    return serve_options(&options);
 }

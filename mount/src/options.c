@@ -1,4 +1,5 @@
 #include "options.h"
+#include "room.h"
 #include <getopt.h>
 #include <stdio.h>
 #include <stdlib.h>
@@ -9,11 +10,13 @@ static const char help[] =
     "\n"
     "  doorvervain-mount [OPTION..] MNT      mounts it on the folder MNT\n"
     "  doorvervain-mount --restore NAME MNT  makes the tree that is mounted on MNT that of its snapshot NAME\n"
-    "  fusermount3 -u MNT                    takes it away\n"
+    "  doorvervain-mount --unmount MNT       takes it away, and waits until its image is whole; the status is the mount's\n"
     "\n"
     "  --pipe BETR     speaks to the program BETR, in a process of its own, instead of the library\n"
     "  --load FILE     begins with the tree whose image is in FILE\n"
-    "  --image FILE    writes the image of the tree to FILE when the mount is taken away\n"
+    "  --image FILE    writes the image of the tree to FILE when the mount is taken away, and its checksum to FILE.sum\n"
+    "  --size N        lets the tree take N bytes of memory, with K, M or G behind N, and at least 16M; an eighth is kept\n"
+    "                  for removals. Not with --pipe\n"
     "  --log NAME      puts every call in NAME.in, as a script, and every reply in NAME.out\n"
     "  --steps N       does N tree steps after each call that changes something, 0 to 1000 (4)\n"
     "  --allow-other   lets other users in, by the modes of files\n"
@@ -31,6 +34,7 @@ static const struct option known[] = {
     {"pipe", required_argument, 0, 'p'},  {"load", required_argument, 0, 'l'},
     {"image", required_argument, 0, 'i'}, {"log", required_argument, 0, 'g'},
     {"steps", required_argument, 0, 's'}, {"restore", required_argument, 0, 'r'},
+    {"size", required_argument, 0, 'z'},  {"unmount", no_argument, 0, 'u'},
     {"allow-other", no_argument, 0, 'a'}, {"foreground", no_argument, 0, 'f'},
     {"help", no_argument, 0, 'h'},        {0},
 };
@@ -48,6 +52,26 @@ static int read_steps(const char *word, unsigned *out) {
     return 0;
 }
 
+static unsigned shift_of(char letter) {
+    switch (letter) {
+    case 'K': return 10;
+    case 'M': return 20;
+    case 'G': return 30;
+    default: return 0;
+    }
+}
+
+static int read_size(const char *word, uint64_t *out) {
+    char *end;
+    uint64_t size = strtoull(word, &end, 10);
+    unsigned shift = shift_of(*end);
+    bool is_number = *word >= '0' && *word <= '9' && !end[shift ? 1 : 0];
+    if (!is_number || size > UINT64_MAX >> 1 >> shift || size << shift < SMALLEST_SIZE)
+        return refuse("--size takes 16M or more, not ", word);
+    *out = size << shift;
+    return 0;
+}
+
 static int read_option(int letter, struct options *out) {
     switch (letter) {
     case 'p': out->making.betr = optarg; return 0;
@@ -59,6 +83,8 @@ static int read_option(int letter, struct options *out) {
     case 'g': out->making.log = optarg; return 0;
     case 's': return read_steps(optarg, &out->making.steps);
     case 'r': out->restore = optarg; return 0;
+    case 'z': return read_size(optarg, &out->size);
+    case 'u': out->unmounts = true; return 0;
     case 'a': out->allows_other = true; return 0;
     case 'f': out->stays = true; return 0;
     case 'h': out->helps = true; return 0;
@@ -72,6 +98,7 @@ int read_options(int count, char **words, struct options *out) {
     while (!fault && (letter = getopt_long(count, words, "h", known, 0)) != -1) fault = read_option(letter, out);
     if (fault || out->helps) return fault;
     if (optind + 1 != count) return refuse("one folder to mount on is wanted", "");
+    if (out->size && out->making.betr) return refuse("--size does not go with --pipe", "");
     out->mount_point = words[optind];
     return 0;
 }

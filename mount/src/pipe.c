@@ -1,7 +1,7 @@
 // The file system as the program `betr` in a process of its own, over a pair of sockets.
+#include "image.h"
 #include "script.h"
 #include <errno.h>
-#include <fcntl.h>
 #include <inttypes.h>
 #include <stdio.h>
 #include <stdlib.h>
@@ -29,25 +29,26 @@ static int send_all(int end, const char *bytes, size_t count) {
     return 0;
 }
 
-// Some bytes more of the reply, with a byte 0 behind them that does not count.
-static int receive_some(struct pipe *pipe) {
+// Some bytes more of the reply, with a byte 0 behind them that does not count; none where the program has ended.
+static int receive_some(struct pipe *pipe, size_t *count) {
     struct bytes *reply = &pipe->reply;
     if (bytes_reserve(reply, reply->length < 4096 ? 4096 : 1 << 16)) return ENOMEM;
     ssize_t got = -1;
     do got = read(pipe->end, reply->at + reply->length, reply->room - reply->length - 1);
     while (got < 0 && errno == EINTR);
-    if (got <= 0) return EIO;
-    reply->length += (size_t)got;
+    if (got < 0) return EIO;
+    *count = (size_t)got;
+    reply->length += *count;
     reply->at[reply->length] = 0;
     return 0;
 }
 
 static int receive(struct pipe *pipe) {
-    size_t seen = 0, lines = 0, wanted = 1;
+    size_t seen = 0, lines = 0, wanted = 1, count;
     pipe->reply.length = 0;
     while (lines < wanted) {
-        int fault = receive_some(pipe);
-        if (fault) return fault;
+        int fault = receive_some(pipe, &count);
+        if (fault || !count) return fault ? fault : EIO;
         for (; seen < pipe->reply.length; seen++)
             if (pipe->reply.at[seen] == '\n' && ++lines == 1) wanted = lines_of_reply(pipe->reply.at);
     }
@@ -127,20 +128,26 @@ static int pipe_keep(void *self, enum keeping what, const char *snapshot) {
     return ask_for(self, script_keep(fresh_line(self), what, snapshot));
 }
 
-// What `betr` prints behind its last reply, which is the image.
-static int save_rest(struct pipe *pipe, const char *image) {
-    int file = open(image, O_WRONLY | O_CREAT | O_TRUNC | O_CLOEXEC, 0666);
-    if (file < 0) return errno;
-    int fault = 0;
-    for (;;) {
-        pipe->reply.length = 0;
-        if (receive_some(pipe)) break;
-        if (write(file, pipe->reply.at, pipe->reply.length) != (ssize_t)pipe->reply.length) fault = EIO;
-    }
-    return close(file) && !fault ? errno : fault;
+// `betr` does its steps by itself.
+static unsigned pipe_relieve(void *self, unsigned steps) {
+    (void)self, (void)steps;
+    return 0;
 }
 
-static int pipe_close(void *self, const char *image) {
+// What `betr` prints behind its last reply, which is the image.
+static int save_rest(struct pipe *pipe, struct image *image) {
+    int fault = pipe->is_broken ? EIO : 0;
+    size_t count = 1;
+    while (!fault && count) {
+        pipe->reply.length = 0;
+        fault = receive_some(pipe, &count);
+        if (!fault) fault = image_put(image, pipe->reply.at, count);
+    }
+    return fault;
+}
+
+// The image is whole where the program ended well.
+static int pipe_close(void *self, struct image *image) {
     struct pipe *pipe = self;
     int status = 0;
     shutdown(pipe->end, SHUT_WR);
@@ -155,11 +162,14 @@ static int pipe_close(void *self, const char *image) {
 }
 
 static const struct way pipe_way = {
-    pipe_change, pipe_rename, pipe_truncate, pipe_write, pipe_read, pipe_stat, pipe_list, pipe_keep, pipe_close,
+    pipe_change, pipe_rename, pipe_truncate, pipe_write,   pipe_read,
+    pipe_stat,   pipe_list,   pipe_keep,     pipe_relieve, pipe_close,
 };
 
+// In a group of its own, so that a signal of the terminal ends the mount alone, which then asks for the image.
 static void become_betr(const struct making *making, int end) {
     char steps[32];
+    setpgid(0, 0);
     snprintf(steps, sizeof steps, "--steps=%u", making->steps);
     const char *words[6] = {making->betr, steps};
     int count = 2;
@@ -193,7 +203,10 @@ int open_pipe(const struct making *making, struct volume *out) {
     int fault = start(making, pipe);
     // The program has come to its first line: its command line, and the image that it loads, are well.
     if (!fault) fault = pipe_stat(pipe, (struct place){0, "/"}, &root);
-    if (fault) fprintf(stderr, "doorvervain-mount: %s does not answer: %s\n", making->betr, strerror(fault));
     *out = (struct volume){&pipe_way, pipe};
+    if (!fault) return 0;
+    fprintf(stderr, "doorvervain-mount: %s does not answer: %s\n", making->betr, strerror(fault));
+    if (pipe->child > 0) pipe_close(pipe, 0);
+    else free(pipe);
     return fault;
 }

@@ -4,14 +4,34 @@
 #include <stdlib.h>
 #include <string.h>
 
+static bool is_octal(char digit) { return digit >= '0' && digit <= '7'; }
+
+// Takes back what mountinfo writes for a space, a tab, a line feed and a backslash: one more and three octal digits.
+static void read_octal(char *text) {
+    char *to = text;
+    for (const char *from = text; *from; from++, to++) {
+        bool is_written = from[0] == '\\' && is_octal(from[1]) && is_octal(from[2]) && is_octal(from[3]);
+        *to = is_written ? (char)((from[1] - '0') * 64 + (from[2] - '0') * 8 + (from[3] - '0')) : *from;
+        if (is_written) from += 3;
+    }
+    *to = 0;
+}
+
+static bool is_mount_on(const char *line, const char *folder, char number[32]) {
+    char point[4096];
+    if (sscanf(line, "%*s %*s %31s %*s %4095s", number, point) != 2) return false;
+    read_octal(point);
+    return !strcmp(point, folder);
+}
+
 // The device of the newest mount on a folder, as `MAJOR:MINOR`, which a stat of it would have to ask this very process
 // for.
 static bool find_device(const char *folder, char device[32]) {
-    char line[4096], number[32], point[2048];
+    char line[8192], number[32];
     FILE *mounts = fopen("/proc/self/mountinfo", "re");
     bool found = false;
     while (mounts && fgets(line, sizeof line, mounts))
-        if (sscanf(line, "%*s %*s %31s %*s %2047s", number, point) == 2 && !strcmp(point, folder)) {
+        if (is_mount_on(line, folder, number)) {
             strcpy(device, number);
             found = true;
         }

@@ -5,6 +5,8 @@
 // keeps them; where a snapshot is restored, it is told to forget. The bytes of a file are asked for anew when it is
 // opened.
 #include "requests.h"
+#include "ending.h"
+#include "room.h"
 #include "snapshots.h"
 #include <errno.h>
 #include <fcntl.h>
@@ -14,11 +16,21 @@
 #include <unistd.h>
 
 #define SECONDS_KNOWN 86400.0
+// The number of an entry that is not known, as libfuse has it.
+#define NO_NUMBER 0xffffffff
 
 static pthread_mutex_t lock = PTHREAD_MUTEX_INITIALIZER;
 static struct fuse_session *session;
+static unsigned threads; // that restore a snapshot, under the lock
 
 void requests_use(struct fuse_session *used) { session = used; }
+
+bool requests_are_under_way(void) {
+    pthread_mutex_lock(&lock);
+    bool are = threads > 0;
+    pthread_mutex_unlock(&lock);
+    return are;
+}
 
 static struct mount *mount_of(fuse_req_t req) { return fuse_req_userdata(req); }
 
@@ -31,6 +43,19 @@ static struct fuse_entry_param told(const struct found *found) {
                                      .attr = found->stat,
                                      .attr_timeout = SECONDS_KNOWN,
                                      .entry_timeout = SECONDS_KNOWN};
+}
+
+// Takes the lock. An unlinked file that the kernel knows still goes out of the way.
+static int begin(fuse_req_t req) {
+    pthread_mutex_lock(&lock);
+    return files_settle(mount_of(req));
+}
+
+// The same for a request that is about the bytes of one file alone.
+static int begin_bytes(fuse_req_t req, fuse_ino_t number) {
+    pthread_mutex_lock(&lock);
+    bool is_leaving = mount_of(req)->leaving && mount_of(req)->leaving == entry_of(req, number);
+    return is_leaving ? files_settle(mount_of(req)) : 0;
 }
 
 // Under the lock: an answer that names an entry is one more that the kernel holds.
@@ -53,15 +78,15 @@ static void on_init(void *mount, struct fuse_conn_info *connection) {
 
 static void on_lookup(fuse_req_t req, fuse_ino_t parent, const char *name) {
     struct found found;
-    pthread_mutex_lock(&lock);
-    int fault = hold(files_find(mount_of(req), entry_of(req, parent), name, &found), &found);
+    int fault = begin(req);
+    if (!fault) fault = hold(files_find(mount_of(req), entry_of(req, parent), name, &found), &found);
     pthread_mutex_unlock(&lock);
     answer_entry(req, fault, &found);
 }
 
 static void on_forget(fuse_req_t req, fuse_ino_t number, uint64_t lookups) {
     pthread_mutex_lock(&lock);
-    if (number != FUSE_ROOT_ID) entry_forget(entry_of(req, number), lookups);
+    if (number != FUSE_ROOT_ID) files_forget(mount_of(req), entry_of(req, number), lookups);
     pthread_mutex_unlock(&lock);
     fuse_reply_none(req);
 }
@@ -69,7 +94,8 @@ static void on_forget(fuse_req_t req, fuse_ino_t number, uint64_t lookups) {
 static void on_forget_many(fuse_req_t req, size_t count, struct fuse_forget_data *forgets) {
     pthread_mutex_lock(&lock);
     for (size_t i = 0; i < count; i++)
-        if (forgets[i].ino != FUSE_ROOT_ID) entry_forget(entry_of(req, forgets[i].ino), forgets[i].nlookup);
+        if (forgets[i].ino != FUSE_ROOT_ID)
+            files_forget(mount_of(req), entry_of(req, forgets[i].ino), forgets[i].nlookup);
     pthread_mutex_unlock(&lock);
     fuse_reply_none(req);
 }
@@ -82,8 +108,8 @@ static void answer_stat(fuse_req_t req, int fault, const struct stat *stat) {
 static void on_getattr(fuse_req_t req, fuse_ino_t number, struct fuse_file_info *info) {
     struct stat stat;
     (void)info;
-    pthread_mutex_lock(&lock);
-    int fault = files_stat(mount_of(req), entry_of(req, number), &stat);
+    int fault = begin(req);
+    if (!fault) fault = files_stat(mount_of(req), entry_of(req, number), &stat);
     pthread_mutex_unlock(&lock);
     answer_stat(req, fault, &stat);
 }
@@ -107,8 +133,8 @@ static void on_setattr(fuse_req_t req, fuse_ino_t number, struct stat *wanted, i
     };
     struct stat stat;
     (void)info;
-    pthread_mutex_lock(&lock);
-    int fault = files_set(mount_of(req), entry_of(req, number), &setting);
+    int fault = begin(req);
+    if (!fault) fault = files_set(mount_of(req), entry_of(req, number), &setting);
     if (!fault) fault = files_stat(mount_of(req), entry_of(req, number), &stat);
     pthread_mutex_unlock(&lock);
     answer_stat(req, fault, &stat);
@@ -122,8 +148,9 @@ static struct attributes fresh_attributes(fuse_req_t req, mode_t mode) {
 static void make(fuse_req_t req, fuse_ino_t parent, const char *name, mode_t mode, bool is_directory) {
     struct attributes attributes = fresh_attributes(req, mode);
     struct found found;
-    pthread_mutex_lock(&lock);
-    int fault = hold(files_make(mount_of(req), entry_of(req, parent), name, &attributes, is_directory, &found), &found);
+    int fault = begin(req);
+    if (!fault) fault = files_make(mount_of(req), entry_of(req, parent), name, &attributes, is_directory, &found);
+    hold(fault, &found);
     pthread_mutex_unlock(&lock);
     if (fault) fuse_reply_err(req, fault);
     else answer_entry(req, 0, &found);
@@ -151,8 +178,8 @@ static void on_link(fuse_req_t req, fuse_ino_t number, fuse_ino_t parent, const 
 }
 
 static void take_name(fuse_req_t req, fuse_ino_t parent, const char *name, bool is_directory) {
-    pthread_mutex_lock(&lock);
-    int fault = files_remove(mount_of(req), entry_of(req, parent), name, is_directory);
+    int fault = begin(req);
+    if (!fault) fault = files_remove(mount_of(req), entry_of(req, parent), name, is_directory);
     pthread_mutex_unlock(&lock);
     fuse_reply_err(req, fault);
 }
@@ -163,34 +190,43 @@ static void on_rmdir(fuse_req_t req, fuse_ino_t parent, const char *name) { take
 
 static void on_rename(fuse_req_t req, fuse_ino_t parent, const char *name, fuse_ino_t new_parent, const char *new_name,
                       unsigned flags) {
-    pthread_mutex_lock(&lock);
-    int fault = files_rename(mount_of(req), entry_of(req, parent), name, entry_of(req, new_parent), new_name, flags);
+    struct mount *mount = mount_of(req);
+    int fault = begin(req);
+    if (!fault) fault = files_rename(mount, entry_of(req, parent), name, entry_of(req, new_parent), new_name, flags);
     pthread_mutex_unlock(&lock);
     fuse_reply_err(req, fault);
 }
 
 static void on_open(fuse_req_t req, fuse_ino_t number, struct fuse_file_info *info) {
-    pthread_mutex_lock(&lock);
-    int fault = files_open(mount_of(req), entry_of(req, number), info->flags);
+    int fault = begin(req);
+    if (!fault) fault = files_open(mount_of(req), entry_of(req, number), info->flags);
     pthread_mutex_unlock(&lock);
     if (fault) fuse_reply_err(req, fault);
     else fuse_reply_open(req, info);
 }
 
+// A file that stands already is opened as it is; where that cuts it, what is told is what stands then.
+static int open_found(struct mount *mount, struct entry *folder, const char *name, int flags, struct found *found) {
+    int fault = files_find(mount, folder, name, found);
+    if (!fault) fault = files_open(mount, found->entry, flags);
+    return fault ? fault : files_stat(mount, found->entry, &found->stat);
+}
+
+// A file that is made has nothing to cut, and keeps the moment at which it was made.
 static int create(fuse_req_t req, fuse_ino_t parent, const char *name, mode_t mode, int flags, struct found *found) {
     struct attributes attributes = fresh_attributes(req, mode);
     struct mount *mount = mount_of(req);
     struct entry *folder = entry_of(req, parent);
     int fault = files_make(mount, folder, name, &attributes, false, found);
-    if (fault == EEXIST && !(flags & O_EXCL)) fault = files_find(mount, folder, name, found);
-    if (!fault) fault = files_open(mount, found->entry, flags);
+    if (fault == EEXIST && !(flags & O_EXCL)) fault = open_found(mount, folder, name, flags, found);
+    else if (!fault) fault = files_open(mount, found->entry, flags & ~O_TRUNC);
     return hold(fault, found);
 }
 
 static void on_create(fuse_req_t req, fuse_ino_t parent, const char *name, mode_t mode, struct fuse_file_info *info) {
     struct found found;
-    pthread_mutex_lock(&lock);
-    int fault = create(req, parent, name, mode, info->flags, &found);
+    int fault = begin(req);
+    if (!fault) fault = create(req, parent, name, mode, info->flags, &found);
     pthread_mutex_unlock(&lock);
     if (fault) {
         fuse_reply_err(req, fault);
@@ -211,9 +247,9 @@ static void on_release(fuse_req_t req, fuse_ino_t number, struct fuse_file_info 
 static void on_read(fuse_req_t req, fuse_ino_t number, size_t size, off_t offset, struct fuse_file_info *info) {
     size_t got = 0;
     char *bytes = malloc(size ? size : 1);
-    int fault = bytes ? 0 : ENOMEM;
     (void)info;
-    pthread_mutex_lock(&lock);
+    int fault = begin_bytes(req, number);
+    if (!bytes) fault = ENOMEM;
     if (!fault) fault = files_read(mount_of(req), entry_of(req, number), (uint64_t)offset, bytes, size, &got);
     pthread_mutex_unlock(&lock);
     if (fault) fuse_reply_err(req, fault);
@@ -225,8 +261,8 @@ static void on_write(fuse_req_t req, fuse_ino_t number, const char *bytes, size_
                      struct fuse_file_info *info) {
     size_t done = 0;
     (void)info;
-    pthread_mutex_lock(&lock);
-    int fault = files_write(mount_of(req), entry_of(req, number), (uint64_t)offset, bytes, size, &done);
+    int fault = begin_bytes(req, number);
+    if (!fault) fault = files_write(mount_of(req), entry_of(req, number), (uint64_t)offset, bytes, size, &done);
     pthread_mutex_unlock(&lock);
     if (fault) fuse_reply_err(req, fault);
     else fuse_reply_write(req, done);
@@ -234,9 +270,9 @@ static void on_write(fuse_req_t req, fuse_ino_t number, const char *bytes, size_
 
 static void on_fallocate(fuse_req_t req, fuse_ino_t number, int mode, off_t offset, off_t count,
                          struct fuse_file_info *info) {
-    int fault = mode ? EOPNOTSUPP : 0;
     (void)info;
-    pthread_mutex_lock(&lock);
+    int fault = begin(req);
+    if (mode) fault = EOPNOTSUPP;
     if (!fault) fault = files_allocate(mount_of(req), entry_of(req, number), (uint64_t)offset, (uint64_t)count);
     pthread_mutex_unlock(&lock);
     fuse_reply_err(req, fault);
@@ -248,20 +284,38 @@ static void on_fsync(fuse_req_t req, fuse_ino_t number, int data_only, struct fu
     fuse_reply_err(req, 0);
 }
 
-// The names of an open directory, as they were when it was read from its beginning.
-static struct bytes *listing_of(struct fuse_file_info *info) { return (struct bytes *)(uintptr_t)info->fh; }
+// The names of an open directory, as they were when it was read from its beginning. All of them stand in a row, since a
+// mount may end before they are closed.
+struct listing {
+    struct bytes names;
+    struct listing *before, *after;
+};
+
+static struct listing listings = {.before = &listings, .after = &listings};
+
+static struct listing *listing_of(struct fuse_file_info *info) { return (struct listing *)(uintptr_t)info->fh; }
 
 static void on_opendir(fuse_req_t req, fuse_ino_t number, struct fuse_file_info *info) {
     (void)number;
-    info->fh = (uint64_t)(uintptr_t)calloc(1, sizeof(struct bytes));
-    if (info->fh) fuse_reply_open(req, info);
-    else fuse_reply_err(req, ENOMEM);
+    struct listing *listing = calloc(1, sizeof *listing);
+    if (!listing) {
+        fuse_reply_err(req, ENOMEM);
+        return;
+    }
+    listing->before = &listings;
+    listing->after = listings.after;
+    listings.after = listing->after->before = listing;
+    info->fh = (uint64_t)(uintptr_t)listing;
+    fuse_reply_open(req, info);
 }
 
 static void on_releasedir(fuse_req_t req, fuse_ino_t number, struct fuse_file_info *info) {
     (void)number;
-    bytes_free(listing_of(info));
-    free(listing_of(info));
+    struct listing *listing = listing_of(info);
+    listing->before->after = listing->after;
+    listing->after->before = listing->before;
+    bytes_free(&listing->names);
+    free(listing);
     fuse_reply_err(req, 0);
 }
 
@@ -274,29 +328,61 @@ struct page {
     size_t room, length;
 };
 
-// Puts a name in: false where there is no room left. `next` is the place behind it.
-static bool put_name(struct page *page, const char *name, bool is_directory, off_t next) {
+// What is told of a name.
+struct line {
+    const char *name;
+    struct fuse_entry_param param;
+    struct entry *held; // what the kernel holds by it; null: nothing
+    off_t next;         // the place behind it
+};
+
+// Puts a line in: false where there is no room left.
+static bool put_line(struct page *page, const struct line *line) {
     char *to = page->out + page->length;
     size_t room = page->room - page->length, size;
-    struct stat kind = {.st_mode = is_directory ? S_IFDIR : S_IFREG, .st_ino = (ino_t)-1};
-    struct fuse_entry_param param = {.attr = kind};
-    struct found found;
-    bool is_dot = name[0] == '.' && (!name[1] || (name[1] == '.' && !name[2]));
-    bool is_told = page->tells_more && !is_dot && !files_find(mount_of(page->req), page->directory, name, &found);
-    if (is_told) param = told(&found);
-    if (page->tells_more) size = fuse_add_direntry_plus(page->req, to, room, name, &param, next);
-    else size = fuse_add_direntry(page->req, to, room, name, &kind, next);
+    if (page->tells_more) size = fuse_add_direntry_plus(page->req, to, room, line->name, &line->param, line->next);
+    else size = fuse_add_direntry(page->req, to, room, line->name, &line->param.attr, line->next);
     if (size > room) return false;
-    if (is_told) found.entry->lookups++;
+    if (line->held) line->held->lookups++;
     page->length += size;
     return true;
 }
 
+// `.` or `..`, whose number no look-up gives. Above the root is what the kernel has there.
+static bool put_dots(struct page *page, const char *name, off_t next) {
+    const struct entry *directory = page->directory;
+    if (name[1] && directory->parent) directory = directory->parent;
+    struct stat stat = {.st_mode = S_IFDIR, .st_ino = files_number(directory)};
+    return put_line(page, &(struct line){.name = name, .param.attr = stat, .next = next});
+}
+
+// A name of the listing: what stands there, or its number alone. A name that is gone is left out.
+static bool put_name(struct page *page, const char *name, bool is_directory, off_t next) {
+    struct line line = {.name = name, .next = next};
+    struct entry *known = page->tells_more ? 0 : entry_find(page->directory, name);
+    struct found found = {.entry = known};
+    int fault = known ? 0 : files_find(mount_of(page->req), page->directory, name, &found);
+    if (fault == ENOENT) return true;
+    line.param.attr.st_mode = is_directory ? S_IFDIR : S_IFREG;
+    line.param.attr.st_ino = fault ? NO_NUMBER : files_number(found.entry);
+    if (!fault && page->tells_more) {
+        line.param = told(&found);
+        line.held = found.entry;
+    }
+    return put_line(page, &line);
+}
+
+// The place of the first name at or behind a place that lseek(2) may have named.
+static size_t place_of_name(const struct bytes *names, size_t from) {
+    bool is_inside = from > 0 && from < names->length && names->at[from - 1];
+    return is_inside ? from + strlen(names->at + from) + 1 : from;
+}
+
 // Place 0 is before `.`, 1 before `..`, and 2 and so many bytes of the listing before each name.
 static void put_names(struct page *page, const struct bytes *names, off_t at) {
-    if (at == 0 && !put_name(page, ".", true, ++at)) return;
-    if (at == 1 && !put_name(page, "..", true, ++at)) return;
-    for (size_t from = (size_t)at - 2; from < names->length;) {
+    if (at == 0 && !put_dots(page, ".", ++at)) return;
+    if (at == 1 && !put_dots(page, "..", ++at)) return;
+    for (size_t from = place_of_name(names, (size_t)at - 2); from < names->length;) {
         const char *name = names->at + from;
         from += strlen(name) + 1;
         if (!put_name(page, name + 1, name[0] == 'd', (off_t)from + 2)) return;
@@ -305,7 +391,7 @@ static void put_names(struct page *page, const struct bytes *names, off_t at) {
 
 static int fill_page(struct page *page, struct bytes *names, off_t at) {
     int fault = 0;
-    if (at == 0) {
+    if (at == 0 || !names->at) {
         names->length = 0;
         fault = files_list(mount_of(page->req), page->directory, names);
     }
@@ -317,9 +403,9 @@ static int fill_page(struct page *page, struct bytes *names, off_t at) {
 static void answer_page(fuse_req_t req, fuse_ino_t number, size_t size, off_t at, struct fuse_file_info *info,
                         bool more) {
     struct page page = {req, entry_of(req, number), more, malloc(size), size, 0};
-    int fault = page.out ? 0 : ENOMEM;
-    pthread_mutex_lock(&lock);
-    if (!fault) fault = fill_page(&page, listing_of(info), at);
+    int fault = begin(req);
+    if (!page.out) fault = ENOMEM;
+    if (!fault) fault = fill_page(&page, &listing_of(info)->names, at);
     pthread_mutex_unlock(&lock);
     if (fault) fuse_reply_err(req, fault);
     else fuse_reply_buf(req, page.out, page.length);
@@ -334,30 +420,34 @@ static void on_readdirplus(fuse_req_t req, fuse_ino_t number, size_t size, off_t
     answer_page(req, number, size, at, info, true);
 }
 
+static fsblkcnt_t blocks_left(uint64_t size, uint64_t taken) { return taken < size ? (size - taken) / 4096 : 0; }
+
 static void on_statfs(fuse_req_t req, fuse_ino_t number) {
     (void)number;
+    struct room room = room_now();
     struct statvfs stat = {.f_bsize = 4096,
                            .f_frsize = 4096,
                            .f_files = 1u << 30,
                            .f_ffree = 1u << 30,
                            .f_favail = 1u << 30,
-                           .f_blocks = (fsblkcnt_t)sysconf(_SC_PHYS_PAGES),
+                           .f_blocks = room.size / 4096,
+                           .f_bfree = blocks_left(room.size, room.taken),
+                           .f_bavail = blocks_left(room.size, room.taken + room.reserve),
                            .f_namemax = LONGEST_NAME};
-    stat.f_bfree = stat.f_bavail = (fsblkcnt_t)sysconf(_SC_AVPHYS_PAGES);
     fuse_reply_statfs(req, &stat);
 }
 
 static void on_setxattr(fuse_req_t req, fuse_ino_t number, const char *name, const char *value, size_t size,
                         int flags) {
-    pthread_mutex_lock(&lock);
-    int fault = files_set_extended(entry_of(req, number), name, value, size, flags);
+    int fault = begin(req);
+    if (!fault) fault = files_set_extended(mount_of(req), entry_of(req, number), name, value, size, flags);
     pthread_mutex_unlock(&lock);
     fuse_reply_err(req, fault);
 }
 
 static void on_removexattr(fuse_req_t req, fuse_ino_t number, const char *name) {
-    pthread_mutex_lock(&lock);
-    int fault = files_remove_extended(entry_of(req, number), name);
+    int fault = begin(req);
+    if (!fault) fault = files_remove_extended(entry_of(req, number), name);
     pthread_mutex_unlock(&lock);
     fuse_reply_err(req, fault);
 }
@@ -405,6 +495,12 @@ static void tell_stale(struct bytes *list) {
     bytes_free(list);
 }
 
+static void count_thread(int more) {
+    pthread_mutex_lock(&lock);
+    threads += (unsigned)more;
+    pthread_mutex_unlock(&lock);
+}
+
 struct restoring {
     fuse_req_t req;
     struct restore_request wanted;
@@ -414,35 +510,49 @@ struct restoring {
 static void *restore(void *argument) {
     struct restoring *restoring = argument;
     struct bytes stale = {0};
-    pthread_mutex_lock(&lock);
-    int fault = snapshot_restore(mount_of(restoring->req), restoring->wanted.name, &stale);
+    int fault = begin(restoring->req);
+    if (!fault) fault = snapshot_restore(mount_of(restoring->req), restoring->wanted.name, &stale);
     pthread_mutex_unlock(&lock);
     tell_stale(&stale);
     if (fault) fuse_reply_err(restoring->req, fault);
     else fuse_reply_ioctl(restoring->req, 0, 0, 0);
     free(restoring);
+    count_thread(-1);
     return 0;
 }
 
 static int start_restoring(fuse_req_t req, const struct restore_request *wanted) {
-    uid_t asks = fuse_req_ctx(req)->uid;
     pthread_t thread;
-    if (asks && asks != getuid()) return EPERM;
     if (!memchr(wanted->name, 0, sizeof wanted->name)) return EINVAL;
     struct restoring *restoring = malloc(sizeof *restoring);
     if (!restoring) return ENOMEM;
     *restoring = (struct restoring){req, *wanted};
+    count_thread(1);
     int fault = pthread_create(&thread, 0, restore, restoring);
-    if (fault) free(restoring);
-    else pthread_detach(thread);
+    if (!fault) {
+        pthread_detach(thread);
+        return 0;
+    }
+    count_thread(-1);
+    free(restoring);
     return fault;
+}
+
+static int answer_ending(fuse_req_t req) {
+    struct ending_place place = ending_place();
+    fuse_reply_ioctl(req, 0, &place, sizeof place);
+    return 0;
 }
 
 static void on_ioctl(fuse_req_t req, fuse_ino_t number, unsigned what, void *argument, struct fuse_file_info *info,
                      unsigned flags, const void *in, size_t in_size, size_t out_size) {
-    (void)argument, (void)info, (void)flags, (void)out_size;
-    bool is_restore = what == RESTORE_REQUEST && number == FUSE_ROOT_ID && in_size == sizeof(struct restore_request);
-    int fault = is_restore ? start_restoring(req, in) : ENOTTY;
+    (void)argument, (void)info, (void)flags;
+    uid_t asks = fuse_req_ctx(req)->uid;
+    int fault = ENOTTY;
+    if (asks && asks != getuid()) fault = EPERM;
+    else if (number != FUSE_ROOT_ID) fault = ENOTTY;
+    else if (what == RESTORE_REQUEST && in_size == sizeof(struct restore_request)) fault = start_restoring(req, in);
+    else if (what == ENDING_REQUEST && out_size == sizeof(struct ending_place)) fault = answer_ending(req);
     if (fault) fuse_reply_err(req, fault);
 }
 

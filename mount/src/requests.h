@@ -15,4 +15,6 @@ struct restore_request {
 extern const struct fuse_lowlevel_ops requests;
 // The session that requests come by.
 void requests_use(struct fuse_session *session);
+// Whether a thread is at work on one still. The session and the volume have to stand until then.
+bool requests_are_under_way(void);
 #endif

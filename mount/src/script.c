@@ -19,14 +19,16 @@ enum { FAULTS = sizeof faults / sizeof *faults };
 static const char *const change_words[] = {"mkdir", "create", "unlink", "rmdir", "rmtree"};
 static const char *const keeping_words[] = {"snapshot", "drop", "restore"};
 
-// A word, a space, and a path in percent form.
+// A word, a space, and a path or a name in percent form.
 static int append_call(struct bytes *line, const char *word, const char *path) {
     int fault = bytes_print(line, "%s ", word);
     return fault ? fault : text_escape(line, path);
 }
 
 static int append_look(struct bytes *line, const char *word, struct place at) {
-    int fault = at.snapshot ? bytes_print(line, "%s@%s ", word, at.snapshot) : bytes_print(line, "%s ", word);
+    int fault = bytes_print(line, at.snapshot ? "%s@" : "%s", word);
+    if (!fault && at.snapshot) fault = text_escape(line, at.snapshot);
+    if (!fault) fault = bytes_append(line, " ", 1);
     return fault ? fault : text_escape(line, at.path);
 }
 
@@ -64,8 +66,9 @@ int script_stat(struct bytes *line, struct place at) { return end_line(line, app
 
 int script_list(struct bytes *line, struct place at) { return end_line(line, append_look(line, "readdir", at)); }
 
+// A user's text may be no name of a snapshot: in percent form it is one word of one line all the same.
 int script_keep(struct bytes *line, enum keeping what, const char *snapshot) {
-    return bytes_print(line, "%s %s\n", keeping_words[what], snapshot);
+    return end_line(line, append_call(line, keeping_words[what], snapshot));
 }
 
 int reply_fault(struct bytes *reply, int number) {

@@ -1,21 +1,31 @@
 #include "snapshots.h"
+#include "room.h"
 #include <errno.h>
 #include <stdlib.h>
 #include <string.h>
 
 static struct entry *folder(const struct mount *mount) { return entry_find(mount->root, SNAPSHOTS); }
 
-int snapshot_take(struct mount *mount, const char *name, struct found *out) {
+static int take_tree(struct mount *mount, const char *name, struct entry **out) {
     const struct volume *volume = &mount->volume;
     int fault = volume->way->keep(volume->self, TAKE_SNAPSHOT, name);
     if (fault) return fault;
-    out->entry = entry_add(folder(mount), name, true);
-    if (out->entry) out->entry->role = SNAPSHOT_ROOT;
-    fault = out->entry ? entries_copy(mount->root, out->entry) : ENOMEM;
-    if (!fault) return files_stat(mount, out->entry, &out->stat);
-    if (out->entry) entry_take_out(out->entry);
+    *out = entry_add(folder(mount), name, true);
+    if (*out) (*out)->role = SNAPSHOT_ROOT;
+    fault = *out ? entries_copy(mount->root, *out) : ENOMEM;
+    if (!fault) return 0;
+    if (*out) entry_take_out(*out);
     volume->way->keep(volume->self, DROP_SNAPSHOT, name);
     return fault;
+}
+
+int snapshot_take(struct mount *mount, const char *name, struct found *out) {
+    int fault;
+    do {
+        room_begin();
+        fault = take_tree(mount, name, &out->entry);
+    } while (room_again(&mount->volume, &fault));
+    return fault ? fault : files_stat(mount, out->entry, &out->stat);
 }
 
 int snapshot_drop(struct mount *mount, const char *name) {
@@ -73,8 +83,8 @@ int snapshot_restore(struct mount *mount, const char *name, struct bytes *out) {
     struct entry *snapshot = entry_find(folder(mount), name);
     int fault = snapshot ? volume->way->keep(volume->self, RESTORE_SNAPSHOT, name) : ENOENT;
     if (fault) return fault;
-    // Files that were open and unlinked when the snapshot was taken are not of its tree.
-    files_own_folder(mount, REMOVE_TREE);
+    // Files that were unlinked and held when the snapshot was taken are not of its tree.
+    files_clear_own_folder(mount);
     note_held(mount->root, out);
     settle(mount, mount->root);
     note_root(mount, out);

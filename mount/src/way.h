@@ -21,6 +21,8 @@ enum change { MAKE_DIRECTORY, CREATE, UNLINK, REMOVE_DIRECTORY, REMOVE_TREE };
 // What becomes of the snapshot of a name.
 enum keeping { TAKE_SNAPSHOT, DROP_SNAPSHOT, RESTORE_SNAPSHOT };
 
+struct image; // of image.h
+
 // A path of the live tree, or of a snapshot's.
 struct place {
     const char *snapshot; // null: the live tree
@@ -48,8 +50,11 @@ struct way {
     // Each name as `d` or `f`, the name and a byte 0, behind what `out` has.
     int (*list)(void *self, struct place at, struct bytes *out);
     int (*keep)(void *self, enum keeping what, const char *snapshot);
-    // Ends the file system and frees `self`. Where a file is named, the image of the live tree is put there first.
-    int (*close)(void *self, const char *image);
+    // Does at most so many steps that move waiting changes down: how many, and 0 where the file system sees to them.
+    unsigned (*relieve)(void *self, unsigned steps);
+    // Ends the file system and frees `self`. Where an image is wanted, that of the live tree is put there first; it is
+    // whole where the answer is 0.
+    int (*close)(void *self, struct image *image);
 };
 
 // A file system that stands.

@@ -1,0 +1,206 @@
+"""What an image keeps, and what is told of one that is not whole."""
+import os
+import shutil
+import signal
+import stat
+import subprocess
+import time
+from pathlib import Path
+
+from own_mount import MOUNT, OPTIONS, Mount, case, run_cases
+
+LARGE = os.urandom(1 << 20) * 48
+
+
+def keep_tree(folder: Path, *options) -> Path:
+    """The image of a tree of three files."""
+    file = folder / "image"
+    mount = Mount(folder, "--image", file, *options)
+    for name in ("one", "two", "three"):
+        (mount.point / name).write_text(name)
+    assert mount.end() == 0, mount.said()
+    return file
+
+
+def is_whole(file: Path) -> bool:
+    return subprocess.run(["sha256sum", "-c", "--status", f"{file}.sum"], cwd=file.parent).returncode == 0
+
+
+def names_in(folder: Path, file: Path) -> list[str]:
+    mount = Mount(folder, "--load", file)
+    names = sorted(os.listdir(mount.point))
+    assert mount.end() == 0, mount.said()
+    return names
+
+
+@case
+def a_tree_is_kept(folder: Path):
+    file = keep_tree(folder)
+    assert is_whole(file)
+    assert names_in(folder, file) == ["one", "three", "two"]
+    assert sorted(os.listdir(folder)) == ["image", "image.sum", "mnt", "said"]
+
+
+@case
+def a_mount_that_fails_leaves_the_file(folder: Path):
+    file = keep_tree(folder)
+    before = file.read_bytes()
+    failed = subprocess.run([MOUNT, *OPTIONS, "--image", file, folder / "none"], stderr=subprocess.DEVNULL)
+    assert failed.returncode == 1
+    assert file.read_bytes() == before
+    assert is_whole(file)
+
+
+@case
+def a_file_that_cannot_be_written_is_told_before_the_mount(folder: Path):
+    (folder / "folder").mkdir()
+    for file in (folder / "none/image", folder / "folder", Path("/dev/null")):
+        mount = Mount(folder, "--image", file)
+        assert not mount.stands, file
+        assert mount.process.wait() and str(file) in mount.said()
+
+
+@case
+def a_second_mount_may_not_keep_its_tree_there(folder: Path):
+    mount = Mount(folder, "--image", folder / "image")
+    other = Mount(folder, "--image", folder / "image", name="other")
+    assert mount.stands and not other.stands
+    assert mount.end() == 0
+
+
+@case
+def more_signals_do_not_cut_the_image(folder: Path):
+    mount = Mount(folder, "--image", folder / "image")
+    (mount.point / "large").write_bytes(LARGE)
+    mount.process.terminate()
+    while mount.process.poll() is None:
+        time.sleep(0.03)
+        mount.process.terminate()
+    assert mount.process.wait() == 0, mount.said()
+    assert is_whole(folder / "image")
+    again = Mount(folder, "--load", folder / "image")
+    assert (again.point / "large").read_bytes() == LARGE
+    assert again.end() == 0
+
+
+@case
+def the_old_image_stands_until_the_new_one_is_whole(folder: Path):
+    file = keep_tree(folder)
+    before = file.read_bytes()
+    mount = Mount(folder, "--image", file)
+    (mount.point / "large").write_bytes(LARGE)
+    mount.process.terminate()
+    time.sleep(0.1)
+    mount.process.kill()
+    mount.process.wait()
+    mount.clear()
+    assert file.read_bytes() == before or is_whole(file)
+    assert not Path(f"{file}.sum").exists() or is_whole(file)
+    assert Mount(folder, "--load", file).end() == 0
+
+
+@case
+def what_a_mount_left_is_not_cut(folder: Path):
+    part = folder / "image.part"
+    part.write_text("D / 5\n")
+    mount = Mount(folder, "--image", folder / "image")
+    assert not mount.stands and str(part) in mount.said() and part.read_text() == "D / 5\n"
+    part.write_text("")
+    assert Mount(folder, "--image", folder / "image").end() == 0
+    assert is_whole(folder / "image")
+
+
+@case
+def a_program_that_dies_leaves_the_old_image(folder: Path):
+    file = keep_tree(folder)
+    before = file.read_bytes()
+    mount = Mount(folder, "--image", file)
+    task = Path(f"/proc/{mount.process.pid}/task/{mount.process.pid}/children")
+    for program in map(int, task.read_text().split()):
+        os.kill(program, signal.SIGKILL)
+        assert mount.end() == 1 and str(file) in mount.said()
+        assert file.read_bytes() == before and is_whole(file)
+    assert OPTIONS or mount.end() == 0
+
+
+@case
+def an_image_that_was_cut_is_refused(folder: Path):
+    file = keep_tree(folder)
+    lines = file.read_bytes().splitlines(keepends=True)
+    file.write_bytes(b"".join(lines[:-1]))
+    mount = Mount(folder, "--load", file)
+    assert not mount.stands and "cut or changed" in mount.said()
+    Path(f"{file}.sum").unlink()
+    mount = Mount(folder, "--load", file)
+    assert mount.stands and "not known" in mount.said()
+    assert mount.end() == 0
+
+
+@case
+def only_the_owner_may_read_images_and_logs(folder: Path):
+    for name in ("image", "log.in"):
+        (folder / name).touch(mode=0o644)
+    file = keep_tree(folder, "--log", folder / "log")
+    for name in ("image", "image.sum", "log.in", "log.out"):
+        assert stat.S_IMODE((folder / name).stat().st_mode) == 0o600, name
+    assert is_whole(file)
+
+
+@case
+def a_link_to_the_image_stays(folder: Path):
+    (folder / "below").mkdir()
+    (folder / "below/file").touch()
+    (folder / "image").symlink_to("below/file")
+    keep_tree(folder)
+    assert (folder / "image").is_symlink() and (folder / "below/file").stat().st_size
+    assert is_whole(folder / "below/file")
+
+
+def mount_in_background(folder: Path, file: Path) -> Path:
+    point = folder / "mnt"
+    point.mkdir(exist_ok=True)
+    with (folder / "said").open("w") as said:
+        subprocess.run([MOUNT, *OPTIONS, "--image", file, point], stderr=said, check=True)
+    return point
+
+
+@case
+def an_unmount_waits_for_the_image(folder: Path):
+    point = mount_in_background(folder, folder / "image")
+    (point / "large").write_bytes(LARGE)
+    subprocess.run([MOUNT, "--unmount", point], check=True)
+    assert is_whole(folder / "image") and (folder / "image").stat().st_size > 2 * len(LARGE)
+
+
+@case
+def an_unmount_tells_that_no_image_was_written(folder: Path):
+    (folder / "gone").mkdir()
+    point = mount_in_background(folder, folder / "gone/image")
+    shutil.rmtree(folder / "gone")
+    ended = subprocess.run([MOUNT, "--unmount", point], stderr=subprocess.PIPE, text=True)
+    assert ended.returncode == 1 and "gone/image" in ended.stderr, ended
+
+
+@case
+def a_key_of_the_terminal_ends_it_with_its_image(folder: Path):
+    mount = Mount(folder, "--image", folder / "image")
+    (mount.point / "file").write_text("abc")
+    os.killpg(mount.process.pid, signal.SIGINT)
+    assert mount.process.wait(timeout=60) == 0, mount.said()
+    assert names_in(folder, folder / "image") == ["file"]
+
+
+@case
+def names_of_the_mounts_own_in_an_image(folder: Path):
+    text = "D / 5\nD /.doorvervain-unlinked 5\nD /.doorvervain-unlinked/1 5\nF /file 3 5\nb 0 616263\n"
+    (folder / "image").write_text(text)
+    mount = Mount(folder, "--load", folder / "image", "--image", folder / "next")
+    with (mount.point / "file").open() as file:
+        (mount.point / "file").unlink()
+        assert file.read() == "abc"
+    assert "/.doorvervain-unlinked" in mount.said()
+    assert mount.end() == 0
+    assert (folder / "next").read_text().splitlines()[1:] == []
+
+
+run_cases()

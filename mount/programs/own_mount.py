@@ -1,0 +1,93 @@
+"""Mounts of a program's own, each in the foreground, and a frame for cases that make them."""
+import os
+import shutil
+import signal
+import subprocess
+import sys
+import tempfile
+import time
+import traceback
+from collections.abc import Callable
+from pathlib import Path
+
+MOUNT, OPTIONS = os.environ["MOUNT"], os.environ.get("OPTIONS", "").split()
+CASES: list[Callable[[Path], None]] = []
+
+
+def case(run: Callable[[Path], None]) -> Callable[[Path], None]:
+    CASES.append(run)
+    return run
+
+
+def refused(number: int, call, *words, **named) -> None:
+    try:
+        call(*words, **named)
+    except OSError as fault:
+        assert fault.errno == number, fault
+    else:
+        raise AssertionError(f"not refused: {words}")
+
+
+class Mount:
+    """It is tried to mount on a folder; `stands` says whether that was done."""
+
+    def __init__(self, folder: Path, *options, name: str = "mnt"):
+        self.point, self.words = folder / name, folder / "said"
+        self.point.mkdir(exist_ok=True)
+        with self.words.open("w") as said:
+            command = [MOUNT, "--foreground", *OPTIONS, *map(str, options), self.point]
+            self.process = subprocess.Popen(command, stdin=subprocess.DEVNULL, stderr=said, start_new_session=True)
+        while not os.path.ismount(self.point) and self.process.poll() is None:
+            time.sleep(0.01)
+        self.stands = self.process.poll() is None
+
+    def said(self) -> str:
+        return self.words.read_text()
+
+    def end(self, number: int | None = None) -> int:
+        """Takes it away, or sends it a signal, and waits: the status of its process."""
+        if number is None:
+            for _ in range(50):
+                if subprocess.run(["fusermount3", "-u", self.point], stderr=subprocess.DEVNULL).returncode == 0:
+                    break
+                time.sleep(0.1)
+        else:
+            self.process.send_signal(number)
+        return self.process.wait(timeout=120)
+
+    def clear(self) -> None:
+        if self.process.poll() is None:
+            self.process.kill()
+            self.process.wait()
+        subprocess.run(["fusermount3", "-uz", self.point], stderr=subprocess.DEVNULL)
+
+
+def passes(run: Callable[[Path], None]) -> bool:
+    folder = Path(tempfile.mkdtemp(prefix="doorvervain-case-"))
+    try:
+        run(folder)
+        return True
+    except BaseException:
+        print("failed:", run.__name__)
+        traceback.print_exc(file=sys.stdout)
+        if (folder / "said").exists():
+            print((folder / "said").read_text())
+        return False
+    finally:
+        for point in folder.iterdir():
+            if point.is_dir() and is_mounted(point):
+                subprocess.run(["fusermount3", "-uz", point], stderr=subprocess.DEVNULL)
+        shutil.rmtree(folder, ignore_errors=True)
+
+
+def is_mounted(point: Path) -> bool:
+    written = str(point).replace(" ", "\\040")
+    return any(line.split()[4] == written for line in Path("/proc/self/mountinfo").read_text().splitlines())
+
+
+def run_cases() -> None:
+    """Runs the cases, or those that are named; the status says whether all passed."""
+    wanted = [run for run in CASES if run.__name__ in sys.argv[1:]] or CASES
+    passed = sum(passes(run) for run in wanted)
+    print(f"{passed} of {len(wanted)} cases work")
+    sys.exit(0 if passed == len(wanted) else 1)

@@ -1,0 +1,27 @@
+// The file that the image of a tree goes to at the end of a mount, and the one that a mount begins with.
+//
+// FILE is opened and tried before anything is mounted. The image is written beside it, into FILE.part, and gets the
+// name when it is whole and on the disk: until then FILE is what it was. FILE.sum has its checksum. Who reads FILE
+// later sees by that whether it was cut or changed.
+#ifndef IMAGE_H
+#define IMAGE_H
+#include "sum.h"
+#include <limits.h>
+
+struct image {
+    char file[PATH_MAX], part[PATH_MAX], sum_file[PATH_MAX], sum_part[PATH_MAX];
+    int out; // FILE.part, which this process has locked
+    struct sum sum;
+};
+
+// Opens it, before anything is mounted: 0, or a number of <errno.h>, with a word on standard error.
+int image_open(struct image *image, const char *file);
+int image_put(struct image *image, const char *bytes, size_t count);
+// The image is whole: it gets its name. Where that fails it stays in FILE.part.
+int image_keep(struct image *image);
+// The image is not wanted: FILE stays as it was.
+void image_drop(struct image *image);
+
+// Whether a file is what its checksum tells. A file without one passes, with a word on standard error.
+int image_check(const char *file);
+#endif

@@ -1,0 +1,24 @@
+// Memory that is taken, and how much of it `--size` lets the tree take.
+//
+// All of malloc, realloc and free is counted (the program is linked with --wrap). A call that makes the tree grow gets
+// no memory beyond the size less a reserve. The volume then refuses it and is as it was, so that it is answered ENOSPC.
+// Every other call may take more, also out of the reserve: a removal needs some memory before it gives any back.
+#ifndef ROOM_H
+#define ROOM_H
+#include "way.h"
+
+enum { SMALLEST_SIZE = 16 << 20, SHARE_KEPT = 8 };
+
+// In bytes. Where no size is set, all memory of the machine, and what is not available of it.
+struct room {
+    uint64_t size, taken, reserve;
+};
+
+void room_set_size(uint64_t size);
+struct room room_now(void);
+
+// A call that makes the tree grow stands between these two, and is done again for as long as the second says so: steps
+// of the tree gave memory back meanwhile. One that was refused for want of room has the fault ENOSPC.
+void room_begin(void);
+bool room_again(const struct volume *volume, int *fault);
+#endif

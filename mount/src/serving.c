@@ -1,0 +1,122 @@
+#include "serving.h"
+#include "ending.h"
+#include "image.h"
+#include "readahead.h"
+#include "requests.h"
+#include "room.h"
+#include <errno.h>
+#include <malloc.h>
+#include <poll.h>
+#include <signal.h>
+#include <unistd.h>
+
+static int open_volume(const struct options *options, struct mount *mount) {
+    const struct making *making = &options->making;
+    int fault = making->betr ? open_pipe(making, &mount->volume) : open_library(making, &mount->volume);
+    if (fault) return fault;
+    if (making->log) fault = open_log(making, &mount->volume);
+    if (!fault) fault = files_start(mount);
+    if (fault) mount->volume.way->close(mount->volume.self, 0);
+    return fault;
+}
+
+// From here on the tree goes into its image: no signal of the terminal or of kill(1) ends that.
+static void ignore_signals(void) {
+    static const int numbers[] = {SIGHUP, SIGINT, SIGTERM, SIGPIPE};
+    for (size_t i = 0; i < sizeof numbers / sizeof *numbers; i++) signal(numbers[i], SIG_IGN);
+}
+
+static void serve_one(struct fuse_session *session, struct fuse_buf *buffer) {
+    struct pollfd comes = {.fd = fuse_session_fd(session), .events = POLLIN};
+    bool is_there = poll(&comes, 1, 20) > 0 && comes.revents & POLLIN;
+    if (is_there && fuse_session_receive_buf(session, buffer) > 0) fuse_session_process_buf(session, buffer);
+    else usleep(1000);
+}
+
+// A signal ends the loop with its number, and what was mounted ends well then. A thread that tells the kernel to forget
+// may wait for requests that are under way: so these are served until it is done.
+static int serve(struct fuse_session *session) {
+    static struct fuse_buf buffer; // its memory is libfuse's
+    int status = fuse_session_loop(session) < 0;
+    ignore_signals();
+    while (requests_are_under_way()) serve_one(session, &buffer);
+    return status;
+}
+
+static struct fuse_session *open_session(const struct options *options, struct mount *mount) {
+    const char *how = options->allows_other ? "default_permissions,allow_other,fsname=doorvervain,subtype=doorvervain"
+                                            : "default_permissions,fsname=doorvervain,subtype=doorvervain";
+    char *words[] = {"doorvervain-mount", "-o", (char *)how, 0};
+    struct fuse_args args = FUSE_ARGS_INIT(3, words);
+    struct fuse_session *session = fuse_session_new(&args, &requests, sizeof requests, mount);
+    fuse_opt_free_args(&args);
+    return session;
+}
+
+// Whether it came to stand is said in `stood`.
+static int mount_and_serve(const struct options *options, struct mount *mount, void (*stands)(void), bool *stood) {
+    struct fuse_session *session = open_session(options, mount);
+    if (!session) return 1;
+    requests_use(session);
+    int status = fuse_set_signal_handlers(session) || fuse_session_mount(session, options->mount_point);
+    if (!status) {
+        raise_readahead(options->mount_point);
+        stands();
+        *stood = true;
+        status = serve(session);
+        fuse_session_unmount(session);
+    }
+    fuse_remove_signal_handlers(session);
+    fuse_session_destroy(session);
+    return status;
+}
+
+static int keep_image(struct image *image, int fault) {
+    if (fault) {
+        ending_say("no image is written to ", image->file, fault);
+        image_drop(image);
+        return 1;
+    }
+    fault = image_keep(image);
+    if (fault) ending_say("the tree is left in the file with .part behind its name: ", image->file, fault);
+    return fault != 0;
+}
+
+// Nothing is open any more, so nothing that was unlinked goes into the image.
+static int close_volume(struct mount *mount, struct image *image) {
+    int fault = files_end(mount);
+    if (fault) ending_say("unlinked files are kept", "", fault);
+    int other = mount->volume.way->close(mount->volume.self, image);
+    if (image) return keep_image(image, other) || fault;
+    if (other) ending_say("the volume or its log did not end well", "", other);
+    return fault || other;
+}
+
+// Room for the bytes of a large read is used again, and not asked from the kernel for each.
+static void keep_memory(void) {
+    mallopt(M_MMAP_THRESHOLD, 8 * LARGEST_READ);
+    mallopt(M_TRIM_THRESHOLD, 64 * LARGEST_READ);
+}
+
+// What was mounted may be kept, and nothing else: where no mount comes to stand, the file is as it was.
+static int serve_volume(const struct options *options, struct image *image, void (*stands)(void)) {
+    struct mount mount = {0};
+    bool stood = false;
+    int status = open_volume(options, &mount) != 0;
+    if (!status) {
+        status = mount_and_serve(options, &mount, stands, &stood);
+        status |= close_volume(&mount, stood ? image : 0);
+    }
+    if (image && !stood) image_drop(image);
+    return status;
+}
+
+int serve_mount(const struct options *options, void (*stands)(void)) {
+    static struct image image;
+    int fault = options->making.image ? image_check(options->making.image) : 0;
+    if (!fault && options->image) fault = image_open(&image, options->image);
+    if (fault || ending_open()) return 1;
+    keep_memory();
+    room_set_size(options->size);
+    return ending_tell(serve_volume(options, options->image ? &image : 0, stands));
+}
