@@ -392,6 +392,37 @@ static inline uint32_t doorvervain_relieve(struct doorvervain *fs, uint32_t step
     return doorvervain_lacks(fs, NULL, 0) ? 0 : doorvervain_raw_relieve(fs, steps);
 }
 
+// ---- what a number says, and the release
+
+// The release of the library that this header belongs to.
+#define DOORVERVAIN_VERSION "0.1.0"
+
+// The word and a sentence for what a call answered, as "ENOENT: no such file or directory". It never answers null. The
+// text is constant: nobody frees it.
+static inline const char *doorvervain_strerror(uint8_t number) {
+    switch (number) {
+    case DOORVERVAIN_DONE: return "DONE: the call was done";
+    case DOORVERVAIN_ENOENT: return "ENOENT: no such file or directory";
+    case DOORVERVAIN_ENOTDIR: return "ENOTDIR: not a directory";
+    case DOORVERVAIN_EISDIR: return "EISDIR: is a directory";
+    case DOORVERVAIN_EEXIST: return "EEXIST: something stands there";
+    case DOORVERVAIN_ENOTEMPTY: return "ENOTEMPTY: directory not empty";
+    case DOORVERVAIN_EPERM: return "EPERM: operation not permitted";
+    case DOORVERVAIN_EINVAL: return "EINVAL: invalid argument";
+    case DOORVERVAIN_ENAMETOOLONG: return "ENAMETOOLONG: name or path too long";
+    case DOORVERVAIN_EFBIG: return "EFBIG: file too large";
+    case DOORVERVAIN_EBUSY: return "EBUSY: the root cannot be moved or taken out";
+    case DOORVERVAIN_ENOMEM: return "ENOMEM: memory was refused";
+    case DOORVERVAIN_ENOSPC: return "ENOSPC: all 64 names of snapshots are taken";
+    case DOORVERVAIN_NULL: return "NULL: a pointer is null";
+    case DOORVERVAIN_CLOSED: return "CLOSED: the volume or tree is closed";
+    default: return "UNKNOWN: no number of this library";
+    }
+}
+
+// The release that the program was compiled for, as "0.1.0". The text is constant: nobody frees it.
+static inline const char *doorvervain_version(void) { return DOORVERVAIN_VERSION; }
+
 #ifdef __cplusplus
 }
 #endif

@@ -1,0 +1,20 @@
+"""A file system in memory, with snapshots.
+
+>>> import doorvervain
+>>> with doorvervain.Volume() as volume:
+...     volume.mkdir("/notes")
+...     with volume.open("/notes/today", "w") as file:
+...         _ = file.write("rain")
+...     volume.snapshot("monday")
+...     volume.rmtree("/notes")
+...     volume.restore("monday")
+...     volume.read("/notes/today")
+b'rain'
+
+The package stands over the C library `doorvervain`. `docs/PYTHON.md` says more.
+"""
+from ._file import File
+from ._volume import LARGE, USUAL, BadImage, Entry, Frozen, Shape, Stat, Volume
+
+__version__ = "0.1.0"
+__all__ = ["BadImage", "Entry", "File", "Frozen", "LARGE", "Shape", "Stat", "USUAL", "Volume"]

@@ -1,0 +1,193 @@
+"""File objects over a volume or a frozen tree."""
+from __future__ import annotations
+
+import errno
+import io
+import os
+from typing import IO, TYPE_CHECKING, Any, Optional
+
+from ._library import fault
+
+if TYPE_CHECKING:
+    from ._volume import StrPath, Tree, Volume
+
+# How many bytes a buffered file asks for at once.
+_BUFFER = 1 << 16
+
+
+class File(io.RawIOBase):
+    """A file that is open, without a buffer. It names its path, and has a place of its own.
+
+    Threads may share it: each call holds the volume's lock throughout.
+    """
+
+    def __init__(self, tree: "Tree", path: "StrPath", mode: str = "r") -> None:
+        """`mode` is one of r, w, x and a, with or without +."""
+        action, updating = mode[0], "+" in mode
+        self.name = os.fspath(path)
+        self._tree = tree
+        self._path = path
+        self._raw = self.name.encode("utf-8", "surrogateescape") if isinstance(self.name, str) else self.name
+        self._reads = action == "r" or updating
+        self._writes = action != "r" or updating
+        self._appends = action == "a"
+        self._at = 0
+        if self._writes and not hasattr(tree, "write"):
+            raise fault(errno.EROFS, path)
+        self._begin(action)
+
+    @property
+    def mode(self) -> str:
+        """The mode, as files of the system tell it."""
+        if self._appends:
+            return "ab+" if self._reads else "ab"
+        if self._writes:
+            return "rb+" if self._reads else "wb"
+        return "rb"
+
+    @property
+    def size(self) -> int:
+        """How many bytes the file has now."""
+        return self._tree.stat(self._path).size
+
+    def _begin(self, action: str) -> None:
+        tree: Any = self._tree
+        if action == "w":
+            tree._empty(self._path)
+        elif action == "x":
+            tree.create(self._path)
+        elif action == "a" and not tree.exists(self._path):
+            tree.create(self._path)
+        elif tree.stat(self._path).is_dir:
+            raise fault(errno.EISDIR, self._path)
+        if action == "a":
+            self._at = tree.stat(self._path).size
+
+    def readable(self) -> bool:
+        """Whether it can be read."""
+        self._check()
+        return self._reads
+
+    def writable(self) -> bool:
+        """Whether it can be written."""
+        self._check()
+        return self._writes
+
+    def seekable(self) -> bool:
+        """Files can be sought in."""
+        self._check()
+        return True
+
+    def _check(self) -> None:
+        if self.closed:
+            raise ValueError("I/O operation on closed file")
+
+    def _check_reads(self) -> None:
+        self._check()
+        if not self._reads:
+            raise io.UnsupportedOperation("not readable")
+
+    def _check_writes(self) -> "Volume":
+        self._check()
+        if not self._writes:
+            raise io.UnsupportedOperation("not writable")
+        volume: Any = self._tree
+        return volume
+
+    def readinto(self, buffer: Any) -> int:
+        """Reads into a buffer as many bytes as it holds and the file has."""
+        self._check_reads()
+        view = memoryview(buffer).cast("B")
+        got = self._tree._read_into(self._path, self._raw, self._at, view, len(view))
+        self._at += got
+        return got
+
+    def readall(self) -> bytes:
+        """Reads all bytes from its place on."""
+        self._check_reads()
+        data = self._tree.read(self._path, -1, self._at)
+        self._at += len(data)
+        return data
+
+    def write(self, data: Any) -> int:
+        """Writes all bytes at its place, or at the file's end where it appends."""
+        volume = self._check_writes()
+        with volume._room.lock:
+            if self._appends:
+                self._at = volume.stat(self._path).size
+            count = volume.write(self._path, data, self._at)
+        self._at += count
+        return count
+
+    def seek(self, offset: int, whence: int = os.SEEK_SET) -> int:
+        """Moves its place, from the front, from the place itself or from the file's end."""
+        self._check()
+        if whence == os.SEEK_SET:
+            base = 0
+        elif whence == os.SEEK_CUR:
+            base = self._at
+        elif whence == os.SEEK_END:
+            base = self._tree.stat(self._path).size
+        else:
+            raise ValueError(f"invalid whence: {whence}")
+        if base + offset < 0:
+            raise fault(errno.EINVAL, self._path)
+        self._at = base + offset
+        return self._at
+
+    def tell(self) -> int:
+        """Its place."""
+        self._check()
+        return self._at
+
+    def truncate(self, size: Optional[int] = None) -> int:
+        """Cuts the file to so many bytes, or to its place, or lengthens it by zeros. The place stays."""
+        volume = self._check_writes()
+        to = self._at if size is None else size
+        volume.truncate(self._path, to)
+        return to
+
+    def __repr__(self) -> str:
+        if self.closed:
+            return f"<{type(self).__name__} [closed]>"
+        return f"<{type(self).__name__} name={self.name!r} mode={self.mode!r}>"
+
+
+def open_file(
+    tree: "Tree",
+    path: "StrPath",
+    mode: str,
+    buffering: int = -1,
+    encoding: Optional[str] = None,
+    errors: Optional[str] = None,
+    newline: Optional[str] = None,
+) -> IO[Any]:
+    """A file object of the mode that the builtin `open` takes: raw, buffered, or of text over a buffer."""
+    letters = set(mode)
+    if letters - set("rwxab+t") or len(mode) > len(letters):
+        raise ValueError(f"invalid mode: {mode!r}")
+    actions = [letter for letter in "rwxa" if letter in letters]
+    if len(actions) != 1:
+        raise ValueError("must have exactly one of create/read/write/append mode")
+    binary = "b" in letters
+    if binary and "t" in letters:
+        raise ValueError("can't have text and binary mode at once")
+    if binary and (encoding is not None or errors is not None or newline is not None):
+        raise ValueError("binary mode takes no encoding, errors or newline argument")
+    if buffering == 0 and not binary:
+        raise ValueError("can't have unbuffered text I/O")
+    raw = File(tree, path, actions[0] + ("+" if "+" in letters else ""))
+    if buffering == 0:
+        return raw  # type: ignore[return-value]
+    buffer = _buffered(raw, buffering if buffering > 1 else _BUFFER)
+    if binary:
+        return buffer
+    text = io.TextIOWrapper(buffer, encoding or "utf-8", errors, newline, line_buffering=buffering == 1)
+    text.mode = mode  # type: ignore[misc]
+    return text
+
+
+def _buffered(raw: File, size: int) -> Any:
+    if raw.readable() and raw.writable():
+        return io.BufferedRandom(raw, size)
+    return io.BufferedWriter(raw, size) if raw.writable() else io.BufferedReader(raw, size)

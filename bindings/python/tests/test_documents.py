@@ -1,0 +1,41 @@
+"""The examples of the documents and of the modules run as they stand."""
+import doctest
+import importlib
+import importlib.util
+import pathlib
+import unittest
+
+HERE = pathlib.Path(__file__).resolve()
+# In the repository, and where `make install` put it.
+PAGES = [HERE.parents[3] / "docs/PYTHON.md", HERE.parents[4] / "doc/doorvervain/PYTHON.md"]
+
+
+# What a module or a page needs beside the package.
+NEEDS = {"doorvervain.fsspec": ["fsspec"], "doorvervain.pyfilesystem": ["fs"]}
+
+
+def lacks(names):
+    return [name for name in names if importlib.util.find_spec(name) is None]
+
+
+class Examples(unittest.TestCase):
+    def test_modules(self):
+        for name in ["doorvervain", "doorvervain._volume", "doorvervain._file", *NEEDS]:
+            if lacks(NEEDS.get(name, [])):
+                print(f"the examples of {name} are not run: {lacks(NEEDS[name])} is not installed")
+                continue
+            with self.subTest(module=name):
+                self.assertEqual(doctest.testmod(importlib.import_module(name), report=True).failed, 0)
+
+    @unittest.skipIf(lacks(["fs", "fsspec"]), "fs or fsspec is not installed")
+    def test_pages(self):
+        pages = [page for page in PAGES if page.exists()]
+        self.assertTrue(pages, "no page is there")
+        for page in pages:
+            told = doctest.testfile(str(page), module_relative=False)
+            self.assertGreater(told.attempted, 10)
+            self.assertEqual(told.failed, 0)
+
+
+if __name__ == "__main__":
+    unittest.main()

@@ -1,0 +1,349 @@
+"""Volumes, snapshots and frozen trees: what each call gives, and what it refuses."""
+import array
+import errno
+import os
+import pathlib
+import re
+import threading
+import unittest
+
+import doorvervain
+from doorvervain import BadImage, Volume
+
+HEADER = pathlib.Path(__file__).resolve().parents[3] / "include/doorvervain.h"
+
+
+def refused(case, kind, number, call, *words, **named):
+    """Asks for a refusal of this class and number, and gives it."""
+    with case.assertRaises(OSError) as caught:
+        call(*words, **named)
+    case.assertIs(type(caught.exception), kind)
+    case.assertEqual(caught.exception.errno, number)
+    return caught.exception
+
+
+class Refusals(unittest.TestCase):
+    def setUp(self):
+        self.volume = Volume()
+        self.volume.mkdir("/d")
+        self.volume.create("/d/f")
+
+    def test_each_refusal_has_its_class_its_number_and_its_path(self):
+        volume = self.volume
+        for kind, number, call, *words in [
+            (FileNotFoundError, errno.ENOENT, volume.stat, "/x"),
+            (FileNotFoundError, errno.ENOENT, volume.create, ""),
+            (NotADirectoryError, errno.ENOTDIR, volume.stat, "/d/f/x"),
+            (NotADirectoryError, errno.ENOTDIR, volume.listdir, "/d/f"),
+            (IsADirectoryError, errno.EISDIR, volume.read, "/d"),
+            (IsADirectoryError, errno.EISDIR, volume.write, "/d", b"x"),
+            (FileExistsError, errno.EEXIST, volume.mkdir, "/d"),
+            (OSError, errno.ENOTEMPTY, volume.rmdir, "/d"),
+            (PermissionError, errno.EPERM, volume.unlink, "/d"),
+            (OSError, errno.EINVAL, volume.mkdir, "/d//e"),
+            (OSError, errno.EINVAL, volume.mkdir, "/d/"),
+            (OSError, errno.EINVAL, volume.mkdir, "d"),
+            (OSError, errno.EINVAL, volume.mkdir, "/a\0b"),
+            (OSError, errno.ENAMETOOLONG, volume.mkdir, "/" + 256 * "n"),
+            (OSError, errno.EFBIG, volume.truncate, "/d/f", (1 << 40) + 1),
+            (OSError, errno.EBUSY, volume.rmdir, "/"),
+            (OSError, errno.EBUSY, volume.rmtree, "/"),
+            (FileNotFoundError, errno.ENOENT, volume.restore, "none"),
+            (FileNotFoundError, errno.ENOENT, volume.drop, "none"),
+            (FileNotFoundError, errno.ENOENT, volume.frozen, "none"),
+            (OSError, errno.EINVAL, volume.snapshot, "a/b"),
+        ]:
+            with self.subTest(call=call.__name__, words=words):
+                self.assertEqual(refused(self, kind, number, call, *words).filename, words[0])
+
+    def test_a_rename_tells_both_paths(self):
+        for kind, number, old, new in [
+            (FileNotFoundError, errno.ENOENT, "/x", "/y"),
+            (OSError, errno.EINVAL, "/d", "/d/e"),
+            (IsADirectoryError, errno.EISDIR, "/d/f", "/d"),
+            (OSError, errno.EBUSY, "/", "/r"),
+        ]:
+            told = refused(self, kind, number, self.volume.rename, old, new)
+            self.assertEqual((told.filename, told.filename2), (old, new))
+
+    def test_the_path_is_told_as_it_was_given(self):
+        self.assertEqual(refused(self, FileNotFoundError, errno.ENOENT, self.volume.stat, b"/x").filename, b"/x")
+        path = pathlib.PurePosixPath("/x")
+        self.assertEqual(refused(self, FileNotFoundError, errno.ENOENT, self.volume.stat, path).filename, "/x")
+
+    def test_numbers_that_C_cannot_take(self):
+        for call, *words in [
+            (self.volume.read, "/d/f", 1, -1),
+            (self.volume.write, "/d/f", b"x", -1),
+            (self.volume.truncate, "/d/f", -1),
+        ]:
+            refused(self, OSError, errno.EINVAL, call, *words)
+        for offset in [1 << 40, 1 << 63, 1 << 64, 1 << 80]:
+            refused(self, OSError, errno.EFBIG, self.volume.write, "/d/f", b"x", offset)
+            refused(self, OSError, errno.EFBIG, self.volume.truncate, "/d/f", offset + 1)
+            self.assertEqual(self.volume.read("/d/f", 9, offset), b"")
+            self.assertEqual(self.volume.write("/d/f", b"", offset), 0)
+        for at in [-1, 1 << 64]:
+            with self.assertRaises(ValueError):
+                self.volume.mkdir("/e", at=at)
+        self.assertEqual(self.volume.listdir("/"), ["d"])
+
+    def test_what_is_no_path_and_no_bytes(self):
+        for path in [None, 7, object()]:
+            with self.assertRaises(TypeError):
+                self.volume.stat(path)
+        for data in ["text", 7, None]:
+            with self.assertRaises(TypeError):
+                self.volume.write("/d/f", data)
+
+    def test_a_closed_volume_refuses_each_call(self):
+        tree = self.volume.freeze()
+        self.volume.snapshot("s")
+        file = self.volume.open("/d/f", "rb", buffering=0)
+        self.volume.close()
+        self.volume.close()
+        self.assertTrue(self.volume.closed)
+        volume = self.volume
+        for call, *words in [
+            (volume.mkdir, "/e"), (volume.create, "/e"), (volume.unlink, "/d/f"), (volume.rmdir, "/d"),
+            (volume.rmtree, "/d"), (volume.rename, "/d", "/e"), (volume.truncate, "/d/f", 1),
+            (volume.write, "/d/f", b"x"), (volume.write_bytes, "/d/f", b"x"), (volume.read, "/d/f"),
+            (volume.stat, "/d"), (volume.listdir, "/"), (volume.snapshot, "t"), (volume.drop, "s"),
+            (volume.restore, "s"), (volume.freeze,), (volume.frozen, "s"), (volume.image,), (volume.relieve, 1),
+            (volume.makedirs, "/e/f"), (volume.open, "/d/f"), (file.read, 1), (file.readall,),
+        ]:
+            with self.subTest(call=call.__name__):
+                refused(self, OSError, errno.EBADF, call, *words)
+        self.assertEqual(tree.listdir("/d"), ["f"])
+        tree.close()
+        for call, *words in [(tree.read, "/d/f"), (tree.stat, "/d"), (tree.listdir, "/"), (tree.image,)]:
+            refused(self, OSError, errno.EBADF, call, *words)
+
+    def test_shapes(self):
+        for shape in [(4, 4, 4), doorvervain.USUAL, doorvervain.LARGE]:
+            Volume(shape=shape).close()
+        for shape in [(1, 256, 64), (16, 8, 64), (16, 256, 3), (65, 256, 64), (1 << 16, 256, 64), (-1, 256, 64)]:
+            refused(self, OSError, errno.EINVAL, Volume, shape=shape)
+
+
+class Files(unittest.TestCase):
+    def setUp(self):
+        self.volume = Volume()
+
+    def test_paths_of_three_types(self):
+        self.volume.mkdir("/söm")
+        self.volume.create("/söm/ö".encode())
+        self.volume.create(pathlib.PurePosixPath("/söm/p"))
+        self.assertEqual(self.volume.listdir(b"/s\xc3\xb6m"), ["p", "ö"])
+
+    def test_names_that_are_no_text(self):
+        self.volume.create(b"/\xff")
+        (name,) = self.volume.listdir()
+        self.assertEqual(os.fsencode(name), b"\xff")
+        self.assertTrue(self.volume.is_file("/" + name))
+
+    def test_reads_of_all_lengths(self):
+        data = bytes(i * i >> 8 & 0xFF for i in range(3 << 20))
+        for length in [0, 1, 4095, 4097, (1 << 15) - 1, 1 << 15, (1 << 15) + 1, 1 << 20, (1 << 20) + 1, 3 << 20]:
+            with self.subTest(length=length):
+                self.volume.write_bytes("/f", data[:length])
+                self.assertEqual(self.volume.stat("/f").size, length)
+                for size in [-1, 0, 1, length - 1, length, length + 1, 1 << 15, (1 << 20) + 7]:
+                    for offset in [0, 1, 4096, length - 1, length, length + 1]:
+                        if offset >= 0:
+                            end = length if size < 0 else offset + size
+                            got = self.volume.read("/f", size, offset)
+                            self.assertTrue(got == data[offset : min(end, length)], (size, offset, len(got)))
+
+    def test_bytes_of_all_types(self):
+        words = array.array("H", [1, 2, 3])
+        for data in [b"abc", bytearray(b"abc"), memoryview(b"abc"), memoryview(b"xaxbxc")[1::2], words]:
+            self.assertEqual(self.volume.write_bytes("/f", data), len(bytes(data)))
+            self.assertEqual(self.volume.read("/f"), bytes(data))
+
+    def test_gaps_are_zeros(self):
+        self.volume.create("/f")
+        self.assertEqual(self.volume.write("/f", b"end", 10_000), 3)
+        self.volume.write("/f", b"front")
+        self.assertEqual(self.volume.read("/f"), b"front" + bytes(9_995) + b"end")
+        self.volume.truncate("/f", 3)
+        self.volume.truncate("/f", 6)
+        self.assertEqual(self.volume.read("/f"), b"fro\0\0\0")
+
+    def test_moments(self):
+        moments = iter(range(100, 200))
+        volume = Volume(clock=lambda: next(moments))
+        volume.mkdir("/d")
+        volume.create("/d/f", at=3)
+        self.assertEqual(volume.stat("/d"), (True, 0, 3))
+        volume.write("/d/f", b"xy")
+        self.assertEqual(volume.stat("/d/f"), (False, 2, 101))
+        self.assertTrue(volume.stat("/d/f").is_file)
+        volume.write("/d/f", b"", at=(1 << 64) - 1)
+        self.assertEqual(volume.stat("/d/f").modified, 101)
+        volume.truncate("/d/f", 2, at=(1 << 64) - 1)
+        self.assertEqual(volume.stat("/d/f").modified, (1 << 64) - 1)
+
+    def test_a_long_listing(self):
+        names = sorted(f"name-{i:05}" + "x" * (i % 90) for i in range(5_000))
+        self.volume.mkdir("/d")
+        for name in reversed(names):
+            self.volume.create("/d/" + name)
+        self.volume.mkdir("/d/a")
+        self.assertEqual(self.volume.listdir("/d"), ["a"] + names)
+        self.assertEqual([entry.name for entry in self.volume.scandir("/d") if entry.is_dir], ["a"])
+        self.volume.rmtree("/d")
+        self.assertEqual(self.volume.listdir(), [])
+
+    def test_makedirs(self):
+        self.volume.makedirs("/a/b/c")
+        self.volume.makedirs("/a/b/c", exist_ok=True)
+        refused(self, FileExistsError, errno.EEXIST, self.volume.makedirs, "/a/b/c")
+        self.volume.create("/a/f")
+        refused(self, FileExistsError, errno.EEXIST, self.volume.makedirs, "/a/f", exist_ok=True)
+        refused(self, FileExistsError, errno.EEXIST, self.volume.makedirs, "/a/f/x/y")
+
+    def test_walks(self):
+        for path in ["/b/x", "/a/y", "/a-"]:
+            self.volume.makedirs(path)
+        self.volume.create("/b/f")
+        self.assertEqual([path for path, _, _ in self.volume.walk()], ["/", "/a", "/a/y", "/a-", "/b", "/b/x"])
+        self.assertEqual(list(self.volume.walk("/b")), [("/b", ["x"], ["f"]), ("/b/x", [], [])])
+        seen = []
+        for path, folders, _ in self.volume.walk():
+            seen.append(path)
+            if "a" in folders:
+                folders.remove("a")
+        self.assertEqual(seen, ["/", "/a-", "/b", "/b/x"])
+        deep = "/e" * 511
+        self.volume.makedirs(deep)
+        self.assertEqual(sum(1 for _ in self.volume.walk("/e")), 511)
+
+
+class Snapshots(unittest.TestCase):
+    def test_names_in_order(self):
+        volume = Volume()
+        for name in ["b", b"a", "_", "B", "a.1", "a-1"]:
+            volume.snapshot(name)
+        self.assertEqual(volume.snapshots(), ["B", "_", "a", "a-1", "a.1", "b"])
+        refused(self, FileExistsError, errno.EEXIST, volume.snapshot, "a")
+        volume.drop("a")
+        self.assertNotIn("a", volume.snapshots())
+        refused(self, FileNotFoundError, errno.ENOENT, volume.drop, "a")
+        for number in range(64 - 5):
+            volume.snapshot(f"n{number}")
+        refused(self, OSError, errno.ENOSPC, volume.snapshot, "more")
+        self.assertEqual(len(volume.snapshots()), 64)
+
+    def test_a_snapshot_stands_still(self):
+        volume = Volume()
+        volume.write_bytes("/f", b"one")
+        volume.snapshot("one")
+        volume.write_bytes("/f", b"two")
+        with volume.frozen("one") as tree:
+            self.assertEqual(tree.read("/f"), b"one")
+            volume.drop("one")
+            volume.rmtree("/f")
+            self.assertEqual(tree.read("/f", 2, 1), b"ne")
+            self.assertEqual(list(tree.walk()), [("/", [], ["f"])])
+            self.assertEqual(tree.open("/f").read(), "one")
+            refused(self, OSError, errno.EROFS, tree.open, "/f", "w")
+        self.assertTrue(tree.closed)
+
+    def test_restore(self):
+        volume = Volume(shape=(4, 4, 4))
+        for name in "abc":
+            volume.create("/" + name)
+            volume.snapshot(name)
+        for name, names in [("a", ["a"]), ("c", ["a", "b", "c"]), ("b", ["a", "b"])]:
+            volume.restore(name)
+            self.assertEqual(volume.listdir(), names)
+            volume.create("/z")
+
+    def test_images(self):
+        volume = Volume(clock=lambda: 9)
+        volume.makedirs("/a/ b")
+        volume.write_bytes("/a/f", bytes(4096) + b"x")
+        text = volume.image()
+        self.assertEqual(text, b"D / 9\nD /a 9\nD /a/%20b 9\nF /a/f 4097 9\nb 1 78\n")
+        for given in [text, text.decode(), bytearray(text)]:
+            with Volume.load(given, shape=(4, 4, 4)) as other:
+                self.assertEqual(other.image(), text)
+                self.assertEqual(other.snapshots(), [])
+        wide = Volume(clock=lambda: 0)
+        wide.write_bytes("/f", b"x" * 200_000)
+        self.assertEqual(Volume.load(wide.image()).read("/f"), b"x" * 200_000)
+        with self.assertRaises(BadImage) as caught:
+            Volume.load("D / 5\nD /b 1\nD /a 1\n")
+        self.assertEqual((caught.exception.line, caught.exception.errno), (3, errno.EINVAL))
+        told = refused(self, OSError, errno.EINVAL, Volume.load, "D / 5\n", shape=(0, 0, 0))
+        self.assertNotIsInstance(told, BadImage)
+
+    def test_relief_changes_no_answer(self):
+        volume = Volume(shape=(4, 4, 4), clock=lambda: 0)
+        for number in range(500):
+            volume.create(f"/f{number}")
+        before = volume.image()
+        while volume.relieve(50) == 50:
+            self.assertEqual(volume.image(), before)
+        self.assertEqual(volume.relieve(1), 0)
+
+
+class Threads(unittest.TestCase):
+    def test_threads_share_a_volume(self):
+        volume, faults = Volume(), []
+
+        def work(number):
+            try:
+                mine = f"/t{number}"
+                volume.mkdir(mine)
+                for turn in range(200):
+                    data = os.urandom(turn * 150)
+                    volume.write_bytes(f"{mine}/f", data)
+                    with volume.freeze() as tree:
+                        if tree.read(f"{mine}/f") != data or volume.read(f"{mine}/f") != data:
+                            faults.append((number, turn))
+                    volume.write_bytes("/log", b"") if turn == 0 else volume.open("/log", "ab", 0).write(b"x")
+            except BaseException as error:
+                faults.append((number, error))
+                raise
+
+        volume.create("/log")
+        crew = [threading.Thread(target=work, args=(number,)) for number in range(8)]
+        for thread in crew:
+            thread.start()
+        for thread in crew:
+            thread.join()
+        self.assertEqual(faults, [])
+        self.assertEqual(len(volume.listdir()), 9)
+
+    def test_appends_of_threads_lose_nothing(self):
+        volume = Volume()
+
+        def work():
+            with volume.open("/log", "ab", buffering=0) as file:
+                for _ in range(500):
+                    file.write(b"line\n")
+
+        crew = [threading.Thread(target=work) for _ in range(4)]
+        for thread in crew:
+            thread.start()
+        for thread in crew:
+            thread.join()
+        self.assertEqual(volume.read("/log"), b"line\n" * 2_000)
+
+
+@unittest.skipUnless(HEADER.exists(), "the header is not beside these sources")
+class Header(unittest.TestCase):
+    def test_the_numbers_and_the_release_are_those_of_the_header(self):
+        text = HEADER.read_text()
+        numbers = {name: int(number) for name, number in re.findall(r"^    DOORVERVAIN_(E\w+) = (\d+)", text, re.M)}
+        told = [None] * 13
+        for name, number in numbers.items():
+            told[number] = getattr(errno, name)
+        self.assertEqual(told[1:], doorvervain._library.ERRNO[1:])
+        self.assertIn(f'#define DOORVERVAIN_VERSION "{doorvervain.__version__}"', text)
+
+
+if __name__ == "__main__":
+    unittest.main()

@@ -1,0 +1,158 @@
+//! Why a call is refused.
+use std::error::Error;
+use std::{fmt, io};
+
+/// Why a call was refused, under the names of POSIX.
+///
+/// ```
+/// use doorvervain::{Errno, Volume};
+/// use std::io;
+///
+/// let mut volume = Volume::new()?;
+/// let refused = volume.mkdir("/a/b", 0).unwrap_err();
+/// assert_eq!(refused, Errno::ENOENT);
+/// assert_eq!(refused.to_string(), "ENOENT: no such file or directory");
+/// assert_eq!(io::Error::from(refused).kind(), io::ErrorKind::NotFound);
+/// # Ok::<(), Errno>(())
+/// ```
+#[derive(Clone, Copy, Debug, PartialEq, Eq, Hash)]
+pub enum Errno {
+    /// No such file, directory or snapshot.
+    ENOENT = 1,
+    /// Not a directory.
+    ENOTDIR = 2,
+    /// A directory.
+    EISDIR = 3,
+    /// Something stands there already.
+    EEXIST = 4,
+    /// The directory is not empty.
+    ENOTEMPTY = 5,
+    /// Not permitted: to unlink a directory.
+    EPERM = 6,
+    /// No path, name or shape; a move below itself.
+    EINVAL = 7,
+    /// A name or path too long.
+    ENAMETOOLONG = 8,
+    /// A file too large.
+    EFBIG = 9,
+    /// The root, which stays.
+    EBUSY = 10,
+    /// Memory was refused.
+    ENOMEM = 11,
+    /// All 64 names of snapshots are taken.
+    ENOSPC = 12,
+}
+
+/// Each refusal with its word, what it says, and Linux's number for it, in the order of the library's numbers.
+const TABLE: [(Errno, &str, &str, i32); 12] = [
+    (Errno::ENOENT, "ENOENT", "no such file or directory", 2),
+    (Errno::ENOTDIR, "ENOTDIR", "not a directory", 20),
+    (Errno::EISDIR, "EISDIR", "is a directory", 21),
+    (Errno::EEXIST, "EEXIST", "something stands there", 17),
+    (Errno::ENOTEMPTY, "ENOTEMPTY", "directory not empty", 39),
+    (Errno::EPERM, "EPERM", "operation not permitted", 1),
+    (Errno::EINVAL, "EINVAL", "invalid argument", 22),
+    (Errno::ENAMETOOLONG, "ENAMETOOLONG", "name or path too long", 36),
+    (Errno::EFBIG, "EFBIG", "file too large", 27),
+    (Errno::EBUSY, "EBUSY", "the root cannot be moved or taken out", 16),
+    (Errno::ENOMEM, "ENOMEM", "memory was refused", 12),
+    (Errno::ENOSPC, "ENOSPC", "all 64 names of snapshots are taken", 28),
+];
+
+impl Errno {
+    /// The refusal's number, from 1 to 12, as the library for C has it.
+    pub fn number(self) -> u8 {
+        self as u8
+    }
+
+    /// The refusal of a number of the library; none for other numbers.
+    pub fn of_number(number: u8) -> Option<Errno> {
+        let row = TABLE.get(usize::from(number).checked_sub(1)?)?;
+        Some(row.0)
+    }
+
+    /// The refusal's word, as `ENOENT`.
+    pub fn name(self) -> &'static str {
+        self.row().1
+    }
+
+    /// What the refusal says, as a short sentence without a full stop.
+    pub fn sentence(self) -> &'static str {
+        self.row().2
+    }
+
+    /// Linux's number for the refusal.
+    pub fn raw_os_error(self) -> i32 {
+        self.row().3
+    }
+
+    fn row(self) -> &'static (Errno, &'static str, &'static str, i32) {
+        &TABLE[self as usize - 1]
+    }
+}
+
+impl fmt::Display for Errno {
+    fn fmt(&self, f: &mut fmt::Formatter<'_>) -> fmt::Result {
+        write!(f, "{}: {}", self.name(), self.sentence())
+    }
+}
+
+impl Error for Errno {}
+
+impl From<Errno> for io::Error {
+    fn from(refused: Errno) -> io::Error {
+        io::Error::from_raw_os_error(refused.raw_os_error())
+    }
+}
+
+/// Why no volume was made of an image.
+#[derive(Clone, Copy, Debug, PartialEq, Eq)]
+pub enum LoadError {
+    /// The text is no image; this is the first line with which it is none.
+    BadLine(u64),
+    /// No such shape, or memory was refused.
+    Refused(Errno),
+}
+
+impl fmt::Display for LoadError {
+    fn fmt(&self, f: &mut fmt::Formatter<'_>) -> fmt::Result {
+        match self {
+            LoadError::BadLine(line) => write!(f, "bad image at line {line}"),
+            LoadError::Refused(refused) => refused.fmt(f),
+        }
+    }
+}
+
+impl Error for LoadError {
+    fn source(&self) -> Option<&(dyn Error + 'static)> {
+        match self {
+            LoadError::BadLine(_) => None,
+            LoadError::Refused(refused) => Some(refused),
+        }
+    }
+}
+
+impl From<LoadError> for io::Error {
+    fn from(error: LoadError) -> io::Error {
+        match error {
+            LoadError::BadLine(_) => io::Error::new(io::ErrorKind::InvalidData, error),
+            LoadError::Refused(refused) => refused.into(),
+        }
+    }
+}
+
+#[cfg(test)]
+mod tests {
+    use super::{Errno, TABLE};
+
+    #[test]
+    fn the_table_is_in_the_order_of_numbers() {
+        for (number, row) in (1..).zip(TABLE) {
+            assert_eq!(row.0.number(), number);
+            assert_eq!(Errno::of_number(number), Some(row.0));
+        }
+        for number in [0, 13, 254, 255] {
+            assert_eq!(Errno::of_number(number), None);
+        }
+    }
+}

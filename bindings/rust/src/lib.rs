@@ -1,0 +1,13 @@
+#![doc = include_str!("../README.md")]
+#![deny(unsafe_code, missing_docs)]
+
+mod errno;
+mod listing;
+mod path;
+mod raw;
+mod volume;
+
+pub use errno::{Errno, LoadError};
+pub use listing::{Entries, Entry, Kind, Listing, Stat, Walk, Walked};
+pub use path::AsPath;
+pub use volume::{Frozen, Shape, Volume};

@@ -1,0 +1,264 @@
+//! Each call: what it gives, what it refuses, and what stands still.
+use doorvervain::{Errno, Frozen, Kind, LoadError, Shape, Stat, Volume};
+use std::io;
+use std::path::Path;
+use std::thread;
+
+type Outcome = Result<(), Errno>;
+
+fn names(volume: &Volume, path: &str) -> Result<Vec<String>, Errno> {
+    let listing = volume.readdir(path)?;
+    let shown = |entry: doorvervain::Entry<'_>| {
+        let letter = if entry.kind == Kind::Directory { 'd' } else { 'f' };
+        format!("{letter} {}", String::from_utf8_lossy(entry.name))
+    };
+    Ok(listing.iter().map(shown).collect())
+}
+
+#[test]
+fn the_calls() -> Outcome {
+    let mut volume = Volume::new()?;
+    volume.mkdir("/d", 3)?;
+    volume.create("/d/x", 4)?;
+    volume.write("/d/x", 0, b"hello, world", 5)?;
+    let (size, modified) = (12, 5);
+    assert_eq!(
+        volume.stat("/d/x"),
+        Ok(Stat {
+            kind: Kind::File,
+            size,
+            modified
+        })
+    );
+    assert!(volume.stat("/d")?.is_dir());
+    volume.rename("/d/x", "/y", 6)?;
+    volume.truncate("/y", 5, 7)?;
+    assert_eq!(volume.read_all("/y")?, b"hello");
+    assert_eq!(names(&volume, "/")?, ["d d", "f y"]);
+    volume.unlink("/y", 8)?;
+    volume.rmdir("/d", 9)?;
+    assert!(volume.readdir("/")?.is_empty());
+    Ok(())
+}
+
+#[test]
+fn the_refusals() -> Outcome {
+    let mut volume = Volume::new()?;
+    volume.mkdir("/d", 0)?;
+    volume.create("/d/f", 0)?;
+    let before = volume.image()?;
+    let long = format!("/{}", "n".repeat(256));
+    assert_eq!(volume.mkdir("/x/y", 0), Err(Errno::ENOENT));
+    assert_eq!(volume.create("", 0), Err(Errno::ENOENT));
+    assert_eq!(volume.create("/d/f/x", 0), Err(Errno::ENOTDIR));
+    assert_eq!(volume.write("/d", 0, b"x", 0), Err(Errno::EISDIR));
+    assert_eq!(volume.mkdir("/d", 0), Err(Errno::EEXIST));
+    assert_eq!(volume.rmdir("/d", 0), Err(Errno::ENOTEMPTY));
+    assert_eq!(volume.unlink("/d", 0), Err(Errno::EPERM));
+    assert_eq!(volume.rename("/d", "/d/e", 0), Err(Errno::EINVAL));
+    assert_eq!(volume.mkdir("d", 0), Err(Errno::EINVAL));
+    assert_eq!(volume.mkdir(b"/\0", 0), Err(Errno::EINVAL));
+    assert_eq!(volume.mkdir(&long, 0), Err(Errno::ENAMETOOLONG));
+    assert_eq!(volume.truncate("/d/f", (1 << 40) + 1, 0), Err(Errno::EFBIG));
+    assert_eq!(volume.write("/d/f", u64::MAX, b"x", 0), Err(Errno::EFBIG));
+    assert_eq!(volume.rmtree("/", 0), Err(Errno::EBUSY));
+    assert_eq!(volume.read_all("/d"), Err(Errno::EISDIR));
+    assert_eq!(volume.readdir("/d/f").err(), Some(Errno::ENOTDIR));
+    assert_eq!(volume.exists("/d/f/x"), Ok(false));
+    assert_eq!(volume.exists("/d//f"), Err(Errno::EINVAL));
+    assert_eq!(
+        Volume::with_shape(Shape {
+            fanout: 1,
+            ..Shape::USUAL
+        })
+        .err(),
+        Some(Errno::EINVAL)
+    );
+    assert_eq!(volume.image()?, before);
+    Ok(())
+}
+
+#[test]
+fn refusals_of_the_system() {
+    let kinds = [
+        (Errno::ENOENT, io::ErrorKind::NotFound),
+        (Errno::EEXIST, io::ErrorKind::AlreadyExists),
+        (Errno::EPERM, io::ErrorKind::PermissionDenied),
+        (Errno::EINVAL, io::ErrorKind::InvalidInput),
+        (Errno::ENOMEM, io::ErrorKind::OutOfMemory),
+    ];
+    for (errno, kind) in kinds {
+        assert_eq!(io::Error::from(errno).kind(), kind, "{errno}");
+    }
+    // What the system says of each number, so that a wrong one shows.
+    let said = [
+        (Errno::ENOTDIR, "Not a directory"),
+        (Errno::EISDIR, "Is a directory"),
+        (Errno::ENOTEMPTY, "Directory not empty"),
+        (Errno::ENAMETOOLONG, "File name too long"),
+        (Errno::EFBIG, "File too large"),
+        (Errno::EBUSY, "Device or resource busy"),
+        (Errno::ENOSPC, "No space left on device"),
+    ];
+    for (errno, text) in said {
+        assert!(io::Error::from(errno).to_string().starts_with(text), "{errno}");
+    }
+}
+
+#[test]
+fn reads_of_all_lengths() -> Outcome {
+    let mut volume = Volume::new()?;
+    let bytes: Vec<u8> = (0..(2_u32 << 20) + 9).map(|i| (i.wrapping_mul(i) >> 8) as u8).collect();
+    volume.create("/f", 0)?;
+    volume.write("/f", 0, &bytes, 0)?;
+    assert!(volume.read_all("/f")? == bytes);
+    for room in [0, 1, 4096, 1 << 20, (1 << 20) + 1, (2 << 20) + 9, 3 << 20] {
+        for offset in [0, 1, 4095, (2 << 20) + 8, (2 << 20) + 9, 3 << 20] {
+            let mut out = vec![0xa5; room];
+            let got = volume.read("/f", offset as u64, &mut out)?;
+            let expected = &bytes[offset.min(bytes.len())..(offset + room).min(bytes.len())];
+            assert!(out[..got] == *expected, "{room} bytes from {offset}");
+            assert!(
+                out[got..].iter().all(|byte| *byte == 0xa5),
+                "{room} bytes from {offset}"
+            );
+        }
+    }
+    assert_eq!(volume.read("/f", u64::MAX, &mut [0; 9]), Ok(0));
+    Ok(())
+}
+
+#[test]
+fn a_long_listing() -> Outcome {
+    let mut volume = Volume::with_shape(Shape {
+        fanout: 4,
+        pending: 4,
+        leaf: 4,
+    })?;
+    let made: Vec<String> = (0..3_000).map(|i| format!("name-{i:04}")).collect();
+    for name in made.iter().rev() {
+        volume.create(&format!("/{name}"), 0)?;
+        volume.relieve(2);
+    }
+    let listing = volume.readdir("/")?;
+    assert!(listing
+        .iter()
+        .map(|entry| entry.name)
+        .eq(made.iter().map(|name| name.as_bytes())));
+    while volume.relieve(100) == 100 {}
+    assert_eq!(volume.readdir("/")?, listing);
+    Ok(())
+}
+
+#[test]
+fn walks() -> Outcome {
+    let mut volume = Volume::new()?;
+    for path in ["/a", "/a/b", "/a-", "/c"] {
+        volume.mkdir(path, 0)?;
+    }
+    volume.create("/a/b/f", 0)?;
+    let paths = |top: &str| -> Vec<String> {
+        let walked = volume.walk(top).map(|it| it.expect("it is there"));
+        walked
+            .map(|it| String::from_utf8_lossy(&it.path).into_owned())
+            .collect()
+    };
+    assert_eq!(paths("/"), ["/", "/a", "/a/b", "/a/b/f", "/a-", "/c"]);
+    assert_eq!(paths("/a/b"), ["/a/b", "/a/b/f"]);
+    assert_eq!(paths("/a/b/f"), ["/a/b/f"]);
+    let mut none = volume.walk("/none");
+    assert_eq!(none.next(), Some(Err(Errno::ENOENT)));
+    assert_eq!(none.next(), None);
+    Ok(())
+}
+
+#[test]
+fn snapshots() -> Outcome {
+    let mut volume = Volume::new()?;
+    for name in ["b", "a", "a.1"] {
+        volume.create(&format!("/{name}"), 0)?;
+        volume.snapshot(name)?;
+    }
+    assert_eq!(volume.snapshots().collect::<Vec<_>>(), ["a", "a.1", "b"]);
+    assert_eq!(volume.snapshot("a"), Err(Errno::EEXIST));
+    assert_eq!(volume.snapshot("a/b"), Err(Errno::EINVAL));
+    assert_eq!(volume.restore("none"), Err(Errno::ENOENT));
+    assert_eq!(volume.frozen("none").err(), Some(Errno::ENOENT));
+    volume.restore("a")?;
+    assert_eq!(names(&volume, "/")?, ["f a", "f b"]);
+    let kept = volume.frozen("a.1")?;
+    volume.drop_snapshot("a.1")?;
+    assert_eq!(volume.drop_snapshot("a.1"), Err(Errno::ENOENT));
+    assert_eq!(volume.snapshots().collect::<Vec<_>>(), ["a", "b"]);
+    drop(volume);
+    assert_eq!(kept.readdir("/")?.iter().count(), 3);
+    assert_eq!(kept.exists(Path::new("/a.1")), Ok(true));
+    Ok(())
+}
+
+#[test]
+fn images() -> Outcome {
+    let text = b"D / 5\nD /a 9\nF /a/f 5000 7\nb 0 616263\n";
+    for shape in [
+        Shape::USUAL,
+        Shape::LARGE,
+        Shape {
+            fanout: 4,
+            pending: 4,
+            leaf: 4,
+        },
+    ] {
+        let volume = Volume::load(text, shape).expect("it is an image");
+        assert_eq!(volume.image()?, text);
+        assert_eq!(volume.snapshots().count(), 0);
+    }
+    let refused = |text: &[u8]| Volume::load(text, Shape::USUAL).err();
+    assert_eq!(refused(b"D / 5\nD /b 1\nD /a 1\n"), Some(LoadError::BadLine(3)));
+    assert_eq!(refused(b""), Some(LoadError::BadLine(1)));
+    let no_shape = Volume::load(
+        text,
+        Shape {
+            leaf: 0,
+            ..Shape::USUAL
+        },
+    );
+    assert_eq!(no_shape.err(), Some(LoadError::Refused(Errno::EINVAL)));
+    Ok(())
+}
+
+/// Trees that are frozen are read in threads while their volume goes on.
+#[test]
+fn threads() -> Outcome {
+    let mut volume = Volume::new()?;
+    let mut readers = Vec::new();
+    for round in 0..200_u32 {
+        let text = round.to_string().repeat(100);
+        let path = format!("/f{}", round % 7);
+        if round < 7 {
+            volume.create(&path, 0)?;
+        }
+        volume.truncate(&path, 0, 0)?;
+        volume.write(&path, 0, text.as_bytes(), 0)?;
+        if round % 10 == 0 {
+            let tree: Frozen = volume.freeze()?;
+            readers.push(thread::spawn(move || {
+                (0..50).all(|_| tree.read_all(&path) == Ok(text.clone().into_bytes()))
+            }));
+        }
+        volume.relieve(1);
+    }
+    let moved = thread::spawn(move || volume.readdir("/").map(|listing| listing.iter().count()));
+    assert_eq!(moved.join().expect("it ends"), Ok(7));
+    for reader in readers {
+        assert!(reader.join().expect("it ends"));
+    }
+    Ok(())
+}
+
+#[test]
+fn what_debug_shows() -> Outcome {
+    let mut volume = Volume::new()?;
+    volume.mkdir("/a", 0)?;
+    assert_eq!(format!("{volume:?}"), "Volume { entries: Ok(1), .. }");
+    Ok(())
+}
