@@ -44,16 +44,6 @@ known_whole None b read c end = tt
 known_whole (Some x) None read c end = absurd c
 known_whole (Some x) (Some y) read c end = c ∙ ap (λ l. read ++ l) end ∙ append-nil read
 
--- what follows from a fact about an error
-pub on_err_map : {A E : Type 0} (r : Result A E) (P Q : Type 0) → (P → Q) → OnErr r P → OnErr r Q
-on_err_map (Ok a) P Q f p = tt
-on_err_map (Err e) P Q f p = f p
-
--- what follows from a fact about a success
-pub on_ok_map : {A E : Type 0} (r : Result A E) (P Q : Type 0) → (P → Q) → OnOk r P → OnOk r Q
-on_ok_map (Ok a) P Q f p = f p
-on_ok_map (Err e) P Q f p = tt
-
 -- what follows from two facts about a success
 pub on_ok_both : {A E : Type 0} (r : Result A E) (P Q R : Type 0) → (P → Q → R) → OnOk r P → OnOk r Q → OnOk r R
 on_ok_both (Ok a) P Q R f p q = f p q

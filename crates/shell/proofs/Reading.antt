@@ -8,7 +8,7 @@ use Rattle.shell.specs.Script.{State, Script}
 use Rattle.shell.specs.Runs.{DoesAll, DoesGiven, DoesUntil, Leads, States}
 use Rattle.shell.specs.Progress.{FailedIn, Went, last_line}
 use Rattle.lines.specs.Held.{Holds}
-use Rattle.lines.proofs.Known.{known_text, known_whole}
+use Rattle.lines.proofs.Known.{gave_all, known_text, known_whole}
 use Rattle.shell.proofs.Progress.{script_at_end, script_held, script_of_whole, stopped_at_end, stopped_between, stopped_in, went_then}
 
 -- at the head of the loop: what the reader gave was done, up to the line so far
@@ -29,10 +29,6 @@ flush_fails meant means had has old kept new items so keeps first m =
     let (out, after, (text, held, read, holds, went), m', wrote) = so first m in
     let (later, is) = known_text had has text read in
     (out, after, (text ++ later, is, stopped_between text later first after out held went), m', Appends-kept _ _ _ _ wrote keeps)
-
--- a last read that gave nothing
-gave_all : (had has end : Option (List ℕ)) (text none : List ℕ) → Consumes had has text → Consumes has end none → none ≡ [] → Consumes had end text
-gave_all had has end text none read last empty = subst (Consumes had end) (ap (λ l. text ++ l) empty ∙ append-nil text) (Consumes-trans _ _ _ _ _ read last)
 
 -- all was read, and the last line done
 pub ends : (meant means means' : States) (had has end : Option (List ℕ)) (old now kept new : Option (List ℕ)) (items none : List ℕ)
