@@ -1,6 +1,6 @@
 -- The calls on a file: `write`, `truncate`, `unlink` and `read`.
 use Rattle.std.proofs.Common.{◌≡◌, ℕ, suc, ◌+◌, ◌≤◌, ◌<◌, List, [], ◌∷◌, length, take, drop, Bool, true, false, refl, sym, ap, ◌∙◌, subst, arith, inr, get_or, Fits, w8}
-use Rattle.std.specs.Prelude.{nat_le, nat_lt, ◌==◌, ◌&&◌, Result, Ok, Err, Some}
+use Rattle.std.specs.Prelude.{nat_le, nat_lt, ◌==◌, ◌&&◌, Result, Ok, Err, Some, IfOk}
 use Rattle.std.proofs.lemmas.Bool.{and_from, and_parts, eqb-true, eq-eqb, ltb-false, ltb-true, leb-false, leb-true, lt-ltb, le-ltb, ne_eqb}
 use Rattle.std.proofs.lemmas.List.Elements.{All-from_get_or}
 use Rattle.block_index.specs.Changed.{Changes, CutsWhereMeant, patches}
@@ -17,7 +17,7 @@ use Rattle.pathkey.specs.Keys.{Key, blocks_from}
 use Rattle.pathkey.specs.Names.{Path, IsPath}
 use Rattle.pathkey.specs.declared.errno.Errno.{Errno}
 use Rattle.pathkey.specs.declared.errno.Errno.TheVariants.{EISDIR, EPERM, EINVAL, EFBIG}
-use Rattle.reference.specs.Tree.{Tree, Dir, File, At, Found, entry_at}
+use Rattle.reference.specs.Tree.{Tree, Dir, File, At, Found, Missing, Blocked, entry_at}
 use Rattle.reference.specs.Calls.{Outcome, is_empty, bytes_of, first_fault, faults_of_file, greatest_file, greatest_read, parent, does}
 use Rattle.reference.specs.Indexes.{BlocksMean, cleared, meta_of, patched, set_len}
 use Rattle.reference.specs.Looks.{Bytes, look, seen, sighted}
@@ -30,8 +30,8 @@ use Rattle.reference.proofs.CallTrees.{reading_law}
 use Rattle.reference.proofs.IndexLaws.{write_law, truncate_law, lengthen_law, unlink_law}
 use Rattle.call_compiler.specs.declared.files.FoundFile.{FoundFile}
 use Rattle.call_compiler.specs.declared.indexes.Indexes.{Indexes}
-use Rattle.call_compiler.specs.Compiled.{Messages, no_messages, touches, AreClear, blocks_after, has_grown, has_grown_at, write_messages, MeanTree, IsCompiled}
-use Rattle.call_compiler.specs.Files.{TellsFile, IsShort}
+use Rattle.call_compiler.specs.Compiled.{Messages, no_messages, touches, AreClear, blocks_after, has_grown, has_grown_at, meta_has_grown, write_messages, MeanTree, IsCompiled}
+use Rattle.call_compiler.specs.Files.{TellsFile, TellsGrowth, IsShort}
 use Rattle.call_compiler.proofs.Compiling.{After, meta_meant, nothing_sent, compiled_kept, compiled_refused, compiled_done}
 use Rattle.call_compiler.proofs.Idle.{after_alike, idle_edit, grown_alike}
 use Rattle.call_compiler.proofs.Faults.{write_refused, write_too_large, write_nothing, write_done, truncate_refused, truncate_too_large, truncate_done, unlink_refused, unlink_done, read_refused, read_too_much, read_done}
@@ -73,10 +73,16 @@ file_meta : (i : Indexes) (t : Tree) (p : Path) (f : FoundFile) → IsPath p →
 unfolding FileOf
 file_meta i t p f is_path means there = means.meta.paths p is_path ∙ ap (λ (a : At). meta_of (sighted a)) there.1 ∙ ap (λ (n : ℕ). Some (FileMeta n f.modified)) there.2
 
--- whether it has a length and a moment
-has_there : (n at : ℕ) (t : Tree) (p : Path) (f : FoundFile) → FileOf t p f → has_grown n at f.len f.modified ≡ has_grown_at n at (entry_at t p)
-unfolding FileOf
-has_there n at t p f there = ap (λ (l : ℕ). has_grown n at l f.modified) (sym there.2) ∙ sym (ap (has_grown_at n at) there.1)
+-- whether what stands there has a length and a moment
+has_there : (n at : ℕ) (here : At) → meta_has_grown n at (meta_of (sighted here)) ≡ has_grown_at n at here
+has_there n at (Found (Dir date es)) = refl
+has_there n at (Found (File date b)) = refl
+has_there n at Missing = refl
+has_there n at Blocked = refl
+
+-- the metadata tell it
+pub growth_told : (i : Indexes) (t : Tree) (p : Path) (n at : ℕ) → IsPath p → MeanTree i t → meta_has_grown n at (metadata i.meta (enc p)) ≡ has_grown_at n at (entry_at t p)
+growth_told i t p n at is_path means = ap (meta_has_grown n at) (means.meta.paths p is_path) ∙ has_there n at (entry_at t p)
 
 found_look : (t : Tree) (p : Path) (date : ℕ) (b : List ℕ) → entry_at t p ≡ Found (File date b) → look t p ≡ Some (Bytes b)
 found_look t p date b is = ap seen is
@@ -113,6 +119,9 @@ module _ (i : Indexes) (p : Path) (off : ℕ) (w : List ℕ) (at : ℕ) (reply :
     abbrev pub has : Bool
     has = has_grown (off + length w) at found.len found.modified
 
+    tells_grown : IfOk file (TellsGrowth (metadata i.meta (enc p))) → off + length w ≤ greatest_file → has ≡ meta_has_grown (off + length w) at (metadata i.meta (enc p))
+    tells_grown grown short = subst (λ (f : Result FoundFile Errno). IfOk f (TellsGrowth (metadata i.meta (enc p)))) is grown (off + length w) at short
+
     write_makes : IsMoment at → IsPath p → AreBytes w → is_empty w ≡ false → Changes (patched off w) p (patches p off w) → (t : Tree) → MeanTree i t → ◌≡◌ {A = Outcome} (does at t (Write p off w)) ((does at t (Write p off w)).0, Count (length w)) → After i (write_messages p off w at has) (does at t (Write p off w)).0
     unfolding FileOf
     write_makes early is_path are_bytes some changes t means e =
@@ -122,13 +131,13 @@ module _ (i : Indexes) (p : Path) (off : ℕ) (w : List ℕ) (at : ℕ) (reply :
         (λ k. refl)
         (write_law at t (does at t (Write p off w)).0 p off w (metadata i.meta) (blocks i.block) (blocks_after (write_messages p off w at false) (blocks i.block)) early means (is_path, are_bytes) some (changes (blocks i.block)) e)
 
-    pub write_is_done : IsMoment at → IsPath p → AreBytes w → is_empty w ≡ false → nat_le (off + length w) greatest_file ≡ true → Changes (patched off w) p (patches p off w) → reply ≡ Count (length w) → msgs ≡ write_messages p off w at has → IsCompiled i (Write p off w) at reply msgs
+    pub write_is_done : IsMoment at → IsPath p → AreBytes w → is_empty w ≡ false → nat_le (off + length w) greatest_file ≡ true → IfOk file (TellsGrowth (metadata i.meta (enc p))) → Changes (patched off w) p (patches p off w) → reply ≡ Count (length w) → msgs ≡ write_messages p off w at has → IsCompiled i (Write p off w) at reply msgs
     unfolding FileOf
-    write_is_done early is_path are_bytes some short changes = compiled_done i (Write p off w) at reply msgs (Count (length w)) (write_messages p off w at has) (λ e. (λ f. cc))
+    write_is_done early is_path are_bytes some short grown changes = compiled_done i (Write p off w) at reply msgs (Count (length w)) (write_messages p off w at has) (λ e. (λ f. cc))
         (λ t means. let f : FileOf t p found = which i p EISDIR found file finds is t means in
         write_done at t p off w found.modified f.0 f.1 some (le-ltb greatest_file (off + length w) (leb-true (off + length w) greatest_file short)))
         (λ t means e. write_makes early is_path are_bytes some changes t means e)
-        (inr (has, refl, λ t means. has_there (off + length w) at t p found (which i p EISDIR found file finds is t means)))
+        (inr (ap (write_messages p off w at) (tells_grown grown (leb-true (off + length w) greatest_file short))))
 
 -- ---- `truncate`
 

@@ -1,5 +1,5 @@
 -- What a file call is compiled to, by the directory tree that the indexes mean.
-use Rattle.std.specs.Prelude.{◌≡◌, ◌≤◌, ◌+◌, ◌⊎◌, ◌==◌, ◌&&◌, ℕ, nat_le, Bool, true, false, cond, length, List, [], ◌∷◌, None, Ok}
+use Rattle.std.specs.Prelude.{◌≡◌, ◌≤◌, ◌+◌, ◌⊎◌, ◌==◌, ◌&&◌, ℕ, nat_le, Bool, true, false, cond, length, List, [], ◌∷◌, Option, None, Some, Ok}
 use Rattle.std.specs.List.{list_any}
 use Rattle.block_index.specs.Changed.{patches}
 use Rattle.block_index.specs.Means.{blocks}
@@ -23,6 +23,7 @@ use Rattle.reference.specs.Indexes.{Metadata, Blocks, IndexesMean}
 use Rattle.reference.specs.declared.call.Call.{Call}
 use Rattle.reference.specs.declared.call.Call.TheVariants.{Mkdir, Create, Write, Truncate, Unlink, Rmdir, Rename, Rmtree, Read, Stat as AskStat, Readdir}
 use Rattle.reference.specs.declared.reply.Meta.{Meta}
+use Rattle.reference.specs.declared.reply.Meta.TheVariants.{File as FileMeta}
 use Rattle.reference.specs.declared.reply.Reply.{Reply}
 use Rattle.reference.specs.declared.reply.Reply.TheVariants.{Fault}
 use Rattle.call_compiler.specs.Moves.{AreBelow}
@@ -79,6 +80,11 @@ abbrev pub has_grown_at : ℕ → ℕ → At → Bool
 has_grown_at n at (Found (File date b)) = has_grown n at (length b) date
 has_grown_at n at _ = false
 
+-- the same of the metadata under a key
+abbrev pub meta_has_grown : ℕ → ℕ → Option Meta → Bool
+meta_has_grown n at (Some (FileMeta len date)) = has_grown n at len date
+meta_has_grown n at _ = false
+
 -- the message that raises the length of the file at the key to n and sets its moment; none where it has both
 abbrev pub growth : Key → ℕ → ℕ → Bool → List (Msg MetaUpdate Meta)
 growth k n at has = cond has [] (Edit k (Grow n at) ∷ [])
@@ -105,15 +111,15 @@ SendsCut i p n at msgs = (t : Tree) → MeanTree i t → (b : List ℕ) → entr
 
 -- what a call may send over both indexes: one message where an entry comes or an empty directory goes, two where a
 -- file goes, three where it is cut, one where it is lengthened, two where an entry goes with all below it, for a write
--- its patches and one, which it leaves out where the file has the length and the moment already, for each entry and block
--- that is moved one and three besides, and nothing for a call that only reads; and one more for each directory that gets
--- the moment
+-- its patches and one, which it leaves out where the metadata under the path's key have the length and the moment already,
+-- for each entry and block that is moved one and three besides, and nothing for a call that only reads; and one more for
+-- each directory that gets the moment
 abbrev pub Sends : Indexes → Call → ℕ → Messages → Type 0
 Sends i (Mkdir p) at msgs = (count msgs ≤ 1 + length (parents_of (Mkdir p))) × SendsNew i p at msgs
 Sends i (Create p) at msgs = (count msgs ≤ 1 + length (parents_of (Create p))) × SendsNew i p at msgs
 Sends i (Write p off w) at msgs =
     (msgs ≡ no_messages)
-    ⊎ ((has : Bool) × (msgs ≡ write_messages p off w at has) × ((t : Tree) → MeanTree i t → has ≡ has_grown_at (off + length w) at (entry_at t p)))
+    ⊎ (msgs ≡ write_messages p off w at (meta_has_grown (off + length w) at (metadata i.meta (enc p))))
 Sends i (Truncate p n) at msgs = (count msgs ≤ 3) × ((t : Tree) → MeanTree i t → length (bytes_of (entry_at t p)) ≤ n → count msgs ≤ 1) × SendsCut i p n at msgs
 Sends i (Unlink p) at msgs = (count msgs ≤ 2 + length (parents_of (Unlink p))) × SendsGone i p msgs
 Sends i (Rmdir p) at msgs = count msgs ≤ 1 + length (parents_of (Rmdir p))

@@ -5,12 +5,14 @@ use Rattle.block_index.specs.Updates.{means as block_means}
 use Rattle.meta_index.specs.Means.{metadata}
 use Rattle.meta_index.specs.Updates.{means as meta_means}
 use Rattle.node.specs.Appended.{Appended}
+use Rattle.pathkey.specs.Keys.{enc}
+use Rattle.pathkey.specs.Names.{Path, IsPath}
 use Rattle.reference.specs.Calls.{is_done, does}
-use Rattle.reference.specs.Tree.{Tree, moment}
+use Rattle.reference.specs.Tree.{Tree, entry_at, moment}
 use Rattle.reference.specs.Indexes.{IndexesMean}
 use Rattle.call_compiler.specs.declared.indexes.Indexes.{Indexes}
 use Rattle.reference.specs.declared.call.Call.{Call}
-use Rattle.call_compiler.specs.Compiled.{Messages, metadata_after, blocks_after, MeanTree, touches_root}
+use Rattle.call_compiler.specs.Compiled.{Messages, metadata_after, blocks_after, has_grown_at, meta_has_grown, MeanTree, touches_root}
 
 -- each index has got its half of the messages
 pub record HaveTaken (msgs : Messages) (old new : Indexes) : Type 0 where
@@ -24,3 +26,7 @@ AppendLaw = (t : Tree) (old new : Indexes) (msgs : Messages) → IndexesMean t (
 -- the root has the moment of a call that is done and puts or takes out an entry of it, and after any other the moment that it had
 abbrev pub RootLaw : Type 0
 RootLaw = (at : ℕ) (t : Tree) (c : Call) → moment (does at t c).0 ≡ if is_done (does at t c).1 && touches_root c then at else moment t
+
+-- where the indexes mean a tree, the metadata under a path's key have the length and the moment just where what stands there has them
+abbrev pub GrowthLaw : Type 0
+GrowthLaw = (i : Indexes) (t : Tree) (p : Path) (n at : ℕ) → IsPath p → MeanTree i t → meta_has_grown n at (metadata i.meta (enc p)) ≡ has_grown_at n at (entry_at t p)

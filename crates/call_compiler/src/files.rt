@@ -3,10 +3,10 @@ ghost use Rattle.std.specs.Prelude.{◌≡◌, ◌≢◌, ◌≤◌, ◌^◌, �
 ghost use Rattle.block_index.specs.Means.{blocks};
 ghost use Rattle.block_index.specs.Updates.{means as block_means};
 ghost use Rattle.call_compiler.specs.Compiled.{AreClear, has_grown};
-ghost use Rattle.call_compiler.specs.Files.{IsShort, TellsFile};
+ghost use Rattle.call_compiler.specs.Files.{IsShort, TellsFile, TellsGrowth};
 ghost use Rattle.message.specs.Effects.{effects};
-ghost use Rattle.meta_index.specs.Means.{IsMeantBy, told};
-ghost use Rattle.pathkey.specs.Keys.{Key, blocks_from as blocks_of};
+ghost use Rattle.meta_index.specs.Means.{IsMeantBy, found_meta, metadata, told};
+ghost use Rattle.pathkey.specs.Keys.{Key, blocks_from as blocks_of, enc};
 ghost use Rattle.reference.specs.Indexes.{cleared};
 ghost use Rattle.reference.specs.Tree as trees;
 
@@ -54,6 +54,7 @@ pub(crate) fn find_file(
     ensures told { IfOk result (λ file. (t : trees.Tree) → IsMeantBy t indexes.now.meta → TellsFile (trees.entry_at t path.now) directory file) }
     ensures path { IfOk result (λ file. IfOk file (λ _. path.now ≢ [])) }
     ensures short { IfOk result (λ file. IfOk file (λ f. f.len ≤ 2 ^ 40)) }
+    ensures grown { IfOk result (λ file. IfOk file (TellsGrowth (metadata indexes.now.meta (enc path.now)))) }
 {
     if path.is_root() {
         return Ok(Err(directory));
@@ -66,6 +67,7 @@ pub(crate) fn find_file(
 fn file_of(at: At, directory: Errno) -> Result<FoundFile, Errno>
     ensures told { (here : trees.At) → at ≡ told here → IsShort here → TellsFile here directory result }
     ensures short { IfOk result (λ f. f.len ≤ 2 ^ 40) }
+    ensures grown { IfOk result (TellsGrowth (found_meta at)) }
 {
     match at {
         At::Found(Meta::File { len, modified }) => Ok(FoundFile {

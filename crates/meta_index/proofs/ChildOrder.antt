@@ -12,7 +12,6 @@ use Rattle.pathkey.specs.Order.{by_bytes}
 use Rattle.pathkey.specs.Names.{Name, Path, HasNameBytes}
 use Rattle.pathkey.specs.Keys.{Key, enc}
 use Rattle.pathkey.proofs.OrderFacts.{cmp_less, cmp_equal, cmp_greater}
-use Rattle.pathkey.proofs.PathFacts.{subtree_end}
 use Rattle.reference.proofs.PathOrder.{behind_beginning}
 use Rattle.pathkey.proofs.KeyFacts.{between, enc-append, from_between_high, from_between_low}
 use Rattle.message.specs.Ranges.{before, reaches}

@@ -1,5 +1,5 @@
 -- When a metadata index means a directory tree, and what it tells of the tree.
-use Rattle.std.specs.Prelude.{◌≡◌, ℕ, Option, None, Result, Ok, Err, length, MatchOption}
+use Rattle.std.specs.Prelude.{◌≡◌, ℕ, Option, None, Some, Result, Ok, Err, length, MatchOption}
 use Rattle.pathkey.specs.Names.{Path}
 use Rattle.pathkey.specs.declared.errno.Errno.{Errno}
 use Rattle.pathkey.specs.declared.errno.Errno.TheVariants.{ENOENT, ENOTDIR}
@@ -8,8 +8,10 @@ use Rattle.reference.specs.Tree.{Tree, Dir, File, At, Found, Missing, Blocked, e
 use Rattle.reference.specs.Shape.{IsTree}
 use Rattle.reference.specs.Looks.{look}
 use Rattle.reference.specs.Indexes.{Metadata, MetaMeans}
+use Rattle.reference.specs.declared.reply.Meta.{Meta}
 use Rattle.reference.specs.declared.reply.Meta.TheVariants.{Dir as DirMeta, File as FileMeta}
 use Rattle.meta_index.specs.declared.at.At as meta
+use Rattle.meta_index.specs.declared.at.At.TheVariants.{Found as FoundMeta}
 use Rattle.meta_index.specs.declared.index.MetaIndex.{MetaIndex}
 use Rattle.meta_index.specs.Updates.{means}
 
@@ -29,6 +31,11 @@ told (Found (Dir date es)) = meta.TheVariants.Found (DirMeta date)
 told (Found (File date b)) = meta.TheVariants.Found (FileMeta (length b) date)
 told Missing = meta.TheVariants.Missing
 told Blocked = meta.TheVariants.Blocked
+
+-- the metadata that were found; none where nothing stands
+abbrev pub found_meta : meta.At → Option Meta
+found_meta (FoundMeta m) = Some m
+found_meta _ = None
 
 -- what is told of the directory that stands at a path: its moment of last change; or why none stands there
 abbrev pub moment_told : At → Result ℕ Errno

@@ -1,6 +1,6 @@
 //! What stands at a path, as far as metadata tell.
-ghost use Rattle.std.specs.Prelude.{◌≡◌};
-ghost use Rattle.meta_index.specs.Means.{beyond, moment_told, told};
+ghost use Rattle.std.specs.Prelude.{◌≡◌, None};
+ghost use Rattle.meta_index.specs.Means.{beyond, found_meta, moment_told, told};
 ghost use Rattle.reference.specs.Calls.{no_directory_fault, path_fault};
 ghost use Rattle.reference.specs.Tree as trees;
 
@@ -21,7 +21,8 @@ pub enum At {
 impl At {
     /// What stands at a name below an entry with this metadata, where no entry has that name.
     pub(crate) fn below(above: Meta) -> At
-        ensures { (here : trees.At) → At.Found above ≡ told here → result ≡ told (beyond here) }
+        ensures told { (here : trees.At) → At.Found above ≡ told here → result ≡ told (beyond here) }
+        ensures nothing { found_meta result ≡ None }
     {
         match above {
             Meta::Dir { .. } => At::Missing,

@@ -2,9 +2,9 @@
 ghost use Rattle.std.specs.Prelude.{◌≡◌, ◌+◌, ◌*◌, ◌<◌, ◌≤◌, ◌∷◌, ◌++◌, ℕ, List, [], IfOk, OnOk, IsTrue, None, length, not};
 ghost use Rattle.std.specs.Result.{result_err};
 ghost use Rattle.meta_index.specs.Asked.{AsksFor, IsFrugal};
-ghost use Rattle.meta_index.specs.Means.{IsMeantBy, metadata, moment_in, moment_told, told};
+ghost use Rattle.meta_index.specs.Means.{IsMeantBy, found_meta, metadata, moment_in, moment_told, told};
 ghost use Rattle.node.specs.Shapes.{is_shape};
-ghost use Rattle.pathkey.specs.Keys.{next_key, subtree};
+ghost use Rattle.pathkey.specs.Keys.{enc, next_key, subtree};
 ghost use Rattle.reference.specs.Calls.{is_found, is_full, names_of, parent, parent_fault};
 ghost use Rattle.reference.specs.Looks.{look};
 ghost use Rattle.reference.specs.Pairs.{pairs_of};
@@ -46,8 +46,11 @@ impl MetaIndex {
     }
 
     /// What stands at the path. It fails only for want of memory.
+    ///
+    /// It finds the metadata that the index has under the path's key, and none where it has none there, whatever it means.
     pub fn find(&self, alloc: Global, path: &Path) -> Result<At, NoMemory>
-        ensures { IfOk result (λ at. (t : DirectoryTree) → IsMeantBy t self.now → at ≡ told (entry_at t path.now)) }
+        ensures told { IfOk result (λ at. (t : DirectoryTree) → IsMeantBy t self.now → at ≡ told (entry_at t path.now)) }
+        ensures value { IfOk result (λ at. found_meta at ≡ metadata self.now (enc path.now)) }
     {
         match get(alloc, &self.tree, path.key())? {
             Some(meta) => Ok(At::Found(meta)),
@@ -65,7 +68,8 @@ impl MetaIndex {
 
     /// Why nothing stands at the path: the nearest path above at which something stands is a directory, or a file.
     fn find_obstacle(&self, alloc: Global, path: &Path) -> Result<At, NoMemory>
-        ensures { IfOk result (λ at. (t : DirectoryTree) → IsMeantBy t self.now → look t path.now ≡ None → at ≡ told (entry_at t path.now)) }
+        ensures told { IfOk result (λ at. (t : DirectoryTree) → IsMeantBy t self.now → look t path.now ≡ None → at ≡ told (entry_at t path.now)) }
+        ensures nothing { IfOk result (λ at. found_meta at ≡ None) }
     {
         let mut ancestor = path.parent(alloc)?;
         'climb: while let Some(above) = ancestor {

@@ -39,6 +39,7 @@ returns c =
     c.in_ok-file.field-0 c.in_ok-file.ensures.told c.in-Ok.file c.in-Ok.is
     (omega (arith, c.ranges.at.fits)) c.key-key.ensures.valid (subst (λ (w : List ℕ). AreBytes w) same c.count-len.ensures.bytes) (empty_is c.args.bytes.now c.is_empty.result c.is_empty.ensures ∙ c.if-is_empty.false)
     (ap (λ (n : ℕ). nat_le (c.args.offset + n) greatest_file) (sym c.len.ensures.value) ∙ sym c.fits_file.ensures ∙ c.if-not-fits_file.false)
+    c.in_ok-file.ensures.grown
     (subst (λ (ms : List (Msg BlockUpdate (List ℕ))). Changes (patched c.args.offset c.args.bytes.now) c.args.path.now ms) c.in_ok-block.ensures.messages c.in_ok-block.ensures.meaning)
     (ap Count len)
     (halves _ _ _ _

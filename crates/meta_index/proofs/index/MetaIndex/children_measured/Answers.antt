@@ -1,4 +1,4 @@
-use Rattle.std.proofs.Common.{◌≡◌, ℕ, ◌+◌, ◌++◌, ◌≤◌, ◌∙◌, ap, sym, subst, length, arith, length-append, List, ◌∷◌, []}
+use Rattle.std.proofs.Common.{◌≡◌, ℕ, ◌+◌, ◌++◌, ◌∙◌, ap, sym, subst, length, arith, length-append, List, ◌∷◌, []}
 use Rattle.scan.proofs.AtHand.{ahead_none}
 use Rattle.scan.proofs.Sizes.{walked_at_none}
 use Rattle.meta_index.specs.Asked.{AsksFor, IsSpent}

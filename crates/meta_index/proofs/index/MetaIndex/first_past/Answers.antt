@@ -1,8 +1,6 @@
-use Rattle.std.proofs.Common.{◌≡◌, ℕ, ◌∷◌, ◌++◌, [], List, Bool, false, eqb, length, refl, sym, ◌∙◌, subst, arith, Option}
+use Rattle.std.proofs.Common.{◌≡◌, ℕ, ◌∷◌, ◌++◌, [], List, eqb, length, refl, sym, ◌∙◌, subst, arith}
 use Rattle.std.specs.List.{starts_with}
 use Rattle.std.proofs.lemmas.Result.{IfOk-weaker}
-use Rattle.reference.specs.declared.reply.Meta.{Meta}
-use Rattle.pathkey.specs.Keys.{Key}
 use Rattle.scan.specs.Pairs.{IsEndOf}
 use Rattle.scan.specs.Sizes.{IsPiece, walked_for}
 use Rattle.scan.proofs.AtHand.{ahead_none, ahead_over}
