@@ -1,0 +1,6 @@
+-- What the paths and the texts of records are.
+pub mod Places
+pub mod Laws
+pub mod Attributes
+pub mod Text
+pub mod Packed
