@@ -1,15 +1,12 @@
 -- Names and paths that are escaped, and their keys.
-use Rattle.std.proofs.Common.{◌≡◌, ◌≢◌, ◌⊎◌, ⊎_elim, inl, inr, ℕ, ◌+◌, ◌<◌, ◌≤◌, List, [], ◌∷◌, ◌++◌, length, map, true, false, Bool, cond, ◌==◌, ◌&&◌, nat_le, codes, refl, sym, ap, subst, ◌∙◌, arith, rules, append_assoc, Option, Some, None, Ok, Err}
-use Rattle.std.specs.Prelude.{⊤}
+use Rattle.std.proofs.Common.{◌≡◌, ◌≢◌, ◌⊎◌, ⊎_elim, inl, inr, ℕ, ◌<◌, ◌≤◌, List, [], ◌∷◌, ◌++◌, length, map, true, false, cond, ◌==◌, nat_le, codes, refl, sym, ap, subst, ◌∙◌, arith, rules, append_assoc, Ok, Err}
 use Rattle.std.specs.List.{list_all}
 use Rattle.std.proofs.lemmas.Bool.{and_parts, and_from, eqb-true, eqb-false}
 use Rattle.std.proofs.lemmas.Bool.Decides.{nat_tests}
-use Rattle.pathkey.specs.Names.{Name, Path, HasNameBytes, IsName, EachName, IsPath, text_len}
+use Rattle.pathkey.specs.Names.{Name, Path, IsName, EachName, IsPath, text_len}
 use Rattle.pathkey.specs.Enc.{enc}
-use Rattle.pathkey.specs.Texts.{slashed}
-use Rattle.pathkey.proofs.KeyFacts.{peel, enc-append}
+use Rattle.pathkey.proofs.KeyFacts.{peel}
 use Rattle.pathkey.proofs.Pieces.{not_empty}
-use Rattle.pathkey.specs.declared.errno.Errno.{Errno}
 use Rattle.pathkey.specs.declared.errno.Errno.TheVariants.{ENAMETOOLONG}
 use Rattle.attributes.specs.Places.{reserved, escaped, mirror, record_path, fits, fitting, is_reserved, placed, IsPlainName, HasPlainNames}
 

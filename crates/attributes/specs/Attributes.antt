@@ -1,11 +1,11 @@
 -- Which attributes a record can tell.
-use Rattle.std.specs.Prelude.{◌≡◌, ◌<◌, ◌^◌, ⊤, ℕ, List, [], ◌∷◌, length, Bool, true, not, ◌&&◌, ◌==◌, nat_le, Option, Some, None, IfSome}
+use Rattle.std.specs.Prelude.{◌≡◌, ◌<◌, ◌^◌, ℕ, List, [], ◌∷◌, length, Bool, true, not, ◌&&◌, ◌==◌, nat_le, Option, Some, None, IfSome}
 use Rattle.std.specs.List.{list_all, AllByRecursion}
 use Rattle.std.specs.Ordering.{is_lt}
 use Rattle.pathkey.specs.Heads.{AreBytes}
 use Rattle.pathkey.specs.Order.{by_bytes}
 use Rattle.attributes.specs.declared.record.Kind.{Kind}
-use Rattle.attributes.specs.declared.record.Kind.TheVariants.{Directory, File, SymbolicLink, Fifo, Socket, CharacterDevice, BlockDevice, NameOf}
+use Rattle.attributes.specs.declared.record.Kind.TheVariants.{CharacterDevice, BlockDevice, NameOf}
 use Rattle.attributes.specs.declared.record.HandTime.{HandTime}
 use Rattle.attributes.specs.declared.record.BasicAttributes.{BasicAttributes}
 use Rattle.attributes.specs.declared.record.ExtendedAttribute.{ExtendedAttribute}

@@ -1,5 +1,5 @@
 -- Laws of mirrored paths and of the paths of records.
-use Rattle.std.specs.Prelude.{◌≡◌, ◌≢◌, ◌↔◌, List, [], ◌∷◌, ◌++◌, map, codes, true, false}
+use Rattle.std.specs.Prelude.{◌≡◌, ◌≢◌, ◌↔◌, [], ◌∷◌, ◌++◌, map, true, false}
 use Rattle.pathkey.specs.Names.{Path, IsPath}
 use Rattle.attributes.specs.Places.{reserved, is_reserved, escaped, mirror, record_path, fits}
 

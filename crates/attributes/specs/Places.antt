@@ -1,5 +1,5 @@
 -- Where the record of a path lies.
-use Rattle.std.specs.Prelude.{◌≡◌, ◌≢◌, ◌⊎◌, ◌<◌, ⊤, ℕ, List, [], ◌∷◌, ◌++◌, length, map, codes, bytes_eq, Bool, false, not, ◌&&◌, ◌==◌, nat_le, if◌then◌else◌, Option, Result, Err}
+use Rattle.std.specs.Prelude.{◌≡◌, ◌≢◌, ◌⊎◌, ◌<◌, ⊤, [], ◌∷◌, ◌++◌, length, map, codes, bytes_eq, Bool, false, not, ◌&&◌, ◌==◌, nat_le, if◌then◌else◌, Result, Err}
 use Rattle.std.specs.List.{list_all}
 use Rattle.pathkey.specs.Names.{Name, Path, HasNameBytes, text_len}
 use Rattle.pathkey.specs.Outcomes.{when, unless}

@@ -4,17 +4,20 @@
 //! the root that no user has. Here is where the record of a path lies, and the record's text.
 #![tactic(auto)]
 
+pub mod buffers;
+pub mod fields;
 pub mod laws;
+pub mod packing;
 pub mod places;
-// mod packing;
 mod printing;
-// mod reading;
+mod reading;
 pub mod record;
 
+pub use fields::Fields;
+pub use packing::{pack, unpack};
 pub use places::{is_reserved, mirror, record_path, text_of};
-// pub use packing::{pack, unpack};
 pub use printing::print;
-// pub use reading::parse;
+pub use reading::parse;
 pub use record::{
     Attributes, BasicAttributes, ExtendedAttribute, ExtendedAttributes, HandTime, Kind,
 };

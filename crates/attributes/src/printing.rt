@@ -1,5 +1,5 @@
 //! Prints the text of a record.
-ghost use Rattle.std.specs.Prelude.{◌≡◌, ◌≤◌, ◌++◌, codes, decimal, flat_map, IfOk, OnOk, true};
+ghost use Rattle.std.specs.Prelude.{◌≡◌, ◌≤◌, ◌++◌, codes, flat_map, IfOk, OnOk, true};
 ghost use Rattle.attributes.specs.Attributes.{is_valid};
 ghost use Rattle.attributes.specs.Text.{basic_lines, extended_line, kind_text, octal, printed, time_lines};
 
@@ -47,7 +47,8 @@ fn put_basic(text: &mut Vec<u8>, basic: &BasicAttributes) -> Result<(), WriteFai
     put_number_line(text, b"user ", u64::from(basic.user))?;
     put_number_line(text, b"group ", u64::from(basic.group))?;
     put_number_line(text, b"names ", basic.names)?;
-    put_time(text, basic.modified)
+    put_time(text, basic.modified)?;
+    Ok(())
 }
 
 // Adds the line of a kind.
@@ -60,26 +61,15 @@ fn put_kind(text: &mut Vec<u8>, kind: Kind) -> Result<(), WriteFailed>
 }
 
 // Adds the words for a kind.
+#[tactic(auto, unfolding(crate::specs::Text::kind_text))]
 fn put_kind_words(text: &mut Vec<u8>, kind: Kind) -> Result<(), WriteFailed>
     ensures { OnOk result (text.new.items ≡ text.old.items ++ kind_text kind) }
 {
-    match kind {
-        Kind::Directory => put(text, b"directory"),
-        Kind::File => put(text, b"file"),
-        Kind::SymbolicLink => put(text, b"symbolic-link"),
-        Kind::Fifo => put(text, b"fifo"),
-        Kind::Socket => put(text, b"socket"),
-        Kind::CharacterDevice(number) => put_numbered(text, b"character-device ", number),
-        Kind::BlockDevice(number) => put_numbered(text, b"block-device ", number),
-        Kind::NameOf(number) => put_numbered(text, b"name-of ", number),
-    }
-}
-
-// Adds a word and a number.
-fn put_numbered(text: &mut Vec<u8>, word: &[u8], number: u64) -> Result<(), WriteFailed>
-    ensures { OnOk result (text.new.items ≡ text.old.items ++ (word.now ++ decimal number)) }
-{
-    put(text, word)?;
+    put(text, kind.word())?;
+    let Some(number) = kind.number() else {
+        return Ok(());
+    };
+    put(text, b" ")?;
     put_number(text, number)
 }
 
@@ -94,6 +84,7 @@ fn put_mode(text: &mut Vec<u8>, mode: u16) -> Result<(), WriteFailed>
 }
 
 // A mode in octal digits.
+#[tactic(auto, unfolding(crate::specs::Text::octal))]
 fn octal_digits(mode: u16) -> [u8; 4]
     requires { mode ≤ 4095 }
     ensures { result ≡ octal mode }
@@ -107,6 +98,7 @@ fn octal_digits(mode: u16) -> [u8; 4]
 }
 
 // Adds the lines of a time that was set by hand, if one was.
+#[tactic(auto, unfolding(crate::specs::Text::time_lines))]
 fn put_time(text: &mut Vec<u8>, time: Option<HandTime>) -> Result<(), WriteFailed>
     ensures { OnOk result (text.new.items ≡ text.old.items ++ time_lines time) }
 {
@@ -118,6 +110,7 @@ fn put_time(text: &mut Vec<u8>, time: Option<HandTime>) -> Result<(), WriteFaile
 }
 
 // Adds the line of an extended attribute.
+#[tactic(auto, unfolding(crate::specs::Text::extended_words))]
 fn put_extended(text: &mut Vec<u8>, one: &ExtendedAttribute) -> Result<(), WriteFailed>
     ensures { OnOk result (text.new.items ≡ text.old.items ++ extended_line one.now) }
 {

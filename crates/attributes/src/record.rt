@@ -1,7 +1,8 @@
 //! What a record tells of an entry.
 ghost use Rattle.std.specs.Prelude.{◌≡◌, ◌==◌, [], ◌∷◌, ◌++◌, OnOk, not};
 ghost use Rattle.std.specs.List.{list_all};
-ghost use Rattle.attributes.specs.Attributes.{is_valid, may_stand, rise};
+ghost use Rattle.attributes.specs.Attributes.{is_valid, may_stand, number_of, rise};
+ghost use Rattle.attributes.specs.Text.{kind_word};
 
 use bytes::Bytes;
 use pathkey::NoMemory;
@@ -27,6 +28,35 @@ pub enum Kind {
     BlockDevice(u64),
     /// One of several names of the shared file of this number.
     NameOf(u64),
+}
+
+impl Kind {
+    /// The word for the kind, as `file`.
+    pub fn word(self) -> &'static [u8]
+        ensures { result.now ≡ kind_word self }
+    {
+        match self {
+            Kind::Directory => b"directory",
+            Kind::File => b"file",
+            Kind::SymbolicLink => b"symbolic-link",
+            Kind::Fifo => b"fifo",
+            Kind::Socket => b"socket",
+            Kind::CharacterDevice(_) => b"character-device",
+            Kind::BlockDevice(_) => b"block-device",
+            Kind::NameOf(_) => b"name-of",
+        }
+    }
+
+    /// The number that the kind has, if it has one.
+    pub fn number(self) -> Option<u64>
+        ensures { result ≡ number_of self }
+    {
+        match self {
+            Kind::CharacterDevice(number) | Kind::BlockDevice(number) | Kind::NameOf(number) =>
+                Some(number),
+            _ => None,
+        }
+    }
 }
 
 /// A time of last change that was set by hand.
@@ -145,7 +175,7 @@ pub(crate) fn rise(attributes: &[ExtendedAttribute]) -> bool
     let mut last = b"".as_slice();
     for one in attributes {
         let name = one.name.as_slice();
-        if last >= name || !may_stand(one) {
+        if !last.cmp(&name).is_lt() || !may_stand(one) {
             return false;
         }
         last = name;

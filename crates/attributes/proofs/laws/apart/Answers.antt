@@ -1,4 +1,3 @@
-use Rattle.std.proofs.Common.{ap}
 use Rattle.attributes.proofs.PlaceFacts.{not_below}
 use Rattle.attributes.proofs.laws.apart.Goals as goal
 

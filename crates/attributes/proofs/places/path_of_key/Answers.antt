@@ -1,4 +1,4 @@
-use Rattle.std.proofs.Common.{◌≡◌, Some, None, inl, sym, subst, ◌∙◌}
+use Rattle.std.proofs.Common.{Some, None, inl, subst, ◌∙◌}
 use Rattle.pathkey.specs.PathKeys.{IsPathOf}
 use Rattle.attributes.proofs.PlaceFacts.{fitting_none, fitting_some}
 use Rattle.attributes.proofs.places.path_of_key.Goals as goal
