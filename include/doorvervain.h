@@ -64,6 +64,35 @@ enum {
 // What stands at a path.
 enum { DOORVERVAIN_DIRECTORY = 1, DOORVERVAIN_FILE = 2 };
 
+// ---- records: what an entry has beside its bytes
+
+// The name of the root below which records lie. No entry of a user has it.
+#define DOORVERVAIN_RESERVED ".doorvervain"
+
+// What an entry is, beside DOORVERVAIN_DIRECTORY and DOORVERVAIN_FILE.
+enum {
+    DOORVERVAIN_SYMBOLIC_LINK = 3,    // its bytes are the target
+    DOORVERVAIN_FIFO = 4,             // a pipe with a name
+    DOORVERVAIN_SOCKET = 5,           // a socket
+    DOORVERVAIN_CHARACTER_DEVICE = 6, // a character device
+    DOORVERVAIN_BLOCK_DEVICE = 7,     // a block device
+    DOORVERVAIN_OTHER_NAME = 8        // one of several names of a file
+};
+
+// What a record tells, but for extended attributes.
+struct doorvervain_attributes {
+    uint32_t mode;        // permissions, set-user, set-group and sticky: twelve bits
+    uint32_t user;        // the owner
+    uint32_t group;       // the owner's group
+    uint8_t kind;         // DOORVERVAIN_DIRECTORY to DOORVERVAIN_OTHER_NAME
+    uint64_t names;       // how many names it has
+    uint64_t link;        // DOORVERVAIN_OTHER_NAME: the number of the file
+    uint64_t device;      // a device: its number
+    uint64_t modified;    // the time that was set by hand, in nanoseconds since 1970
+    uint64_t held;        // the moment of the tree up to which it holds
+    uint8_t has_modified; // 1 where a time was set by hand
+};
+
 // ---- the symbols of the archive. They take no null pointer; call the functions below them. On every way out each sets its other
 // results as those functions say, whatever stood there.
 
@@ -105,6 +134,12 @@ uint8_t doorvervain_raw_frozen_readdir(
     struct doorvervain_frozen *tree, const uint8_t *path, size_t length, uint8_t *out, size_t room, size_t *size);
 void doorvervain_raw_thaw(struct doorvervain_frozen tree);
 uint32_t doorvervain_raw_relieve(struct doorvervain *fs, uint32_t steps);
+uint8_t doorvervain_raw_mirror(const uint8_t *path, size_t length, uint8_t *out, size_t room, size_t *size);
+uint8_t doorvervain_raw_record_path(const uint8_t *path, size_t length, uint8_t *out, size_t room, size_t *size);
+uint8_t doorvervain_raw_record_print(const struct doorvervain_attributes *attributes, const uint8_t *extended,
+    size_t extended_length, uint8_t *out, size_t room, size_t *size);
+uint8_t doorvervain_raw_record_parse(const uint8_t *text, size_t length, struct doorvervain_attributes *attributes,
+    uint8_t *extended, size_t room, size_t *size);
 
 // ---- what the functions below answer by themselves
 
@@ -390,6 +425,61 @@ static inline void doorvervain_thaw(struct doorvervain_frozen *tree) {
 // nothing waits. No answer of any call changes by it. Call it now and then, or never. A closed volume: 0.
 static inline uint32_t doorvervain_relieve(struct doorvervain *fs, uint32_t steps) {
     return doorvervain_lacks(fs, NULL, 0) ? 0 : doorvervain_raw_relieve(fs, steps);
+}
+
+// ---- records. They take no volume, and may be called from any thread. docs/FORMATS.md has the text of a record.
+// A result is written where `room` is enough for all of it; else the buffer stays as it was. `*size` is how many bytes it has.
+
+// Whether a pointer to bytes, or one to a buffer, is null where it must not be.
+static inline int doorvervain_has_null(const uint8_t *bytes, size_t length, const uint8_t *out, size_t room) {
+    return (!bytes && length) || (!out && room);
+}
+
+// Where a path is mirrored below the reserved name: DOORVERVAIN_RESERVED, `tree`, and the names of the path, of which one that
+// begins with a byte 1 has one more in front. It has at most 1,023 bytes. A text that is no path: ENOENT (empty), EINVAL or
+// ENAMETOOLONG. EINVAL: the path is at or below the reserved name. ENAMETOOLONG: what mirrors it would have a name of more than
+// 255 bytes, or more than 1,023 bytes. ENOMEM.
+static inline uint8_t doorvervain_mirror(
+    const uint8_t *path, size_t length, uint8_t *out, size_t room, size_t *size) {
+    if (!size) return DOORVERVAIN_NULL;
+    *size = 0;
+    if (doorvervain_has_null(path, length, out, room)) return DOORVERVAIN_NULL;
+    return doorvervain_raw_mirror(doorvervain_from(path), length, doorvervain_into(out), room, size);
+}
+
+// Where the record of a path lies: what doorvervain_mirror gives, and one name more, the byte 1. Refused likewise: a path whose
+// record has no place is refused here.
+static inline uint8_t doorvervain_record_path(
+    const uint8_t *path, size_t length, uint8_t *out, size_t room, size_t *size) {
+    if (!size) return DOORVERVAIN_NULL;
+    *size = 0;
+    if (doorvervain_has_null(path, length, out, room)) return DOORVERVAIN_NULL;
+    return doorvervain_raw_record_path(doorvervain_from(path), length, doorvervain_into(out), room, size);
+}
+
+// Writes the record of attributes. `extended` has the extended attributes side by side, in rising byte order of their names: of each
+// its name of 1 to 255 bytes, a byte 0, the length of its value in four bytes, least first, and the value of at most 65,536 bytes.
+// `link` counts with DOORVERVAIN_OTHER_NAME alone, `device` with devices, `modified` and `held` where `has_modified` is not 0.
+// EINVAL: no such kind, a mode of more than twelve bits, or other extended attributes. ENOMEM.
+static inline uint8_t doorvervain_record_print(const struct doorvervain_attributes *attributes, const uint8_t *extended,
+    size_t extended_length, uint8_t *out, size_t room, size_t *size) {
+    if (!size) return DOORVERVAIN_NULL;
+    *size = 0;
+    if (!attributes || doorvervain_has_null(extended, extended_length, out, room)) return DOORVERVAIN_NULL;
+    return doorvervain_raw_record_print(
+        attributes, doorvervain_from(extended), extended_length, doorvervain_into(out), room, size);
+}
+
+// Reads a record. Fields that its kind does not have are 0. The extended attributes come side by side, as doorvervain_record_print
+// takes them; they have no more bytes than the record. EINVAL: a text that doorvervain_record_print never writes. ENOMEM. Where it
+// is refused, each field is 0.
+static inline uint8_t doorvervain_record_parse(const uint8_t *text, size_t length,
+    struct doorvervain_attributes *attributes, uint8_t *extended, size_t room, size_t *size) {
+    static struct doorvervain_attributes none; // each field is 0
+    if (attributes) *attributes = none;
+    if (size) *size = 0;
+    if (!attributes || !size || doorvervain_has_null(text, length, extended, room)) return DOORVERVAIN_NULL;
+    return doorvervain_raw_record_parse(doorvervain_from(text), length, attributes, doorvervain_into(extended), room, size);
 }
 
 // ---- what a number says, and the release

@@ -13,4 +13,5 @@ mod looks;
 mod numbers;
 mod parts;
 mod place;
+mod records;
 mod upkeep;

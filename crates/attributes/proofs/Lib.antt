@@ -1,0 +1,4 @@
+pub mod PlaceFacts
+pub mod PrintFacts
+pub mod ReadFacts
+pub mod PackFacts

@@ -1,0 +1,8 @@
+-- What the paths and the texts of records are.
+pub mod Places
+pub mod Laws
+pub mod Attributes
+pub mod Text
+pub mod Packed
+pub mod Fields
+pub mod Buffers

@@ -1,0 +1,25 @@
+-- Extended attributes side by side, as C programs hand them over.
+use Rattle.std.specs.Prelude.{◌≡◌, ◌≢◌, true, ℕ, ◌/◌, ◌%◌, List, [], ◌∷◌, ◌++◌, length, flat_map, Result, Ok, Err}
+use Rattle.std.specs.List.{AllByRecursion}
+use Rattle.pathkey.specs.declared.errno.Errno.{Errno}
+use Rattle.pathkey.specs.declared.errno.Errno.TheVariants.{EINVAL, ENOMEM}
+use Rattle.attributes.specs.declared.record.ExtendedAttribute.{ExtendedAttribute}
+use Rattle.attributes.specs.Attributes.{AreBytesOf, rise}
+
+-- a number below 2^32 in four bytes, least first
+unfoldable pub four_bytes : ℕ → List ℕ
+four_bytes n = n % 256 ∷ n / 256 % 256 ∷ n / 65536 % 256 ∷ n / 16777216 ∷ []
+
+-- the name, a byte 0, the value's length in four bytes, and the value
+unfoldable pub packed_one : ExtendedAttribute → List ℕ
+packed_one one = one.name ++ 0 ∷ (four_bytes (length one.value) ++ one.value)
+
+abbrev pub packed : List ExtendedAttribute → List ℕ
+packed extended = flat_map packed_one extended
+
+-- what bytes were read as: extended attributes that may stand in a record, which they are side by side; or a refusal, by EINVAL
+-- where they are none
+abbrev pub Unpacks : List ℕ → Result (List ExtendedAttribute) Errno → Type 0
+Unpacks bytes (Ok es) = (rise [] es ≡ true) × (bytes ≡ packed es)
+Unpacks bytes (Err EINVAL) = (es : List ExtendedAttribute) → rise [] es ≡ true → AllByRecursion AreBytesOf es → bytes ≢ packed es
+Unpacks bytes (Err e) = e ≡ ENOMEM

@@ -1,0 +1,76 @@
+//! Exports of records and of where they lie. They take no volume. A refusal gives 0 as each other result.
+ghost use Rattle.std.specs.Prelude.{◌≡◌, IfErr};
+ghost use Rattle.attributes.specs.Buffers.{Parses, Prints, Writes, place_of};
+ghost use Rattle.attributes.specs.Places.{mirror, record_path};
+ghost use Rattle.pathkey.specs.Texts.{parsed};
+ghost use Rattle.doorvervain.specs.Numbers.{IsNumber, told_by};
+
+use crate::numbers::count;
+use attributes::Fields;
+use attributes::buffers::{read_record, write_mirror, write_record, write_record_path};
+use std::alloc::Global;
+
+/// The path below the reserved name that mirrors a path. How many bytes its text has goes to `size`; it is written where the buffer
+/// has room for all of it.
+#[unsafe(no_mangle)]
+pub extern "C" fn doorvervain_raw_mirror(
+    alloc: Global,
+    path: &[u8],
+    out: &mut [u8],
+    size: &mut usize,
+) -> u8
+    ensures place { Writes (place_of mirror (parsed path.now)) (told_by result size.new) out.old out.new }
+    ensures number { IsNumber result }
+    ensures refused { IfErr (told_by result size.new) (λ _. size.new ≡ 0) }
+{
+    count(write_mirror(alloc, path, out), size)
+}
+
+/// The path of a path's record. How many bytes its text has goes to `size`; it is written where the buffer has room for all of it.
+#[unsafe(no_mangle)]
+pub extern "C" fn doorvervain_raw_record_path(
+    alloc: Global,
+    path: &[u8],
+    out: &mut [u8],
+    size: &mut usize,
+) -> u8
+    ensures place { Writes (place_of record_path (parsed path.now)) (told_by result size.new) out.old out.new }
+    ensures number { IsNumber result }
+    ensures refused { IfErr (told_by result size.new) (λ _. size.new ≡ 0) }
+{
+    count(write_record_path(alloc, path, out), size)
+}
+
+/// The record of attributes: of fields, and of extended attributes side by side. How many bytes it has goes to `size`; it is written
+/// where the buffer has room for all of it.
+#[unsafe(no_mangle)]
+pub extern "C" fn doorvervain_raw_record_print(
+    alloc: Global,
+    fields: &Fields,
+    extended: &[u8],
+    out: &mut [u8],
+    size: &mut usize,
+) -> u8
+    ensures record { Prints fields.now extended.now (told_by result size.new) out.old out.new }
+    ensures number { IsNumber result }
+    ensures refused { IfErr (told_by result size.new) (λ _. size.new ≡ 0) }
+{
+    count(write_record(alloc, fields, extended, out), size)
+}
+
+/// The attributes that a record tells: fields, and extended attributes side by side. How many bytes these have goes to `size`; they
+/// are written where the buffer has room for all of them.
+#[unsafe(no_mangle)]
+pub extern "C" fn doorvervain_raw_record_parse(
+    alloc: Global,
+    text: &[u8],
+    fields: &mut Fields,
+    out: &mut [u8],
+    size: &mut usize,
+) -> u8
+    ensures told { Parses text.now (told_by result size.new) fields.new out.old out.new }
+    ensures number { IsNumber result }
+    ensures refused { IfErr (told_by result size.new) (λ _. size.new ≡ 0) }
+{
+    count(read_record(alloc, text, fields, out), size)
+}
