@@ -9,3 +9,7 @@ pub mod Renames
 pub mod Walking
 pub mod RootMoment
 pub mod Idle
+pub mod BlockOrder
+pub mod Zeroing
+pub mod HoleBlocks
+pub mod OnHoles

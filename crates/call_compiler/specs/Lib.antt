@@ -1,5 +1,7 @@
 pub mod Compiled
 pub mod Files
+pub mod Measured
+pub mod Punched
 pub mod Laws
 pub mod Moves
 pub mod Touches

@@ -44,7 +44,7 @@ pub fn write(
 }
 
 /// The message that raises the length of the file at the key to `end` and gives it the moment; none where it has both.
-fn growth(
+pub(crate) fn growth(
     alloc: Global,
     key: &Key,
     file: FoundFile,
