@@ -1,17 +1,23 @@
 // The file system as a C library: volumes in memory, by calls of bytes.
 //
-// Link crates/doorvervain/out/libdoorvervain.a and the toolchain's liblibc_c.a, which asks malloc for memory.
+// Link what `pkg-config --libs doorvervain` names. In a clone that is not installed, link
+// crates/doorvervain/out/libdoorvervain.a and the toolchain's liblibc_c.a, which asks malloc for memory.
 //
 // A path is bytes with a length, as "/a/b" with 4. It begins with a slash, and needs no byte 0 behind it. A name of
 // a snapshot is bytes with a length too. No call keeps a pointer of its caller.
 //
 // Most calls answer a number. DOORVERVAIN_DONE (0) says that the call was done. Any other number is a refusal: the
 // call changed nothing, and wrote nothing into a buffer. A call that looks and is refused gives 0 as its other
-// results.
+// results; where the buffer is too short it gives the size, so that the caller can ask again.
 //
-// A null pointer is answered by DOORVERVAIN_NULL. Only a pointer with the length 0 beside it may be null. A volume
-// or tree that is closed is answered by DOORVERVAIN_CLOSED. A call writes at most as many bytes into a buffer as
-// the caller says that it has.
+// A call that gives a text of any size (a listing, an image, the name of a snapshot) takes a buffer with its room.
+// `*size` is how many bytes the text has. They are written where the room is enough for all of them. A room of 0
+// asks for the size alone, and is answered by DOORVERVAIN_DONE; any other room that is too small by
+// DOORVERVAIN_ERANGE. Either leaves the buffer as it was.
+//
+// A null pointer is answered by DOORVERVAIN_NULL, also one to a volume or tree. Only a pointer with the length 0
+// beside it may be null. A volume or tree that is closed is answered by DOORVERVAIN_CLOSED. A call writes at most as
+// many bytes into a buffer as the caller says that it has.
 //
 // What no check can see, and a caller has to keep:
 //   - Set `at` to null before the first use (`struct doorvervain fs = {0};`), and do not change it.
@@ -57,12 +63,17 @@ enum {
     DOORVERVAIN_EBUSY = 10,       // the root, which stays
     DOORVERVAIN_ENOMEM = 11,      // memory was refused
     DOORVERVAIN_ENOSPC = 12,      // all 64 names of snapshots are taken
+    DOORVERVAIN_ERANGE = 13,      // the buffer is too short, and nothing was written
     DOORVERVAIN_NULL = 254,       // a pointer is null
     DOORVERVAIN_CLOSED = 255      // the volume or tree is closed
 };
 
 // What stands at a path.
 enum { DOORVERVAIN_DIRECTORY = 1, DOORVERVAIN_FILE = 2 };
+
+// The usual shape of a volume's trees, for who knows no better: how many children an inner node may have, how many
+// messages may wait in it, and how many entries a leaf may have.
+enum { DOORVERVAIN_FANOUT = 16, DOORVERVAIN_PENDING = 256, DOORVERVAIN_LEAF = 256 };
 
 // ---- records: what an entry has beside its bytes
 
@@ -119,6 +130,8 @@ uint8_t doorvervain_raw_readdir(
 uint8_t doorvervain_raw_snapshot(struct doorvervain *fs, const uint8_t *name, size_t length);
 uint8_t doorvervain_raw_drop(struct doorvervain *fs, const uint8_t *name, size_t length);
 uint8_t doorvervain_raw_restore(struct doorvervain *fs, const uint8_t *name, size_t length);
+uint8_t doorvervain_raw_snapshot_name(
+    struct doorvervain *fs, size_t index, uint8_t *out, size_t room, size_t *size);
 uint8_t doorvervain_raw_freeze(struct doorvervain *fs, struct doorvervain_frozen *out);
 uint8_t doorvervain_raw_frozen(
     struct doorvervain *fs, const uint8_t *name, size_t length, struct doorvervain_frozen *out);
@@ -145,14 +158,16 @@ uint8_t doorvervain_raw_record_parse(const uint8_t *text, size_t length, struct 
 
 // The refusal of a volume, or of a pointer to bytes; 0 where both are there.
 static inline uint8_t doorvervain_lacks(const struct doorvervain *fs, const uint8_t *bytes, size_t length) {
-    if (!fs || !fs->at) return DOORVERVAIN_CLOSED;
+    if (!fs) return DOORVERVAIN_NULL;
+    if (!fs->at) return DOORVERVAIN_CLOSED;
     return !bytes && length ? DOORVERVAIN_NULL : DOORVERVAIN_DONE;
 }
 
 // The refusal of a frozen tree, or of a pointer to bytes; 0 where both are there.
 static inline uint8_t doorvervain_frozen_lacks(
     const struct doorvervain_frozen *tree, const uint8_t *bytes, size_t length) {
-    if (!tree || !tree->at) return DOORVERVAIN_CLOSED;
+    if (!tree) return DOORVERVAIN_NULL;
+    if (!tree->at) return DOORVERVAIN_CLOSED;
     return !bytes && length ? DOORVERVAIN_NULL : DOORVERVAIN_DONE;
 }
 
@@ -180,6 +195,7 @@ static inline int doorvervain_errno(uint8_t number) {
     case DOORVERVAIN_EBUSY: return EBUSY;
     case DOORVERVAIN_ENOMEM: return ENOMEM;
     case DOORVERVAIN_ENOSPC: return ENOSPC;
+    case DOORVERVAIN_ERANGE: return ERANGE;
     case DOORVERVAIN_NULL: return EFAULT;
     case DOORVERVAIN_CLOSED: return EBADF;
     default: return EINVAL;
@@ -190,8 +206,9 @@ static inline int doorvervain_errno(uint8_t number) {
 
 // Makes a volume: the empty root directory, without snapshots. What `fs` held before is not freed. `fanout` is how
 // many children an inner node may have, from 4 to 64; `pending` how many messages may wait in it, from `fanout` to
-// 1,024; `leaf` how many entries a leaf may have, from 4 to 1,024. The shape changes no answer, only time: take 16,
-// 256 and 64 where you know no better. EINVAL: no such shape. ENOMEM. Where it is refused, the volume is closed.
+// 1,024; `leaf` how many entries a leaf may have, from 4 to 1,024. The shape changes no answer, only time: take
+// DOORVERVAIN_FANOUT, DOORVERVAIN_PENDING and DOORVERVAIN_LEAF where you know no better. EINVAL: no such shape.
+// ENOMEM. Where it is refused, the volume is closed.
 static inline uint8_t doorvervain_open(struct doorvervain *fs, uint16_t fanout, uint16_t pending, uint16_t leaf) {
     if (!fs) return DOORVERVAIN_NULL;
     fs->at = NULL;
@@ -315,8 +332,7 @@ static inline uint8_t doorvervain_stat(
 }
 
 // Lists a directory, in byte order of the names: for each entry `d` or `f`, its name and a byte 0. `*size` is how
-// many bytes that takes. It is written where `room` is enough for all of it; else `out` stays as it was, so ask
-// again with more room. ENOENT, ENOTDIR.
+// many bytes that takes, also with ERANGE: the buffer is too short. ENOENT, ENOTDIR.
 static inline uint8_t doorvervain_readdir(
     struct doorvervain *fs, const uint8_t *path, size_t length, uint8_t *out, size_t room, size_t *size) {
     if (!size) return DOORVERVAIN_NULL;
@@ -345,6 +361,17 @@ static inline uint8_t doorvervain_drop(struct doorvervain *fs, const uint8_t *na
 static inline uint8_t doorvervain_restore(struct doorvervain *fs, const uint8_t *name, size_t length) {
     uint8_t lacks = doorvervain_lacks(fs, name, length);
     return lacks ? lacks : doorvervain_raw_restore(fs, doorvervain_from(name), length);
+}
+
+// The name of the snapshot with that number, in byte order of the names, counted from 0. `*size` is how many bytes it
+// has, also with ERANGE: the buffer is too short. 64 bytes are enough for any, and no byte 0 stands behind it. ENOENT:
+// there are not more. So all names are told by the numbers from 0 up to the first ENOENT.
+static inline uint8_t doorvervain_snapshot_name(
+    struct doorvervain *fs, size_t index, uint8_t *out, size_t room, size_t *size) {
+    if (!size) return DOORVERVAIN_NULL;
+    *size = 0;
+    uint8_t lacks = doorvervain_lacks(fs, out, room);
+    return lacks ? lacks : doorvervain_raw_snapshot_name(fs, index, doorvervain_into(out), room, size);
 }
 
 // ---- frozen trees
@@ -403,8 +430,8 @@ static inline uint8_t doorvervain_frozen_readdir(
                        tree, doorvervain_from(path), length, doorvervain_into(out), room, size);
 }
 
-// Writes the image of a frozen tree: text that doorvervain_load takes. `size` is how many bytes it has. They are written
-// where the buffer has room for all of them, and else it stays as it was: ask with no room first. ENOMEM.
+// Writes the image of a frozen tree: text that doorvervain_load takes. `*size` is how many bytes it has, also with
+// ERANGE: the buffer is too short. To ask for the size alone prints the image too, and drops it. ENOMEM.
 static inline uint8_t doorvervain_image(struct doorvervain_frozen *tree, uint8_t *out, size_t room, size_t *size) {
     if (!size) return DOORVERVAIN_NULL;
     *size = 0;
@@ -422,7 +449,8 @@ static inline void doorvervain_thaw(struct doorvervain_frozen *tree) {
 // ---- upkeep
 
 // Does at most `steps` steps that move waiting changes down, where most wait: how many it tried, fewer only where
-// nothing waits. No answer of any call changes by it. Call it now and then, or never. A closed volume: 0.
+// nothing waits. No answer of any call changes by it. Call it now and then, or never. A volume that is closed, or no
+// volume: 0.
 static inline uint32_t doorvervain_relieve(struct doorvervain *fs, uint32_t steps) {
     return doorvervain_lacks(fs, NULL, 0) ? 0 : doorvervain_raw_relieve(fs, steps);
 }
@@ -504,6 +532,7 @@ static inline const char *doorvervain_strerror(uint8_t number) {
     case DOORVERVAIN_EBUSY: return "EBUSY: the root cannot be moved or taken out";
     case DOORVERVAIN_ENOMEM: return "ENOMEM: memory was refused";
     case DOORVERVAIN_ENOSPC: return "ENOSPC: all 64 names of snapshots are taken";
+    case DOORVERVAIN_ERANGE: return "ERANGE: the buffer is too short";
     case DOORVERVAIN_NULL: return "NULL: a pointer is null";
     case DOORVERVAIN_CLOSED: return "CLOSED: the volume or tree is closed";
     default: return "UNKNOWN: no number of this library";

@@ -99,7 +99,7 @@ static void buffers(struct doorvervain *one, struct doorvervain *other) {
     say_read("read past the end", one, "/long", 32, ROOM);
     say_read("read over the end", one, "/long", 27, ROOM);
     say_read("read into no room", one, "/long", 0, 0);
-    say_entries("readdir without room", one, "/", 5);
+    say_entries("readdir into too little room", one, "/", 5);
     say_entries("readdir with room", one, "/", 6);
 }
 
@@ -118,7 +118,7 @@ static void refusals(struct doorvervain *one) {
     say("a thawed tree", doorvervain_frozen_read(&thawed, bytes_of("/long"), 5, 0, buffer, 9, &got));
     say("no path", doorvervain_mkdir(one, bytes_of("d"), 1, 0));
     say("no name", doorvervain_snapshot(one, bytes_of("a/b"), 3));
-    say("no shape", doorvervain_open(&closed, 1, 256, 64));
+    say("no shape", doorvervain_open(&closed, 1, DOORVERVAIN_PENDING, DOORVERVAIN_LEAF));
     say("as errno", (uint8_t)(doorvervain_errno(DOORVERVAIN_NULL) == EFAULT && doorvervain_errno(11) == ENOMEM));
     doorvervain_close(&closed);
     doorvervain_thaw(&thawed);
@@ -203,6 +203,10 @@ static void refused_memory(struct doorvervain *one) {
 }
 #endif
 
+static uint8_t load(struct doorvervain *fs, const uint8_t *text, size_t length, uint64_t *line) {
+    return doorvervain_load(fs, DOORVERVAIN_FANOUT, DOORVERVAIN_PENDING, DOORVERVAIN_LEAF, text, length, line);
+}
+
 // An image is loaded, and the volume then has that image. A text that is none is told by its line.
 static void images(void) {
     static const char text[] = "D / 5\nD /a 9\nF /a/f 3 7\nb 0 616263\n";
@@ -210,7 +214,7 @@ static void images(void) {
     struct doorvervain_frozen tree = {0};
     uint64_t line = 0;
     size_t size = 0;
-    say("load", doorvervain_load(&fs, 16, 256, 64, bytes_of(text), strlen(text), &line));
+    say("load", load(&fs, bytes_of(text), strlen(text), &line));
     say_read("read", &fs, "/a/f", 0, ROOM);
     say("freeze", doorvervain_freeze(&fs, &tree));
     uint8_t number = doorvervain_image(&tree, buffer, ROOM, &size);
@@ -218,13 +222,13 @@ static void images(void) {
     printf("image: %d, %s\n", number, is_same ? "the same" : "another one");
     doorvervain_thaw(&tree);
     doorvervain_close(&fs);
-    say("load of no image", doorvervain_load(&fs, 16, 256, 64, bytes_of("d /\nx\n"), 6, &line));
+    say("load of no image", load(&fs, bytes_of("d /\nx\n"), 6, &line));
     printf("at line %d\n", (int)line);
 }
 
 int main(void) {
     struct doorvervain one = {0}, other = {0};
-    say("open one", doorvervain_open(&one, 16, 256, 64));
+    say("open one", doorvervain_open(&one, DOORVERVAIN_FANOUT, DOORVERVAIN_PENDING, DOORVERVAIN_LEAF));
     say("open the other", doorvervain_open(&other, 4, 16, 4));
     calls(&one, &other);
     buffers(&one, &other);

@@ -8,7 +8,7 @@
 #include <stdio.h>
 #include <string.h>
 
-enum { ROOM = 64, SNAPSHOTS = 64, LONGEST_NAME = 255, OLD = 99 };
+enum { ROOM = 64, SNAPSHOTS = 64, LONGEST_NAME = 255, OLD = 99, GUARD = 0xA5 };
 
 // The greatest length of a file.
 static const uint64_t GREATEST = (uint64_t)1 << 40;
@@ -76,6 +76,18 @@ static uint8_t one_snapshot_more(struct doorvervain *fs) {
     return number;
 }
 
+// A listing of the root into a buffer with room for one byte.
+static uint8_t list_into_a_byte(struct doorvervain *fs) {
+    uint8_t byte;
+    size_t size;
+    return doorvervain_raw_readdir(fs, bytes_of("/"), 1, &byte, sizeof byte, &size);
+}
+
+// A volume of the usual shape.
+static uint8_t open_usual(struct doorvervain *fs) {
+    return doorvervain_open(fs, DOORVERVAIN_FANOUT, DOORVERVAIN_PENDING, DOORVERVAIN_LEAF);
+}
+
 // ---- the numbers of the header
 
 // Says a number of the header, and whether it is the one that the archive answers.
@@ -109,10 +121,18 @@ static void read_numbers(struct doorvervain *fs) {
     refused = true;
     READ_REFUSAL(ENOMEM, without_memory(make_directory(fs, "/e")));
     READ_REFUSAL(ENOSPC, one_snapshot_more(fs));
+    READ_REFUSAL(ERANGE, list_into_a_byte(fs));
     read_outcome("NULL", DOORVERVAIN_NULL, EFAULT, doorvervain_mkdir(fs, NULL, 3, 0));
     read_outcome("CLOSED", DOORVERVAIN_CLOSED, EBADF, doorvervain_mkdir(&closed, bytes_of("/e"), 2, 0));
     read_number("DIRECTORY", DOORVERVAIN_DIRECTORY, kind_of(fs, "/d"));
     read_number("FILE", DOORVERVAIN_FILE, kind_of(fs, "/d/f"));
+}
+
+// The usual shape: a volume of it was opened. examples/run compares its numbers with the crate's.
+static void say_shape(void) {
+    printf("DOORVERVAIN_FANOUT = %d\n", DOORVERVAIN_FANOUT);
+    printf("DOORVERVAIN_PENDING = %d\n", DOORVERVAIN_PENDING);
+    printf("DOORVERVAIN_LEAF = %d\n", DOORVERVAIN_LEAF);
 }
 
 // ---- what calls that look leave in their results
@@ -154,6 +174,79 @@ static void look(struct doorvervain *fs, struct doorvervain_frozen *tree) {
     say_count("image without memory", number, count);
 }
 
+// ---- texts that go into a buffer with enough room, with too little, and with none
+
+// What asks for a text: a listing, an image, or the name of a snapshot.
+struct asked {
+    const char *what;
+    uint8_t (*call)(void *at, uint8_t *out, size_t room, size_t *size);
+    void *at;
+};
+
+static uint8_t list_root(void *at, uint8_t *out, size_t room, size_t *size) {
+    return doorvervain_raw_readdir(at, bytes_of("/"), 1, out, room, size);
+}
+
+static uint8_t list_frozen_root(void *at, uint8_t *out, size_t room, size_t *size) {
+    return doorvervain_raw_frozen_readdir(at, bytes_of("/"), 1, out, room, size);
+}
+
+static uint8_t print(void *at, uint8_t *out, size_t room, size_t *size) {
+    return doorvervain_raw_image(at, out, room, size);
+}
+
+static uint8_t name_first(void *at, uint8_t *out, size_t room, size_t *size) {
+    return doorvervain_raw_snapshot_name(at, 0, out, room, size);
+}
+
+// How many bytes at the front of a buffer are no longer its guards.
+static size_t changed_in(const uint8_t *buffer) {
+    size_t count = ROOM;
+    while (count && buffer[count - 1] == GUARD) count--;
+    return count;
+}
+
+static void say_room(struct asked asked, const char *which, size_t room) {
+    uint8_t buffer[ROOM];
+    size_t size = OLD;
+    memset(buffer, GUARD, sizeof buffer);
+    uint8_t number = asked.call(asked.at, buffer, room, &size);
+    printf("%s with %s: %d, %zu bytes, %zu written\n", asked.what, which, number, size, changed_in(buffer));
+}
+
+static void say_rooms(struct asked asked) {
+    size_t size = OLD;
+    (void)asked.call(asked.at, (uint8_t *)&size, 0, &size);
+    say_room(asked, "no room", 0);
+    say_room(asked, "a byte too little", size - 1);
+    say_room(asked, "just enough room", size);
+    say_room(asked, "more room", ROOM);
+}
+
+static void fill_buffers(struct doorvervain *fs, struct doorvervain_frozen *tree) {
+    say_rooms((struct asked){"listing", list_root, fs});
+    say_rooms((struct asked){"frozen listing", list_frozen_root, tree});
+    say_rooms((struct asked){"image", print, tree});
+    say_rooms((struct asked){"name of a snapshot", name_first, fs});
+}
+
+// The first names of the snapshots in order, and what is answered past the last.
+static void say_names(struct doorvervain *fs) {
+    uint8_t name[ROOM];
+    size_t count = 0, size = OLD;
+    printf("names:");
+    while (!doorvervain_snapshot_name(fs, count, name, sizeof name, &size)) {
+        if (count < 4) printf(" %.*s", (int)size, (const char *)name);
+        count++;
+    }
+    size = OLD;
+    uint8_t number = doorvervain_raw_snapshot_name(fs, count, name, sizeof name, &size);
+    printf(" ..\nname %zu: %d, %zu bytes\n", count, number, size);
+    size = OLD;
+    number = doorvervain_raw_snapshot_name(fs, SIZE_MAX, name, sizeof name, &size);
+    printf("last number: %d, %zu bytes\n", number, size);
+}
+
 // ---- what calls that make a volume or a tree leave in their places
 
 static const char *state_of(const void *at) { return at ? "open" : "closed"; }
@@ -179,18 +272,18 @@ static void make(void) {
     static const char image[] = "D / 5\nD /a 9\nF /a/f 3 7\nb 0 616263\n";
     say_open("open of the least shape", 4, 4, 4, false);
     say_open("open of the greatest shape", 64, 1024, 1024, false);
-    say_open("open of too few children", 3, 256, 64, false);
-    say_open("open of too few messages", 16, 15, 64, false);
+    say_open("open of too few children", 3, 256, 256, false);
+    say_open("open of too few messages", 16, 15, 256, false);
     say_open("open of too few entries", 16, 256, 3, false);
-    say_open("open without memory", 16, 256, 64, true);
-    say_load("load", image, 16, 256, 64, false);
-    say_load("load of too few children", image, 3, 256, 64, false);
-    say_load("load of too few messages", image, 16, 15, 64, false);
+    say_open("open without memory", 16, 256, 256, true);
+    say_load("load", image, 16, 256, 256, false);
+    say_load("load of too few children", image, 3, 256, 256, false);
+    say_load("load of too few messages", image, 16, 15, 256, false);
     say_load("load of too few entries", image, 16, 256, 3, false);
-    say_load("load of a bad shape without memory", image, 3, 256, 64, true);
-    say_load("load of no image", "", 16, 256, 64, false);
-    say_load("load of a bad third line", "D / 5\nD /a 9\nd /b\n", 16, 256, 64, false);
-    say_load("load without memory", image, 16, 256, 64, true);
+    say_load("load of a bad shape without memory", image, 3, 256, 256, true);
+    say_load("load of no image", "", 16, 256, 256, false);
+    say_load("load of a bad third line", "D / 5\nD /a 9\nd /b\n", 16, 256, 256, false);
+    say_load("load without memory", image, 16, 256, 256, true);
 }
 
 static void freeze(struct doorvervain *fs) {
@@ -214,23 +307,41 @@ static void leave_out(struct doorvervain *fs) {
     uint64_t size = OLD, line = OLD;
     uint8_t number = doorvervain_stat(fs, bytes_of("/d"), 2, &kind, &size, NULL);
     printf("stat without a moment: %d, kind %d, %llu bytes\n", number, kind, (unsigned long long)size);
-    number = doorvervain_load(&loaded, 16, 256, 64, NULL, 9, &line);
+    number = doorvervain_load(&loaded, 16, 256, 256, NULL, 9, &line);
     printf("load of a null text: %d at line %llu, %s\n", number, (unsigned long long)line, state_of(loaded.at));
     loaded.at = &loaded;
-    number = doorvervain_load(&loaded, 16, 256, 64, bytes_of("D / 5\n"), 6, NULL);
+    number = doorvervain_load(&loaded, 16, 256, 256, bytes_of("D / 5\n"), 6, NULL);
     printf("load without a line: %d, %s\n", number, state_of(loaded.at));
+}
+
+// What is answered where there is no volume, and no tree, and where one is closed.
+static void lack(void) {
+    struct doorvervain closed = {0};
+    struct doorvervain_frozen thawed = {0};
+    uint8_t buffer[ROOM];
+    size_t size = OLD;
+    printf("no volume: %d and %u steps, and a closed one: %d and %u steps\n", doorvervain_snapshot(NULL, buffer, 1),
+        doorvervain_relieve(NULL, 1), doorvervain_snapshot(&closed, buffer, 1), doorvervain_relieve(&closed, 1));
+    printf("no tree: %d, and a closed one: %d\n", doorvervain_image(NULL, buffer, ROOM, &size),
+        doorvervain_image(&thawed, buffer, ROOM, &size));
+    printf("name in a closed volume: %d, %zu bytes\n", doorvervain_snapshot_name(&closed, 0, buffer, ROOM, &size), size);
+    printf("name without a size: %d\n", doorvervain_snapshot_name(&closed, 0, buffer, ROOM, NULL));
 }
 
 int main(void) {
     struct doorvervain fs = {0};
     struct doorvervain_frozen tree = {0};
-    if (doorvervain_open(&fs, 16, 256, 64)) return 1;
+    if (open_usual(&fs)) return 1;
     read_numbers(&fs);
+    say_shape();
     if (doorvervain_freeze(&fs, &tree)) return 1;
     look(&fs, &tree);
+    fill_buffers(&fs, &tree);
+    say_names(&fs);
     make();
     freeze(&fs);
     leave_out(&fs);
+    lack();
     doorvervain_thaw(&tree);
     doorvervain_close(&fs);
     return 0;

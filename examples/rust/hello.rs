@@ -46,6 +46,11 @@ unsafe extern "C" {
     fn doorvervain_raw_restore(fs: &mut Handle, name: *const u8, length: usize) -> u8;
 }
 
+/// The usual shape of a volume's trees, as the header has it.
+const FANOUT: u16 = 16;
+const PENDING: u16 = 256;
+const LEAF: u16 = 256;
+
 /// The number of a refusal.
 struct Refusal(u8);
 
@@ -69,7 +74,7 @@ struct Volume(Handle);
 impl Volume {
     fn open() -> Result<Volume, Refusal> {
         let mut handle = Handle { at: null_mut() };
-        done(unsafe { doorvervain_raw_open(16, 256, 64, &mut handle) })?;
+        done(unsafe { doorvervain_raw_open(FANOUT, PENDING, LEAF, &mut handle) })?;
         Ok(Volume(handle))
     }
 

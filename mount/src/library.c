@@ -8,8 +8,6 @@
 #include <stdlib.h>
 #include <string.h>
 
-enum { FANOUT = 16, PENDING = 256, LEAF = 256 };
-
 struct library {
     struct doorvervain volume;
     unsigned steps;
@@ -94,7 +92,7 @@ static int library_stat(void *self, struct place at, struct standing *out) {
     return doorvervain_errno(number);
 }
 
-// One listing into the room that is there; `size` is what it takes.
+// One listing into the room that is there; `size` is what it takes, also where the room is too small.
 static uint8_t list_once(struct library *library, struct place at, struct bytes *out, size_t *size) {
     uint8_t *to = (uint8_t *)out->at + out->length;
     size_t length = strlen(at.path), room = out->room - out->length;
@@ -105,12 +103,13 @@ static uint8_t list_once(struct library *library, struct place at, struct bytes 
 static int library_list(void *self, struct place at, struct bytes *out) {
     struct library *library = self;
     size_t size = 4096;
+    uint8_t number = DOORVERVAIN_ERANGE;
     int fault = at.snapshot ? look_into(library, at.snapshot) : 0;
-    while (!fault) {
+    while (!fault && number == DOORVERVAIN_ERANGE) {
         fault = bytes_reserve(out, size);
-        if (!fault) fault = doorvervain_errno(list_once(library, at, out, &size));
-        if (fault || size <= out->room - out->length) break;
+        if (!fault) number = list_once(library, at, out, &size);
     }
+    if (!fault) fault = doorvervain_errno(number);
     if (!fault) out->length += size;
     return fault;
 }
@@ -163,7 +162,7 @@ static const struct way library_way = {
 };
 
 static int open_empty(struct library *library) {
-    int fault = doorvervain_errno(doorvervain_open(&library->volume, FANOUT, PENDING, LEAF));
+    int fault = doorvervain_errno(doorvervain_open(&library->volume, DOORVERVAIN_FANOUT, DOORVERVAIN_PENDING, DOORVERVAIN_LEAF));
     if (fault) fprintf(stderr, "doorvervain-mount: no volume: %s\n", strerror(fault));
     return fault;
 }
@@ -174,7 +173,8 @@ static int load(struct library *library, const char *file) {
     int fault = bytes_read_file(&image, file);
     if (!fault)
         fault = doorvervain_errno(
-            doorvervain_load(&library->volume, FANOUT, PENDING, LEAF, text(image.at), image.length, &line));
+            doorvervain_load(&library->volume, DOORVERVAIN_FANOUT, DOORVERVAIN_PENDING, DOORVERVAIN_LEAF, text(image.at),
+                             image.length, &line));
     if (line) fprintf(stderr, "doorvervain-mount: %s: bad image at line %" PRIu64 "\n", file, line);
     else if (fault) fprintf(stderr, "doorvervain-mount: %s: %s\n", file, strerror(fault));
     bytes_free(&image);

@@ -82,6 +82,7 @@ readdir = _call(_long, "readdir", *_LIST)
 snapshot = _call(_short, "snapshot", c_void_p, *_TEXT)
 drop = _call(_long, "drop", c_void_p, *_TEXT)
 restore = _call(_long, "restore", c_void_p, *_TEXT)
+snapshot_name = _call(_short, "snapshot_name", c_void_p, c_size_t, *_ROOM)
 freeze = _call(_short, "freeze", c_void_p, c_void_p)
 frozen = _call(_short, "frozen", c_void_p, *_TEXT, c_void_p)
 frozen_read = _call(_short, "frozen_read", *_READ)
@@ -106,8 +107,11 @@ ERRNO: List[int] = [
     errno.EBUSY,
     errno.ENOMEM,
     errno.ENOSPC,
+    errno.ERANGE,
 ]
 EISDIR, EEXIST = 3, 4
+# The number of a buffer with too little room: who called asks again with more.
+SHORT = 13
 # What stands at a path.
 DIRECTORY = 1
 

@@ -10,10 +10,10 @@ import errno
 import os
 import threading
 import time
-from typing import IO, Any, Callable, ClassVar, Dict, Iterator, List, NamedTuple, NoReturn, Optional, Tuple, TypeVar, Union
+from typing import IO, Any, Callable, ClassVar, Iterator, List, NamedTuple, NoReturn, Optional, Tuple, TypeVar, Union
 
 from . import _library
-from ._library import Handle, fault, refusal
+from ._library import SHORT, Handle, fault, refusal
 
 StrPath = Union[str, bytes, "os.PathLike[str]", "os.PathLike[bytes]"]
 
@@ -259,12 +259,12 @@ class Tree:
                 number = self._readdir_call(
                     self._handle or self._refuse(), name, len(name), room.at, room.length, room.first
                 )
-                if number:
-                    raise refusal(number, path)
                 size = room.numbers[0]
-                if size <= room.length:
+                if number != SHORT:
                     break
                 room.widen(size)
+            if number:
+                raise refusal(number, path)
             raw = room.bytes[:size]
         return _text(raw).split("\0")[:-1]
 
@@ -356,8 +356,6 @@ class Volume(Tree):
         super().__init__(held, _Room())
         # The system's clock gives moments alone; what another one gives is looked at each time.
         self._clock = clock if clock is time.time_ns else lambda: _moment(clock())
-        # The library tells no names of snapshots, so the volume keeps them beside it: each is made by a call of its own.
-        self._names: Dict[str, None] = {}
 
     @classmethod
     def load(
@@ -501,15 +499,11 @@ class Volume(Tree):
         >>> volume.listdir(), volume.snapshots()
         ([], ['empty'])
         """
-        with self._room.lock:
-            self._keep(_library.snapshot, name)
-            self._names[_text(_name(name))] = None
+        self._keep(_library.snapshot, name)
 
     def drop(self, name: Union[str, bytes]) -> None:
         """Forgets a snapshot."""
-        with self._room.lock:
-            self._keep(_library.drop, name)
-            del self._names[_text(_name(name))]
+        self._keep(_library.drop, name)
 
     def restore(self, name: Union[str, bytes]) -> None:
         """Makes the volume's tree that of a snapshot, which stays."""
@@ -517,8 +511,14 @@ class Volume(Tree):
 
     def snapshots(self) -> List[str]:
         """The names of the snapshots, in order."""
-        with self._room.lock:
-            return sorted(self._names)
+        names: List[str] = []
+        room = self._room
+        with room.lock:
+            while not _library.snapshot_name(
+                self._handle or self._refuse(), len(names), room.at, room.length, room.first
+            ):
+                names.append(_text(room.bytes[: room.numbers[0]]))
+        return names
 
     def _keep(self, call: Callable[..., int], name: Union[str, bytes]) -> None:
         raw = _name(name)
@@ -584,12 +584,13 @@ class Frozen(Tree):
         with room.lock:
             while True:
                 number = _library.image(self._handle or self._refuse(), room.at, room.length, room.first)
-                if number:
-                    raise refusal(number, None)
                 size = room.numbers[0]
-                if size <= room.length:
-                    return room.bytes[:size]
+                if number != SHORT:
+                    break
                 room.widen(size)
+            if number:
+                raise refusal(number, None)
+            return room.bytes[:size]
 
 
 def _checked(shape: Tuple[int, int, int]) -> Tuple[int, int, int]:

@@ -59,6 +59,9 @@ const TABLE: [(Errno, &str, &str, i32); 12] = [
     (Errno::ENOSPC, "ENOSPC", "all 64 names of snapshots are taken", 28),
 ];
 
+/// The library's number for a buffer with too little room. It is no refusal: who called asks again with more.
+pub(crate) const SHORT: u8 = 13;
+
 impl Errno {
     /// The refusal's number, from 1 to 12, as the library for C has it.
     pub fn number(self) -> u8 {
@@ -143,7 +146,7 @@ impl From<LoadError> for io::Error {
 
 #[cfg(test)]
 mod tests {
-    use super::{Errno, TABLE};
+    use super::{Errno, SHORT, TABLE};
 
     #[test]
     fn the_table_is_in_the_order_of_numbers() {
@@ -151,7 +154,7 @@ mod tests {
             assert_eq!(row.0.number(), number);
             assert_eq!(Errno::of_number(number), Some(row.0));
         }
-        for number in [0, 13, 254, 255] {
+        for number in [0, SHORT, 254, 255] {
             assert_eq!(Errno::of_number(number), None);
         }
     }

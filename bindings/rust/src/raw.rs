@@ -7,7 +7,7 @@
 //! - *Bytes that a call writes overlap no others*: they are borrowed by `&mut`.
 #![allow(unsafe_code)]
 
-use crate::errno::Errno;
+use crate::errno::{Errno, SHORT};
 use crate::listing::{Kind, Stat};
 use std::ffi::c_void;
 use std::ptr::{null_mut, NonNull};
@@ -15,6 +15,9 @@ use std::sync::{Arc, Mutex, MutexGuard, PoisonError};
 
 /// The most bytes that one call reads.
 const MOST: usize = 1 << 20;
+
+/// The most bytes that the name of a snapshot has.
+const LONGEST_NAME: usize = 64;
 
 /// What C takes for a directory.
 const DIRECTORY: u8 = 1;
@@ -62,6 +65,7 @@ extern "C" {
     fn doorvervain_raw_snapshot(fs: *mut Place, name: *const u8, length: usize) -> u8;
     fn doorvervain_raw_drop(fs: *mut Place, name: *const u8, length: usize) -> u8;
     fn doorvervain_raw_restore(fs: *mut Place, name: *const u8, length: usize) -> u8;
+    fn doorvervain_raw_snapshot_name(fs: *mut Place, index: usize, out: *mut u8, room: usize, size: *mut usize) -> u8;
     fn doorvervain_raw_freeze(fs: *mut Place, out: *mut Place) -> u8;
     fn doorvervain_raw_frozen(fs: *mut Place, name: *const u8, length: usize, out: *mut Place) -> u8;
     fn doorvervain_raw_frozen_read(
@@ -221,8 +225,9 @@ fn filled(room: usize, mut call: impl FnMut(&mut [u8], &mut usize) -> u8) -> Res
     let mut out = vec![0; room];
     loop {
         let mut size = 0;
-        done(call(&mut out, &mut size))?;
-        if size <= out.len() {
+        let number = call(&mut out, &mut size);
+        if number != SHORT {
+            done(number)?;
             out.truncate(size);
             return Ok(out);
         }
@@ -322,6 +327,17 @@ impl VolumeHandle {
         let held = &self.0;
         let _lock = held.locked();
         done(unsafe { keep.call()(&mut held.place(), name.as_ptr(), name.len()) })
+    }
+
+    /// The name of the snapshot with this number, in the order of names; none past the last.
+    pub(crate) fn snapshot_name(&self, index: usize) -> Option<String> {
+        let held = &self.0;
+        let _lock = held.locked();
+        let (mut place, mut size, mut name) = (held.place(), 0, vec![0; LONGEST_NAME]);
+        let number = unsafe { doorvervain_raw_snapshot_name(&mut place, index, name.as_mut_ptr(), name.len(), &mut size) };
+        done(number).ok()?;
+        name.truncate(size);
+        String::from_utf8(name).ok()
     }
 
     pub(crate) fn freeze(&self) -> Result<FrozenHandle, Errno> {

@@ -3,7 +3,6 @@ use crate::errno::{Errno, LoadError};
 use crate::listing::{Kind, Listing, Lists, Stat, Walk};
 use crate::path::AsPath;
 use crate::raw::{Change, FrozenHandle, Keep, Looks, VolumeHandle};
-use std::collections::BTreeSet;
 use std::fmt;
 
 /// The shape of the trees behind a volume. It changes no answer, only time.
@@ -49,8 +48,6 @@ impl Default for Shape {
 /// ```
 pub struct Volume {
     handle: VolumeHandle,
-    // The library tells no names of snapshots, so they are kept here: each is made by a method of its own.
-    names: BTreeSet<String>,
 }
 
 /// A tree that stands still: later changes of its volume do not touch it. It outlives its volume, and is freed when it is
@@ -163,10 +160,7 @@ impl Volume {
     /// `EINVAL`: no such shape; `ENOMEM`.
     pub fn with_shape(shape: Shape) -> Result<Volume, Errno> {
         let handle = VolumeHandle::open(shape.fanout, shape.pending, shape.leaf)?;
-        Ok(Volume {
-            handle,
-            names: BTreeSet::new(),
-        })
+        Ok(Volume { handle })
     }
 
     /// A volume with the tree whose image the text is, without snapshots.
@@ -188,10 +182,7 @@ impl Volume {
             0 => LoadError::Refused(refused),
             line => LoadError::BadLine(line),
         })?;
-        Ok(Volume {
-            handle,
-            names: BTreeSet::new(),
-        })
+        Ok(Volume { handle })
     }
 
     /// Makes an empty directory.
@@ -280,9 +271,7 @@ impl Volume {
     /// # Errors
     /// `EEXIST`; `EINVAL`: no name; `ENOSPC`: all 64 names are taken; `ENOMEM`.
     pub fn snapshot(&mut self, name: &str) -> Result<(), Errno> {
-        self.handle.keep(Keep::Snapshot, name.as_bytes())?;
-        self.names.insert(name.to_owned());
-        Ok(())
+        self.handle.keep(Keep::Snapshot, name.as_bytes())
     }
 
     /// Forgets a snapshot.
@@ -290,9 +279,7 @@ impl Volume {
     /// # Errors
     /// `ENOENT`; `EINVAL`: no name.
     pub fn drop_snapshot(&mut self, name: &str) -> Result<(), Errno> {
-        self.handle.keep(Keep::Drop, name.as_bytes())?;
-        self.names.remove(name);
-        Ok(())
+        self.handle.keep(Keep::Drop, name.as_bytes())
     }
 
     /// Makes the volume's tree that of a snapshot, which stays.
@@ -304,8 +291,8 @@ impl Volume {
     }
 
     /// The names of the snapshots, in order.
-    pub fn snapshots(&self) -> impl Iterator<Item = &str> {
-        self.names.iter().map(String::as_str)
+    pub fn snapshots(&self) -> impl Iterator<Item = String> + '_ {
+        (0..).map_while(|index| self.handle.snapshot_name(index))
     }
 
     /// The tree as it stands now, at any size at once.

@@ -1,14 +1,15 @@
 -- Calls of snapshots, whose names are asked in texts.
-use Rattle.std.specs.Prelude.{◌≡◌, ◌⊎◌, ℕ, List, Result, Ok, Err, Some, IfOk}
+use Rattle.std.specs.Prelude.{◌≡◌, ◌⊎◌, ℕ, List, length, Result, Ok, Err, Option, Some, None, IfOk}
 use Rattle.std.specs.FinMap as finite
 use Rattle.volume.specs.declared.rooted.Rooted.{Rooted}
 use Rattle.pathkey.specs.declared.errno.Errno.{Errno}
-use Rattle.pathkey.specs.declared.errno.Errno.TheVariants.{ENOMEM}
+use Rattle.pathkey.specs.declared.errno.Errno.TheVariants.{ENOENT, ENOMEM}
 use Rattle.reference.specs.Worlds.{World, Snapped, Event}
 use Rattle.volume.specs.Changes.{Settles}
 use Rattle.volume.specs.Told.{Finds}
 use Rattle.volume.specs.Volumes.{PVolume, Means}
 use Rattle.byte_calls.specs.Changes.{Refuses}
+use Rattle.byte_calls.specs.Looks.{laid}
 
 -- a text that is no name is refused, and nothing changes; else the volume has settled the call of that name, or memory was
 -- refused on the way to it
@@ -25,3 +26,8 @@ pub record Keeps (s : List ℕ) (v : PVolume) (result : Result Rooted Errno) : T
 abbrev pub FindsNamed : Result (List ℕ) Errno → PVolume → Result Rooted Errno → Type 0
 FindsNamed (Err e) v result = result ≡ Err e
 FindsNamed (Ok s) v result = Keeps s v result ⊎ (result ≡ Err ENOMEM)
+
+-- how many bytes the name has, which is in the buffer where it fits; where there is no such name, ENOENT, and the buffer is as it was
+abbrev pub TellsName : Option (List ℕ) → Result ℕ Errno → List ℕ → List ℕ → Type 0
+TellsName (Some name) result old new = (result ≡ Ok (length name)) × (new ≡ laid name old)
+TellsName None result old new = (result ≡ Err ENOENT) × (new ≡ old)

@@ -8,7 +8,7 @@ ghost use Rattle.images.specs.Loads.{Loaded, form_of, new_form};
 ghost use Rattle.byte_calls.specs.Images.{Prints};
 ghost use Rattle.volume.specs.Volumes.{MeanRooted};
 
-use crate::looks::lay;
+use crate::looks::lay_where_it_fits;
 use images::{LoadFault, load_text, print_image};
 use node::Shape;
 use pathkey::Errno;
@@ -24,10 +24,7 @@ pub fn print(alloc: Global, tree: &Frozen, out: &mut [u8]) -> Result<usize, Errn
     if print_image(alloc, tree, &mut text).is_err() {
         return Err(Errno::ENOMEM);
     }
-    if text.len() <= out.len() {
-        lay(text.as_slice(), out);
-    }
-    Ok(text.len())
+    Ok(lay_where_it_fits(text.as_slice(), out))
 }
 
 /// A new volume with the tree whose image the text is, without snapshots, in trees of this shape. It fails where the shape is not

@@ -14,5 +14,5 @@ pub mod upkeep;
 pub use changes::{PathCall, on_path, rename, truncate, write};
 pub use image_texts::{load, print};
 pub use looks::{frozen_read, frozen_readdir, frozen_stat, read, readdir, stat};
-pub use snapshots::{drop_snapshot, freeze, frozen, restore, snapshot};
+pub use snapshots::{drop_snapshot, freeze, frozen, restore, snapshot, snapshot_name};
 pub use upkeep::relieve;

@@ -118,14 +118,22 @@ fn readdir_at(alloc: Global, tree: &Frozen, path: &Path, out: &mut [u8]) -> Resu
     tree.means_a_tree();
     let entries = names_of(tree.readdir(alloc, path))?;
     let text = listing_bytes(alloc, entries.as_slice())?;
-    if text.len() <= out.len() {
-        lay(text.as_slice(), out);
+    Ok(lay_where_it_fits(text.as_slice(), out))
+}
+
+// Lays bytes over the front of a buffer that has room for all of them: how many they are.
+pub(crate) fn lay_where_it_fits(bytes: &[u8], out: &mut [u8]) -> usize
+    ensures size { result ≡ length bytes.now }
+    ensures buffer { out.new ≡ laid bytes.now out.old }
+{
+    if bytes.len() <= out.len() {
+        lay(bytes, out);
     }
-    Ok(text.len())
+    bytes.len()
 }
 
 // Lays bytes over the front of a buffer.
-pub(crate) fn lay(bytes: &[u8], out: &mut [u8])
+fn lay(bytes: &[u8], out: &mut [u8])
     requires { length bytes.now ≤ length out.old }
     ensures { out.new ≡ bytes.now ++ drop (length bytes.now) out.old }
 {

@@ -1,10 +1,12 @@
 //! Snapshots and frozen trees.
-ghost use Rattle.std.specs.Prelude.{◌≡◌, MatchResult};
+ghost use Rattle.std.specs.Prelude.{◌≡◌, MatchResult, slice_get};
 ghost use Rattle.pathkey.specs.SnapNames.{snap_parsed};
 ghost use Rattle.reference.specs.Worlds.{DropSnapshot, RestoreSnapshot, TakeSnapshot};
 ghost use Rattle.volume.specs.Changes.{Dropped, KeptAs, Restored};
-ghost use Rattle.byte_calls.specs.Snapshots.{FindsNamed, SettlesNamed};
+ghost use Rattle.volume.specs.Volumes.{AreNames, names_in};
+ghost use Rattle.byte_calls.specs.Snapshots.{FindsNamed, SettlesNamed, TellsName};
 
+use crate::looks::lay_where_it_fits;
 use pathkey::{Errno, SnapName};
 use std::alloc::Global;
 use volume::{Frozen, Volume};
@@ -47,4 +49,16 @@ pub fn frozen(alloc: Global, volume: &Volume, name: &[u8]) -> Result<Frozen, Err
 {
     let name = SnapName::parse(alloc, name)?;
     volume.frozen(&name)
+}
+
+/// The name of the snapshot with this number, in the rising order of names, counted from 0; ENOENT past the last. The result is how many
+/// bytes it has; they are written where the buffer has room for all of them, and else it stays as it was. It takes no memory.
+pub fn snapshot_name(volume: &Volume, number: usize, out: &mut [u8]) -> Result<usize, Errno>
+    ensures name { TellsName (slice_get (names_in volume.now.snapshots) number) result out.old out.new }
+    ensures names { AreNames volume.now.snapshots (names_in volume.now.snapshots) }
+{
+    let Some(name) = volume.snapshot_name(number) else {
+        return Err(Errno::ENOENT);
+    };
+    Ok(lay_where_it_fits(name.as_bytes(), out))
 }

@@ -1,5 +1,5 @@
 -- What the number that an export gives tells.
-use Rattle.std.specs.Prelude.{◌≡◌, ◌≤◌, ℕ, zero, suc, List, [], ◌∷◌, slice_index_or, Result, Ok, Err}
+use Rattle.std.specs.Prelude.{◌≡◌, ◌≤◌, ◌<◌, ◌==◌, ℕ, zero, suc, List, [], ◌∷◌, length, slice_index_or, if◌then◌else◌, Result, Ok, Err}
 use Rattle.pathkey.specs.declared.errno.Errno.{Errno}
 use Rattle.pathkey.specs.declared.errno.Errno.TheVariants.{ENOENT, ENOTDIR, EISDIR, EEXIST, ENOTEMPTY, EPERM, EINVAL, ENAMETOOLONG, EFBIG, EBUSY, ENOMEM, ENOSPC}
 use Rattle.reference.specs.declared.reply.Meta.{Meta}
@@ -21,6 +21,24 @@ told_by (suc n) x = Err (slice_index_or refusals n ENOSPC)
 -- the same, of a call that gives nothing
 abbrev pub told : ℕ → Result (Unit {0}) Errno
 told n = told_by n tt
+
+-- ---- sizes of what is written where the buffer has room for all of it
+
+-- the number of a buffer that has too little room
+abbrev pub short : ℕ
+short = 13
+
+-- 0 and the number of a short buffer tell that what was asked for has so many bytes; another number tells the refusal of that number
+abbrev pub sized_by : ℕ → ℕ → Result ℕ Errno
+sized_by n size = if n == short then Ok size else told_by n size
+
+-- the number is 0, that of a refusal, or that of a short buffer
+abbrev pub IsSizeNumber : ℕ → Type 0
+IsSizeNumber n = n ≤ short
+
+-- the buffer has room, but for fewer than so many bytes: one without room only asks for the size
+abbrev pub IsShort : ℕ → List ℕ → Type 0
+IsShort size out = (0 < length out) × (length out < size)
 
 -- ---- what stands at a path
 

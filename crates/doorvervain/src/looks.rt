@@ -1,16 +1,17 @@
 //! Exports of the calls that only look: the volume, or the tree, is as it was. A refusal gives 0 as each other result.
-ghost use Rattle.std.specs.Prelude.{◌≡◌, IfErr};
+ghost use Rattle.std.specs.Prelude.{◌≡◌, ◌↔◌, IfErr, slice_get};
 ghost use Rattle.byte_calls.specs.Images.{Prints};
 ghost use Rattle.byte_calls.specs.Looks.{Fills};
+ghost use Rattle.byte_calls.specs.Snapshots.{TellsName};
 ghost use Rattle.reference.specs.Image.{Second, image};
 ghost use Rattle.reference.specs.Tree.{Tree};
-ghost use Rattle.volume.specs.Volumes.{MeanRooted};
+ghost use Rattle.volume.specs.Volumes.{AreNames, MeanRooted, names_in};
 ghost use Rattle.doorvervain.specs.Looks.{ListsAt, ReadsAt, StatsAt};
-ghost use Rattle.doorvervain.specs.Numbers.{Gives, IsNumber, stat_told, told_by};
+ghost use Rattle.doorvervain.specs.Numbers.{Gives, IsNumber, IsShort, IsSizeNumber, short, sized_by, stat_told, told_by};
 
 use crate::frozen::FrozenHandle;
 use crate::handle::Handle;
-use crate::numbers::{count, kind};
+use crate::numbers::{count, kind, sized};
 use std::alloc::Global;
 
 /// Reads a file of the live tree from the offset on into the front of the buffer: how many bytes goes to `got`.
@@ -57,7 +58,8 @@ pub extern "C" fn doorvervain_raw_stat(
 }
 
 /// Lists a directory of the live tree: for each entry `d` or `f`, its name and a byte 0. How many bytes that takes
-/// goes to `size`; they are written where the buffer has room for all of them.
+/// goes to `size`; they are written where the buffer has room for all of them. One with less room is short; one with none only asks for
+/// the size.
 #[unsafe(no_mangle)]
 pub extern "C" fn doorvervain_raw_readdir(
     alloc: Global,
@@ -66,13 +68,15 @@ pub extern "C" fn doorvervain_raw_readdir(
     out: &mut [u8],
     size: &mut usize,
 ) -> u8
-    ensures reply { ListsAt path.now fs.old.volume.live (told_by result size.new) out.old out.new }
-    ensures number { IsNumber result }
-    ensures refused { IfErr (told_by result size.new) (λ _. size.new ≡ 0) }
-    ensures untouched { IfErr (told_by result size.new) (λ _. out.new ≡ out.old) }
+    ensures reply { ListsAt path.now fs.old.volume.live (sized_by result size.new) out.old out.new }
+    ensures short { (result ≡ short) ↔ IsShort size.new out.old }
+    ensures number { IsSizeNumber result }
+    ensures refused { IfErr (sized_by result size.new) (λ _. size.new ≡ 0) }
+    ensures untouched { IfErr (sized_by result size.new) (λ _. out.new ≡ out.old) }
     ensures kept { fs.new.volume ≡ fs.old.volume }
 {
-    count(byte_calls::readdir(alloc, fs.volume(), path, out), size)
+    let listed = byte_calls::readdir(alloc, fs.volume(), path, out);
+    sized(listed, out.len(), size)
 }
 
 /// Reads a file of a frozen tree from the offset on into the front of the buffer: how many bytes goes to `got`.
@@ -122,7 +126,8 @@ pub extern "C" fn doorvervain_raw_frozen_stat(
 }
 
 /// Lists a directory of a frozen tree: for each entry `d` or `f`, its name and a byte 0. How many bytes that takes
-/// goes to `size`; they are written where the buffer has room for all of them.
+/// goes to `size`; they are written where the buffer has room for all of them. One with less room is short; one with none only asks for
+/// the size.
 #[unsafe(no_mangle)]
 pub extern "C" fn doorvervain_raw_frozen_readdir(
     alloc: Global,
@@ -131,20 +136,19 @@ pub extern "C" fn doorvervain_raw_frozen_readdir(
     out: &mut [u8],
     size: &mut usize,
 ) -> u8
-    ensures reply { ListsAt path.now tree.old.tree (told_by result size.new) out.old out.new }
-    ensures number { IsNumber result }
-    ensures refused { IfErr (told_by result size.new) (λ _. size.new ≡ 0) }
-    ensures untouched { IfErr (told_by result size.new) (λ _. out.new ≡ out.old) }
+    ensures reply { ListsAt path.now tree.old.tree (sized_by result size.new) out.old out.new }
+    ensures short { (result ≡ short) ↔ IsShort size.new out.old }
+    ensures number { IsSizeNumber result }
+    ensures refused { IfErr (sized_by result size.new) (λ _. size.new ≡ 0) }
+    ensures untouched { IfErr (sized_by result size.new) (λ _. out.new ≡ out.old) }
     ensures kept { tree.new.tree ≡ tree.old.tree }
 {
-    count(
-        byte_calls::frozen_readdir(alloc, tree.tree(), path, out),
-        size,
-    )
+    let listed = byte_calls::frozen_readdir(alloc, tree.tree(), path, out);
+    sized(listed, out.len(), size)
 }
 
 /// The image of a frozen tree. How many bytes it has goes to `size`; they are written where the buffer has room for all of
-/// them.
+/// them. One with less room is short; one with none only asks for the size.
 #[unsafe(no_mangle)]
 pub extern "C" fn doorvervain_raw_image(
     alloc: Global,
@@ -152,10 +156,32 @@ pub extern "C" fn doorvervain_raw_image(
     out: &mut [u8],
     size: &mut usize,
 ) -> u8
-    ensures image { (t : Tree) → MeanRooted tree.old.tree t → Prints (image Second t) (told_by result size.new) out.old out.new }
-    ensures number { IsNumber result }
-    ensures refused { IfErr (told_by result size.new) (λ _. size.new ≡ 0) }
+    ensures image { (t : Tree) → MeanRooted tree.old.tree t → Prints (image Second t) (sized_by result size.new) out.old out.new }
+    ensures short { (result ≡ short) ↔ IsShort size.new out.old }
+    ensures number { IsSizeNumber result }
+    ensures refused { IfErr (sized_by result size.new) (λ _. size.new ≡ 0) }
     ensures kept { tree.new.tree ≡ tree.old.tree }
 {
-    count(byte_calls::print(alloc, tree.tree(), out), size)
+    let printed = byte_calls::print(alloc, tree.tree(), out);
+    sized(printed, out.len(), size)
+}
+
+/// The name of the snapshot with this number, in the rising order of names, counted from 0. How many bytes it has goes to `size`; they are
+/// written where the buffer has room for all of them. One with less room is short; one with none only asks for the size.
+#[unsafe(no_mangle)]
+pub extern "C" fn doorvervain_raw_snapshot_name(
+    fs: &mut Handle,
+    index: usize,
+    out: &mut [u8],
+    size: &mut usize,
+) -> u8
+    ensures name { TellsName (slice_get (names_in fs.old.volume.snapshots) index) (sized_by result size.new) out.old out.new }
+    ensures names { AreNames fs.old.volume.snapshots (names_in fs.old.volume.snapshots) }
+    ensures short { (result ≡ short) ↔ IsShort size.new out.old }
+    ensures number { IsSizeNumber result }
+    ensures refused { IfErr (sized_by result size.new) (λ _. size.new ≡ 0) }
+    ensures kept { fs.new.volume ≡ fs.old.volume }
+{
+    let told = byte_calls::snapshot_name(fs.volume(), index, out);
+    sized(told, out.len(), size)
 }

@@ -1,12 +1,15 @@
 //! Outcomes as numbers that C takes.
-ghost use Rattle.std.specs.Prelude.{◌≡◌, IfErr};
-ghost use Rattle.doorvervain.specs.Numbers.{Gives, IsNumber, stat_told, told, told_by};
+ghost use Rattle.std.specs.Prelude.{◌≡◌, ◌↔◌, ◌<◌, IfErr};
+ghost use Rattle.doorvervain.specs.Numbers.{Gives, IsNumber, IsSizeNumber, short, sized_by, stat_told, told, told_by};
 
 use pathkey::Errno;
 use reference::Meta;
 
 /// The number of a call that was done.
 const DONE: u8 = 0;
+
+/// The number of a buffer that has too little room.
+const SHORT: u8 = 13;
 
 /// What C takes for a directory.
 const DIRECTORY: u8 = 1;
@@ -43,6 +46,23 @@ pub(crate) fn count(outcome: Result<usize, Errno>, got: &mut usize) -> u8
             *got = 0;
             fault.number()
         }
+    }
+}
+
+/// The number of an outcome that tells a size, and the size, which is none where it is refused. Where a buffer has room, but for fewer bytes,
+/// it is that of a short buffer.
+pub(crate) fn sized(outcome: Result<usize, Errno>, room: usize, size: &mut usize) -> u8
+    ensures told { sized_by result size.new ≡ outcome }
+    ensures short { (result ≡ short) ↔ ((0 < room) × (room < size.new)) }
+    ensures number { IsSizeNumber result }
+    ensures refused { IfErr outcome (λ _. size.new ≡ 0) }
+{
+    match outcome {
+        Ok(n) if room > 0 && room < n => {
+            *size = n;
+            SHORT
+        }
+        _ => count(outcome, size),
     }
 }
 
