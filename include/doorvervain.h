@@ -456,7 +456,8 @@ static inline uint32_t doorvervain_relieve(struct doorvervain *fs, uint32_t step
 }
 
 // ---- records. They take no volume, and may be called from any thread. docs/FORMATS.md has the text of a record.
-// A result is written where `room` is enough for all of it; else the buffer stays as it was. `*size` is how many bytes it has.
+// A result is written where `room` is enough for all of it; `*size` is how many bytes it has. With less room the buffer stays as it
+// was: DOORVERVAIN_ERANGE, or DOORVERVAIN_DONE where `room` is 0, which asks for the size.
 
 // Whether a pointer to bytes, or one to a buffer, is null where it must not be.
 static inline int doorvervain_has_null(const uint8_t *bytes, size_t length, const uint8_t *out, size_t room) {

@@ -1,11 +1,11 @@
 //! Exports of records and of where they lie. They take no volume. A refusal gives 0 as each other result.
-ghost use Rattle.std.specs.Prelude.{◌≡◌, IfErr};
+ghost use Rattle.std.specs.Prelude.{◌≡◌, ◌↔◌, IfErr};
 ghost use Rattle.attributes.specs.Buffers.{Parses, Prints, Writes, place_of};
 ghost use Rattle.attributes.specs.Places.{mirror, record_path};
 ghost use Rattle.pathkey.specs.Texts.{parsed};
-ghost use Rattle.doorvervain.specs.Numbers.{IsNumber, told_by};
+ghost use Rattle.doorvervain.specs.Numbers.{IsShort, IsSizeNumber, short, sized_by};
 
-use crate::numbers::count;
+use crate::numbers::sized;
 use attributes::Fields;
 use attributes::buffers::{read_record, write_mirror, write_record, write_record_path};
 use std::alloc::Global;
@@ -19,11 +19,13 @@ pub extern "C" fn doorvervain_raw_mirror(
     out: &mut [u8],
     size: &mut usize,
 ) -> u8
-    ensures place { Writes (place_of mirror (parsed path.now)) (told_by result size.new) out.old out.new }
-    ensures number { IsNumber result }
-    ensures refused { IfErr (told_by result size.new) (λ _. size.new ≡ 0) }
+    ensures place { Writes (place_of mirror (parsed path.now)) (sized_by result size.new) out.old out.new }
+    ensures short { (result ≡ short) ↔ IsShort size.new out.old }
+    ensures number { IsSizeNumber result }
+    ensures refused { IfErr (sized_by result size.new) (λ _. size.new ≡ 0) }
 {
-    count(write_mirror(alloc, path, out), size)
+    let written = write_mirror(alloc, path, out);
+    sized(written, out.len(), size)
 }
 
 /// The path of a path's record. How many bytes its text has goes to `size`; it is written where the buffer has room for all of it.
@@ -34,11 +36,13 @@ pub extern "C" fn doorvervain_raw_record_path(
     out: &mut [u8],
     size: &mut usize,
 ) -> u8
-    ensures place { Writes (place_of record_path (parsed path.now)) (told_by result size.new) out.old out.new }
-    ensures number { IsNumber result }
-    ensures refused { IfErr (told_by result size.new) (λ _. size.new ≡ 0) }
+    ensures place { Writes (place_of record_path (parsed path.now)) (sized_by result size.new) out.old out.new }
+    ensures short { (result ≡ short) ↔ IsShort size.new out.old }
+    ensures number { IsSizeNumber result }
+    ensures refused { IfErr (sized_by result size.new) (λ _. size.new ≡ 0) }
 {
-    count(write_record_path(alloc, path, out), size)
+    let written = write_record_path(alloc, path, out);
+    sized(written, out.len(), size)
 }
 
 /// The record of attributes: of fields, and of extended attributes side by side. How many bytes it has goes to `size`; it is written
@@ -51,11 +55,13 @@ pub extern "C" fn doorvervain_raw_record_print(
     out: &mut [u8],
     size: &mut usize,
 ) -> u8
-    ensures record { Prints fields.now extended.now (told_by result size.new) out.old out.new }
-    ensures number { IsNumber result }
-    ensures refused { IfErr (told_by result size.new) (λ _. size.new ≡ 0) }
+    ensures record { Prints fields.now extended.now (sized_by result size.new) out.old out.new }
+    ensures short { (result ≡ short) ↔ IsShort size.new out.old }
+    ensures number { IsSizeNumber result }
+    ensures refused { IfErr (sized_by result size.new) (λ _. size.new ≡ 0) }
 {
-    count(write_record(alloc, fields, extended, out), size)
+    let written = write_record(alloc, fields, extended, out);
+    sized(written, out.len(), size)
 }
 
 /// The attributes that a record tells: fields, and extended attributes side by side. How many bytes these have goes to `size`; they
@@ -68,9 +74,11 @@ pub extern "C" fn doorvervain_raw_record_parse(
     out: &mut [u8],
     size: &mut usize,
 ) -> u8
-    ensures told { Parses text.now (told_by result size.new) fields.new out.old out.new }
-    ensures number { IsNumber result }
-    ensures refused { IfErr (told_by result size.new) (λ _. size.new ≡ 0) }
+    ensures told { Parses text.now (sized_by result size.new) fields.new out.old out.new }
+    ensures short { (result ≡ short) ↔ IsShort size.new out.old }
+    ensures number { IsSizeNumber result }
+    ensures refused { IfErr (sized_by result size.new) (λ _. size.new ≡ 0) }
 {
-    count(read_record(alloc, text, fields, out), size)
+    let written = read_record(alloc, text, fields, out);
+    sized(written, out.len(), size)
 }
