@@ -48,7 +48,7 @@ pub compiled_does : (a b : Indexes) (c : Call) (at : ℕ) (r : Reply) (msgs : Me
 compiled_does a b c at r msgs compiled taken t m = (compiled.reply t m, meant_after (does at t c).0 a b msgs (compiled.tree t m) taken)
 
 -- a tree to which messages were appended, and which is not touched where there are none
-receives : {U V : Type 0} (means : U → Option V → Option V) (msgs : List (Msg U V)) (a b : PTree U V) → Appended means msgs a b → (msgs ≡ [] → b ≡ a) → Receives means msgs a b
+pub receives : {U V : Type 0} (means : U → Option V → Option V) (msgs : List (Msg U V)) (a b : PTree U V) → Appended means msgs a b → (msgs ≡ [] → b ≡ a) → Receives means msgs a b
 receives means [] a b appended untouched = untouched refl
 receives means (m ∷ ms) a b appended untouched = appended
 

@@ -56,7 +56,7 @@ changed_kind (Read p off n) at t = unless_holds (λ o. IsData o.1) t (faults_of_
 changed_kind (AskStat p) at t = unless_holds (λ o. IsStat o.1) t (faults_of_stat t p) (t, stat_of (entry_at t p)) (λ e. tt) (λ none. stands (entry_at t p))
 changed_kind (Readdir p) at t = unless_holds (λ o. IsNames o.1) t (faults_of_readdir t p) (t, Names (names_of (entry_at t p))) (λ e. tt) (λ none. tt)
 
-of_kind : (c : Call) (at : ℕ) (t : Tree) → IsOfKind c (does at t c).1
+pub of_kind : (c : Call) (at : ℕ) (t : Tree) → IsOfKind c (does at t c).1
 of_kind c at t = subst (IsOfKind c) (sym (reply_is at t c)) (changed_kind c at t)
 
 -- a refusal is of every kind

@@ -6,6 +6,7 @@ ghost use Rattle.pathkey.specs.declared.errno.Errno.{Errno as Refusal};
 ghost use Rattle.reference.specs.Tree.{Tree};
 ghost use Rattle.reference.specs.declared.call.Call.{Call as FileCall};
 ghost use Rattle.volume.specs.Changes.{Does, Batched, StepsLive};
+ghost use Rattle.volume.specs.Holes.{Sent};
 ghost use Rattle.volume.specs.Jobs.{AnswersTaking, AnswersInstalling, DoneFits, mark_count};
 ghost use Rattle.volume.specs.Marked.{KeepMarkedLists, KeepsMarks, Stands, no_marks, without_mark};
 ghost use Rattle.volume.specs.Told.{HeaviestIn, pending_in};
@@ -128,6 +129,7 @@ impl Live {
         ensures kind { (c : FileCall) (at : ℕ) → Compiles self.old.indexes c at compiled → (t : Tree) → MeanTree self.old.indexes t → IfOk result (λ r. IsOfKind c r) }
         ensures refused { (c : FileCall) (at : ℕ) → Compiles self.old.indexes c at compiled → IfOk result (λ r. (e : Refusal) → r ≡ Reply.Fault e → self.new.indexes ≡ self.old.indexes) }
         ensures batch { (c : FileCall) (at : ℕ) → Compiles self.old.indexes c at compiled → IfOk result (λ r. Batched c at self.old self.new) }
+        ensures sent { Sent compiled result self.old self.new }
         ensures err { OnErr result (self.new ≡ self.old) }
         ensures marks { self.new.marks ≡ self.old.marks }
         ensures kept { KeepsMarks self.old self.new }

@@ -199,7 +199,7 @@ fn settled(reply: Reply) -> Result<(), Errno>
 }
 
 // The answer that tells the reply to a write.
-fn counted(reply: Reply) -> Result<u64, Errno>
+pub(crate) fn counted(reply: Reply) -> Result<u64, Errno>
     requires { IsCount reply }
     ensures { replied (λ n. Reply.Count n) result ≡ reply }
 {

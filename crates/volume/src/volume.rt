@@ -1,17 +1,19 @@
 //! A volume, and what is asked of it.
-ghost use Rattle.std.specs.Prelude.{◌≡◌, ◌⊎◌, ◌↔◌, false, MatchResult, IfOk, IfNone, IfSome, None, Some, slice_get};
+ghost use Rattle.std.specs.Prelude.{◌≡◌, ◌⊎◌, ◌↔◌, ℕ, false, MatchResult, IfOk, IfNone, IfSome, None, Some, slice_get};
 ghost use Rattle.node.specs.Shapes.{is_shape};
+ghost use Rattle.pathkey.specs.Names.{Path as Names};
 ghost use Rattle.std.specs.FinMap as finite;
 ghost use Rattle.reference.specs.declared.call.Call.{Call as FileCall};
 ghost use Rattle.std.specs.Option.{option_copied};
 ghost use Rattle.reference.specs.Worlds.{World, TakeSnapshot, DropSnapshot, RestoreSnapshot};
 ghost use Rattle.volume.specs.Changes.{Called, Settles, KeptAs, Dropped, Restored, Stepped};
 ghost use Rattle.volume.specs.Plants.{Plants};
+ghost use Rattle.volume.specs.Holes.{Compiles as HoleCompiles, Punches};
 ghost use Rattle.volume.specs.Rooted.{reply_to};
 ghost use Rattle.volume.specs.Jobs.{AnswersInstalling, AnswersTaking, DoneFits};
 ghost use Rattle.volume.specs.Marked.{KeepsMarks, no_marks, without_mark};
 ghost use Rattle.volume.specs.Volumes.{AreNames, IsNew, IsVolume, MeanRooted, Means, live_of, names_in};
-ghost use Rattle.volume.specs.Typed.{Asks, Compiles, IsOfKind};
+ghost use Rattle.volume.specs.Typed.{Asks, Compiles, IsCount, IsOfKind};
 ghost use Rattle.volume.specs.Told.{Finds, HeaviestIn, busier, pending_in, report_in};
 
 use crate::event::{Index, Relief, Step};
@@ -121,6 +123,21 @@ impl Volume {
         let reply = reply_to(answer);
         self.modified = after_call(&reply, in_root, at, self.modified);
         reply
+    }
+
+    /// Makes zeros of a part of a file, as was compiled.
+    pub(crate) fn send_zeros(
+        &mut self,
+        alloc: Global,
+        compiled: Result<(Reply, Batch), NoMemory>,
+    ) -> Reply
+        requires { (p : Names) × (off : ℕ) × (n : ℕ) × (at : ℕ) × HoleCompiles self.old.live.indexes p off n at compiled }
+        ensures punches { (p : Names) (off n at : ℕ) → HoleCompiles self.old.live.indexes p off n at compiled → Punches p off n at result self.old self.new }
+        ensures count { (p : Names) (off n at : ℕ) → HoleCompiles self.old.live.indexes p off n at compiled → IsCount result }
+    {
+        let answer = self.live.send(alloc, compiled);
+        self.live.stands();
+        reply_to(answer)
     }
 
     /// Plants an entry with its moment, as an image that is loaded tells it: an empty directory, or a file of so many zeros. A directory

@@ -1,11 +1,13 @@
 //! A walk through a tree that stands still: its entries, or the blocks of a file, so many at a time, or the blocks of file after file.
 //!
 //! What is asked for at once is one walk of an index from its root, and no search for each entry.
-ghost use Rattle.std.specs.Prelude.{◌≡◌, ◌<◌, ◌≤◌, ◌^◌, ◌↔◌, ◌++◌, ◌∷◌, ℕ, List, All, IfOk, IfSome, true};
+ghost use Rattle.std.specs.Prelude.{◌≡◌, ◌≢◌, ◌<◌, ◌≤◌, ◌^◌, ◌↔◌, ◌++◌, [], ◌∷◌, ℕ, List, All, IfOk, IfSome, true};
 ghost use Rattle.std.specs.Option.{option_to_list};
+ghost use Rattle.block_index.specs.Means.{blocks};
 ghost use Rattle.pathkey.specs.Keys.{block_key, enc};
 ghost use Rattle.reference.specs.Indexes.{PathOf, most_blocks};
 ghost use Rattle.reference.specs.Tree.{Tree, entry_at};
+ghost use Rattle.volume.specs.StoredRuns.{IsNextStored};
 ghost use Rattle.volume.specs.Volumes.{MeanRooted};
 ghost use Rattle.volume.specs.Walks.{AreBlocksAt, AreEntries, IsOwn, ReadsNumbers, ReadsPaths};
 
@@ -113,6 +115,7 @@ impl<'a> BlockWalk<'a> {
     ) -> Result<Option<(u32, Block)>, NoMemory>
         ensures block { IfOk result (λ r. (t : Tree) → MeanRooted self.old t → AreBlocksAt (entry_at t path.now) from 1 (option_to_list r)) }
         ensures number { IfOk result (λ r. IfSome r (λ x. (from ≤ x.0) × (x.0 < most_blocks))) }
+        ensures stored { IfOk result (λ r. path.now ≢ [] → IsNextStored (blocks self.old.indexes.block) path.now from r) }
         ensures tree { self.new ≡ self.old }
     {
         // What `key` promises says that the path is one.

@@ -1,7 +1,5 @@
-use Rattle.std.proofs.Common.{true, Option, ◌∙◌, subst, sym}
+use Rattle.std.proofs.Common.{◌∙◌, sym}
 use Rattle.node.specs.Meaning.{value}
-use Rattle.scan.specs.Pairs.{HasNone, IsGiven}
-use Rattle.scan.proofs.AtHand.{given_first}
 use Rattle.volume.proofs.Cursors.{given_none, stands_ended, stands_new}
 use Rattle.volume.proofs.cursor.Cursor.take_first.Goals as goal
 

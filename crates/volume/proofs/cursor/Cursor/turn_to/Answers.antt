@@ -1,7 +1,6 @@
-use Rattle.std.proofs.Common.{◌≡◌, None, refl, false, ap, sym, subst, ◌∙◌}
+use Rattle.std.proofs.Common.{None, refl, ap, sym, subst, ◌∙◌}
 use Rattle.std.specs.Ordering.{is_lt}
 use Rattle.volume.specs.Cursors.{StandsAt}
-use Rattle.message.specs.Ranges.{before}
 use Rattle.volume.proofs.Cursors.{stands_later, stands_new, stands_passed}
 use Rattle.volume.proofs.cursor.Cursor.turn_to.Goals as goal
 use Rattle.volume.proofs.cursor.Cursor.turn_to.Goals.{then-is_lt+in-Some-1, then-is_lt+in-None-1, else-is_lt+then-is_passed+in-Some-1, else-is_lt+then-is_passed+in-None-1, else-is_lt+else-is_passed}

@@ -37,3 +37,15 @@ returns-clause-batch c = λ k at h.
       no_meta = c.append.ensures.no_meta;
       no_block = c.append.ensures.no_block;
     }) c.in_ok-append.ensures.lists
+
+pub returns-clause-sent : goal.returns-clause-sent
+returns-clause-sent c = (
+  c.in_ok-reply.batch,
+  (cc),
+  record {
+    taken = c.in_ok-append.ensures.done;
+    no_meta = c.append.ensures.no_meta;
+    no_block = c.append.ensures.no_block;
+    lists = c.in_ok-append.ensures.lists;
+  },
+)

@@ -3,8 +3,11 @@ use Rattle.std.proofs.lemmas.Result.{IfOk-weaker}
 use Rattle.block_index.specs.Means.{blocks}
 use Rattle.pathkey.specs.Keys.{block_key}
 use Rattle.scan.specs.Pairs.{IsFirst}
+use Rattle.volume.specs.StoredRuns.{IsNextStored}
 use Rattle.volume.specs.Volumes.{MeanRooted}
+use Rattle.volume.specs.declared.rooted.Rooted.{Rooted}
 use Rattle.volume.proofs.BlockWalks.{block_given, first_at, number_given, stands_in}
+use Rattle.volume.proofs.NextStored.{next_stored}
 use Rattle.volume.proofs.walk.BlockWalk.next.Goals as goal
 
 pub go_to-requires : goal.go_to-requires
@@ -48,3 +51,15 @@ returns-clause-number c =
     let first : IsFirst (blocks i.block) (block_key p n) None o = first_at c.indexes.result.now i c.indexes.ensures c.in_ok-key.key (block_key p n) w.cursor.range.hi o c.in_ok-key.ensures c.self.invariant.1 c.in_ok-go_to.ensures.first in
     IfOk-weaker c.own_block.result _ _ (λ x own.
     number_given c.means_a_tree.ensures.tree (blocks i.block) c.means_a_tree.ensures.means.indexes.blocks p c.key-key.ensures.valid n c.ranges.from.fits o x first own) c.own_block.ensures
+
+pub returns-clause-stored : goal.returns-clause-stored
+returns-clause-stored c =
+    let w = c.self.inside in
+    let p = c.args.path.now in
+    let n = c.args.from in
+    let i = w.frozen.now.indexes in
+    let o = c.go_to.new.self.first in
+    let first : IsFirst (blocks i.block) (block_key p n) None o = first_at c.indexes.result.now i c.indexes.ensures c.in_ok-key.key (block_key p n) w.cursor.range.hi o c.in_ok-key.ensures c.self.invariant.1 c.in_ok-go_to.ensures.first in
+    let meant = c.means_a_tree.ensures in
+    IfOk-weaker c.own_block.result _ _ (λ x own some. subst (λ (r : Rooted). IsNextStored (blocks r.indexes.block) p n x) c.self.view_is
+    (next_stored meant.tree (blocks i.block) meant.means.indexes.blocks p c.key-key.ensures.valid n c.ranges.from.fits o x first own)) c.own_block.ensures

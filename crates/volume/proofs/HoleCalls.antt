@@ -1,0 +1,106 @@
+-- From what a hole was compiled to, and sent, to what became of the volume.
+use Rattle.std.proofs.Common.{arith, ◌≡◌, ℕ, Bool, true, false, cond, refl, sym, ap, subst, ◌∙◌, inr, Ok, Err}
+use Rattle.std.specs.Prelude.{Result, OnErr, ◌&&◌}
+use Rattle.block_index.specs.Updates.{means as block_means}
+use Rattle.block_index.specs.declared.index.BlockIndex.{BlockIndex}
+use Rattle.call_compiler.specs.Compiled.{Messages, MeanTree, messages, no_messages}
+use Rattle.call_compiler.specs.Punched.{IsPunched, zeroing}
+use Rattle.call_compiler.specs.declared.batch.Batch.{Batch}
+use Rattle.call_compiler.proofs.Appending.{meant_after}
+use Rattle.meta_index.specs.Updates.{means as meta_means}
+use Rattle.meta_index.specs.declared.index.MetaIndex.{MetaIndex}
+use Rattle.pathkey.specs.Keys.{block_key}
+use Rattle.pathkey.specs.Names.{Path}
+use Rattle.pathkey.specs.declared.errno.Errno.TheVariants.{ENOMEM}
+use Rattle.pathkey.specs.declared.errno.NoMemory.{NoMemory}
+use Rattle.reference.specs.Calls.{does, is_done}
+use Rattle.reference.specs.Tree.{Tree}
+use Rattle.reference.specs.Worlds.{World, Fits, Replied, next}
+use Rattle.reference.specs.declared.call.Call.{Call}
+use Rattle.reference.specs.declared.reply.Reply.{Reply}
+use Rattle.reference.specs.declared.reply.Reply.TheVariants.{Fault}
+use Rattle.reference.proofs.Unique.{one_meaning}
+use Rattle.volume.specs.Changes.{Does}
+use Rattle.volume.specs.Holes.{Arrives, Compiles, Punches, Sent, hole_in}
+use Rattle.volume.specs.Marked.{PLive, KeepsMarks, Stands}
+use Rattle.volume.specs.Rooted.{after_call, reply_to}
+use Rattle.volume.specs.Typed.{IsCount}
+use Rattle.volume.specs.Volumes.{PVolume, IsVolume, Means, live_of}
+use Rattle.volume.proofs.Leading.{volume, called, kept_same, nothing_comes, same_live}
+use Rattle.volume.proofs.Trees.{Appends, nothing_appended, receives}
+use Rattle.volume.proofs.Typing.{of_kind}
+
+-- a write gives the root no moment
+root_stays : (r : Reply) (at modified : ℕ) → after_call false r at modified ≡ modified
+root_stays r at modified = never (is_done r)
+  where
+    never : (b : Bool) → cond (b && false) at modified ≡ modified
+    never true = refl
+    never false = refl
+
+-- want of memory
+pub lacks_hole : (v : PVolume) (p : Path) (off n at : ℕ) (l : PLive) → l ≡ live_of v → Punches p off n at (Fault ENOMEM) v (volume l v.live.modified v.snapshots)
+lacks_hole v p off n at l e = record {
+  leads = λ w m. (inr refl, subst (λ (k : PLive). Means (volume k v.live.modified v.snapshots) w) (sym e) m);
+  refused = λ x h. ap (λ (k : PLive). volume k v.live.modified v.snapshots) e;
+  nothing = λ h. absurd (cc);
+  batch = record { msgs = no_messages; few = (omega arith, omega arith); meta = ap (λ (k : PLive). k.indexes.meta.tree) e; block = ap (λ (k : PLive). k.indexes.block.tree) e; lists = nothing_comes (live_of v) l e };
+  gone = λ m h i li low high. absurd (cc);
+  snapshots = refl;
+  marks = ap (λ (k : PLive). k.marks) e;
+  kept = kept_same (live_of v) l e;
+}
+
+module _ (v : PVolume) (is : IsVolume v) (p : Path) (off n at : ℕ) (l : PLive) where
+  -- the volume with other live indexes
+  abbrev new : PVolume
+  new = volume l v.live.modified v.snapshots
+
+  appends : (msgs : Messages) → Arrives msgs (live_of v) l → Appends msgs v.live.indexes l.indexes
+  appends msgs arrives = record { taken = arrives.taken; no_meta = arrives.no_meta; no_block = arrives.no_block }
+
+  module _ (r : Reply) (msgs : Messages) (made : IsPunched v.live.indexes p off n at r msgs) (arrives : Arrives msgs (live_of v) l) (marks : l.marks ≡ v.marks) (kept : KeepsMarks (live_of v) l) where
+    -- the write of zeros in the one tree that is meant
+    does_it : (w : World) → Means v w → Does (zeroing p off n w.live) at r v.live.indexes l.indexes
+    does_it w m t meant =
+        let c : Call = zeroing p off n w.live in
+        let same : w.live ≡ t = one_meaning w.live t _ _ m.live.indexes meant in
+        subst (λ (u : Tree). (r ≡ (does at u c).1) × MeanTree l.indexes (does at u c).0) same
+        (made.reply w.live m.live.indexes, meant_after (does at w.live c).0 v.live.indexes l.indexes msgs (made.tree w.live m.live.indexes) arrives.taken)
+
+    same_volume : msgs ≡ no_messages → new ≡ v
+    same_volume none = ap (λ (k : PLive). volume k v.live.modified v.snapshots) (same_live (live_of v) l (nothing_appended v.live.indexes l.indexes msgs none (appends msgs arrives)) marks)
+
+    punched : Punches p off n at r v new
+    punched = record {
+      leads = λ w m. subst (λ (k : ℕ). Fits w (hole_in p off n at w) (Replied r) × Means (volume l k v.snapshots) (next w (hole_in p off n at w) (Replied r))) (root_stays r at v.live.modified) (called v (zeroing p off n w.live) at r l (does_it w m) w m);
+      refused = λ e h. same_volume (made.fault e h);
+      nothing = λ h. same_volume (made.nothing h);
+      batch = record {
+        msgs = msgs;
+        few = made.few;
+        meta = receives meta_means msgs.meta v.live.indexes.meta.tree l.indexes.meta.tree arrives.taken.meta (λ e. ap (λ (x : MetaIndex). x.tree) (arrives.no_meta e));
+        block = receives block_means msgs.block v.live.indexes.block.tree l.indexes.block.tree arrives.taken.block (λ e. ap (λ (x : BlockIndex). x.tree) (arrives.no_block e));
+        lists = arrives.lists;
+      };
+      gone = λ m e i li low high. arrives.taken.block.value_after (block_key p i) ∙ made.gone is.world.live is.means.live.indexes m e i li low high;
+      snapshots = refl;
+      marks = marks;
+      kept = kept;
+    }
+
+  -- what the live indexes answered
+  pub answered_hole : (compiled : Result (Reply × Batch) NoMemory) (a : Result Reply NoMemory) → Compiles v.live.indexes p off n at compiled → Sent compiled a (live_of v) l → OnErr a (l ≡ live_of v) → l.marks ≡ v.marks → KeepsMarks (live_of v) l → Punches p off n at (reply_to a) v new
+  answered_hole compiled (Ok r) made (b, e, arrives) err marks kept = punched r (messages b) (subst (Compiles v.live.indexes p off n at) e made) arrives marks kept
+  answered_hole compiled (Err x) made sent err marks kept = lacks_hole v p off n at l err
+
+  -- its kind
+  pub hole_count : (compiled : Result (Reply × Batch) NoMemory) (a : Result Reply NoMemory) → Compiles v.live.indexes p off n at compiled → Sent compiled a (live_of v) l → IsCount (reply_to a)
+  hole_count compiled (Ok r) made (b, e, arrives) =
+      let is_made : IsPunched v.live.indexes p off n at r (messages b) = subst (Compiles v.live.indexes p off n at) e made in
+      subst IsCount (sym (is_made.reply is.world.live is.means.live.indexes)) (of_kind (zeroing p off n is.world.live) at is.world.live)
+  hole_count compiled (Err x) made sent = tt
+
+  -- the type of volumes keeps what it keeps
+  pub hole_lasts : (r : Reply) → Punches p off n at r v new → Stands l → IsVolume new
+  hole_lasts r made stands = record { world = next is.world (hole_in p off n at is.world) (Replied r); means = (made.leads is.world is.means).1; few = is.few; stands = stands }

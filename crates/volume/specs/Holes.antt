@@ -1,0 +1,61 @@
+-- What became of a volume in which a part of a file was made zeros.
+use Rattle.std.specs.Prelude.{◌≡◌, ◌≤◌, ◌<◌, ◌*◌, ◌+◌, ℕ, [], length, None, Result, Ok, IfOk}
+use Rattle.block_index.specs.Means.{blocks}
+use Rattle.block_index.specs.Updates.{means as block_means}
+use Rattle.call_compiler.specs.Compiled.{Messages, messages}
+use Rattle.call_compiler.specs.Laws.{HaveTaken}
+use Rattle.call_compiler.specs.Punched.{IsPunched, zeroing}
+use Rattle.call_compiler.specs.declared.batch.Batch.{Batch}
+use Rattle.call_compiler.specs.declared.indexes.Indexes.{Indexes}
+use Rattle.meta_index.specs.Updates.{means as meta_means}
+use Rattle.pathkey.specs.Keys.{block_key}
+use Rattle.pathkey.specs.Names.{Path}
+use Rattle.pathkey.specs.declared.errno.Errno.{Errno}
+use Rattle.pathkey.specs.declared.errno.NoMemory.{NoMemory}
+use Rattle.reference.specs.Indexes.{most_blocks}
+use Rattle.reference.specs.Worlds.{World, Event, Ask, Replied, Fits, next}
+use Rattle.reference.specs.declared.reply.Reply.{Reply}
+use Rattle.reference.specs.declared.reply.Reply.TheVariants.{Count, Fault}
+use Rattle.volume.specs.Changes.{Receives}
+use Rattle.volume.specs.Marked.{PLive, KeepMarkedLists, KeepsMarks}
+use Rattle.volume.specs.Volumes.{PVolume, Means, live_of}
+
+-- messages were appended to live indexes, each half to its own: an index that gets none is not touched, and marked lists stay in front
+pub record Arrives (msgs : Messages) (old new : PLive) : Type 0 where
+  pub taken : HaveTaken msgs old.indexes new.indexes
+  pub no_meta : msgs.meta ≡ [] → new.indexes.meta ≡ old.indexes.meta
+  pub no_block : msgs.block ≡ [] → new.indexes.block ≡ old.indexes.block
+  pub lists : KeepMarkedLists msgs old new
+
+-- what was compiled was sent: the reply is its reply, and its messages were appended
+abbrev pub Sent : Result (Reply × Batch) NoMemory → Result Reply NoMemory → PLive → PLive → Type 0
+Sent compiled told old new = IfOk told (λ r. (b : Batch) × (compiled ≡ Ok (r, b)) × Arrives (messages b) old new)
+
+-- what a hole of n bytes at off is compiled to, unless memory was refused
+abbrev pub Compiles : Indexes → Path → ℕ → ℕ → ℕ → Result (Reply × Batch) NoMemory → Type 0
+Compiles i p off n at compiled = IfOk compiled (λ x. IsPunched i p off n at x.0 (messages x.1))
+
+-- the event that it is in a world: a write of zeros
+abbrev pub hole_in : Path → ℕ → ℕ → ℕ → World → Event
+hole_in p off n at w = Ask (zeroing p off n w.live) at
+
+-- each index took its half of one batch, which has few messages, however many bytes become zeros
+pub record TakesFew (old new : PLive) : Type 0 where
+  pub msgs : Messages
+  pub few : (length msgs.meta ≤ 1) × (length msgs.block ≤ 3)
+  pub meta : Receives meta_means msgs.meta old.indexes.meta.tree new.indexes.meta.tree
+  pub block : Receives block_means msgs.block old.indexes.block.tree new.indexes.block.tree
+  pub lists : KeepMarkedLists msgs old new
+
+-- a hole of n bytes at off, at a moment: in each world that was meant it is answered as the write of as many zeros as the file has bytes there,
+-- and the world after that write is meant. It changes nothing where it is refused or no byte lies within the file, each live index takes
+-- its half of one batch, the blocks that lie whole among the zeros are no longer stored, no snapshot changes, and all marks stay
+pub record Punches (p : Path) (off n at : ℕ) (r : Reply) (old new : PVolume) : Type 0 where
+  pub leads : (w : World) → Means old w → Fits w (hole_in p off n at w) (Replied r) × Means new (next w (hole_in p off n at w) (Replied r))
+  pub refused : (e : Errno) → r ≡ Fault e → new ≡ old
+  pub nothing : r ≡ Count 0 → new ≡ old
+  pub batch : TakesFew (live_of old) (live_of new)
+  pub gone : (m : ℕ) → r ≡ Count m → (i : ℕ) → i < most_blocks → off ≤ 4096 * i → 4096 * i + 4096 ≤ off + m → blocks new.live.indexes.block (block_key p i) ≡ None
+  pub snapshots : new.snapshots ≡ old.snapshots
+  pub marks : new.marks ≡ old.marks
+  pub kept : KeepsMarks (live_of old) (live_of new)

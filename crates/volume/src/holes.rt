@@ -1,0 +1,137 @@
+//! Holes: what of a file is stored, and bytes of a file that become zeros.
+ghost use Rattle.std.specs.Prelude.{◌≡◌, ◌≢◌, ◌≤◌, ◌<◌, ◌^◌, ℕ, List, [], IfOk, IsSome, None, length, true, false};
+ghost use Rattle.block_index.specs.Means.{blocks};
+ghost use Rattle.call_compiler.specs.Compiled.{MeanTree};
+ghost use Rattle.pathkey.specs.Keys.{block_key as key_of_block};
+ghost use Rattle.reference.specs.Indexes.{most_blocks};
+ghost use Rattle.reference.specs.Tree.{Tree, File, Found, entry_at};
+ghost use Rattle.volume.specs.Holes.{Punches};
+ghost use Rattle.volume.specs.StoredRuns.{AreStored, IsRun, RunsIn};
+ghost use Rattle.volume.specs.Typed.{replied};
+
+use crate::frozen::Frozen;
+use crate::typed::counted;
+use crate::volume::Volume;
+use crate::walk::BlockWalk;
+use block_index::BLOCK;
+use call_compiler::measuring::file_length;
+use call_compiler::{Reply, punching};
+use pathkey::{Errno, NoMemory, Path};
+use std::alloc::Global;
+
+impl Volume {
+    /// The next run of stored bytes of a file at or behind the offset: its bytes from the first number up to and without the
+    /// second, within the file. Both are the file's length where there is none. Each byte from the offset to the run is zero.
+    ///
+    /// ENOENT, ENOTDIR and EISDIR as `read`, ENOMEM where memory is refused. It costs one walk of the run's blocks.
+    pub fn stored(&self, alloc: Global, path: &Path, offset: u64) -> Result<(u64, u64), Errno>
+        ensures { RunsIn self.now.live.indexes path.now offset result }
+    {
+        let tree = self.freeze()?;
+        tree.stored(alloc, path, offset)
+    }
+}
+
+impl Volume {
+    /// Makes zeros of `count` bytes of a file from the offset on, as far as the file reaches: how many they are. It does what a
+    /// `write` of as many zeros does, gives back the blocks that lie whole among them, and takes no memory for them. Where none lies
+    /// within the file nothing changes, so it is never refused for a file's size.
+    ///
+    /// ENOENT, ENOTDIR and EISDIR as `write`, ENOMEM where memory is refused. It sends at most four messages, however many bytes
+    /// become zeros.
+    pub fn punch(
+        &mut self,
+        alloc: Global,
+        path: &Path,
+        offset: u64,
+        count: u64,
+        at: u64,
+    ) -> Result<u64, Errno>
+        ensures { Punches path.now offset count at (replied (λ n. Reply.Count n) result) self.old self.new }
+    {
+        let compiled = punching::punch(alloc, self.indexes(), path, offset, count, at);
+        counted(self.send_zeros(alloc, compiled))
+    }
+}
+
+impl Frozen {
+    /// The next run of stored bytes of a file, as `Volume::stored` tells it.
+    pub fn stored(&self, alloc: Global, path: &Path, offset: u64) -> Result<(u64, u64), Errno>
+        ensures { RunsIn self.now.indexes path.now offset result }
+    {
+        let size = file_length(alloc, self.indexes(), path)??;
+        let mut walk = BlockWalk::new(alloc, self);
+        Ok(next_run(alloc, &mut walk, path, offset, size)?)
+    }
+}
+
+/// The next run of stored bytes of the file of so many bytes at the path.
+fn next_run(
+    alloc: Global,
+    walk: &mut BlockWalk,
+    path: &Path,
+    offset: u64,
+    size: u64,
+) -> Result<(u64, u64), NoMemory>
+    requires file { path.now ≢ [] }
+    requires short { size ≤ 2 ^ 40 }
+    ensures { IfOk result (λ r. (t : Tree) (date : ℕ) (b : List ℕ) → MeanTree walk.old.indexes t → entry_at t path.now ≡ Found (File date b) → length b ≡ size → IsRun (blocks walk.old.indexes.block) path.now b offset r.0 r.1) }
+{
+    // What `key` promises says that the path is one.
+    let _key = path.key();
+    if offset >= size {
+        return Ok((size, size));
+    }
+    let Some((number, _)) = walk.next(alloc, path, (offset / BLOCK) as u32)? else {
+        return Ok((size, size));
+    };
+    let from = offset.max(number as u64 * BLOCK);
+    if from >= size {
+        return Ok((size, size));
+    }
+    let last = ((size - 1) / BLOCK) as u32;
+    let end = run_end(alloc, walk, path, number + 1, last + 1)?;
+    Ok((from, size.min(end as u64 * BLOCK)))
+}
+
+/// The first block of the file at the path that is not stored, from a number on; `bound` where all before that one are.
+fn run_end(
+    alloc: Global,
+    walk: &mut BlockWalk,
+    path: &Path,
+    from: u32,
+    bound: u32,
+) -> Result<u32, NoMemory>
+    requires file { path.now ≢ [] }
+    requires order { from ≤ bound }
+    requires few { bound ≤ most_blocks }
+    ensures end { IfOk result (λ end. (from ≤ end) × (end ≤ bound)) }
+    ensures stored { IfOk result (λ end. AreStored (blocks walk.old.indexes.block) path.now from end) }
+    ensures ended { IfOk result (λ end. end < bound → blocks walk.old.indexes.block (key_of_block path.now end) ≡ None) }
+{
+    'each: for number in from..bound {
+        if !is_stored(alloc, walk, path, number)? {
+            return Ok(number);
+        }
+    }
+    Ok(bound)
+}
+
+/// Whether the block with this number of the file at the path is stored.
+fn is_stored(
+    alloc: Global,
+    walk: &mut BlockWalk,
+    path: &Path,
+    number: u32,
+) -> Result<bool, NoMemory>
+    requires file { path.now ≢ [] }
+    requires few { number < most_blocks }
+    ensures stored { IfOk result (λ yes. yes ≡ true → IsSome (blocks walk.old.indexes.block (key_of_block path.now number))) }
+    ensures hole { IfOk result (λ yes. yes ≡ false → blocks walk.old.indexes.block (key_of_block path.now number) ≡ None) }
+    ensures tree { walk.new ≡ walk.old }
+{
+    Ok(match walk.next(alloc, path, number)? {
+        Some((next, _)) => next == number,
+        None => false,
+    })
+}
