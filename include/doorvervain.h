@@ -153,6 +153,12 @@ uint8_t doorvervain_raw_record_print(const struct doorvervain_attributes *attrib
     size_t extended_length, uint8_t *out, size_t room, size_t *size);
 uint8_t doorvervain_raw_record_parse(const uint8_t *text, size_t length, struct doorvervain_attributes *attributes,
     uint8_t *extended, size_t room, size_t *size);
+uint8_t doorvervain_raw_punch(struct doorvervain *fs, const uint8_t *path, size_t length, uint64_t offset,
+    uint64_t count, uint64_t at);
+uint8_t doorvervain_raw_data(struct doorvervain *fs, const uint8_t *path, size_t length, uint64_t offset,
+    uint64_t *from, uint64_t *to);
+uint8_t doorvervain_raw_frozen_data(struct doorvervain_frozen *tree, const uint8_t *path, size_t length,
+    uint64_t offset, uint64_t *from, uint64_t *to);
 
 // ---- what the functions below answer by themselves
 
@@ -515,6 +521,40 @@ static inline uint8_t doorvervain_record_parse(const uint8_t *text, size_t lengt
 
 // The release of the library that this header belongs to.
 #define DOORVERVAIN_VERSION "0.1.0"
+
+// ---- holes
+
+// Makes zeros of `count` bytes of a file from the byte `offset` on, as far as the file reaches: what a write of as many
+// zeros makes of the tree. The file keeps its size. Blocks that lie whole among the zeros take no memory any more, and
+// however many they are, none is taken for them. Where no byte lies within the file nothing changes, and its moment
+// stays. ENOENT, ENOTDIR, EISDIR.
+static inline uint8_t doorvervain_punch(
+    struct doorvervain *fs, const uint8_t *path, size_t length, uint64_t offset, uint64_t count, uint64_t at) {
+    uint8_t lacks = doorvervain_lacks(fs, path, length);
+    return lacks ? lacks : doorvervain_raw_punch(fs, doorvervain_from(path), length, offset, count, at);
+}
+
+// The next run of stored bytes of a file at or behind the byte `offset`: they lie from `*from` up to and without `*to`,
+// within the file and not before `offset`. All bytes from `offset` to there are zeros. Where there is no such run both are
+// the file's size. ENOENT, ENOTDIR, EISDIR.
+static inline uint8_t doorvervain_data(struct doorvervain *fs, const uint8_t *path, size_t length, uint64_t offset,
+    uint64_t *from, uint64_t *to) {
+    if (from) *from = 0;
+    if (to) *to = 0;
+    if (!from || !to) return DOORVERVAIN_NULL;
+    uint8_t lacks = doorvervain_lacks(fs, path, length);
+    return lacks ? lacks : doorvervain_raw_data(fs, doorvervain_from(path), length, offset, from, to);
+}
+
+// The next run of stored bytes of a file of a frozen tree, as doorvervain_data says it of a volume.
+static inline uint8_t doorvervain_frozen_data(struct doorvervain_frozen *tree, const uint8_t *path, size_t length,
+    uint64_t offset, uint64_t *from, uint64_t *to) {
+    if (from) *from = 0;
+    if (to) *to = 0;
+    if (!from || !to) return DOORVERVAIN_NULL;
+    uint8_t lacks = doorvervain_frozen_lacks(tree, path, length);
+    return lacks ? lacks : doorvervain_raw_frozen_data(tree, doorvervain_from(path), length, offset, from, to);
+}
 
 // The word and a sentence for what a call answered, as "ENOENT: no such file or directory". It never answers null. The
 // text is constant: nobody frees it.

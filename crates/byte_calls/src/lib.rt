@@ -5,6 +5,7 @@
 #![tactic(auto)]
 
 pub mod changes;
+pub mod holes;
 pub mod image_texts;
 pub mod looks;
 mod replies;
@@ -12,6 +13,7 @@ pub mod snapshots;
 pub mod upkeep;
 
 pub use changes::{PathCall, on_path, rename, truncate, write};
+pub use holes::{frozen_stored, punch, stored};
 pub use image_texts::{load, print};
 pub use looks::{frozen_read, frozen_readdir, frozen_stat, read, readdir, stat};
 pub use snapshots::{drop_snapshot, freeze, frozen, restore, snapshot, snapshot_name};

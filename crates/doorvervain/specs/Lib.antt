@@ -4,4 +4,5 @@ pub mod Follows
 pub mod Numbers
 pub mod Looks
 pub mod Changes
+pub mod Holes
 pub mod Handed

@@ -9,6 +9,7 @@ mod changes;
 mod frozen;
 mod frozen_place;
 mod handle;
+mod holes;
 mod looks;
 mod numbers;
 mod parts;

@@ -33,10 +33,22 @@ struct Row {
 
 /// The file before: three blocks of `a`, `b` and `c`, and 10 bytes `d`, of moment 3.
 const WHOLE: [Run; 4] = [
-    Run { count: 4096, byte: b'a' },
-    Run { count: 4096, byte: b'b' },
-    Run { count: 4096, byte: b'c' },
-    Run { count: 10, byte: b'd' },
+    Run {
+        count: 4096,
+        byte: b'a',
+    },
+    Run {
+        count: 4096,
+        byte: b'b',
+    },
+    Run {
+        count: 4096,
+        byte: b'c',
+    },
+    Run {
+        count: 10,
+        byte: b'd',
+    },
 ];
 
 const LENGTH: u64 = 12298;
@@ -49,10 +61,22 @@ const ROWS: [Row; 11] = [
         count: 4096,
         modified: 7,
         bytes: &[
-            Run { count: 4096, byte: b'a' },
-            Run { count: 4096, byte: 0 },
-            Run { count: 4096, byte: b'c' },
-            Run { count: 10, byte: b'd' },
+            Run {
+                count: 4096,
+                byte: b'a',
+            },
+            Run {
+                count: 4096,
+                byte: 0,
+            },
+            Run {
+                count: 4096,
+                byte: b'c',
+            },
+            Run {
+                count: 10,
+                byte: b'd',
+            },
         ],
         stored: &[(0, 4096), (8192, LENGTH)],
     },
@@ -62,10 +86,22 @@ const ROWS: [Row; 11] = [
         count: 4106,
         modified: 7,
         bytes: &[
-            Run { count: 4090, byte: b'a' },
-            Run { count: 4106, byte: 0 },
-            Run { count: 4092, byte: b'c' },
-            Run { count: 10, byte: b'd' },
+            Run {
+                count: 4090,
+                byte: b'a',
+            },
+            Run {
+                count: 4106,
+                byte: 0,
+            },
+            Run {
+                count: 4092,
+                byte: b'c',
+            },
+            Run {
+                count: 10,
+                byte: b'd',
+            },
         ],
         stored: &[(0, 4096), (8192, LENGTH)],
     },
@@ -75,11 +111,23 @@ const ROWS: [Row; 11] = [
         count: 2,
         modified: 7,
         bytes: &[
-            Run { count: 4095, byte: b'a' },
+            Run {
+                count: 4095,
+                byte: b'a',
+            },
             Run { count: 2, byte: 0 },
-            Run { count: 4095, byte: b'b' },
-            Run { count: 4096, byte: b'c' },
-            Run { count: 10, byte: b'd' },
+            Run {
+                count: 4095,
+                byte: b'b',
+            },
+            Run {
+                count: 4096,
+                byte: b'c',
+            },
+            Run {
+                count: 10,
+                byte: b'd',
+            },
         ],
         stored: &[(0, LENGTH)],
     },
@@ -89,12 +137,27 @@ const ROWS: [Row; 11] = [
         count: 1,
         modified: 7,
         bytes: &[
-            Run { count: 4096, byte: b'a' },
-            Run { count: 904, byte: b'b' },
+            Run {
+                count: 4096,
+                byte: b'a',
+            },
+            Run {
+                count: 904,
+                byte: b'b',
+            },
             Run { count: 1, byte: 0 },
-            Run { count: 3191, byte: b'b' },
-            Run { count: 4096, byte: b'c' },
-            Run { count: 10, byte: b'd' },
+            Run {
+                count: 3191,
+                byte: b'b',
+            },
+            Run {
+                count: 4096,
+                byte: b'c',
+            },
+            Run {
+                count: 10,
+                byte: b'd',
+            },
         ],
         stored: &[(0, LENGTH)],
     },
@@ -104,10 +167,22 @@ const ROWS: [Row; 11] = [
         count: 4100,
         modified: 7,
         bytes: &[
-            Run { count: 4100, byte: 0 },
-            Run { count: 4092, byte: b'b' },
-            Run { count: 4096, byte: b'c' },
-            Run { count: 10, byte: b'd' },
+            Run {
+                count: 4100,
+                byte: 0,
+            },
+            Run {
+                count: 4092,
+                byte: b'b',
+            },
+            Run {
+                count: 4096,
+                byte: b'c',
+            },
+            Run {
+                count: 10,
+                byte: b'd',
+            },
         ],
         stored: &[(4096, LENGTH)],
     },
@@ -116,7 +191,10 @@ const ROWS: [Row; 11] = [
         asked: &[(0, u64::MAX)],
         count: LENGTH,
         modified: 7,
-        bytes: &[Run { count: LENGTH, byte: 0 }],
+        bytes: &[Run {
+            count: LENGTH,
+            byte: 0,
+        }],
         stored: &[(12288, LENGTH)],
     },
     // From within the last block on.
@@ -125,10 +203,22 @@ const ROWS: [Row; 11] = [
         count: 8,
         modified: 7,
         bytes: &[
-            Run { count: 4096, byte: b'a' },
-            Run { count: 4096, byte: b'b' },
-            Run { count: 4096, byte: b'c' },
-            Run { count: 2, byte: b'd' },
+            Run {
+                count: 4096,
+                byte: b'a',
+            },
+            Run {
+                count: 4096,
+                byte: b'b',
+            },
+            Run {
+                count: 4096,
+                byte: b'c',
+            },
+            Run {
+                count: 2,
+                byte: b'd',
+            },
             Run { count: 8, byte: 0 },
         ],
         stored: &[(0, LENGTH)],
@@ -139,9 +229,18 @@ const ROWS: [Row; 11] = [
         count: 192,
         modified: 7,
         bytes: &[
-            Run { count: 8192, byte: 0 },
-            Run { count: 4096, byte: b'c' },
-            Run { count: 10, byte: b'd' },
+            Run {
+                count: 8192,
+                byte: 0,
+            },
+            Run {
+                count: 4096,
+                byte: b'c',
+            },
+            Run {
+                count: 10,
+                byte: b'd',
+            },
         ],
         stored: &[(8192, LENGTH)],
     },
@@ -151,8 +250,14 @@ const ROWS: [Row; 11] = [
         count: 8298,
         modified: 7,
         bytes: &[
-            Run { count: 4000, byte: b'a' },
-            Run { count: 8298, byte: 0 },
+            Run {
+                count: 4000,
+                byte: b'a',
+            },
+            Run {
+                count: 8298,
+                byte: 0,
+            },
         ],
         stored: &[(0, 4096), (12288, LENGTH)],
     },
@@ -244,11 +349,13 @@ fn makes(alloc: Global, row: &Row) -> Result<bool, Errno> {
     let count = punch(alloc, &mut volume, row.asked)?;
     let live = volume.freeze()?;
     let before = volume.frozen(&name)?;
-    Ok(count == row.count
-        && has_bytes(alloc, &live, row.bytes, row.modified)?
-        && has_runs(alloc, &live, row.stored)?
-        && has_bytes(alloc, &before, &WHOLE, 3)?
-        && has_runs(alloc, &before, &[(0, LENGTH)])?)
+    Ok(
+        count == row.count
+            && has_bytes(alloc, &live, row.bytes, row.modified)?
+            && has_runs(alloc, &live, row.stored)?
+            && has_bytes(alloc, &before, &WHOLE, 3)?
+            && has_runs(alloc, &before, &[(0, LENGTH)])?,
+    )
 }
 
 fn makes_each(alloc: Global) -> bool {
@@ -271,17 +378,20 @@ fn are_refused(alloc: Global, volume: &mut Volume, text: &str, fault: Errno) -> 
     let Ok(path) = path(alloc, text) else {
         return false;
     };
-    volume.punch(alloc, &path, 0, 1, 7) == Err(fault) && volume.stored(alloc, &path, 0) == Err(fault)
+    volume.punch(alloc, &path, 0, 1, 7) == Err(fault)
+        && volume.stored(alloc, &path, 0) == Err(fault)
 }
 
 /// Whether both calls are refused where no file stands, and nothing is changed.
 fn are_refused_each(alloc: Global) -> Result<bool, Errno> {
     let mut volume = filled(alloc)?;
-    Ok(are_refused(alloc, &mut volume, "/", Errno::EISDIR)
-        && are_refused(alloc, &mut volume, "/d", Errno::EISDIR)
-        && are_refused(alloc, &mut volume, "/d/x", Errno::ENOENT)
-        && are_refused(alloc, &mut volume, "/f/x", Errno::ENOTDIR)
-        && has_bytes(alloc, &volume.freeze()?, &WHOLE, 3)?)
+    Ok(
+        are_refused(alloc, &mut volume, "/", Errno::EISDIR)
+            && are_refused(alloc, &mut volume, "/d", Errno::EISDIR)
+            && are_refused(alloc, &mut volume, "/d/x", Errno::ENOENT)
+            && are_refused(alloc, &mut volume, "/f/x", Errno::ENOTDIR)
+            && has_bytes(alloc, &volume.freeze()?, &WHOLE, 3)?,
+    )
 }
 
 #[test]

@@ -1,0 +1,103 @@
+//! Exports of holes: bytes of a file that become zeros, and what of a file is stored.
+ghost use Rattle.std.specs.Prelude.{◌≡◌, ℕ, IfErr};
+ghost use Rattle.pathkey.specs.Texts.{parsed};
+ghost use Rattle.byte_calls.specs.Holes.{PunchesAt};
+ghost use Rattle.doorvervain.specs.Holes.{RunsAt};
+ghost use Rattle.doorvervain.specs.Numbers.{IsNumber, told_by};
+
+use crate::frozen::FrozenHandle;
+use crate::handle::Handle;
+use pathkey::Errno;
+use std::alloc::Global;
+
+/// Makes zeros of `count` bytes of a file from the offset on, as far as the file reaches.
+#[unsafe(no_mangle)]
+pub extern "C" fn doorvervain_raw_punch(
+    alloc: Global,
+    fs: &mut Handle,
+    path: &[u8],
+    offset: u64,
+    count: u64,
+    at: u64,
+) -> u8
+    ensures call { (zeros : ℕ) × PunchesAt (parsed path.now) offset count at (told_by result zeros) fs.old.volume fs.new.volume }
+    ensures number { IsNumber result }
+{
+    number(byte_calls::punch(alloc, fs.volume(), path, offset, count, at))
+}
+
+/// The next run of stored bytes of a file of the live tree at or behind the offset: where it begins goes to `begin`, and where it ends
+/// to `end`. Both are the file's length where there is none, and 0 for a refusal.
+#[unsafe(no_mangle)]
+pub extern "C" fn doorvervain_raw_data(
+    alloc: Global,
+    fs: &mut Handle,
+    path: &[u8],
+    offset: u64,
+    begin: &mut u64,
+    end: &mut u64,
+) -> u8
+    ensures run { RunsAt path.now offset fs.old.volume.live (told_by result (begin.new, end.new)) }
+    ensures number { IsNumber result }
+    ensures refused { IfErr (told_by result (begin.new, end.new)) (λ _. (begin.new ≡ 0) × (end.new ≡ 0)) }
+    ensures kept { fs.new.volume ≡ fs.old.volume }
+{
+    run(
+        byte_calls::stored(alloc, fs.volume(), path, offset),
+        begin,
+        end,
+    )
+}
+
+/// The next run of stored bytes of a file of a frozen tree, as `doorvervain_raw_data` tells it of the live one.
+#[unsafe(no_mangle)]
+pub extern "C" fn doorvervain_raw_frozen_data(
+    alloc: Global,
+    tree: &mut FrozenHandle,
+    path: &[u8],
+    offset: u64,
+    begin: &mut u64,
+    end: &mut u64,
+) -> u8
+    ensures run { RunsAt path.now offset tree.old.tree (told_by result (begin.new, end.new)) }
+    ensures number { IsNumber result }
+    ensures refused { IfErr (told_by result (begin.new, end.new)) (λ _. (begin.new ≡ 0) × (end.new ≡ 0)) }
+    ensures kept { tree.new.tree ≡ tree.old.tree }
+{
+    run(
+        byte_calls::frozen_stored(alloc, tree.tree(), path, offset),
+        begin,
+        end,
+    )
+}
+
+/// The number of an outcome: 0, or that of the refusal.
+fn number(outcome: Result<u64, Errno>) -> u8
+    ensures told { (given : ℕ) × (told_by result given ≡ outcome) }
+    ensures number { IsNumber result }
+{
+    match outcome {
+        Ok(_) => 0,
+        Err(fault) => fault.number(),
+    }
+}
+
+/// The number of an outcome, and the ends of the run, which are both 0 where it is refused.
+fn run(outcome: Result<(u64, u64), Errno>, begin: &mut u64, end: &mut u64) -> u8
+    ensures told { told_by result (begin.new, end.new) ≡ outcome }
+    ensures number { IsNumber result }
+    ensures refused { IfErr outcome (λ _. (begin.new ≡ 0) × (end.new ≡ 0)) }
+{
+    match outcome {
+        Ok((first, last)) => {
+            *begin = first;
+            *end = last;
+            0
+        }
+        Err(fault) => {
+            *begin = 0;
+            *end = 0;
+            fault.number()
+        }
+    }
+}

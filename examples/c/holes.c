@@ -1,0 +1,175 @@
+// Makes zeros of parts of a file, and reads what is stored of it before and after. It prints what it finds; examples/run
+// compares that with holes.expected, whose numbers are reckoned by hand.
+//
+// Built with -DREFUSE (examples/run does so), it also has each request for memory of a call refused in turn.
+#include "doorvervain.h"
+#include <stdio.h>
+#include <stdlib.h>
+#include <string.h>
+
+enum { BLOCK = 4096, LENGTH = 3 * BLOCK + 10, OLD = 99 };
+
+static const uint8_t *bytes_of(const char *text) { return (const uint8_t *)text; }
+
+static uint8_t hole(struct doorvervain *fs, const char *path, uint64_t offset, uint64_t count) {
+    return doorvervain_punch(fs, bytes_of(path), strlen(path), offset, count, 7);
+}
+
+// Says which bytes of a file are stored, as runs.
+static void say_runs(const char *what, struct doorvervain *fs, const char *path) {
+    uint64_t from = 0, to = 0;
+    printf("%s:", what);
+    while (!doorvervain_data(fs, bytes_of(path), strlen(path), to, &from, &to) && from < to)
+        printf(" %llu to %llu", (unsigned long long)from, (unsigned long long)to);
+    printf(", size %llu\n", (unsigned long long)to);
+}
+
+static void say_frozen_runs(const char *what, struct doorvervain_frozen *tree, const char *path) {
+    uint64_t from = 0, to = 0;
+    printf("%s:", what);
+    while (!doorvervain_frozen_data(tree, bytes_of(path), strlen(path), to, &from, &to) && from < to)
+        printf(" %llu to %llu", (unsigned long long)from, (unsigned long long)to);
+    printf(", size %llu\n", (unsigned long long)to);
+}
+
+// Says the bytes of a file as runs of one byte, and its moment.
+static void say_bytes(struct doorvervain *fs, const char *path) {
+    static uint8_t buffer[LENGTH + 1];
+    size_t got = 0;
+    uint8_t kind;
+    uint64_t size, modified;
+    uint8_t number = doorvervain_read(fs, bytes_of(path), strlen(path), 0, buffer, sizeof buffer, &got);
+    printf("  read %d:", number);
+    for (size_t from = 0, to = 0; from < got; from = to) {
+        while (to < got && buffer[to] == buffer[from])
+            to++;
+        printf(" %zu of %c", to - from, buffer[from] ? buffer[from] : '0');
+    }
+    number = doorvervain_stat(fs, bytes_of(path), strlen(path), &kind, &size, &modified);
+    printf("; stat %d, moment %llu\n", number, (unsigned long long)modified);
+}
+
+// Three blocks of a, b and c, and ten bytes d.
+static uint8_t fill(struct doorvervain *fs, const char *path) {
+    static uint8_t bytes[LENGTH];
+    memset(bytes, 'a', BLOCK);
+    memset(bytes + BLOCK, 'b', BLOCK);
+    memset(bytes + 2 * BLOCK, 'c', BLOCK);
+    memset(bytes + 3 * BLOCK, 'd', 10);
+    uint8_t number = doorvervain_create(fs, bytes_of(path), strlen(path), 2);
+    return number ? number : doorvervain_write(fs, bytes_of(path), strlen(path), 0, bytes, sizeof bytes, 3);
+}
+
+static void say_hole(struct doorvervain *fs, const char *path, uint64_t offset, uint64_t count) {
+    printf("hole of %llu at %llu: %d\n", (unsigned long long)count, (unsigned long long)offset,
+        hole(fs, path, offset, count));
+    say_bytes(fs, path);
+    say_runs("  stored", fs, path);
+}
+
+// Holes one after the other in one file, and a snapshot from before.
+static void holes(struct doorvervain *fs) {
+    struct doorvervain_frozen kept = {0};
+    printf("fill: %d\n", fill(fs, "/f"));
+    say_runs("stored", fs, "/f");
+    printf("snapshot: %d\n", doorvervain_snapshot(fs, bytes_of("s"), 1));
+    say_hole(fs, "/f", LENGTH, 5);
+    say_hole(fs, "/f", BLOCK, BLOCK);
+    say_hole(fs, "/f", 10, 20);
+    say_hole(fs, "/f", 2 * BLOCK - 1, 2);
+    say_hole(fs, "/f", 2 * BLOCK, UINT64_MAX);
+    say_hole(fs, "/f", 0, (uint64_t)1 << 40);
+    printf("frozen: %d\n", doorvervain_frozen(fs, bytes_of("s"), 1, &kept));
+    say_frozen_runs("stored of the snapshot", &kept, "/f");
+    doorvervain_thaw(&kept);
+    printf("restore: %d\n", doorvervain_restore(fs, bytes_of("s"), 1));
+    say_bytes(fs, "/f");
+}
+
+// A file of 2^40 bytes of which one is stored.
+static void sparse(struct doorvervain *fs) {
+    uint64_t last = ((uint64_t)1 << 40) - 1;
+    printf("create: %d\n", doorvervain_create(fs, bytes_of("/large"), 6, 1));
+    printf("write: %d\n", doorvervain_write(fs, bytes_of("/large"), 6, last, bytes_of("x"), 1, 2));
+    say_runs("stored", fs, "/large");
+    printf("hole: %d\n", hole(fs, "/large", 1, last));
+    say_runs("stored", fs, "/large");
+}
+
+// What is answered where no file stands, and what is left in the results then.
+static void say_refusal(struct doorvervain *fs, const char *path) {
+    uint64_t from = OLD, to = OLD;
+    uint8_t punched = doorvervain_raw_punch(fs, bytes_of(path), strlen(path), 0, 1, 7);
+    uint8_t told = doorvervain_raw_data(fs, bytes_of(path), strlen(path), 0, &from, &to);
+    printf("%s: %d, %d, %llu to %llu\n", path, punched, told, (unsigned long long)from, (unsigned long long)to);
+}
+
+static void refusals(struct doorvervain *fs) {
+    struct doorvervain closed = {0};
+    struct doorvervain_frozen thawed = {0};
+    uint64_t from = OLD, to = OLD;
+    printf("mkdir: %d\n", doorvervain_mkdir(fs, bytes_of("/d"), 2, 1));
+    say_refusal(fs, "/");
+    say_refusal(fs, "/d");
+    say_refusal(fs, "/d/x");
+    say_refusal(fs, "/f/x");
+    say_refusal(fs, "f");
+    printf("no volume: %d, %d\n", hole(NULL, "/f", 0, 1), doorvervain_data(NULL, bytes_of("/f"), 2, 0, &from, &to));
+    printf("a closed volume: %d, %d\n", hole(&closed, "/f", 0, 1),
+        doorvervain_data(&closed, bytes_of("/f"), 2, 0, &from, &to));
+    printf("a thawed tree: %d\n", doorvervain_frozen_data(&thawed, bytes_of("/f"), 2, 0, &from, &to));
+    printf("a null path: %d, %d\n", doorvervain_punch(fs, NULL, 2, 0, 1, 7), doorvervain_data(fs, NULL, 2, 0, &from, &to));
+    printf("a null result: %d, %d\n", doorvervain_data(fs, bytes_of("/f"), 2, 0, NULL, &to),
+        doorvervain_data(fs, bytes_of("/f"), 2, 0, &from, NULL));
+}
+
+#ifdef REFUSE
+// Which request for memory from now on is refused; none where it is 0.
+static long refused_request;
+
+void *__real_malloc(size_t size);
+void *__real_realloc(void *old, size_t size);
+
+static int refuses(void) { return refused_request > 0 && --refused_request == 0; }
+
+void *__wrap_malloc(size_t size) { return refuses() ? NULL : __real_malloc(size); }
+
+void *__wrap_realloc(void *old, size_t size) { return refuses() ? NULL : __real_realloc(old, size); }
+
+// Has each request of a hole, and of what is stored, refused in turn: the answer is ENOMEM, and the file is as it was.
+static void refused_memory(struct doorvervain *fs) {
+    uint8_t number = DOORVERVAIN_ENOMEM;
+    uint64_t from = OLD, to = OLD;
+    int refusals = 0, changed = 0;
+    for (long request = 1; number == DOORVERVAIN_ENOMEM; request++) {
+        refused_request = request;
+        number = hole(fs, "/f", 10, 2 * BLOCK);
+        refused_request = 0;
+        changed += number && (doorvervain_data(fs, bytes_of("/f"), 2, 0, &from, &to) || from != 0 || to != LENGTH);
+        refusals += number != 0;
+    }
+    printf("a hole without memory: %s, %d changed, then %d\n", refusals ? "refused" : "not refused", changed, number);
+    number = DOORVERVAIN_ENOMEM;
+    for (long request = 1; number == DOORVERVAIN_ENOMEM; request++) {
+        refused_request = request;
+        number = doorvervain_data(fs, bytes_of("/f"), 2, 0, &from, &to);
+        refused_request = 0;
+        changed += number && (from || to);
+    }
+    printf("stored without memory: %d left, then %d, %llu to %llu\n", changed, number, (unsigned long long)from,
+        (unsigned long long)to);
+}
+#else
+static void refused_memory(struct doorvervain *fs) { (void)fs; }
+#endif
+
+int main(void) {
+    struct doorvervain fs = {0};
+    printf("open: %d\n", doorvervain_open(&fs, 4, 4, 4));
+    holes(&fs);
+    sparse(&fs);
+    refusals(&fs);
+    refused_memory(&fs);
+    doorvervain_close(&fs);
+    return EXIT_SUCCESS;
+}
