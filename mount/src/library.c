@@ -162,7 +162,8 @@ static const struct way library_way = {
 };
 
 static int open_empty(struct library *library) {
-    int fault = doorvervain_errno(doorvervain_open(&library->volume, DOORVERVAIN_FANOUT, DOORVERVAIN_PENDING, DOORVERVAIN_LEAF));
+    int fault = doorvervain_errno(
+        doorvervain_open(&library->volume, DOORVERVAIN_FANOUT, DOORVERVAIN_PENDING, DOORVERVAIN_LEAF));
     if (fault) fprintf(stderr, "doorvervain-mount: no volume: %s\n", strerror(fault));
     return fault;
 }
@@ -173,8 +174,8 @@ static int load(struct library *library, const char *file) {
     int fault = bytes_read_file(&image, file);
     if (!fault)
         fault = doorvervain_errno(
-            doorvervain_load(&library->volume, DOORVERVAIN_FANOUT, DOORVERVAIN_PENDING, DOORVERVAIN_LEAF, text(image.at),
-                             image.length, &line));
+            doorvervain_load(&library->volume, DOORVERVAIN_FANOUT, DOORVERVAIN_PENDING, DOORVERVAIN_LEAF,
+                             text(image.at), image.length, &line));
     if (line) fprintf(stderr, "doorvervain-mount: %s: bad image at line %" PRIu64 "\n", file, line);
     else if (fault) fprintf(stderr, "doorvervain-mount: %s: %s\n", file, strerror(fault));
     bytes_free(&image);

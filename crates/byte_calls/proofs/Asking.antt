@@ -1,5 +1,5 @@
 -- What was told of a call that changes a volume is its reply.
-use Rattle.std.proofs.Common.{◌≡◌, ◌⊎◌, ℕ, List, [], ◌∷◌, length, Bool, true, false, cond, refl, sym, subst, ap, ◌∙◌, Option, Some, None, Result, Ok, Err, IsOk, inl, inr}
+use Rattle.std.proofs.Common.{◌≡◌, ◌⊎◌, ℕ, List, [], ◌∷◌, length, cond, refl, sym, subst, ap, ◌∙◌, Option, Result, Ok, Err, IsOk, inl, inr}
 use Rattle.std.proofs.lemmas.Bool.{cond_both}
 use Rattle.pathkey.specs.Names.{Path, same_path}
 use Rattle.pathkey.specs.Outcomes.{IsOrLacksMemory}

@@ -1,30 +1,23 @@
 -- What was told of a look is its reply.
-use Rattle.std.proofs.Common.{◌≡◌, ◌⊎◌, ℕ, ◌≤◌, List, length, take, drop, refl, sym, subst, ap, ◌∙◌, Option, Result, Ok, Err, inl, inr, arith}
-use Rattle.std.specs.Prelude.{⊤}
-use Rattle.std.proofs.lemmas.List.{length-take}
+use Rattle.std.proofs.Common.{◌≡◌, ◌⊎◌, List, refl, sym, subst, ap, ◌∙◌, Option, Result, Ok, Err, inl, inr}
 use Rattle.volume.specs.declared.rooted.Rooted.{Rooted}
 use Rattle.pathkey.specs.Names.{Name, Path}
 use Rattle.pathkey.specs.declared.errno.Errno.{Errno}
 use Rattle.pathkey.specs.declared.errno.Errno.TheVariants.{ENOMEM}
-use Rattle.reference.specs.Calls.{bytes_of, changed, does, faults_of_read, faults_of_readdir, faults_of_stat, names_of as entries_of, stat_of, unless}
+use Rattle.reference.specs.Calls.{changed, does, faults_of_readdir, faults_of_stat, names_of as entries_of, stat_of, unless}
 use Rattle.reference.specs.Tree.{At, Blocked, Dir, File, Found, Missing, Tree, entry_at}
-use Rattle.reference.specs.declared.call.Call.TheVariants.{Read, Stat as AskStat, Readdir}
+use Rattle.reference.specs.declared.call.Call.TheVariants.{Stat as AskStat, Readdir}
 use Rattle.reference.specs.declared.reply.Kind.{Kind}
 use Rattle.reference.specs.declared.reply.Reply.{Reply}
-use Rattle.reference.specs.declared.reply.Reply.TheVariants.{Data, Names, Fault}
+use Rattle.reference.specs.declared.reply.Reply.TheVariants.{Names, Fault}
 use Rattle.reference.proofs.NoFaults.{unless_holds}
 use Rattle.volume.specs.Told.{Tells}
 use Rattle.volume.specs.Volumes.{MeanSome}
-use Rattle.byte_calls.specs.Looks.{data_of, meta_of, names_of, stat_reply}
+use Rattle.byte_calls.specs.Looks.{meta_of, names_of, stat_reply}
 
 -- ---- what is told gives the reply back
 
--- the replies to a read, from what is told of them
-abbrev data_reply : Result (List ℕ) Errno → Reply
-data_reply (Ok bytes) = Data bytes
-data_reply (Err e) = Fault e
-
--- and those to a listing
+-- the replies to a listing, from what is told of them
 abbrev names_reply : Result (List (Kind × Name)) Errno → Reply
 names_reply (Ok es) = Names es
 names_reply (Err e) = Fault e
@@ -37,42 +30,6 @@ module _ (back : Reply → Reply) (fault : (e : Errno) → back (Fault e) ≡ Fa
   told_back : (r d : Reply) → back d ≡ d → (r ≡ d) ⊎ (r ≡ Fault ENOMEM) → back r ≡ r
   told_back r d h (inl e) = ap back e ∙ h ∙ sym e
   told_back r d h (inr e) = ap back e ∙ fault ENOMEM ∙ sym e
-
--- ---- reads
-
-read_back : (t : Tree) (p : Path) (off n : ℕ) → data_reply (data_of (does 0 t (Read p off n)).1) ≡ (does 0 t (Read p off n)).1
-unfolding does changed
-read_back t p off n = by_faults (λ r. data_reply (data_of r)) (λ e. refl) t (faults_of_read t p n) (Data (take n (drop off (bytes_of (entry_at t p))))) refl
-
-read_told : (p : Path) (off n : ℕ) (r : Reply) (i : Rooted) → MeanSome i → Tells (Read p off n) r i → data_reply (data_of r) ≡ r
-read_told p off n r i s k = told_back (λ r. data_reply (data_of r)) (λ e. refl) r (does 0 s.tree (Read p off n)).1 (read_back s.tree p off n) (k s.tree 0 s.means)
-
--- a refusal of a read is its reply
-pub read_refused : (p : Path) (off n : ℕ) (r : Reply) (e : Errno) (i : Rooted) → MeanSome i → Tells (Read p off n) r i → data_of r ≡ Err e → Tells (Read p off n) (Fault e) i
-read_refused p off n r e i s k h =
-    let is : r ≡ Fault e = sym (read_told p off n r i s k) ∙ ap data_reply h in
-    subst (λ x. Tells (Read p off n) x i) is k
-
--- no more bytes are read than were asked for
-abbrev IsShort : ℕ → Reply → Type 0
-IsShort n (Data bytes) = length bytes ≤ n
-IsShort n _ = ⊤
-
-take_short : (n : ℕ) (bytes : List ℕ) → length (take n bytes) ≤ n
-take_short n bytes = let e = length-take n bytes in omega (arith, e)
-
-short_read : (t : Tree) (p : Path) (off n : ℕ) → IsShort n (does 0 t (Read p off n)).1
-unfolding does changed
-short_read t p off n = unless_holds (λ o. IsShort n o.1) t (faults_of_read t p n) (t, Data (take n (drop off (bytes_of (entry_at t p))))) (λ e. tt) (λ none. take_short n (drop off (bytes_of (entry_at t p))))
-
-short_told : (n : ℕ) (r d : Reply) → IsShort n d → (r ≡ d) ⊎ (r ≡ Fault ENOMEM) → IsShort n r
-short_told n r d h (inl e) = subst (IsShort n) (sym e) h
-short_told n r d h (inr e) = subst (IsShort n) (sym e) tt
-
-pub read_short : (p : Path) (off n : ℕ) (r : Reply) (bytes : List ℕ) (i : Rooted) → MeanSome i → Tells (Read p off n) r i → data_of r ≡ Ok bytes → length bytes ≤ n
-read_short p off n r bytes i s k h =
-    let is : r ≡ Data bytes = sym (read_told p off n r i s k) ∙ ap data_reply h in
-    subst (IsShort n) is (short_told n r (does 0 s.tree (Read p off n)).1 (short_read s.tree p off n) (k s.tree 0 s.means))
 
 -- ---- stats
 

@@ -8,10 +8,12 @@ use Rattle.reference.specs.declared.call.Call.TheVariants.{Readdir}
 use Rattle.reference.specs.declared.reply.Kind.{Kind}
 use Rattle.reference.specs.declared.reply.Kind.TheVariants.{Dir as Directory, File as Plain}
 use Rattle.reference.specs.declared.reply.Meta.{Meta}
-use Rattle.reference.specs.declared.reply.Meta.TheVariants.{Dir, File}
+use Rattle.reference.specs.declared.reply.Meta.TheVariants.{Dir, File as FileMeta}
 use Rattle.reference.specs.declared.reply.Reply.{Reply}
 use Rattle.reference.specs.declared.reply.Reply.TheVariants.{Data, Stat, Names, Fault}
+use Rattle.reference.specs.Tree.{Tree, Found, File, entry_at}
 use Rattle.volume.specs.Told.{Tells}
+use Rattle.volume.specs.Volumes.{MeanRooted}
 
 -- a text that is no path is refused; else this holds of the path
 abbrev pub OnPath : {A : Type 0} → Result Path Errno → Result A Errno → (Path → Type 0) → Type 0
@@ -34,24 +36,22 @@ abbrev pub read_reply : Result ℕ Errno → List ℕ → Reply
 read_reply (Ok n) out = Data (take n out)
 read_reply (Err e) out = Fault e
 
--- the bytes of a reply to a read, or its refusal; no read is replied to otherwise
-abbrev pub data_of : Reply → Result (List ℕ) Errno
-data_of (Data bytes) = Ok bytes
-data_of (Fault e) = Err e
-data_of _ = Err EINVAL
+-- in each tree that is meant a file of so many bytes stands at the path
+abbrev pub IsLong : Path → Rooted → ℕ → Type 0
+IsLong p i len = (t : Tree) → MeanRooted i t → (date : ℕ) × (b : List ℕ) × (entry_at t p ≡ Found (File date b)) × (length b ≡ len)
 
 -- ---- what stands at a path
 
 -- the reply that was told by what stands there
 abbrev pub stat_reply : Result Meta Errno → Reply
 stat_reply (Ok (Dir at)) = Stat Directory 0 at
-stat_reply (Ok (File len at)) = Stat Plain len at
+stat_reply (Ok (FileMeta len at)) = Stat Plain len at
 stat_reply (Err e) = Fault e
 
 -- what a reply to a stat says, or its refusal; no stat is replied to otherwise
 abbrev pub meta_of : Reply → Result Meta Errno
 meta_of (Stat Directory n at) = Ok (Dir at)
-meta_of (Stat Plain n at) = Ok (File n at)
+meta_of (Stat Plain n at) = Ok (FileMeta n at)
 meta_of (Fault e) = Err e
 meta_of _ = Err EINVAL
 

@@ -5,6 +5,7 @@
 #![tactic(auto)]
 
 pub mod changes;
+mod filling;
 pub mod holes;
 pub mod image_texts;
 pub mod looks;

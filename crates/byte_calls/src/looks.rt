@@ -1,13 +1,14 @@
 //! Calls that only look: into the live tree of a volume, or into a frozen tree.
-ghost use Rattle.std.specs.Prelude.{◌≡◌, ◌≤◌, ◌++◌, drop, length, IfErr, IfOk};
+ghost use Rattle.std.specs.Prelude.{◌≡◌, ◌≢◌, ◌≤◌, ◌^◌, ◌++◌, [], ℕ, drop, length, IfErr, IfOk, MatchResult};
 ghost use Rattle.pathkey.specs.Texts.{parsed};
 ghost use Rattle.reference.specs.Pairs.{pairs_of};
 ghost use Rattle.volume.specs.Told.{Tells};
-ghost use Rattle.byte_calls.specs.Looks.{Fills, Lists, OnPath, laid, letter_of, listing_bytes, read_reply, stat_reply};
+ghost use Rattle.byte_calls.specs.Looks.{Fills, IsLong, Lists, OnPath, laid, letter_of, listing_bytes, read_reply, stat_reply};
 
-use crate::replies::{data_of, meta_of, names_of};
+use crate::filling::{blocks_between, lay_blocks};
+use crate::replies::{meta_of, names_of};
 use pathkey::{Errno, NoMemory, Path};
-use reference::{Call, Kind, Meta};
+use reference::{Call, GREATEST_READ, Kind, Meta, Reply};
 use std::alloc::Global;
 use volume::{Frozen, Volume};
 
@@ -85,7 +86,7 @@ pub fn frozen_readdir(
     readdir_at(alloc, tree, &path, out)
 }
 
-// Reads the file at a path.
+// Reads the file at a path straight from its blocks: they are all found first, so a refusal leaves the buffer as it was.
 fn read_at(
     alloc: Global,
     tree: &Frozen,
@@ -97,10 +98,31 @@ fn read_at(
     ensures buffer { Fills result out.old out.new }
 {
     tree.means_a_tree();
-    let reply = tree.read(alloc, path, offset, out.len() as u64);
-    let bytes = data_of(reply)?;
-    lay(bytes.as_slice(), out);
-    Ok(bytes.as_slice().len())
+    let len = length_at(alloc, tree, path)?;
+    let count = out.len() as u64;
+    if count > GREATEST_READ {
+        return Err(Errno::EINVAL);
+    }
+    let end = offset.saturating_add(count).min(len);
+    if end <= offset {
+        return Ok(0);
+    }
+    let blocks = blocks_between(alloc, &tree.indexes().block, path, offset, end)?;
+    lay_blocks(blocks.as_slice(), offset, end, out);
+    Ok((end - offset) as usize)
+}
+
+// The length of the file at a path; or why none can be read there.
+fn length_at(alloc: Global, tree: &Frozen, path: &Path) -> Result<u64, Errno>
+    ensures told { MatchResult result (IsLong path.now tree.now) (λ e. (off n : ℕ) → Tells (Call.Read path.now off n) (Reply.Fault e) tree.now) }
+    ensures file { IfOk result (λ _. path.now ≢ []) }
+    ensures short { IfOk result (λ len. len ≤ 2 ^ 40) }
+{
+    tree.means_a_tree();
+    match stat_at(alloc, tree, path)? {
+        Meta::Dir { .. } => Err(Errno::EISDIR),
+        Meta::File { len, .. } => Ok(len),
+    }
 }
 
 // What stands at a path.

@@ -1,10 +1,10 @@
 //! What is told of a reply.
 ghost use Rattle.std.specs.Prelude.{◌≡◌};
 ghost use Rattle.byte_calls.specs.Changes.{settled};
-ghost use Rattle.byte_calls.specs.Looks.{data_of, meta_of, names_of};
+ghost use Rattle.byte_calls.specs.Looks.{meta_of, names_of};
 
 use pathkey::Errno;
-use reference::{FileBytes, Kind, Listing, Meta, Reply};
+use reference::{Kind, Listing, Meta, Reply};
 
 // Of a reply of which only a refusal counts.
 pub(crate) fn settled(reply: Reply) -> Result<(), Errno>
@@ -13,17 +13,6 @@ pub(crate) fn settled(reply: Reply) -> Result<(), Errno>
     match reply {
         Reply::Fault(fault) => Err(fault),
         _ => Ok(()),
-    }
-}
-
-// Of a reply to a read. No read is replied to otherwise than by bytes or a refusal.
-pub(crate) fn data_of(reply: Reply) -> Result<FileBytes, Errno>
-    ensures { result ≡ data_of reply }
-{
-    match reply {
-        Reply::Data(bytes) => Ok(bytes),
-        Reply::Fault(fault) => Err(fault),
-        _ => Err(Errno::EINVAL),
     }
 }
 

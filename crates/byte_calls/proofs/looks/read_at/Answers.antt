@@ -1,17 +1,33 @@
-use Rattle.std.proofs.Common.{ℕ, Result, length, sym, subst}
-use Rattle.std.proofs.lemmas.Result.{err_from_is_err_and}
-use Rattle.pathkey.specs.declared.errno.Errno.{Errno}
-use Rattle.reference.specs.declared.call.Call.TheVariants.{Read}
-use Rattle.volume.specs.Told.{Tells}
-use Rattle.byte_calls.specs.Looks.{read_reply}
-use Rattle.byte_calls.proofs.Looking.{read_refused, read_short}
+use Rattle.std.proofs.Common.{◌≡◌, ℕ, ◌-◌, ◌/◌, ◌≤◌, ◌^◌, [], List, Option, length, min, take, refl, sym, ap, subst, arith}
+use Rattle.block_index.specs.Means.{blocks}
+use Rattle.block_index.proofs.Reading.{read_none}
+use Rattle.call_compiler.specs.declared.indexes.Indexes.{Indexes}
+use Rattle.reference.specs.Indexes.{BlocksMean}
+use Rattle.reference.specs.Looks.{seen}
+use Rattle.byte_calls.specs.Filling.{HoldFrom}
+use Rattle.byte_calls.proofs.OfFiles.{too_much, read_is}
 use Rattle.byte_calls.proofs.looks.read_at.Goals as goal
 
-pub returns-in_err-bytes-clause-reply : goal.returns-in_err-bytes-clause-reply
-returns-in_err-bytes-clause-reply c =
-    let p = err_from_is_err_and c.from_residual.result c.from_residual.ensures.1 in
-    subst (λ (r : Result ℕ Errno). Tells (Read c.args.path.now c.args.offset (length c.args.out.now)) (read_reply r c.args.out.now) c.args.tree.now) (sym p.1)
-    (read_refused c.args.path.now c.args.offset (length c.args.out.now) c.read-reply.result p.0 c.args.tree.now c.means_a_tree.ensures c.read-reply.ensures (cc))
+pub returns-then-count-gt-GREATEST_READ-clause-reply : goal.returns-then-count-gt-GREATEST_READ-clause-reply
+returns-then-count-gt-GREATEST_READ-clause-reply c =
+    too_much c.args.path.now c.args.tree.now c.in_ok-len.len c.in_ok-len.ensures.told c.args.offset (length c.args.out.now) c.if-count-gt-GREATEST_READ.true
 
-pub lay-requires : goal.lay-requires
-lay-requires c = read_short c.args.path.now c.args.offset (length c.args.out.now) c.read-reply.result c.as_slice.result.now c.args.tree.now c.means_a_tree.ensures c.read-reply.ensures (cc)
+pub returns-then-end-offset-clause-reply : goal.returns-then-end-offset-clause-reply
+returns-then-end-offset-clause-reply c =
+    let k : c.min-end.result ≡ min c.saturating_add.result c.in_ok-len.len = c.min-end.ensures in
+    let s : c.in_ok-len.len ≤ 2 ^ 40 = c.in_ok-len.ensures.short in
+    let z = c.saturating_add.ensures in
+    read_is c.args.path.now c.args.tree.now c.in_ok-len.len c.in_ok-len.ensures.told c.args.offset (length c.args.out.now) [] c.if-count-gt-GREATEST_READ.false
+    (λ t date b mean at long. read_none b c.args.offset (length c.args.out.now) c.in_ok-len.len c.min-end.result [] long (omega (arith, k, s, z)) c.if-end-offset.true refl)
+
+pub returns-clause-reply : goal.returns-clause-reply
+returns-clause-reply c =
+    let k : c.min-end.result ≡ min c.saturating_add.result c.in_ok-len.len = c.min-end.ensures in
+    let s : c.in_ok-len.len ≤ 2 ^ 40 = c.in_ok-len.ensures.short in
+    let z = c.saturating_add.ensures in
+    read_is c.args.path.now c.args.tree.now c.in_ok-len.len c.in_ok-len.ensures.told c.args.offset (length c.args.out.now) (take (c.min-end.result - c.args.offset) c.lay_blocks.new.out) c.if-count-gt-GREATEST_READ.false
+    (λ t date b mean at long.
+    c.lay_blocks.ensures.bytes b (length c.args.out.now)
+    (subst (λ (vs : List (Option (List ℕ))). HoldFrom (c.args.offset / 4096) vs b) (sym c.as_slice.ensures.value)
+    (c.in_ok-blocks.ensures.holds t b (subst (λ (x : Indexes). BlocksMean t (blocks x.block)) (sym c.indexes.ensures) mean.indexes.blocks) (ap seen at)))
+    (omega (arith, k, s, z, long)))
