@@ -2,7 +2,7 @@
 ghost use Rattle.std.specs.Prelude.{◌≡◌, ℕ, IfErr};
 ghost use Rattle.pathkey.specs.Texts.{parsed};
 ghost use Rattle.byte_calls.specs.Holes.{PunchesAt};
-ghost use Rattle.doorvervain.specs.Holes.{RunsAt};
+ghost use Rattle.doorvervain.specs.Holes.{RunsAt, run_told};
 ghost use Rattle.doorvervain.specs.Numbers.{IsNumber, told_by};
 
 use crate::frozen::FrozenHandle;
@@ -37,9 +37,9 @@ pub extern "C" fn doorvervain_raw_data(
     begin: &mut u64,
     end: &mut u64,
 ) -> u8
-    ensures run { RunsAt path.now offset fs.old.volume.live (told_by result (begin.new, end.new)) }
+    ensures run { RunsAt path.now offset fs.old.volume.live (run_told result begin.new end.new) }
     ensures number { IsNumber result }
-    ensures refused { IfErr (told_by result (begin.new, end.new)) (λ _. (begin.new ≡ 0) × (end.new ≡ 0)) }
+    ensures refused { IfErr (run_told result begin.new end.new) (λ _. (begin.new ≡ 0) × (end.new ≡ 0)) }
     ensures kept { fs.new.volume ≡ fs.old.volume }
 {
     run(
@@ -59,9 +59,9 @@ pub extern "C" fn doorvervain_raw_frozen_data(
     begin: &mut u64,
     end: &mut u64,
 ) -> u8
-    ensures run { RunsAt path.now offset tree.old.tree (told_by result (begin.new, end.new)) }
+    ensures run { RunsAt path.now offset tree.old.tree (run_told result begin.new end.new) }
     ensures number { IsNumber result }
-    ensures refused { IfErr (told_by result (begin.new, end.new)) (λ _. (begin.new ≡ 0) × (end.new ≡ 0)) }
+    ensures refused { IfErr (run_told result begin.new end.new) (λ _. (begin.new ≡ 0) × (end.new ≡ 0)) }
     ensures kept { tree.new.tree ≡ tree.old.tree }
 {
     run(
@@ -84,7 +84,7 @@ fn number(outcome: Result<u64, Errno>) -> u8
 
 /// The number of an outcome, and the ends of the run, which are both 0 where it is refused.
 fn run(outcome: Result<(u64, u64), Errno>, begin: &mut u64, end: &mut u64) -> u8
-    ensures told { told_by result (begin.new, end.new) ≡ outcome }
+    ensures told { run_told result begin.new end.new ≡ outcome }
     ensures number { IsNumber result }
     ensures refused { IfErr outcome (λ _. (begin.new ≡ 0) × (end.new ≡ 0)) }
 {
