@@ -6,7 +6,7 @@ import sys
 import unittest
 
 # What a file of tests needs beside the package.
-NEEDS = {"test_fsspec": "fsspec", "test_pyfilesystem": "fs"}
+NEEDS = {"test_fsspec": "fsspec", "test_pyfilesystem": "fs", "test_types": "mypy"}
 
 
 def main() -> int:
@@ -19,7 +19,7 @@ def main() -> int:
             print(f"{path.name} is not run: {needed} is not installed")
         else:
             suite.addTests(loader.loadTestsFromName(path.stem))
-    done = unittest.TextTestRunner(stream=sys.stdout, verbosity=1).run(suite)
+    done = unittest.TextTestRunner(stream=sys.stdout, verbosity=1, buffer=True).run(suite)
     for case, reason in done.skipped:
         print(f"passed over: {case}: {reason}")
     # A part of a test (`subTest`) that fails counts for its test, once.

@@ -20,7 +20,7 @@ def lacks(names):
 
 class Examples(unittest.TestCase):
     def test_modules(self):
-        for name in ["doorvervain", "doorvervain._volume", "doorvervain._file", *NEEDS]:
+        for name in ["doorvervain", "doorvervain._core", "doorvervain._volume", "doorvervain._file", *NEEDS]:
             if lacks(NEEDS.get(name, [])):
                 print(f"the examples of {name} are not run: {lacks(NEEDS[name])} is not installed")
                 continue
