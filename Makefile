@@ -87,7 +87,7 @@ install: all
 	    ln -sf doorvervain.3 "$(TO)/share/man/man3/$$name.3"; done
 	install -m 644 packaging/betr.bash $(TO)/share/bash-completion/completions/betr
 	for page in $(DOCUMENTS); do install -m 644 docs/$$page.md $(TO)/share/doc/doorvervain/$$page.md; done
-	tar -C bindings $(LEFT_OUT) -cf - python rust | tar -C $(SHARE)/bindings --no-same-owner -xf -
+	tar -C bindings $(LEFT_OUT) -cf - install python rust | tar -C $(SHARE)/bindings --no-same-owner -xf -
 	[ -z '$(MODULE)' ] || install -m 755 $(MODULE) $(SHARE)/bindings/python/_core.abi3.so
 	tar -C examples $(LEFT_OUT) -cf - c rust fixture build_cache sandbox | tar -C $(SHARE)/examples --no-same-owner -xf -
 	if [ -x mount/out/doorvervain-mount ] && grep -q '^install:' mount/Makefile; then \
