@@ -1,7 +1,8 @@
 #!/usr/bin/env python3
 """Times a tree of files here, in MemoryFS of PyFilesystem2, in `memory` of fsspec, and in a folder of tmpfs.
 
-    bench.py [FILES [RUNS]]     10,000 files of 100 bytes in 100 directories, and three runs, where nothing is named
+    bench.py [FILES [RUNS [NAME..]]]    10,000 files of 100 bytes in 100 directories, three runs, and all, where nothing is
+                                        named; NAME is the head of a column, as MemoryFS
 
 Each row is the least of the runs, in processor time of this process, so that what else runs counts little. What one of the
 others has no call for is done as one does it there: a snapshot is a copy of all, and going back puts a copy of that copy in
@@ -269,8 +270,9 @@ def main():
     folders = [f"/t/d{number:02}" for number in range(100)]
     paths = [f"{folders[number * 37 % 100]}/file{number:06}" for number in range(count)]
     kinds = [Ours, OursRelieved, OursByPyFilesystem, MemoryOfPyFilesystem, OursByFsspec, MemoryOfFsspec, Tmpfs]
+    named = sys.argv[3:] or [kind.name for kind in kinds]
     told = {}
-    for kind in kinds:
+    for kind in (kind for kind in kinds if kind.name in named):
         try:
             runs = [rows(kind, paths, folders) for _ in range(turns)]
         except ImportError as error:
@@ -280,7 +282,7 @@ def main():
     print(f"{count} files, microseconds a call")
     print("| Work | " + " | ".join(told) + " |")
     print("|---|" + "---|" * len(told))
-    for row in told[Ours.name]:
+    for row in next(iter(told.values()), {}):
         print(f"| {row} | " + " | ".join(f"{took[row] * 1e6:,.1f}" if row in took else "" for took in told.values()) + " |")
 
 
