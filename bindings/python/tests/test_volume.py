@@ -12,7 +12,10 @@ import weakref
 import doorvervain
 from doorvervain import BadImage, Volume
 
-HEADER = pathlib.Path(__file__).resolve().parents[3] / "include/doorvervain.h"
+HERE = pathlib.Path(__file__).resolve()
+# In the repository, and in a prefix.
+HEADERS = [HERE.parents[above] / "include/doorvervain.h" for above in (3, 5)]
+HEADER = next((path for path in HEADERS if path.exists()), None)
 
 
 def refused(case, kind, number, call, *words, **named):
@@ -413,7 +416,7 @@ class Threads(unittest.TestCase):
         self.assertEqual(volume.read("/log"), b"line\n" * 2_000)
 
 
-@unittest.skipUnless(HEADER.exists(), "the header is not beside these sources")
+@unittest.skipUnless(HEADER, "the header is not beside these sources")
 class Header(unittest.TestCase):
     def test_the_release_is_that_of_the_header(self):
         self.assertIn(f'#define DOORVERVAIN_VERSION "{doorvervain.__version__}"', HEADER.read_text())
