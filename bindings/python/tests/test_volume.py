@@ -14,7 +14,7 @@ from doorvervain import BadImage, Volume
 
 HERE = pathlib.Path(__file__).resolve()
 # In the repository, and in a prefix.
-HEADERS = [HERE.parents[above] / "include/doorvervain.h" for above in (3, 5)]
+HEADERS = [above / "include/doorvervain.h" for above in list(HERE.parents)[3:6:2]]
 HEADER = next((path for path in HEADERS if path.exists()), None)
 
 
