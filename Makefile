@@ -11,21 +11,27 @@ BETR ?= crates/betr/out/betr
 ARCHIVE ?= crates/doorvervain/out/libdoorvervain.a
 # malloc, realloc and free for the library: the toolchain has them.
 HEAP ?= $(dir $(shell rt doc 2> /dev/null))c/liblibc_c.a
+# Who has Python.h, for the module of the package. Where nobody has, pip compiles it.
+PYTHON ?= /usr/bin/python3
 GATE ?=
 GATE_FILE ?=
 
 RELEASE := $(shell sed -n 's/^.define DOORVERVAIN_VERSION "\(.*\)"/\1/p' include/doorvervain.h)
 SONAME := libdoorvervain.so.0
 SHARED := libdoorvervain.so.$(RELEASE)
+MODULE := $(shell $(PYTHON) -c 'import os, sysconfig; print("out/python/_core.abi3.so" \
+    if os.path.exists(sysconfig.get_path("include") + "/Python.h") else "")' 2> /dev/null)
 MANUAL = out/man/betr.1 out/man/doorvervain.3
 # The prefix that doorvervain.pc tells.
 PC_PREFIX ?= $(PREFIX)
 TO = $(DESTDIR)$(PREFIX)
 SHARE = $(TO)/share/doorvervain
 DOCUMENTS := INSTALL C_LIBRARY PYTHON PROFILE FORMATS
-LEFT_OUT := --exclude=__pycache__ --exclude=target --exclude=out --exclude='*.egg-info' --exclude=.pytest_cache
+LEFT_OUT := --exclude=__pycache__ --exclude=target --exclude=out --exclude='*.egg-info' --exclude='*.so' --exclude=.pytest_cache
 
-all: $(BETR) out/lib/libdoorvervain.a out/lib/$(SHARED) $(MANUAL)
+all: $(BETR) libraries $(MANUAL)
+
+libraries: out/lib/libdoorvervain.a out/lib/$(SHARED) out/include/doorvervain.h $(MODULE)
 
 # The archive with the object that asks malloc for memory: one file to link.
 out/lib/libdoorvervain.a: $(ARCHIVE) $(HEAP)
@@ -39,6 +45,15 @@ out/lib/$(SHARED): $(ARCHIVE) $(HEAP) packaging/exports.map
 	    -Wl,--gc-sections -Wl,--whole-archive $(ARCHIVE) -Wl,--no-whole-archive $(HEAP) -o $@
 	ln -sf $(SHARED) out/lib/$(SONAME)
 	ln -sf $(SONAME) out/lib/libdoorvervain.so
+
+out/include/doorvervain.h: include/doorvervain.h
+	@mkdir -p $(@D)
+	cp $< $@
+
+# One module for all versions of Python from 3.9 on.
+out/python/_core.abi3.so: out/lib/libdoorvervain.a out/include/doorvervain.h bindings/python/backend.py $(wildcard bindings/python/core/*)
+	@mkdir -p $(@D)
+	DOORVERVAIN_DIR='$(CURDIR)/out' $(PYTHON) -B bindings/python/backend.py $@
 
 $(ARCHIVE):
 	examples/archive
@@ -72,7 +87,8 @@ install: all
 	    ln -sf doorvervain.3 "$(TO)/share/man/man3/$$name.3"; done
 	install -m 644 packaging/betr.bash $(TO)/share/bash-completion/completions/betr
 	for page in $(DOCUMENTS); do install -m 644 docs/$$page.md $(TO)/share/doc/doorvervain/$$page.md; done
-	tar -C bindings $(LEFT_OUT) -cf - python rust | tar -C $(SHARE)/bindings --no-same-owner -xf -
+	tar -C bindings $(LEFT_OUT) -cf - install python rust | tar -C $(SHARE)/bindings --no-same-owner -xf -
+	[ -z '$(MODULE)' ] || install -m 755 $(MODULE) $(SHARE)/bindings/python/_core.abi3.so
 	tar -C examples $(LEFT_OUT) -cf - c rust fixture build_cache sandbox | tar -C $(SHARE)/examples --no-same-owner -xf -
 	if [ -x mount/out/doorvervain-mount ] && grep -q '^install:' mount/Makefile; then \
 	    $(MAKE) -C mount install PREFIX='$(PREFIX)' DESTDIR='$(DESTDIR)'; fi
@@ -102,4 +118,4 @@ dist:
 clean:
 	rm -rf out
 
-.PHONY: all install uninstall dist clean
+.PHONY: all libraries install uninstall dist clean

@@ -1,7 +1,10 @@
 """Builds the wheel of the package, by PEP 517, with the standard library alone.
 
-The wheel has the shared library in it where one is found: in DOORVERVAIN_DIR, by pkg-config, where `make install` put it
-beside these files, or in the repository's out/lib. Else the package looks for it when it is imported.
+The wheel has the module in C, with the library linked in. It is compiled from `core`, over the archive and the header that
+are found: in DOORVERVAIN_DIR, where `make install` put them beside these files, in the repository, or by pkg-config. Where
+`make install` left a built module beside these files, that is taken, and no compiler is needed.
+
+    backend.py FILE     compiles the module alone, into FILE
 """
 from __future__ import annotations
 
@@ -10,17 +13,22 @@ import hashlib
 import io
 import os
 import re
+import shlex
 import subprocess
+import sys
 import sysconfig
 import tarfile
+import tempfile
 import zipfile
-from typing import Dict, Iterator, Optional, Tuple
+from typing import Dict, Iterator, List, Optional, Tuple
 
 HERE = os.path.dirname(os.path.abspath(__file__))
 PACKAGE = "doorvervain"
-LIBRARY = "libdoorvervain.so.0"
-# Where the library lies from here: in a prefix that `make install` filled, and in the repository.
-NEAR = ("../../../../lib", "../../out/lib")
+MODULE = "_core.abi3.so"
+ARCHIVE = "libdoorvervain.a"
+HEADER = "doorvervain.h"
+# Where the folders of archive and header lie from here: in a prefix that `make install` filled, and in the repository.
+NEAR = [("../../../../lib", "../../../../include"), ("../../out/lib", "../../include")]
 
 ENTRY_POINTS = """\
 [fsspec.specs]
@@ -53,42 +61,78 @@ def metadata() -> str:
     )
 
 
-def libdir_of_pkg_config() -> Optional[str]:
-    words = ["pkg-config", "--variable=libdir", PACKAGE]
+# ---- the module in C
+
+
+def told_by_pkg_config(name: str) -> str:
+    words = ["pkg-config", f"--variable={name}", PACKAGE]
     try:
         said = subprocess.run(words, stdout=subprocess.PIPE, stderr=subprocess.DEVNULL, text=True, check=True)
     except (OSError, subprocess.CalledProcessError):
-        return None
-    return said.stdout.strip() or None
+        return ""
+    return said.stdout.strip()
 
 
-def library() -> Optional[str]:
-    """The path of the shared library; none where it is found nowhere."""
-    folders = []
+def folders() -> Iterator[Tuple[str, str]]:
+    """Where the archive and the header may lie, the first that are there before the others."""
     named = os.environ.get("DOORVERVAIN_DIR")
     if named:
-        folders += [os.path.join(named, "lib"), named]
-    folders += [os.path.join(HERE, near) for near in NEAR]
-    told = libdir_of_pkg_config()
-    if told:
-        folders.append(told)
-    for folder in folders:
-        path = os.path.join(folder, LIBRARY)
-        if os.path.exists(path):
-            return os.path.realpath(path)
-    return None
+        yield os.path.join(named, "lib"), os.path.join(named, "include")
+    for library, header in NEAR:
+        yield os.path.join(HERE, library), os.path.join(HERE, header)
+    yield told_by_pkg_config("libdir"), told_by_pkg_config("includedir")
 
 
-def tag(has_library: bool) -> str:
-    platform = sysconfig.get_platform().replace("-", "_").replace(".", "_")
-    return f"py3-none-{platform}" if has_library else "py3-none-any"
+def library() -> Tuple[str, str]:
+    """The path of the archive, and the folder of its header."""
+    for archive, header in folders():
+        path = os.path.join(archive, ARCHIVE)
+        if os.path.exists(path) and os.path.exists(os.path.join(header, HEADER)):
+            return path, header
+    sys.exit(f"{ARCHIVE} is not found: `make install` puts it into a prefix, and DOORVERVAIN_DIR names one")
+
+
+def words_of(name: str, default: str = "") -> List[str]:
+    """The words of a variable of the environment."""
+    return shlex.split(os.environ.get(name) or default)
+
+
+def compile_module(path: str) -> None:
+    """Compiles the module. CC, CFLAGS and LDFLAGS are as for make."""
+    archive, header = library()
+    python = sysconfig.get_path("include")
+    if not os.path.exists(os.path.join(python, "Python.h")):
+        sys.exit(f"{python}/Python.h is not there: a package of the system as python3-dev has it")
+    folder = os.path.join(HERE, "core")
+    sources = sorted(os.path.join(folder, name) for name in os.listdir(folder) if name.endswith(".c"))
+    words = words_of("CC", "cc") + ["-std=c11", "-O2", "-Wall", "-Wextra", "-fPIC", "-fvisibility=hidden", "-shared"]
+    words += [f"-I{python}", f"-I{header}", *words_of("CFLAGS"), *sources, archive]
+    words += ["-Wl,--exclude-libs,ALL", "-Wl,--gc-sections", *words_of("LDFLAGS"), "-o", path]
+    try:
+        subprocess.run(words, check=True)
+    except (OSError, subprocess.CalledProcessError) as error:
+        sys.exit(f"the module is not compiled: {error}")
+
+
+def module() -> bytes:
+    """The module: the one that lies here, unless another prefix is named, or else a new one."""
+    built = os.path.join(HERE, MODULE)
+    if os.path.exists(built) and not os.environ.get("DOORVERVAIN_DIR"):
+        return read(built)
+    with tempfile.TemporaryDirectory() as made:
+        path = os.path.join(made, MODULE)
+        compile_module(path)
+        return read(path)
+
+
+# ---- wheels
 
 
 def sources() -> Iterator[Tuple[str, str]]:
     """The package's files: the name in the wheel, and the path here."""
     folder = os.path.join(HERE, PACKAGE)
     for name in sorted(os.listdir(folder)):
-        if name.endswith((".py", ".typed")):
+        if name.endswith((".py", ".pyi", ".typed")):
             yield f"{PACKAGE}/{name}", os.path.join(folder, name)
 
 
@@ -97,26 +141,23 @@ def row_of(name: str, data: bytes) -> str:
     return f"{name},sha256={digest},{len(data)}"
 
 
-def information(wheel_tag: str) -> Dict[str, str]:
-    """The texts of the folder that tells of the wheel."""
-    return {
-        "METADATA": metadata(),
-        "WHEEL": f"Wheel-Version: 1.0\nGenerator: backend.py\nRoot-Is-Purelib: false\nTag: {wheel_tag}\n",
-        "entry_points.txt": ENTRY_POINTS,
-    }
+def tag() -> str:
+    """The module keeps to the stable interface of Python 3.9."""
+    return "cp39-abi3-" + sysconfig.get_platform().replace("-", "_").replace(".", "_")
 
 
-def write_wheel(folder: str, files: Dict[str, bytes], wheel_tag: str) -> str:
+def write_wheel(folder: str, files: Dict[str, bytes]) -> str:
     told = f"{PACKAGE}-{release()}.dist-info"
-    for name, text in information(wheel_tag).items():
-        files[f"{told}/{name}"] = text.encode()
+    files[f"{told}/METADATA"] = metadata().encode()
+    files[f"{told}/WHEEL"] = f"Wheel-Version: 1.0\nGenerator: backend.py\nRoot-Is-Purelib: false\nTag: {tag()}\n".encode()
+    files[f"{told}/entry_points.txt"] = ENTRY_POINTS.encode()
     rows = [row_of(name, data) for name, data in files.items()] + [f"{told}/RECORD,,"]
     files[f"{told}/RECORD"] = ("\n".join(rows) + "\n").encode()
-    wheel = f"{PACKAGE}-{release()}-{wheel_tag}.whl"
+    wheel = f"{PACKAGE}-{release()}-{tag()}.whl"
     with zipfile.ZipFile(os.path.join(folder, wheel), "w", zipfile.ZIP_DEFLATED) as archive:
         for name, data in files.items():
             entry = zipfile.ZipInfo(name, (1980, 1, 1, 0, 0, 0))
-            entry.external_attr = (0o755 if name.endswith(LIBRARY) else 0o644) << 16
+            entry.external_attr = (0o755 if name.endswith(MODULE) else 0o644) << 16
             entry.compress_type = zipfile.ZIP_DEFLATED
             archive.writestr(entry, data)
     return wheel
@@ -129,26 +170,31 @@ def read(path: str) -> bytes:
 
 def build_wheel(wheel_directory, config_settings=None, metadata_directory=None):
     files = {name: read(path) for name, path in sources()}
-    found = library()
-    if found:
-        files[f"{PACKAGE}/{LIBRARY}"] = read(found)
-    print(f"the shared library: {found or 'not found, so the wheel has none'}")
-    return write_wheel(wheel_directory, files, tag(bool(found)))
+    files[f"{PACKAGE}/{MODULE}"] = module()
+    return write_wheel(wheel_directory, files)
 
 
 def build_editable(wheel_directory, config_settings=None, metadata_directory=None):
-    """A wheel that points here. The library is then looked for when the package is imported."""
-    return write_wheel(wheel_directory, {f"{PACKAGE}.pth": (HERE + "\n").encode()}, "py3-none-any")
+    """A wheel that points here, where the module is put beside the sources."""
+    with open(os.path.join(HERE, PACKAGE, MODULE), "wb") as file:
+        file.write(module())
+    return write_wheel(wheel_directory, {f"{PACKAGE}.pth": (HERE + "\n").encode()})
 
 
 def build_sdist(sdist_directory, config_settings=None):
     name = f"{PACKAGE}-{release()}"
+    files = list(sources()) + [(one, os.path.join(HERE, one)) for one in ["pyproject.toml", "backend.py", "core"]]
     with tarfile.open(os.path.join(sdist_directory, f"{name}.tar.gz"), "w:gz") as archive:
-        for inside, path in [*sources(), ("pyproject.toml", os.path.join(HERE, "pyproject.toml")),
-                             ("backend.py", os.path.join(HERE, "backend.py"))]:
+        for inside, path in files:
             archive.add(path, f"{name}/{inside}")
         told = tarfile.TarInfo(f"{name}/PKG-INFO")
         text = metadata().encode()
         told.size = len(text)
         archive.addfile(told, io.BytesIO(text))
     return f"{name}.tar.gz"
+
+
+if __name__ == "__main__":
+    if len(sys.argv) != 2:
+        sys.exit(__doc__)
+    compile_module(sys.argv[1])

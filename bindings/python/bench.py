@@ -1,10 +1,12 @@
 #!/usr/bin/env python3
 """Times a tree of files here, in MemoryFS of PyFilesystem2, in `memory` of fsspec, and in a folder of tmpfs.
 
-    bench.py [FILES [RUNS]]     10,000 files of 100 bytes in 100 directories, and three runs, where nothing is named
+    bench.py [FILES [RUNS [NAME..]]]    10,000 files of 100 bytes in 100 directories, three runs, and all, where nothing is
+                                        named; NAME is the head of a column, as MemoryFS
 
-Each row is the least of the runs, in processor time of this process, so that what else runs counts little. What one of the others has no call for is done as one does it there: a snapshot is a copy
-of all, and going back puts a copy of that copy in place.
+Each row is the least of the runs, in processor time of this process, so that what else runs counts little. What one of the
+others has no call for is done as one does it there: a snapshot is a copy of all, and going back puts a copy of that copy in
+place. `relieved` is a volume that moves its waiting changes down, once all files are written.
 """
 import os
 import shutil
@@ -32,6 +34,9 @@ class Ours:
         self.remove = self.files.unlink
         self.remove_tree = self.files.rmtree
 
+    def upkeep(self):
+        pass
+
     def snapshot(self):
         self.files.snapshot("kept")
 
@@ -40,6 +45,13 @@ class Ours:
 
     def close(self):
         self.files.close()
+
+
+class OursRelieved(Ours):
+    name = "relieved"
+
+    def upkeep(self):
+        self.files.relieve()
 
 
 class OfPyFilesystem:
@@ -235,6 +247,8 @@ def rows(kind, paths, folders):
         files.mkdir(above)
     timed("create", len(paths), each(files.create))
     timed("write 100 bytes", len(paths), each(files.write, DATA))
+    if isinstance(files, Ours):
+        timed("relieve", 1, files.upkeep)
     timed("read", len(paths), each(files.read))
     timed("stat", len(paths), each(files.stat))
     timed("list", len(folders), of_folders(files.list))
@@ -255,9 +269,10 @@ def main():
     turns = int(sys.argv[2]) if len(sys.argv) > 2 else 3
     folders = [f"/t/d{number:02}" for number in range(100)]
     paths = [f"{folders[number * 37 % 100]}/file{number:06}" for number in range(count)]
-    kinds = [Ours, OursByPyFilesystem, MemoryOfPyFilesystem, OursByFsspec, MemoryOfFsspec, Tmpfs]
+    kinds = [Ours, OursRelieved, OursByPyFilesystem, MemoryOfPyFilesystem, OursByFsspec, MemoryOfFsspec, Tmpfs]
+    named = sys.argv[3:] or [kind.name for kind in kinds]
     told = {}
-    for kind in kinds:
+    for kind in (kind for kind in kinds if kind.name in named):
         try:
             runs = [rows(kind, paths, folders) for _ in range(turns)]
         except ImportError as error:
@@ -267,8 +282,8 @@ def main():
     print(f"{count} files, microseconds a call")
     print("| Work | " + " | ".join(told) + " |")
     print("|---|" + "---|" * len(told))
-    for row in told[Ours.name]:
-        print(f"| {row} | " + " | ".join(f"{took[row] * 1e6:,.1f}" for took in told.values()) + " |")
+    for row in next(iter(told.values()), {}):
+        print(f"| {row} | " + " | ".join(f"{took[row] * 1e6:,.1f}" if row in took else "" for took in told.values()) + " |")
 
 
 if __name__ == "__main__":

@@ -10,7 +10,7 @@ struct Handle {
 }
 
 // The names are those of include/doorvervain.h. A slice is passed as a pointer and a length, and is never null.
-unsafe extern "C" {
+extern "C" {
     fn doorvervain_raw_open(fanout: u16, pending: u16, leaf: u16, out: &mut Handle) -> u8;
     fn doorvervain_raw_close(fs: Handle);
     fn doorvervain_raw_mkdir(fs: &mut Handle, path: *const u8, length: usize, at: u64) -> u8;

@@ -4,9 +4,9 @@ from __future__ import annotations
 import errno
 import io
 import os
-from typing import IO, TYPE_CHECKING, Any, Optional
+from typing import IO, TYPE_CHECKING, Any, Optional, Union, cast
 
-from ._library import fault
+from ._types import fault
 
 if TYPE_CHECKING:
     from ._volume import StrPath, Tree, Volume
@@ -27,7 +27,6 @@ class File(io.RawIOBase):
         self.name = os.fspath(path)
         self._tree = tree
         self._path = path
-        self._raw = self.name.encode("utf-8", "surrogateescape") if isinstance(self.name, str) else self.name
         self._reads = action == "r" or updating
         self._writes = action != "r" or updating
         self._appends = action == "a"
@@ -51,7 +50,7 @@ class File(io.RawIOBase):
         return self._tree.stat(self._path).size
 
     def _begin(self, action: str) -> None:
-        tree: Any = self._tree
+        tree = cast("Volume", self._tree)
         if action == "w":
             tree._empty(self._path)
         elif action == "x":
@@ -91,16 +90,16 @@ class File(io.RawIOBase):
         self._check()
         if not self._writes:
             raise io.UnsupportedOperation("not writable")
-        volume: Any = self._tree
-        return volume
+        return cast("Volume", self._tree)
 
     def readinto(self, buffer: Any) -> int:
         """Reads into a buffer as many bytes as it holds and the file has."""
         self._check_reads()
         view = memoryview(buffer).cast("B")
-        got = self._tree._read_into(self._path, self._raw, self._at, view, len(view))
-        self._at += got
-        return got
+        data = self._tree.read(self._path, len(view), self._at)
+        view[: len(data)] = data
+        self._at += len(data)
+        return len(data)
 
     def readall(self) -> bytes:
         """Reads all bytes from its place on."""
@@ -112,7 +111,7 @@ class File(io.RawIOBase):
     def write(self, data: Any) -> int:
         """Writes all bytes at its place, or at the file's end where it appends."""
         volume = self._check_writes()
-        with volume._room.lock:
+        with volume._lock:
             if self._appends:
                 self._at = volume.stat(self._path).size
             count = volume.write(self._path, data, self._at)
@@ -178,7 +177,7 @@ def open_file(
         raise ValueError("can't have unbuffered text I/O")
     raw = File(tree, path, actions[0] + ("+" if "+" in letters else ""))
     if buffering == 0:
-        return raw  # type: ignore[return-value]
+        return cast(IO[Any], raw)
     buffer = _buffered(raw, buffering if buffering > 1 else _BUFFER)
     if binary:
         return buffer
@@ -187,7 +186,7 @@ def open_file(
     return text
 
 
-def _buffered(raw: File, size: int) -> Any:
+def _buffered(raw: File, size: int) -> Union[io.BufferedRandom, io.BufferedWriter, io.BufferedReader]:
     if raw.readable() and raw.writable():
         return io.BufferedRandom(raw, size)
     return io.BufferedWriter(raw, size) if raw.writable() else io.BufferedReader(raw, size)

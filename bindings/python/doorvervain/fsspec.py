@@ -25,8 +25,8 @@ from typing import Any, Dict, List, Optional, Union
 from fsspec import AbstractFileSystem
 
 from ._file import File
-from ._library import fault
-from ._volume import Entry, Volume
+from ._types import Entry, fault
+from ._volume import Volume
 
 _volumes: Dict[str, Volume] = {}
 _lock = threading.Lock()
@@ -60,13 +60,13 @@ class DoorvervainFileSystem(AbstractFileSystem):
 
     @classmethod
     def _strip_protocol(cls, path: Any) -> Any:
+        if type(path) is str and path[:1] == "/" and path[-1] != "/" and "//" not in path:
+            return path
         if isinstance(path, list):
             return [cls._strip_protocol(it) for it in path]
-        path = path if type(path) is str else str(path)
+        path = str(path)
         if path.startswith("doorvervain:"):
             path = path[12:]
-        if path[:1] == "/" and "//" not in path and path[-1] != "/":
-            return path
         return "/" + "/".join(part for part in path.split("/") if part)
 
     def _info(self, path: str) -> Dict[str, Any]:
@@ -192,7 +192,7 @@ class DoorvervainFileSystem(AbstractFileSystem):
         path = self._strip_protocol(path)
         if start is None and end is None:
             return self.volume.read(path)
-        with self.volume._room.lock:
+        with self.volume._lock:
             length = self.volume.stat(path).size
             first, last, _ = slice(start, end).indices(length)
             return self.volume.read(path, max(last - first, 0), first)

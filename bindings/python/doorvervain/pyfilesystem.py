@@ -13,7 +13,7 @@ from __future__ import annotations
 
 import errno
 from datetime import datetime
-from typing import Any, BinaryIO, Collection, Dict, Iterator, List, Mapping, Optional, Tuple, Union
+from typing import Any, BinaryIO, Collection, Dict, Iterator, List, Mapping, Optional, Tuple, Union, cast
 
 from fs import errors
 from fs.base import FS
@@ -26,7 +26,8 @@ from fs.permissions import Permissions
 from fs.subfs import SubFS
 
 from ._file import open_file
-from ._volume import Stat, Volume
+from ._types import Stat
+from ._volume import Volume
 
 # What a refusal is called where a file was asked for, and where a directory was.
 _OF_FILES = {
@@ -51,7 +52,7 @@ _OF_DIRECTORIES = {
 
 def _told(error: OSError, path: str, names: Mapping[int, Any] = _OF_FILES) -> Exception:
     """A refusal as PyFilesystem2 calls it."""
-    return names.get(error.errno or 0, errors.OperationFailed)(path=path)
+    return cast(Exception, names.get(error.errno or 0, errors.OperationFailed)(path=path))
 
 
 class DoorvervainFS(FS):
@@ -129,7 +130,7 @@ class DoorvervainFS(FS):
     ) -> Iterator[Info]:
         """What is known of each entry of a directory."""
         at = self.validatepath(path)
-        with self.volume._room.lock:
+        with self.volume._lock:
             try:
                 entries = self.volume.scandir(at)
             except OSError as error:
@@ -159,8 +160,7 @@ class DoorvervainFS(FS):
             raise errors.ResourceNotFound(path) from None
         except OSError as error:
             raise _told(error, path, _OF_DIRECTORIES) from None
-        opened: Any = self.opendir(path)
-        return opened
+        return cast("SubFS[DoorvervainFS]", self.opendir(path))
 
     def open(
         self,
@@ -182,7 +182,7 @@ class DoorvervainFS(FS):
         """A file object of bytes."""
         binary = Mode(mode)
         binary.validate_bin()
-        return self._opened(path, binary.to_platform_bin(), buffering)
+        return cast(BinaryIO, self._opened(path, binary.to_platform_bin(), buffering))
 
     def _opened(self, path: str, mode: str, buffering: int, *text: Optional[str]) -> Any:
         at = self.validatepath(path)
@@ -245,7 +245,7 @@ class DoorvervainFS(FS):
     def removetree(self, dir_path: str) -> None:
         """Takes a directory out with all below it, by one call; of the root, what it holds."""
         at = self.validatepath(dir_path)
-        with self.volume._room.lock:
+        with self.volume._lock:
             try:
                 names = self.volume.listdir(at) if at == "/" else []
                 if not self.volume.stat(at).is_dir:
@@ -258,7 +258,7 @@ class DoorvervainFS(FS):
     def move(self, src_path: str, dst_path: str, overwrite: bool = False, preserve_time: bool = False) -> None:
         """Moves a file, by one call. It keeps its moment."""
         old, new = self.validatepath(src_path), self.validatepath(dst_path)
-        with self.volume._room.lock:
+        with self.volume._lock:
             if not overwrite and self.volume.exists(new):
                 raise errors.DestinationExists(dst_path)
             try:
@@ -273,7 +273,7 @@ class DoorvervainFS(FS):
         """Moves a directory with all below it: by one call where nothing stands at its new path, and else into what
         stands there."""
         old, new = self.validatepath(src_path), self.validatepath(dst_path)
-        with self.volume._room.lock:
+        with self.volume._lock:
             if create and old != new and not isbase(old, new) and self.volume.is_dir(old):
                 if not self.volume.exists(new) and self.volume.is_dir(new.rsplit("/", 1)[0] or "/"):
                     self.volume.rename(old, new)
@@ -284,7 +284,7 @@ class DoorvervainFS(FS):
         """Sets the moment of last change of a file. Nothing else can be set."""
         at = self.validatepath(path)
         modified: Any = info.get("details", {}).get("modified")
-        with self.volume._room.lock:
+        with self.volume._lock:
             try:
                 stat = self.volume.stat(at)
                 if modified is not None and stat.is_file:

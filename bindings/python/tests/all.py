@@ -6,7 +6,7 @@ import sys
 import unittest
 
 # What a file of tests needs beside the package.
-NEEDS = {"test_fsspec": "fsspec", "test_pyfilesystem": "fs"}
+NEEDS = {"test_fsspec": "fsspec", "test_pyfilesystem": "fs", "test_types": "mypy"}
 
 
 def main() -> int:
@@ -16,12 +16,12 @@ def main() -> int:
     for path in sorted(here.glob("test_*.py")):
         needed = NEEDS.get(path.stem)
         if needed and importlib.util.find_spec(needed) is None:
-            print(f"{path.name} is not run: {needed} is not installed")
+            print(f"left out: {path.name}: {needed} is not installed")
         else:
             suite.addTests(loader.loadTestsFromName(path.stem))
-    done = unittest.TextTestRunner(stream=sys.stdout, verbosity=1).run(suite)
+    done = unittest.TextTestRunner(stream=sys.stdout, verbosity=1, buffer=True).run(suite)
     for case, reason in done.skipped:
-        print(f"passed over: {case}: {reason}")
+        print(f"left out: {case}: {reason}")
     # A part of a test (`subTest`) that fails counts for its test, once.
     failed = {getattr(case, "test_case", case).id() for case, _ in done.failures + done.errors}
     print(f"{done.testsRun - len(failed) - len(done.skipped)} passed, {len(failed)} failed")

@@ -20,9 +20,8 @@ def lacks(names):
 
 class Examples(unittest.TestCase):
     def test_modules(self):
-        for name in ["doorvervain", "doorvervain._volume", "doorvervain._file", *NEEDS]:
+        for name in ["doorvervain", "doorvervain._core", "doorvervain._volume", "doorvervain._file", *NEEDS]:
             if lacks(NEEDS.get(name, [])):
-                print(f"the examples of {name} are not run: {lacks(NEEDS[name])} is not installed")
                 continue
             with self.subTest(module=name):
                 self.assertEqual(doctest.testmod(importlib.import_module(name), report=True).failed, 0)

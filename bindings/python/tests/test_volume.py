@@ -1,16 +1,21 @@
 """Volumes, snapshots and frozen trees: what each call gives, and what it refuses."""
 import array
 import errno
+import gc
 import os
 import pathlib
-import re
 import threading
+import time
 import unittest
+import weakref
 
 import doorvervain
 from doorvervain import BadImage, Volume
 
-HEADER = pathlib.Path(__file__).resolve().parents[3] / "include/doorvervain.h"
+HERE = pathlib.Path(__file__).resolve()
+# In the repository, and in a prefix.
+HEADERS = [above / "include/doorvervain.h" for above in list(HERE.parents)[3:6:2]]
+HEADER = next((path for path in HEADERS if path.exists()), None)
 
 
 def refused(case, kind, number, call, *words, **named):
@@ -287,6 +292,66 @@ class Snapshots(unittest.TestCase):
         while volume.relieve(50) == 50:
             self.assertEqual(volume.image(), before)
         self.assertEqual(volume.relieve(1), 0)
+        volume.create("/more")
+        before = volume.image()
+        self.assertGreater(volume.relieve(), 0)
+        self.assertEqual((volume.relieve(None), volume.relieve(-1), volume.relieve(1 << 80)), (0, 0, 0))
+        self.assertEqual(volume.image(), before)
+
+
+class Words(unittest.TestCase):
+    """How calls take their words."""
+
+    def setUp(self):
+        self.volume = Volume()
+
+    def test_words_by_name(self):
+        volume = self.volume
+        volume.mkdir(path="/d", at=3)
+        self.assertEqual(volume.write_bytes(data=b"abcdef", path="/d/f", at=None), 6)
+        self.assertEqual(volume.write("/d/f", offset=2, data=b"X"), 1)
+        self.assertEqual(volume.read("/d/f", offset=1, size=3), b"bXd")
+        volume.truncate("/d/f", size=2)
+        volume.rename(new="/d/g", old="/d/f")
+        self.assertEqual(volume.listdir(path="/d"), ["g"])
+        self.assertEqual(volume.scandir("/"), [("d", True)])
+
+    def test_words_that_do_not_fit(self):
+        volume = self.volume
+        for call, words, named in [
+            (volume.mkdir, (), {}), (volume.mkdir, ("/d", 7), {}), (volume.mkdir, ("/d",), {"when": 7}),
+            (volume.mkdir, ("/d",), {"path": "/e"}), (volume.write, ("/d",), {"offset": 7}), (volume.stat, (), {}),
+            (volume.read, ("/d", 1.5), {}), (volume.read, ("/d", 1, "0"), {}), (volume.mkdir, ("/d",), {"at": "7"}),
+            (volume.listdir, ("/", 1), {}), (volume.snapshot, (7,), {}), (volume.relieve, ("all",), {}),
+            (doorvervain.Frozen, ("/",), {}), (Volume, (), {"shape": 7}), (Volume, ((16, 256, 256),), {}),
+        ]:
+            with self.subTest(call=call.__name__, words=words, named=named), self.assertRaises(TypeError):
+                call(*words, **named)
+        self.assertEqual((volume.listdir(), volume.snapshots()), ([], []))
+
+    def test_a_clock_that_tells_no_moment(self):
+        for clock, fault in [(lambda: -1, ValueError), (lambda: "noon", TypeError), (lambda: 1 // 0, ZeroDivisionError)]:
+            with self.assertRaises(fault):
+                Volume(clock=clock).create("/x")
+
+    def test_a_volume_begins_once(self):
+        with self.assertRaises(RuntimeError):
+            self.volume.__init__()
+        never = Volume.__new__(Volume)
+        self.assertTrue(never.closed)
+        never.close()
+        for call, *words in [(never.listdir,), (never.mkdir, "/d"), (never.write, "/f", b"x"), (never.freeze,), (never.relieve,)]:
+            refused(self, OSError, errno.EBADF, call, *words)
+
+    def test_a_volume_that_its_clock_holds_goes(self):
+        volume = Volume(clock=lambda: len(volume.listdir()))
+        volume.create("/x")
+        gone = weakref.ref(volume)
+        tree = volume.freeze()
+        del volume
+        gc.collect()
+        self.assertIsNone(gone())
+        self.assertEqual(tree.listdir(), ["x"])
 
 
 class Threads(unittest.TestCase):
@@ -317,6 +382,24 @@ class Threads(unittest.TestCase):
         self.assertEqual(faults, [])
         self.assertEqual(len(volume.listdir()), 9)
 
+    def test_the_lock_is_held_by_one_thread(self):
+        volume, lock, order = Volume(), Volume()._lock, []
+        with self.assertRaises(RuntimeError):
+            lock.__exit__(None, None, None)
+
+        def work():
+            volume.create("/x")
+            order.append("work")
+
+        with volume._lock, volume._lock:
+            thread = threading.Thread(target=work)
+            thread.start()
+            time.sleep(0.05)
+            order.append("held")
+            self.assertEqual(volume.listdir(), [])
+        thread.join()
+        self.assertEqual((order, volume.listdir()), (["held", "work"], ["x"]))
+
     def test_appends_of_threads_lose_nothing(self):
         volume = Volume()
 
@@ -333,16 +416,11 @@ class Threads(unittest.TestCase):
         self.assertEqual(volume.read("/log"), b"line\n" * 2_000)
 
 
-@unittest.skipUnless(HEADER.exists(), "the header is not beside these sources")
+@unittest.skipUnless(HEADER, "the header is not beside these sources")
 class Header(unittest.TestCase):
-    def test_the_numbers_and_the_release_are_those_of_the_header(self):
-        text = HEADER.read_text()
-        numbers = {name: int(number) for name, number in re.findall(r"^    DOORVERVAIN_(E\w+) = (\d+)", text, re.M)}
-        told = [None] * 14
-        for name, number in numbers.items():
-            told[number] = getattr(errno, name)
-        self.assertEqual(told[1:], doorvervain._library.ERRNO[1:])
-        self.assertIn(f'#define DOORVERVAIN_VERSION "{doorvervain.__version__}"', text)
+    def test_the_release_is_that_of_the_header(self):
+        self.assertIn(f'#define DOORVERVAIN_VERSION "{doorvervain.__version__}"', HEADER.read_text())
+        self.assertEqual(doorvervain._core.RELEASE, doorvervain.__version__)
 
 
 if __name__ == "__main__":

@@ -40,9 +40,17 @@ impl Default for Shape {
 
 /// A tree of directories and files in memory, with snapshots. It is freed when it is dropped.
 ///
-/// It may be moved to another thread (`Send`), but not be shared by two (not `Sync`):
+/// It may be moved to another thread (`Send`), as a frozen tree may:
 ///
-/// ```compile_fail
+/// ```
+/// fn moved<T: Send>() {}
+/// moved::<doorvervain::Volume>();
+/// moved::<doorvervain::Frozen>();
+/// ```
+///
+/// but not be shared by two (not `Sync`):
+///
+/// ```compile_fail,E0277
 /// fn shared<T: Sync>() {}
 /// shared::<doorvervain::Volume>();
 /// ```
@@ -64,6 +72,13 @@ pub struct Volume {
 /// assert_eq!(seen.unwrap(), Ok(true));
 /// assert_eq!(volume.exists("/x"), Ok(false));
 /// # Ok::<(), Errno>(())
+/// ```
+///
+/// Nor may two threads share it:
+///
+/// ```compile_fail,E0277
+/// fn shared<T: Sync>() {}
+/// shared::<doorvervain::Frozen>();
 /// ```
 pub struct Frozen {
     handle: FrozenHandle,

@@ -1,0 +1,50 @@
+// The module.
+#include "core.h"
+
+struct known known;
+
+// Makes a type, and puts it into the module. Null with an exception.
+static PyObject *add_type(PyObject *module, const char *name, PyType_Spec *spec, PyObject *base) {
+    PyObject *bases = base ? PyTuple_Pack(1, base) : NULL;
+    PyObject *type = !base || bases ? PyType_FromSpecWithBases(spec, bases) : NULL;
+    Py_XDECREF(bases);
+    if (type && PyObject_SetAttrString(module, name, type) == 0) return type;
+    Py_XDECREF(type);
+    return NULL;
+}
+
+// An attribute of another module. Null with an exception.
+static PyObject *imported(const char *module, const char *name) {
+    PyObject *found = PyImport_ImportModule(module);
+    PyObject *it = found ? PyObject_GetAttrString(found, name) : NULL;
+    Py_XDECREF(found);
+    return it;
+}
+
+static int add_all(PyObject *module) {
+    known.stat = imported("doorvervain._types", "Stat");
+    known.entry = imported("doorvervain._types", "Entry");
+    known.bad_image = imported("doorvervain._types", "BadImage");
+    known.time_ns = imported("time", "time_ns");
+    if (!known.stat || !known.entry || !known.bad_image || !known.time_ns) return -1;
+    known.lock = (PyTypeObject *)add_type(module, "Lock", &lock_spec, NULL);
+    PyObject *tree = known.lock ? add_type(module, "Tree", &tree_spec, NULL) : NULL;
+    if (!tree) return -1;
+    known.volume = (PyTypeObject *)add_type(module, "Volume", &volume_spec, tree);
+    PyObject *frozen = known.volume ? add_type(module, "Frozen", &frozen_spec, tree) : NULL;
+    Py_DECREF(tree);
+    Py_XDECREF(frozen);
+    return frozen ? PyModule_AddStringConstant(module, "RELEASE", DOORVERVAIN_VERSION) : -1;
+}
+
+static struct PyModuleDef module_definition = {
+    PyModuleDef_HEAD_INIT, "doorvervain._core", "Volumes and frozen trees, over the library for C.", -1, NULL, NULL, NULL,
+    NULL, NULL,
+};
+
+PyMODINIT_FUNC PyInit__core(void) {
+    PyObject *module = PyModule_Create(&module_definition);
+    if (!module || add_all(module) == 0) return module;
+    Py_DECREF(module);
+    return NULL;
+}
