@@ -53,8 +53,6 @@ int files_read_link(struct mount *mount, struct entry *entry, struct bytes *out)
 // The names of a directory, as `struct way` tells them; those of the mount's own are left out.
 int files_list(struct mount *mount, struct entry *entry, struct bytes *out);
 
-// The number of an entry, as stat(2) tells it.
-ino_t files_number(const struct entry *entry);
 // Whether a name in a directory is one of the mount's own, which no user's file has.
 bool files_is_reserved(const struct entry *parent, const char *name);
 // Whether an entry may be changed: 0 or EROFS.

@@ -5,6 +5,9 @@
 #include <stdlib.h>
 #include <string.h>
 
+// Of those that files in an image may have.
+#define MOST_NUMBER ((uint64_t)1 << 61)
+
 static const char *const paths[] = {OWN_PATH, LINKS_PATH, UNLINKED_PATH};
 
 static int change(struct mount *mount, enum change what, const char *path, uint64_t at) {
@@ -62,13 +65,13 @@ int own_end(struct mount *mount) {
     return 0;
 }
 
-// The largest number among the files with several names.
+// A file with several names has the number that it had as an entry before. No entry of this mount has one of those.
 static int find_links(struct mount *mount) {
     struct bytes names = {0};
     int fault = mount->volume.way->list(mount->volume.self, (struct place){0, LINKS_PATH}, &names);
     for (size_t at = 0; !fault && at < names.length; at += strlen(names.at + at) + 1) {
         uint64_t number = strtoull(names.at + at + 1, 0, 10);
-        if (number > mount->links && number < UINT64_MAX / 2) mount->links = number;
+        if (number < MOST_NUMBER) entries_number_above(number);
     }
     bytes_free(&names);
     return fault == ENOENT || fault == ENOTDIR ? 0 : fault;
@@ -84,11 +87,19 @@ static int refuse(const char *what) {
     return EINVAL;
 }
 
+// A file in the place of the folder; the root keeps its moment.
+static int leave_out_file(struct mount *mount) {
+    uint64_t at = 0;
+    fputs("doorvervain-mount: the image has a file " OWN_PATH ", the mount's own name: that is left out\n", stderr);
+    int fault = root_moment(mount, &at);
+    return fault ? fault : change(mount, UNLINK, OWN_PATH, at);
+}
+
 int own_start(struct mount *mount) {
     struct standing own;
     int fault = mount->volume.way->stat(mount->volume.self, (struct place){0, OWN_PATH}, &own);
     if (fault) return fault == ENOENT ? 0 : fault;
-    if (!own.is_directory) return refuse("the image has a file " OWN_PATH ", which is the mount's own name");
+    if (!own.is_directory) return leave_out_file(mount);
     if (!mount_keeps_records(mount) && (stands(mount, OWN_PATH "/tree") || stands(mount, LINKS_PATH)))
         return refuse("the image has attributes or links, which a mount with --pipe does not know");
     if (stands(mount, UNLINKED_PATH)) fputs("doorvervain-mount: the image has " UNLINKED_PATH ", which is left out\n", stderr);

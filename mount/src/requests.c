@@ -397,7 +397,7 @@ static bool put_line(struct page *page, const struct line *line) {
 static bool put_dots(struct page *page, const char *name, off_t next) {
     const struct entry *directory = page->directory;
     if (name[1] && directory->parent) directory = directory->parent;
-    struct stat stat = {.st_mode = S_IFDIR, .st_ino = files_number(directory)};
+    struct stat stat = {.st_mode = S_IFDIR, .st_ino = directory->number};
     return put_line(page, &(struct line){.name = name, .param.attr = stat, .next = next});
 }
 
@@ -410,7 +410,7 @@ static bool put_name(struct page *page, const char *name, bool is_directory, off
     if (fault == ENOENT) return true;
     if (!fault && known) fault = files_stat(mount_of(page->req), known, &found.stat);
     line.param.attr.st_mode = fault ? is_directory ? S_IFDIR : S_IFREG : found.stat.st_mode;
-    line.param.attr.st_ino = fault ? NO_NUMBER : files_number(found.entry);
+    line.param.attr.st_ino = fault ? NO_NUMBER : found.entry->number;
     if (!fault && page->tells_more) {
         line.param = told(&found);
         line.held = found.entry;
