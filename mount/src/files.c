@@ -259,7 +259,7 @@ int files_set(struct mount *mount, struct entry *entry, const struct setting *se
 
 // ---- bytes
 
-// A file that is opened to be cut loses its set-user bits. (For writes and other cuts the kernel says so itself.)
+// For writes and other cuts the kernel says so itself.
 static int drop_set_user(struct mount *mount, struct entry *entry, uint64_t at) {
     const struct attributes *attributes;
     int fault = records_of(mount, entry, &attributes);
@@ -269,12 +269,12 @@ static int drop_set_user(struct mount *mount, struct entry *entry, uint64_t at) 
     return files_set(mount, entry, &(struct setting){.mode = &mode, .at = at});
 }
 
-int files_open(struct mount *mount, struct entry *entry, int flags) {
+int files_open(struct mount *mount, struct entry *entry, int flags, bool drops) {
     bool cuts = flags & O_TRUNC;
     bool changes = cuts || (flags & O_ACCMODE) != O_RDONLY;
     uint64_t at = moment_now();
     int fault = changes ? files_may_change(entry) : 0;
-    if (!fault && cuts) fault = drop_set_user(mount, entry, at);
+    if (!fault && cuts && drops) fault = drop_set_user(mount, entry, at);
     if (!fault && cuts) fault = cut_file(mount, entry, &(struct cut){true, 0, at});
     if (!fault) entry->opens++;
     return fault;

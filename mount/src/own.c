@@ -8,6 +8,8 @@
 // Of those that files in an image may have.
 #define MOST_NUMBER ((uint64_t)1 << 61)
 
+#define TREE_PATH OWN_PATH "/tree"
+
 static const char *const paths[] = {OWN_PATH, LINKS_PATH, UNLINKED_PATH};
 
 static int change(struct mount *mount, enum change what, const char *path, uint64_t at) {
@@ -60,7 +62,7 @@ int own_end(struct mount *mount) {
     if (!fault) fault = root_moment(mount, &at);
     if (fault) return fault;
     change(mount, REMOVE_DIRECTORY, LINKS_PATH, 0);
-    change(mount, REMOVE_DIRECTORY, OWN_PATH "/tree", 0);
+    change(mount, REMOVE_DIRECTORY, TREE_PATH, 0);
     change(mount, REMOVE_DIRECTORY, OWN_PATH, at);
     return 0;
 }
@@ -87,22 +89,26 @@ static int refuse(const char *what) {
     return EINVAL;
 }
 
-// A file in the place of the folder; the root keeps its moment.
-static int leave_out_file(struct mount *mount) {
+// A file that an image has in the place of one of the folders goes. The root keeps its moment.
+static int leave_out_file(struct mount *mount, const char *path) {
+    struct standing standing;
     uint64_t at = 0;
-    fputs("doorvervain-mount: the image has a file " OWN_PATH ", the mount's own name: that is left out\n", stderr);
-    int fault = root_moment(mount, &at);
-    return fault ? fault : change(mount, UNLINK, OWN_PATH, at);
+    int fault = mount->volume.way->stat(mount->volume.self, (struct place){0, path}, &standing);
+    if (fault || standing.is_directory) return fault == ENOENT || fault == ENOTDIR ? 0 : fault;
+    fprintf(stderr, "doorvervain-mount: the image has a file %s, a name of the mount's own: it is left out\n", path);
+    fault = root_moment(mount, &at);
+    return fault ? fault : change(mount, UNLINK, path, at);
 }
 
 int own_start(struct mount *mount) {
-    struct standing own;
-    int fault = mount->volume.way->stat(mount->volume.self, (struct place){0, OWN_PATH}, &own);
-    if (fault) return fault == ENOENT ? 0 : fault;
-    if (!own.is_directory) return leave_out_file(mount);
-    if (!mount_keeps_records(mount) && (stands(mount, OWN_PATH "/tree") || stands(mount, LINKS_PATH)))
+    if (!mount_keeps_records(mount) && (stands(mount, TREE_PATH) || stands(mount, LINKS_PATH)))
         return refuse("the image has attributes or links, which a mount with --pipe does not know");
-    if (stands(mount, UNLINKED_PATH)) fputs("doorvervain-mount: the image has " UNLINKED_PATH ", which is left out\n", stderr);
+    int fault = leave_out_file(mount, OWN_PATH);
+    if (!fault) fault = leave_out_file(mount, TREE_PATH);
+    if (!fault) fault = leave_out_file(mount, LINKS_PATH);
+    if (fault) return fault;
+    if (stands(mount, UNLINKED_PATH))
+        fputs("doorvervain-mount: the image has " UNLINKED_PATH ", which is left out\n", stderr);
     fault = own_clear(mount);
     return fault ? fault : find_links(mount);
 }
