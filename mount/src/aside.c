@@ -54,12 +54,17 @@ static int set_aside(struct mount *mount, struct entry *entry, uint64_t at) {
     return fault;
 }
 
+static int take_record(struct journal *journal, struct entry *entry, const struct spot *spot) {
+    bool is_known = entry->read_in == journal->mount->state;
+    if (is_known && !entry->attributes.has_record) return 0;
+    if (entry->parent->role == OWN_FOLDER) return records_drop_one(journal, spot->path);
+    return is_known ? records_erase(journal, entry->parent, spot->path)
+                    : records_drop(journal, entry->parent, spot->path);
+}
+
 static int take_once(struct journal *journal, struct entry *entry, const struct spot *spot) {
     const struct volume *volume = &journal->mount->volume;
-    bool is_known = entry->read_in == journal->mount->state, is_own = entry->parent->role == OWN_FOLDER;
-    int fault = is_known && !entry->attributes.has_record ? 0
-                : is_own                                  ? records_drop_one(journal, spot->path)
-                                                          : records_drop(journal, entry->parent, spot->path);
+    int fault = take_record(journal, entry, spot);
     return fault ? fault : volume->way->change(volume->self, UNLINK, spot->path, journal->at);
 }
 

@@ -21,7 +21,8 @@ void aside_drop(struct aside *aside);
 // Takes a file out of the tree, with its record, and its entry.
 int aside_take(struct mount *mount, struct entry *entry, uint64_t at);
 // Takes the name of a file away that has no other. The kernel mostly forgets a file as the next thing that it asks for:
-// so one that it knows and nobody has open is only marked, and the name goes with that, or before anything else is done.
+// so one that it knows and nobody has open is only marked, and the name goes with that, or before anything else is
+// done.
 int aside_remove(struct mount *mount, struct entry *entry, uint64_t at);
 // The same where it cannot wait.
 int aside_remove_now(struct mount *mount, struct entry *entry, uint64_t at);

@@ -230,8 +230,9 @@ static int set_attributes(struct mount *mount, struct entry *entry, const struct
 // Another owner holds where records do, and all of them are believed.
 static int may_set_owner(const struct mount *mount, const struct doorvervain_attributes *told,
                          const struct setting *setting) {
-    bool changes = (setting->user && *setting->user != told->user) || (setting->group && *setting->group != told->group);
-    return changes && !(mount_keeps_records(mount) && mount->trusts) ? EPERM : 0;
+    bool changes_user = setting->user && *setting->user != told->user;
+    bool changes_group = setting->group && *setting->group != told->group;
+    return (changes_user || changes_group) && !(mount_keeps_records(mount) && mount->trusts) ? EPERM : 0;
 }
 
 int files_set(struct mount *mount, struct entry *entry, const struct setting *setting) {

@@ -85,13 +85,32 @@ int journal_park(struct journal *journal, const char *path) {
     return fault == ENOENT || fault == ENOTDIR ? 0 : fault;
 }
 
+int journal_erase(struct journal *journal, const char *folder, const char *file) {
+    const struct volume *volume = &journal->mount->volume;
+    struct undo *undo = note(journal, BY_REMAKING, file, journal->at);
+    int fault = undo ? read_whole(volume, file, &undo->text) : ENOMEM;
+    if (!fault) fault = volume->way->change(volume->self, REMOVE_TREE, folder, journal->at);
+    if (fault) {
+        if (undo) bytes_free(&undo->text);
+        return fault;
+    }
+    strcpy(undo->back, folder);
+    journal->count++;
+    return 0;
+}
+
+static void remake(const struct volume *volume, const struct undo *undo) {
+    volume->way->change(volume->self, MAKE_DIRECTORY, undo->back, undo->at);
+    volume->way->change(volume->self, CREATE, undo->path, undo->at);
+    replace(volume, undo->path, undo->text.at, undo->text.length, 0, undo->at);
+}
+
 static void undo_one(const struct volume *volume, const struct undo *undo) {
     switch (undo->how) {
     case BY_RENAME: volume->way->rename(volume->self, undo->path, undo->back, undo->at); break;
     case BY_REMOVAL: volume->way->change(volume->self, REMOVE_TREE, undo->path, undo->at); break;
-    case BY_TEXT:
-        replace(volume, undo->path, undo->text.at, undo->text.length, SIZE_MAX, undo->at);
-        break;
+    case BY_TEXT: replace(volume, undo->path, undo->text.at, undo->text.length, SIZE_MAX, undo->at); break;
+    case BY_REMAKING: remake(volume, undo); break;
     }
 }
 
@@ -108,7 +127,7 @@ static void prune(const struct volume *volume, char *path, uint64_t at) {
 
 static void finish_one(const struct volume *volume, struct undo *undo, uint64_t at) {
     if (undo->is_parked) volume->way->change(volume->self, REMOVE_TREE, undo->path, at);
-    if (undo->how == BY_RENAME) prune(volume, undo->back, at);
+    if (undo->how == BY_RENAME || undo->how == BY_REMAKING) prune(volume, undo->back, at);
 }
 
 int journal_end(struct journal *journal, int fault) {

@@ -6,15 +6,15 @@
 
 enum { MOST_UNDONE = 24 };
 
-enum undoing { BY_RENAME, BY_REMOVAL, BY_TEXT };
+enum undoing { BY_RENAME, BY_REMOVAL, BY_TEXT, BY_REMAKING };
 
 struct undo {
     enum undoing how;
     bool is_parked; // it goes where the request is done
     uint64_t at;    // the moment at which it is undone, so that folders keep theirs
     char path[LONGEST_PATH + 1];
-    char back[LONGEST_PATH + 1]; // where it was; of a rename
-    struct bytes text;           // what it had; of a text
+    char back[LONGEST_PATH + 1]; // where it was; of a file that went with its folder, the folder
+    struct bytes text;           // what it had
 };
 
 struct journal {
@@ -33,6 +33,8 @@ int journal_rename(struct journal *journal, const char *from, const char *to, ui
 int journal_write(struct journal *journal, const char *path, const char *text, size_t length);
 // Takes what stands at a path of the mount's own away, and nothing where nothing stands.
 int journal_park(struct journal *journal, const char *path);
+// Takes a folder of the mount's own away that has one small file: faster than to park it. ENOENT where it has none.
+int journal_erase(struct journal *journal, const char *folder, const char *file);
 // Ends a request with its fault: where there is one, all is undone. Folders for records that are empty then go.
 int journal_end(struct journal *journal, int fault);
 #endif

@@ -60,7 +60,8 @@ static int write_name(struct journal *journal, const char *path, uint64_t number
     return records_write(journal, path, &name, 0);
 }
 
-// The file goes to a place of its own, and what its only name was leads there. The folder of that name keeps its moment.
+// The file goes to a place of its own, and what its only name was leads there. The folder of that name keeps its
+// moment.
 static int give_place(struct journal *journal, struct entry *entry, uint64_t number, struct attributes *attributes) {
     struct mount *mount = journal->mount;
     struct own_path path = own_link(number);

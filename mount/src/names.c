@@ -60,8 +60,9 @@ static int make(struct mount *mount, struct entry *parent, const char *name, con
 static int may_make(struct mount *mount, const struct entry *parent, const char *name, const struct novelty *novelty,
                     struct spot *spot) {
     uint8_t kind = novelty->told.kind;
+    bool is_usual = kind == DOORVERVAIN_DIRECTORY || kind == DOORVERVAIN_FILE;
     int fault = files_may_change_name(parent, name);
-    if (!fault && !mount_keeps_records(mount) && kind != DOORVERVAIN_DIRECTORY && kind != DOORVERVAIN_FILE) fault = EPERM;
+    if (!fault && !is_usual && !mount_keeps_records(mount)) fault = EPERM;
     if (!fault) fault = entry_spot(parent, name, spot);
     return fault ? fault : records_allow(mount, spot->path);
 }

@@ -294,6 +294,13 @@ int records_drop(struct journal *journal, struct entry *parent, const char *path
     return fault == ENAMETOOLONG ? 0 : fault ? fault : journal_park(journal, folder);
 }
 
+int records_erase(struct journal *journal, struct entry *parent, const char *path) {
+    struct place_of_record place;
+    int fault = find_place(journal->mount, path, &place);
+    if (!fault) fault = journal_erase(journal, place.folder, place.file);
+    return fault && fault != ENOMEM ? records_drop(journal, parent, path) : fault;
+}
+
 static int move_folder(struct journal *journal, const char *from, const char *to) {
     const struct volume *volume = &journal->mount->volume;
     struct standing standing;

@@ -32,7 +32,8 @@ void records_remember(struct mount *mount, struct entry *entry, const struct att
 
 // Writes a record, or takes it away where the attributes are the usual ones. What `attributes` says of a record is then
 // right.
-int records_write(struct journal *journal, const char *path, struct attributes *attributes, const struct bytes *extended);
+int records_write(struct journal *journal, const char *path, struct attributes *attributes,
+                  const struct bytes *extended);
 // The record that an entry has, with its extended attributes, gets other attributes.
 int records_rewrite(struct journal *journal, struct entry *entry, struct attributes *attributes);
 // Moves the records of a path and of all below it to another path, where none stand then but these.
@@ -40,6 +41,8 @@ int records_move(struct journal *journal, struct entry *parent, const char *from
                  const char *to);
 // Takes the records of a path and of all below it away.
 int records_drop(struct journal *journal, struct entry *parent, const char *path);
+// The same for a file of one name that has a record.
+int records_erase(struct journal *journal, struct entry *parent, const char *path);
 // Takes the record alone of a path away.
 int records_drop_one(struct journal *journal, const char *path);
 // Moves the record alone of a path, to that of a path of the mount's own.
