@@ -7,7 +7,8 @@ import subprocess
 import time
 from pathlib import Path
 
-from own_mount import MOUNT, Mount, case, refused, run_cases
+from cases import refused
+from own_mount import MOUNT, Mount, case, run_cases
 
 
 @case

@@ -19,15 +19,6 @@ def case(run: Callable[[Path], None]) -> Callable[[Path], None]:
     return run
 
 
-def refused(number: int, call, *words, **named) -> None:
-    try:
-        call(*words, **named)
-    except OSError as fault:
-        assert fault.errno == number, fault
-    else:
-        raise AssertionError(f"not refused: {words}")
-
-
 class Mount:
     """It is tried to mount on a folder; `stands` says whether that was done."""
 

@@ -1,4 +1,4 @@
-"""Functions of Python's `os` in the folder that it is started in. What fails is printed, and is the status."""
+"""Functions of Python's `os` in the folder that it is started in."""
 import ctypes
 import errno
 import fcntl
@@ -12,33 +12,8 @@ import sys
 import tempfile
 import threading
 import traceback
-from collections.abc import Callable
 
-CASES: list[Callable[[], None]] = []
-
-
-def case(run: Callable[[], None]) -> Callable[[], None]:
-    CASES.append(run)
-    return run
-
-
-def put(path, data: bytes) -> None:
-    with open(path, "wb") as file:
-        file.write(data)
-
-
-def get(path) -> bytes:
-    with open(path, "rb") as file:
-        return file.read()
-
-
-def refused(number: int, call, *words, **named) -> None:
-    try:
-        call(*words, **named)
-    except OSError as fault:
-        assert fault.errno == number, f"{errno.errorcode[fault.errno]}, not {errno.errorcode[number]}"
-    else:
-        raise AssertionError(f"not refused: {words}")
+from cases import case, get, put, refused, run_cases
 
 
 @case
@@ -393,29 +368,4 @@ def four_threads_beside_a_shadow():
     assert not faults, faults[0]
 
 
-def failed(run: Callable[[], None], top: str) -> bool:
-    folder = os.path.join(top, run.__name__)
-    os.mkdir(folder)
-    os.chdir(folder)
-    try:
-        run()
-        os.chdir(top)
-        shutil.rmtree(folder)
-    except BaseException:
-        print("failed:", run.__name__)
-        traceback.print_exc(file=sys.stdout)
-        os.chdir(top)
-        return True
-    return False
-
-
-def main() -> int:
-    top = os.getcwd()
-    wrong = sum(failed(run, top) for run in CASES)
-    if os.listdir(top):
-        print("left:", os.listdir(top))
-    print(f"{len(CASES) - wrong} of {len(CASES)} cases work")
-    return 1 if wrong else 0
-
-
-sys.exit(main())
+run_cases()

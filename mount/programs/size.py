@@ -3,7 +3,8 @@ import errno
 import os
 from pathlib import Path
 
-from own_mount import Mount, case, refused, run_cases
+from cases import refused
+from own_mount import Mount, case, run_cases
 
 SIZE, PIECE = 64 << 20, os.urandom(1 << 20)
 
