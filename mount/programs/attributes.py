@@ -370,8 +370,9 @@ def temporary_files_without_a_name():
 @mount_case
 def access_control_lists():
     put("file")
-    version_and_entry = b"\x02\0\0\0" + b"\x01\0\x06\0\xff\xff\xff\xff"
-    refused(errno.EOPNOTSUPP, os.setxattr, "file", "system.posix_acl_access", version_and_entry)
+    user, group, other = (b"%c\0%c\0\xff\xff\xff\xff" % (tag, 6) for tag in (1, 4, 32))
+    value = b"\x02\0\0\0" + user + group + other
+    refused(errno.EOPNOTSUPP, os.setxattr, "file", "system.posix_acl_access", value)
     refused(errno.EOPNOTSUPP, os.getxattr, "file", "system.posix_acl_access")
 
 
