@@ -74,7 +74,8 @@ class Side:
         os.rmdir(self.at(path))
 
     def remove_tree(self, path: bytes):
-        shutil.rmtree(self.at(path), ignore_errors=True)
+        if os.path.isdir(self.at(path)) and not os.path.islink(self.at(path)):
+            shutil.rmtree(self.at(path))
 
     def rename(self, path: bytes, to: bytes):
         os.rename(self.at(path), self.at(to))
@@ -188,12 +189,11 @@ class Calls:
     """Calls that look random: a method of a side, and its arguments."""
 
     def __init__(self, seed: int):
-        self.chance = random.Random(seed)
+        self.chance, self.paths = random.Random(seed), [b"a"]
         self.kinds = {name.removeprefix("draw_"): getattr(self, name) for name in dir(self) if name.startswith("draw_")}
-        often = ("make", "write", "rename", "link", "unlink", "chmod", "mkdir", "symlink", "hold", "held_write", "set_extended")
+        often = ("make", "write", "rename", "link", "chmod", "mkdir", "symlink", "hold", "held_write", "set_extended")
         self.bag = [*self.kinds, *often * 3] + (["snapshot", "restore"] if MNT else [])
-        for rare in ("remove_tree",):
-            self.bag = [kind for kind in self.bag for _ in range(1 if kind == rare else 4)]
+        self.bag = [kind for kind in self.bag for _ in range(1 if kind == "remove_tree" else 8)]
 
     def next(self):
         kind = self.chance.choice(self.bag)
@@ -202,7 +202,11 @@ class Calls:
         return kind, *self.kinds[kind]()
 
     def path(self) -> bytes:
-        return b"/".join(self.chance.choices(NAMES, k=self.chance.choice((1, 1, 2, 2, 2, 3))))
+        """Mostly one of those that calls were about last."""
+        if self.chance.random() < 0.65:
+            return self.chance.choice(self.paths)
+        self.paths = [*self.paths[-25:], b"/".join(self.chance.choices(NAMES, k=self.chance.choice((1, 1, 2, 2, 3))))]
+        return self.paths[-1]
 
     def mode(self) -> int:
         return self.chance.choice((0o644, 0o755, 0o600, 0o4755, 0o2770, 0o1777, 0o7777, 0o400)) | 0o400
@@ -319,8 +323,8 @@ def main() -> None:
             sides = [Side(Path(judged).absolute(), bool(MNT)), Side(Path(plain), False)]
             calls += run(seed, sides)
             for side in sides:
-                for name in [*range(SLOTS)]:
-                    side.let_go(name)
+                for slot in range(SLOTS):
+                    side.let_go(slot)
                 for name in map(str, range(SNAPSHOTS)):
                     side.drop(name)
     print(f"{calls} calls were done alike, with seeds {seeds[0]} to {seed}")
