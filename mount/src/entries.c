@@ -6,6 +6,7 @@
 
 static struct entry **slots;
 static size_t slot_count, entry_count;
+static uint64_t numbers; // of entries that there ever were
 static struct timespec began;
 
 enum { NANOSECONDS = 1000000000 };
@@ -24,6 +25,14 @@ uint64_t moment_now(void) {
 struct timespec time_of(uint64_t moment) {
     if (!moment) return began;
     return (struct timespec){.tv_sec = (time_t)(moment / NANOSECONDS), .tv_nsec = (long)(moment % NANOSECONDS)};
+}
+
+uint64_t moment_of(struct timespec time) {
+    uint64_t moment;
+    if (time.tv_sec < 0) return 0;
+    bool is_late = __builtin_mul_overflow((uint64_t)time.tv_sec, NANOSECONDS, &moment) ||
+                   __builtin_add_overflow(moment, (uint64_t)time.tv_nsec, &moment);
+    return is_late ? UINT64_MAX : moment;
 }
 
 static size_t slot_of(const struct entry *parent, const char *name) {
@@ -76,11 +85,6 @@ static void link_out(struct entry *entry) {
     entry->parent = 0;
 }
 
-static struct attributes default_attributes(bool is_directory) {
-    return (struct attributes){
-        .mode = is_directory ? 0755 : 0644, .user = getuid(), .group = getgid(), .access = began};
-}
-
 static struct entry *new_entry(char *name, bool is_directory) {
     struct entry *entry = name ? calloc(1, sizeof *entry) : 0;
     if (!entry) {
@@ -89,7 +93,7 @@ static struct entry *new_entry(char *name, bool is_directory) {
     }
     entry->name = name;
     entry->is_directory = is_directory;
-    entry->attributes = default_attributes(is_directory);
+    entry->number = ++numbers;
     return entry;
 }
 
@@ -118,29 +122,28 @@ struct entry *entries_start(void) {
     slots = calloc(slot_count, sizeof(*slots));
     struct entry *root = slots ? new_entry(strdup(""), true) : 0;
     struct entry *snapshots = root ? entry_add(root, SNAPSHOTS, true) : 0;
-    struct entry *unlinked = root ? entry_add(root, UNLINKED, true) : 0;
-    if (!snapshots || !unlinked) return 0;
+    if (!snapshots) return 0;
     root->role = LIVE_ROOT;
     snapshots->role = SNAPSHOT_FOLDER;
-    unlinked->role = UNLINKED_FOLDER;
     return root;
 }
 
-static void free_attributes(struct attribute *attribute) {
-    while (attribute) {
-        struct attribute *next = attribute->next;
-        free(attribute->name);
-        free(attribute->value);
-        free(attribute);
-        attribute = next;
-    }
+static struct entry *own_folder(struct entry *parent, const char *name) {
+    struct entry *folder = entry_find_or_add(parent, name, true);
+    if (folder) folder->role = OWN_FOLDER;
+    return folder;
+}
+
+struct entry *entry_own_folder(struct entry *entry, const char *name) {
+    struct entry *reserved = own_folder((struct entry *)entry_root(entry), RESERVED);
+    return reserved ? own_folder(reserved, name) : 0;
 }
 
 bool entry_is_held(const struct entry *entry) { return entry->lookups || entry->opens; }
 
-void entry_free_if_unheld(struct entry *entry) {
+// Frees an entry that is out of the tree.
+static void free_out(struct entry *entry) {
     if (entry->parent || entry_is_held(entry) || entry->role == LIVE_ROOT) return;
-    free_attributes(entry->attributes.extended);
     free(entry->name);
     free(entry);
     entry_count--;
@@ -149,7 +152,35 @@ void entry_free_if_unheld(struct entry *entry) {
 void entry_take_out(struct entry *entry) {
     while (entry->first) entry_take_out(entry->first);
     link_out(entry);
-    entry_free_if_unheld(entry);
+    free_out(entry);
+}
+
+static bool may_go(const struct entry *entry) {
+    return entry->role == ORDINARY && !entry->first && !entry->stays && !entry_is_held(entry);
+}
+
+// Frees what nobody holds below an entry.
+static void free_below(struct entry *entry) {
+    for (struct entry *child = entry->first, *next; child; child = next) {
+        next = child->after;
+        if (entry_is_held(child)) continue;
+        free_below(child);
+        if (may_go(child)) entry_take_out(child);
+    }
+}
+
+void entry_let_go(struct entry *entry) {
+    if (entry_is_held(entry)) return;
+    if (!entry->parent) {
+        free_out(entry);
+        return;
+    }
+    free_below(entry);
+    while (entry->parent && may_go(entry)) {
+        struct entry *parent = entry->parent;
+        entry_take_out(entry);
+        entry = parent;
+    }
 }
 
 void entry_move(struct entry *entry, struct entry *parent, char *name) {
@@ -184,89 +215,12 @@ int entry_spot(const struct entry *entry, const char *name, struct spot *spot) {
     return *spot->path ? 0 : put_in_front(spot, "");
 }
 
+const struct entry *entry_root(const struct entry *entry) {
+    while (entry && (entry->role == ORDINARY || entry->role == OWN_FOLDER)) entry = entry->parent;
+    return entry;
+}
+
 bool entry_is_live(const struct entry *entry) {
-    while (entry->role == ORDINARY && entry->parent) entry = entry->parent;
-    return entry->role == LIVE_ROOT;
-}
-
-static int copy_attributes(const struct entry *from, struct entry *to) {
-    int fault = 0;
-    free_attributes(to->attributes.extended);
-    to->attributes = from->attributes;
-    to->attributes.extended = 0;
-    for (struct attribute *a = from->attributes.extended; a && !fault; a = a->next)
-        fault = attribute_set(to, a->name, a->value, a->length);
-    to->attributes.change = from->attributes.change;
-    return fault;
-}
-
-static void reset_attributes(struct entry *entry) {
-    free_attributes(entry->attributes.extended);
-    entry->attributes = default_attributes(entry->is_directory);
-    for (struct entry *child = entry->first; child; child = child->after) reset_attributes(child);
-}
-
-// What was first seen after the others were kept had the usual attributes when they were.
-static void reset_later(const struct entry *from, struct entry *to) {
-    for (struct entry *child = to->first; child; child = child->after)
-        if (child->role == ORDINARY && !entry_find(from, child->name)) reset_attributes(child);
-}
-
-int entries_copy(const struct entry *from, struct entry *to) {
-    int fault = copy_attributes(from, to);
-    reset_later(from, to);
-    for (struct entry *child = from->first; child && !fault; child = child->after) {
-        if (child->role != ORDINARY) continue;
-        struct entry *other = entry_find_or_add(to, child->name, child->is_directory);
-        fault = other ? entries_copy(child, other) : ENOMEM;
-    }
-    return fault;
-}
-
-struct attribute *attribute_find(const struct entry *entry, const char *name) {
-    struct attribute *attribute = entry->attributes.extended;
-    while (attribute && strcmp(attribute->name, name)) attribute = attribute->next;
-    return attribute;
-}
-
-static struct attribute *attribute_add(struct entry *entry, const char *name) {
-    struct attribute *attribute = calloc(1, sizeof *attribute);
-    char *copy = strdup(name);
-    if (!attribute || !copy) {
-        free(attribute);
-        free(copy);
-        return 0;
-    }
-    attribute->name = copy;
-    attribute->next = entry->attributes.extended;
-    entry->attributes.extended = attribute;
-    return attribute;
-}
-
-int attribute_set(struct entry *entry, const char *name, const char *value, size_t length) {
-    char *copy = malloc(length + 1);
-    struct attribute *attribute = attribute_find(entry, name);
-    if (copy && !attribute) attribute = attribute_add(entry, name);
-    if (!copy || !attribute) {
-        free(copy);
-        return ENOMEM;
-    }
-    if (length) memcpy(copy, value, length);
-    free(attribute->value);
-    attribute->value = copy;
-    attribute->length = length;
-    entry->attributes.change = now();
-    return 0;
-}
-
-int attribute_remove(struct entry *entry, const char *name) {
-    struct attribute **at = &entry->attributes.extended;
-    while (*at && strcmp((*at)->name, name)) at = &(*at)->next;
-    struct attribute *gone = *at;
-    if (!gone) return ENODATA;
-    *at = gone->next;
-    gone->next = 0;
-    free_attributes(gone);
-    entry->attributes.change = now();
-    return 0;
+    const struct entry *root = entry_root(entry);
+    return root && root->role == LIVE_ROOT;
 }

@@ -109,7 +109,8 @@ static int library_list(void *self, struct place at, struct bytes *out) {
     while (!fault) {
         fault = bytes_reserve(out, size);
         if (!fault) fault = doorvervain_errno(list_once(library, at, out, &size));
-        if (fault || size <= out->room - out->length) break;
+        if (size <= out->room - out->length) break;
+        fault = 0; // There was too little room, and now it is known how much is wanted.
     }
     if (!fault) out->length += size;
     return fault;
@@ -121,6 +122,22 @@ static int library_keep(void *self, enum keeping what, const char *snapshot) {
     struct library *library = self;
     if (what == DROP_SNAPSHOT && !strcmp(library->snapshot, snapshot)) forget_tree(library);
     return done(library, calls[what](&library->volume, text(snapshot), strlen(snapshot)));
+}
+
+static int library_punch(void *self, const char *path, uint64_t offset, uint64_t count, uint64_t at) {
+    struct library *library = self;
+    return done(library, doorvervain_punch(&library->volume, text(path), strlen(path), offset, count, at));
+}
+
+static int library_data(void *self, struct place at, uint64_t offset, struct run *out) {
+    struct library *library = self;
+    size_t length = strlen(at.path);
+    int fault = at.snapshot ? look_into(library, at.snapshot) : 0;
+    if (fault) return fault;
+    if (at.snapshot)
+        return doorvervain_errno(
+            doorvervain_frozen_data(&library->tree, text(at.path), length, offset, &out->from, &out->to));
+    return doorvervain_errno(doorvervain_data(&library->volume, text(at.path), length, offset, &out->from, &out->to));
 }
 
 // The image of a tree that stands still; it takes as many bytes as `size` says.
@@ -158,9 +175,12 @@ static int library_close(void *self, struct image *image) {
 }
 
 static const struct way library_way = {
-    library_change, library_rename, library_truncate, library_write, library_read,
-    library_stat,   library_list,   library_keep,     library_relieve, library_close,
+    library_change, library_rename, library_truncate, library_write, library_read,    library_stat,
+    library_list,   library_keep,   library_punch,    library_data,  library_relieve, library_close,
 };
+
+static const struct record_form records = {doorvervain_mirror, doorvervain_record_path, doorvervain_record_print,
+                                           doorvervain_record_parse};
 
 static int open_empty(struct library *library) {
     int fault = doorvervain_errno(doorvervain_open(&library->volume, FANOUT, PENDING, LEAF));
@@ -185,7 +205,7 @@ int open_library(const struct making *making, struct volume *out) {
     struct library *library = calloc(1, sizeof *library);
     if (!library) return ENOMEM;
     library->steps = making->steps;
-    *out = (struct volume){&library_way, library};
+    *out = (struct volume){&library_way, library, &records};
     int fault = making->image ? load(library, making->image) : open_empty(library);
     if (fault) free(library);
     return fault;

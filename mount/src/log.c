@@ -118,6 +118,41 @@ static int log_keep(void *self, enum keeping what, const char *snapshot) {
     return tell_done(log, log->over.way->keep(log->over.self, what, snapshot));
 }
 
+// Zeros stand for a hole: over each run that was stored, and over one byte where none was.
+static int log_zeros(struct log *log, const char *path, uint64_t offset, uint64_t end) {
+    static const char zeros[LARGEST_LINE_WRITE];
+    struct run run = {offset, offset};
+    bool is_told = false;
+    for (uint64_t from = offset; from < end; from = run.to) {
+        int fault = log->over.way->data(log->over.self, (struct place){0, path}, from, &run);
+        if (fault) return fault;
+        if (run.from >= end || run.from == run.to) break;
+        uint64_t to = run.to < end ? run.to : end;
+        for (uint64_t at = run.from; at < to; at += LARGEST_LINE_WRITE)
+            tell_write(log, path, at, zeros, to - at < LARGEST_LINE_WRITE ? to - at : LARGEST_LINE_WRITE);
+        is_told = true;
+    }
+    if (!is_told) tell_write(log, path, offset, zeros, 1);
+    return 0;
+}
+
+static int log_punch(void *self, const char *path, uint64_t offset, uint64_t count, uint64_t at) {
+    struct log *log = self;
+    struct standing standing;
+    int fault = log->over.way->stat(log->over.self, (struct place){0, path}, &standing);
+    if (!fault && offset < standing.length) {
+        tell_moment(log, at);
+        fault = log_zeros(log, path, offset, count < standing.length - offset ? offset + count : standing.length);
+    }
+    return fault ? fault : log->over.way->punch(log->over.self, path, offset, count, at);
+}
+
+// No line of a script asks for it.
+static int log_data(void *self, struct place at, uint64_t offset, struct run *out) {
+    struct log *log = self;
+    return log->over.way->data(log->over.self, at, offset, out);
+}
+
 static unsigned log_relieve(void *self, unsigned steps) {
     struct log *log = self;
     return log->over.way->relieve(log->over.self, steps);
@@ -134,7 +169,8 @@ static int log_close(void *self, struct image *image) {
 }
 
 static const struct way log_way = {
-    log_change, log_rename, log_truncate, log_write, log_read, log_stat, log_list, log_keep, log_relieve, log_close,
+    log_change, log_rename, log_truncate, log_write, log_read,    log_stat,
+    log_list,   log_keep,   log_punch,    log_data,  log_relieve, log_close,
 };
 
 // The bytes of files that only their owner may read go into a log: so may it only be read.
@@ -162,7 +198,7 @@ int open_log(const struct making *making, struct volume *volume) {
     log->calls = open_part(making->log, ".in");
     log->replies = log->calls ? open_part(making->log, ".out") : 0;
     if (log->replies) {
-        *volume = (struct volume){&log_way, log};
+        *volume = (struct volume){&log_way, log, log->over.records};
         return 0;
     }
     fprintf(stderr, "doorvervain-mount: %s.in and %s.out cannot be written\n", making->log, making->log);

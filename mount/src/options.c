@@ -4,6 +4,7 @@
 #include <stdio.h>
 #include <stdlib.h>
 #include <string.h>
+#include <unistd.h>
 
 static const char help[] =
     "Mounts a file system in memory, whose calls are those of Doorvervain.\n"
@@ -19,14 +20,15 @@ static const char help[] =
     "                  for removals. Not with --pipe\n"
     "  --log NAME      puts every call in NAME.in, as a script, and every reply in NAME.out\n"
     "  --steps N       does N tree steps after each call that changes something, 0 to 1000 (4)\n"
+    "  --trust         lets owners, set-user bits and devices of the tree hold, also those of a FILE that is loaded; for\n"
+    "                  root alone\n"
     "  --allow-other   lets other users in, by the modes of files\n"
     "  --foreground    does not go into the background\n"
     "  --help          prints this\n"
     "\n"
     "mkdir MNT/.snapshots/NAME takes a snapshot, and rmdir of that folder drops it. What is below it is read-only.\n"
-    "No listing of MNT shows .snapshots. Links, symbolic links, fifos, sockets and devices are refused.\n"
-    "The tree lives in memory: what no image keeps is gone with the mount. An image has the time of last change of each\n"
-    "entry, and no modes, owners, other times and extended attributes.\n";
+    "No listing of MNT shows .snapshots. The tree lives in memory: what no image keeps is gone with the mount. An image\n"
+    "has modes, owners, links and extended attributes too, but for those of a mount with --pipe, which keeps none.\n";
 
 void print_help(void) { fputs(help, stdout); }
 
@@ -36,7 +38,8 @@ static const struct option known[] = {
     {"steps", required_argument, 0, 's'}, {"restore", required_argument, 0, 'r'},
     {"size", required_argument, 0, 'z'},  {"unmount", no_argument, 0, 'u'},
     {"allow-other", no_argument, 0, 'a'}, {"foreground", no_argument, 0, 'f'},
-    {"help", no_argument, 0, 'h'},        {0},
+    {"trust", no_argument, 0, 't'},       {"help", no_argument, 0, 'h'},
+    {0},
 };
 
 static int refuse(const char *text, const char *word) {
@@ -86,6 +89,7 @@ static int read_option(int letter, struct options *out) {
     case 'z': return read_size(optarg, &out->size);
     case 'u': out->unmounts = true; return 0;
     case 'a': out->allows_other = true; return 0;
+    case 't': out->trusts = true; return 0;
     case 'f': out->stays = true; return 0;
     case 'h': out->helps = true; return 0;
     default: return 2;
@@ -99,6 +103,7 @@ int read_options(int count, char **words, struct options *out) {
     if (fault || out->helps) return fault;
     if (optind + 1 != count) return refuse("one folder to mount on is wanted", "");
     if (out->size && out->making.betr) return refuse("--size does not go with --pipe", "");
+    if (out->trusts && geteuid()) return refuse("--trust is for root", "");
     out->mount_point = words[optind];
     return 0;
 }

@@ -12,6 +12,7 @@ struct options {
     bool unmounts;       // takes a mount away, and waits for its end
     bool stays;          // in the foreground
     bool allows_other;   // users may go in
+    bool trusts;         // owners, set-user bits and devices of records hold
     bool helps;
 };
 

@@ -128,6 +128,20 @@ static int pipe_keep(void *self, enum keeping what, const char *snapshot) {
     return ask_for(self, script_keep(fresh_line(self), what, snapshot));
 }
 
+// No line of a script makes a hole.
+static int pipe_punch(void *self, const char *path, uint64_t offset, uint64_t count, uint64_t at) {
+    (void)self, (void)path, (void)offset, (void)count, (void)at;
+    return EOPNOTSUPP;
+}
+
+// Nor does one tell of any: all bytes of a file count as stored.
+static int pipe_data(void *self, struct place at, uint64_t offset, struct run *out) {
+    struct standing standing;
+    int fault = pipe_stat(self, at, &standing);
+    if (!fault) *out = (struct run){offset < standing.length ? offset : standing.length, standing.length};
+    return fault;
+}
+
 // `betr` does its steps by itself.
 static unsigned pipe_relieve(void *self, unsigned steps) {
     (void)self, (void)steps;
@@ -162,8 +176,8 @@ static int pipe_close(void *self, struct image *image) {
 }
 
 static const struct way pipe_way = {
-    pipe_change, pipe_rename, pipe_truncate, pipe_write,   pipe_read,
-    pipe_stat,   pipe_list,   pipe_keep,     pipe_relieve, pipe_close,
+    pipe_change, pipe_rename, pipe_truncate, pipe_write, pipe_read,    pipe_stat,
+    pipe_list,   pipe_keep,   pipe_punch,    pipe_data,  pipe_relieve, pipe_close,
 };
 
 // In a group of its own, so that a signal of the terminal ends the mount alone, which then asks for the image.
@@ -203,7 +217,7 @@ int open_pipe(const struct making *making, struct volume *out) {
     int fault = start(making, pipe);
     // The program has come to its first line: its command line, and the image that it loads, are well.
     if (!fault) fault = pipe_stat(pipe, (struct place){0, "/"}, &root);
-    *out = (struct volume){&pipe_way, pipe};
+    *out = (struct volume){&pipe_way, pipe, 0};
     if (!fault) return 0;
     fprintf(stderr, "doorvervain-mount: %s does not answer: %s\n", making->betr, strerror(fault));
     if (pipe->child > 0) pipe_close(pipe, 0);

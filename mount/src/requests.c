@@ -5,7 +5,12 @@
 // keeps them; where a snapshot is restored, it is told to forget. The bytes of a file are asked for anew when it is
 // opened.
 #include "requests.h"
+#include "aside.h"
 #include "ending.h"
+#include "extended.h"
+#include "holes.h"
+#include "links.h"
+#include "names.h"
 #include "room.h"
 #include "snapshots.h"
 #include <errno.h>
@@ -48,14 +53,14 @@ static struct fuse_entry_param told(const struct found *found) {
 // Takes the lock. An unlinked file that the kernel knows still goes out of the way.
 static int begin(fuse_req_t req) {
     pthread_mutex_lock(&lock);
-    return files_settle(mount_of(req));
+    return aside_settle(mount_of(req));
 }
 
 // The same for a request that is about the bytes of one file alone.
 static int begin_bytes(fuse_req_t req, fuse_ino_t number) {
     pthread_mutex_lock(&lock);
     bool is_leaving = mount_of(req)->leaving && mount_of(req)->leaving == entry_of(req, number);
-    return is_leaving ? files_settle(mount_of(req)) : 0;
+    return is_leaving ? aside_settle(mount_of(req)) : 0;
 }
 
 // Under the lock: an answer that names an entry is one more that the kernel holds.
@@ -86,7 +91,7 @@ static void on_lookup(fuse_req_t req, fuse_ino_t parent, const char *name) {
 
 static void on_forget(fuse_req_t req, fuse_ino_t number, uint64_t lookups) {
     pthread_mutex_lock(&lock);
-    if (number != FUSE_ROOT_ID) files_forget(mount_of(req), entry_of(req, number), lookups);
+    if (number != FUSE_ROOT_ID) aside_forget(mount_of(req), entry_of(req, number), lookups);
     pthread_mutex_unlock(&lock);
     fuse_reply_none(req);
 }
@@ -95,7 +100,7 @@ static void on_forget_many(fuse_req_t req, size_t count, struct fuse_forget_data
     pthread_mutex_lock(&lock);
     for (size_t i = 0; i < count; i++)
         if (forgets[i].ino != FUSE_ROOT_ID)
-            files_forget(mount_of(req), entry_of(req, forgets[i].ino), forgets[i].nlookup);
+            aside_forget(mount_of(req), entry_of(req, forgets[i].ino), forgets[i].nlookup);
     pthread_mutex_unlock(&lock);
     fuse_reply_none(req);
 }
@@ -130,6 +135,7 @@ static void on_setattr(fuse_req_t req, fuse_ino_t number, struct stat *wanted, i
         .modify = which & FUSE_SET_ATTR_MTIME_NOW ? &time
                   : which & FUSE_SET_ATTR_MTIME   ? &wanted->st_mtim
                                                   : 0,
+        .modifies_now = which & FUSE_SET_ATTR_MTIME_NOW,
     };
     struct stat stat;
     (void)info;
@@ -140,16 +146,29 @@ static void on_setattr(fuse_req_t req, fuse_ino_t number, struct stat *wanted, i
     answer_stat(req, fault, &stat);
 }
 
-static struct attributes fresh_attributes(fuse_req_t req, mode_t mode) {
-    const struct fuse_ctx *asks = fuse_req_ctx(req);
-    return (struct attributes){.mode = mode & 07777, .user = asks->uid, .group = asks->gid};
+static uint8_t kind_of(mode_t mode) {
+    switch (mode & S_IFMT) {
+    case S_IFDIR: return DOORVERVAIN_DIRECTORY;
+    case S_IFLNK: return DOORVERVAIN_SYMBOLIC_LINK;
+    case S_IFIFO: return DOORVERVAIN_FIFO;
+    case S_IFSOCK: return DOORVERVAIN_SOCKET;
+    case S_IFCHR: return DOORVERVAIN_CHARACTER_DEVICE;
+    case S_IFBLK: return DOORVERVAIN_BLOCK_DEVICE;
+    default: return DOORVERVAIN_FILE;
+    }
 }
 
-static void make(fuse_req_t req, fuse_ino_t parent, const char *name, mode_t mode, bool is_directory) {
-    struct attributes attributes = fresh_attributes(req, mode);
+// What a request makes is its user's.
+static struct novelty novelty_of(fuse_req_t req, mode_t mode) {
+    const struct fuse_ctx *asks = fuse_req_ctx(req);
+    return (struct novelty){
+        .told = {.kind = kind_of(mode), .mode = mode & 07777, .user = asks->uid, .group = asks->gid, .names = 1}};
+}
+
+static void make(fuse_req_t req, fuse_ino_t parent, const char *name, const struct novelty *novelty) {
     struct found found;
     int fault = begin(req);
-    if (!fault) fault = files_make(mount_of(req), entry_of(req, parent), name, &attributes, is_directory, &found);
+    if (!fault) fault = names_make(mount_of(req), entry_of(req, parent), name, novelty, &found);
     hold(fault, &found);
     pthread_mutex_unlock(&lock);
     if (fault) fuse_reply_err(req, fault);
@@ -157,29 +176,45 @@ static void make(fuse_req_t req, fuse_ino_t parent, const char *name, mode_t mod
 }
 
 static void on_mkdir(fuse_req_t req, fuse_ino_t parent, const char *name, mode_t mode) {
-    make(req, parent, name, mode, true);
+    struct novelty novelty = novelty_of(req, S_IFDIR | (mode & 07777));
+    make(req, parent, name, &novelty);
 }
 
-// There are no fifos, sockets and devices.
 static void on_mknod(fuse_req_t req, fuse_ino_t parent, const char *name, mode_t mode, dev_t device) {
-    (void)device;
-    if (S_ISREG(mode)) make(req, parent, name, mode, false);
-    else fuse_reply_err(req, EPERM);
+    struct novelty novelty = novelty_of(req, mode);
+    novelty.told.device = device;
+    make(req, parent, name, &novelty);
 }
 
-static void on_symlink(fuse_req_t req, const char *text, fuse_ino_t parent, const char *name) {
-    (void)text, (void)parent, (void)name;
-    fuse_reply_err(req, EPERM);
+static void on_symlink(fuse_req_t req, const char *target, fuse_ino_t parent, const char *name) {
+    struct novelty novelty = novelty_of(req, S_IFLNK | 0777);
+    novelty.target = target;
+    make(req, parent, name, &novelty);
+}
+
+static void on_readlink(fuse_req_t req, fuse_ino_t number) {
+    struct bytes target = {0};
+    int fault = begin(req);
+    if (!fault) fault = files_read_link(mount_of(req), entry_of(req, number), &target);
+    pthread_mutex_unlock(&lock);
+    if (fault) fuse_reply_err(req, fault);
+    else fuse_reply_readlink(req, target.at);
+    bytes_free(&target);
 }
 
 static void on_link(fuse_req_t req, fuse_ino_t number, fuse_ino_t parent, const char *name) {
-    (void)number, (void)parent, (void)name;
-    fuse_reply_err(req, EPERM);
+    struct found found;
+    int fault = begin(req);
+    if (!fault) fault = links_make(mount_of(req), entry_of(req, number), entry_of(req, parent), name, &found);
+    hold(fault, &found);
+    pthread_mutex_unlock(&lock);
+    if (fault) fuse_reply_err(req, fault);
+    else answer_entry(req, 0, &found);
 }
 
 static void take_name(fuse_req_t req, fuse_ino_t parent, const char *name, bool is_directory) {
     int fault = begin(req);
-    if (!fault) fault = files_remove(mount_of(req), entry_of(req, parent), name, is_directory);
+    if (!fault) fault = names_remove(mount_of(req), entry_of(req, parent), name, is_directory);
     pthread_mutex_unlock(&lock);
     fuse_reply_err(req, fault);
 }
@@ -192,7 +227,7 @@ static void on_rename(fuse_req_t req, fuse_ino_t parent, const char *name, fuse_
                       unsigned flags) {
     struct mount *mount = mount_of(req);
     int fault = begin(req);
-    if (!fault) fault = files_rename(mount, entry_of(req, parent), name, entry_of(req, new_parent), new_name, flags);
+    if (!fault) fault = names_rename(mount, entry_of(req, parent), name, entry_of(req, new_parent), new_name, flags);
     pthread_mutex_unlock(&lock);
     fuse_reply_err(req, fault);
 }
@@ -214,10 +249,10 @@ static int open_found(struct mount *mount, struct entry *folder, const char *nam
 
 // A file that is made has nothing to cut, and keeps the moment at which it was made.
 static int create(fuse_req_t req, fuse_ino_t parent, const char *name, mode_t mode, int flags, struct found *found) {
-    struct attributes attributes = fresh_attributes(req, mode);
+    struct novelty novelty = novelty_of(req, S_IFREG | (mode & 07777));
     struct mount *mount = mount_of(req);
     struct entry *folder = entry_of(req, parent);
-    int fault = files_make(mount, folder, name, &attributes, false, found);
+    int fault = names_make(mount, folder, name, &novelty, found);
     if (fault == EEXIST && !(flags & O_EXCL)) fault = open_found(mount, folder, name, flags, found);
     else if (!fault) fault = files_open(mount, found->entry, flags & ~O_TRUNC);
     return hold(fault, found);
@@ -272,10 +307,20 @@ static void on_fallocate(fuse_req_t req, fuse_ino_t number, int mode, off_t offs
                          struct fuse_file_info *info) {
     (void)info;
     int fault = begin(req);
-    if (mode) fault = EOPNOTSUPP;
-    if (!fault) fault = files_allocate(mount_of(req), entry_of(req, number), (uint64_t)offset, (uint64_t)count);
+    if (!fault)
+        fault = holes_allocate(mount_of(req), entry_of(req, number), mode, (uint64_t)offset, (uint64_t)count);
     pthread_mutex_unlock(&lock);
     fuse_reply_err(req, fault);
+}
+
+static void on_lseek(fuse_req_t req, fuse_ino_t number, off_t offset, int whence, struct fuse_file_info *info) {
+    uint64_t found = 0;
+    (void)info;
+    int fault = begin(req);
+    if (!fault) fault = holes_seek(mount_of(req), entry_of(req, number), (uint64_t)offset, whence, &found);
+    pthread_mutex_unlock(&lock);
+    if (fault) fuse_reply_err(req, fault);
+    else fuse_reply_lseek(req, (off_t)found);
 }
 
 // All is in memory.
@@ -363,7 +408,8 @@ static bool put_name(struct page *page, const char *name, bool is_directory, off
     struct found found = {.entry = known};
     int fault = known ? 0 : files_find(mount_of(page->req), page->directory, name, &found);
     if (fault == ENOENT) return true;
-    line.param.attr.st_mode = is_directory ? S_IFDIR : S_IFREG;
+    if (!fault && known) fault = files_stat(mount_of(page->req), known, &found.stat);
+    line.param.attr.st_mode = fault ? is_directory ? S_IFDIR : S_IFREG : found.stat.st_mode;
     line.param.attr.st_ino = fault ? NO_NUMBER : files_number(found.entry);
     if (!fault && page->tells_more) {
         line.param = told(&found);
@@ -440,14 +486,14 @@ static void on_statfs(fuse_req_t req, fuse_ino_t number) {
 static void on_setxattr(fuse_req_t req, fuse_ino_t number, const char *name, const char *value, size_t size,
                         int flags) {
     int fault = begin(req);
-    if (!fault) fault = files_set_extended(mount_of(req), entry_of(req, number), name, value, size, flags);
+    if (!fault) fault = extended_set(mount_of(req), entry_of(req, number), name, value, size, flags);
     pthread_mutex_unlock(&lock);
     fuse_reply_err(req, fault);
 }
 
 static void on_removexattr(fuse_req_t req, fuse_ino_t number, const char *name) {
     int fault = begin(req);
-    if (!fault) fault = files_remove_extended(entry_of(req, number), name);
+    if (!fault) fault = extended_remove(mount_of(req), entry_of(req, number), name);
     pthread_mutex_unlock(&lock);
     fuse_reply_err(req, fault);
 }
@@ -462,10 +508,8 @@ static void answer_sized(fuse_req_t req, int fault, const struct bytes *bytes, s
 
 static void on_getxattr(fuse_req_t req, fuse_ino_t number, const char *name, size_t room) {
     struct bytes value = {0};
-    pthread_mutex_lock(&lock);
-    const struct attribute *attribute;
-    int fault = files_find_extended(entry_of(req, number), name, &attribute);
-    if (!fault) fault = bytes_append(&value, attribute->value, attribute->length);
+    int fault = begin_bytes(req, number);
+    if (!fault) fault = extended_get(mount_of(req), entry_of(req, number), name, &value);
     pthread_mutex_unlock(&lock);
     answer_sized(req, fault, &value, room);
     bytes_free(&value);
@@ -473,11 +517,8 @@ static void on_getxattr(fuse_req_t req, fuse_ino_t number, const char *name, siz
 
 static void on_listxattr(fuse_req_t req, fuse_ino_t number, size_t room) {
     struct bytes names = {0};
-    int fault = 0;
-    pthread_mutex_lock(&lock);
-    const struct attribute *attribute = entry_of(req, number)->attributes.extended;
-    for (; attribute && !fault; attribute = attribute->next)
-        fault = bytes_append(&names, attribute->name, strlen(attribute->name) + 1);
+    int fault = begin_bytes(req, number);
+    if (!fault) fault = extended_list(mount_of(req), entry_of(req, number), &names);
     pthread_mutex_unlock(&lock);
     answer_sized(req, fault, &names, room);
     bytes_free(&names);
@@ -487,7 +528,8 @@ static void on_listxattr(fuse_req_t req, fuse_ino_t number, size_t room) {
 static void tell_stale(struct bytes *list) {
     struct stale *stale = (struct stale *)list->at;
     for (size_t i = 0; i < list->length / sizeof *stale; i++) {
-        fuse_lowlevel_notify_inval_entry(session, stale[i].parent, stale[i].name, strlen(stale[i].name));
+        if (stale[i].parent)
+            fuse_lowlevel_notify_inval_entry(session, stale[i].parent, stale[i].name, strlen(stale[i].name));
         if (stale[i].entry) fuse_lowlevel_notify_inval_inode(session, stale[i].entry, 0, 0);
         free(stale[i].name);
     }
@@ -567,6 +609,7 @@ const struct fuse_lowlevel_ops requests = {
     .mknod = on_mknod,
     .symlink = on_symlink,
     .link = on_link,
+    .readlink = on_readlink,
     .unlink = on_unlink,
     .rmdir = on_rmdir,
     .rename = on_rename,
@@ -576,6 +619,7 @@ const struct fuse_lowlevel_ops requests = {
     .read = on_read,
     .write = on_write,
     .fallocate = on_fallocate,
+    .lseek = on_lseek,
     .fsync = on_fsync,
     .fsyncdir = on_fsync,
     .opendir = on_opendir,

@@ -98,6 +98,8 @@ void room_begin(void) {
     was_refused = false;
 }
 
+void room_lift(void) { most = 0; }
+
 // Whether steps of the tree gave memory back. What was removed takes memory until they have come to it. A step that
 // finds no memory itself changes nothing, so that they are not tried for ever.
 static bool gives_back(const struct volume *volume) {

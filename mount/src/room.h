@@ -20,5 +20,7 @@ struct room room_now(void);
 // A call that makes the tree grow stands between these two, and is done again for as long as the second says so: steps
 // of the tree gave memory back meanwhile. One that was refused for want of room has the fault ENOSPC.
 void room_begin(void);
+// Between them: what undoes a call that was refused may take what it needs.
+void room_lift(void);
 bool room_again(const struct volume *volume, int *fault);
 #endif

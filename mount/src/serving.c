@@ -8,6 +8,7 @@
 #include <malloc.h>
 #include <poll.h>
 #include <signal.h>
+#include <stdio.h>
 #include <unistd.h>
 
 static int open_volume(const struct options *options, struct mount *mount) {
@@ -43,10 +44,12 @@ static int serve(struct fuse_session *session) {
     return status;
 }
 
+// libfuse mounts with `nosuid,nodev` where nothing else is said.
 static struct fuse_session *open_session(const struct options *options, struct mount *mount) {
-    const char *how = options->allows_other ? "default_permissions,allow_other,fsname=doorvervain,subtype=doorvervain"
-                                            : "default_permissions,fsname=doorvervain,subtype=doorvervain";
-    char *words[] = {"doorvervain-mount", "-o", (char *)how, 0};
+    char how[128];
+    snprintf(how, sizeof how, "default_permissions,fsname=doorvervain,subtype=doorvervain%s%s",
+             options->allows_other ? ",allow_other" : "", options->trusts ? ",suid,dev" : "");
+    char *words[] = {"doorvervain-mount", "-o", how, 0};
     struct fuse_args args = FUSE_ARGS_INIT(3, words);
     struct fuse_session *session = fuse_session_new(&args, &requests, sizeof requests, mount);
     fuse_opt_free_args(&args);
@@ -100,7 +103,7 @@ static void keep_memory(void) {
 
 // What was mounted may be kept, and nothing else: where no mount comes to stand, the file is as it was.
 static int serve_volume(const struct options *options, struct image *image, void (*stands)(void)) {
-    struct mount mount = {0};
+    struct mount mount = {.trusts = options->trusts || !options->making.image};
     bool stood = false;
     int status = open_volume(options, &mount) != 0;
     if (!status) {

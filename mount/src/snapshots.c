@@ -1,4 +1,6 @@
 #include "snapshots.h"
+#include "own.h"
+#include "records.h"
 #include "room.h"
 #include <errno.h>
 #include <stdlib.h>
@@ -12,11 +14,8 @@ static int take_tree(struct mount *mount, const char *name, struct entry **out) 
     if (fault) return fault;
     *out = entry_add(folder(mount), name, true);
     if (*out) (*out)->role = SNAPSHOT_ROOT;
-    fault = *out ? entries_copy(mount->root, *out) : ENOMEM;
-    if (!fault) return 0;
-    if (*out) entry_take_out(*out);
-    volume->way->keep(volume->self, DROP_SNAPSHOT, name);
-    return fault;
+    else volume->way->keep(volume->self, DROP_SNAPSHOT, name);
+    return *out ? 0 : ENOMEM;
 }
 
 int snapshot_take(struct mount *mount, const char *name, struct found *out) {
@@ -45,48 +44,57 @@ static uint64_t number_of(const struct entry *entry) {
     return entry->role == LIVE_ROOT ? 1 : (uint64_t)(uintptr_t)entry;
 }
 
+// Notes the names of a listing.
+static void note_names(const struct entry *directory, struct bytes *names, struct bytes *out) {
+    for (size_t at = 0; at < names->length; at += strlen(names->at + at) + 1)
+        note(out, number_of(directory), 0, names->at + at + 1);
+    bytes_free(names);
+}
+
+// Notes the names in a directory that may be others of a file, whose entry lies elsewhere.
+static void note_other_names(struct mount *mount, struct entry *directory, struct bytes *out) {
+    struct bytes names = {0};
+    if (directory->is_directory && directory->role != OWN_FOLDER && !records_list(mount, directory, &names))
+        note_names(directory, &names, out);
+    bytes_free(&names);
+}
+
 // Notes what the kernel holds below an entry.
-static void note_held(const struct entry *entry, struct bytes *out) {
-    for (const struct entry *child = entry->first; child; child = child->after) {
+static void note_held(struct mount *mount, struct entry *entry, struct bytes *out) {
+    note_other_names(mount, entry, out);
+    for (struct entry *child = entry->first; child; child = child->after) {
         if (child->role == SNAPSHOT_FOLDER) continue;
-        if (child->lookups) note(out, number_of(entry), number_of(child), child->name);
-        note_held(child, out);
+        if (child->lookups) note(out, entry->role == OWN_FOLDER ? 0 : number_of(entry), number_of(child), child->name);
+        note_held(mount, child, out);
     }
 }
 
 // Notes the names of the root, below which the kernel may know of names that were missing.
 static void note_root(struct mount *mount, struct bytes *out) {
     struct bytes names = {0};
-    if (!files_list(mount, mount->root, &names))
-        for (size_t at = 0; at < names.length; at += strlen(names.at + at) + 1) note(out, 1, 0, names.at + at + 1);
-    bytes_free(&names);
+    if (!files_list(mount, mount->root, &names)) note_names(mount->root, &names, out);
 }
 
-// Takes the entries out whose path has nothing of their kind now.
-static void settle(struct mount *mount, struct entry *entry) {
-    struct entry *next;
-    struct spot spot;
-    struct standing standing;
-    for (struct entry *child = entry->first; child; child = next) {
-        next = child->after;
-        if (child->role == SNAPSHOT_FOLDER) continue;
-        int fault = entry_spot(child, 0, &spot);
-        if (!fault) fault = mount->volume.way->stat(mount->volume.self, (struct place){0, spot.path}, &standing);
-        bool stays = child->role == UNLINKED_FOLDER || (!fault && standing.is_directory == child->is_directory);
-        if (stays) settle(mount, child);
-        else entry_take_out(child);
-    }
+static void free_notes(struct bytes *notes) {
+    struct stale *stale = (struct stale *)notes->at;
+    for (size_t i = 0; i < notes->length / sizeof *stale; i++) free(stale[i].name);
+    notes->length = 0;
 }
 
+// What an entry stands for may be of another kind then, or gone: that shows when it is next looked for.
 int snapshot_restore(struct mount *mount, const char *name, struct bytes *out) {
     const struct volume *volume = &mount->volume;
-    struct entry *snapshot = entry_find(folder(mount), name);
-    int fault = snapshot ? volume->way->keep(volume->self, RESTORE_SNAPSHOT, name) : ENOENT;
-    if (fault) return fault;
+    if (!entry_find(folder(mount), name)) return ENOENT;
+    note_held(mount, mount->root, out);
+    int fault = volume->way->keep(volume->self, RESTORE_SNAPSHOT, name);
+    if (fault) {
+        free_notes(out);
+        return fault;
+    }
+    mount->state++;
+    mount->mirrors++;
     // Files that were unlinked and held when the snapshot was taken are not of its tree.
-    files_clear_own_folder(mount);
-    note_held(mount->root, out);
-    settle(mount, mount->root);
+    own_clear(mount);
     note_root(mount, out);
-    return entries_copy(snapshot, mount->root);
+    return 0;
 }

@@ -1,4 +1,4 @@
-// Snapshots as folders of /.snapshots. What is beside the names is copied with them, since no proof's tree keeps it.
+// Snapshots as folders of /.snapshots.
 #ifndef SNAPSHOTS_H
 #define SNAPSHOTS_H
 #include "files.h"
@@ -8,7 +8,7 @@ int snapshot_drop(struct mount *mount, const char *name);
 
 // What the kernel knows of the live tree and may be another one now.
 struct stale {
-    uint64_t parent; // numbers of inodes
+    uint64_t parent; // numbers of inodes; 0: no name that is known
     uint64_t entry;  // 0: none that is known
     char *name;
 };

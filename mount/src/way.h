@@ -5,6 +5,7 @@
 #ifndef WAY_H
 #define WAY_H
 #include "bytes.h"
+#include "doorvervain.h"
 #include <stdbool.h>
 #include <stdint.h>
 
@@ -36,6 +37,11 @@ struct standing {
     uint64_t modified; // its moment of last change
 };
 
+// A run of bytes of a file that are stored; empty, and at the file's end, where no more are.
+struct run {
+    uint64_t from, to;
+};
+
 // What changes the tree is done at a moment `at`, the nanoseconds since the beginning of 1970.
 struct way {
     int (*change)(void *self, enum change what, const char *path, uint64_t at);
@@ -50,6 +56,10 @@ struct way {
     // Each name as `d` or `f`, the name and a byte 0, behind what `out` has.
     int (*list)(void *self, struct place at, struct bytes *out);
     int (*keep)(void *self, enum keeping what, const char *snapshot);
+    // So many bytes from `offset` on become zeros that take no room; the file keeps its length.
+    int (*punch)(void *self, const char *path, uint64_t offset, uint64_t count, uint64_t at);
+    // The next run of bytes that are stored, at or behind `offset`. Those before it read as zeros.
+    int (*data)(void *self, struct place at, uint64_t offset, struct run *out);
     // Does at most so many steps that move waiting changes down: how many, and 0 where the file system sees to them.
     unsigned (*relieve)(void *self, unsigned steps);
     // Ends the file system and frees `self`. Where an image is wanted, that of the live tree is put there first; it is
@@ -57,10 +67,21 @@ struct way {
     int (*close)(void *self, struct image *image);
 };
 
+// Where the record of an entry's attributes lies, and its text: functions of the archive, as its header has them.
+struct record_form {
+    uint8_t (*mirror)(const uint8_t *path, size_t length, uint8_t *out, size_t room, size_t *size);
+    uint8_t (*place)(const uint8_t *path, size_t length, uint8_t *out, size_t room, size_t *size);
+    uint8_t (*print)(const struct doorvervain_attributes *attributes, const uint8_t *extended, size_t extended_length,
+                     uint8_t *out, size_t room, size_t *size);
+    uint8_t (*parse)(const uint8_t *text, size_t length, struct doorvervain_attributes *out, uint8_t *extended,
+                     size_t room, size_t *size);
+};
+
 // A file system that stands.
 struct volume {
     const struct way *way;
     void *self;
+    const struct record_form *records; // null: attributes stand beside the tree, and there are no links
 };
 
 // What a file system is made with.

@@ -1,0 +1,14 @@
+// Extended attributes, in the form in which the archive packs them into a record: each by its name, a byte 0, four bytes
+// of its length with the lowest first, and its value, in rising order of names.
+#ifndef EXTENDED_H
+#define EXTENDED_H
+#include "mount.h"
+
+// EOPNOTSUPP for those of the kernel's own, and for all where no records are kept.
+int extended_get(struct mount *mount, struct entry *entry, const char *name, struct bytes *out);
+// Their names, each with a byte 0.
+int extended_list(struct mount *mount, struct entry *entry, struct bytes *out);
+int extended_set(struct mount *mount, struct entry *entry, const char *name, const char *value, size_t length,
+                 int flags);
+int extended_remove(struct mount *mount, struct entry *entry, const char *name);
+#endif

@@ -1,0 +1,121 @@
+#define _GNU_SOURCE
+#include "holes.h"
+#include "files.h"
+#include "room.h"
+#include <errno.h>
+#include <fcntl.h>
+#include <unistd.h>
+
+// ---- what is remembered
+
+static void forget(struct entry *entry) { entry->stored_in = 0; }
+
+static bool is_dense(const struct mount *mount, const struct entry *entry) {
+    return entry->stored_in == mount->state && entry->stored == entry->length;
+}
+
+void holes_dense(struct mount *mount, struct entry *entry, uint64_t length) {
+    entry->stored_in = mount->state;
+    entry->stored = entry->length = length;
+}
+
+void holes_written(struct mount *mount, struct entry *entry, uint64_t offset, size_t count) {
+    if (!count) return;
+    if (!is_dense(mount, entry) || offset > entry->length) forget(entry);
+    else if (offset + count > entry->length) holes_dense(mount, entry, offset + count);
+}
+
+void holes_cut(struct mount *mount, struct entry *entry, uint64_t length) {
+    if (is_dense(mount, entry) && length <= entry->length) holes_dense(mount, entry, length);
+    else forget(entry);
+}
+
+static int next_run(struct mount *mount, const struct spot *spot, uint64_t offset, struct run *out) {
+    struct place at = {spot->snapshot, spot->path};
+    return mount->volume.way->data(mount->volume.self, at, offset, out);
+}
+
+static int count_stored(struct mount *mount, struct entry *entry, uint64_t length, uint64_t *out) {
+    struct spot spot;
+    struct run run = {0, 0};
+    int fault = entry_spot(entry, 0, &spot);
+    *out = 0;
+    for (uint64_t at = 0; !fault && at < length; at = run.to) {
+        fault = next_run(mount, &spot, at, &run);
+        if (fault || run.from >= run.to) break;
+        *out += run.to - run.from;
+    }
+    return fault;
+}
+
+uint64_t holes_stored(struct mount *mount, struct entry *entry, struct standing standing) {
+    uint64_t stored;
+    if (standing.is_directory) return 0;
+    if (entry->stored_in == mount->state && entry->length == standing.length) return entry->stored;
+    if (count_stored(mount, entry, standing.length, &stored)) return standing.length;
+    entry->stored_in = mount->state;
+    entry->length = standing.length;
+    entry->stored = stored;
+    return stored;
+}
+
+// ---- what is asked for
+
+int holes_seek(struct mount *mount, struct entry *entry, uint64_t offset, int whence, uint64_t *out) {
+    struct spot spot;
+    struct standing standing;
+    struct run run = {0, 0};
+    if (whence != SEEK_DATA && whence != SEEK_HOLE) return EINVAL;
+    int fault = entry_spot(entry, 0, &spot);
+    if (!fault) fault = files_stand(mount, entry, &standing);
+    if (!fault && standing.is_directory) return EINVAL;
+    if (!fault && offset >= standing.length) return ENXIO;
+    if (!fault) fault = next_run(mount, &spot, offset, &run);
+    if (fault) return fault;
+    bool is_in_run = run.from == offset && run.from < run.to;
+    if (whence == SEEK_DATA && run.from == run.to) return ENXIO;
+    *out = whence == SEEK_DATA ? run.from : is_in_run ? run.to : offset;
+    return 0;
+}
+
+static int lengthen(struct mount *mount, struct entry *entry, const struct spot *spot, uint64_t end, uint64_t at) {
+    struct standing standing;
+    int fault = files_stand(mount, entry, &standing);
+    if (fault || standing.length >= end) return fault;
+    fault = mount->volume.way->truncate(mount->volume.self, spot->path, end, at);
+    if (!fault) holes_cut(mount, entry, end);
+    return fault;
+}
+
+// The longer file first: where a hole cannot be made, it is cut again.
+static int allocate(struct mount *mount, struct entry *entry, const struct spot *spot, int mode, uint64_t offset,
+                    uint64_t count) {
+    const struct volume *volume = &mount->volume;
+    uint64_t at = moment_now();
+    struct standing before;
+    int fault = files_stand(mount, entry, &before);
+    if (!fault && !(mode & FALLOC_FL_KEEP_SIZE)) fault = lengthen(mount, entry, spot, offset + count, at);
+    if (fault || !(mode & (FALLOC_FL_PUNCH_HOLE | FALLOC_FL_ZERO_RANGE))) return fault;
+    forget(entry);
+    fault = volume->way->punch(volume->self, spot->path, offset, count, at);
+    if (!fault) return 0;
+    room_lift();
+    volume->way->truncate(volume->self, spot->path, before.length, before.modified);
+    return fault;
+}
+
+int holes_allocate(struct mount *mount, struct entry *entry, int mode, uint64_t offset, uint64_t count) {
+    const int known = FALLOC_FL_KEEP_SIZE | FALLOC_FL_PUNCH_HOLE | FALLOC_FL_ZERO_RANGE;
+    struct spot spot;
+    bool makes_holes = mode & (FALLOC_FL_PUNCH_HOLE | FALLOC_FL_ZERO_RANGE);
+    if (mode & ~known || (makes_holes && !mount_keeps_records(mount))) return EOPNOTSUPP;
+    if (count > UINT64_MAX - offset) return EFBIG;
+    int fault = files_may_change(entry);
+    if (!fault) fault = entry_spot(entry, 0, &spot);
+    if (fault) return fault;
+    do {
+        room_begin();
+        fault = allocate(mount, entry, &spot, mode, offset, count);
+    } while (room_again(&mount->volume, &fault));
+    return fault;
+}

@@ -1,0 +1,17 @@
+// Bytes of a file that are not stored, and read as zeros; and how many are.
+#ifndef HOLES_H
+#define HOLES_H
+#include "mount.h"
+
+// Room for so many bytes from `offset` on, by fallocate(2): a file may get longer by it, or have zeros or holes there.
+int holes_allocate(struct mount *mount, struct entry *entry, int mode, uint64_t offset, uint64_t count);
+// The next place of data or of a hole, by lseek(2): ENXIO where none is.
+int holes_seek(struct mount *mount, struct entry *entry, uint64_t offset, int whence, uint64_t *out);
+// How many bytes are stored of what stands at an entry. It is remembered until the file changes.
+uint64_t holes_stored(struct mount *mount, struct entry *entry, struct standing standing);
+
+// What is remembered follows a change: a file has all of its bytes, so many; bytes were written; it was cut.
+void holes_dense(struct mount *mount, struct entry *entry, uint64_t length);
+void holes_written(struct mount *mount, struct entry *entry, uint64_t offset, size_t count);
+void holes_cut(struct mount *mount, struct entry *entry, uint64_t length);
+#endif

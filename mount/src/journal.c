@@ -1,0 +1,123 @@
+#include "journal.h"
+#include "room.h"
+#include <errno.h>
+#include <string.h>
+
+void journal_begin(struct journal *journal, struct mount *mount, uint64_t at) {
+    journal->mount = mount;
+    journal->at = at;
+    journal->count = 0;
+}
+
+static struct undo *note(struct journal *journal, enum undoing how, const char *path, uint64_t at) {
+    struct undo *undo = &journal->undone[journal->count];
+    if (journal->count == MOST_UNDONE || strlen(path) > LONGEST_PATH) return 0;
+    undo->how = how;
+    undo->is_parked = false;
+    undo->at = at;
+    undo->text = (struct bytes){0};
+    strcpy(undo->path, path);
+    strcpy(undo->back, "");
+    return undo;
+}
+
+// What lies below a folder that is undone as a whole goes with it.
+static bool is_below_last(const struct journal *journal, const char *path) {
+    if (!journal->count) return false;
+    const struct undo *last = &journal->undone[journal->count - 1];
+    size_t length = strlen(last->path);
+    return last->how == BY_REMOVAL && !strncmp(last->path, path, length) && path[length] == '/';
+}
+
+int journal_make(struct journal *journal, enum change what, const char *path, uint64_t at, uint64_t back_at) {
+    const struct volume *volume = &journal->mount->volume;
+    bool is_noted = is_below_last(journal, path);
+    if (!is_noted && !note(journal, BY_REMOVAL, path, back_at)) return ENOMEM;
+    int fault = volume->way->change(volume->self, what, path, at);
+    if (!fault && !is_noted) journal->count++;
+    return fault;
+}
+
+int journal_rename(struct journal *journal, const char *from, const char *to, uint64_t at, uint64_t back_at) {
+    const struct volume *volume = &journal->mount->volume;
+    struct undo *undo = note(journal, BY_RENAME, to, back_at);
+    if (!undo || strlen(from) > LONGEST_PATH) return ENAMETOOLONG;
+    strcpy(undo->back, from);
+    int fault = volume->way->rename(volume->self, from, to, at);
+    if (!fault) journal->count++;
+    return fault;
+}
+
+static int read_whole(const struct volume *volume, const char *path, struct bytes *out) {
+    struct standing standing;
+    struct place place = {0, path};
+    int fault = volume->way->stat(volume->self, place, &standing);
+    if (!fault && standing.length > LARGEST_READ) fault = EFBIG;
+    if (!fault) fault = bytes_reserve(out, standing.length + 1);
+    return fault ? fault : volume->way->read(volume->self, place, 0, out->at, standing.length, &out->length);
+}
+
+// Writes over what is there, and cuts what is longer.
+static int replace(const struct volume *volume, const char *path, const char *text, size_t length, size_t before,
+                   uint64_t at) {
+    size_t done = 0;
+    int fault = volume->way->write(volume->self, path, 0, text, length, at, &done);
+    return fault || before <= length ? fault : volume->way->truncate(volume->self, path, length, at);
+}
+
+int journal_write(struct journal *journal, const char *path, const char *text, size_t length) {
+    const struct volume *volume = &journal->mount->volume;
+    struct undo *undo = note(journal, BY_TEXT, path, journal->at);
+    int fault = undo ? read_whole(volume, path, &undo->text) : ENOMEM;
+    if (fault) {
+        if (undo) bytes_free(&undo->text);
+        return fault;
+    }
+    journal->count++;
+    return replace(volume, path, text, length, undo->text.length, journal->at);
+}
+
+int journal_park(struct journal *journal, const char *path) {
+    struct own_path aside;
+    int fault = own_aside(journal->mount, &aside);
+    if (!fault) fault = journal_rename(journal, path, aside.text, journal->at, journal->at);
+    if (!fault) journal->undone[journal->count - 1].is_parked = true;
+    return fault == ENOENT || fault == ENOTDIR ? 0 : fault;
+}
+
+static void undo_one(const struct volume *volume, const struct undo *undo) {
+    switch (undo->how) {
+    case BY_RENAME: volume->way->rename(volume->self, undo->path, undo->back, undo->at); break;
+    case BY_REMOVAL: volume->way->change(volume->self, REMOVE_TREE, undo->path, undo->at); break;
+    case BY_TEXT:
+        replace(volume, undo->path, undo->text.at, undo->text.length, SIZE_MAX, undo->at);
+        break;
+    }
+}
+
+// Takes the folders out that stood above a path below `tree`, and are empty now.
+static void prune(const struct volume *volume, char *path, uint64_t at) {
+    static const char tree[] = OWN_PATH "/tree";
+    if (strncmp(path, tree, sizeof tree - 1)) return;
+    for (;;) {
+        *strrchr(path, '/') = 0;
+        if (strlen(path) < sizeof tree - 1) return;
+        if (volume->way->change(volume->self, REMOVE_DIRECTORY, path, at)) return;
+    }
+}
+
+static void finish_one(const struct volume *volume, struct undo *undo, uint64_t at) {
+    if (undo->is_parked) volume->way->change(volume->self, REMOVE_TREE, undo->path, at);
+    if (undo->how == BY_RENAME) prune(volume, undo->back, at);
+}
+
+int journal_end(struct journal *journal, int fault) {
+    const struct volume *volume = &journal->mount->volume;
+    room_lift();
+    for (size_t i = journal->count; i-- > 0;) {
+        if (fault) undo_one(volume, &journal->undone[i]);
+        else finish_one(volume, &journal->undone[i], journal->at);
+        bytes_free(&journal->undone[i].text);
+    }
+    return fault;
+}

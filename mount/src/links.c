@@ -1,0 +1,178 @@
+#include "links.h"
+#include "ending.h"
+#include "records.h"
+#include "room.h"
+#include <errno.h>
+#include <stdlib.h>
+#include <string.h>
+
+static int stand_at(struct mount *mount, const struct spot *spot, struct standing *out) {
+    return mount->volume.way->stat(mount->volume.self, (struct place){spot->snapshot, spot->path}, out);
+}
+
+// What stands in the place of a number, in the tree that a directory lies in.
+static int find_file(struct mount *mount, struct entry *parent, uint64_t number, struct standing *standing,
+                     struct entry **out) {
+    const struct attributes *attributes;
+    struct own_path path = own_link(number);
+    struct spot spot;
+    struct entry *folder = entry_own_folder(parent, LINKS);
+    int fault = folder ? entry_spot(folder, own_name(&path), &spot) : ENOMEM;
+    if (!fault) fault = stand_at(mount, &spot, standing);
+    if (!fault && standing->is_directory) fault = ENOENT;
+    if (fault) return fault;
+    *out = entry_find_or_add(folder, own_name(&path), false);
+    if (!*out) return ENOMEM;
+    (*out)->link = number;
+    return records_of(mount, *out, &attributes);
+}
+
+int links_find(struct mount *mount, struct entry *parent, const struct spot *spot, struct attributes *attributes,
+               struct standing *standing, struct found *out) {
+    struct standing file;
+    struct entry *entry = 0;
+    int fault = find_file(mount, parent, attributes->told.link, &file, &entry);
+    if (!fault) {
+        *standing = file;
+        out->entry = entry;
+        out->is_other_name = true;
+        return 0;
+    }
+    if (fault != ENOENT && fault != ENOTDIR) return fault;
+    if (!mount->has_told) ending_say("a name leads to a file that is not there: ", spot->path, fault);
+    mount->has_told = true;
+    attributes->told = records_usual(mount, false).told;
+    return 0;
+}
+
+// The record of a name.
+static int write_name(struct journal *journal, const char *path, uint64_t number) {
+    struct attributes name = records_usual(journal->mount, false);
+    name.told.kind = DOORVERVAIN_OTHER_NAME;
+    name.told.link = number;
+    return records_write(journal, path, &name, 0);
+}
+
+// The file goes to a place of its own, and what its only name was leads there. The folder of that name keeps its moment.
+static int give_place(struct journal *journal, struct entry *entry, uint64_t number, struct attributes *attributes) {
+    struct mount *mount = journal->mount;
+    struct own_path path = own_link(number);
+    struct bytes extended = {0};
+    struct attributes old;
+    struct spot spot;
+    struct standing parent;
+    int fault = own_make(mount, OWN_LINKS);
+    if (!fault) fault = entry_spot(entry, 0, &spot);
+    if (!fault) fault = files_stand(mount, entry->parent, &parent);
+    if (!fault) fault = records_read(mount, &spot, false, &old, &extended);
+    attributes->has_record = false;
+    if (!fault) fault = records_write(journal, path.text, attributes, &extended);
+    bytes_free(&extended);
+    if (!fault) fault = records_drop(journal, entry->parent, spot.path);
+    if (!fault) fault = journal_rename(journal, spot.path, path.text, parent.modified, parent.modified);
+    if (!fault) fault = journal_make(journal, CREATE, spot.path, parent.modified, parent.modified);
+    return fault ? fault : write_name(journal, spot.path, number);
+}
+
+static int make_once(struct journal *journal, struct entry *entry, struct entry *parent, const struct spot *spot,
+                     uint64_t number, struct attributes *attributes) {
+    struct standing before;
+    int fault = files_stand(journal->mount, parent, &before);
+    attributes->told.names++;
+    if (!fault) fault = journal_make(journal, CREATE, spot->path, journal->at, before.modified);
+    if (!fault) fault = records_drop(journal, parent, spot->path);
+    if (!fault) fault = write_name(journal, spot->path, number);
+    if (fault) return fault;
+    return entry->link ? records_rewrite(journal, entry, attributes) : give_place(journal, entry, number, attributes);
+}
+
+// The entry is that of the file in its place from now on.
+static void settle(struct mount *mount, struct entry *entry, struct entry *folder, char *name, uint64_t number) {
+    if (entry->link) {
+        free(name);
+        return;
+    }
+    entry_move(entry, folder, name);
+    entry->link = mount->links = number;
+}
+
+static int make_name(struct mount *mount, struct entry *entry, struct entry *parent, const struct spot *spot,
+                     uint64_t at) {
+    struct journal journal;
+    struct attributes attributes = entry->attributes;
+    uint64_t number = entry->link ? entry->link : mount->links + 1;
+    struct own_path path = own_link(number);
+    struct entry *folder = entry_own_folder(mount->root, LINKS);
+    char *name = folder ? strdup(own_name(&path)) : 0;
+    if (!name) return ENOMEM;
+    journal_begin(&journal, mount, at);
+    int fault = journal_end(&journal, make_once(&journal, entry, parent, spot, number, &attributes));
+    if (fault) {
+        free(name);
+        return fault;
+    }
+    settle(mount, entry, folder, name, number);
+    records_remember(mount, entry, &attributes);
+    entry->change = time_of(at);
+    return 0;
+}
+
+static int may_link(struct mount *mount, struct entry *entry, struct entry *parent, const char *name,
+                    struct spot *spot) {
+    const struct attributes *attributes;
+    int fault = files_may_change_name(parent, name);
+    if (!fault) fault = files_may_change(entry);
+    if (!fault && (!mount_keeps_records(mount) || entry->is_directory)) fault = EPERM;
+    if (!fault && (entry->is_unlinked || !entry->parent)) fault = ENOENT;
+    if (!fault) fault = entry_spot(parent, name, spot);
+    if (!fault) fault = records_allow(mount, spot->path);
+    return fault ? fault : records_of(mount, entry, &attributes);
+}
+
+int links_make(struct mount *mount, struct entry *entry, struct entry *parent, const char *name, struct found *out) {
+    uint64_t at = moment_now();
+    struct spot spot;
+    int fault = parent->role == SNAPSHOT_FOLDER ? EPERM : may_link(mount, entry, parent, name, &spot);
+    if (fault) return fault;
+    do {
+        room_begin();
+        fault = make_name(mount, entry, parent, &spot, at);
+    } while (room_again(&mount->volume, &fault));
+    out->entry = entry;
+    return fault ? fault : files_stat(mount, entry, &out->stat);
+}
+
+int links_count_down(struct journal *journal, struct entry *entry, struct attributes *out) {
+    *out = entry->attributes;
+    return --out->told.names ? records_rewrite(journal, entry, out) : 0;
+}
+
+// The last name is gone: so goes the file, or it is set aside.
+void links_follow(struct mount *mount, struct entry *entry, const struct attributes *attributes, uint64_t at) {
+    if (!attributes->told.names) {
+        aside_remove_now(mount, entry, at);
+        return;
+    }
+    records_remember(mount, entry, attributes);
+    entry->change = time_of(at);
+}
+
+static int remove_once(struct journal *journal, struct entry *parent, const struct spot *spot, struct entry *entry,
+                       struct attributes *out) {
+    const struct volume *volume = &journal->mount->volume;
+    int fault = links_count_down(journal, entry, out);
+    if (!fault) fault = records_drop(journal, parent, spot->path);
+    return fault ? fault : volume->way->change(volume->self, UNLINK, spot->path, journal->at);
+}
+
+int links_remove(struct mount *mount, struct entry *parent, const char *name, struct entry *entry, uint64_t at) {
+    struct journal journal;
+    struct attributes attributes;
+    struct spot spot;
+    int fault = entry_spot(parent, name, &spot);
+    if (fault) return fault;
+    journal_begin(&journal, mount, at);
+    fault = journal_end(&journal, remove_once(&journal, parent, &spot, entry, &attributes));
+    if (!fault) links_follow(mount, entry, &attributes, at);
+    return fault;
+}

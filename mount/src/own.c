@@ -1,0 +1,97 @@
+#include "own.h"
+#include <errno.h>
+#include <inttypes.h>
+#include <stdio.h>
+#include <stdlib.h>
+#include <string.h>
+
+static const char *const paths[] = {OWN_PATH, LINKS_PATH, UNLINKED_PATH};
+
+static int change(struct mount *mount, enum change what, const char *path, uint64_t at) {
+    return mount->volume.way->change(mount->volume.self, what, path, at);
+}
+
+// The moment of the root, which the coming and going of the mount's own folder leaves.
+static int root_moment(struct mount *mount, uint64_t *out) {
+    struct standing root = {0};
+    int fault = mount->volume.way->stat(mount->volume.self, (struct place){0, "/"}, &root);
+    *out = root.modified;
+    return fault;
+}
+
+int own_make(struct mount *mount, enum own which) {
+    uint64_t at = 0;
+    if (mount->own_folders & 1u << which) return 0;
+    int fault = which == OWN_ROOT ? 0 : own_make(mount, OWN_ROOT);
+    if (!fault) fault = root_moment(mount, &at);
+    if (!fault) fault = change(mount, MAKE_DIRECTORY, paths[which], at);
+    if (fault && fault != EEXIST) return fault;
+    mount->own_folders |= 1u << which;
+    return 0;
+}
+
+int own_aside(struct mount *mount, struct own_path *out) {
+    int fault = own_make(mount, OWN_UNLINKED);
+    snprintf(out->text, sizeof out->text, UNLINKED_PATH "/%" PRIu64, ++mount->aside);
+    return fault;
+}
+
+struct own_path own_link(uint64_t number) {
+    struct own_path path;
+    snprintf(path.text, sizeof path.text, LINKS_PATH "/%" PRIu64, number);
+    return path;
+}
+
+const char *own_name(const struct own_path *path) { return strrchr(path->text, '/') + 1; }
+
+int own_clear(struct mount *mount) {
+    int fault = change(mount, REMOVE_TREE, UNLINKED_PATH, 0);
+    if (fault && fault != ENOENT && fault != ENOTDIR) return fault;
+    mount->own_folders = 0;
+    return 0;
+}
+
+int own_end(struct mount *mount) {
+    uint64_t at = 0;
+    int fault = own_clear(mount);
+    if (!fault) fault = root_moment(mount, &at);
+    if (fault) return fault;
+    change(mount, REMOVE_DIRECTORY, LINKS_PATH, 0);
+    change(mount, REMOVE_DIRECTORY, OWN_PATH "/tree", 0);
+    change(mount, REMOVE_DIRECTORY, OWN_PATH, at);
+    return 0;
+}
+
+// The largest number among the files with several names.
+static int find_links(struct mount *mount) {
+    struct bytes names = {0};
+    int fault = mount->volume.way->list(mount->volume.self, (struct place){0, LINKS_PATH}, &names);
+    for (size_t at = 0; !fault && at < names.length; at += strlen(names.at + at) + 1) {
+        uint64_t number = strtoull(names.at + at + 1, 0, 10);
+        if (number > mount->links && number < UINT64_MAX / 2) mount->links = number;
+    }
+    bytes_free(&names);
+    return fault == ENOENT || fault == ENOTDIR ? 0 : fault;
+}
+
+static bool stands(struct mount *mount, const char *path) {
+    struct standing standing;
+    return !mount->volume.way->stat(mount->volume.self, (struct place){0, path}, &standing);
+}
+
+static int refuse(const char *what) {
+    fprintf(stderr, "doorvervain-mount: %s\n", what);
+    return EINVAL;
+}
+
+int own_start(struct mount *mount) {
+    struct standing own;
+    int fault = mount->volume.way->stat(mount->volume.self, (struct place){0, OWN_PATH}, &own);
+    if (fault) return fault == ENOENT ? 0 : fault;
+    if (!own.is_directory) return refuse("the image has a file " OWN_PATH ", which is the mount's own name");
+    if (!mount_keeps_records(mount) && (stands(mount, OWN_PATH "/tree") || stands(mount, LINKS_PATH)))
+        return refuse("the image has attributes or links, which a mount with --pipe does not know");
+    if (stands(mount, UNLINKED_PATH)) fputs("doorvervain-mount: the image has " UNLINKED_PATH ", which is left out\n", stderr);
+    fault = own_clear(mount);
+    return fault ? fault : find_links(mount);
+}

@@ -1,0 +1,321 @@
+#include "records.h"
+#include "ending.h"
+#include <errno.h>
+#include <string.h>
+#include <unistd.h>
+
+enum { USUAL_MODE = 0644, USUAL_FOLDER_MODE = 0755 };
+
+// Where the record of a path lies.
+struct place_of_record {
+    char folder[LONGEST_PATH + 1]; // empty: it lies beside a file of the mount's own
+    char file[LONGEST_PATH + 1];
+};
+
+static bool is_own(const char *path) {
+    size_t length = sizeof OWN_PATH - 1;
+    return !strncmp(path, OWN_PATH, length) && path[length] == '/';
+}
+
+static int form_path(uint8_t (*form)(const uint8_t *, size_t, uint8_t *, size_t, size_t *), const char *path,
+                     char out[LONGEST_PATH + 1]) {
+    size_t size = 0;
+    uint8_t number = form((const uint8_t *)path, strlen(path), (uint8_t *)out, LONGEST_PATH, &size);
+    out[size < LONGEST_PATH ? size : LONGEST_PATH] = 0;
+    return doorvervain_errno(number);
+}
+
+static int find_place(const struct mount *mount, const char *path, struct place_of_record *out) {
+    const struct record_form *form = mount->volume.records;
+    out->folder[0] = 0;
+    if (!is_own(path)) {
+        int fault = form_path(form->mirror, path, out->folder);
+        return fault ? fault : form_path(form->place, path, out->file);
+    }
+    if (strlen(path) + sizeof ".record" > sizeof out->file) return ENAMETOOLONG;
+    strcpy(out->file, path);
+    strcat(out->file, ".record");
+    return 0;
+}
+
+int records_allow(const struct mount *mount, const char *path) {
+    struct place_of_record place;
+    return mount_keeps_records(mount) ? find_place(mount, path, &place) : 0;
+}
+
+struct attributes records_usual(const struct mount *mount, bool is_directory) {
+    return (struct attributes){.told = {.kind = is_directory ? DOORVERVAIN_DIRECTORY : DOORVERVAIN_FILE,
+                                        .mode = is_directory ? USUAL_FOLDER_MODE : USUAL_MODE,
+                                        .user = mount->user,
+                                        .group = mount->group,
+                                        .names = 1}};
+}
+
+static bool is_usual(const struct mount *mount, const struct attributes *attributes) {
+    const struct doorvervain_attributes *told = &attributes->told;
+    bool is_directory = told->kind == DOORVERVAIN_DIRECTORY;
+    return (is_directory || told->kind == DOORVERVAIN_FILE) && told->user == mount->user &&
+           told->group == mount->group && told->names == 1 && !told->has_modified && !attributes->has_extended &&
+           told->mode == (is_directory ? USUAL_FOLDER_MODE : USUAL_MODE);
+}
+
+// ---- reading
+
+static int read_text(struct mount *mount, struct place place, size_t length, struct bytes *out) {
+    if (length > LARGEST_READ) return EFBIG;
+    int fault = bytes_reserve(out, length + 1);
+    return fault ? fault : mount->volume.way->read(mount->volume.self, place, 0, out->at, length, &out->length);
+}
+
+// Whether what a record says fits what stands there.
+static bool fits(const struct doorvervain_attributes *told, bool is_directory, bool is_of_links) {
+    if (told->kind == DOORVERVAIN_OTHER_NAME && is_of_links) return false;
+    return told->names && is_directory == (told->kind == DOORVERVAIN_DIRECTORY);
+}
+
+static int parse(struct mount *mount, const struct bytes *text, struct attributes *out, struct bytes *extended) {
+    struct bytes unasked = {0}, *packed = extended ? extended : &unasked;
+    int fault = bytes_reserve(packed, text->length + 1);
+    if (!fault)
+        fault = doorvervain_errno(mount->volume.records->parse((const uint8_t *)text->at, text->length, &out->told,
+                                                               (uint8_t *)packed->at, text->length, &packed->length));
+    out->has_extended = packed->length;
+    bytes_free(&unasked);
+    return fault;
+}
+
+void records_limit(const struct mount *mount, struct doorvervain_attributes *told) {
+    if (mount->trusts) return;
+    told->user = mount->user;
+    told->group = mount->group;
+    told->mode &= told->kind == DOORVERVAIN_DIRECTORY ? ~(uint32_t)S_ISUID : ~(uint32_t)(S_ISUID | S_ISGID);
+}
+
+static int read_record(struct mount *mount, const struct spot *spot, struct place place, size_t length,
+                       bool is_directory, struct attributes *out, struct bytes *extended) {
+    struct bytes text = {0};
+    int fault = read_text(mount, place, length, &text);
+    if (!fault) fault = parse(mount, &text, out, extended);
+    bytes_free(&text);
+    if (fault == ENOMEM) return fault;
+    if (!fault && fits(&out->told, is_directory, is_own(spot->path))) {
+        records_limit(mount, &out->told);
+        return 0;
+    }
+    if (!mount->has_told) ending_say("a record that cannot be read is passed over, of ", spot->path, EINVAL);
+    mount->has_told = true;
+    if (extended) extended->length = 0;
+    *out = records_usual(mount, is_directory);
+    return 0;
+}
+
+int records_read(struct mount *mount, const struct spot *spot, bool is_directory, struct attributes *out,
+                 struct bytes *extended) {
+    struct place_of_record of;
+    struct standing standing = {0};
+    *out = records_usual(mount, is_directory);
+    if (!mount_keeps_records(mount) || find_place(mount, spot->path, &of)) return 0;
+    struct place place = {spot->snapshot, of.file};
+    int fault = mount->volume.way->stat(mount->volume.self, place, &standing);
+    if (!fault && !standing.is_directory)
+        fault = read_record(mount, spot, place, standing.length, is_directory, out, extended);
+    else if (fault == ENOENT || fault == ENOTDIR || standing.is_directory) return 0;
+    out->has_record = !fault;
+    out->changed = standing.modified;
+    return fault;
+}
+
+// Whether nothing below a directory has a record. That is remembered until a folder for records comes to stand.
+static bool is_bare(struct mount *mount, struct entry *directory) {
+    struct spot spot;
+    struct standing standing;
+    char folder[LONGEST_PATH + 1];
+    if (!mount_keeps_records(mount) || directory->bare_in == mount->mirrors) return true;
+    if (directory->role == OWN_FOLDER) return false;
+    if (entry_spot(directory, 0, &spot) || form_path(mount->volume.records->mirror, spot.path, folder)) return false;
+    int fault = mount->volume.way->stat(mount->volume.self, (struct place){spot.snapshot, folder}, &standing);
+    if (fault != ENOENT) return false;
+    directory->bare_in = mount->mirrors;
+    return true;
+}
+
+int records_read_name(struct mount *mount, struct entry *parent, const struct spot *spot, bool is_directory,
+                      struct attributes *out) {
+    if (!is_bare(mount, parent)) return records_read(mount, spot, is_directory, out, 0);
+    *out = records_usual(mount, is_directory);
+    return 0;
+}
+
+void records_remember(struct mount *mount, struct entry *entry, const struct attributes *attributes) {
+    entry->attributes = *attributes;
+    entry->read_in = mount->state;
+    entry->stays = !mount_keeps_records(mount) && !is_usual(mount, attributes);
+}
+
+// Of a listing of a mirrored folder, in which names that begin with byte 1 have one more, and byte 1 alone is a record.
+static void unmirror(struct bytes *listing) {
+    size_t kept = 0;
+    for (size_t at = 0, size; at < listing->length; at += size) {
+        size = strlen(listing->at + at) + 1;
+        bool is_escaped = listing->at[at + 1] == 1;
+        if (is_escaped && size == 3) continue;
+        listing->at[kept] = listing->at[at];
+        memmove(listing->at + kept + 1, listing->at + at + 1 + is_escaped, size - 1 - is_escaped);
+        kept += size - is_escaped;
+    }
+    listing->length = kept;
+}
+
+int records_list(struct mount *mount, struct entry *directory, struct bytes *out) {
+    struct spot spot;
+    char folder[LONGEST_PATH + 1];
+    if (is_bare(mount, directory)) return 0;
+    int fault = entry_spot(directory, 0, &spot);
+    if (!fault) fault = form_path(mount->volume.records->mirror, spot.path, folder);
+    if (!fault) fault = mount->volume.way->list(mount->volume.self, (struct place){spot.snapshot, folder}, out);
+    if (!fault) unmirror(out);
+    return fault;
+}
+
+int records_of(struct mount *mount, struct entry *entry, const struct attributes **out) {
+    struct spot spot;
+    struct attributes read = records_usual(mount, entry->is_directory);
+    bool is_gone = !entry->parent && entry->role != LIVE_ROOT;
+    *out = &entry->attributes;
+    if (entry->read_in == mount->state || (is_gone && entry->read_in)) return 0;
+    if (is_gone || entry->role == SNAPSHOT_FOLDER) {
+        records_remember(mount, entry, &read);
+        return 0;
+    }
+    int fault = entry_spot(entry, 0, &spot);
+    if (!fault) fault = records_read(mount, &spot, entry->is_directory, &read, 0);
+    if (!fault) records_remember(mount, entry, &read);
+    return fault;
+}
+
+// ---- writing
+
+// Makes a folder for records, and those above it that do not stand.
+static int make_folders(struct journal *journal, const char *path) {
+    char part[LONGEST_PATH + 1];
+    size_t length = strlen(path), end = length;
+    int fault = own_make(journal->mount, OWN_ROOT);
+    if (fault) return fault;
+    memcpy(part, path, length + 1);
+    journal->mount->mirrors++;
+    while ((fault = journal_make(journal, MAKE_DIRECTORY, part, journal->at, journal->at)) == ENOENT) {
+        end = (size_t)(strrchr(part, '/') - part);
+        if (end < sizeof OWN_PATH) return EIO;
+        part[end] = 0;
+    }
+    if (fault == EEXIST) fault = 0;
+    while (!fault && end < length) {
+        part[end] = '/';
+        end = strlen(part);
+        fault = journal_make(journal, MAKE_DIRECTORY, part, journal->at, journal->at);
+    }
+    return fault;
+}
+
+static int print(const struct mount *mount, const struct attributes *attributes, const struct bytes *extended,
+                 struct bytes *out) {
+    const uint8_t *packed = (const uint8_t *)(extended && extended->length ? extended->at : "");
+    size_t packed_length = extended ? extended->length : 0, size = 4 * packed_length + 512;
+    int fault = bytes_reserve(out, size);
+    if (!fault)
+        fault = doorvervain_errno(mount->volume.records->print(&attributes->told, packed, packed_length,
+                                                               (uint8_t *)out->at, out->room, &size));
+    out->length = size;
+    return !fault && size > LARGEST_READ ? ENOSPC : fault;
+}
+
+// What stands there is what an earlier record left, or nothing.
+static int put_text(struct journal *journal, const struct place_of_record *place, const struct bytes *text) {
+    const struct volume *volume = &journal->mount->volume;
+    struct standing standing;
+    size_t done;
+    int fault = volume->way->stat(volume->self, (struct place){0, place->file}, &standing);
+    if (!fault) return journal_write(journal, place->file, text->at, text->length);
+    if (fault != ENOENT) return fault;
+    fault = place->folder[0] ? make_folders(journal, place->folder) : 0;
+    if (!fault) fault = journal_make(journal, CREATE, place->file, journal->at, journal->at);
+    if (fault) return fault;
+    return volume->way->write(volume->self, place->file, 0, text->at, text->length, journal->at, &done);
+}
+
+int records_write(struct journal *journal, const char *path, struct attributes *attributes,
+                  const struct bytes *extended) {
+    struct mount *mount = journal->mount;
+    struct place_of_record place;
+    struct bytes text = {0};
+    attributes->has_extended = extended && extended->length;
+    if (!mount_keeps_records(mount)) return 0;
+    bool is_wanted = !is_usual(mount, attributes), stood = attributes->has_record;
+    attributes->has_record = is_wanted;
+    attributes->changed = is_wanted ? journal->at : 0;
+    if (!is_wanted && !stood) return 0;
+    int fault = find_place(mount, path, &place);
+    if (!fault && !is_wanted) return journal_park(journal, place.file);
+    if (!fault) fault = print(mount, attributes, extended, &text);
+    if (!fault) fault = put_text(journal, &place, &text);
+    bytes_free(&text);
+    return fault;
+}
+
+int records_rewrite(struct journal *journal, struct entry *entry, struct attributes *attributes) {
+    struct spot spot;
+    struct attributes before;
+    struct bytes extended = {0};
+    int fault = entry_spot(entry, 0, &spot);
+    if (fault) return fault == ENOENT ? 0 : fault; // A folder that is gone.
+    if (attributes->has_extended)
+        fault = records_read(journal->mount, &spot, entry->is_directory, &before, &extended);
+    if (!fault) fault = records_write(journal, spot.path, attributes, &extended);
+    bytes_free(&extended);
+    return fault;
+}
+
+int records_drop(struct journal *journal, struct entry *parent, const char *path) {
+    char folder[LONGEST_PATH + 1];
+    if (is_bare(journal->mount, parent)) return 0;
+    int fault = form_path(journal->mount->volume.records->mirror, path, folder);
+    return fault == ENAMETOOLONG ? 0 : fault ? fault : journal_park(journal, folder);
+}
+
+static int move_folder(struct journal *journal, const char *from, const char *to) {
+    const struct volume *volume = &journal->mount->volume;
+    struct standing standing;
+    char above[LONGEST_PATH + 1];
+    int fault = volume->way->stat(volume->self, (struct place){0, from}, &standing);
+    if (fault) return fault == ENOENT ? 0 : fault;
+    strcpy(above, to);
+    *strrchr(above, '/') = 0;
+    fault = make_folders(journal, above);
+    return fault ? fault : journal_rename(journal, from, to, journal->at, journal->at);
+}
+
+int records_move(struct journal *journal, struct entry *parent, const char *from, struct entry *new_parent,
+                 const char *to) {
+    char old_folder[LONGEST_PATH + 1], new_folder[LONGEST_PATH + 1];
+    int fault = records_drop(journal, new_parent, to);
+    if (fault || is_bare(journal->mount, parent)) return fault;
+    fault = form_path(journal->mount->volume.records->mirror, from, old_folder);
+    if (fault) return fault == ENAMETOOLONG ? 0 : fault;
+    fault = form_path(journal->mount->volume.records->mirror, to, new_folder);
+    return fault ? fault : move_folder(journal, old_folder, new_folder);
+}
+
+int records_move_one(struct journal *journal, const char *from, const char *to) {
+    struct place_of_record old_place, new_place;
+    int fault = find_place(journal->mount, from, &old_place);
+    if (!fault) fault = find_place(journal->mount, to, &new_place);
+    if (fault) return fault;
+    return journal_rename(journal, old_place.file, new_place.file, journal->at, journal->at);
+}
+
+int records_drop_one(struct journal *journal, const char *path) {
+    struct place_of_record place;
+    if (!mount_keeps_records(journal->mount)) return 0;
+    int fault = find_place(journal->mount, path, &place);
+    return fault ? fault : journal_park(journal, place.file);
+}
