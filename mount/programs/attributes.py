@@ -314,7 +314,7 @@ def the_longest_path():
     for make in makes():
         path = path_of(LONGEST)
         make(path)
-        if not os.path.islink(path):
+        if os.path.isfile(path) or os.path.isdir(path):
             mark(path, 3)
             assert is_marked(path, 3)
         os.rename(path, b"short")

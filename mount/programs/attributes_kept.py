@@ -60,6 +60,21 @@ def a_tree_with_attributes(folder: Path):
 
 
 @case
+def an_image_that_is_not_trusted(folder: Path):
+    mount = Mount(folder, "--image", folder / "image")
+    make_tree(mount.point)
+    made = seen(mount.point)
+    assert mount.end() == 0, mount.said()
+    mount = Mount(folder, "--load", folder / "image")
+    own = {path: each._replace(mode=each.mode & ~(stat.S_ISUID | stat.S_ISGID), user=os.getuid(), group=os.getgid())
+           for path, each in made.items()}
+    told = seen(mount.point)
+    alike({path: each._replace(mode=each.mode & ~stat.S_ISGID) for path, each in told.items()}, own)
+    assert not any(each.mode & stat.S_ISGID for each in told.values() if stat.S_ISREG(each.mode))
+    assert mount.end() == 0, mount.said()
+
+
+@case
 def attributes_of_the_root(folder: Path):
     mount = Mount(folder, "--image", folder / "image")
     os.chmod(mount.point, 0o1711)

