@@ -97,6 +97,10 @@ static struct entry *new_entry(char *name, bool is_directory) {
     return entry;
 }
 
+void entries_number_above(uint64_t number) {
+    if (number > numbers) numbers = number;
+}
+
 struct entry *entry_find(const struct entry *parent, const char *name) {
     for (struct entry *entry = slots[slot_of(parent, name)]; entry; entry = entry->same_slot)
         if (entry->parent == parent && !strcmp(entry->name, name)) return entry;

@@ -36,7 +36,7 @@ struct entry {
     enum role role;
     bool is_directory;
     bool is_unlinked; // its name is gone, and it stands in the folder for that
-    uint64_t number;  // that no other entry has or had
+    uint64_t number;  // as stat(2) tells it: no other entry has it, or had it
     uint64_t link;    // its number as a file of several names; 0: its name is its own
     uint64_t lookups; // what the kernel holds
     uint64_t opens;
@@ -67,6 +67,8 @@ struct entry *entry_add(struct entry *parent, const char *name, bool is_director
 struct entry *entry_find_or_add(struct entry *parent, const char *name, bool is_directory);
 // The entry of a folder below the reserved one, of the tree that an entry lies in; null where memory is wanting.
 struct entry *entry_own_folder(struct entry *entry, const char *name);
+// The numbers of new entries are above this one.
+void entries_number_above(uint64_t number);
 // Takes an entry and all below it out of the tree. Those that nobody holds are freed.
 void entry_take_out(struct entry *entry);
 // Gives an entry another name, which it then owns.

@@ -67,12 +67,17 @@ static int read_all(struct mount *mount, struct entry *entry, struct bytes *out)
 }
 
 // Access control lists, which are names of `system.`, would have to change the mode: there are none.
-static bool is_kernels(const char *name) { return !strncmp(name, "system.", 7); }
+static bool is_refused(const char *name) {
+    static const char *const kept[] = {"user.", "trusted.", "security."};
+    for (size_t i = 0; i < sizeof kept / sizeof *kept; i++)
+        if (!strncmp(name, kept[i], strlen(kept[i]))) return false;
+    return true;
+}
 
 int extended_get(struct mount *mount, struct entry *entry, const char *name, struct bytes *out) {
     struct bytes all = {0};
     struct packed one;
-    int fault = is_kernels(name) ? EOPNOTSUPP : read_all(mount, entry, &all);
+    int fault = is_refused(name) ? EOPNOTSUPP : read_all(mount, entry, &all);
     if (!fault && !find(&all, name, &one)) fault = ENODATA;
     if (!fault) fault = bytes_append(out, one.value, one.length);
     bytes_free(&all);
@@ -121,7 +126,7 @@ static int change(struct mount *mount, struct entry *entry, const char *name, co
 }
 
 static int may_change(const struct mount *mount, const struct entry *entry, const char *name) {
-    return is_kernels(name) || !mount_keeps_records(mount) ? EOPNOTSUPP : files_may_change(entry);
+    return is_refused(name) || !mount_keeps_records(mount) ? EOPNOTSUPP : files_may_change(entry);
 }
 
 int extended_set(struct mount *mount, struct entry *entry, const char *name, const char *value, size_t length,

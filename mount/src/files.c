@@ -55,12 +55,6 @@ int files_stand(struct mount *mount, const struct entry *entry, struct standing 
     return fault ? fault : stand(mount, &spot, out);
 }
 
-// A file of several names has one number for as long as the tree has it, and another one in each tree.
-ino_t files_number(const struct entry *entry) {
-    const struct entry *root = entry->link ? entry_root(entry) : 0;
-    return root ? (ino_t)1 << 62 | root->number << 32 | entry->link : entry->number;
-}
-
 static mode_t kind_of(const struct doorvervain_attributes *told) {
     switch (told->kind) {
     case DOORVERVAIN_DIRECTORY: return S_IFDIR;
@@ -92,7 +86,7 @@ void files_tell(struct mount *mount, struct entry *entry, struct standing standi
     bool is_gone = !entry->parent && entry->role != LIVE_ROOT;
     if (attributes->changed) changed = later(changed, time_of(attributes->changed));
     *out = (struct stat){
-        .st_ino = files_number(entry),
+        .st_ino = entry->number,
         .st_mode = kind_of(&attributes->told) | attributes->told.mode,
         .st_nlink = is_gone || entry->is_unlinked ? 0 : attributes->told.names,
         .st_uid = attributes->told.user,
@@ -100,7 +94,7 @@ void files_tell(struct mount *mount, struct entry *entry, struct standing standi
         .st_rdev = attributes->told.device,
         .st_size = (off_t)standing.length,
         .st_blksize = 4096,
-        .st_blocks = (blkcnt_t)((holes_stored(mount, entry, standing) + 511) / 512),
+        .st_blocks = (blkcnt_t)(holes_stored(mount, entry, standing) / 512),
         .st_atim = entry->has_access ? entry->access : modified,
         .st_mtim = modified,
         .st_ctim = changed,
@@ -265,11 +259,23 @@ int files_set(struct mount *mount, struct entry *entry, const struct setting *se
 
 // ---- bytes
 
-int files_open(struct mount *mount, struct entry *entry, int flags) {
+// For writes and other cuts the kernel says so itself.
+static int drop_set_user(struct mount *mount, struct entry *entry, uint64_t at) {
+    const struct attributes *attributes;
+    int fault = records_of(mount, entry, &attributes);
+    mode_t mode = attributes->told.mode, less = mode & (mode & S_IXGRP ? S_ISUID | S_ISGID : S_ISUID);
+    if (fault || !less) return fault;
+    mode &= ~less;
+    return files_set(mount, entry, &(struct setting){.mode = &mode, .at = at});
+}
+
+int files_open(struct mount *mount, struct entry *entry, int flags, bool drops) {
     bool cuts = flags & O_TRUNC;
     bool changes = cuts || (flags & O_ACCMODE) != O_RDONLY;
+    uint64_t at = moment_now();
     int fault = changes ? files_may_change(entry) : 0;
-    if (!fault && cuts) fault = cut_file(mount, entry, &(struct cut){true, 0, moment_now()});
+    if (!fault && cuts && drops) fault = drop_set_user(mount, entry, at);
+    if (!fault && cuts) fault = cut_file(mount, entry, &(struct cut){true, 0, at});
     if (!fault) entry->opens++;
     return fault;
 }

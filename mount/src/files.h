@@ -41,8 +41,8 @@ int files_stand(struct mount *mount, const struct entry *entry, struct standing 
 void files_tell(struct mount *mount, struct entry *entry, struct standing standing, struct stat *out);
 int files_set(struct mount *mount, struct entry *entry, const struct setting *setting);
 
-// A file is opened, with flags as of open(2), and closed.
-int files_open(struct mount *mount, struct entry *entry, int flags);
+// A file is opened, with flags as of open(2), and closed. One that is cut by it may drop its set-user bits.
+int files_open(struct mount *mount, struct entry *entry, int flags, bool drops);
 int files_close(struct mount *mount, struct entry *entry);
 int files_read(struct mount *mount, struct entry *entry, uint64_t offset, char *out, size_t room, size_t *got);
 int files_write(struct mount *mount, struct entry *entry, uint64_t offset, const char *bytes, size_t count,
@@ -53,8 +53,6 @@ int files_read_link(struct mount *mount, struct entry *entry, struct bytes *out)
 // The names of a directory, as `struct way` tells them; those of the mount's own are left out.
 int files_list(struct mount *mount, struct entry *entry, struct bytes *out);
 
-// The number of an entry, as stat(2) tells it.
-ino_t files_number(const struct entry *entry);
 // Whether a name in a directory is one of the mount's own, which no user's file has.
 bool files_is_reserved(const struct entry *parent, const char *name);
 // Whether an entry may be changed: 0 or EROFS.

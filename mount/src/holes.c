@@ -6,17 +6,23 @@
 #include <fcntl.h>
 #include <unistd.h>
 
+enum { BLOCK = 4096 };
+
 // ---- what is remembered
 
 static void forget(struct entry *entry) { entry->stored_in = 0; }
 
+// What the blocks take that have so many bytes from the first block's beginning on.
+static uint64_t whole(uint64_t bytes) { return (bytes + BLOCK - 1) / BLOCK * BLOCK; }
+
 static bool is_dense(const struct mount *mount, const struct entry *entry) {
-    return entry->stored_in == mount->state && entry->stored == entry->length;
+    return entry->stored_in == mount->state && entry->stored == whole(entry->length);
 }
 
 void holes_dense(struct mount *mount, struct entry *entry, uint64_t length) {
     entry->stored_in = mount->state;
-    entry->stored = entry->length = length;
+    entry->length = length;
+    entry->stored = whole(length);
 }
 
 void holes_written(struct mount *mount, struct entry *entry, uint64_t offset, size_t count) {
@@ -43,7 +49,7 @@ static int count_stored(struct mount *mount, struct entry *entry, uint64_t lengt
     for (uint64_t at = 0; !fault && at < length; at = run.to) {
         fault = next_run(mount, &spot, at, &run);
         if (fault || run.from >= run.to) break;
-        *out += run.to - run.from;
+        *out += whole(run.to) - run.from / BLOCK * BLOCK;
     }
     return fault;
 }
@@ -52,7 +58,7 @@ uint64_t holes_stored(struct mount *mount, struct entry *entry, struct standing 
     uint64_t stored;
     if (standing.is_directory) return 0;
     if (entry->stored_in == mount->state && entry->length == standing.length) return entry->stored;
-    if (count_stored(mount, entry, standing.length, &stored)) return standing.length;
+    if (count_stored(mount, entry, standing.length, &stored)) return whole(standing.length);
     entry->stored_in = mount->state;
     entry->length = standing.length;
     entry->stored = stored;

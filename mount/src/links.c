@@ -10,6 +10,12 @@ static int stand_at(struct mount *mount, const struct spot *spot, struct standin
     return mount->volume.way->stat(mount->volume.self, (struct place){spot->snapshot, spot->path}, out);
 }
 
+// Of a file of several names: its own number, and another one in each snapshot.
+static uint64_t number_in(const struct entry *folder, uint64_t number) {
+    const struct entry *root = entry_root(folder);
+    return root->role == LIVE_ROOT ? number : (uint64_t)1 << 62 | root->number << 32 | number;
+}
+
 // What stands in the place of a number, in the tree that a directory lies in.
 static int find_file(struct mount *mount, struct entry *parent, uint64_t number, struct standing *standing,
                      struct entry **out) {
@@ -23,6 +29,7 @@ static int find_file(struct mount *mount, struct entry *parent, uint64_t number,
     if (fault) return fault;
     *out = entry_find_or_add(folder, own_name(&path), false);
     if (!*out) return ENOMEM;
+    if (!(*out)->link) (*out)->number = number_in(folder, number);
     (*out)->link = number;
     return records_of(mount, *out, &attributes);
 }
@@ -87,20 +94,20 @@ static int make_once(struct journal *journal, struct entry *entry, struct entry 
 }
 
 // The entry is that of the file in its place from now on.
-static void settle(struct mount *mount, struct entry *entry, struct entry *folder, char *name, uint64_t number) {
+static void settle(struct entry *entry, struct entry *folder, char *name, uint64_t number) {
     if (entry->link) {
         free(name);
         return;
     }
     entry_move(entry, folder, name);
-    entry->link = mount->links = number;
+    entry->link = number;
 }
 
 static int make_name(struct mount *mount, struct entry *entry, struct entry *parent, const struct spot *spot,
                      uint64_t at) {
     struct journal journal;
     struct attributes attributes = entry->attributes;
-    uint64_t number = entry->link ? entry->link : mount->links + 1;
+    uint64_t number = entry->link ? entry->link : entry->number;
     struct own_path path = own_link(number);
     struct entry *folder = entry_own_folder(mount->root, LINKS);
     char *name = folder ? strdup(own_name(&path)) : 0;
@@ -111,7 +118,7 @@ static int make_name(struct mount *mount, struct entry *entry, struct entry *par
         free(name);
         return fault;
     }
-    settle(mount, entry, folder, name, number);
+    settle(entry, folder, name, number);
     records_remember(mount, entry, &attributes);
     entry->change = time_of(at);
     return 0;

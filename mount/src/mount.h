@@ -14,7 +14,6 @@ struct mount {
     uint64_t state;        // grows where the tree becomes another one
     uint64_t mirrors;      // grows where a folder for records comes to stand
     uint64_t aside;        // how many were set aside
-    uint64_t links;        // the largest number of a file with several names
     struct entry *leaving; // an unlinked file that the kernel still knows, before it is set aside; null: none
     uint64_t leaving_at;   // the moment at which it was unlinked
 };

@@ -46,13 +46,14 @@ static int make(struct mount *mount, struct entry *parent, const char *name, con
     struct journal journal;
     bool is_directory = novelty->told.kind == DOORVERVAIN_DIRECTORY;
     struct attributes attributes = {.told = novelty->told};
-    struct entry *known = entry_find(parent, name);
-    *out = known ? known : entry_add(parent, name, is_directory);
+    struct entry *former = entry_find(parent, name); // of a tree that is not there any more
+    *out = entry_add(parent, name, is_directory);
     if (!*out) return ENOMEM;
     journal_begin(&journal, mount, at);
     int fault = journal_end(&journal, make_once(&journal, parent, spot, novelty, &attributes));
     if (!fault) records_remember(mount, *out, &attributes);
-    else if (!known) entry_take_out(*out);
+    if (!fault && former) entry_take_out(former);
+    if (fault) entry_take_out(*out);
     return fault;
 }
 
@@ -179,6 +180,8 @@ static void follow(struct mount *mount, struct move *move, char *name, uint64_t 
     if (target && target->is_directory) entry_take_out(target);
     else if (target && move->target.is_other_name) links_follow(mount, target, &move->counted, at);
     else if (target) aside_follow(mount, target, &move->aside, at);
+    struct entry *former = entry_find(move->new_parent, name); // of a tree that is not there any more
+    if (former) entry_take_out(former);
     source->change = time_of(at);
     if (move->source.is_other_name) free(name);
     else entry_move(source, move->new_parent, name);

@@ -5,6 +5,11 @@
 #include <stdlib.h>
 #include <string.h>
 
+// Of those that files in an image may have.
+#define MOST_NUMBER ((uint64_t)1 << 61)
+
+#define TREE_PATH OWN_PATH "/tree"
+
 static const char *const paths[] = {OWN_PATH, LINKS_PATH, UNLINKED_PATH};
 
 static int change(struct mount *mount, enum change what, const char *path, uint64_t at) {
@@ -57,18 +62,18 @@ int own_end(struct mount *mount) {
     if (!fault) fault = root_moment(mount, &at);
     if (fault) return fault;
     change(mount, REMOVE_DIRECTORY, LINKS_PATH, 0);
-    change(mount, REMOVE_DIRECTORY, OWN_PATH "/tree", 0);
+    change(mount, REMOVE_DIRECTORY, TREE_PATH, 0);
     change(mount, REMOVE_DIRECTORY, OWN_PATH, at);
     return 0;
 }
 
-// The largest number among the files with several names.
+// A file with several names has the number that it had as an entry before. No entry of this mount has one of those.
 static int find_links(struct mount *mount) {
     struct bytes names = {0};
     int fault = mount->volume.way->list(mount->volume.self, (struct place){0, LINKS_PATH}, &names);
     for (size_t at = 0; !fault && at < names.length; at += strlen(names.at + at) + 1) {
         uint64_t number = strtoull(names.at + at + 1, 0, 10);
-        if (number > mount->links && number < UINT64_MAX / 2) mount->links = number;
+        if (number < MOST_NUMBER) entries_number_above(number);
     }
     bytes_free(&names);
     return fault == ENOENT || fault == ENOTDIR ? 0 : fault;
@@ -84,14 +89,26 @@ static int refuse(const char *what) {
     return EINVAL;
 }
 
+// A file that an image has in the place of one of the folders goes. The root keeps its moment.
+static int leave_out_file(struct mount *mount, const char *path) {
+    struct standing standing;
+    uint64_t at = 0;
+    int fault = mount->volume.way->stat(mount->volume.self, (struct place){0, path}, &standing);
+    if (fault || standing.is_directory) return fault == ENOENT || fault == ENOTDIR ? 0 : fault;
+    fprintf(stderr, "doorvervain-mount: the image has a file %s, a name of the mount's own: it is left out\n", path);
+    fault = root_moment(mount, &at);
+    return fault ? fault : change(mount, UNLINK, path, at);
+}
+
 int own_start(struct mount *mount) {
-    struct standing own;
-    int fault = mount->volume.way->stat(mount->volume.self, (struct place){0, OWN_PATH}, &own);
-    if (fault) return fault == ENOENT ? 0 : fault;
-    if (!own.is_directory) return refuse("the image has a file " OWN_PATH ", which is the mount's own name");
-    if (!mount_keeps_records(mount) && (stands(mount, OWN_PATH "/tree") || stands(mount, LINKS_PATH)))
+    if (!mount_keeps_records(mount) && (stands(mount, TREE_PATH) || stands(mount, LINKS_PATH)))
         return refuse("the image has attributes or links, which a mount with --pipe does not know");
-    if (stands(mount, UNLINKED_PATH)) fputs("doorvervain-mount: the image has " UNLINKED_PATH ", which is left out\n", stderr);
+    int fault = leave_out_file(mount, OWN_PATH);
+    if (!fault) fault = leave_out_file(mount, TREE_PATH);
+    if (!fault) fault = leave_out_file(mount, LINKS_PATH);
+    if (fault) return fault;
+    if (stands(mount, UNLINKED_PATH))
+        fputs("doorvervain-mount: the image has " UNLINKED_PATH ", which is left out\n", stderr);
     fault = own_clear(mount);
     return fault ? fault : find_links(mount);
 }

@@ -195,6 +195,18 @@ int records_of(struct mount *mount, struct entry *entry, const struct attributes
 
 // ---- writing
 
+// Makes one folder. A file that an image has in its place goes.
+static int make_folder(struct journal *journal, const char *path) {
+    const struct volume *volume = &journal->mount->volume;
+    struct standing standing;
+    int fault = journal_make(journal, MAKE_DIRECTORY, path, journal->at, journal->at);
+    if (fault != EEXIST) return fault;
+    fault = volume->way->stat(volume->self, (struct place){0, path}, &standing);
+    if (fault || standing.is_directory) return fault;
+    fault = journal_park(journal, path);
+    return fault ? fault : journal_make(journal, MAKE_DIRECTORY, path, journal->at, journal->at);
+}
+
 // Makes a folder for records, and those above it that do not stand.
 static int make_folders(struct journal *journal, const char *path) {
     char part[LONGEST_PATH + 1];
@@ -203,16 +215,15 @@ static int make_folders(struct journal *journal, const char *path) {
     if (fault) return fault;
     memcpy(part, path, length + 1);
     journal->mount->mirrors++;
-    while ((fault = journal_make(journal, MAKE_DIRECTORY, part, journal->at, journal->at)) == ENOENT) {
+    while ((fault = make_folder(journal, part)) == ENOENT || fault == ENOTDIR) {
         end = (size_t)(strrchr(part, '/') - part);
         if (end < sizeof OWN_PATH) return EIO;
         part[end] = 0;
     }
-    if (fault == EEXIST) fault = 0;
     while (!fault && end < length) {
         part[end] = '/';
         end = strlen(part);
-        fault = journal_make(journal, MAKE_DIRECTORY, part, journal->at, journal->at);
+        fault = make_folder(journal, part);
     }
     return fault;
 }
@@ -236,7 +247,7 @@ static int put_text(struct journal *journal, const struct place_of_record *place
     size_t done;
     int fault = volume->way->stat(volume->self, (struct place){0, place->file}, &standing);
     if (!fault) return journal_write(journal, place->file, text->at, text->length);
-    if (fault != ENOENT) return fault;
+    if (fault != ENOENT && fault != ENOTDIR) return fault;
     fault = place->folder[0] ? make_folders(journal, place->folder) : 0;
     if (!fault) fault = journal_make(journal, CREATE, place->file, journal->at, journal->at);
     if (fault) return fault;

@@ -15,7 +15,9 @@
 #include "snapshots.h"
 #include <errno.h>
 #include <fcntl.h>
+#include <linux/capability.h>
 #include <pthread.h>
+#include <stdio.h>
 #include <stdlib.h>
 #include <string.h>
 #include <unistd.h>
@@ -232,18 +234,37 @@ static void on_rename(fuse_req_t req, fuse_ino_t parent, const char *name, fuse_
     fuse_reply_err(req, fault);
 }
 
+// Whether who cuts a file takes its set-user bits away: all but those who have CAP_FSETID.
+static bool drops_set_user(fuse_req_t req) {
+    char name[64], line[256];
+    unsigned long long held = 0;
+    snprintf(name, sizeof name, "/proc/%d/status", (int)fuse_req_ctx(req)->pid);
+    FILE *status = fopen(name, "re");
+    while (status && fgets(line, sizeof line, status))
+        if (sscanf(line, "CapEff: %llx", &held) == 1) break;
+    if (status) fclose(status);
+    return !(held & 1ull << CAP_FSETID);
+}
+
+// It is asked only where a file has such bits.
+static bool may_drop(fuse_req_t req, const struct entry *entry, int flags) {
+    return flags & O_TRUNC && entry->attributes.told.mode & (S_ISUID | S_ISGID) && drops_set_user(req);
+}
+
 static void on_open(fuse_req_t req, fuse_ino_t number, struct fuse_file_info *info) {
+    struct entry *entry = entry_of(req, number);
     int fault = begin(req);
-    if (!fault) fault = files_open(mount_of(req), entry_of(req, number), info->flags);
+    if (!fault) fault = files_open(mount_of(req), entry, info->flags, may_drop(req, entry, info->flags));
     pthread_mutex_unlock(&lock);
     if (fault) fuse_reply_err(req, fault);
     else fuse_reply_open(req, info);
 }
 
 // A file that stands already is opened as it is; where that cuts it, what is told is what stands then.
-static int open_found(struct mount *mount, struct entry *folder, const char *name, int flags, struct found *found) {
+static int open_found(fuse_req_t req, struct entry *folder, const char *name, int flags, struct found *found) {
+    struct mount *mount = mount_of(req);
     int fault = files_find(mount, folder, name, found);
-    if (!fault) fault = files_open(mount, found->entry, flags);
+    if (!fault) fault = files_open(mount, found->entry, flags, may_drop(req, found->entry, flags));
     return fault ? fault : files_stat(mount, found->entry, &found->stat);
 }
 
@@ -253,8 +274,8 @@ static int create(fuse_req_t req, fuse_ino_t parent, const char *name, mode_t mo
     struct mount *mount = mount_of(req);
     struct entry *folder = entry_of(req, parent);
     int fault = names_make(mount, folder, name, &novelty, found);
-    if (fault == EEXIST && !(flags & O_EXCL)) fault = open_found(mount, folder, name, flags, found);
-    else if (!fault) fault = files_open(mount, found->entry, flags & ~O_TRUNC);
+    if (fault == EEXIST && !(flags & O_EXCL)) fault = open_found(req, folder, name, flags, found);
+    else if (!fault) fault = files_open(mount, found->entry, flags & ~O_TRUNC, false);
     return hold(fault, found);
 }
 
@@ -397,7 +418,7 @@ static bool put_line(struct page *page, const struct line *line) {
 static bool put_dots(struct page *page, const char *name, off_t next) {
     const struct entry *directory = page->directory;
     if (name[1] && directory->parent) directory = directory->parent;
-    struct stat stat = {.st_mode = S_IFDIR, .st_ino = files_number(directory)};
+    struct stat stat = {.st_mode = S_IFDIR, .st_ino = directory->number};
     return put_line(page, &(struct line){.name = name, .param.attr = stat, .next = next});
 }
 
@@ -410,7 +431,7 @@ static bool put_name(struct page *page, const char *name, bool is_directory, off
     if (fault == ENOENT) return true;
     if (!fault && known) fault = files_stat(mount_of(page->req), known, &found.stat);
     line.param.attr.st_mode = fault ? is_directory ? S_IFDIR : S_IFREG : found.stat.st_mode;
-    line.param.attr.st_ino = fault ? NO_NUMBER : files_number(found.entry);
+    line.param.attr.st_ino = fault ? NO_NUMBER : found.entry->number;
     if (!fault && page->tells_more) {
         line.param = told(&found);
         line.held = found.entry;
