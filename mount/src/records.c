@@ -240,14 +240,15 @@ static int print(const struct mount *mount, const struct attributes *attributes,
     return !fault && size > LARGEST_READ ? ENOSPC : fault;
 }
 
-// What stands there is what an earlier record left, or nothing.
+// What stands there is an earlier record or nothing; or a folder, which an image had there, and which goes.
 static int put_text(struct journal *journal, const struct place_of_record *place, const struct bytes *text) {
     const struct volume *volume = &journal->mount->volume;
     struct standing standing;
     size_t done;
     int fault = volume->way->stat(volume->self, (struct place){0, place->file}, &standing);
-    if (!fault) return journal_write(journal, place->file, text->at, text->length);
-    if (fault != ENOENT && fault != ENOTDIR) return fault;
+    if (!fault && !standing.is_directory) return journal_write(journal, place->file, text->at, text->length);
+    if (!fault) fault = journal_park(journal, place->file);
+    if (fault && fault != ENOENT && fault != ENOTDIR) return fault;
     fault = place->folder[0] ? make_folders(journal, place->folder) : 0;
     if (!fault) fault = journal_make(journal, CREATE, place->file, journal->at, journal->at);
     if (fault) return fault;
