@@ -19,6 +19,11 @@ def case(run: Callable[[Path], None]) -> Callable[[Path], None]:
     return run
 
 
+def record_case(run: Callable[[Path], None]) -> Callable[[Path], None]:
+    """A case that needs records beside entries: there are none over the program."""
+    return run if "--pipe" in OPTIONS else case(run)
+
+
 class Mount:
     """It is tried to mount on a folder; `stands` says whether that was done."""
 
