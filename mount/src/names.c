@@ -91,13 +91,27 @@ int names_make(struct mount *mount, struct entry *parent, const char *name, cons
 
 // ---- what is taken away
 
-// The folder comes back where its record cannot go.
+// Makes a folder again that was taken away. It and the folder above it have the moments that they had.
+static void bring_back(struct journal *journal, const char *path, const struct standing *before,
+                       const struct standing *above) {
+    const struct volume *volume = &journal->mount->volume;
+    struct own_path aside;
+    room_lift();
+    if (own_aside(journal->mount, &aside)) return;
+    volume->way->change(volume->self, MAKE_DIRECTORY, aside.text, before->modified);
+    volume->way->rename(volume->self, aside.text, path, above->modified);
+}
+
+// The folder first: whether it is empty no other call tells as fast.
 static int take_folder(struct journal *journal, struct entry *parent, const struct spot *spot) {
     const struct volume *volume = &journal->mount->volume;
-    int fault = volume->way->change(volume->self, REMOVE_DIRECTORY, spot->path, journal->at);
+    struct standing before, above;
+    int fault = volume->way->stat(volume->self, (struct place){0, spot->path}, &before);
+    if (!fault) fault = files_stand(journal->mount, parent, &above);
+    if (!fault) fault = volume->way->change(volume->self, REMOVE_DIRECTORY, spot->path, journal->at);
     if (fault) return fault;
     fault = records_drop(journal, parent, spot->path);
-    if (fault) volume->way->change(volume->self, MAKE_DIRECTORY, spot->path, journal->at);
+    if (fault) bring_back(journal, spot->path, &before, &above);
     return fault;
 }
 
@@ -187,6 +201,17 @@ static void follow(struct mount *mount, struct move *move, char *name, uint64_t 
     else entry_move(source, move->new_parent, name);
 }
 
+// A folder is replaced where it is empty. That is looked at first, since records move before it.
+static int may_replace(struct mount *mount, struct entry *source, struct entry *target) {
+    struct bytes names = {0};
+    if (source->is_directory != target->is_directory) return source->is_directory ? ENOTDIR : EISDIR;
+    if (!target->is_directory) return 0;
+    int fault = files_list(mount, target, &names);
+    if (!fault && names.length) fault = ENOTEMPTY;
+    bytes_free(&names);
+    return fault;
+}
+
 // What stands under both names: whether the one may take the place of the other.
 static int find_both(struct mount *mount, struct move *move, const char *name, const char *new_name, unsigned flags) {
     int fault = files_find(mount, move->parent, name, &move->source);
@@ -195,9 +220,7 @@ static int find_both(struct mount *mount, struct move *move, const char *name, c
     if (fault == ENOENT) move->target = (struct found){0};
     if (fault) return fault == ENOENT ? 0 : fault;
     if (flags & RENAME_NOREPLACE) return EEXIST;
-    bool is_directory = move->source.entry->is_directory;
-    if (is_directory == move->target.entry->is_directory) return 0;
-    return is_directory ? ENOTDIR : EISDIR;
+    return may_replace(mount, move->source.entry, move->target.entry);
 }
 
 static int may_move(struct mount *mount, struct move *move, const char *name, const char *new_name, unsigned flags) {
