@@ -191,14 +191,15 @@ def a_key_of_the_terminal_ends_it_with_its_image(folder: Path):
 
 
 @case
-def names_of_the_mounts_own_in_an_image(folder: Path):
-    text = "D / 5\nD /.doorvervain-unlinked 5\nD /.doorvervain-unlinked/1 5\nF /file 3 5\nb 0 616263\n"
+def what_a_mount_set_aside_in_an_image(folder: Path):
+    own = "/.doorvervain/unlinked"
+    text = f"D / 5\nD /.doorvervain 5\nD {own} 5\nD {own}/1 5\nF {own}/2 3 5\nb 0 616263\nF /file 3 5\nb 0 616263\n"
     (folder / "image").write_text(text)
     mount = Mount(folder, "--load", folder / "image", "--image", folder / "next")
     with (mount.point / "file").open() as file:
         (mount.point / "file").unlink()
         assert file.read() == "abc"
-    assert "/.doorvervain-unlinked" in mount.said()
+    assert own in mount.said()
     assert mount.end() == 0
     assert (folder / "next").read_text().splitlines()[1:] == []
 

@@ -1,4 +1,4 @@
-"""Functions of Python's `os` in the folder that it is started in. What fails is printed, and is the status."""
+"""Functions of Python's `os` in the folder that it is started in."""
 import ctypes
 import errno
 import fcntl
@@ -12,33 +12,8 @@ import sys
 import tempfile
 import threading
 import traceback
-from collections.abc import Callable
 
-CASES: list[Callable[[], None]] = []
-
-
-def case(run: Callable[[], None]) -> Callable[[], None]:
-    CASES.append(run)
-    return run
-
-
-def put(path, data: bytes) -> None:
-    with open(path, "wb") as file:
-        file.write(data)
-
-
-def get(path) -> bytes:
-    with open(path, "rb") as file:
-        return file.read()
-
-
-def refused(number: int, call, *words, **named) -> None:
-    try:
-        call(*words, **named)
-    except OSError as fault:
-        assert fault.errno == number, f"{errno.errorcode[fault.errno]}, not {errno.errorcode[number]}"
-    else:
-        raise AssertionError(f"not refused: {words}")
+from cases import case, get, put, record_case, refused, run_cases
 
 
 @case
@@ -180,7 +155,7 @@ def a_file_that_is_opened_to_be_read_is_cut():
     assert (get("file"), os.stat("file").st_size) == (b"", 0)
 
 
-@case
+@record_case
 def a_folder_hands_its_group_on():
     os.mkdir("folder")
     if os.getuid() == 0:
@@ -196,7 +171,7 @@ def a_folder_hands_its_group_on():
     assert os.stat("folder/below/file").st_gid == group
 
 
-@case
+@record_case
 def attributes_are_kept():
     put("file", b"")
     os.chmod("file", 0o640)
@@ -223,7 +198,7 @@ def a_folder_changes_with_its_names():
     assert os.stat("folder").st_mtime > 1e9
 
 
-@case
+@record_case
 def extended_attributes():
     put("file", b"")
     os.setxattr("file", "user.one", b"1")
@@ -393,29 +368,4 @@ def four_threads_beside_a_shadow():
     assert not faults, faults[0]
 
 
-def failed(run: Callable[[], None], top: str) -> bool:
-    folder = os.path.join(top, run.__name__)
-    os.mkdir(folder)
-    os.chdir(folder)
-    try:
-        run()
-        os.chdir(top)
-        shutil.rmtree(folder)
-    except BaseException:
-        print("failed:", run.__name__)
-        traceback.print_exc(file=sys.stdout)
-        os.chdir(top)
-        return True
-    return False
-
-
-def main() -> int:
-    top = os.getcwd()
-    wrong = sum(failed(run, top) for run in CASES)
-    if os.listdir(top):
-        print("left:", os.listdir(top))
-    print(f"{len(CASES) - wrong} of {len(CASES)} cases work")
-    return 1 if wrong else 0
-
-
-sys.exit(main())
+run_cases()

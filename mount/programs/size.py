@@ -1,9 +1,12 @@
 """A mount of 64 MiB that is filled."""
 import errno
 import os
+import random
 from pathlib import Path
 
-from own_mount import Mount, case, refused, run_cases
+from cases import refused
+from own_mount import Mount, case, run_cases
+from seen import alike, seen
 
 SIZE, PIECE = 64 << 20, os.urandom(1 << 20)
 
@@ -74,6 +77,46 @@ def all_that_grows_is_refused_at_last(folder: Path):
     for i in range(100):
         os.rmdir(mount.point / f"folder{i}")
     assert mount.end() == 0, mount.said()
+
+
+def change_at_random(top: Path, chance: random.Random) -> None:
+    """A call that takes several steps of the tree."""
+    one, other = (top / f"file{chance.randrange(40)}" for _ in range(2))
+    calls = [
+        lambda: os.link(one, top / f"link{chance.randrange(10**9)}"),
+        lambda: os.symlink("t" * 3000, top / f"soft{chance.randrange(10**9)}"),
+        lambda: os.chmod(one, chance.choice((0o600, 0o640, 0o644))),
+        lambda: os.setxattr(one, "user.a", bytes(chance.randrange(30_000))),
+        lambda: os.rename(one, other),
+        lambda: os.mkfifo(top / f"fifo{chance.randrange(10**9)}"),
+    ]
+    chance.choice(calls)()
+
+
+@case
+def what_is_refused_changes_nothing(folder: Path):
+    mount, chance, refusals = Mount(folder, "--size", "16M", "--image", folder / "image"), random.Random(1), 0
+    for i in range(40):
+        (mount.point / f"file{i}").write_bytes(b"%d" % i * 1000)
+    with open(mount.point / "large", "wb", buffering=0) as file:
+        try:
+            while True:
+                file.write(PIECE[:4096])
+        except OSError as fault:
+            assert fault.errno == errno.ENOSPC, fault
+    while refusals < 25:
+        before = seen(mount.point) if refusals else {}
+        try:
+            change_at_random(mount.point, chance)
+        except OSError as fault:
+            assert fault.errno in (errno.ENOSPC, errno.ENOENT), fault
+            if before and fault.errno == errno.ENOSPC:
+                alike(seen(mount.point), before)
+            refusals += fault.errno == errno.ENOSPC
+    for path in mount.point.iterdir():
+        path.unlink()
+    assert mount.end() == 0, mount.said()
+    assert "F " not in (folder / "image").read_text()
 
 
 run_cases()

@@ -1,0 +1,60 @@
+"""What can be seen of a tree: of each entry its attributes, its bytes, and which other names it has."""
+import hashlib
+import os
+import stat
+from pathlib import Path
+from typing import NamedTuple
+
+
+class Seen(NamedTuple):
+    mode: int
+    user: int
+    group: int
+    modified: int
+    names: int
+    first_name: bytes  # of those that lead to the same file
+    device: int
+    bytes: bytes
+    extended: dict[str, bytes]
+
+
+def extended_of(path: bytes) -> dict[str, bytes]:
+    names = os.listxattr(path, follow_symlinks=False)
+    return {name: os.getxattr(path, name, follow_symlinks=False) for name in names if name.startswith("user.")}
+
+
+def bytes_of(path: bytes, mode: int) -> bytes:
+    """A target, the checksum of a file, or the names of a directory."""
+    if stat.S_ISLNK(mode):
+        return os.readlink(path)
+    if stat.S_ISREG(mode):
+        with open(path, "rb") as file:
+            return hashlib.file_digest(file, "sha256").digest()
+    return b"\0".join(sorted(os.listdir(path))) if stat.S_ISDIR(mode) else b""
+
+
+def look(path: bytes, name: bytes, first: dict[int, bytes]) -> Seen:
+    told = os.lstat(path)
+    is_directory = stat.S_ISDIR(told.st_mode)
+    device = told.st_rdev if stat.S_ISCHR(told.st_mode) or stat.S_ISBLK(told.st_mode) else 0
+    return Seen(told.st_mode, told.st_uid, told.st_gid, told.st_mtime_ns, 0 if is_directory else told.st_nlink,
+                first.setdefault(told.st_ino, name), device, bytes_of(path, told.st_mode), extended_of(path))
+
+
+def paths_below(top: bytes) -> list[bytes]:
+    out = [b"."]
+    for folder, folders, files in os.walk(top):
+        out += [os.path.relpath(os.path.join(folder, name), top) for name in folders + files]
+    return sorted(out)
+
+
+def seen(top: Path | str | bytes) -> dict[bytes, Seen]:
+    """By the path from the top."""
+    top, first = os.fsencode(top), {}
+    return {path: look(os.path.join(top, path), path, first) for path in paths_below(top)}
+
+
+def alike(one: dict[bytes, Seen], other: dict[bytes, Seen]) -> None:
+    """Ends by an AssertionError that tells the first entries that differ."""
+    differ = [path for path in sorted(one.keys() | other.keys()) if one.get(path) != other.get(path)]
+    assert not differ, "\n".join(f"{path}:\n  {one.get(path)}\n  {other.get(path)}" for path in differ[:5])
