@@ -7,6 +7,7 @@
 static struct entry **slots;
 static size_t slot_count, entry_count;
 static uint64_t numbers; // of entries that there ever were
+static struct entry *gone; // out of the tree, and held: at the end of a mount the kernel does not forget all of them
 static struct timespec began;
 
 enum { NANOSECONDS = 1000000000 };
@@ -145,9 +146,23 @@ struct entry *entry_own_folder(struct entry *entry, const char *name) {
 
 bool entry_is_held(const struct entry *entry) { return entry->lookups || entry->opens; }
 
+static void enter_gone(struct entry *entry) {
+    entry->before = 0;
+    entry->after = gone;
+    if (gone) gone->before = entry;
+    gone = entry;
+}
+
+static void leave_gone(struct entry *entry) {
+    if (entry->before) entry->before->after = entry->after;
+    else gone = entry->after;
+    if (entry->after) entry->after->before = entry->before;
+}
+
 // Frees an entry that is out of the tree.
 static void free_out(struct entry *entry) {
     if (entry->parent || entry_is_held(entry) || entry->role == LIVE_ROOT) return;
+    leave_gone(entry);
     free(entry->name);
     free(entry);
     entry_count--;
@@ -156,6 +171,7 @@ static void free_out(struct entry *entry) {
 void entry_take_out(struct entry *entry) {
     while (entry->first) entry_take_out(entry->first);
     link_out(entry);
+    enter_gone(entry);
     free_out(entry);
 }
 
