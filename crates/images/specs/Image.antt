@@ -37,15 +37,6 @@ abbrev pub lines_there : Path → At → Text
 lines_there p (Found x) = entry_lines p x
 lines_there p _ = []
 
--- the lines of entries of a tree, one after the other
-abbrev pub listed_lines : Tree → List (Path × Meta) → Text
-listed_lines t es = flat_map (λ e. lines_there e.0 (entry_at t e.0)) es
-
--- the path of the last of the entries; p where there is none
-abbrev pub last_of : Path → List (Path × Meta) → Path
-last_of p [] = p
-last_of p (e ∷ es) = last_of e.0 es
-
 -- it is nothing, or ends with a line feed
 abbrev pub EndsLine : Text → Type 0
 EndsLine text = (text ≡ []) ⊎ ((front : Text) × (text ≡ front ++ 10 ∷ []))
