@@ -475,8 +475,9 @@ static inline void doorvervain_thaw(struct doorvervain_frozen *tree) {
 
 // ---- images by pieces, so that no image has to fit into memory
 
-// Begins to print the image of a frozen tree. It takes the tree, which is closed from then on, whatever is answered: freeze once more
-// where the tree is wanted beside it, which copies nothing. ENOMEM. Where it is refused, the printing is closed.
+// Begins to print the image of a frozen tree. It takes the tree, which is closed from then on, whatever is answered but
+// DOORVERVAIN_NULL: freeze once more where the tree is wanted beside it, which copies nothing. ENOMEM. Where it is refused, the
+// printing is closed.
 static inline uint8_t doorvervain_print_begin(
     struct doorvervain_printing *printing, struct doorvervain_frozen *tree) {
     if (printing) printing->at = NULL;
@@ -525,9 +526,9 @@ static inline uint8_t doorvervain_load_piece(
     return doorvervain_raw_load_piece(loading, doorvervain_from(text), length, line);
 }
 
-// Ends the text, and makes the volume of it. It takes the loading, which is closed from then on, whatever is answered. EINVAL: it is no
-// image, and `line` is the first line with which it is none. ENOMEM. `line` is 0 with any other answer. Where it is refused, the volume
-// is closed. What `fs` held before is not freed.
+// Ends the text, and makes the volume of it. It takes the loading, which is closed from then on, whatever is answered but
+// DOORVERVAIN_NULL. EINVAL: the text is no image, and `line` is the first line with which it is none. ENOMEM. `line` is 0 with any
+// other answer. Where it is refused, the volume is closed. What `fs` held before is not freed.
 static inline uint8_t doorvervain_load_end(
     struct doorvervain *fs, struct doorvervain_loading *loading, uint64_t *line) {
     if (fs) fs->at = NULL;
@@ -548,15 +549,16 @@ static inline void doorvervain_load_drop(struct doorvervain_loading *loading) {
 
 // Prints the image of a frozen tree through a function of the caller, which takes all the bytes that it is given and answers 0, or another
 // number: then no more is printed, and `*failed` is that number; else it is 0. The bytes go through the buffer, which has to have room
-// for one at least (EINVAL). It takes the tree, which is closed from then on. ENOMEM: a beginning was printed.
+// for one at least (EINVAL). It takes the tree, which is closed from then on, whatever is answered but DOORVERVAIN_NULL. ENOMEM: a
+// beginning was printed.
 static inline uint8_t doorvervain_image_to(struct doorvervain_frozen *tree, uint8_t *buffer, size_t room,
     int (*put)(void *context, const uint8_t *bytes, size_t count), void *context, int *failed) {
     struct doorvervain_printing printing;
     size_t count = 0;
     if (failed) *failed = 0;
-    if (!buffer || !put || !failed) return DOORVERVAIN_NULL;
-    if (!room) return DOORVERVAIN_EINVAL;
+    if (!tree || !buffer || !put || !failed) return DOORVERVAIN_NULL;
     uint8_t number = doorvervain_print_begin(&printing, tree);
+    if (!number && !room) number = DOORVERVAIN_EINVAL;
     while (!number && !*failed) {
         number = doorvervain_print_piece(&printing, buffer, room, &count);
         if (!count) break;
