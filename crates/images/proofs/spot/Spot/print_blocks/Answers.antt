@@ -1,0 +1,24 @@
+use Rattle.std.proofs.Common.{◌≡◌, refl, ℕ, List, [], ◌∷◌, ap, sym, subst, ◌∙◌, arith}
+use Rattle.std.specs.Option.{option_to_list}
+use Rattle.reference.specs.Image.{block_line, trimmed}
+use Rattle.reference.specs.Tree.{entry_at}
+use Rattle.volume.specs.Volumes.{MeanRooted}
+use Rattle.volume.specs.Walks.{AreBlocksAt}
+use Rattle.images.proofs.ImageBlocks.{blocks_passed}
+use Rattle.images.proofs.Spots.{passes_block, passes_nothing, passes_then}
+use Rattle.images.proofs.spot.Spot.print_blocks.Goals as goal
+
+pub loop-init : goal.loop-init
+loop-init c = record { tree = refl; last = refl; passes = λ t mean at. passes_nothing t _ _ at }
+
+pub loop-preserved : goal.loop-preserved
+loop-preserved c = record {
+  tree = c.in_ok-next.ensures.tree ∙ c.loop.invariant.tree;
+  last = c.loop.invariant.last;
+  passes = λ t mean at.
+      let so_far = c.loop.invariant.passes t mean at in
+      let are = c.in_ok-next.ensures.block t (subst (λ r. MeanRooted r t) (sym c.loop.invariant.tree) mean) in
+      let here = subst (λ bs. AreBlocksAt (entry_at t c.loop.self.last) c.loop.self.from 1 bs) (ap option_to_list c.in-Some.is) are in
+      passes_then _ _ _ _ _ _ _ so_far
+      (passes_block t c.loop.self c.in-Some.number c.in-Some.block _ _ so_far.at here (subst (λ (b : List ℕ). _ ≡ _) c.as_slice.ensures.value c.put_block.ensures.ok));
+}
