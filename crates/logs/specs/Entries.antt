@@ -23,9 +23,13 @@ word n = to_le_bytes w64 n
 unfoldable pub numbers : Head → List ℕ
 numbers h = word h.kind ++ word h.at ++ word h.offset ++ word h.count
 
--- an entry: its numbers, the lengths of two texts, and the texts
+-- an entry up to its second text: its numbers, the lengths of two texts, and the first of them
+unfoldable pub entry_front : Head → List ℕ → ℕ → List ℕ
+entry_front h first len = numbers h ++ word (length first) ++ word len ++ first
+
+-- an entry: that, and the second text
 unfoldable pub entry : Head → List ℕ → List ℕ → List ℕ
-entry h first second = numbers h ++ word (length first) ++ word (length second) ++ first ++ second
+entry h first second = entry_front h first (length second) ++ second
 
 -- ---- a change as an entry
 

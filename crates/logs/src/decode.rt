@@ -1,6 +1,6 @@
 //! Reads the changes that bytes are.
-ghost use Rattle.std.specs.Prelude.{◌≡◌, ◌⊎◌, MatchResult, [], true, ◌&&◌, ◌==◌};
-ghost use Rattle.pathkey.specs.declared.errno.Errno.TheVariants.{ENOMEM};
+ghost use Rattle.std.specs.Prelude.{◌≡◌, ◌≢◌, ◌⊎◌, MatchResult, [], true, ◌&&◌, ◌==◌};
+ghost use Rattle.pathkey.specs.declared.errno.Errno.TheVariants.{EINVAL, ENOMEM};
 ghost use Rattle.logs.specs.Entries.{IsNoName, IsNoText, ReadsEntry, RefusesBody, Refuses, body_of, has_no_numbers, keeping_kind, path_kind};
 ghost use Rattle.pathkey.specs.Texts.{text_of};
 
@@ -151,8 +151,17 @@ fn read_path(alloc: Global, text: &[u8]) -> Result<Path, Errno>
 {
     match Path::parse(alloc, text) {
         Ok(path) => Ok(path),
-        Err(Errno::ENOMEM) => Err(Errno::ENOMEM),
-        Err(_) => Err(Errno::EINVAL),
+        Err(fault) => Err(refusal(fault)),
+    }
+}
+
+// What is told of a text that is refused so.
+fn refusal(fault: Errno) -> Errno
+    ensures { ((result ≡ EINVAL) × (fault ≢ ENOMEM)) ⊎ (result ≡ ENOMEM) }
+{
+    match fault {
+        Errno::ENOMEM => Errno::ENOMEM,
+        _ => Errno::EINVAL,
     }
 }
 

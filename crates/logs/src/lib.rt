@@ -5,7 +5,11 @@
 pub mod change;
 mod decode;
 mod entry;
+pub mod lay;
+pub mod laws;
+pub mod record;
 mod words;
 
 pub use change::{Change, Keeping, PathChange};
 pub use decode::read_changes;
+pub use record::{next_record, record_ends};
