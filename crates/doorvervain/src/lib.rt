@@ -10,6 +10,7 @@ mod frozen;
 mod frozen_place;
 mod handle;
 mod holes;
+mod log;
 mod looks;
 mod numbers;
 mod parts;
