@@ -5,4 +5,4 @@ use Rattle.logs.proofs.Bodies.{body_more, continues_first, continues_more, no_ch
 use Rattle.logs.proofs.decode.read_changes.Goals as goal
 
 pub loop-rest-init : goal.loop-rest-init
-loop-rest-init c = record { so_far = ap (λ (cs : List Change). body_of cs ++ c.args.body.now) (sym c.new-changes.ensures); others = continues_first c.args.body.now }
+loop-rest-init c = record { so_far = ap (λ (cs : List Change). body_of cs ++ c.args.body.now) (sym c.new-changes.ensures.items); others = continues_first c.args.body.now }

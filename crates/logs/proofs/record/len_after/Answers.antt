@@ -8,17 +8,17 @@ use Rattle.logs.proofs.record.len_after.Goals.{then-found-number-via-then-found-
 
 pub returns-in_default-cut_word : goal.returns-in_default-cut_word
 returns-in_default-cut_word c =
-    let begins = MatchOption-at_some _ _ _ c.in-Some.is (strip_prefix_is {E = eqb} Decides-eqb _ _ _ c.strip_prefix.ensures.cases) in
+    let begins = MatchOption-at_some _ _ _ c.in-Some.is (strip_prefix_is {E = eqb} Decides-eqb c.args.bytes.now (codes "dvlog 1\n") c.strip_prefix.result c.strip_prefix.ensures.cases) in
     no_number c.args.bytes.now c.in-Some.rest.now c.args.number begins c.in_default-cut_word.ensures
 
 pub returns-in_default-cut_word-2 : goal.returns-in_default-cut_word-2
 returns-in_default-cut_word-2 c =
-    let begins = MatchOption-at_some _ _ _ c.in-Some.is (strip_prefix_is {E = eqb} Decides-eqb _ _ _ c.strip_prefix.ensures.cases) in
+    let begins = MatchOption-at_some _ _ _ c.in-Some.is (strip_prefix_is {E = eqb} Decides-eqb c.args.bytes.now (codes "dvlog 1\n") c.strip_prefix.result c.strip_prefix.ensures.cases) in
     no_length c.args.bytes.now c.in-Some.rest.now c.args.number begins c.in-Some-cut_word.found c.in-Some-cut_word.rest.now c.in-Some-cut_word.ensures.0 c.in_default-cut_word-2.ensures
 
 pub returns-then-found-number : goal.returns-then-found-number
 returns-then-found-number c =
-    let begins = MatchOption-at_some _ _ _ c.in-Some.is (strip_prefix_is {E = eqb} Decides-eqb _ _ _ c.strip_prefix.ensures.cases) in
+    let begins = MatchOption-at_some _ _ _ c.in-Some.is (strip_prefix_is {E = eqb} Decides-eqb c.args.bytes.now (codes "dvlog 1\n") c.strip_prefix.result c.strip_prefix.ensures.cases) in
     not_so c.args.bytes.now c.in-Some.rest.now c.args.number begins c.in-Some-cut_word.found c.in-Some-cut_word-2.len c.in-Some-cut_word.rest.now c.in-Some-cut_word-2.rest.now
     (search rules) c.in-Some-cut_word.ensures.1 c.in-Some-cut_word-2.ensures.1 c.in-Some-cut_word.ensures.0 c.in-Some-cut_word-2.ensures.0
     (elim c.then-found-number.branch [
@@ -28,6 +28,6 @@ returns-then-found-number c =
 
 pub returns : goal.returns
 returns c =
-    let begins = MatchOption-at_some _ _ _ c.in-Some.is (strip_prefix_is {E = eqb} Decides-eqb _ _ _ c.strip_prefix.ensures.cases) in
+    let begins = MatchOption-at_some _ _ _ c.in-Some.is (strip_prefix_is {E = eqb} Decides-eqb c.args.bytes.now (codes "dvlog 1\n") c.strip_prefix.result c.strip_prefix.ensures.cases) in
     (is_front c.args.bytes.now c.in-Some.rest.now c.args.number begins c.in-Some-cut_word.found c.in-Some-cut_word-2.len c.in-Some-cut_word.rest.now c.in-Some-cut_word-2.rest.now
     c.in-Some-cut_word.ensures.0 c.in-Some-cut_word-2.ensures.0 c.if-found-number.false (let none : length c.in-Some-cut_word-2.rest.now ≡ 0 = search rules in none), c.in-Some-cut_word-2.ensures.1)
