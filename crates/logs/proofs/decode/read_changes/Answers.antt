@@ -1,4 +1,4 @@
-use Rattle.std.proofs.Common.{◌≡◌, ◌++◌, List, ℕ, length, ap, sym, subst, ◌∙◌, append-nil, inl, inr, refl, rules, arith}
+use Rattle.std.proofs.Common.{◌≡◌, ◌++◌, List, ℕ, length, ap, sym, ◌∙◌, refl, inl}
 use Rattle.logs.specs.declared.change.Change.{Change}
 use Rattle.logs.specs.Entries.{body_of}
 use Rattle.logs.proofs.Bodies.{body_more, continues_first, continues_more, no_change, no_entry}
@@ -6,3 +6,12 @@ use Rattle.logs.proofs.decode.read_changes.Goals as goal
 
 pub loop-rest-init : goal.loop-rest-init
 loop-rest-init c = record { so_far = ap (λ (cs : List Change). body_of cs ++ c.args.body.now) (sym c.new-changes.ensures.items); others = continues_first c.args.body.now }
+
+pub loop-rest-preserved : goal.loop-rest-preserved
+loop-rest-preserved c =
+    let rest = c.loop-rest.rest.now in
+    let behind = c.in-Some.behind.now in record {
+      so_far = body_more c.args.body.now rest behind c.loop-rest.changes.items c.in_ok-change.change c.in-Some.head c.in-Some.first.now c.in-Some.second.now c.loop-rest.invariant.so_far c.in-Some.ensures.is c.in_ok-change.ensures
+        ∙ ap (λ (cs : List Change). body_of cs ++ behind) (sym c.in_ok-push.ensures);
+      others = continues_more c.args.body.now rest behind c.in-Some.head c.in-Some.first.now c.in-Some.second.now c.in-Some.ensures.fits c.in-Some.ensures.is c.loop-rest.invariant.others;
+    }

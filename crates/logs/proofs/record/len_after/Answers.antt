@@ -2,6 +2,7 @@ use Rattle.std.proofs.Common.{◌≡◌, ◌≢◌, List, ℕ, ◌++◌, eqb, co
 use Rattle.std.proofs.lemmas.Slice.Eq.{strip_prefix_is}
 use Rattle.std.proofs.lemmas.Option.{MatchOption-at_none, MatchOption-at_some}
 use Rattle.std.proofs.lemmas.Bool.Decides.{Decides-eqb}
+use Rattle.std.proofs.lemmas.Grind.{common_steps}
 use Rattle.logs.proofs.Logs.{is_front, no_length, no_number, not_so}
 use Rattle.logs.proofs.record.len_after.Goals as goal
 use Rattle.logs.proofs.record.len_after.Goals.{then-found-number-via-then-found-number, then-found-number-via-else-found-number+then-not-is_empty}
@@ -23,7 +24,7 @@ returns-then-found-number c =
     (search rules) c.in-Some-cut_word.ensures.1 c.in-Some-cut_word-2.ensures.1 c.in-Some-cut_word.ensures.0 c.in-Some-cut_word-2.ensures.0
     (elim c.then-found-number.branch [
       | then-found-number-via-then-found-number w ↦ inl (w.if-found-number.true)
-      | then-found-number-via-else-found-number+then-not-is_empty w ↦ inr (λ e. ?)
+      | then-found-number-via-else-found-number+then-not-is_empty w ↦ (let some : length c.in-Some-cut_word-2.rest.now ≢ 0 = grind (arith, common_steps) in inr some)
     ])
 
 pub returns : goal.returns
