@@ -211,7 +211,7 @@ has_record n len log f behind body end rest e ef eb size es =
 
 -- ---- what stands before a body, as it is read
 
-front_parts : (n len : ℕ) → front n len ≡ codes "dvlog 1\n" ++ (word n ++ word len)
+pub front_parts : (n len : ℕ) → front n len ≡ codes "dvlog 1\n" ++ (word n ++ word len)
 unfolding front
 front_parts n len = refl
 

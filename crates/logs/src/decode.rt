@@ -20,8 +20,10 @@ pub fn read_changes(alloc: Global, body: &[u8]) -> Result<Vec<Change>, Errno>
         let Some((head, first, second, behind)) = cut_entry(rest) else {
             return Err(Errno::EINVAL);
         };
-        let change = read_entry(alloc, head, first, second)?;
-        push(&mut changes, change)?;
+        match read_entry(alloc, head, first, second) {
+            Ok(change) => push(&mut changes, change)?,
+            Err(fault) => return Err(fault),
+        }
         rest = behind;
     }
     Ok(changes)

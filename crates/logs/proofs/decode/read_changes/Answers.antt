@@ -1,4 +1,5 @@
-use Rattle.std.proofs.Common.{◌≡◌, ◌++◌, List, ℕ, length, ap, sym, ◌∙◌, refl, inl}
+use Rattle.std.proofs.Common.{◌≡◌, ◌≢◌, ◌++◌, List, ℕ, length, ap, sym, ◌∙◌, refl, inl, arith}
+use Rattle.std.proofs.lemmas.Grind.{common_steps}
 use Rattle.logs.specs.declared.change.Change.{Change}
 use Rattle.logs.specs.Entries.{body_of}
 use Rattle.logs.proofs.Bodies.{body_more, continues_first, continues_more, no_change, no_entry}
@@ -11,7 +12,16 @@ pub loop-rest-preserved : goal.loop-rest-preserved
 loop-rest-preserved c =
     let rest = c.loop-rest.rest.now in
     let behind = c.in-Some.behind.now in record {
-      so_far = body_more c.args.body.now rest behind c.loop-rest.changes.items c.in_ok-change.change c.in-Some.head c.in-Some.first.now c.in-Some.second.now c.loop-rest.invariant.so_far c.in-Some.ensures.is c.in_ok-change.ensures
-        ∙ ap (λ (cs : List Change). body_of cs ++ behind) (sym c.in_ok-push.ensures);
+      so_far = body_more c.args.body.now rest behind c.loop-rest.changes.items c.in-Ok.change c.in-Some.head c.in-Some.first.now c.in-Some.second.now c.loop-rest.invariant.so_far c.in-Some.ensures.is c.in-Ok.ensures
+        ∙ ap (λ (cs : List Change). body_of cs ++ behind) (sym c.in_ok-push-in-Ok.ensures);
       others = continues_more c.args.body.now rest behind c.in-Some.head c.in-Some.first.now c.in-Some.second.now c.in-Some.ensures.fits c.in-Some.ensures.is c.loop-rest.invariant.others;
     }
+
+pub returns-in_default : goal.returns-in_default
+returns-in_default c =
+    let some : length c.loop-rest.rest.now ≢ 0 = grind (arith, common_steps) in
+    inl (refl, no_entry c.args.body.now c.loop-rest.rest.now c.loop-rest.invariant.others some c.in_default.ensures.is)
+
+pub returns-in-Err : goal.returns-in-Err
+returns-in-Err c =
+    no_change c.args.body.now c.loop-rest.rest.now c.in-Some.behind.now c.in-Some.head c.in-Some.first.now c.in-Some.second.now c.in-Err.fault c.in-Some.ensures.fits c.in-Some.ensures.is c.loop-rest.invariant.others c.in-Err.ensures

@@ -1,9 +1,10 @@
-use Rattle.std.proofs.Common.{◌≡◌, ◌≢◌, List, ℕ, ◌++◌, eqb, codes, inl, inr, rules, sym, arith, length}
+use Rattle.std.proofs.Common.{◌≡◌, ◌≢◌, List, ℕ, ◌++◌, eqb, codes, inl, inr, rules, ◌∙◌, arith, length}
 use Rattle.std.proofs.lemmas.Slice.Eq.{strip_prefix_is}
 use Rattle.std.proofs.lemmas.Option.{MatchOption-at_none, MatchOption-at_some}
 use Rattle.std.proofs.lemmas.Bool.Decides.{Decides-eqb}
 use Rattle.std.proofs.lemmas.Grind.{common_steps}
-use Rattle.logs.proofs.Logs.{is_front, no_length, no_number, not_so}
+use Rattle.logs.specs.Entries.{word}
+use Rattle.logs.proofs.Logs.{front_parts, is_front, no_length, no_number, not_so}
 use Rattle.logs.proofs.record.len_after.Goals as goal
 use Rattle.logs.proofs.record.len_after.Goals.{then-found-number-via-then-found-number, then-found-number-via-else-found-number+then-not-is_empty}
 
@@ -32,3 +33,8 @@ returns c =
     let begins = MatchOption-at_some _ _ _ c.in-Some.is (strip_prefix_is {E = eqb} Decides-eqb c.args.bytes.now (codes "dvlog 1\n") c.strip_prefix.result c.strip_prefix.ensures.cases) in
     (is_front c.args.bytes.now c.in-Some.rest.now c.args.number begins c.in-Some-cut_word.found c.in-Some-cut_word-2.len c.in-Some-cut_word.rest.now c.in-Some-cut_word-2.rest.now
     c.in-Some-cut_word.ensures.0 c.in-Some-cut_word-2.ensures.0 c.if-found-number.false (let none : length c.in-Some-cut_word-2.rest.now ≡ 0 = search rules in none), c.in-Some-cut_word-2.ensures.1)
+
+pub returns-in_default : goal.returns-in_default
+returns-in_default c = λ len fits e.
+    MatchOption-at_none _ _ c.in_default.is (strip_prefix_is {E = eqb} Decides-eqb c.args.bytes.now (codes "dvlog 1\n") c.strip_prefix.result c.strip_prefix.ensures.cases)
+    (word c.args.number ++ word len) (e ∙ front_parts c.args.number len)
