@@ -71,7 +71,15 @@ fn in_room<J: Naming + Send + Sync, R: Threads + Wait + Sync>(
 {
     match Engine::<J>::open(alloc, room, CLIENTS) {
         Ok((mut engine, mut clients)) => {
-            beside(rt, alloc, &mut engine, clients.as_mut_slice(), course, logs, watch);
+            beside(
+                rt,
+                alloc,
+                &mut engine,
+                clients.as_mut_slice(),
+                course,
+                logs,
+                watch,
+            );
             true
         }
         Err(_) => false,

@@ -181,7 +181,11 @@ fn seen_of(
     seen: &mut Vec<Answer>,
 ) -> Answer {
     match tree {
-        Ok(tree) => if see_all(alloc, &tree, files, seen) { Answer::All } else { Answer::Other },
+        Ok(tree) => if see_all(alloc, &tree, files, seen) {
+            Answer::All
+        } else {
+            Answer::Other
+        },
         Err(fault) => Answer::Fault(fault),
     }
 }
