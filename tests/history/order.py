@@ -67,11 +67,14 @@ class Undecided(Exception):
     """More groups stood at once than may be."""
 
 
+class Broken(Exception):
+    """What is there is no log."""
+
+
 ON_FILES = frozenset(("read", "write", "create", "unlink"))
 ON_TREES = frozenset(("keep", "drop", "restore", "look", "scan"))
-# Those that change the tree or its snapshots, and those from which no call on a file can tell whether it came before or behind.
+# Those that change the live tree or its snapshots.
 CHANGES = frozenset(("keep", "drop", "restore"))
-UNTOLD = frozenset(("drop", "look"))
 
 
 def after(call: Call, mark: int) -> int | None:
@@ -86,6 +89,11 @@ def after(call: Call, mark: int) -> int | None:
     if answer != DONE:
         return None
     return call.mark if kind == "write" else GONE
+
+
+def is_apart(call: Call) -> bool:
+    """Whether no call on a file can tell if this one, on the whole tree, came before it or behind."""
+    return call.kind in ("drop", "look") or call.answer != DONE
 
 
 def placed_some(states: Iterable[State], waiting: dict[int, Call]) -> set[State]:
@@ -174,7 +182,8 @@ class Sweep:
     def __init__(self, log: Log) -> None:
         first = ((0, 0, (UNKEPT,) * log.names),)
         self.groups = [Group(0, 0, [first] * log.files)]
-        # The calls that wait: at each file, and on the whole tree, by their client's bit.
+        # The calls that wait, by their client's bit: whose they are, those at each file, and those on the whole tree.
+        self.waiting = 0
         self.at_files: list[dict[int, Call]] = [{} for _ in range(log.files)]
         self.on_trees: dict[int, Call] = {}
         # The files at which calls wait, with how many.
@@ -185,6 +194,9 @@ class Sweep:
 
     def begin(self, call: Call) -> None:
         bit = 1 << call.client
+        if self.waiting & bit:
+            raise Broken(f"client {call.client} makes two calls at once, from {call.begin} on")
+        self.waiting |= bit
         if call.kind in ON_TREES:
             self.on_trees[bit] = call
             self.fresh |= bit
@@ -197,6 +209,7 @@ class Sweep:
         if self.on_trees:
             self.spread(call)
         bit = 1 << call.client
+        self.waiting ^= bit
         if call.kind in ON_TREES:
             del self.on_trees[bit]
             self.groups = [group for group in self.groups if group.placed & bit]
@@ -241,23 +254,23 @@ class Sweep:
         todo = [more for group in self.groups for more in self.placed_next(group, ending, self.fresh)]
         while todo:
             self.groups = self.unlike(self.groups + todo)
+            self.greatest = max(self.greatest, len(self.groups))
+            if len(self.groups) > MOST:
+                raise Undecided
             known = set(map(id, self.groups))
             todo = [more for group in todo if id(group) in known for more in self.placed_next(group, ending, -1)]
         self.fresh = 0
-        self.greatest = max(self.greatest, len(self.groups))
-        if len(self.groups) > MOST:
-            raise Undecided
 
     def placed_next(self, group: Group, ending: Call, fresh: int) -> Iterator[Group]:
         """The groups that come of this one where one more call on the whole tree is placed.
 
-        One that no call on a file can tell from another place is tried where it is fresh alone, and behind each that is placed.
+        One that is apart from calls on files is tried as early as may be: where it is fresh, and behind each other that is placed.
         """
         waiting = [(bit, call) for bit, call in self.on_trees.items() if not group.placed & bit]
         for bit, call in waiting:
-            if call.kind in UNTOLD and not fresh & bit:
+            if is_apart(call) and not fresh & bit:
                 continue
-            # (before the others are placed nothing is known of the end)
+            # (where others may still come between nothing is known of the end)
             if len(waiting) == 1 and not self.leads_on(group, call, ending):
                 continue
             more = self.placed(group, bit, call)
@@ -287,7 +300,7 @@ class Sweep:
     def left(self, group: Group, call: Call) -> list[States] | None:
         """What is left of each file where a call on the whole tree is done; none where it saw something else."""
         files = list(group.files)
-        if call.kind not in UNTOLD:
+        if not is_apart(call):
             for file in self.busy:
                 files[file] = self.choices(group, file)
         if call.marks and not see(call, files):
@@ -331,13 +344,25 @@ def foreseen(calls: list[Call]) -> Iterator[Call]:
         yield call
 
 
+def check(log: Log, call: Call) -> None:
+    """A call is one of this log: its numbers are in their ranges, and it saw all files or none."""
+    on_tree = call.kind in ON_TREES
+    is_right = (on_tree or call.kind in ON_FILES) and 0 <= call.at < (log.names if on_tree else log.files)
+    is_right &= 0 <= call.begin < call.end < 2 * len(log.calls) and 0 <= call.client < log.clients
+    sees = call.kind in ("look", "scan") and call.answer == DONE
+    if not is_right or len(call.marks) != sees * log.files:
+        raise Broken(f"no call of this log: {call}")
+
+
 def in_turn(log: Log) -> list[Call]:
     """The call that begins or ends at each moment of the clock."""
     turns: list[Call | None] = [None] * (2 * len(log.calls))
+    for call in log.calls:
+        check(log, call)
     for call in foreseen(log.calls):
         for moment in (call.begin, call.end):
-            if not 0 <= moment < len(turns) or turns[moment] is not None:
-                raise ValueError(f"moment {moment} is no call's, or two calls'")
+            if turns[moment] is not None:
+                raise Broken(f"moment {moment} is that of two")
             turns[moment] = call
     return turns
 
