@@ -4,7 +4,10 @@ from collections.abc import Callable, Iterable, Iterator
 
 from order import DONE, STANDS, Call, Log
 
+# Calls, each with the one to be put in its place.
 Pairs = Iterator[tuple[Call, Call]]
+# How far back, by the clock, what comes before a call is looked for, and how many writes of a file.
+NEAR, FEW = 5_000, 4
 
 
 class Planter:
@@ -22,19 +25,22 @@ class Planter:
     def of_kind(self, kind: str) -> Iterator[Call]:
         return (it for it in self.calls if it.kind == kind)
 
-    def may_come(self, begin: int, end: int, kinds: Iterable[str], at: int | None = None) -> bool:
-        """Whether a call of these kinds, on this file or name where it is given, may have had its place between two moments."""
-        return any(it.kind in kinds and it.answer == DONE and at in (None, it.at) and it.begin < end and begin < it.end for it in self.calls)
+    def may_come(self, begin: int, end: int, kinds: Iterable[str], at: int | None = None, but: Call | None = None) -> bool:
+        """Whether a call of these kinds, but for one, on this file or name where it is given, may have its place between two moments."""
+        return any(
+            it.kind in kinds and it.answer == DONE and at in (None, it.at) and it.begin < end and begin < it.end and it is not but
+            for it in self.calls
+        )
 
-    def overwritten(self, file: int, before: int) -> Pairs:
-        """Writes to a file that ended before a moment, each with a later one that overwrote it before that moment."""
+    def overwritten(self, file: int, before: int) -> Iterator[Call]:
+        """Writes to a file that others overwrote before a moment."""
         writes = [it for it in self.writes.get(file, ()) if it.end < before]
-        for later in sorted(writes, reverse=True)[:4]:
-            yield from ((it, later) for it in writes if later.begin - 5_000 < it.begin and it.end < later.begin)
+        for later in sorted(writes, reverse=True)[:FEW]:
+            yield from (it for it in writes if later.begin - NEAR < it.begin and it.end < later.begin)
 
     def old_mark(self, file: int, before: int, until: int) -> int | None:
         """A mark that a file had and surely has no more from one moment to the other."""
-        for older, _ in self.overwritten(file, before):
+        for older in self.overwritten(file, before):
             if not self.may_come(older.begin, until, ("restore",)):
                 return older.mark
         return None
@@ -47,11 +53,16 @@ class Planter:
 
     def surely_stands(self, call: Call) -> bool:
         """Whether a file stands from before a call until behind it, since it was read and nothing can have taken it out."""
-        reads = [it for it in self.of_kind("read") if it.at == call.at and it.answer >= 0 and call.begin - 5_000 < it.end < call.begin]
+        reads = [it for it in self.of_kind("read") if it.at == call.at and it.answer >= 0 and call.begin - NEAR < it.end < call.begin]
         last = max(reads, default=None)
         return bool(last) and not (
             self.may_come(last.begin, call.end, ("unlink",), call.at) or self.may_come(last.begin, call.end, ("restore",))
         )
+
+
+def seen(call: Call, file: int, mark: int) -> Call:
+    """The call that saw another mark of a file."""
+    return call._replace(marks=(*call.marks[:file], mark, *call.marks[file + 1 :]))
 
 
 def unwritten(it: Planter) -> Pairs:
@@ -76,11 +87,6 @@ def stale(it: Planter) -> Pairs:
             yield call, call._replace(answer=mark)
 
 
-def seen(call: Call, file: int, mark: int) -> Call:
-    """The call that saw another mark of a file."""
-    return call._replace(marks=(*call.marks[:file], mark, *call.marks[file + 1 :]))
-
-
 def torn_scan(it: Planter) -> Pairs:
     """A scan sees one file as it was before the scan began."""
     for call in it.of_kind("scan"):
@@ -101,20 +107,24 @@ def torn_snapshot(it: Planter) -> Pairs:
                     yield look, seen(look, file, mark)
 
 
+def taken_away(it: Planter, restore: Call, scan: Call, file: int) -> Iterator[int]:
+    """Marks of a file that stood just before a restore and surely not behind it, where a scan sees what the restore brought back."""
+    writes = it.writes.get(file, ())
+    for back in (write for write in writes if write.mark == scan.marks[file]):
+        for write in writes:
+            if back.end < write.begin and write.end < restore.begin:
+                is_alone = not it.may_come(write.begin, scan.end, ("restore",), but=restore)
+                if is_alone and not it.may_come(write.begin, restore.end, ("keep",), restore.at):
+                    yield write.mark
+
+
 def left_by_restore(it: Planter) -> Pairs:
     """A scan behind a restore sees a mark that the restore has to take away."""
-    by_mark = {(write.at, write.mark): write for writes in it.writes.values() for write in writes}
     for restore in it.of_kind("restore"):
         scan = it.next_of(restore, "scan") if restore.answer == DONE else None
-        for file, mark in enumerate(scan.marks if scan else ()):
-            back = by_mark.get((file, mark))
-            for write in it.writes.get(file, ()) if back else ():
-                if back.end < write.begin and write.end < restore.begin:
-                    others = [other for other in it.of_kind("restore") if other != restore and other.answer == DONE]
-                    if any(write.begin < other.end and other.begin < scan.end for other in others):
-                        continue
-                    if not it.may_come(write.begin, restore.end, ("keep",), restore.at):
-                        yield scan, seen(scan, file, write.mark)
+        for file in range(it.log.files if scan else 0):
+            for mark in taken_away(it, restore, scan, file):
+                yield scan, seen(scan, file, mark)
 
 
 def made_twice(it: Planter) -> Pairs:

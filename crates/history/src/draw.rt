@@ -47,7 +47,7 @@ impl Draw {
     /// The number of a file.
     fn file(&mut self) -> usize {
         if self.random.below(2) == 0 {
-            return self.random.below(BUSY) as usize * APART;
+            return (self.random.below(BUSY) as usize).wrapping_mul(APART);
         }
         self.random.below(FILES as u32) as usize
     }
