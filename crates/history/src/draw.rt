@@ -65,14 +65,14 @@ impl Draw {
     /// A call that numbers choose.
     fn chosen(&mut self) -> Asked {
         match self.random.below(1_000) {
-            0..=479 => Asked::Read(self.file()),
-            480..=899 => Asked::Write(self.file(), self.mark()),
-            900..=969 => Asked::Create(self.file()),
-            970..=989 => Asked::Unlink(self.file()),
-            990..=991 => Asked::Keep(self.name()),
-            992..=993 => Asked::Drop(self.name()),
-            994..=995 => Asked::Restore(self.name()),
-            996..=997 => Asked::Look(self.name()),
+            0..=469 => Asked::Read(self.file()),
+            470..=889 => Asked::Write(self.file(), self.mark()),
+            890..=959 => Asked::Create(self.file()),
+            960..=979 => Asked::Unlink(self.file()),
+            980..=983 => Asked::Keep(self.name()),
+            984..=987 => Asked::Drop(self.name()),
+            988..=992 => Asked::Restore(self.name()),
+            993..=996 => Asked::Look(self.name()),
             _ => Asked::Scan,
         }
     }
