@@ -1,27 +1,28 @@
 """Whether one order explains a log of calls on shared files, with snapshots and restores of the whole tree between.
 
-**The question.** Each call has a begin and an end by a clock that all clients share. A log is explained where each call can be given a
-moment between its begin and its end, so that the calls, done one by one in the order of these moments, get the answers that they got. Each
-file is a register (its mark, 0 where it is empty, or none where there is no file); a snapshot keeps all files, a restore brings all
-back, a scan reads all of the live tree, and a look all of a snapshot.
+**The question.** Each call has a begin and an end by a clock that all clients share: an atomic counter, fetched before the call and once
+it is answered, so that all begins and ends stand in one order. A log is explained where each call can be given a place between its begin
+and its end, so that the calls, done one by one in the order of their places, get the answers that they got. Each file is a register: its
+mark, 0 where it is empty, or that there is no file. A snapshot keeps all files, a restore brings all back, a scan reads all of the live
+tree, and a look all of a snapshot.
 
-**How it is answered.** One sweep over the clock keeps all that the orders so far can have left, and so it is exact: it refuses a log
-just where no order explains it. A *state* of a file is its mark, the marks that snapshots keep of it, and which of the calls that wait
-at it have their place already. While no call on the whole tree comes between, files know nothing of one another. So what many orders
-leave is kept as one *group*: a set of states for each file, any choice of which is left by one of the orders, and beside it what all
-these orders share, which is the calls on the whole tree that have their place and which snapshots stand. A call on a file is placed as
-late as may be: when it ends, behind each choice of those that wait there. A call on the whole tree is tried before each end of any call
-while it waits, which gives one more group for each; then the calls on files that wait come before it or not, file by file. What a call
-was answered strikes out states, a group without a state for some file is gone, and of two groups that are alike one is kept. Where no
-group is left, no order explains the log.
+**How it is answered.** One sweep over the clock keeps all that the orders so far can have left, no more and no less: so a log is refused
+just where no order explains it. A *state* of a file is its mark, the marks that snapshots keep of it, and which of the calls that wait at
+it have their place already. As long as no call on the whole tree comes between, files know nothing of one another. So what many orders
+leave is kept as one *group*: a set of states for each file, any choice of which is left by one of the orders, and beside it what all of
+these orders share: which calls on the whole tree have their place, and which snapshots stand. A call on a file is placed as late as may
+be, when it ends, behind each choice of those that wait there. A call on the whole tree is tried before each end while it waits, which
+gives one more group each time; calls on files that wait then come before it or not, file by file. What a call was answered strikes states
+out; a group with no state left for some file is gone; of groups that are alike one is kept. Where no group is left, no order explains the
+log (Wing and Gong's search, made just in time as by Lowe, with the files apart).
 
 **What it takes.** At most one call of each client waits at a time, so a file has few states, and mostly one. The groups that a call on
-the whole tree adds are struck out by the next reads of files that tell them apart. So the sweep takes about as long as the log is. Where
-more than `MOST` groups stand it gives up, and says so: that is no alarm.
+the whole tree adds are struck out by the next reads that tell them apart. So the sweep takes about as long as the log is. Where more than
+`MOST` groups stand it gives up, and says so: that is no alarm.
 
-**What it does not find.** Whatever no answer tells: what nobody reads, a wrong mark that is overwritten first, a mistake that the clock
-hides, since it is an atomic counter and orders the threads' memory more than they would be by themselves. It says nothing of calls that
-did not end, of time, or of fairness.
+**What it does not find.** What no answer tells: a wrong mark that nobody reads, or one in a place where another order explains it too.
+What the clock hides: fetching it orders the threads' memory more than they would be ordered by themselves. Calls that do not end; want of
+memory; how long a call took, or who came first.
 """
 from bisect import bisect
 from collections.abc import Iterable, Iterator
