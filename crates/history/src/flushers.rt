@@ -1,0 +1,88 @@
+//! Flushers that make turns until they are told to stop, and count what these did.
+use engine::{Between, Flusher, Naming, TurnReply};
+use std::alloc::Global;
+use std::sync::Wait;
+use std::sync::atomic::{AtomicBool, AtomicU64, Ordering};
+use std::thread::{Parker, Scope};
+use std::time::Duration;
+
+/// How many microseconds a rest takes, or somewhat more.
+const REST: u64 = 20;
+
+/// What flushers are told, and what they made.
+#[derive(Drop)]
+pub struct Watch {
+    /// Whether they have to stop.
+    pub stop: AtomicBool,
+    /// How many turns they made.
+    pub turns: AtomicU64,
+    /// In how many a job was installed.
+    pub installed: AtomicU64,
+    /// In how many the job was stale, since a restore came between.
+    pub stale: AtomicU64,
+}
+
+impl Watch {
+    /// No turn was made.
+    pub fn new() -> Watch {
+        Watch {
+            stop: AtomicBool::new(false),
+            turns: AtomicU64::new(0),
+            installed: AtomicU64::new(0),
+            stale: AtomicU64::new(0),
+        }
+    }
+
+    /// Notes what a turn did.
+    fn note(&self, reply: TurnReply) {
+        self.turns.fetch_add(1, Ordering::SeqCst);
+        match reply {
+            TurnReply::Installed => {
+                self.installed.fetch_add(1, Ordering::SeqCst);
+            }
+            TurnReply::Stale => {
+                self.stale.fetch_add(1, Ordering::SeqCst);
+            }
+            _ => {}
+        }
+    }
+}
+
+/// A rest between the two holds of a turn, so that calls come between.
+#[derive(Drop)]
+struct Rests<'a, R: Wait> {
+    rt: &'a R,
+}
+
+impl<'a, R: Wait> Between for Rests<'a, R> {
+    fn between(&mut self) {
+        rest(self.rt);
+    }
+}
+
+/// Rests, so that others get the lock.
+pub fn rest<R: Wait>(rt: &R) {
+    Parker::new().park_timeout(rt, Duration::from_micros(REST));
+}
+
+/// Starts a flusher in a thread of its own, if there is one.
+pub fn start<'s, E, J: Naming + Send + Sync + 's, H: Wait + Sync>(
+    scope: &Scope<'s, E>,
+    rt: &'s H,
+    alloc: Global,
+    flusher: Flusher<J>,
+    watch: &'s Watch,
+) {
+    let _ = scope.spawn(move || flush(rt, alloc, flusher, watch));
+}
+
+/// Turns until it has to stop.
+fn flush<J: Naming, H: Wait>(rt: &H, alloc: Global, mut flusher: Flusher<J>, watch: &Watch) {
+    for _ in 0..u64::MAX {
+        if watch.stop.load(Ordering::SeqCst) {
+            return;
+        }
+        watch.note(flusher.turn(rt, alloc, &mut Rests { rt }));
+        rest(rt);
+    }
+}
