@@ -13,7 +13,7 @@ import subprocess
 from dataclasses import dataclass
 from pathlib import Path
 
-from log import Log, below
+from log import Log, below, only
 
 # A name that no program which fetches from there takes for an option.
 MACHINE = re.compile(r"[A-Za-z0-9_][A-Za-z0-9_.@-]*")
@@ -102,7 +102,7 @@ class Keeper:
                 continue
             if path.exists() and it.is_image(path.read_bytes()):
                 return it
-            self.log.remove(below(key_of(self.log, it.revision, self.machine)))
+            self.log.remove(only(key_of(self.log, it.revision, self.machine)))
         return None
 
     def fetched(self) -> Checkpoint | None:

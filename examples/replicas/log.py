@@ -54,6 +54,11 @@ def span(first: str, end: str) -> dict[str, str]:
     return {"key": coded(first), "range_end": coded(end)}
 
 
+def only(key: str) -> dict[str, str]:
+    """The range of one key."""
+    return {"key": coded(key)}
+
+
 def below(prefix: str) -> dict[str, str]:
     """The range of all keys that begin so."""
     return span(prefix, prefix[:-1] + chr(ord(prefix[-1]) + 1))
@@ -134,7 +139,7 @@ class Log:
         return there.revision
 
     def get(self, key: str) -> Pair | None:
-        found = self.ask("/v3/kv/range", {"key": coded(key)}).get("kvs", [])
+        found = self.ask("/v3/kv/range", only(key)).get("kvs", [])
         return pair_of(found[0]) if found else None
 
     def remove(self, reach: dict[str, str]) -> None:
@@ -153,7 +158,7 @@ class Log:
 
     def first(self) -> int:
         """The revision of the first batch, or that which the first one may have."""
-        now = int(self.ask("/v3/kv/range", {"key": coded(self.lines_prefix())})["header"]["revision"])
+        now = int(self.ask("/v3/kv/range", only(self.lines_prefix()))["header"]["revision"])
         return min((it.created for it in self.all_in(below(self.lines_prefix()), keys_only=True)), default=now + 1)
 
     def watch_once(self, revision: int) -> Iterator[Pair]:
