@@ -63,7 +63,7 @@ class Cluster:
              "--listen-client-urls", f"http://{here}:{CLIENTS}", "--advertise-client-urls", f"http://{here}:{CLIENTS}",
              "--listen-peer-urls", f"http://{here}:{PEERS}", "--initial-advertise-peer-urls", f"http://{here}:{PEERS}",
              "--initial-cluster", cluster, "--initial-cluster-state", "new", "--heartbeat-interval", "300",
-             "--election-timeout", "3000", "--logger", "zap"],
+             "--election-timeout", "3000", "--snapshot-count", "1000", "--logger", "zap"],
             stdout=said, stderr=said,
         )  # fmt: skip
 

@@ -37,19 +37,20 @@ class Parts:
 
     def __init__(self, table: dict[str, str]):
         self.table = table
+        self.prefixes = set(table.values())
 
     @classmethod
     def of(cls, log: Log) -> "Parts":
-        return cls(json.loads(log.get(f"{log.prefix}/parts") or b"{}") or {"": log.prefix})
-
-    def prefixes(self) -> set[str]:
-        return set(self.table.values())
+        found = log.get(f"{log.prefix}/parts")
+        return cls(json.loads(found.value) if found else {"": log.prefix})
 
     def shard_of(self, path: bytes) -> str:
         return self.table.get(top_of(path), self.table[""])
 
     def shards_of(self, line: bytes) -> set[str]:
         """The prefixes to which a line goes."""
+        if len(self.prefixes) == 1:
+            return self.prefixes
         words = line.split(b" ")
         call = words[0].split(b"@")[0]
         if call in TWO_PATHS and len(words) == 3:
@@ -59,4 +60,4 @@ class Parts:
             return shards
         if call in ONE_PATH and len(words) > 1:
             return {self.shard_of(words[1])}
-        return self.prefixes()
+        return self.prefixes
