@@ -8,9 +8,13 @@
 #include <stdlib.h>
 #include <string.h>
 
+// Each block of a write is one.
+enum { BLOCK = 4096, CHANGES_BEFORE_STEPS = 16 };
+
 struct library {
     struct doorvervain volume;
     unsigned steps;
+    size_t changes; // that were made since the last steps
     // The tree of the snapshot that was looked into last; its name is empty where there is none.
     struct doorvervain_frozen tree;
     char snapshot[LONGEST_SNAPSHOT + 1];
@@ -18,12 +22,18 @@ struct library {
 
 static const uint8_t *text(const char *word) { return (const uint8_t *)word; }
 
-// What a call's number says in <errno.h>. The tree may do some steps behind a call that changed something.
-static int done(struct library *library, uint8_t number) {
+// What a call's number says in <errno.h>. Behind some changes the tree does steps: a step that moves one change down takes
+// about as long as one that moves many.
+static int done_many(struct library *library, uint8_t number, size_t changes) {
     if (number) return doorvervain_errno(number);
-    if (library->steps) doorvervain_relieve(&library->volume, library->steps);
+    library->changes += changes;
+    if (library->changes < CHANGES_BEFORE_STEPS) return 0;
+    library->changes = 0;
+    doorvervain_relieve(&library->volume, library->steps);
     return 0;
 }
+
+static int done(struct library *library, uint8_t number) { return done_many(library, number, 1); }
 
 static int library_change(void *self, enum change what, const char *path, uint64_t at) {
     static uint8_t (*const calls[])(struct doorvervain *, const uint8_t *, size_t, uint64_t) = {
@@ -45,8 +55,9 @@ static int library_truncate(void *self, const char *path, uint64_t length, uint6
 static int library_write(void *self, const char *path, uint64_t offset, const char *bytes, size_t count, uint64_t at,
                          size_t *written) {
     struct library *library = self;
-    int fault =
-        done(library, doorvervain_write(&library->volume, text(path), strlen(path), offset, text(bytes), count, at));
+    uint8_t number =
+        doorvervain_write(&library->volume, text(path), strlen(path), offset, text(bytes), count, at);
+    int fault = done_many(library, number, 1 + count / BLOCK);
     *written = fault ? 0 : count;
     return fault;
 }
@@ -138,23 +149,16 @@ static int library_data(void *self, struct place at, uint64_t offset, struct run
     return doorvervain_errno(doorvervain_data(&library->volume, text(at.path), length, offset, &out->from, &out->to));
 }
 
-// The image of a tree that stands still; it takes as many bytes as `size` says.
-static int print_image(struct doorvervain_frozen *tree, struct bytes *out) {
-    size_t size = 0;
-    int fault = doorvervain_errno(doorvervain_image(tree, 0, 0, &size));
-    if (!fault) fault = bytes_reserve(out, size);
-    if (!fault) fault = doorvervain_errno(doorvervain_image(tree, (uint8_t *)out->at, size, &out->length));
-    return fault;
+static int put(void *image, const uint8_t *bytes, size_t count) {
+    return image_put(image, (const char *)bytes, count);
 }
 
+// The image goes out piece by piece: no memory is taken for all of its text.
 static int save(struct library *library, struct image *image) {
     struct doorvervain_frozen live;
-    struct bytes text = {0};
     int fault = doorvervain_errno(doorvervain_freeze(&library->volume, &live));
-    if (!fault) fault = print_image(&live, &text);
-    if (!fault) fault = image_put(image, text.at, text.length);
+    if (!fault) fault = doorvervain_image_to(&live, put, image);
     doorvervain_thaw(&live);
-    bytes_free(&text);
     return fault;
 }
 
