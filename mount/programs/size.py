@@ -3,6 +3,7 @@ import errno
 import os
 import random
 import subprocess
+import time
 from pathlib import Path
 
 from cases import refused
@@ -58,6 +59,7 @@ def one_large_file_is_taken_away_while_it_is_read(folder: Path):
         count = os.stat(mount.point / "large").st_size >> 20
         (mount.point / "large").unlink()
         assert all(os.pread(file.fileno(), 1 << 20, i << 20) == PIECE for i in range(count))
+    time.sleep(1)  # The kernel says some requests later that it forgets the file.
     assert fill(mount.point, count * 3 // 4) == count * 3 // 4
     assert mount.end() == 0, mount.said()
 

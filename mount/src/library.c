@@ -3,10 +3,12 @@
 #include "image.h"
 #include "way.h"
 #include <errno.h>
+#include <fcntl.h>
 #include <inttypes.h>
 #include <stdio.h>
 #include <stdlib.h>
 #include <string.h>
+#include <unistd.h>
 
 // Each block of a write is one.
 enum { BLOCK = 4096, CHANGES_BEFORE_STEPS = 16 };
@@ -191,17 +193,25 @@ static int open_empty(struct library *library) {
     return fault;
 }
 
-static int load(struct library *library, const char *file) {
-    struct bytes image = {0};
+static int get(void *file, uint8_t *out, size_t room, size_t *got) {
+    ssize_t count;
+    do count = read(*(int *)file, out, room);
+    while (count < 0 && errno == EINTR);
+    *got = count < 0 ? 0 : (size_t)count;
+    return count < 0 ? errno : 0;
+}
+
+// The image comes in piece by piece, as it goes out.
+static int load(struct library *library, const char *name) {
     uint64_t line = 0;
-    int fault = bytes_read_file(&image, file);
+    int file = open(name, O_RDONLY | O_CLOEXEC);
+    int fault = file < 0 ? errno : 0;
     if (!fault)
-        fault = doorvervain_errno(
-            doorvervain_load(&library->volume, DOORVERVAIN_FANOUT, DOORVERVAIN_PENDING, DOORVERVAIN_LEAF,
-                             text(image.at), image.length, &line));
-    if (line) fprintf(stderr, "doorvervain-mount: %s: bad image at line %" PRIu64 "\n", file, line);
-    else if (fault) fprintf(stderr, "doorvervain-mount: %s: %s\n", file, strerror(fault));
-    bytes_free(&image);
+        fault = doorvervain_load_from(&library->volume, DOORVERVAIN_FANOUT, DOORVERVAIN_PENDING, DOORVERVAIN_LEAF, get,
+                                      &file, &line);
+    if (line) fprintf(stderr, "doorvervain-mount: %s: bad image at line %" PRIu64 "\n", name, line);
+    else if (fault) fprintf(stderr, "doorvervain-mount: %s: %s\n", name, strerror(fault));
+    if (file >= 0) close(file);
     return fault;
 }
 
