@@ -22,6 +22,8 @@ struct library {
     char snapshot[LONGEST_SNAPSHOT + 1];
 };
 
+static uint8_t piece[1 << 16]; // of an image
+
 static const uint8_t *text(const char *word) { return (const uint8_t *)word; }
 
 // What a call's number says in <errno.h>. Behind some changes the tree does steps: a step that moves one change down takes
@@ -158,10 +160,10 @@ static int put(void *image, const uint8_t *bytes, size_t count) {
 // The image goes out piece by piece: no memory is taken for all of its text.
 static int save(struct library *library, struct image *image) {
     struct doorvervain_frozen live;
-    int fault = doorvervain_errno(doorvervain_freeze(&library->volume, &live));
-    if (!fault) fault = doorvervain_image_to(&live, put, image);
-    doorvervain_thaw(&live);
-    return fault;
+    int failed = 0;
+    uint8_t number = doorvervain_freeze(&library->volume, &live);
+    if (!number) number = doorvervain_image_to(&live, piece, sizeof piece, put, image, &failed);
+    return failed ? failed : doorvervain_errno(number);
 }
 
 static unsigned library_relieve(void *self, unsigned steps) {
@@ -204,11 +206,12 @@ static int get(void *file, uint8_t *out, size_t room, size_t *got) {
 // The image comes in piece by piece, as it goes out.
 static int load(struct library *library, const char *name) {
     uint64_t line = 0;
-    int file = open(name, O_RDONLY | O_CLOEXEC);
-    int fault = file < 0 ? errno : 0;
-    if (!fault)
-        fault = doorvervain_load_from(&library->volume, DOORVERVAIN_FANOUT, DOORVERVAIN_PENDING, DOORVERVAIN_LEAF, get,
-                                      &file, &line);
+    int file = open(name, O_RDONLY | O_CLOEXEC), failed = file < 0 ? errno : 0;
+    uint8_t number = 0;
+    if (!failed)
+        number = doorvervain_load_from(&library->volume, DOORVERVAIN_FANOUT, DOORVERVAIN_PENDING, DOORVERVAIN_LEAF, piece,
+                                       sizeof piece, get, &file, &failed, &line);
+    int fault = failed ? failed : doorvervain_errno(number);
     if (line) fprintf(stderr, "doorvervain-mount: %s: bad image at line %" PRIu64 "\n", name, line);
     else if (fault) fprintf(stderr, "doorvervain-mount: %s: %s\n", name, strerror(fault));
     if (file >= 0) close(file);
