@@ -1,6 +1,6 @@
 // A log between a volume and its caller: every call as a line of a script, and every reply. Any program of the language
 // answers the script alike. A write that is longer than a line can be stands as several lines. One that is refused
-// stands as a note, and so does a hole.
+// stands as a note, and so does a hole, and what is refused for want of memory.
 #include "script.h"
 #include <errno.h>
 #include <fcntl.h>
@@ -10,6 +10,8 @@
 #include <string.h>
 #include <sys/stat.h>
 #include <unistd.h>
+
+enum { LONGEST_NOTE = 100 };
 
 struct log {
     struct volume over;
@@ -23,8 +25,17 @@ static struct bytes *fresh(struct bytes *bytes) {
     return bytes;
 }
 
+// What was refused for want of memory another program would do.
+static int note_line(struct log *log) {
+    size_t length = log->line.length - 1;
+    if (length > LONGEST_NOTE) length = LONGEST_NOTE;
+    fprintf(log->calls, "# memory was wanting for: %.*s\n", (int)length, log->line.at);
+    return ENOMEM;
+}
+
 // Writes the line that stands ready and the reply to it: a refusal, or what stands ready as a reply.
 static int tell(struct log *log, int fault) {
+    if (fault == ENOMEM) return note_line(log);
     if (fault) reply_fault(fresh(&log->reply), fault);
     fwrite(log->line.at, 1, log->line.length, log->calls);
     fwrite(log->reply.at, 1, log->reply.length, log->replies);
