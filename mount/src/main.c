@@ -87,6 +87,7 @@ static int serve_in_background(const struct options *options) {
 static int serve_options(struct options *options) {
     options->image = full_name(options->image);
     options->making.image = full_name(options->making.image);
+    options->making.store = full_name(options->making.store);
     options->making.log = full_name(options->making.log);
     options->making.betr = full_name(options->making.betr);
     return options->stays ? serve_mount(options, say_it_stands) : serve_in_background(options);

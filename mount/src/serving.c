@@ -4,6 +4,8 @@
 #include "readahead.h"
 #include "requests.h"
 #include "room.h"
+#include "snapshots.h"
+#include "store.h"
 #include <errno.h>
 #include <malloc.h>
 #include <poll.h>
@@ -11,12 +13,19 @@
 #include <stdio.h>
 #include <unistd.h>
 
+static int open_way(const struct making *making, struct mount *mount) {
+    if (making->store) return store_open(making, &mount->volume, &mount->store);
+    return making->betr ? open_pipe(making, &mount->volume) : open_library(making, &mount->volume);
+}
+
 static int open_volume(const struct options *options, struct mount *mount) {
     const struct making *making = &options->making;
-    int fault = making->betr ? open_pipe(making, &mount->volume) : open_library(making, &mount->volume);
+    int fault = open_way(making, mount);
     if (fault) return fault;
     if (making->log) fault = open_log(making, &mount->volume);
     if (!fault) fault = files_start(mount);
+    if (!fault && mount->store) fault = snapshots_find(mount);
+    if (!fault && mount->store) fault = store_keep(mount->store, mount);
     if (fault) mount->volume.way->close(mount->volume.self, 0);
     return fault;
 }
