@@ -128,6 +128,15 @@ int store_end_calls(struct store *store) {
     return bytes_append(&queue->ends, &queue->calls.length, sizeof queue->calls.length);
 }
 
+// The log is long: the keeper is not to sleep on. An image has no snapshot: so where one stands the log goes on.
+static void wake_keeper(struct store *store) {
+    if (store->snapshots || store->fault || store->logged < store->enough || !store->is_kept) return;
+    pthread_mutex_lock(&store->waiting);
+    store->is_wanted = true;
+    pthread_cond_signal(&store->wakes);
+    pthread_mutex_unlock(&store->waiting);
+}
+
 // Where the keeper writes, it need not be waited for, until too much waits.
 static void spill(struct store *store) {
     bool is_free = !pthread_mutex_trylock(&store->writing);
@@ -135,6 +144,7 @@ static void spill(struct store *store) {
     if (!is_free) pthread_mutex_lock(&store->writing);
     store_take(store);
     store_write_taken(store);
+    wake_keeper(store);
     pthread_mutex_unlock(&store->writing);
 }
 
@@ -142,6 +152,7 @@ static int sync_all(struct store *store) {
     pthread_mutex_lock(&store->writing);
     store_take(store);
     int fault = store_sync_taken(store);
+    wake_keeper(store);
     pthread_mutex_unlock(&store->writing);
     return fault;
 }
@@ -194,14 +205,16 @@ static void sync_in_time(struct store *store) {
     pthread_mutex_unlock(&store->writing);
 }
 
-// Sleeps, and says whether the end has come meanwhile.
+// Sleeps until it is time or an image is due, and says whether the end has come meanwhile.
 static bool sleep_or_end(struct store *store) {
     struct timespec until;
     clock_gettime(CLOCK_MONOTONIC, &until);
     until.tv_sec += SECONDS_BETWEEN;
     pthread_mutex_lock(&store->waiting);
-    while (!store->ends && pthread_cond_timedwait(&store->wakes, &store->waiting, &until) != ETIMEDOUT) {
-    }
+    int fault = 0;
+    while (!store->ends && !store->is_wanted && fault != ETIMEDOUT)
+        fault = pthread_cond_timedwait(&store->wakes, &store->waiting, &until);
+    store->is_wanted = false;
     bool ends = store->ends;
     pthread_mutex_unlock(&store->waiting);
     return ends;

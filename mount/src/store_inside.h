@@ -43,6 +43,7 @@ struct store {
     bool is_kept;
     pthread_mutex_t waiting; // of the keeper's sleep
     pthread_cond_t wakes;
+    bool is_wanted; // an image is due
     _Atomic bool ends;
 };
 

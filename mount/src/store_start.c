@@ -44,25 +44,15 @@ static void close_log_file(struct log *log) {
     if (log->file >= 0) close(log->file);
 }
 
-static int run_record(const struct store *store, const struct log *log, const struct record_place *place) {
+// Runs the records that lie whole in front, one after the other.
+static int run_log(const struct store *store, struct log *log) {
     uint64_t call = 0;
-    int fault = calls_run(store->volume, log->bytes + place->calls, place->calls_end - place->calls, &call);
+    int fault =
+        doorvervain_errno(doorvervain_log_replay(store->volume, (const uint8_t *)log->bytes, log->length,
+                                                 store_record(log->number, 0), &log->records, &call, &log->whole));
     if (fault)
-        store_say(store, "log.%" PRIu64 ": call %" PRIu64 " of record %" PRIu64 " is not done: %s", log->number, call,
-                  log->records, strerror(fault));
-    return fault;
-}
-
-// Runs the records one after the other, up to the first that is not whole.
-static int run_records(const struct store *store, struct log *log) {
-    struct record_place place;
-    int fault = 0;
-    while (!fault && log->whole < log->length &&
-           calls_find(log->bytes, log->length, log->whole, store_record(log->number, log->records), &place)) {
-        fault = run_record(store, log, &place);
-        log->whole = place.end;
-        log->records++;
-    }
+        store_say(store, "log.%" PRIu64 ": call %" PRIu64 " of record %" PRIu64 ", at byte %zu, is not done: %s",
+                  log->number, call, log->records, log->whole, strerror(fault));
     return fault;
 }
 
@@ -76,7 +66,8 @@ static int say_damage(const struct store *store, const struct log *log) {
 // nor where a later log has something.
 static int try_end(const struct store *store, const struct log *log, bool is_last) {
     if (log->whole == log->length) return 0;
-    if (!is_last || calls_find_mark(log->bytes, log->length, log->whole, store_record(log->number, log->records)))
+    if (!is_last ||
+        calls_find_mark(log->bytes + log->whole, log->length - log->whole, store_record(log->number, log->records)))
         return say_damage(store, log);
     store_say(store, "log.%" PRIu64 ": record %" PRIu64 ", at byte %zu, is not whole, and is cut off with %zu bytes",
               log->number, log->records, log->whole, log->length - log->whole);
@@ -109,7 +100,7 @@ static bool has_more(const struct logs *logs, size_t behind) {
 static int run_logs(const struct store *store, struct logs *logs) {
     int fault = 0;
     for (size_t i = 0; !fault && i < logs->count; i++) {
-        fault = run_records(store, &logs->at[i]);
+        fault = run_log(store, &logs->at[i]);
         if (!fault) fault = try_end(store, &logs->at[i], !has_more(logs, i));
     }
     return fault;
