@@ -15,8 +15,8 @@
 // asks for the size alone, and is answered by DOORVERVAIN_DONE; any other room that is too small by
 // DOORVERVAIN_ERANGE. Either leaves the buffer as it was.
 //
-// A null pointer is answered by DOORVERVAIN_NULL, also one to a volume or tree. Only a pointer with the length 0
-// beside it may be null. A volume or tree that is closed is answered by DOORVERVAIN_CLOSED. A call writes at most as
+// A null pointer is answered by DOORVERVAIN_NULL, also one to a volume, a tree, a printing or a loading. Only a pointer with
+// the length 0 beside it may be null. One of these that is closed is answered by DOORVERVAIN_CLOSED. A call writes at most as
 // many bytes into a buffer as the caller says that it has.
 //
 // What no check can see, and a caller has to keep:
@@ -48,6 +48,16 @@ struct doorvervain_frozen {
     void *at;
 };
 
+// The image of a frozen tree on its way out, piece by piece. It is closed where `at` is null.
+struct doorvervain_printing {
+    void *at;
+};
+
+// A volume that is loaded of an image piece by piece. It is closed where `at` is null.
+struct doorvervain_loading {
+    void *at;
+};
+
 // What a call answers. The numbers are this library's own; doorvervain_errno gives those of <errno.h>.
 enum {
     DOORVERVAIN_DONE = 0,
@@ -65,7 +75,7 @@ enum {
     DOORVERVAIN_ENOSPC = 12,      // all 64 names of snapshots are taken
     DOORVERVAIN_ERANGE = 13,      // the buffer is too short, and nothing was written
     DOORVERVAIN_NULL = 254,       // a pointer is null
-    DOORVERVAIN_CLOSED = 255      // the volume or tree is closed
+    DOORVERVAIN_CLOSED = 255      // the volume, tree, printing or loading is closed
 };
 
 // What stands at a path.
@@ -143,6 +153,17 @@ uint8_t doorvervain_raw_frozen_stat(
 uint8_t doorvervain_raw_load(uint16_t fanout, uint16_t pending, uint16_t leaf, const uint8_t *text, size_t length,
     uint64_t *line, struct doorvervain *out);
 uint8_t doorvervain_raw_image(struct doorvervain_frozen *tree, uint8_t *out, size_t room, size_t *size);
+uint8_t doorvervain_raw_print_begin(struct doorvervain_frozen tree, struct doorvervain_printing *out);
+uint8_t doorvervain_raw_print_piece(
+    struct doorvervain_printing *printing, uint8_t *out, size_t room, size_t *size);
+void doorvervain_raw_print_end(struct doorvervain_printing printing);
+uint8_t doorvervain_raw_load_begin(
+    uint16_t fanout, uint16_t pending, uint16_t leaf, struct doorvervain_loading *out);
+uint8_t doorvervain_raw_load_piece(
+    struct doorvervain_loading *loading, const uint8_t *text, size_t length, uint64_t *line);
+uint8_t doorvervain_raw_load_end(
+    struct doorvervain_loading loading, uint64_t *line, struct doorvervain *out);
+void doorvervain_raw_load_drop(struct doorvervain_loading loading);
 uint8_t doorvervain_raw_frozen_readdir(
     struct doorvervain_frozen *tree, const uint8_t *path, size_t length, uint8_t *out, size_t room, size_t *size);
 void doorvervain_raw_thaw(struct doorvervain_frozen tree);
@@ -450,6 +471,125 @@ static inline void doorvervain_thaw(struct doorvervain_frozen *tree) {
     if (!tree || !tree->at) return;
     doorvervain_raw_thaw(*tree);
     tree->at = NULL;
+}
+
+// ---- images by pieces, so that no image has to fit into memory
+
+// Begins to print the image of a frozen tree. It takes the tree, which is closed from then on, whatever is answered but
+// DOORVERVAIN_NULL: freeze once more where the tree is wanted beside it, which copies nothing. ENOMEM. Where it is refused, the
+// printing is closed.
+static inline uint8_t doorvervain_print_begin(
+    struct doorvervain_printing *printing, struct doorvervain_frozen *tree) {
+    if (printing) printing->at = NULL;
+    if (!printing || !tree) return DOORVERVAIN_NULL;
+    if (!tree->at) return DOORVERVAIN_CLOSED;
+    struct doorvervain_frozen taken = *tree;
+    tree->at = NULL;
+    return doorvervain_raw_print_begin(taken, printing);
+}
+
+// Writes the next bytes of the image to the front of the buffer: `*size` says how many, 0 only at the end of the image and where `room`
+// is 0. They may be fewer than there is room for. ENOMEM: nothing was written, and the same may be asked again.
+static inline uint8_t doorvervain_print_piece(
+    struct doorvervain_printing *printing, uint8_t *out, size_t room, size_t *size) {
+    if (!size) return DOORVERVAIN_NULL;
+    *size = 0;
+    if (!printing || (!out && room)) return DOORVERVAIN_NULL;
+    if (!printing->at) return DOORVERVAIN_CLOSED;
+    return doorvervain_raw_print_piece(printing, doorvervain_into(out), room, size);
+}
+
+// Frees a printing with its tree, wherever it stands, and closes it. It does nothing to one that is closed.
+static inline void doorvervain_print_end(struct doorvervain_printing *printing) {
+    if (!printing || !printing->at) return;
+    doorvervain_raw_print_end(*printing);
+    printing->at = NULL;
+}
+
+// Begins to load an image. The shape is as doorvervain_open has it. EINVAL: no such shape. ENOMEM. Where it is refused, the
+// loading is closed.
+static inline uint8_t doorvervain_load_begin(
+    struct doorvervain_loading *loading, uint16_t fanout, uint16_t pending, uint16_t leaf) {
+    if (!loading) return DOORVERVAIN_NULL;
+    loading->at = NULL;
+    return doorvervain_raw_load_begin(fanout, pending, leaf, loading);
+}
+
+// Takes the next bytes of the text, which may be cut anywhere. EINVAL: they are no image whatever follows, and `line` is the first line
+// with which they are none. ENOMEM. `line` is 0 with any other answer. What was refused stays refused: each later piece is answered the
+// same.
+static inline uint8_t doorvervain_load_piece(
+    struct doorvervain_loading *loading, const uint8_t *text, size_t length, uint64_t *line) {
+    if (line) *line = 0;
+    if (!loading || !line || (!text && length)) return DOORVERVAIN_NULL;
+    if (!loading->at) return DOORVERVAIN_CLOSED;
+    return doorvervain_raw_load_piece(loading, doorvervain_from(text), length, line);
+}
+
+// Ends the text, and makes the volume of it. It takes the loading, which is closed from then on, whatever is answered but
+// DOORVERVAIN_NULL. EINVAL: the text is no image, and `line` is the first line with which it is none. ENOMEM. `line` is 0 with any
+// other answer. Where it is refused, the volume is closed. What `fs` held before is not freed.
+static inline uint8_t doorvervain_load_end(
+    struct doorvervain *fs, struct doorvervain_loading *loading, uint64_t *line) {
+    if (fs) fs->at = NULL;
+    if (line) *line = 0;
+    if (!fs || !loading || !line) return DOORVERVAIN_NULL;
+    if (!loading->at) return DOORVERVAIN_CLOSED;
+    struct doorvervain_loading taken = *loading;
+    loading->at = NULL;
+    return doorvervain_raw_load_end(taken, line, fs);
+}
+
+// Frees a loading with what it loaded, and closes it. It does nothing to one that is closed.
+static inline void doorvervain_load_drop(struct doorvervain_loading *loading) {
+    if (!loading || !loading->at) return;
+    doorvervain_raw_load_drop(*loading);
+    loading->at = NULL;
+}
+
+// Prints the image of a frozen tree through a function of the caller, which takes all the bytes that it is given and answers 0, or another
+// number: then no more is printed, and `*failed` is that number; else it is 0. The bytes go through the buffer, which has to have room
+// for one at least (EINVAL). It takes the tree, which is closed from then on, whatever is answered but DOORVERVAIN_NULL. ENOMEM: a
+// beginning was printed.
+static inline uint8_t doorvervain_image_to(struct doorvervain_frozen *tree, uint8_t *buffer, size_t room,
+    int (*put)(void *context, const uint8_t *bytes, size_t count), void *context, int *failed) {
+    struct doorvervain_printing printing;
+    size_t count = 0;
+    if (failed) *failed = 0;
+    if (!tree || !buffer || !put || !failed) return DOORVERVAIN_NULL;
+    uint8_t number = doorvervain_print_begin(&printing, tree);
+    if (!number && !room) number = DOORVERVAIN_EINVAL;
+    while (!number && !*failed) {
+        number = doorvervain_print_piece(&printing, buffer, room, &count);
+        if (!count) break;
+        *failed = put(context, buffer, count);
+    }
+    doorvervain_print_end(&printing);
+    return number;
+}
+
+// Makes a volume of an image that a function of the caller gives: it puts at most `room` bytes into the buffer, says in `*got` how many,
+// 0 at the end of the text, and answers 0, or another number: then `*failed` is that number, the answer DOORVERVAIN_DONE, and the volume
+// closed. Else `*failed` is 0, and all is as doorvervain_load has it. A buffer without room is answered by EINVAL, and `line` is 0.
+static inline uint8_t doorvervain_load_from(struct doorvervain *fs, uint16_t fanout, uint16_t pending, uint16_t leaf,
+    uint8_t *buffer, size_t room, int (*get)(void *context, uint8_t *buffer, size_t room, size_t *got), void *context,
+    int *failed, uint64_t *line) {
+    struct doorvervain_loading loading;
+    if (fs) fs->at = NULL;
+    if (failed) *failed = 0;
+    if (line) *line = 0;
+    if (!fs || !buffer || !get || !failed || !line) return DOORVERVAIN_NULL;
+    if (!room) return DOORVERVAIN_EINVAL;
+    uint8_t number = doorvervain_load_begin(&loading, fanout, pending, leaf);
+    while (!number) {
+        size_t got = 0;
+        *failed = get(context, buffer, room, &got);
+        if (*failed || !got) break;
+        number = doorvervain_load_piece(&loading, buffer, got < room ? got : room, line);
+    }
+    if (!number && !*failed) return doorvervain_load_end(fs, &loading, line);
+    doorvervain_load_drop(&loading);
+    return number;
 }
 
 // ---- upkeep

@@ -286,6 +286,75 @@ static void make(void) {
     say_load("load without memory", image, 16, 256, 256, true);
 }
 
+// ---- images by pieces
+
+static void say_begin(const char *what, uint16_t fanout, uint16_t pending, uint16_t leaf, bool no_memory) {
+    struct doorvervain_loading loading = {&loading};
+    refused = no_memory;
+    uint8_t number = without_memory(doorvervain_raw_load_begin(fanout, pending, leaf, &loading));
+    printf("%s: %d, %s\n", what, number, state_of(loading.at));
+    if (!number) doorvervain_load_drop(&loading);
+}
+
+static void say_piece(const char *what, struct doorvervain_loading *loading, const char *text) {
+    uint64_t line = OLD;
+    uint8_t number = doorvervain_raw_load_piece(loading, bytes_of(text), strlen(text), &line);
+    printf("%s: %d at line %llu\n", what, number, (unsigned long long)line);
+}
+
+static void say_end(const char *what, struct doorvervain_loading loading, bool no_memory) {
+    struct doorvervain fs = {&fs};
+    uint64_t line = OLD;
+    refused = no_memory;
+    uint8_t number = without_memory(doorvervain_raw_load_end(loading, &line, &fs));
+    printf("%s: %d at line %llu, %s\n", what, number, (unsigned long long)line, state_of(fs.at));
+    if (!number) doorvervain_close(&fs);
+}
+
+static void load_pieces(void) {
+    struct doorvervain_loading loading = {0};
+    say_begin("begin of a load", 16, 256, 256, false);
+    say_begin("begin with too few children", 3, 256, 256, false);
+    say_begin("begin with too few messages", 16, 15, 256, false);
+    say_begin("begin with too few entries", 16, 256, 3, true);
+    say_begin("begin without memory", 16, 256, 256, true);
+    (void)doorvervain_load_begin(&loading, 16, 256, 256);
+    say_piece("a piece", &loading, "D / 5\nD");
+    say_piece("a bad one", &loading, " /a\n");
+    say_piece("one behind it", &loading, "");
+    say_end("the end", loading, false);
+    (void)doorvervain_load_begin(&loading, 16, 256, 256);
+    say_end("the end of no text", loading, false);
+    (void)doorvervain_load_begin(&loading, 16, 256, 256);
+    say_piece("an image", &loading, "D / 5\n");
+    say_end("its end without memory", loading, true);
+}
+
+static void print_pieces(struct doorvervain *fs) {
+    struct doorvervain_frozen tree = {0};
+    struct doorvervain_printing printing = {&printing};
+    uint8_t buffer[ROOM];
+    size_t size = OLD;
+    (void)doorvervain_freeze(fs, &tree);
+    refused = true;
+    uint8_t number = without_memory(doorvervain_raw_print_begin(tree, &printing));
+    printf("begin of a print without memory: %d, %s\n", number, state_of(printing.at));
+    (void)doorvervain_freeze(fs, &tree);
+    number = doorvervain_raw_print_begin(tree, &printing);
+    printf("begin of a print: %d, %s\n", number, state_of(printing.at));
+    number = doorvervain_raw_print_piece(&printing, buffer, 0, &size);
+    say_count("piece without room", number, size);
+    number = doorvervain_raw_print_piece(&printing, buffer, ROOM, &size);
+    printf("first piece: %d, begins as %.4s\n", number, (const char *)buffer);
+    size = OLD;
+    refused = true;
+    number = without_memory(doorvervain_raw_print_piece(&printing, buffer, ROOM, &size));
+    say_count("piece without memory", number, size);
+    number = doorvervain_raw_print_piece(&printing, buffer, 3, &size);
+    say_count("the same with memory", number, size);
+    doorvervain_print_end(&printing);
+}
+
 static void freeze(struct doorvervain *fs) {
     struct doorvervain_frozen tree = {&tree};
     uint8_t number = doorvervain_raw_frozen(fs, bytes_of("none"), 4, &tree);
@@ -339,6 +408,8 @@ int main(void) {
     fill_buffers(&fs, &tree);
     say_names(&fs);
     make();
+    load_pieces();
+    print_pieces(&fs);
     freeze(&fs);
     leave_out(&fs);
     lack();

@@ -6,7 +6,7 @@ import os
 import random
 import subprocess
 
-from cases import MNT, case, get, put, refused, run_cases
+from cases import MNT, case, get, mount_case, put, refused, run_cases
 
 KEEP_SIZE, PUNCH, COLLAPSE, ZERO, INSERT = 1, 2, 8, 16, 32
 KIB, MIB = 1024, 1 << 20
@@ -104,6 +104,33 @@ def a_hole_is_punched():
     punch(file, 0, 2**40)
     assert runs(file) == [] and get("file") == bytes(MIB + 77) and stored() == 0
     os.close(file)
+
+
+@case
+def a_hole_behind_which_nothing_is_left():
+    """It goes past the end of the file, whose last block is shorter than others."""
+    for size, offset in ((77, 0), (4096, 0), (5000, 4096), (MIB + 77, 3 * KIB), (MIB + 77, MIB + 5), (MIB, MIB - 1)):
+        put("file", b"x" * size)
+        file = opened()
+        punch(file, offset, MIB)
+        punch(file, offset + 1, 2 * MIB)
+        kept = (offset + 4095) // 4096 * 4096
+        assert get("file") == b"x" * offset + bytes(size - offset) and os.fstat(file).st_size == size
+        assert stored() == kept and all(end <= kept for _, end in runs(file)), (size, offset, stored(), runs(file))
+        os.close(file)
+
+
+@mount_case
+def a_hole_up_to_the_very_end():
+    """tmpfs keeps a last page that is shorter than others."""
+    for size, offset, mode in ((77, 0, PUNCH | KEEP_SIZE), (5000, 4096, PUNCH | KEEP_SIZE), (MIB + 77, 3 * KIB, ZERO),
+                               (5000, 2 * KIB, ZERO | KEEP_SIZE)):
+        put("file", b"x" * size)
+        file = opened()
+        allocate(file, mode, offset, size - offset)
+        assert get("file") == b"x" * offset + bytes(size - offset)
+        assert stored() == (offset + 4095) // 4096 * 4096, (size, offset, stored())
+        os.close(file)
 
 
 @case

@@ -2,6 +2,8 @@
 import errno
 import os
 import random
+import subprocess
+import time
 from pathlib import Path
 
 from cases import refused
@@ -21,6 +23,11 @@ def fill(folder: Path, most: int = 1000) -> int:
             (folder / f"file{i}").unlink(missing_ok=True)
             return i
     return most
+
+
+def punch(path: Path, offset: int, count: int) -> None:
+    words = ["--punch-hole", "--offset", str(offset), "--length", str(count)]
+    subprocess.run(["fallocate", *words, path], check=True)
 
 
 @case
@@ -52,7 +59,37 @@ def one_large_file_is_taken_away_while_it_is_read(folder: Path):
         count = os.stat(mount.point / "large").st_size >> 20
         (mount.point / "large").unlink()
         assert all(os.pread(file.fileno(), 1 << 20, i << 20) == PIECE for i in range(count))
+    time.sleep(1)  # The kernel says some requests later that it forgets the file.
     assert fill(mount.point, count * 3 // 4) == count * 3 // 4
+    assert mount.end() == 0, mount.said()
+
+
+def fill_one(path: Path) -> int:
+    """Writes one file until there is no room: how long it is."""
+    with open(path, "wb", buffering=0) as file:
+        try:
+            while True:
+                file.write(PIECE[:4096])
+        except OSError as fault:
+            assert fault.errno == errno.ENOSPC, fault
+        return file.tell()
+
+
+@case
+def a_full_file_is_cut_and_punched(folder: Path):
+    mount = Mount(folder, "--size", "16M")
+    for _ in range(20):
+        path, other = mount.point / "one", mount.point / "other"
+        size = fill_one(path)
+        assert size > 8 << 20
+        punch(path, 1 << 20, 2 << 20)
+        os.truncate(path, size // 2 + 1)
+        punch(path, 100, size)
+        assert path.read_bytes() == PIECE[:100] + bytes(size // 2 - 99)
+        fill_one(other)
+        os.truncate(path, 5)
+        os.truncate(other, 0)
+        assert path.read_bytes() == PIECE[:5]
     assert mount.end() == 0, mount.said()
 
 
@@ -98,12 +135,7 @@ def what_is_refused_changes_nothing(folder: Path):
     mount, chance, refusals = Mount(folder, "--size", "16M", "--image", folder / "image"), random.Random(1), 0
     for i in range(40):
         (mount.point / f"file{i}").write_bytes(b"%d" % i * 1000)
-    with open(mount.point / "large", "wb", buffering=0) as file:
-        try:
-            while True:
-                file.write(PIECE[:4096])
-        except OSError as fault:
-            assert fault.errno == errno.ENOSPC, fault
+    fill_one(mount.point / "large")
     while refusals < 25:
         before = seen(mount.point) if refusals else {}
         try:

@@ -1,6 +1,5 @@
 #include "bytes.h"
 #include <errno.h>
-#include <fcntl.h>
 #include <stdarg.h>
 #include <stdio.h>
 #include <stdlib.h>
@@ -42,14 +41,6 @@ int bytes_read_all(struct bytes *bytes, int file) {
         if (got == 0) return 0;
         bytes->length += (size_t)got;
     }
-}
-
-int bytes_read_file(struct bytes *bytes, const char *name) {
-    int file = open(name, O_RDONLY | O_CLOEXEC);
-    if (file < 0) return errno;
-    int fault = bytes_read_all(bytes, file);
-    close(file);
-    return fault;
 }
 
 void bytes_free(struct bytes *bytes) {

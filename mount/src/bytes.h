@@ -14,8 +14,7 @@ int bytes_reserve(struct bytes *bytes, size_t more);
 int bytes_append(struct bytes *bytes, const void *more, size_t count);
 // Puts formatted text behind those that are there, without a byte 0: 0 or ENOMEM.
 int bytes_print(struct bytes *bytes, const char *form, ...) __attribute__((format(printf, 2, 3)));
-// Appends a whole file, or what is left of one that is open: 0, or a number of <errno.h>.
-int bytes_read_file(struct bytes *bytes, const char *file);
+// Appends what is left of a file that is open: 0, or a number of <errno.h>.
 int bytes_read_all(struct bytes *bytes, int file);
 // Frees them, and leaves none.
 void bytes_free(struct bytes *bytes);

@@ -161,7 +161,7 @@ int files_stat(struct mount *mount, struct entry *entry, struct stat *out) {
 
 // A file that is cut, or lengthened, at a moment; one that keeps its length gets the moment alone.
 struct cut {
-    bool is_wanted;
+    bool is_wanted, lengthens;
     uint64_t length, at;
 };
 
@@ -171,8 +171,10 @@ static struct cut find_cut(const struct mount *mount, const struct entry *entry,
     bool is_file = !entry->is_directory;
     bool sets_moment = is_file && setting->modify && (setting->modifies_now || !mount_keeps_records(mount));
     uint64_t at = sets_moment && !setting->modifies_now ? moment_of(*setting->modify) : setting->at;
+    uint64_t length = setting->length ? *setting->length : standing->length;
     return (struct cut){.is_wanted = is_file && (setting->length || sets_moment),
-                        .length = setting->length ? *setting->length : standing->length,
+                        .lengthens = length > standing->length,
+                        .length = length,
                         .at = at ? at : 1};
 }
 
@@ -214,13 +216,14 @@ static int set_once(struct mount *mount, struct entry *entry, const struct cut *
     return journal_end(&journal, fault);
 }
 
+// What is cut gives room back, so that no size of the mount refuses it.
 static int set_attributes(struct mount *mount, struct entry *entry, const struct cut *cut,
                           const struct attributes *attributes, bool is_changed, uint64_t at) {
     struct attributes wanted;
     int fault;
     do {
         wanted = *attributes;
-        room_begin();
+        if (is_changed || cut->lengthens) room_begin();
         fault = set_once(mount, entry, cut, &wanted, is_changed, at);
     } while (room_again(&mount->volume, &fault));
     if (!fault) records_remember(mount, entry, &wanted);
@@ -276,7 +279,7 @@ int files_open(struct mount *mount, struct entry *entry, int flags, bool drops) 
     uint64_t at = moment_now();
     int fault = changes ? files_may_change(entry) : 0;
     if (!fault && cuts && drops) fault = drop_set_user(mount, entry, at);
-    if (!fault && cuts) fault = cut_file(mount, entry, &(struct cut){true, 0, at});
+    if (!fault && cuts) fault = cut_file(mount, entry, &(struct cut){.is_wanted = true, .at = at});
     if (!fault) entry->opens++;
     return fault;
 }

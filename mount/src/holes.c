@@ -84,29 +84,38 @@ int holes_seek(struct mount *mount, struct entry *entry, uint64_t offset, int wh
     return 0;
 }
 
-static int lengthen(struct mount *mount, struct entry *entry, const struct spot *spot, uint64_t end, uint64_t at) {
-    struct standing standing;
-    int fault = files_stand(mount, entry, &standing);
-    if (fault || standing.length >= end) return fault;
-    fault = mount->volume.way->truncate(mount->volume.self, spot->path, end, at);
-    if (!fault) holes_cut(mount, entry, end);
+static int set_length(struct mount *mount, struct entry *entry, const struct spot *spot, uint64_t length, uint64_t at) {
+    int fault = mount->volume.way->truncate(mount->volume.self, spot->path, length, at);
+    if (!fault) holes_cut(mount, entry, length);
     return fault;
 }
 
-// The longer file first: where a hole cannot be made, it is cut again.
-static int allocate(struct mount *mount, struct entry *entry, const struct spot *spot, int mode, uint64_t offset,
-                    uint64_t count) {
-    const struct volume *volume = &mount->volume;
+// A hole of a file that has `length` bytes. One that reaches the file's end is made by a cut, which gives a last block
+// back also where that is shorter than others. Then the file gets its length again: no size of the mount refuses that.
+static int make_hole(struct mount *mount, struct entry *entry, const struct spot *spot, uint64_t length, struct run hole,
+                     uint64_t at) {
+    if (hole.from >= length || hole.to < length) {
+        forget(entry);
+        return mount->volume.way->punch(mount->volume.self, spot->path, hole.from, hole.to - hole.from, at);
+    }
+    int fault = set_length(mount, entry, spot, hole.from, at);
+    if (fault) return fault;
+    room_lift();
+    return set_length(mount, entry, spot, length, at);
+}
+
+// The longer file first: where a hole cannot be made, the file has the length again that it had.
+static int allocate(struct mount *mount, struct entry *entry, const struct spot *spot, int mode, struct run range) {
     uint64_t at = moment_now();
     struct standing before;
     int fault = files_stand(mount, entry, &before);
-    if (!fault && !(mode & FALLOC_FL_KEEP_SIZE)) fault = lengthen(mount, entry, spot, offset + count, at);
+    bool lengthens = !(mode & FALLOC_FL_KEEP_SIZE) && range.to > before.length;
+    if (!fault && lengthens) fault = set_length(mount, entry, spot, range.to, at);
     if (fault || !(mode & (FALLOC_FL_PUNCH_HOLE | FALLOC_FL_ZERO_RANGE))) return fault;
-    forget(entry);
-    fault = volume->way->punch(volume->self, spot->path, offset, count, at);
+    fault = make_hole(mount, entry, spot, lengthens ? range.to : before.length, range, at);
     if (!fault) return 0;
     room_lift();
-    volume->way->truncate(volume->self, spot->path, before.length, before.modified);
+    set_length(mount, entry, spot, before.length, before.modified);
     return fault;
 }
 
@@ -116,12 +125,15 @@ int holes_allocate(struct mount *mount, struct entry *entry, int mode, uint64_t 
     bool makes_holes = mode & (FALLOC_FL_PUNCH_HOLE | FALLOC_FL_ZERO_RANGE);
     if (mode & ~known || (makes_holes && !mount_keeps_records(mount))) return EOPNOTSUPP;
     if (count > UINT64_MAX - offset) return EFBIG;
+    struct run range = {offset, offset + count};
     int fault = files_may_change(entry);
     if (!fault) fault = entry_spot(entry, 0, &spot);
     if (fault) return fault;
+    // It gives room back, so that no size of the mount refuses it.
+    if (mode & FALLOC_FL_PUNCH_HOLE) return allocate(mount, entry, &spot, mode, range);
     do {
         room_begin();
-        fault = allocate(mount, entry, &spot, mode, offset, count);
+        fault = allocate(mount, entry, &spot, mode, range);
     } while (room_again(&mount->volume, &fault));
     return fault;
 }

@@ -4,27 +4,41 @@
 #include "library.h"
 #include "way.h"
 #include <errno.h>
+#include <fcntl.h>
 #include <inttypes.h>
 #include <stdio.h>
 #include <stdlib.h>
 #include <string.h>
+#include <unistd.h>
+
+// Each block of a write is one.
+enum { BLOCK = 4096, CHANGES_BEFORE_STEPS = 16 };
 
 struct library {
     struct doorvervain volume;
     unsigned steps;
+    size_t changes; // that were made since the last steps
     // The tree of the snapshot that was looked into last; its name is empty where there is none.
     struct doorvervain_frozen tree;
     char snapshot[LONGEST_SNAPSHOT + 1];
 };
 
+static uint8_t piece[1 << 16]; // of an image
+
 static const uint8_t *text(const char *word) { return (const uint8_t *)word; }
 
-// What a call's number says in <errno.h>. The tree may do some steps behind a call that changed something.
-static int done(struct library *library, uint8_t number) {
+// What a call's number says in <errno.h>. Behind some changes the tree does steps: a step that moves one change down takes
+// about as long as one that moves many.
+static int done_many(struct library *library, uint8_t number, size_t changes) {
     if (number) return doorvervain_errno(number);
-    if (library->steps) doorvervain_relieve(&library->volume, library->steps);
+    library->changes += changes;
+    if (library->changes < CHANGES_BEFORE_STEPS) return 0;
+    library->changes = 0;
+    doorvervain_relieve(&library->volume, library->steps);
     return 0;
 }
+
+static int done(struct library *library, uint8_t number) { return done_many(library, number, 1); }
 
 static int library_change(void *self, enum change what, const char *path, uint64_t at) {
     static uint8_t (*const calls[])(struct doorvervain *, const uint8_t *, size_t, uint64_t) = {
@@ -46,8 +60,9 @@ static int library_truncate(void *self, const char *path, uint64_t length, uint6
 static int library_write(void *self, const char *path, uint64_t offset, const char *bytes, size_t count, uint64_t at,
                          size_t *written) {
     struct library *library = self;
-    int fault =
-        done(library, doorvervain_write(&library->volume, text(path), strlen(path), offset, text(bytes), count, at));
+    uint8_t number =
+        doorvervain_write(&library->volume, text(path), strlen(path), offset, text(bytes), count, at);
+    int fault = done_many(library, number, 1 + count / BLOCK);
     *written = fault ? 0 : count;
     return fault;
 }
@@ -139,24 +154,17 @@ static int library_data(void *self, struct place at, uint64_t offset, struct run
     return doorvervain_errno(doorvervain_data(&library->volume, text(at.path), length, offset, &out->from, &out->to));
 }
 
-// The image of a tree that stands still; it takes as many bytes as `size` says.
-static int print_image(struct doorvervain_frozen *tree, struct bytes *out) {
-    size_t size = 0;
-    int fault = doorvervain_errno(doorvervain_image(tree, 0, 0, &size));
-    if (!fault) fault = bytes_reserve(out, size);
-    if (!fault) fault = doorvervain_errno(doorvervain_image(tree, (uint8_t *)out->at, size, &out->length));
-    return fault;
+static int put(void *image, const uint8_t *bytes, size_t count) {
+    return image_put(image, (const char *)bytes, count);
 }
 
+// The image goes out piece by piece: no memory is taken for all of its text.
 static int save(struct library *library, struct image *image) {
     struct doorvervain_frozen live;
-    struct bytes text = {0};
-    int fault = doorvervain_errno(doorvervain_freeze(&library->volume, &live));
-    if (!fault) fault = print_image(&live, &text);
-    if (!fault) fault = image_put(image, text.at, text.length);
-    doorvervain_thaw(&live);
-    bytes_free(&text);
-    return fault;
+    int failed = 0;
+    uint8_t number = doorvervain_freeze(&library->volume, &live);
+    if (!number) number = doorvervain_image_to(&live, piece, sizeof piece, put, image, &failed);
+    return failed ? failed : doorvervain_errno(number);
 }
 
 static unsigned library_relieve(void *self, unsigned steps) {
@@ -193,17 +201,26 @@ static int open_empty(struct library *library) {
     return fault;
 }
 
-static int load(struct library *library, const char *file) {
-    struct bytes image = {0};
+static int get(void *file, uint8_t *out, size_t room, size_t *got) {
+    ssize_t count;
+    do count = read(*(int *)file, out, room);
+    while (count < 0 && errno == EINTR);
+    *got = count < 0 ? 0 : (size_t)count;
+    return count < 0 ? errno : 0;
+}
+
+// The image comes in piece by piece, as it goes out.
+static int load(struct library *library, const char *name) {
     uint64_t line = 0;
-    int fault = bytes_read_file(&image, file);
-    if (!fault)
-        fault = doorvervain_errno(
-            doorvervain_load(&library->volume, DOORVERVAIN_FANOUT, DOORVERVAIN_PENDING, DOORVERVAIN_LEAF,
-                             text(image.at), image.length, &line));
-    if (line) fprintf(stderr, "doorvervain-mount: %s: bad image at line %" PRIu64 "\n", file, line);
-    else if (fault) fprintf(stderr, "doorvervain-mount: %s: %s\n", file, strerror(fault));
-    bytes_free(&image);
+    int file = open(name, O_RDONLY | O_CLOEXEC), failed = file < 0 ? errno : 0;
+    uint8_t number = 0;
+    if (!failed)
+        number = doorvervain_load_from(&library->volume, DOORVERVAIN_FANOUT, DOORVERVAIN_PENDING, DOORVERVAIN_LEAF, piece,
+                                       sizeof piece, get, &file, &failed, &line);
+    int fault = failed ? failed : doorvervain_errno(number);
+    if (line) fprintf(stderr, "doorvervain-mount: %s: bad image at line %" PRIu64 "\n", name, line);
+    else if (fault) fprintf(stderr, "doorvervain-mount: %s: %s\n", name, strerror(fault));
+    if (file >= 0) close(file);
     return fault;
 }
 

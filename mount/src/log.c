@@ -1,14 +1,17 @@
 // A log between a volume and its caller: every call as a line of a script, and every reply. Any program of the language
-// answers the script alike. A write that is longer than a line can be stands as several lines; one that is refused
-// stands as a note.
+// answers the script alike. A write that is longer than a line can be stands as several lines. One that is refused
+// stands as a note, and so does a hole, and what is refused for want of memory.
 #include "script.h"
 #include <errno.h>
 #include <fcntl.h>
+#include <inttypes.h>
 #include <stdio.h>
 #include <stdlib.h>
 #include <string.h>
 #include <sys/stat.h>
 #include <unistd.h>
+
+enum { LONGEST_NOTE = 100 };
 
 struct log {
     struct volume over;
@@ -22,8 +25,17 @@ static struct bytes *fresh(struct bytes *bytes) {
     return bytes;
 }
 
+// What was refused for want of memory another program would do.
+static int note_line(struct log *log) {
+    size_t length = log->line.length - 1;
+    if (length > LONGEST_NOTE) length = LONGEST_NOTE;
+    fprintf(log->calls, "# memory was wanting for: %.*s\n", (int)length, log->line.at);
+    return ENOMEM;
+}
+
 // Writes the line that stands ready and the reply to it: a refusal, or what stands ready as a reply.
 static int tell(struct log *log, int fault) {
+    if (fault == ENOMEM) return note_line(log);
     if (fault) reply_fault(fresh(&log->reply), fault);
     fwrite(log->line.at, 1, log->line.length, log->calls);
     fwrite(log->reply.at, 1, log->reply.length, log->replies);
@@ -118,33 +130,55 @@ static int log_keep(void *self, enum keeping what, const char *snapshot) {
     return tell_done(log, log->over.way->keep(log->over.self, what, snapshot));
 }
 
-// Zeros stand for a hole: over each run that was stored, and over one byte where none was.
-static int log_zeros(struct log *log, const char *path, uint64_t offset, uint64_t end) {
-    static const char zeros[LARGEST_LINE_WRITE];
-    struct run run = {offset, offset};
-    bool is_told = false;
-    for (uint64_t from = offset; from < end; from = run.to) {
+// The runs that are stored of a range, side by side.
+static int find_runs(struct log *log, const char *path, struct run range, struct bytes *out) {
+    struct run run = range;
+    for (uint64_t from = range.from; from < range.to; from = run.to) {
         int fault = log->over.way->data(log->over.self, (struct place){0, path}, from, &run);
         if (fault) return fault;
-        if (run.from >= end || run.from == run.to) break;
-        uint64_t to = run.to < end ? run.to : end;
-        for (uint64_t at = run.from; at < to; at += LARGEST_LINE_WRITE)
-            tell_write(log, path, at, zeros, to - at < LARGEST_LINE_WRITE ? to - at : LARGEST_LINE_WRITE);
-        is_told = true;
+        if (run.from >= range.to || run.from == run.to) break;
+        if (run.to > range.to) run.to = range.to;
+        if (bytes_append(out, &run, sizeof run)) return ENOMEM;
     }
-    if (!is_told) tell_write(log, path, offset, zeros, 1);
     return 0;
 }
 
+static void tell_zeros(struct log *log, const char *path, struct run run) {
+    static const char zeros[LARGEST_LINE_WRITE];
+    for (uint64_t at = run.from; at < run.to; at += LARGEST_LINE_WRITE)
+        tell_write(log, path, at, zeros, run.to - at < LARGEST_LINE_WRITE ? run.to - at : LARGEST_LINE_WRITE);
+}
+
+// Zeros stand for a hole that was made: over each run that was stored, and over one byte where none was.
+static void tell_hole(struct log *log, const char *path, uint64_t offset, const struct bytes *runs, uint64_t at) {
+    tell_moment(log, at);
+    for (size_t i = 0; i < runs->length; i += sizeof(struct run)) {
+        struct run run;
+        memcpy(&run, runs->at + i, sizeof run);
+        tell_zeros(log, path, run);
+    }
+    if (!runs->length) tell_zeros(log, path, (struct run){offset, offset + 1});
+}
+
+// What of a hole lies within a file.
+static struct run within(uint64_t offset, uint64_t count, uint64_t length) {
+    uint64_t end = offset < length ? length : offset;
+    return (struct run){offset, count < end - offset ? offset + count : end};
+}
+
+// What is stored there is asked for before the hole is made, and told when it was.
 static int log_punch(void *self, const char *path, uint64_t offset, uint64_t count, uint64_t at) {
     struct log *log = self;
-    struct standing standing;
+    struct standing standing = {0};
+    struct bytes runs = {0};
     int fault = log->over.way->stat(log->over.self, (struct place){0, path}, &standing);
-    if (!fault && offset < standing.length) {
-        tell_moment(log, at);
-        fault = log_zeros(log, path, offset, count < standing.length - offset ? offset + count : standing.length);
-    }
-    return fault ? fault : log->over.way->punch(log->over.self, path, offset, count, at);
+    struct run hole = within(offset, count, standing.length);
+    if (!fault) fault = find_runs(log, path, hole, &runs);
+    if (!fault) fault = log->over.way->punch(log->over.self, path, offset, count, at);
+    if (fault) fprintf(log->calls, "# a hole of %" PRIu64 " bytes was refused\n", count);
+    else if (hole.from < hole.to) tell_hole(log, path, offset, &runs, at);
+    bytes_free(&runs);
+    return fault;
 }
 
 // No line of a script asks for it.

@@ -23,7 +23,7 @@ static const char help[] =
     "  --size N        lets the tree take N bytes of memory, with K, M or G behind N, and at least 16M; an eighth is kept\n"
     "                  for removals. Not with --pipe\n"
     "  --log NAME      puts every call in NAME.in, as a script, and every reply in NAME.out\n"
-    "  --steps N       does N tree steps after each call that changes something, 0 to 1000 (4)\n"
+    "  --steps N       does N tree steps behind every 16 changes, 0 to 1000 (4)\n"
     "  --trust         lets owners, set-user bits and devices of the tree hold, also those of a FILE that is loaded; for\n"
     "                  root alone\n"
     "  --allow-other   lets other users in, by the modes of files\n"

@@ -110,8 +110,10 @@ static bool gives_back(const struct volume *volume) {
 }
 
 bool room_again(const struct volume *volume, int *fault) {
+    bool wants_room = was_refused && *fault == ENOMEM;
     most = 0;
-    if (!was_refused || *fault != ENOMEM) return false;
+    was_refused = false;
+    if (!wants_room) return false;
     if (gives_back(volume)) return true;
     *fault = ENOSPC;
     return false;

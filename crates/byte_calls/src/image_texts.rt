@@ -1,15 +1,16 @@
-//! Images: a tree as text, out and in.
-ghost use Rattle.std.specs.Prelude.{◌≡◌, ◌≢◌, ◌↔◌, ℕ, Err, IfOk, false};
+//! Images: a tree as text, out and in, and out by pieces.
+ghost use Rattle.std.specs.Prelude.{◌≡◌, ◌≢◌, ◌↔◌, ℕ, Err, IfErr, IfOk, false};
 ghost use Rattle.node.specs.Shapes.{is_shape};
 ghost use Rattle.reference.specs.Image.{Second, image};
 ghost use Rattle.reference.specs.ImageLines.{IsBadAt};
 ghost use Rattle.reference.specs.Tree.{Tree};
 ghost use Rattle.images.specs.Loads.{Loaded, form_of, new_form};
-ghost use Rattle.byte_calls.specs.Images.{Prints};
+ghost use Rattle.byte_calls.specs.Images.{Prints, PrintsOn};
+ghost use Rattle.pathkey.specs.declared.errno.Errno.TheVariants.{ENOMEM};
 ghost use Rattle.volume.specs.Volumes.{MeanRooted};
 
 use crate::looks::lay_where_it_fits;
-use images::{LoadFault, load_text, print_image};
+use images::{LoadFault, Printing, load_text, print_image};
 use node::Shape;
 use pathkey::Errno;
 use std::alloc::Global;
@@ -25,6 +26,22 @@ pub fn print(alloc: Global, tree: &Frozen, out: &mut [u8]) -> Result<usize, Errn
         return Err(Errno::ENOMEM);
     }
     Ok(lay_where_it_fits(text.as_slice(), out))
+}
+
+/// The image of a frozen tree, in version 2, to be handed out by `print_piece`.
+pub fn print_begin(alloc: Global, tree: Frozen) -> Result<Printing, Errno>
+    ensures given { IfOk result (λ p. p ≡ record { tree = tree; done = 0 }) }
+    ensures refused { IfErr result (λ e. e ≡ ENOMEM) }
+{
+    Ok(Printing::new(alloc, tree)?)
+}
+
+/// The next bytes of an image go to the front of the buffer. The result is how many they are: none only at the end of the image, and where
+/// the buffer has no room. They may be fewer than there is room for. On want of memory the same may be asked again.
+pub fn print_piece(alloc: Global, printing: &mut Printing, out: &mut [u8]) -> Result<usize, Errno>
+    ensures { PrintsOn printing.old result printing.new out.old out.new }
+{
+    Ok(printing.next(alloc, out)?)
 }
 
 /// A new volume with the tree whose image the text is, without snapshots, in trees of this shape. It fails where the shape is not

@@ -15,7 +15,7 @@ pub mod upkeep;
 
 pub use changes::{PathCall, on_path, rename, truncate, write};
 pub use holes::{frozen_stored, punch, stored};
-pub use image_texts::{load, print};
+pub use image_texts::{load, print, print_begin, print_piece};
 pub use looks::{frozen_read, frozen_readdir, frozen_stat, read, readdir, stat};
 pub use snapshots::{drop_snapshot, freeze, frozen, restore, snapshot, snapshot_name};
 pub use upkeep::relieve;

@@ -6,10 +6,18 @@ use Rattle.volume.specs.declared.rooted.Rooted.{Rooted}
 use Rattle.volume.specs.Volumes.{PVolume}
 use Rattle.volume.specs.contracts.volume.Volume.{the_row as volume_row}
 use Rattle.volume.specs.contracts.frozen.Frozen.{the_row as frozen_row}
+use Rattle.images.specs.Printings.{PPrinting}
+use Rattle.images.specs.contracts.printing.Printing.{the_row as printing_row}
+use Rattle.images.specs.declared.loader.Loader.{Loader}
+use Rattle.images.specs.contracts.loader.Loader.{the_row as loading_row}
 use Rattle.doorvervain.specs.declared.handle.Handle.{Handle}
 use Rattle.doorvervain.specs.declared.frozen.FrozenHandle.{FrozenHandle}
+use Rattle.doorvervain.specs.declared.printing.PrintingHandle.{PrintingHandle}
+use Rattle.doorvervain.specs.declared.loading.LoadingHandle.{LoadingHandle}
 use Rattle.doorvervain.specs.contracts.handle.Handle.{the_row as handle_row}
 use Rattle.doorvervain.specs.contracts.frozen.FrozenHandle.{the_row as frozen_handle_row}
+use Rattle.doorvervain.specs.contracts.printing.PrintingHandle.{the_row as printing_handle_row}
+use Rattle.doorvervain.specs.contracts.loading.LoadingHandle.{the_row as loading_handle_row}
 
 -- the handle once its volume is v
 abbrev pub with_volume : Handle → PVolume → Handle
@@ -26,3 +34,19 @@ with_tree h i = record h { tree = i }
 -- once the borrow r ends, the handle behind b holds the last tree written through r
 abbrev pub frozen_follows : MutBor FrozenHandle → MutBor Rooted → Fml
 frozen_follows b r = follows frozen_handle_row frozen_row b.ghost_name r.ghost_name (with_tree b.now)
+
+-- the handle once its printing is p
+abbrev pub with_printing : PrintingHandle → PPrinting → PrintingHandle
+with_printing h p = record h { printing = p }
+
+-- once the borrow r ends, the handle behind b holds the last printing written through r
+abbrev pub printing_follows : MutBor PrintingHandle → MutBor PPrinting → Fml
+printing_follows b r = follows printing_handle_row printing_row b.ghost_name r.ghost_name (with_printing b.now)
+
+-- the handle once its loading is l
+abbrev pub with_loading : LoadingHandle → Loader → LoadingHandle
+with_loading h l = record h { loading = l }
+
+-- once the borrow r ends, the handle behind b holds the last loading written through r
+abbrev pub loading_follows : MutBor LoadingHandle → MutBor Loader → Fml
+loading_follows b r = follows loading_handle_row loading_row b.ghost_name r.ghost_name (with_loading b.now)

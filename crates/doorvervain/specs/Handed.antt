@@ -1,6 +1,5 @@
 -- What the exports that hand a volume or a tree out tell.
-use Rattle.std.specs.Prelude.{◌≡◌, ℕ, zero, suc, ⊤, false, List, Result, Err, IfErr, IfOk, Option, Some, MatchResult}
-use Rattle.images.specs.Loads.{Loaded, form_of, new_form}
+use Rattle.std.specs.Prelude.{◌≡◌, ℕ, zero, suc, ⊤, false, List, Result, Ok, Err, IfErr, IfOk, Option, Some, MatchResult}
 use Rattle.images.specs.declared.load.LoadFault.{LoadFault}
 use Rattle.images.specs.declared.load.LoadFault.TheVariants.{Shape as BadShape, Bad}
 use Rattle.volume.specs.declared.rooted.Rooted.{Rooted}
@@ -47,15 +46,22 @@ pub record FindsHanded (name : Result (List ℕ) Errno) (v : PVolume) (outcome :
 
 -- ---- images
 
--- the volume means the tree whose image the text is, in trees of the shape and without marks
-abbrev pub LoadedIn : Shape → List ℕ → PVolume → Type 0
-LoadedIn shape text v = Loaded text v × (form_of v ≡ new_form shape)
-
 -- the refusal and the line that tell why an image was not loaded
 abbrev pub FaultTold : LoadFault → Errno → ℕ → Type 0
 FaultTold BadShape e line = (e ≡ EINVAL) × (line ≡ 0)
 FaultTold (Bad n) e line = (e ≡ EINVAL) × (line ≡ n)
 FaultTold _ e line = (e ≡ ENOMEM) × (line ≡ 0)
+
+-- the answer of a load, as it is told: what was made and line 0, or why not
+abbrev pub AnswerTold : {X : Type 0} → Result X LoadFault → Result X Errno → ℕ → Type 0
+AnswerTold (Ok x) told line = (told ≡ Ok x) × (line ≡ 0)
+AnswerTold (Err f) told line = (e : Errno) × (told ≡ Err e) × FaultTold f e line
+
+-- why a text that was taken piece by piece was not loaded: EINVAL, and the first line with which it is no image; or ENOMEM and line 0
+abbrev pub NoImage : List ℕ → Errno → ℕ → Type 0
+NoImage text EINVAL n = IsBadAt n text
+NoImage text ENOMEM zero = ⊤
+NoImage text _ _ = ⊥
 
 -- why a text was not loaded: EINVAL and line 0, no tree has the shape; EINVAL and another line, it is the first with which the text is no
 -- image; or ENOMEM and line 0

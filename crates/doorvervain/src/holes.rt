@@ -7,7 +7,7 @@ ghost use Rattle.doorvervain.specs.Numbers.{IsNumber, told_by};
 
 use crate::frozen::FrozenHandle;
 use crate::handle::Handle;
-use pathkey::Errno;
+use crate::numbers::{run, uncounted};
 use std::alloc::Global;
 
 /// Makes zeros of `count` bytes of a file from the offset on, as far as the file reaches.
@@ -23,7 +23,7 @@ pub extern "C" fn doorvervain_raw_punch(
     ensures call { (zeros : ℕ) × PunchesAt (parsed path.now) offset count at (told_by result zeros) fs.old.volume fs.new.volume }
     ensures number { IsNumber result }
 {
-    number(byte_calls::punch(alloc, fs.volume(), path, offset, count, at))
+    uncounted(byte_calls::punch(alloc, fs.volume(), path, offset, count, at))
 }
 
 /// The next run of stored bytes of a file of the live tree at or behind the offset: where it begins goes to `begin`, and where it ends
@@ -69,35 +69,4 @@ pub extern "C" fn doorvervain_raw_frozen_data(
         begin,
         end,
     )
-}
-
-/// The number of an outcome: 0, or that of the refusal.
-fn number(outcome: Result<u64, Errno>) -> u8
-    ensures told { (given : ℕ) × (told_by result given ≡ outcome) }
-    ensures number { IsNumber result }
-{
-    match outcome {
-        Ok(_) => 0,
-        Err(fault) => fault.number(),
-    }
-}
-
-/// The number of an outcome, and the ends of the run, which are both 0 where it is refused.
-fn run(outcome: Result<(u64, u64), Errno>, begin: &mut u64, end: &mut u64) -> u8
-    ensures told { run_told result begin.new end.new ≡ outcome }
-    ensures number { IsNumber result }
-    ensures refused { IfErr outcome (λ _. (begin.new ≡ 0) × (end.new ≡ 0)) }
-{
-    match outcome {
-        Ok((first, last)) => {
-            *begin = first;
-            *end = last;
-            0
-        }
-        Err(fault) => {
-            *begin = 0;
-            *end = 0;
-            fault.number()
-        }
-    }
 }

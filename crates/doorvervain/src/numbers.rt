@@ -1,5 +1,6 @@
 //! Outcomes as numbers that C takes.
-ghost use Rattle.std.specs.Prelude.{◌≡◌, ◌↔◌, ◌<◌, IfErr};
+ghost use Rattle.std.specs.Prelude.{◌≡◌, ◌↔◌, ◌<◌, ℕ, IfErr};
+ghost use Rattle.doorvervain.specs.Holes.{run_told};
 ghost use Rattle.doorvervain.specs.Numbers.{Gives, IsNumber, IsSizeNumber, short, sized_by, stat_told, told, told_by};
 
 use pathkey::Errno;
@@ -28,6 +29,37 @@ pub(crate) fn number(outcome: Result<(), Errno>) -> u8
     match outcome {
         Ok(()) => DONE,
         Err(fault) => fault.number(),
+    }
+}
+
+/// The number of an outcome that counts bytes of which the caller knows: 0, or that of the refusal.
+pub(crate) fn uncounted(outcome: Result<u64, Errno>) -> u8
+    ensures told { (given : ℕ) × (told_by result given ≡ outcome) }
+    ensures number { IsNumber result }
+{
+    match outcome {
+        Ok(_) => DONE,
+        Err(fault) => fault.number(),
+    }
+}
+
+/// The number of an outcome, and the ends of the run, which are both 0 where it is refused.
+pub(crate) fn run(outcome: Result<(u64, u64), Errno>, begin: &mut u64, end: &mut u64) -> u8
+    ensures told { run_told result begin.new end.new ≡ outcome }
+    ensures number { IsNumber result }
+    ensures refused { IfErr outcome (λ _. (begin.new ≡ 0) × (end.new ≡ 0)) }
+{
+    match outcome {
+        Ok((first, last)) => {
+            *begin = first;
+            *end = last;
+            DONE
+        }
+        Err(fault) => {
+            *begin = 0;
+            *end = 0;
+            fault.number()
+        }
     }
 }
 

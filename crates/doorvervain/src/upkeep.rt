@@ -4,9 +4,10 @@ ghost use Rattle.pathkey.specs.declared.errno.Errno.TheVariants.{EINVAL, ENOMEM}
 ghost use Rattle.std.specs.Prelude.{◌≡◌, ◌≤◌, ◌<◌, ◌↔◌, ◌⊎◌, false, Err, IfErr, IfOk, Some};
 ghost use Rattle.node.specs.Shapes.{is_shape};
 ghost use Rattle.reference.specs.Worlds.{World};
+ghost use Rattle.images.specs.Taken.{LoadedIn};
 ghost use Rattle.volume.specs.Volumes.{IsNew, Means};
 ghost use Rattle.byte_calls.specs.Upkeep.{IsIdle, Relieves};
-ghost use Rattle.doorvervain.specs.Handed.{FaultTold, FindsHanded, Given, HandsOut, LoadedIn, NoShape, NotLoaded, shape_of};
+ghost use Rattle.doorvervain.specs.Handed.{AnswerTold, FaultTold, FindsHanded, Given, HandsOut, NoShape, NotLoaded, shape_of};
 ghost use Rattle.doorvervain.specs.Held.{IsClosed};
 ghost use Rattle.doorvervain.specs.Numbers.{IsNumber, told};
 
@@ -165,10 +166,17 @@ fn volume_of(alloc: Global, shape: Shape, text: &[u8], line: &mut u64) -> Result
     ensures shape { is_shape shape ≡ false → (result ≡ Err EINVAL) × (line.new ≡ 0) }
     ensures refused { IfErr result (λ e. NotLoaded shape text.now e line.new) }
 {
-    match byte_calls::load(alloc, shape, text) {
-        Ok(volume) => {
+    answer(byte_calls::load(alloc, shape, text), line)
+}
+
+/// What a load answered, and 0 as the line; else why not, and the line that tells it.
+pub(crate) fn answer<T>(outcome: Result<T, LoadFault>, line: &mut u64) -> Result<T, Errno>
+    ensures { AnswerTold outcome result line.new }
+{
+    match outcome {
+        Ok(value) => {
             *line = 0;
-            Ok(volume)
+            Ok(value)
         }
         Err(fault) => Err(load_fault(fault, line)),
     }
@@ -191,8 +199,12 @@ fn load_fault(fault: LoadFault, line: &mut u64) -> Errno
     }
 }
 
-// Puts a volume that was made on the heap, and its handle at `out`. Where there is none, `out` is closed.
-fn hand_out(alloc: Global, made: Result<Volume, Errno>, out: &mut Place) -> Result<(), Errno>
+/// Puts a volume that was made on the heap, and its handle at `out`. Where there is none, `out` is closed.
+pub(crate) fn hand_out(
+    alloc: Global,
+    made: Result<Volume, Errno>,
+    out: &mut Place,
+) -> Result<(), Errno>
     ensures handed { HandsOut made result out.new.given }
     ensures closed { IfErr result (λ _. IsClosed out.new.at out.new.given) }
 {

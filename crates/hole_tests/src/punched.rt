@@ -10,12 +10,8 @@ const SMALL: Shape = Shape {
     leaf: 4,
 };
 
-/// So many bytes of this value.
-#[derive(Clone, Copy)]
-struct Run {
-    count: u64,
-    byte: u8,
-}
+/// How many bytes have which value.
+type Run = (u64, u8);
 
 /// Holes that are made in a file one after the other, and what is then told of the file.
 struct Row {
@@ -32,24 +28,7 @@ struct Row {
 }
 
 /// The file before: three blocks of `a`, `b` and `c`, and 10 bytes `d`, of moment 3.
-const WHOLE: [Run; 4] = [
-    Run {
-        count: 4096,
-        byte: b'a',
-    },
-    Run {
-        count: 4096,
-        byte: b'b',
-    },
-    Run {
-        count: 4096,
-        byte: b'c',
-    },
-    Run {
-        count: 10,
-        byte: b'd',
-    },
-];
+const WHOLE: [Run; 4] = [(4096, b'a'), (4096, b'b'), (4096, b'c'), (10, b'd')];
 
 const LENGTH: u64 = 12298;
 
@@ -60,24 +39,7 @@ const ROWS: [Row; 11] = [
         asked: &[(4096, 4096)],
         count: 4096,
         modified: 7,
-        bytes: &[
-            Run {
-                count: 4096,
-                byte: b'a',
-            },
-            Run {
-                count: 4096,
-                byte: 0,
-            },
-            Run {
-                count: 4096,
-                byte: b'c',
-            },
-            Run {
-                count: 10,
-                byte: b'd',
-            },
-        ],
+        bytes: &[(4096, b'a'), (4096, 0), (4096, b'c'), (10, b'd')],
         stored: &[(0, 4096), (8192, LENGTH)],
     },
     // From within the first block into the third.
@@ -85,24 +47,7 @@ const ROWS: [Row; 11] = [
         asked: &[(4090, 4106)],
         count: 4106,
         modified: 7,
-        bytes: &[
-            Run {
-                count: 4090,
-                byte: b'a',
-            },
-            Run {
-                count: 4106,
-                byte: 0,
-            },
-            Run {
-                count: 4092,
-                byte: b'c',
-            },
-            Run {
-                count: 10,
-                byte: b'd',
-            },
-        ],
+        bytes: &[(4090, b'a'), (4106, 0), (4092, b'c'), (10, b'd')],
         stored: &[(0, 4096), (8192, LENGTH)],
     },
     // Two bytes at the edge of two blocks: none goes.
@@ -110,25 +55,7 @@ const ROWS: [Row; 11] = [
         asked: &[(4095, 2)],
         count: 2,
         modified: 7,
-        bytes: &[
-            Run {
-                count: 4095,
-                byte: b'a',
-            },
-            Run { count: 2, byte: 0 },
-            Run {
-                count: 4095,
-                byte: b'b',
-            },
-            Run {
-                count: 4096,
-                byte: b'c',
-            },
-            Run {
-                count: 10,
-                byte: b'd',
-            },
-        ],
+        bytes: &[(4095, b'a'), (2, 0), (4095, b'b'), (4096, b'c'), (10, b'd')],
         stored: &[(0, LENGTH)],
     },
     // One byte within a block.
@@ -137,27 +64,12 @@ const ROWS: [Row; 11] = [
         count: 1,
         modified: 7,
         bytes: &[
-            Run {
-                count: 4096,
-                byte: b'a',
-            },
-            Run {
-                count: 904,
-                byte: b'b',
-            },
-            Run { count: 1, byte: 0 },
-            Run {
-                count: 3191,
-                byte: b'b',
-            },
-            Run {
-                count: 4096,
-                byte: b'c',
-            },
-            Run {
-                count: 10,
-                byte: b'd',
-            },
+            (4096, b'a'),
+            (904, b'b'),
+            (1, 0),
+            (3191, b'b'),
+            (4096, b'c'),
+            (10, b'd'),
         ],
         stored: &[(0, LENGTH)],
     },
@@ -166,24 +78,7 @@ const ROWS: [Row; 11] = [
         asked: &[(0, 4100)],
         count: 4100,
         modified: 7,
-        bytes: &[
-            Run {
-                count: 4100,
-                byte: 0,
-            },
-            Run {
-                count: 4092,
-                byte: b'b',
-            },
-            Run {
-                count: 4096,
-                byte: b'c',
-            },
-            Run {
-                count: 10,
-                byte: b'd',
-            },
-        ],
+        bytes: &[(4100, 0), (4092, b'b'), (4096, b'c'), (10, b'd')],
         stored: &[(4096, LENGTH)],
     },
     // All, and beyond the end: the last block is stored in part, and stays.
@@ -191,10 +86,7 @@ const ROWS: [Row; 11] = [
         asked: &[(0, u64::MAX)],
         count: LENGTH,
         modified: 7,
-        bytes: &[Run {
-            count: LENGTH,
-            byte: 0,
-        }],
+        bytes: &[(LENGTH, 0)],
         stored: &[(12288, LENGTH)],
     },
     // From within the last block on.
@@ -202,25 +94,7 @@ const ROWS: [Row; 11] = [
         asked: &[(12290, 1_099_511_627_776)],
         count: 8,
         modified: 7,
-        bytes: &[
-            Run {
-                count: 4096,
-                byte: b'a',
-            },
-            Run {
-                count: 4096,
-                byte: b'b',
-            },
-            Run {
-                count: 4096,
-                byte: b'c',
-            },
-            Run {
-                count: 2,
-                byte: b'd',
-            },
-            Run { count: 8, byte: 0 },
-        ],
+        bytes: &[(4096, b'a'), (4096, b'b'), (4096, b'c'), (2, b'd'), (8, 0)],
         stored: &[(0, LENGTH)],
     },
     // Within blocks that are not stored any more: they are not stored for it.
@@ -228,20 +102,7 @@ const ROWS: [Row; 11] = [
         asked: &[(0, 8192), (10, 4100), (8000, 192)],
         count: 192,
         modified: 7,
-        bytes: &[
-            Run {
-                count: 8192,
-                byte: 0,
-            },
-            Run {
-                count: 4096,
-                byte: b'c',
-            },
-            Run {
-                count: 10,
-                byte: b'd',
-            },
-        ],
+        bytes: &[(8192, 0), (4096, b'c'), (10, b'd')],
         stored: &[(8192, LENGTH)],
     },
     // The same bytes twice.
@@ -249,16 +110,7 @@ const ROWS: [Row; 11] = [
         asked: &[(4000, 9000), (4000, 9000)],
         count: 8298,
         modified: 7,
-        bytes: &[
-            Run {
-                count: 4000,
-                byte: b'a',
-            },
-            Run {
-                count: 8298,
-                byte: 0,
-            },
-        ],
+        bytes: &[(4000, b'a'), (8298, 0)],
         stored: &[(0, 4096), (12288, LENGTH)],
     },
     // Behind the end.
@@ -285,9 +137,9 @@ fn path(alloc: Global, text: &str) -> Result<Path, Errno> {
 
 /// Puts the bytes of the runs behind others.
 fn push_runs(bytes: &mut Vec<u8>, runs: &[Run]) -> Result<(), Errno> {
-    for run in runs {
-        for _ in 0..run.count {
-            if bytes.push(run.byte).is_err() {
+    for (count, byte) in runs {
+        for _ in 0..*count {
+            if bytes.push(*byte).is_err() {
                 return Err(Errno::ENOMEM);
             }
         }

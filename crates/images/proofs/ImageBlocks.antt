@@ -1,23 +1,18 @@
 -- The lines of a file's blocks, from those that a walk lists.
-use Rattle.std.proofs.Common.{◌≡◌, ◌≢◌, ⊎_elim, inl, inr, ℕ, zero, suc, ◌+◌, ◌-◌, ◌/◌, ◌<◌, ◌≤◌, min, List, [], ◌∷◌, ◌++◌, length, take, get_or, replicate, false, refl, sym, ap, subst, ◌∙◌, append_assoc, append-nil, add-one, arith, Option, length-take}
+use Rattle.std.proofs.Common.{◌≡◌, ◌≢◌, ⊎_elim, inl, inr, ℕ, zero, suc, ◌+◌, ◌-◌, ◌/◌, ◌<◌, ◌≤◌, min, List, [], ◌∷◌, ◌++◌, length, take, drop, get_or, replicate, false, refl, sym, ap, subst, ◌∙◌, append_assoc, append-nil, add-one, arith, Option, length-take}
 use Rattle.std.proofs.lemmas.List.{take_more, get_or-take, get_or-append_right, get_or-replicate, get_or_append_left, get_or_past, length-replicate}
 use Rattle.std.proofs.lemmas.Bool.{cases_lt}
-use Rattle.std.specs.Io.KnownBytes.{Appends}
-use Rattle.std.proofs.KnownBytes.{Appends-trans}
 use Rattle.std.specs.Prelude.{◌==◌, Any, codes, decimal}
-use Rattle.lines.proofs.Known.{part_after, part_before}
-use Rattle.lines.specs.Parts.{AppendsPart}
 use Rattle.lines.specs.Texts.{hex_text}
 use Rattle.reference.specs.Image.{block_line, block_lines, trimmed}
 use Rattle.reference.specs.Indexes.{most_blocks}
 use Rattle.reference.proofs.ImageBytes.{keep, trimmed_is}
 use Rattle.reference.proofs.LastBlock.{trimmed_same}
-use Rattle.reference.specs.Tree.{File, At, Found}
-use Rattle.std.specs.Option.{option_to_list}
+use Rattle.reference.specs.Tree.{Dir, File, At, Found, Missing, Blocked}
+use Rattle.std.proofs.Math.Seq.{drop-append_seam}
 use Rattle.volume.specs.Walks.{AreBlocks, AreBlocksAt, IsBlock, block_bytes}
 use Rattle.volume.proofs.Walks.{past_bytes}
-use Rattle.images.specs.Image.{AppendsLines}
-use Rattle.images.proofs.WholeLines.{blocks_end}
+use Rattle.images.specs.Image.{blocks_left}
 
 -- ---- trailing zeros
 
@@ -109,7 +104,7 @@ none_between b i n le h =
     ap (block_lines b) e ∙ no_more b i (n - i) (λ j g f. h j g (omega arith))
 
 -- how many blocks have bytes
-abbrev pub count : List ℕ → ℕ
+abbrev count : List ℕ → ℕ
 count b = length b / 4096 + 1
 
 behind_all : (b : List ℕ) (j : ℕ) → count b ≤ j → Blank b j
@@ -124,7 +119,7 @@ more_lines b i (suc d) =
     (before.0 ++ line, ap (block_lines b) e ∙ ap (λ (l : List ℕ). l ++ line) before.1 ∙ append_assoc (block_lines b i) before.0 line)
 
 -- the lines of the first blocks are a beginning of all
-pub begins : (b : List ℕ) (i : ℕ) → (rest : List ℕ) × (block_lines b (count b) ≡ block_lines b i ++ rest)
+begins : (b : List ℕ) (i : ℕ) → (rest : List ℕ) × (block_lines b (count b) ≡ block_lines b i ++ rest)
 begins b i = ⊎_elim
     (λ (h : i < count b).
     let e : count b ≡ i + (count b - i) = omega arith in
@@ -176,33 +171,25 @@ no_next b i are = ⊎_elim
       ]
     ]
 
--- ---- parts of the lines
+-- ---- the lines of blocks that are left
 
--- the lines of the first blocks, as a part of all
-pub lines_part : (a c : Option (List ℕ)) (b : List ℕ) (i : ℕ) → Appends a c (block_lines b i) → AppendsPart a c (block_lines b (count b))
-lines_part a c b i w = (block_lines b i, (begins b i).0, (begins b i).1, w)
+left_is : (d : ℕ) (b : List ℕ) (i : ℕ) (rest : List ℕ) → block_lines b (count b) ≡ block_lines b i ++ rest → blocks_left (Found (File d b)) i ≡ rest
+left_is d b i rest e = ap (drop (length (block_lines b i))) e ∙ drop-append_seam (block_lines b i) rest
 
--- and as whole lines of it
-pub lines_whole : (a c : Option (List ℕ)) (b : List ℕ) (i : ℕ) → Appends a c (block_lines b i) → AppendsLines a c (block_lines b (count b))
-lines_whole a c b i w = (block_lines b i, (begins b i).0, (begins b i).1, w, blocks_end b i)
+-- the line of the next block that a walk gives is the first
+pub block_passed : (at : At) (i : ℕ) (x : ℕ × List ℕ) → AreBlocksAt at i 1 (x ∷ []) → blocks_left at i ≡ block_line x.0 (trimmed x.1) ++ blocks_left at (x.0 + 1)
+block_passed (Found (File d b)) i x are =
+    let more : (rest : List ℕ) × (block_lines b (count b) ≡ block_lines b (x.0 + 1) ++ rest) = begins b (x.0 + 1) in
+    let line : List ℕ = block_line x.0 (trimmed x.1) in
+    left_is d b i (line ++ more.0) (more.1 ∙ ap (λ (l : List ℕ). l ++ more.0) (next_line b i x are) ∙ append_assoc (block_lines b i) line more.0)
+    ∙ ap (λ (l : List ℕ). line ++ l) (sym (left_is d b (x.0 + 1) more.0 more.1))
+block_passed (Found (Dir d es)) i x are = absurd (cc)
+block_passed Missing i x are = absurd (cc)
+block_passed Blocked i x are = absurd (cc)
 
--- what a walk gave is what comes next in the file
-pub of_file : (at : At) (date : ℕ) (b : List ℕ) (i : ℕ) (r : Option (ℕ × List ℕ)) (bs : List (ℕ × List ℕ)) → at ≡ Found (File date b) → option_to_list r ≡ bs → AreBlocksAt at i 1 (option_to_list r) → AreBlocks b i 1 bs
-of_file at date b i r bs there e are = subst (AreBlocks b i 1) e (subst (λ (x : At). AreBlocksAt x i 1 (option_to_list r)) there are)
-
--- there is no next block
-pub lines_end : (a c : Option (List ℕ)) (b : List ℕ) (i : ℕ) → AreBlocks b i 1 [] → Appends a c (block_lines b i) → Appends a c (block_lines b (count b))
-lines_end a c b i are w = subst (Appends a c) (no_next b i are) w
-
-module _ (a m c : Option (List ℕ)) (b : List ℕ) (i : ℕ) (x : ℕ × List ℕ) (are : AreBlocks b i 1 (x ∷ [])) (so_far : Appends a m (block_lines b i)) where
-  -- the line of the next block
-  pub lines_more : Appends m c (block_line x.0 (trimmed x.1)) → Appends a c (block_lines b (x.0 + 1))
-  lines_more w = subst (Appends a c) (sym (next_line b i x are)) (Appends-trans a m c (block_lines b i) (block_line x.0 (trimmed x.1)) so_far w)
-
-  -- a part of it
-  pub lines_more_part : AppendsPart m c (block_line x.0 (trimmed x.1)) → AppendsPart a c (block_lines b (count b))
-  lines_more_part part =
-      let rest : List ℕ = (begins b (x.0 + 1)).0 in
-      let line : List ℕ = block_line x.0 (trimmed x.1) in
-      let whole : block_lines b (count b) ≡ (block_lines b i ++ line) ++ rest = (begins b (x.0 + 1)).1 ∙ ap (λ (l : List ℕ). l ++ rest) (next_line b i x are) in
-      subst (AppendsPart a c) (sym whole) (part_before a c (block_lines b i ++ line) rest (part_after a m c (block_lines b i) line so_far part))
+-- where it gives none, none is left
+pub blocks_passed : (at : At) (i : ℕ) → AreBlocksAt at i 1 [] → blocks_left at i ≡ []
+blocks_passed (Found (File d b)) i are = left_is d b i [] (sym (no_next b i are) ∙ sym (append-nil (block_lines b i)))
+blocks_passed (Found (Dir d es)) i are = refl
+blocks_passed Missing i are = refl
+blocks_passed Blocked i are = refl

@@ -1,10 +1,6 @@
 -- The lines of an image from a key on: how they begin with those of the entries that a walk lists.
 use Rattle.std.proofs.Common.{◌≡◌, ◌⊎◌, inl, inr, ℕ, zero, suc, List, [], ◌∷◌, ◌++◌, Bool, true, false, cond, refl, sym, ap, subst, ◌∙◌, append_assoc, append-nil, Option, Some, None, length, drop, get_or, ◌+◌, ◌-◌, ◌/◌, ◌<◌, ◌≤◌, arith}
-use Rattle.std.specs.Io.KnownBytes.{Appends}
 use Rattle.std.specs.Prelude.{All, AllPairs, Contains, fold, codes, decimal}
-use Rattle.std.proofs.KnownBytes.{Appends-trans}
-use Rattle.lines.proofs.Known.{part_after, part_before}
-use Rattle.lines.specs.Parts.{AppendsPart}
 use Rattle.std.specs.declared.cmp.Ordering.TheVariants.{Less}
 use Rattle.std.proofs.lemmas.Bool.{and_parts, false_from_ne_true}
 use Rattle.pathkey.specs.Order.{by_bytes, same}
@@ -25,8 +21,7 @@ use Rattle.reference.proofs.Edits.{fold-Missing, fold-Blocked}
 use Rattle.reference.proofs.ShownTrees.{first_at as first_stands, later_at}
 use Rattle.meta_index.proofs.BelowPath.{in_below}
 use Rattle.meta_index.proofs.ChildOrder.{child_before}
-use Rattle.images.specs.Image.{AppendsLines, EndsLine, directory_text, entry_lines, file_text, last_of, lines_there, listed_lines}
-use Rattle.images.proofs.WholeLines.{ends_after, lines_after, lines_before, listed_end}
+use Rattle.images.specs.Image.{blocks_left, directory_text, entry_lines, entry_text, file_text, image_from, lines_there, text_by, texts_by}
 use Rattle.lines.specs.Texts.{number_line}
 use Rattle.volume.specs.Walks.{AreEntries, IsEntry}
 use Rattle.volume.proofs.Walks.{stands}
@@ -46,15 +41,6 @@ later_above n (entry m x rest) k r y h e = by_bool (same k m) (by_bytes n k ≡ 
     (λ s. later_above n rest k r y h.1 (sym (ap (λ (b : Bool). fold onward (found (cond b (Some x) (named k rest))) r) s) ∙ e))
 
 -- ---- the lines of the entries that are marked
-
-abbrev mutual
-  pub text_by : (Path → Bool) → Path → Tree → Text
-  text_by f p (Dir date es) = cond (f p) (entry_lines p (Dir date es)) [] ++ texts_by f p es
-  text_by f p (File date b) = cond (f p) (entry_lines p (File date b)) []
-
-  pub texts_by : (Path → Bool) → Path → Entries → Text
-  texts_by f p nothing = []
-  texts_by f p (entry n x rest) = text_by f (p ++ n ∷ []) x ++ texts_by f p rest
 
 -- the same entries are marked
 mutual
@@ -196,11 +182,6 @@ module _ (k : Key) where
 
 -- ---- the image
 
--- its lines from a key on, without the root's
-abbrev pub image_from : Key → Tree → Text
-image_from lo (Dir date es) = texts_by (λ p. reaches lo (enc p)) [] es
-image_from lo (File date b) = []
-
 pub image_starts : (t : Tree) (date : ℕ) → IsTree t → moment t ≡ date → image Second t ≡ number_line (codes "D / ") date ++ image_from (next_key []) t
 image_starts (Dir stamp es) date is same = ap (λ (n : ℕ). image Second (Dir n es)) same ∙ ap (λ (t : Text). number_line (codes "D / ") date ++ t) (sym (same_texts (λ p. reaches (next_key []) (enc p)) (λ _. true) [] es is.rising (λ n r y e. (and_parts _ _ (in_below [] n r)).0) ∙ all_texts [] es))
 image_starts (File stamp b) date is same = absurd is.root
@@ -244,27 +225,18 @@ first_text (Dir date es) lo k (n ∷ r) y is low at none key e =
 -- ---- a walk from entry to entry
 
 -- the first n entries from a key on, or all where there are fewer: what a walk lists, from a key and not from a path
-record AreFrom (t : Tree) (lo : Key) (n : ℕ) (es : List (Path × Meta)) : Type 0 where
-  few : length es ≤ n
-  sound : All (λ e. (reaches lo (enc e.0) ≡ true) × IsEntry t e.0 e.1) es
-  rising : AllPairs (λ d e. before (enc d.0) (enc e.0) ≡ true) es
-  complete : (p : Path) (m : Meta) → reaches lo (enc p) ≡ true → IsEntry t p m → Contains es (p, m) ⊎ ((length es ≡ n) × All (λ e. before (enc e.0) (enc p) ≡ true) es)
-
--- the path of the last entry
-pub last_pushed : (p : Path) (es : List (Path × Meta)) (e : Path × Meta) → last_of p (es ++ e ∷ []) ≡ e.0
-last_pushed p [] e = refl
-last_pushed p (d ∷ ds) e = last_pushed d.0 ds e
-
-pub none_last : (p : Path) (es : List (Path × Meta)) → length es ≡ 0 → last_of p es ≡ p
-none_last p [] e = refl
-none_last p (d ∷ ds) e = absurd (omega (arith, e))
+pub record AreFrom (t : Tree) (lo : Key) (n : ℕ) (es : List (Path × Meta)) : Type 0 where
+  pub few : length es ≤ n
+  pub sound : All (λ e. (reaches lo (enc e.0) ≡ true) × IsEntry t e.0 e.1) es
+  pub rising : AllPairs (λ d e. before (enc d.0) (enc e.0) ≡ true) es
+  pub complete : (p : Path) (m : Meta) → reaches lo (enc p) ≡ true → IsEntry t p m → Contains es (p, m) ⊎ ((length es ≡ n) × All (λ e. before (enc e.0) (enc p) ≡ true) es)
 
 -- no key stands before itself
 itself : (k : Key) → before k k ≡ false
 itself k = not_before_from_reaches k k (reaches-refl k)
 
 module _ (t : Tree) (lo : Key) (n : ℕ) (e : Path × Meta) (es : List (Path × Meta)) (are : AreFrom t lo n (e ∷ es)) where
-  head_at : (reaches lo (enc e.0) ≡ true) × IsEntry t e.0 e.1
+  pub head_at : (reaches lo (enc e.0) ≡ true) × IsEntry t e.0 e.1
   head_at = are.sound 0 e (omega arith)
 
   later : (k : ℕ) (d : Path × Meta) → k < length es → before (enc e.0) (enc (get_or es k d).0) ≡ true
@@ -284,14 +256,14 @@ module _ (t : Tree) (lo : Key) (n : ℕ) (e : Path × Meta) (es : List (Path × 
         | inr m ↦ (let not : before (enc p) (enc e.0) ≡ false = not_before (enc e.0) (enc p) (m.1 0 e (omega arith)) in let is : before (enc p) (enc e.0) ≡ true = parts.1 in cc)
       ])
 
-  first_listed : IsTree t → reaches lo [] ≡ false → image_from lo t ≡ lines_there e.0 (entry_at t e.0) ++ image_from (next_key (enc e.0)) t
+  pub first_listed : IsTree t → reaches lo [] ≡ false → image_from lo t ≡ lines_there e.0 (entry_at t e.0) ++ image_from (next_key (enc e.0)) t
   first_listed is low =
       let at : (x : Tree) × (entry_at t e.0 ≡ Found x) = stands (entry_at t e.0) e.1 head_at.1 in
       first_text t lo (enc e.0) e.0 at.0 is low head_at.0 none_before refl at.1
       ∙ ap (λ (a : At). lines_there e.0 a ++ image_from (next_key (enc e.0)) t) (sym at.1)
 
   -- those behind the first are a walk from the next key on
-  others : AreFrom t (next_key (enc e.0)) (n - 1) es
+  pub others : AreFrom t (next_key (enc e.0)) (n - 1) es
   others = record {
     few = omega (arith, are.few);
     sound = λ k d l. (reaches-next (enc e.0) (enc (get_or es k d).0) ∙ later k d l, (are.sound (suc k) d (omega (arith, l))).1);
@@ -308,22 +280,13 @@ module _ (t : Tree) (lo : Key) (n : ℕ) (e : Path × Meta) (es : List (Path × 
       listed p m after (zero, l, is) = absurd (let not : before (enc e.0) (enc p) ≡ false = ap (λ (x : Path × Meta). before (enc x.0) (enc p)) is ∙ itself (enc p) in cc)
       listed p m after (suc k, l, is) = (k, omega (arith, l), is)
 
--- the lines of the entries that are listed behind a path come first
-lines_behind : (t : Tree) (p : Path) (n : ℕ) (es : List (Path × Meta)) → IsTree t → AreFrom t (next_key (enc p)) n es → image_from (next_key (enc p)) t ≡ listed_lines t es ++ image_from (next_key (enc (last_of p es))) t
-lines_behind t p n [] is are = refl
-lines_behind t p n (e ∷ es) is are =
-    first_listed t (next_key (enc p)) n e es are is (behind_root (enc p))
-    ∙ ap (λ (l : Text). lines_there e.0 (entry_at t e.0) ++ l) (lines_behind t e.0 (n - 1) es is (others t (next_key (enc p)) n e es are))
-    ∙ sym (append_assoc (lines_there e.0 (entry_at t e.0)) (listed_lines t es) (image_from (next_key (enc (last_of e.0 es))) t))
-
--- where fewer were listed than were asked for, no line is left
-none_behind : (t : Tree) (p : Path) (n : ℕ) (es : List (Path × Meta)) → IsTree t → AreFrom t (next_key (enc p)) n es → length es < n → image_from (next_key (enc (last_of p es))) t ≡ []
-none_behind t p n (e ∷ es) is are few = none_behind t e.0 (n - 1) es is (others t (next_key (enc p)) n e es are) (omega (arith, few))
-none_behind t p n [] is are few = image_end t (next_key (enc p)) is (λ q x at. false_from_ne_true (within (next_key (enc p)) None (enc q)) (λ h.
+-- where none is listed, and some was asked for, no line is left
+pub none_behind : (t : Tree) (p : Path) (n : ℕ) → IsTree t → AreFrom t (next_key (enc p)) n [] → 0 < n → image_from (next_key (enc p)) t ≡ []
+none_behind t p n is are some = image_end t (next_key (enc p)) is (λ q x at. false_from_ne_true (within (next_key (enc p)) None (enc q)) (λ h.
     let told : (v : Meta) × (meta_of (sighted (Found x)) ≡ Some v) = told_of x in
     elim (are.complete q told.0 ((and_parts _ _ h).0) (ap (λ (a : At). meta_of (sighted a)) at ∙ told.1)) [
       | inl c ↦ (let l = c.1 in omega (arith, l))
-      | inr m ↦ omega (arith, m.0, few)
+      | inr m ↦ omega (arith, m.0, some)
     ]))
 
 -- ---- a piece, which begins with the last entry of the piece before
@@ -354,113 +317,32 @@ module _ (t : Tree) (last : Path) (v : Meta) (n : ℕ) (es : List (Path × Meta)
       head (zero, l, e) = ap (λ (x : Path × Meta). x.0) e
       head (suc k, l, e) = absurd (no (subst (λ (x : Path × Meta). before (enc d.0) (enc x.0) ≡ true) e (from.rising 0 (suc k) (last, v) (omega arith) (omega (arith, l)))))
 
-  pieces : (ds : List (Path × Meta)) → Begins ds → AreFrom t (enc last) n ds → (image_from (next_key (enc last)) t ≡ listed_lines t (drop 1 ds) ++ image_from (next_key (enc (last_of last ds))) t) × (length ds < n → image_from (next_key (enc (last_of last ds))) t ≡ [])
-  pieces [] at from = absurd at
-  pieces (d ∷ ds) at from =
-      let behind_it : AreFrom t (next_key (enc d.0)) (n - 1) ds = others t (enc last) n d ds from in (
-        ap (λ (p : Path). image_from (next_key (enc p)) t) (sym at) ∙ lines_behind t d.0 (n - 1) ds is behind_it,
-        λ few. none_behind t d.0 (n - 1) ds is behind_it (omega (arith, few)),
-      )
+  behind : (ds : List (Path × Meta)) → Begins ds → AreFrom t (enc last) n ds → AreFrom t (next_key (enc last)) (n - 1) (drop 1 ds) × (length ds ≡ length (drop 1 ds) + 1)
+  behind [] at from = absurd at
+  behind (d ∷ ds) at from = (subst (λ (p : Path). AreFrom t (next_key (enc p)) (n - 1) ds) at (others t (enc last) n d ds from), omega arith)
 
-  -- the lines of the others follow
-  piece_lines : image_from (next_key (enc last)) t ≡ listed_lines t (drop 1 es) ++ image_from (next_key (enc (last_of last es))) t
-  piece_lines = (pieces es (begins es from_path) from_path).0
-
-  -- and are all where the piece is short
-  piece_ends : length es < n → image_from (next_key (enc (last_of last es))) t ≡ []
-  piece_ends = (pieces es (begins es from_path) from_path).1
-
-  -- the last one's path is an entry's too
-  piece_last : (v : Meta) × IsEntry t (last_of last es) v
-  piece_last = goes es last v there (λ k d l. (are.sound k d l).1)
-    where
-      goes : (ds : List (Path × Meta)) (p : Path) (m : Meta) → IsEntry t p m → All (λ e. IsEntry t e.0 e.1) ds → (w : Meta) × IsEntry t (last_of p ds) w
-      goes [] p m at all = (m, at)
-      goes (d ∷ ds) p m at all = goes ds d.0 d.1 (all 0 d (omega arith)) (λ k e l. all (suc k) e (omega (arith, l)))
-
--- ---- what is printed of an image
-
--- of the image, all is written up to the lines of the entry at a path
-abbrev pub PrintedTo : Option (List ℕ) → Option (List ℕ) → Tree → Path → Type 0
-PrintedTo a c t last = (done : Text) × (image Second t ≡ done ++ image_from (next_key (enc last)) t) × Appends a c done × ((v : Meta) × IsEntry t last v) × EndsLine done
-
--- the root's line
-pub printed_root : (a c : Option (List ℕ)) (t : Tree) (date : ℕ) (last : Path) → IsTree t → moment t ≡ date → last ≡ [] → Appends a c (number_line (codes "D / ") date) → PrintedTo a c t last
-printed_root a c t date last is same root w =
-    subst (PrintedTo a c t) (sym root) (number_line (codes "D / ") date, image_starts t date is same, w, told_of t, inr (codes "D / " ++ decimal date, refl))
-
--- what is printed is a beginning
-pub printed_part : (a c : Option (List ℕ)) (t : Tree) (last : Path) → PrintedTo a c t last → AppendsPart a c (image Second t)
-printed_part a c t last (done, split, w, there, ends) = (done, image_from (next_key (enc last)) t, split, w)
-
--- and whole lines
-pub printed_lines : (a c : Option (List ℕ)) (t : Tree) (last : Path) → PrintedTo a c t last → AppendsLines a c (image Second t)
-printed_lines a c t last (done, split, w, there, ends) = (done, image_from (next_key (enc last)) t, split, w, ends)
-
--- the root's line is the first
-pub root_part : (a c : Option (List ℕ)) (t : Tree) (date : ℕ) → IsTree t → moment t ≡ date → AppendsPart a c (number_line (codes "D / ") date) → AppendsPart a c (image Second t)
-root_part a c t date is same part = subst (AppendsPart a c) (sym (image_starts t date is same)) (part_before a c (number_line (codes "D / ") date) (image_from (next_key []) t) part)
-
-module _ (a m c : Option (List ℕ)) (t : Tree) (last : Path) (n : ℕ) (es : List (Path × Meta)) (is : IsTree t) (are : AreEntries t last n es) (some : 0 < n) (so_far : PrintedTo a m t last) where
-  lines_first : image_from (next_key (enc last)) t ≡ listed_lines t (drop 1 es) ++ image_from (next_key (enc (last_of last es))) t
-  lines_first = piece_lines t last so_far.3.0 n es is are so_far.3.1 some
-
-  pub printed_piece : Appends m c (listed_lines t (drop 1 es)) → PrintedTo a c t (last_of last es)
-  printed_piece w =
-      let lines : Text = listed_lines t (drop 1 es) in
-      let rest : Text = image_from (next_key (enc (last_of last es))) t in (
-        so_far.0 ++ lines,
-        so_far.1 ∙ ap (λ (l : Text). so_far.0 ++ l) lines_first ∙ sym (append_assoc so_far.0 lines rest),
-        Appends-trans a m c so_far.0 lines so_far.2 w,
-        piece_last t last so_far.3.0 n es is are so_far.3.1 some,
-        ends_after so_far.0 lines so_far.4 (listed_end t (drop 1 es)),
-      )
-
-  pub printed_all : length es < n → Appends m c (listed_lines t (drop 1 es)) → Appends a c (image Second t)
-  printed_all few w =
-      let (done, split, written, there, ends) = printed_piece w in
-      subst (Appends a c) (sym (split ∙ ap (λ (l : Text). done ++ l) (piece_ends t last so_far.3.0 n es is are so_far.3.1 some few) ∙ append-nil done)) written
-
-  pub printed_piece_part : AppendsPart m c (listed_lines t (drop 1 es)) → AppendsPart a c (image Second t)
-  printed_piece_part part =
-      let lines : Text = listed_lines t (drop 1 es) in
-      let rest : Text = image_from (next_key (enc (last_of last es))) t in
-      subst (AppendsPart a c) (sym (so_far.1 ∙ ap (λ (l : Text). so_far.0 ++ l) lines_first)) (part_after a m c so_far.0 (lines ++ rest) so_far.2 (part_before m c lines rest part))
-
-  pub printed_piece_lines : AppendsLines m c (listed_lines t (drop 1 es)) → AppendsLines a c (image Second t)
-  printed_piece_lines part =
-      let lines : Text = listed_lines t (drop 1 es) in
-      let rest : Text = image_from (next_key (enc (last_of last es))) t in
-      subst (AppendsLines a c) (sym (so_far.1 ∙ ap (λ (l : Text). so_far.0 ++ l) lines_first)) (lines_after a m c so_far.0 (lines ++ rest) so_far.4 so_far.2 (lines_before m c lines rest part))
-
--- the entries of a piece are entries
-pub all_entries : (t : Tree) (last : Path) (n : ℕ) (es : List (Path × Meta)) → AreEntries t last n es → All (λ e. IsEntry t e.0 e.1) es
-all_entries t last n es are = λ k d l. (are.sound k d l).1
+  -- the others are a walk from the next key on
+  pub behind_first : AreFrom t (next_key (enc last)) (n - 1) (drop 1 es) × (length es ≡ length (drop 1 es) + 1)
+  behind_first = behind es (begins es from_path) from_path
 
 -- ---- one entry
 
 -- a directory's line
-pub directory_there : (a : At) (q : Path) (date : ℕ) → meta_of (sighted a) ≡ Some (DirMeta date) → lines_there q a ≡ directory_text Second q date
+directory_there : (a : At) (q : Path) (date : ℕ) → meta_of (sighted a) ≡ Some (DirMeta date) → lines_there q a ≡ directory_text Second q date
 directory_there (Found (Dir stamp es)) q date e = let same : stamp ≡ date = cc in ap (directory_text Second q) same
 directory_there (Found (File stamp b)) q date e = absurd (cc)
 directory_there Missing q date e = absurd (cc)
 directory_there Blocked q date e = absurd (cc)
 
--- a file's lines
-pub record FileThere (a : At) (q : Path) (len date : ℕ) : Type 0 where
-  pub bytes : List ℕ
-  pub is : a ≡ Found (File date bytes)
-  pub text : lines_there q a ≡ file_text Second q len date ++ block_lines bytes (length bytes / 4096 + 1)
-
-pub file_there : (a : At) (q : Path) (len date : ℕ) → meta_of (sighted a) ≡ Some (FileMeta len date) → FileThere a q len date
-file_there (Found (Dir stamp es)) q len date e = absurd (cc)
-file_there (Found (File stamp b)) q len date e =
+-- the line of an entry, and then those of all its blocks
+pub entry_starts : (a : At) (q : Path) (m : Meta) → meta_of (sighted a) ≡ Some m → lines_there q a ≡ entry_text q m ++ blocks_left a 0
+entry_starts (Found (Dir stamp es)) q (DirMeta date) e = directory_there (Found (Dir stamp es)) q date e ∙ sym (append-nil (directory_text Second q date))
+entry_starts (Found (File stamp b)) q (DirMeta date) e = absurd (cc)
+entry_starts (Found (Dir stamp es)) q (FileMeta len date) e = absurd (cc)
+entry_starts (Found (File stamp b)) q (FileMeta len date) e =
     let l : length b ≡ len = cc in
     let d : stamp ≡ date = cc in
-    record {
-      bytes = b;
-      is = ap (λ (n : ℕ). Found (File n b)) d;
-      text = ap (λ (n : ℕ). file_text Second q n stamp ++ block_lines b (length b / 4096 + 1)) l ∙ ap (λ (n : ℕ). file_text Second q len n ++ block_lines b (length b / 4096 + 1)) d;
-    }
-file_there Missing q len date e = absurd (cc)
-file_there Blocked q len date e = absurd (cc)
+    let blocks : Text = block_lines b (length b / 4096 + 1) in
+    ap (λ (n : ℕ). file_text Second q n stamp ++ blocks) l ∙ ap (λ (n : ℕ). file_text Second q len n ++ blocks) d
+entry_starts Missing q m e = absurd (cc)
+entry_starts Blocked q m e = absurd (cc)

@@ -4,3 +4,6 @@ pub mod LoadFacts
 pub mod LoadCutting
 pub mod ImageBlocks
 pub mod WholeLines
+mod Spots
+mod Printed
+mod TakenFacts

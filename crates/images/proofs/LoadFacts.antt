@@ -393,45 +393,6 @@ loaded text l (b, is, text_is) =
       record { version = b.version; tree = tree_of_lines b.root b.lines; is_tree = m.0; image_is = m.1 ∙ sym text_is; told = m.2; means = is.means },
     )
 
--- a whole text at once
-pub text_loaded : (items piece items' : Text) (l m : Loading) → HasRead [] items l → LoadsPiece items piece items' l m → LoadsEnd items' m → Loaded piece m.volume
-text_loaded items piece items' l m start loads end = (loaded piece m (end piece (loads [] start))).1
-
-pub text_bad : (items piece : Text) (n : ℕ) (l : Loading) → HasRead [] items l → RefusesPiece items piece n l → IsBadAt n piece
-text_bad items piece n l start refuses = subst (IsBadAt n) (append-nil piece) (refuses [] [] start)
-
-pub text_end_bad : (items piece items' : Text) (n : ℕ) (l m : Loading) → HasRead [] items l → LoadsPiece items piece items' l m → RefusesEnd items' n m → IsBadAt n piece
-text_end_bad items piece items' n l m start loads refuses = refuses piece (loads [] start)
-
--- ---- over a reader
-
-pub reads_nothing : (had : Option (List ℕ)) (items : Text) (l : Loading) → HasRead [] items l → ReadsSoFar had had items l
-reads_nothing had items l h = ([], Consumes-nil had, h)
-
-pub reads_piece : (had has now : Option (List ℕ)) (items piece items' : Text) (l m : Loading) → ReadsSoFar had has items l → Consumes has now piece → LoadsPiece items piece items' l m → ReadsSoFar had now items' m
-reads_piece had has now items piece items' l m (text, read, h) more loads = (text ++ piece, Consumes-trans had has now text piece read more, loads text h)
-
--- the end of the reader
-pub all_loaded : (had has now : Option (List ℕ)) (items none : Text) (l : Loading) → ReadsSoFar had has items l → Consumes has now none → none ≡ [] → IsAtEnd now → LoadsEnd items l → LoadsAll had now l.volume
-all_loaded had has now items none l (text, read, h) more no_bytes end loads =
-    let whole : Consumes had now text = gave_all had has now text none read more no_bytes in
-    let both : IsSomeImage text × Loaded text l.volume = loaded text l (loads text h) in
-    (text, whole, end, both.0, both.1)
-
-pub end_bad : (had has now : Option (List ℕ)) (items none : Text) (n : ℕ) (l : Loading) → ReadsSoFar had has items l → Consumes has now none → none ≡ [] → IsAtEnd now → RefusesEnd items n l → IsBadIn had n
-end_bad had has now items none n l (text, read, h) more no_bytes end refuses =
-    let whole : Consumes had now text = gave_all had has now text none read more no_bytes in
-    (text, known_whole had now text whole end, refuses text h)
-
-pub piece_refused : (had has now : Option (List ℕ)) (items piece : Text) (n : ℕ) (l : Loading) → ReadsSoFar had has items l → Consumes has now piece → RefusesPiece items piece n l → IsBadIn had n
-piece_refused had has now items piece n l (text, read, h) more refuses =
-    let known : (rest : List ℕ) × IfSome had (λ all. all ≡ (text ++ piece) ++ rest) = known_text had now (text ++ piece) (Consumes-trans had has now text piece read more) in
-    ((text ++ piece) ++ known.0, known.1, subst (IsBadAt n) (sym (append_assoc text piece known.0)) (refuses text known.0 h))
-
--- a read was refused
-pub read_failed : (had has now : Option (List ℕ)) (items : Text) (l : Loading) → ReadsSoFar had has items l → Keeps has now → HasBegun had now
-read_failed had has now items l (text, read, h) kept = (text, Consumes-kept had has now text read kept, (h.so_far, h.left, h.loading.are, h.holds.free, h.cut))
-
 pub bad_number : (number n : ℕ) → ◌≡◌ {A = Result (Unit {0}) LoadFault} (Err (Bad number)) (Err (Bad n)) → number ≡ n
 bad_number number n e = cc
 
@@ -439,10 +400,6 @@ bad_number number n e = cc
 pub planted_ok : (r : Snapped) (p : Path) (m : Meta) (old new : PVolume) → is_ok r ≡ true → Plants p m r old new → Plants p m (Ok tt) old new
 planted_ok (Ok x) p m old new e h = h
 planted_ok (Err f) p m old new e h = absurd (cc)
-
--- a fault is one whatever it stands in the place of
-pub same_fault : {A : Type 0} (fault other : LoadFault) → ◌≡◌ {A = Result A LoadFault} (Err fault) (Err other) → ◌≡◌ {A = Result (Unit {0}) LoadFault} (Err fault) (Err other)
-same_fault fault other e = cc
 
 -- ---- the form of the volume
 
@@ -465,6 +422,5 @@ counted_form call at v w h =
 pub planted_form : (v w : PVolume) (p : Path) (m : Meta) → Plants p m (Ok tt) v w → form_of w ≡ form_of v
 planted_form v w p m h = same_form v w h.message.shape_kept (ap (λ (i : BlockIndex). i.tree.shape) h.block) h.marks
 
-pub loaded_form : {E : Type 0} (r : Result PVolume E) (v : PVolume) (shape : Shape) → IsNew shape v → IfOk r (λ w. form_of w ≡ form_of v) → IfOk r (λ w. form_of w ≡ new_form shape)
-loaded_form (Ok w) v shape new h = h ∙ (λ i. record { meta = new.meta_shape i; block = new.block_shape i; marks = new.marks i })
-loaded_form (Err e) v shape new h = tt
+pub new_volume : (v : PVolume) (shape : Shape) → IsNew shape v → form_of v ≡ new_form shape
+new_volume v shape new = λ i. record { meta = new.meta_shape i; block = new.block_shape i; marks = new.marks i }

@@ -1,24 +1,22 @@
-//! Prints the image of a tree that stands still: one line for each entry in key order, and for a file one for each block
-//! that holds a byte other than zero. It prints version 2, which tells moments.
-ghost use Rattle.std.specs.Prelude.{◌≡◌, ◌<◌, ◌≤◌, ◌++◌, ◌∷◌, ◌+◌, ◌/◌, [], ℕ, List, All, Err, codes, decimal, drop, flat_map, length, take, OnOk, OnErr};
+//! Prints the image of a tree that stands still, in version 2, which tells moments; and the lines of either version.
+ghost use Rattle.std.specs.Prelude.{◌≡◌, ◌≤◌, ◌++◌, ◌∷◌, [], Err, decimal, flat_map, length, take, OnOk, OnErr};
 ghost use Rattle.std.specs.Io.KnownBytes.{Appends};
-ghost use Rattle.reference.specs.Image.{Second, block_line, block_lines, image, moment_text, path_text, percent, trimmed};
-ghost use Rattle.reference.specs.Tree.{File, Found, Tree, entry_at};
-ghost use Rattle.images.specs.Image.{AppendsLines, directory_text, file_text, last_of, lines_there, listed_lines, version_of};
+ghost use Rattle.reference.specs.Image.{Second, block_line, image, moment_text, path_text, percent, trimmed};
+ghost use Rattle.reference.specs.Tree.{Tree};
+ghost use Rattle.images.specs.Image.{AppendsLines, directory_text, file_text, version_of};
 ghost use Rattle.images.specs.declared.image.ImageFault.TheVariants as fault;
 ghost use Rattle.lines.specs.Parts.{AppendsPart};
 ghost use Rattle.volume.specs.Volumes.{MeanRooted};
-ghost use Rattle.volume.specs.Walks.{IsEntry};
 
+use crate::spot::{ENOUGH, Spot};
 use crate::version::{ImageVersion, directory_word, file_word};
 use lines::output::{WriteFailed, put};
 use lines::text::{put_hex, put_number, put_number_line, put_percent};
 use pathkey::{NoMemory, Path};
-use reference::Meta;
 use std::alloc::Global;
 use std::io::Write;
 use thiserror::Error;
-use volume::{BlockWalk, Frozen};
+use volume::Frozen;
 
 /// Why an image was not printed to its end.
 #[derive(Debug, Drop, PartialEq, Eq, Error)]
@@ -47,16 +45,10 @@ impl From<WriteFailed> for ImageFault {
     }
 }
 
-/// How many entries the first piece of a walk may have.
-const FIRST: usize = 8;
-
-/// How many a piece may have at most.
-const MOST: usize = 256;
-
 /// Prints the image of a tree that stands still, in version 2; where it fails, what was printed is a beginning of it. It is whole lines
 /// where memory is refused: a line that was begun can fail by the writer alone.
 ///
-/// It walks through the entries, and beside them through the blocks, piece by piece. It holds a piece of each.
+/// It prints some lines into a text of its own, and writes that, again and again.
 pub fn print_image<W: Write>(
     alloc: Global,
     frozen: &Frozen,
@@ -66,139 +58,38 @@ pub fn print_image<W: Write>(
     ensures err { (t : Tree) → MeanRooted frozen.now t → OnErr result (AppendsPart (W.contents writer.old) (W.contents writer.new) (image Second t)) }
     ensures memory { (t : Tree) → MeanRooted frozen.now t → result ≡ Err ImageFault.Memory → AppendsLines (W.contents writer.old) (W.contents writer.new) (image Second t) }
 {
-    let mut last = Path::root(alloc);
-    let told = print_all(alloc, frozen, &mut last, writer);
-    drop(last);
+    let mut text = Vec::new(alloc);
+    let mut spot = Spot::behind_root(alloc);
+    let told = print_all(alloc, frozen, &mut spot, &mut text, writer);
+    drop(spot);
+    drop(text);
     told
 }
 
-/// Writes the image of a tree, or a beginning of it. Each piece of its entries begins with the last one before, the first with
-/// the root.
+/// Writes the image of a tree, or a beginning of it, with a place behind the root and a text to print into.
 fn print_all<W: Write>(
     alloc: Global,
     frozen: &Frozen,
-    last: &mut Path,
+    spot: &mut Spot,
+    text: &mut Vec<u8>,
     writer: &mut W,
 ) -> Result<(), ImageFault>
-    requires { last.old ≡ [] }
+    requires { (spot.old.last ≡ []) × (spot.old.from ≡ 0) }
     ensures ok { (t : Tree) → MeanRooted frozen.now t → OnOk result (Appends (W.contents writer.old) (W.contents writer.new) (image Second t)) }
     ensures err { (t : Tree) → MeanRooted frozen.now t → OnErr result (AppendsPart (W.contents writer.old) (W.contents writer.new) (image Second t)) }
     ensures memory { (t : Tree) → MeanRooted frozen.now t → result ≡ Err ImageFault.Memory → AppendsLines (W.contents writer.old) (W.contents writer.new) (image Second t) }
 {
     put_number_line(writer, b"D / ", frozen.modified())?;
-    let mut blocks = BlockWalk::new(alloc, frozen);
-    let mut most = FIRST;
-    // No tree has more entries.
+    // No tree has more lines.
     for _ in 0..u64::MAX {
-        let piece = frozen.entries(alloc, last, most)?;
-        let count = piece.len();
-        print_piece(alloc, &mut blocks, piece, last, writer)?;
-        if count < most {
+        text.clear();
+        spot.print(alloc, frozen, text)?;
+        put(writer, text.as_slice())?;
+        if text.len() < ENOUGH {
             return Ok(());
         }
-        most = grown(most);
     }
     Err(ImageFault::Memory)
-}
-
-/// How many the piece behind one of so many may have.
-fn grown(most: usize) -> usize
-    requires { (0 < most) × (most ≤ 256) }
-    ensures { (0 < result) × (result ≤ 256) }
-{
-    (most * 2).min(MOST)
-}
-
-/// Writes the lines of a piece but for those of its first entry, or a beginning of them. The path is then that of its last.
-fn print_piece<W: Write>(
-    alloc: Global,
-    blocks: &mut BlockWalk,
-    mut piece: Vec<(Path, Meta)>,
-    last: &mut Path,
-    writer: &mut W,
-) -> Result<(), ImageFault>
-    ensures ok { (t : Tree) → MeanRooted blocks.old t → All (λ e. IsEntry t e.0 e.1) piece.items → OnOk result (Appends (W.contents writer.old) (W.contents writer.new) (listed_lines t (drop 1 piece.items))) }
-    ensures err { (t : Tree) → MeanRooted blocks.old t → All (λ e. IsEntry t e.0 e.1) piece.items → OnErr result (AppendsPart (W.contents writer.old) (W.contents writer.new) (listed_lines t (drop 1 piece.items))) }
-    ensures memory { (t : Tree) → MeanRooted blocks.old t → All (λ e. IsEntry t e.0 e.1) piece.items → result ≡ Err ImageFault.Memory → AppendsLines (W.contents writer.old) (W.contents writer.new) (listed_lines t (drop 1 piece.items)) }
-    ensures last { last.new ≡ last_of last.old piece.items }
-    ensures tree { blocks.new ≡ blocks.old }
-{
-    let told = print_entries(alloc, blocks, behind_first(piece.as_slice()), writer);
-    if let Some((path, _)) = piece.pop() {
-        *last = path;
-    }
-    drop(piece);
-    told
-}
-
-/// All entries but the first.
-fn behind_first(entries: &[(Path, Meta)]) -> &[(Path, Meta)]
-    ensures { result.now ≡ drop 1 entries.now }
-{
-    match entries.split_first() {
-        Some((_, others)) => others,
-        None => entries,
-    }
-}
-
-/// Writes the lines of entries, or a beginning of them.
-fn print_entries<W: Write>(
-    alloc: Global,
-    blocks: &mut BlockWalk,
-    entries: &[(Path, Meta)],
-    writer: &mut W,
-) -> Result<(), ImageFault>
-    ensures ok { (t : Tree) → MeanRooted blocks.old t → All (λ e. IsEntry t e.0 e.1) entries.now → OnOk result (Appends (W.contents writer.old) (W.contents writer.new) (listed_lines t entries.now)) }
-    ensures err { (t : Tree) → MeanRooted blocks.old t → All (λ e. IsEntry t e.0 e.1) entries.now → OnErr result (AppendsPart (W.contents writer.old) (W.contents writer.new) (listed_lines t entries.now)) }
-    ensures memory { (t : Tree) → MeanRooted blocks.old t → All (λ e. IsEntry t e.0 e.1) entries.now → result ≡ Err ImageFault.Memory → AppendsLines (W.contents writer.old) (W.contents writer.new) (listed_lines t entries.now) }
-    ensures tree { blocks.new ≡ blocks.old }
-{
-    for (path, meta) in entries {
-        print_entry(alloc, blocks, path, *meta, writer)?;
-    }
-    Ok(())
-}
-
-/// Writes the lines of the entry at a path, or a beginning of them.
-fn print_entry<W: Write>(
-    alloc: Global,
-    blocks: &mut BlockWalk,
-    path: &Path,
-    meta: Meta,
-    writer: &mut W,
-) -> Result<(), ImageFault>
-    ensures ok { (t : Tree) → MeanRooted blocks.old t → IsEntry t path.now meta → OnOk result (Appends (W.contents writer.old) (W.contents writer.new) (lines_there path.now (entry_at t path.now))) }
-    ensures err { (t : Tree) → MeanRooted blocks.old t → IsEntry t path.now meta → OnErr result (AppendsPart (W.contents writer.old) (W.contents writer.new) (lines_there path.now (entry_at t path.now))) }
-    ensures memory { (t : Tree) → MeanRooted blocks.old t → IsEntry t path.now meta → result ≡ Err ImageFault.Memory → AppendsLines (W.contents writer.old) (W.contents writer.new) (lines_there path.now (entry_at t path.now)) }
-    ensures tree { blocks.new ≡ blocks.old }
-{
-    match meta {
-        Meta::Dir { modified } => Ok(put_directory(writer, ImageVersion::Second, path, modified)?),
-        Meta::File { len, modified } => {
-            put_file(writer, ImageVersion::Second, path, len, modified)?;
-            print_blocks(alloc, blocks, path, writer)
-        }
-    }
-}
-
-/// Writes the lines of a file's blocks, or a beginning of them.
-fn print_blocks<W: Write>(
-    alloc: Global,
-    blocks: &mut BlockWalk,
-    path: &Path,
-    writer: &mut W,
-) -> Result<(), ImageFault>
-    ensures ok { (t : Tree) (date : ℕ) (b : List ℕ) → MeanRooted blocks.old t → entry_at t path.now ≡ Found (File date b) → OnOk result (Appends (W.contents writer.old) (W.contents writer.new) (block_lines b (length b / 4096 + 1))) }
-    ensures err { (t : Tree) (date : ℕ) (b : List ℕ) → MeanRooted blocks.old t → entry_at t path.now ≡ Found (File date b) → OnErr result (AppendsPart (W.contents writer.old) (W.contents writer.new) (block_lines b (length b / 4096 + 1))) }
-    ensures memory { (t : Tree) (date : ℕ) (b : List ℕ) → MeanRooted blocks.old t → entry_at t path.now ≡ Found (File date b) → result ≡ Err ImageFault.Memory → AppendsLines (W.contents writer.old) (W.contents writer.new) (block_lines b (length b / 4096 + 1)) }
-    ensures tree { blocks.new ≡ blocks.old }
-{
-    let mut from = 0;
-    'file: while let Some((number, block)) = blocks.next(alloc, path, from)? {
-        put_block(writer, number, block.as_slice())?;
-        from = number + 1;
-    }
-    Ok(())
 }
 
 /// Writes the line of a directory, or a beginning of it.

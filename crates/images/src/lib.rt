@@ -1,5 +1,5 @@
 //! The image of a tree: a text from which the tree can be had back. It is printed of a tree that stands still, and loaded into
-//! a new volume.
+//! a new volume; by pieces too, so that no image has to fit into memory.
 //!
 //! Each tree has one image of each version, and an image of version 2 is that of one tree: an image of version 1 tells no moments.
 #![tactic(auto)]
@@ -7,8 +7,14 @@
 pub mod image;
 pub mod image_line;
 pub mod load;
+pub mod loader;
+pub mod printing;
+mod ready;
+mod spot;
 pub mod version;
 
 pub use image::{ImageFault, print_image};
 pub use load::{LoadFault, load_image, load_text};
+pub use loader::Loader;
+pub use printing::Printing;
 pub use version::ImageVersion;

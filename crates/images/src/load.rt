@@ -1,4 +1,4 @@
-//! Loads an image: reads it line by line into a new volume.
+//! Loads an image line by line into a new volume: what one line does, and the loads of a whole text and of a reader.
 //!
 //! One line is held at a time, and of a file no block beside the volume's own. Of the lines before, only what decides which line
 //! may follow is kept. The first line tells the version; of version 1 each moment is 0.
@@ -7,19 +7,20 @@ ghost use Rattle.std.specs.declared.cmp.Ordering.TheVariants.{Less};
 ghost use Rattle.pathkey.specs.Enc.{enc};
 ghost use Rattle.pathkey.specs.Order.{by_bytes};
 ghost use Rattle.node.specs.Shapes.{is_shape};
+ghost use Rattle.node.specs.declared.shape.Shape.{Shape as TreeShape};
 ghost use Rattle.reference.specs.Plant.{modified_of};
-ghost use Rattle.reference.specs.Tree.{Dir, nothing};
 ghost use Rattle.reference.specs.declared.reply.Meta.{Meta as MetaValue};
 ghost use Rattle.volume.specs.Plants.{Plants};
 ghost use Rattle.reference.specs.declared.call.Call.TheVariants.{Write};
-ghost use Rattle.volume.specs.Volumes.{Means};
 ghost use Rattle.reference.specs.ImageLines.{IsBadAt, IsBlock, IsLine, IsTold, Line};
 ghost use Rattle.reference.specs.ImageLines.{BlockLine, DirectoryLine, FileLine};
 ghost use Rattle.images.specs.Image.{version_of};
 ghost use Rattle.images.specs.ImageLines.{line_of};
-ghost use Rattle.images.specs.Loads.{Counts, FitsAt, HasBegun, HasRead, IsBadIn, IsNoRoot, Loaded, LoadsAll, LoadsEnd, LoadsLine, LoadsNext, LoadsPiece, LoadsRoot, MayNotFollow, RefusesEnd, RefusesLine, RefusesPiece, alone, entry_line, form_of, len_of, new_form};
+ghost use Rattle.images.specs.Loads.{Counts, FitsAt, HasBegun, IsBadIn, IsNoRoot, Loaded, LoadsAll, LoadsEnd, LoadsLine, LoadsNext, LoadsPiece, LoadsRoot, MayNotFollow, RefusesEnd, RefusesLine, RefusesPiece, entry_line, form_of, len_of, new_form};
+ghost use Rattle.images.specs.Taken.{IsFresh, LoadedIn, TakesAll};
 
 use crate::image_line::{ImageLine, read_image_line, read_root};
+use crate::loader::Loader;
 use crate::version::ImageVersion;
 use block_index::block::BLOCK;
 use bytes::Bytes;
@@ -62,13 +63,10 @@ pub fn load_image<R: Read>(alloc: Global, shape: Shape, reader: &mut R) -> Resul
     ensures shape { (result ≡ Err LoadFault.Shape) ↔ (is_shape shape ≡ false) }
     ensures read { result ≡ Err LoadFault.Read → HasBegun (R.remaining reader.old) (R.remaining reader.new) }
 {
-    if !shape.ok() {
-        return Err(LoadFault::Shape);
+    match Loader::new(alloc, shape) {
+        Ok(loader) => load_pieces(alloc, loader, reader),
+        Err(fault) => Err(fault),
     }
-    let Ok(volume) = Volume::new(alloc, shape) else {
-        return Err(LoadFault::Memory);
-    };
-    load_into(alloc, volume, reader)
 }
 
 /// The same of a text that is at hand. Nothing is read, so it never answers `Read`, and no line is copied but one that has no end.
@@ -79,66 +77,76 @@ pub fn load_text(alloc: Global, shape: Shape, text: &[u8]) -> Result<Volume, Loa
     ensures shape { (result ≡ Err LoadFault.Shape) ↔ (is_shape shape ≡ false) }
     ensures read { result ≢ Err LoadFault.Read }
 {
-    if !shape.ok() {
-        return Err(LoadFault::Shape);
-    }
-    match Volume::new(alloc, shape) {
-        Ok(volume) => load_whole(alloc, volume, text),
-        Err(_refused) => Err(LoadFault::Memory),
+    match Loader::new(alloc, shape) {
+        Ok(loader) => load_whole(alloc, loader, text),
+        Err(fault) => Err(fault),
     }
 }
 
-/// The volume, which is new, once the image that the text is was loaded into it.
-fn load_whole(alloc: Global, volume: Volume, text: &[u8]) -> Result<Volume, LoadFault>
-    requires { Means volume (alone (Dir 0 nothing)) }
-    ensures loaded { IfOk result (Loaded text.now) }
-    ensures form { IfOk result (λ v. form_of v ≡ form_of volume) }
-    ensures bad { (n : ℕ) → result ≡ Err (LoadFault.Bad n) → IsBadAt n text.now }
+/// The volume of a text, by a loader that took nothing yet.
+fn load_whole(alloc: Global, mut loader: Loader, text: &[u8]) -> Result<Volume, LoadFault>
+    ensures loaded { (s : TreeShape) → IsFresh s loader → IfOk result (LoadedIn s text.now) }
+    ensures bad { (s : TreeShape) (n : ℕ) → IsFresh s loader → result ≡ Err (LoadFault.Bad n) → IsBadAt n text.now }
     ensures shape { result ≢ Err LoadFault.Shape }
     ensures read { result ≢ Err LoadFault.Read }
 {
-    let Ok(mut held) = Vec::with_capacity(alloc, LONGEST_LINE + 1) else {
-        drop(volume);
-        return Err(LoadFault::Memory);
-    };
-    let mut loading = Loading::new(alloc, volume);
-    if let Err(fault) = loading.take_text(alloc, &mut held, text) {
-        drop(loading);
-        drop(held);
+    if let Err(fault) = loader.take(alloc, text) {
+        drop(loader);
         return Err(fault);
     }
-    drop(held);
-    Ok(loading.volume)
+    loader.end()
 }
 
-/// The volume, which is new, once the image is loaded into it.
-fn load_into<R: Read>(alloc: Global, volume: Volume, reader: &mut R) -> Result<Volume, LoadFault>
-    requires { Means volume (alone (Dir 0 nothing)) }
-    ensures loaded { IfOk result (LoadsAll (R.remaining reader.old) (R.remaining reader.new)) }
-    ensures form { IfOk result (λ v. form_of v ≡ form_of volume) }
-    ensures bad { (n : ℕ) → result ≡ Err (LoadFault.Bad n) → IsBadIn (R.remaining reader.old) n }
+/// The volume of what a reader gives, by a loader that took nothing yet.
+fn load_pieces<R: Read>(
+    alloc: Global,
+    mut loader: Loader,
+    reader: &mut R,
+) -> Result<Volume, LoadFault>
+    ensures loaded { (s : TreeShape) → IsFresh s loader → IfOk result (λ v. LoadsAll (R.remaining reader.old) (R.remaining reader.new) v × (form_of v ≡ new_form s)) }
+    ensures bad { (s : TreeShape) (n : ℕ) → IsFresh s loader → result ≡ Err (LoadFault.Bad n) → IsBadIn (R.remaining reader.old) n }
     ensures shape { result ≢ Err LoadFault.Shape }
-    ensures read { result ≡ Err LoadFault.Read → HasBegun (R.remaining reader.old) (R.remaining reader.new) }
+    ensures read { (s : TreeShape) → IsFresh s loader → result ≡ Err LoadFault.Read → HasBegun (R.remaining reader.old) (R.remaining reader.new) }
 {
     let Ok(mut piece) = Vec::from_elem(alloc, 0u8, PIECE) else {
-        drop(volume);
+        drop(loader);
         return Err(LoadFault::Memory);
     };
-    let Ok(mut held) = Vec::with_capacity(alloc, LONGEST_LINE + 1) else {
-        drop(piece);
-        drop(volume);
-        return Err(LoadFault::Memory);
-    };
-    let mut loading = Loading::new(alloc, volume);
-    if let Err(fault) = loading.take_all(alloc, reader, piece.as_mut_slice(), &mut held) {
-        drop(loading);
-        drop(held);
-        drop(piece);
+    let taken = take_all(alloc, &mut loader, reader, piece.as_mut_slice());
+    drop(piece);
+    if let Err(fault) = taken {
+        drop(loader);
         return Err(fault);
     }
-    drop(held);
-    drop(piece);
-    Ok(loading.volume)
+    loader.end()
+}
+
+/// Reads and takes piece after piece, in the given buffer, until the reader is at its end.
+fn take_all<R: Read>(
+    alloc: Global,
+    loader: &mut Loader,
+    reader: &mut R,
+    piece: &mut [u8],
+) -> Result<(), LoadFault>
+    requires { 0 < length piece.old }
+    ensures ok { (s : TreeShape) → IsFresh s loader.old → OnOk result (TakesAll s (R.remaining reader.old) (R.remaining reader.new) loader.new) }
+    ensures bad { (s : TreeShape) (n : ℕ) → IsFresh s loader.old → result ≡ Err (LoadFault.Bad n) → IsBadIn (R.remaining reader.old) n }
+    ensures shape { result ≢ Err LoadFault.Shape }
+    ensures read { (s : TreeShape) → IsFresh s loader.old → result ≡ Err LoadFault.Read → HasBegun (R.remaining reader.old) (R.remaining reader.new) }
+{
+    // No input has more pieces.
+    for _ in 0..u64::MAX {
+        let Ok(n) = read_some(reader, piece) else {
+            return Err(LoadFault::Read);
+        };
+        if n == 0 {
+            return Ok(());
+        }
+        if let Err(fault) = loader.take(alloc, &piece[..n]) {
+            return Err(fault);
+        }
+    }
+    Err(LoadFault::Read)
 }
 
 /// A volume that is loaded line by line, and what decides which line may follow.
@@ -177,56 +185,8 @@ impl Loading {
         }
     }
 
-    /// Reads and loads piece after piece, in the given buffers, until the reader is at its end.
-    fn take_all<R: Read>(
-        &mut self,
-        alloc: Global,
-        reader: &mut R,
-        piece: &mut [u8],
-        held: &mut Vec<u8>,
-    ) -> Result<(), LoadFault>
-        requires piece { 0 < length piece.old }
-        requires room { 65536 < vec_capacity held.old }
-        requires start { HasRead [] held.old.items self.old }
-        ensures ok { OnOk result (LoadsAll (R.remaining reader.old) (R.remaining reader.new) self.new.volume) }
-        ensures form { OnOk result (form_of self.new.volume ≡ form_of self.old.volume) }
-        ensures bad { (n : ℕ) → result ≡ Err (LoadFault.Bad n) → IsBadIn (R.remaining reader.old) n }
-        ensures shape { result ≢ Err LoadFault.Shape }
-        ensures read { result ≡ Err LoadFault.Read → HasBegun (R.remaining reader.old) (R.remaining reader.new) }
-    {
-        // No input has more pieces.
-        for _ in 0..u64::MAX {
-            let Ok(n) = read_some(reader, piece) else {
-                return Err(LoadFault::Read);
-            };
-            if n == 0 {
-                return self.end(held.as_slice());
-            }
-            if let Err(fault) = self.take_piece(alloc, held, &piece[..n]) {
-                return Err(fault);
-            }
-        }
-        Err(LoadFault::Read)
-    }
-
-    /// Loads a whole text, in the given buffer.
-    fn take_text(&mut self, alloc: Global, held: &mut Vec<u8>, text: &[u8]) -> Result<(), LoadFault>
-        requires room { 65536 < vec_capacity held.old }
-        requires start { HasRead [] held.old.items self.old }
-        ensures ok { OnOk result (Loaded text.now self.new.volume) }
-        ensures form { OnOk result (form_of self.new.volume ≡ form_of self.old.volume) }
-        ensures bad { (n : ℕ) → result ≡ Err (LoadFault.Bad n) → IsBadAt n text.now }
-        ensures shape { result ≢ Err LoadFault.Shape }
-        ensures read { result ≢ Err LoadFault.Read }
-    {
-        if let Err(fault) = self.take_piece(alloc, held, text) {
-            return Err(fault);
-        }
-        self.end(held.as_slice())
-    }
-
     /// Loads each line that ends in a piece of the text, and holds what follows the last of them.
-    fn take_piece(
+    pub(crate) fn take_piece(
         &mut self,
         alloc: Global,
         held: &mut Vec<u8>,
@@ -275,7 +235,7 @@ impl Loading {
     }
 
     /// Ends the image: no line is left that has no line feed, and there was one at least.
-    fn end(&self, held: &[u8]) -> Result<(), LoadFault>
+    pub(crate) fn end(&self, held: &[u8]) -> Result<(), LoadFault>
         ensures ok { OnOk result (LoadsEnd held.now self.now) }
         ensures bad { (n : ℕ) → result ≡ Err (LoadFault.Bad n) → RefusesEnd held.now n self.now }
         ensures shape { result ≢ Err LoadFault.Shape }

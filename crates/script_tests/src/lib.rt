@@ -1,11 +1,13 @@
 //! Tests of scripts and images over typed readers and writers: those that fail in the middle, paces, words of a line, replies, and command
-//! lines as they are read; and of calls by texts and long buffers.
+//! lines as they are read; of images by pieces; and of calls by texts and long buffers.
 #![tactic(auto)]
 
 #[cfg(test)]
 mod asked;
 #[cfg(test)]
 mod buffers;
+#[cfg(test)]
+mod by_pieces;
 #[cfg(test)]
 mod command_lines;
 #[cfg(test)]

@@ -11,6 +11,8 @@ pub enum Piece {
     Times(&'static str, u32),
     /// A line for each number from one up to and without another: a text, and the number behind it.
     Numbered(&'static str, u32, u32),
+    /// The lines of so many blocks of a file, full of bytes 255.
+    Blocks(u32),
 }
 
 /// Appends a text so many times.
@@ -29,6 +31,16 @@ fn put_numbered(text: &mut Vec<u8>, front: &str, first: u32, end: u32) -> io::Re
     Ok(())
 }
 
+/// Appends the lines of blocks.
+fn put_blocks(text: &mut Vec<u8>, count: u32) -> io::Result<()> {
+    for number in 0..count {
+        write!(text, "b {number} ")?;
+        put_times(text, "ff", 4_096)?;
+        text.extend_from_slice(b"\n")?;
+    }
+    Ok(())
+}
+
 /// Appends the pieces.
 fn put(text: &mut Vec<u8>, pieces: &[Piece]) -> io::Result<()> {
     for piece in pieces {
@@ -36,6 +48,7 @@ fn put(text: &mut Vec<u8>, pieces: &[Piece]) -> io::Result<()> {
             Piece::Text(piece) => put_times(text, piece, 1)?,
             Piece::Times(piece, count) => put_times(text, piece, *count)?,
             Piece::Numbered(front, first, end) => put_numbered(text, front, *first, *end)?,
+            Piece::Blocks(count) => put_blocks(text, *count)?,
         }
     }
     Ok(())

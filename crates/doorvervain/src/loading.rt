@@ -1,0 +1,20 @@
+//! A loading as C holds it: a pointer, and with it the right to what lies there.
+ghost use Rattle.images.specs.declared.loader.Loader.{Loader};
+ghost use Rattle.images.specs.contracts.loader.Loader.{the_row as loading_row};
+ghost use Rattle.doorvervain.specs.Held.{held_at};
+
+mod give;
+mod lend;
+
+use std::marker::Model;
+
+/// The right to a loading, and to free it. In C a struct of one pointer.
+#[repr(C)]
+pub struct LoadingHandle {
+    at: *mut u8,
+    pub ghost loading: { Loader } by { loading_row.coded },
+}
+
+impl Model for LoadingHandle {
+    ghost also_owns = { λ h. held_at loading_row h.at h.loading };
+}

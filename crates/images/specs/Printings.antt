@@ -1,0 +1,56 @@
+-- An image on its way out.
+use Rattle.std.specs.Prelude.{◌≡◌, ℕ, ◌<◌, ◌≤◌, List, [], ◌++◌, length, take, drop, refl}
+use Rattle.std.specs.Coded.{Coded, code_by, coded×, coded_ℕ}
+use Rattle.reference.specs.Image.{Text, Second, image}
+use Rattle.reference.specs.Tree.{Tree}
+use Rattle.images.specs.Spots.{IsAt, left_at}
+use Rattle.images.specs.declared.ready.Ready.{Ready}
+use Rattle.volume.specs.Codes.{coded_rooted}
+use Rattle.volume.specs.Volumes.{MeanRooted}
+use Rattle.volume.specs.declared.rooted.Rooted.{Rooted}
+
+-- a tree whose image is printed, and how many bytes of it were handed out
+pub record PPrinting : Type 0 where
+  pub tree : Rooted
+  pub done : ℕ
+
+-- it is stored as the pair of both
+abbrev pub printing_code : Coded PPrinting
+printing_code = code_by (Rooted × ℕ) (coded× coded_rooted coded_ℕ) (λ p. (p.tree, p.done)) (λ q. record { tree = q.0; done = q.1 }) (λ _. refl)
+
+-- the bytes of a text behind the first `done` come next: n of them stand at the front of the buffer, and the rest of it is as it was; there
+-- is none only where the text is at its end or the buffer has no room
+pub record HandsOver (text : Text) (done n : ℕ) (old new : List ℕ) : Type 0 where
+  pub front : Text
+  pub back : Text
+  pub split : text ≡ front ++ (take n new ++ back)
+  pub at : length front ≡ done
+  pub fits : n ≤ length old
+  pub rest : drop n new ≡ drop n old
+  pub end : n ≡ 0 → 0 < length old → back ≡ []
+
+-- ---- within a printing
+
+-- what is ready to be handed out
+abbrev pub ready_text : Ready → Text
+ready_text r = drop r.used r.text.items
+
+-- what was handed out of the image of a tree, what is ready, and what is left behind that are all of it
+pub record IsReadyFor (t : Tree) (r : Ready) : Type 0 where
+  pub front : Text
+  pub count : length front ≡ r.done
+  pub split : image Second t ≡ front ++ (ready_text r ++ left_at t r.spot)
+  pub at : IsAt t r.spot
+
+-- the same of each tree that is meant, and no more was handed out of the text than it has
+pub record IsReady (i : Rooted) (r : Ready) : Type 0 where
+  pub fits : r.used ≤ length r.text.items
+  pub for_tree : (t : Tree) → MeanRooted i t → IsReadyFor t r
+
+-- so many bytes of what was ready stand at the front of a buffer
+pub record HandsOut (n : ℕ) (r : Ready) (old new : List ℕ) : Type 0 where
+  pub fits : n ≤ length old
+  pub ready : n ≤ length (ready_text r)
+  pub front : take n new ≡ take n (ready_text r)
+  pub rest : drop n new ≡ drop n old
+  pub some : n ≡ 0 → 0 < length old → ready_text r ≡ []

@@ -1,0 +1,152 @@
+//! A volume that is loaded of an image piece by piece.
+ghost use Rattle.std.specs.Prelude.{◌<◌, vec_capacity};
+
+use crate::load::{LoadFault, Loading};
+use lines::held::LONGEST_LINE;
+use node::Shape;
+use std::alloc::Global;
+use volume::Volume;
+
+/// What became of the pieces so far.
+#[derive(Clone, Copy, Debug, PartialEq, Eq)]
+pub enum Intake {
+    /// All were taken.
+    Open,
+    /// Memory was refused.
+    Starved,
+    /// From the line of this number on they are no image.
+    Spoiled(u64),
+}
+
+/// A volume that is loaded of an image piece by piece, wherever it is cut. One line is held at a time.
+///
+/// What was refused stays refused: each later piece and the end are answered the same.
+#[derive(Drop)]
+pub struct Loader {
+    pub(crate) loading: Loading,
+    pub(crate) held: Vec<u8>,
+    pub(crate) intake: Intake,
+    ghost room: { 65536 < vec_capacity held },
+}
+
+impl Loader {
+    ghost use Rattle.std.specs.Prelude.{◌≡◌, ◌≢◌, ◌↔◌, ◌⊎◌, ◌++◌, ℕ, List, Err, IfErr, IfOk, OnOk, false};
+    ghost use Rattle.node.specs.Shapes.{is_shape};
+    ghost use Rattle.node.specs.declared.shape.Shape.{Shape as TreeShape};
+    ghost use Rattle.reference.specs.ImageLines.{IsBadAt};
+    ghost use Rattle.reference.specs.Tree.{Dir, nothing};
+    ghost use Rattle.images.specs.Loads.{alone, form_of, new_form};
+    ghost use Rattle.images.specs.Taken.{IsFresh, LoadedIn, Took, answer_of};
+    ghost use Rattle.volume.specs.Volumes.{Means};
+
+    /// A loader that took nothing yet, for a new volume in trees of this shape. It fails where the shape is not ok, and where memory
+    /// is refused.
+    pub fn new(alloc: Global, shape: Shape) -> Result<Loader, LoadFault>
+        ensures fresh { IfOk result (IsFresh shape) }
+        ensures shape { (result ≡ Err LoadFault.Shape) ↔ (is_shape shape ≡ false) }
+        ensures refused { IfErr result (λ e. (e ≡ LoadFault.Shape) ⊎ (e ≡ LoadFault.Memory)) }
+    {
+        if !shape.ok() {
+            return Err(LoadFault::Shape);
+        }
+        match Volume::new(alloc, shape) {
+            Ok(volume) => Loader::over(alloc, volume),
+            Err(_refused) => Err(LoadFault::Memory),
+        }
+    }
+
+    // The same for a volume that is new.
+    fn over(alloc: Global, volume: Volume) -> Result<Loader, LoadFault>
+        requires { Means volume (alone (Dir 0 nothing)) }
+        ensures fresh { (shape : TreeShape) → form_of volume ≡ new_form shape → IfOk result (IsFresh shape) }
+        ensures refused { IfErr result (λ e. e ≡ LoadFault.Memory) }
+    {
+        let Ok(held) = Vec::with_capacity(alloc, LONGEST_LINE + 1) else {
+            drop(volume);
+            return Err(LoadFault::Memory);
+        };
+        Ok(Loader {
+            loading: Loading::new(alloc, volume),
+            held,
+            intake: Intake::Open,
+        })
+    }
+
+    /// Takes the next piece of the text. It fails where memory is refused, and where the text is no image whatever follows: `Bad` has the
+    /// number of the first line with which it is none. Behind a refusal it changes nothing.
+    pub fn take(&mut self, alloc: Global, piece: &[u8]) -> Result<(), LoadFault>
+        ensures took { (shape : TreeShape) (text : List ℕ) → Took shape text self.old → Took shape (text ++ piece.now) self.new }
+        ensures answer { result ≡ answer_of self.new.intake }
+        ensures refused { IfErr (answer_of self.old.intake) (λ _. self.new ≡ self.old) }
+    {
+        if let Err(fault) = self.answer() {
+            return Err(fault);
+        }
+        let taken = self.loading.take_piece(alloc, &mut self.held, piece);
+        self.intake = intake_of(&taken);
+        taken
+    }
+
+    /// Ends the text, and gives the volume with the tree whose image it is, without snapshots and marks. It fails as a piece was refused, and
+    /// where the text is no image.
+    pub fn end(self) -> Result<Volume, LoadFault>
+        ensures loaded { (shape : TreeShape) (text : List ℕ) → Took shape text self → IfOk result (LoadedIn shape text) }
+        ensures bad { (shape : TreeShape) (text : List ℕ) (n : ℕ) → Took shape text self → result ≡ Err (LoadFault.Bad n) → IsBadAt n text }
+        ensures refused { IfErr (answer_of self.intake) (λ e. result ≡ Err e) }
+        ensures shape { result ≢ Err LoadFault.Shape }
+        ensures read { result ≢ Err LoadFault.Read }
+    {
+        let told = self.ended();
+        let Loader {
+            loading,
+            held,
+            intake: _,
+        } = self;
+        drop(held);
+        match told {
+            Ok(()) => Ok(loading.volume),
+            Err(fault) => {
+                drop(loading);
+                Err(fault)
+            }
+        }
+    }
+
+    // Whether the text that was taken is an image.
+    fn ended(&self) -> Result<(), LoadFault>
+        ensures ok { (shape : TreeShape) (text : List ℕ) → Took shape text self.now → OnOk result (LoadedIn shape text self.now.loading.volume) }
+        ensures bad { (shape : TreeShape) (text : List ℕ) (n : ℕ) → Took shape text self.now → result ≡ Err (LoadFault.Bad n) → IsBadAt n text }
+        ensures refused { IfErr (answer_of self.now.intake) (λ e. result ≡ Err e) }
+        ensures shape { result ≢ Err LoadFault.Shape }
+        ensures read { result ≢ Err LoadFault.Read }
+    {
+        if let Err(fault) = self.answer() {
+            return Err(fault);
+        }
+        self.loading.end(self.held.as_slice())
+    }
+
+    // What is answered to the last piece.
+    fn answer(&self) -> Result<(), LoadFault>
+        ensures { result ≡ answer_of self.now.intake }
+    {
+        match self.intake {
+            Intake::Open => Ok(()),
+            Intake::Starved => Err(LoadFault::Memory),
+            Intake::Spoiled(number) => Err(LoadFault::Bad(number)),
+        }
+    }
+}
+
+// What became of a piece.
+fn intake_of(taken: &Result<(), LoadFault>) -> Intake
+    requires shape { taken.now ≢ Err LoadFault.Shape }
+    requires read { taken.now ≢ Err LoadFault.Read }
+    ensures { answer_of result ≡ taken.now }
+{
+    match taken {
+        Ok(()) => Intake::Open,
+        Err(LoadFault::Bad(number)) => Intake::Spoiled(*number),
+        Err(_) => Intake::Starved,
+    }
+}

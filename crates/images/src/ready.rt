@@ -1,0 +1,83 @@
+//! Lines of an image that are printed ahead, and handed out in parts.
+ghost use Rattle.std.specs.Prelude.{◌≡◌, ◌+◌, ◌≤◌, [], IfErr, IfOk, OnErr, OnOk, length};
+ghost use Rattle.reference.specs.Tree.{Tree};
+ghost use Rattle.images.specs.Printings.{HandsOut, IsReady, ready_text};
+ghost use Rattle.images.specs.Spots.{left_at};
+ghost use Rattle.volume.specs.Volumes.{MeanRooted};
+
+use crate::spot::Spot;
+use lines::text::put_number_line;
+use pathkey::NoMemory;
+use std::alloc::Global;
+use volume::Frozen;
+
+/// Lines that are ready, and the place behind them.
+#[derive(Drop)]
+pub(crate) struct Ready {
+    /// The lines.
+    pub(crate) text: Vec<u8>,
+    /// How many bytes of them were handed out.
+    pub(crate) used: usize,
+    /// The place behind them.
+    pub(crate) spot: Spot,
+    /// How many bytes of the image were handed out.
+    pub(crate) done: u64,
+}
+
+impl Ready {
+    /// The line of the root is ready.
+    pub(crate) fn new(alloc: Global, frozen: &Frozen) -> Result<Ready, NoMemory>
+        ensures { IfOk result (λ r. (r.done ≡ 0) × IsReady frozen.now r) }
+    {
+        let mut text = Vec::new(alloc);
+        let Ok(()) = put_number_line(&mut text, b"D / ", frozen.modified()) else {
+            return Err(NoMemory);
+        };
+        Ok(Ready {
+            text,
+            used: 0,
+            spot: Spot::behind_root(alloc),
+            done: 0,
+        })
+    }
+
+    /// Prints more lines where none is ready. It fails only for want of memory, and none is ready then.
+    pub(crate) fn fill(&mut self, alloc: Global, frozen: &Frozen) -> Result<(), NoMemory>
+        requires ready { IsReady frozen.now self.old }
+        ensures ready { IsReady frozen.now self.new }
+        ensures done { self.new.done ≡ self.old.done }
+        ensures filled { OnOk result ((t : Tree) → MeanRooted frozen.now t → ready_text self.new ≡ [] → left_at t self.new.spot ≡ []) }
+    {
+        if self.used < self.text.len() {
+            return Ok(());
+        }
+        let mut spot = self.spot.copy(alloc)?;
+        self.text.clear();
+        self.used = 0;
+        if let Err(NoMemory) = spot.print(alloc, frozen, &mut self.text) {
+            self.text.clear();
+            drop(spot);
+            return Err(NoMemory);
+        }
+        self.spot = spot;
+        Ok(())
+    }
+
+    /// Hands out what is ready, as far as the buffer has room. No image has as many bytes as could not be counted.
+    pub(crate) fn hand_out(&mut self, out: &mut [u8]) -> Result<usize, NoMemory>
+        requires fits { self.old.used ≤ length self.old.text.items }
+        ensures out { IfOk result (λ n. HandsOut n self.old out.old out.new) }
+        ensures on { IfOk result (λ n. self.new ≡ record self.old { used = self.old.used + n; done = self.old.done + n }) }
+        ensures refused { OnErr result ((self.new ≡ self.old) × (out.new ≡ out.old)) }
+    {
+        let ready = &self.text[self.used..];
+        let count = ready.len().min(out.len());
+        let Some(done) = self.done.checked_add(count as u64) else {
+            return Err(NoMemory);
+        };
+        out[..count].copy_from_slice(&ready[..count]);
+        self.used += count;
+        self.done = done;
+        Ok(count)
+    }
+}

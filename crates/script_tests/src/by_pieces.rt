@@ -1,0 +1,191 @@
+//! Images that go by pieces: what is loaded and printed, and which line a bad text is refused at, wherever it is cut.
+use crate::asked::{USUAL, freeze};
+use crate::pieces::{Piece, built};
+use crate::streams::has_image;
+use images::{LoadFault, Loader, Printing};
+use std::alloc::Global;
+use volume::{Frozen, Volume};
+
+/// A loader that took nothing. No function that asks ensures anything, so that no proof of a test reads what an image is.
+fn new_loader(alloc: Global) -> Result<Loader, LoadFault> {
+    Loader::new(alloc, USUAL)
+}
+
+/// Whether a loader takes a piece, and why not.
+fn take(alloc: Global, loader: &mut Loader, piece: &[u8]) -> Result<(), LoadFault> {
+    loader.take(alloc, piece)
+}
+
+/// What the loader gives at the end.
+fn end(loader: Loader) -> Result<Volume, LoadFault> {
+    loader.end()
+}
+
+/// How many bytes of an image a printing writes next.
+fn next(alloc: Global, printing: &mut Printing, room: &mut [u8]) -> Option<usize> {
+    printing.next(alloc, room).ok()
+}
+
+/// Whether a loader takes a text in pieces of so many bytes, and why not.
+fn take_pieces(
+    alloc: Global,
+    loader: &mut Loader,
+    text: &[u8],
+    size: usize,
+) -> Result<(), LoadFault>
+    requires { 0 < size }
+{
+    for piece in text.chunks(size) {
+        take(alloc, loader, piece)?;
+    }
+    Ok(())
+}
+
+/// The volume of a text in such pieces.
+fn loaded(alloc: Global, text: &[u8], size: usize) -> Result<Volume, LoadFault>
+    requires { 0 < size }
+{
+    let mut loader = new_loader(alloc)?;
+    match take_pieces(alloc, &mut loader, text, size) {
+        Ok(()) => end(loader),
+        Err(fault) => Err(fault),
+    }
+}
+
+/// Whether what a printing writes into a room of some bytes, again and again, is a text.
+fn writes(alloc: Global, printing: &mut Printing, room: &mut [u8], text: &[u8]) -> bool {
+    let mut rest = text;
+    // No text here has more pieces.
+    for _ in 0..100_000u32 {
+        let Some(count) = next(alloc, printing, room) else {
+            return false;
+        };
+        if count == 0 {
+            return rest.is_empty();
+        }
+        let Some(piece) = room.get(..count) else {
+            return false;
+        };
+        let Some(behind) = rest.strip_prefix(piece) else {
+            return false;
+        };
+        rest = behind;
+    }
+    false
+}
+
+/// Whether a tree's image is a text, printed into a room of so many bytes.
+fn prints(alloc: Global, tree: Frozen, size: usize, text: &[u8]) -> bool {
+    let mut room = [0u8; 4_096];
+    let Some(room) = room.get_mut(..size) else {
+        return false;
+    };
+    match Printing::new(alloc, tree) {
+        Ok(mut printing) => writes(alloc, &mut printing, room, text),
+        Err(_) => false,
+    }
+}
+
+/// Whether a volume has an image, at once and in pieces of so many bytes.
+fn shows(alloc: Global, volume: &Volume, size: usize, text: &[u8]) -> bool {
+    match freeze(volume) {
+        Ok(tree) => prints(alloc, tree, size, text) && has_image(alloc, volume, text),
+        Err(_) => false,
+    }
+}
+
+/// Whether an image is loaded in pieces of so many bytes, and printed in such again.
+fn goes(alloc: Global, text: &[u8], size: usize) -> bool
+    requires { 0 < size }
+{
+    match loaded(alloc, text, size) {
+        Ok(volume) => shows(alloc, &volume, size, text),
+        Err(_) => false,
+    }
+}
+
+/// Images of version 2.
+const IMAGES: [&[u8]; 5] = [
+    b"D / 0\n",
+    b"D / 18446744073709551615\nF /%00 0 1\n",
+    b"D / 7\nD /a 5\nD /a/b 4\nF /a/b/c 3 2\nb 0 616263\nF /d 10000 1\nb 0 00ff\nb 2 01\n",
+    b"D / 1\nF /f 1099511627776 2\nb 268435455 ff\n",
+    b"D / 1\nF /a 8192 2\nF /b 8192 3\nb 1 01\nD /c 4\nF /c/d 1 5\nb 0 2a\n",
+];
+
+#[test]
+fn goes_in_pieces_of_any_size(rt: HostRuntime) {
+    for text in IMAGES {
+        assert!(rt; goes(rt.alloc(), text, 1));
+        assert!(rt; goes(rt.alloc(), text, 7));
+        assert!(rt; goes(rt.alloc(), text, 4_096));
+    }
+}
+
+/// A file of 20 full blocks, between two others, whose lines have more bytes than are printed in one go.
+const LONG: [Piece; 3] = [
+    Piece::Text("D / 1\nF /a 1 2\nb 0 01\nF /b 81920 3\n"),
+    Piece::Blocks(20),
+    Piece::Text("F /c 2 4\nb 0 0203\n"),
+];
+
+/// Whether a text in pieces goes in pieces of 4,096 bytes.
+fn goes_long(alloc: Global, pieces: &[Piece]) -> bool {
+    match built(alloc, pieces) {
+        Some(text) => goes(alloc, text.as_slice(), 4_096),
+        None => false,
+    }
+}
+
+#[test]
+fn a_long_image_goes_in_pieces(rt: HostRuntime) {
+    assert!(rt; goes_long(rt.alloc(), &LONG));
+}
+
+/// Texts that are no images, and the first line with which they are none.
+const SPOILED: [(&[u8], u64); 6] = [
+    (b"", 1),
+    (b"D / 0", 1),
+    (b"x\nD / 0\n", 1),
+    (b"D / 0\nD /a 0\nx\nD /b 0\n", 3),
+    (b"D / 0\nF /f 1 2\nb 0 0102\n", 3),
+    (b"D / 0\nD /b 0\nD /a 0\nx\n", 3),
+];
+
+/// Why a text in pieces of so many bytes is not loaded.
+fn fault(alloc: Global, text: &[u8], size: usize) -> Option<LoadFault>
+    requires { 0 < size }
+{
+    loaded(alloc, text, size).err()
+}
+
+#[test]
+fn is_refused_at_the_same_line(rt: HostRuntime) {
+    for (text, line) in SPOILED {
+        assert!(rt; fault(rt.alloc(), text, 1) == Some(LoadFault::Bad(line)));
+        assert!(rt; fault(rt.alloc(), text, 7) == Some(LoadFault::Bad(line)));
+        assert!(rt; fault(rt.alloc(), text, 4_096) == Some(LoadFault::Bad(line)));
+    }
+}
+
+/// Whether a loader that refused a piece refuses all that follows at the same line.
+fn stays_refused(alloc: Global, mut loader: Loader) -> bool {
+    let line = Err(LoadFault::Bad(2));
+    if take(alloc, &mut loader, b"D / 0\nx\n") != line {
+        return false;
+    }
+    take(alloc, &mut loader, b"D / 0\n") == line && end(loader).err() == Some(LoadFault::Bad(2))
+}
+
+/// Whether a new one does.
+fn new_stays_refused(alloc: Global) -> bool {
+    match new_loader(alloc) {
+        Ok(loader) => stays_refused(alloc, loader),
+        Err(_) => false,
+    }
+}
+
+#[test]
+fn what_was_refused_stays_refused(rt: HostRuntime) {
+    assert!(rt; new_stays_refused(rt.alloc()));
+}

@@ -1,0 +1,237 @@
+// Writes and reads images by pieces. It prints what it finds; examples/run compares that with pieces.expected, which was written by hand.
+//
+// Built with -DREFUSE (examples/run does so), it also has each request for memory of a print and of a load refused in turn.
+#include "doorvervain.h"
+#include <stdio.h>
+#include <stdlib.h>
+#include <string.h>
+
+enum { ROOM = 200000, BLOCK = 4096, LONG = 20 * BLOCK, OLD = 99, STOPPED = 5 };
+
+// A text that a function of the caller writes to or reads from, and how many bytes it moves before it stops.
+struct text {
+    uint8_t bytes[ROOM];
+    size_t length, at, most;
+};
+
+static const uint8_t *bytes_of(const char *text) { return (const uint8_t *)text; }
+
+static int put(void *context, const uint8_t *bytes, size_t count) {
+    struct text *text = context;
+    if (text->length + count > text->most) return STOPPED;
+    memcpy(text->bytes + text->length, bytes, count);
+    text->length += count;
+    return 0;
+}
+
+static int get(void *context, uint8_t *out, size_t room, size_t *got) {
+    struct text *text = context;
+    if (text->at >= text->most) return STOPPED;
+    *got = text->length - text->at < room ? text->length - text->at : room;
+    memcpy(out, text->bytes + text->at, *got);
+    text->at += *got;
+    return 0;
+}
+
+// A folder, a file of 20 full blocks, and one behind it.
+static uint8_t fill(struct doorvervain *fs) {
+    static uint8_t bytes[LONG];
+    memset(bytes, 'x', sizeof bytes);
+    uint8_t number = doorvervain_mkdir(fs, bytes_of("/a"), 2, 1);
+    if (!number) number = doorvervain_create(fs, bytes_of("/a/f"), 4, 2);
+    if (!number) number = doorvervain_write(fs, bytes_of("/a/f"), 4, 0, bytes, sizeof bytes, 3);
+    return number ? number : doorvervain_create(fs, bytes_of("/z"), 2, 4);
+}
+
+// The image of the live tree in pieces of so many bytes.
+static uint8_t image_by(struct doorvervain *fs, size_t room, struct text *text, int *failed) {
+    static uint8_t buffer[ROOM];
+    struct doorvervain_frozen tree = {0};
+    text->length = text->at = 0;
+    uint8_t number = doorvervain_freeze(fs, &tree);
+    if (!number) number = doorvervain_image_to(&tree, buffer, room, put, text, failed);
+    return tree.at ? OLD : number;
+}
+
+static uint8_t load_by(struct doorvervain *fs, size_t room, struct text *text, int *failed, uint64_t *line) {
+    static uint8_t buffer[ROOM];
+    text->at = 0;
+    return doorvervain_load_from(fs, 16, 256, 256, buffer, room, get, text, failed, line);
+}
+
+// The image at once, the same in pieces, and the image of what is loaded in such pieces.
+static void goes(struct doorvervain *fs, size_t room) {
+    static struct text whole, pieces, again;
+    struct doorvervain_frozen tree = {0};
+    struct doorvervain loaded = {0};
+    int failed = OLD;
+    uint64_t line = OLD;
+    whole.most = pieces.most = again.most = ROOM;
+    uint8_t number = doorvervain_freeze(fs, &tree);
+    if (!number) number = doorvervain_image(&tree, whole.bytes, ROOM, &whole.length);
+    doorvervain_thaw(&tree);
+    printf("in pieces of %zu: %d", room, number);
+    printf(", printed %d", image_by(fs, room, &pieces, &failed));
+    printf(", %s", pieces.length == whole.length && !memcmp(pieces.bytes, whole.bytes, whole.length) ? "the same" : "another one");
+    printf(", loaded %d", load_by(&loaded, room, &pieces, &failed, &line));
+    printf(" at line %llu", (unsigned long long)line);
+    printf(", printed %d", image_by(&loaded, ROOM, &again, &failed));
+    printf(", %s\n", again.length == whole.length && !memcmp(again.bytes, whole.bytes, whole.length) ? "the same" : "another one");
+    doorvervain_close(&loaded);
+}
+
+// Functions of the caller that stop.
+static void stops(struct doorvervain *fs) {
+    static struct text text;
+    struct doorvervain loaded = {&loaded};
+    int failed = OLD;
+    uint64_t line = OLD;
+    text.most = 100;
+    uint8_t number = image_by(fs, 64, &text, &failed);
+    printf("stopped print: %d, stopped by %d behind %zu bytes\n", number, failed, text.length);
+    text.most = ROOM;
+    (void)image_by(fs, 64, &text, &failed);
+    text.most = 100;
+    number = load_by(&loaded, 64, &text, &failed, &line);
+    printf("stopped load: %d, stopped by %d, line %llu, %s\n", number, failed, (unsigned long long)line,
+        loaded.at ? "open" : "closed");
+    number = image_by(fs, 0, &text, &failed);
+    printf("no room: %d, %d\n", number, load_by(&loaded, 0, &text, &failed, &line));
+}
+
+// A text that is no image, piece by piece.
+static void refusals(void) {
+    struct doorvervain fs = {&fs};
+    struct doorvervain_loading loading = {0};
+    uint64_t line = OLD;
+    uint8_t number = doorvervain_load_begin(&loading, 3, 256, 256);
+    printf("a bad shape: %d, %s\n", number, loading.at ? "open" : "closed");
+    printf("begin: %d", doorvervain_load_begin(&loading, 16, 256, 256));
+    number = doorvervain_load_piece(&loading, bytes_of("D / 0\nD /"), 9, &line);
+    printf(", a piece: %d at line %llu", number, (unsigned long long)line);
+    number = doorvervain_load_piece(&loading, bytes_of("a 0\nx\nD"), 7, &line);
+    printf(", a bad one: %d at line %llu", number, (unsigned long long)line);
+    number = doorvervain_load_piece(&loading, bytes_of("D / 0\n"), 6, &line);
+    printf(", one behind it: %d at line %llu", number, (unsigned long long)line);
+    number = doorvervain_load_end(&fs, &loading, &line);
+    printf(", the end: %d at line %llu, %s, %s\n", number, (unsigned long long)line, fs.at ? "open" : "closed",
+        loading.at ? "open" : "closed");
+    (void)doorvervain_load_begin(&loading, 16, 256, 256);
+    (void)doorvervain_load_piece(&loading, bytes_of("D / 0\nD /a"), 10, &line);
+    number = doorvervain_load_end(&fs, &loading, &line);
+    printf("a line that is cut: %d at line %llu\n", number, (unsigned long long)line);
+    (void)doorvervain_load_begin(&loading, 16, 256, 256);
+    doorvervain_load_drop(&loading);
+    printf("dropped: %s\n", loading.at ? "open" : "closed");
+}
+
+// What is answered where something is null or closed.
+static void lacks(void) {
+    struct doorvervain fs = {0};
+    struct doorvervain_frozen thawed = {0};
+    struct doorvervain_printing printing = {0};
+    struct doorvervain_loading loading = {0};
+    uint8_t buffer[1];
+    size_t size = OLD;
+    uint64_t line = OLD;
+    printf("null: %d, %d, %d, %d\n", doorvervain_print_begin(NULL, &thawed), doorvervain_print_piece(NULL, buffer, 1, &size),
+        doorvervain_load_piece(NULL, buffer, 1, &line), doorvervain_load_end(NULL, &loading, &line));
+    printf("closed: %d, %d, %d, %d\n", doorvervain_print_begin(&printing, &thawed),
+        doorvervain_print_piece(&printing, buffer, 1, &size), doorvervain_load_piece(&loading, buffer, 1, &line),
+        doorvervain_load_end(&fs, &loading, &line));
+    doorvervain_print_end(&printing);
+    doorvervain_load_drop(&loading);
+}
+
+#ifdef REFUSE
+// Which request for memory from now on is refused; none where it is 0.
+static long refused_request;
+
+void *__real_malloc(size_t size);
+void *__real_realloc(void *old, size_t size);
+
+static int refuses(void) { return refused_request > 0 && --refused_request == 0; }
+
+void *__wrap_malloc(size_t size) { return refuses() ? NULL : __real_malloc(size); }
+
+void *__wrap_realloc(void *old, size_t size) { return refuses() ? NULL : __real_realloc(old, size); }
+
+// Has each request of a print refused in turn. A piece that was refused is asked for again: the image is the same.
+static void print_without_memory(struct doorvervain *fs) {
+    static struct text whole, pieces;
+    static uint8_t buffer[ROOM];
+    int failed, refusals = 0, others = 0;
+    whole.most = pieces.most = ROOM;
+    (void)image_by(fs, ROOM, &whole, &failed);
+    for (long request = 1; request <= 400; request++) {
+        struct doorvervain_frozen tree = {0};
+        struct doorvervain_printing printing = {0};
+        size_t count = OLD;
+        pieces.length = 0;
+        (void)doorvervain_freeze(fs, &tree);
+        refused_request = request;
+        uint8_t number = doorvervain_print_begin(&printing, &tree);
+        if (number) {
+            refusals++;
+            refused_request = 0;
+            others += number != DOORVERVAIN_ENOMEM || printing.at || tree.at;
+            continue;
+        }
+        while (count) {
+            number = doorvervain_print_piece(&printing, buffer, BLOCK, &count);
+            refusals += number != 0;
+            others += number && (number != DOORVERVAIN_ENOMEM || count);
+            if (number) count = OLD;
+            else (void)put(&pieces, buffer, count);
+        }
+        refused_request = 0;
+        doorvervain_print_end(&printing);
+        others += pieces.length != whole.length || memcmp(pieces.bytes, whole.bytes, whole.length);
+    }
+    printf("a print without memory: %s, %d others\n", refusals ? "refused" : "not refused", others);
+}
+
+// Has each request of a load refused in turn: the answer is ENOMEM, and there is no volume.
+static void load_without_memory(struct doorvervain *fs) {
+    static struct text text;
+    struct doorvervain loaded = {0};
+    uint8_t number = DOORVERVAIN_ENOMEM;
+    int failed, refusals = 0, others = 0;
+    uint64_t line = OLD;
+    text.most = ROOM;
+    (void)image_by(fs, ROOM, &text, &failed);
+    for (long request = 1; number == DOORVERVAIN_ENOMEM; request++) {
+        refused_request = request;
+        number = load_by(&loaded, BLOCK, &text, &failed, &line);
+        refused_request = 0;
+        refusals += number != 0;
+        others += number && (loaded.at || line || failed);
+    }
+    printf("a load without memory: %s, %d others, then %d\n", refusals ? "refused" : "not refused", others, number);
+    doorvervain_close(&loaded);
+}
+
+static void refused_memory(struct doorvervain *fs) {
+    print_without_memory(fs);
+    load_without_memory(fs);
+}
+#else
+static void refused_memory(struct doorvervain *fs) { (void)fs; }
+#endif
+
+int main(void) {
+    struct doorvervain fs = {0};
+    printf("open: %d\n", doorvervain_open(&fs, 16, 256, 256));
+    goes(&fs, 1);
+    printf("fill: %d\n", fill(&fs));
+    goes(&fs, 1);
+    goes(&fs, 7);
+    goes(&fs, BLOCK);
+    goes(&fs, ROOM);
+    stops(&fs);
+    refusals();
+    lacks();
+    refused_memory(&fs);
+    doorvervain_close(&fs);
+    return EXIT_SUCCESS;
+}
