@@ -180,6 +180,33 @@ uint8_t doorvervain_raw_data(struct doorvervain *fs, const uint8_t *path, size_t
     uint64_t *from, uint64_t *to);
 uint8_t doorvervain_raw_frozen_data(struct doorvervain_frozen *tree, const uint8_t *path, size_t length,
     uint64_t offset, uint64_t *from, uint64_t *to);
+uint8_t doorvervain_raw_log_mkdir(
+    const uint8_t *path, size_t length, uint64_t at, uint8_t *out, size_t room, size_t *size);
+uint8_t doorvervain_raw_log_create(
+    const uint8_t *path, size_t length, uint64_t at, uint8_t *out, size_t room, size_t *size);
+uint8_t doorvervain_raw_log_unlink(
+    const uint8_t *path, size_t length, uint64_t at, uint8_t *out, size_t room, size_t *size);
+uint8_t doorvervain_raw_log_rmdir(
+    const uint8_t *path, size_t length, uint64_t at, uint8_t *out, size_t room, size_t *size);
+uint8_t doorvervain_raw_log_rmtree(
+    const uint8_t *path, size_t length, uint64_t at, uint8_t *out, size_t room, size_t *size);
+uint8_t doorvervain_raw_log_rename(const uint8_t *from, size_t from_length, const uint8_t *to, size_t to_length,
+    uint64_t at, uint8_t *out, size_t room, size_t *size);
+uint8_t doorvervain_raw_log_truncate(const uint8_t *path, size_t length, uint64_t bytes, uint64_t at, uint8_t *out,
+    size_t room, size_t *size);
+uint8_t doorvervain_raw_log_write(const uint8_t *path, size_t length, uint64_t offset, const uint8_t *bytes,
+    size_t count, uint64_t at, uint8_t *out, size_t room, size_t *size);
+uint8_t doorvervain_raw_log_punch(const uint8_t *path, size_t length, uint64_t offset, uint64_t count, uint64_t at,
+    uint8_t *out, size_t room, size_t *size);
+uint8_t doorvervain_raw_log_snapshot(const uint8_t *name, size_t length, uint8_t *out, size_t room, size_t *size);
+uint8_t doorvervain_raw_log_drop(const uint8_t *name, size_t length, uint8_t *out, size_t room, size_t *size);
+uint8_t doorvervain_raw_log_restore(const uint8_t *name, size_t length, uint8_t *out, size_t room, size_t *size);
+uint8_t doorvervain_raw_log_ends(
+    uint64_t number, const uint8_t *body, size_t length, uint8_t *out, size_t room, size_t *size);
+uint8_t doorvervain_raw_log_next(const uint8_t *log, size_t length, uint64_t number, size_t *size);
+uint8_t doorvervain_raw_log_run(struct doorvervain *fs, const uint8_t *body, size_t length, size_t *done);
+uint8_t doorvervain_raw_log_replay(struct doorvervain *fs, const uint8_t *log, size_t length, uint64_t number,
+    size_t *records, size_t *done, size_t *size);
 
 // ---- what the functions below answer by themselves
 
@@ -694,6 +721,159 @@ static inline uint8_t doorvervain_frozen_data(struct doorvervain_frozen *tree, c
     if (!from || !to) return DOORVERVAIN_NULL;
     uint8_t lacks = doorvervain_frozen_lacks(tree, path, length);
     return lacks ? lacks : doorvervain_raw_frozen_data(tree, doorvervain_from(path), length, offset, from, to);
+}
+
+// ---- the log of a store
+
+// A log is records, one behind the other, whose numbers rise by one. A record is DOORVERVAIN_LOG_FRONT bytes, a body, and
+// DOORVERVAIN_LOG_BACK bytes. A body is what one request changed: an entry for each change, one behind the other. An entry has
+// DOORVERVAIN_LOG_ENTRY bytes and its texts: a path or a name, and behind it the second path of a rename or the bytes of a write.
+enum { DOORVERVAIN_LOG_FRONT = 24, DOORVERVAIN_LOG_BACK = 32, DOORVERVAIN_LOG_ENTRY = 48 };
+
+// The pointer that is null: to a text, a buffer or a size; 0 where all are there.
+static inline uint8_t doorvervain_log_lacks(
+    const uint8_t *text, size_t length, const uint8_t *out, size_t room, size_t *size) {
+    if (!size) return DOORVERVAIN_NULL;
+    *size = 0;
+    return doorvervain_has_null(text, length, out, room) ? DOORVERVAIN_NULL : DOORVERVAIN_DONE;
+}
+
+// The entry of a directory that is made at the moment `at`. ENOENT, EINVAL, ENAMETOOLONG: a text that is no path. ENOMEM.
+static inline uint8_t doorvervain_log_mkdir(
+    const uint8_t *path, size_t length, uint64_t at, uint8_t *out, size_t room, size_t *size) {
+    uint8_t lacks = doorvervain_log_lacks(path, length, out, room, size);
+    return lacks ? lacks
+                 : doorvervain_raw_log_mkdir(doorvervain_from(path), length, at, doorvervain_into(out), room, size);
+}
+
+// The same of a file that is made.
+static inline uint8_t doorvervain_log_create(
+    const uint8_t *path, size_t length, uint64_t at, uint8_t *out, size_t room, size_t *size) {
+    uint8_t lacks = doorvervain_log_lacks(path, length, out, room, size);
+    return lacks ? lacks
+                 : doorvervain_raw_log_create(doorvervain_from(path), length, at, doorvervain_into(out), room, size);
+}
+
+// The same of a file that is taken out.
+static inline uint8_t doorvervain_log_unlink(
+    const uint8_t *path, size_t length, uint64_t at, uint8_t *out, size_t room, size_t *size) {
+    uint8_t lacks = doorvervain_log_lacks(path, length, out, room, size);
+    return lacks ? lacks
+                 : doorvervain_raw_log_unlink(doorvervain_from(path), length, at, doorvervain_into(out), room, size);
+}
+
+// The same of an empty directory that is taken out.
+static inline uint8_t doorvervain_log_rmdir(
+    const uint8_t *path, size_t length, uint64_t at, uint8_t *out, size_t room, size_t *size) {
+    uint8_t lacks = doorvervain_log_lacks(path, length, out, room, size);
+    return lacks ? lacks
+                 : doorvervain_raw_log_rmdir(doorvervain_from(path), length, at, doorvervain_into(out), room, size);
+}
+
+// The same of what is taken out with all below it.
+static inline uint8_t doorvervain_log_rmtree(
+    const uint8_t *path, size_t length, uint64_t at, uint8_t *out, size_t room, size_t *size) {
+    uint8_t lacks = doorvervain_log_lacks(path, length, out, room, size);
+    return lacks ? lacks
+                 : doorvervain_raw_log_rmtree(doorvervain_from(path), length, at, doorvervain_into(out), room, size);
+}
+
+// The entry of a move from the first path to the second.
+static inline uint8_t doorvervain_log_rename(const uint8_t *from, size_t from_length, const uint8_t *to,
+    size_t to_length, uint64_t at, uint8_t *out, size_t room, size_t *size) {
+    uint8_t lacks = doorvervain_log_lacks(from, from_length, out, room, size);
+    if (!lacks) lacks = doorvervain_log_lacks(to, to_length, out, room, size);
+    return lacks ? lacks
+                 : doorvervain_raw_log_rename(doorvervain_from(from), from_length, doorvervain_from(to), to_length, at,
+                       doorvervain_into(out), room, size);
+}
+
+// The entry of a file that is cut or lengthened to so many bytes.
+static inline uint8_t doorvervain_log_truncate(const uint8_t *path, size_t length, uint64_t bytes, uint64_t at,
+    uint8_t *out, size_t room, size_t *size) {
+    uint8_t lacks = doorvervain_log_lacks(path, length, out, room, size);
+    return lacks
+               ? lacks
+               : doorvervain_raw_log_truncate(doorvervain_from(path), length, bytes, at, doorvervain_into(out), room, size);
+}
+
+// The entry of bytes that are laid over a file from the byte `offset` on.
+static inline uint8_t doorvervain_log_write(const uint8_t *path, size_t length, uint64_t offset, const uint8_t *bytes,
+    size_t count, uint64_t at, uint8_t *out, size_t room, size_t *size) {
+    uint8_t lacks = doorvervain_log_lacks(path, length, out, room, size);
+    if (!lacks) lacks = doorvervain_log_lacks(bytes, count, out, room, size);
+    return lacks ? lacks
+                 : doorvervain_raw_log_write(doorvervain_from(path), length, offset, doorvervain_from(bytes), count, at,
+                       doorvervain_into(out), room, size);
+}
+
+// The entry of a hole of `count` bytes from the byte `offset` on.
+static inline uint8_t doorvervain_log_punch(const uint8_t *path, size_t length, uint64_t offset, uint64_t count,
+    uint64_t at, uint8_t *out, size_t room, size_t *size) {
+    uint8_t lacks = doorvervain_log_lacks(path, length, out, room, size);
+    return lacks ? lacks
+                 : doorvervain_raw_log_punch(
+                       doorvervain_from(path), length, offset, count, at, doorvervain_into(out), room, size);
+}
+
+// The entry of a snapshot that is taken. EINVAL: a text that is no name. ENOMEM.
+static inline uint8_t doorvervain_log_snapshot(const uint8_t *name, size_t length, uint8_t *out, size_t room, size_t *size) {
+    uint8_t lacks = doorvervain_log_lacks(name, length, out, room, size);
+    return lacks ? lacks
+                 : doorvervain_raw_log_snapshot(doorvervain_from(name), length, doorvervain_into(out), room, size);
+}
+
+// The same of one that is removed.
+static inline uint8_t doorvervain_log_drop(const uint8_t *name, size_t length, uint8_t *out, size_t room, size_t *size) {
+    uint8_t lacks = doorvervain_log_lacks(name, length, out, room, size);
+    return lacks ? lacks
+                 : doorvervain_raw_log_drop(doorvervain_from(name), length, doorvervain_into(out), room, size);
+}
+
+// The same of one that is restored.
+static inline uint8_t doorvervain_log_restore(const uint8_t *name, size_t length, uint8_t *out, size_t room, size_t *size) {
+    uint8_t lacks = doorvervain_log_lacks(name, length, out, room, size);
+    return lacks ? lacks
+                 : doorvervain_raw_log_restore(doorvervain_from(name), length, doorvervain_into(out), room, size);
+}
+
+// What stands round a body in the record of a number: DOORVERVAIN_LOG_FRONT bytes before it, and DOORVERVAIN_LOG_BACK bytes
+// behind it. ENOMEM.
+static inline uint8_t doorvervain_log_ends(
+    uint64_t number, const uint8_t *body, size_t length, uint8_t *out, size_t room, size_t *size) {
+    uint8_t lacks = doorvervain_log_lacks(body, length, out, room, size);
+    return lacks ? lacks
+                 : doorvervain_raw_log_ends(number, doorvervain_from(body), length, doorvervain_into(out), room, size);
+}
+
+// How many bytes the body has of the record of a number with which a log begins. ENOENT: it begins with no such record. Where
+// bytes are left there, the record is cut off or damaged.
+static inline uint8_t doorvervain_log_next(const uint8_t *log, size_t length, uint64_t number, size_t *size) {
+    uint8_t lacks = doorvervain_log_lacks(log, length, NULL, 0, size);
+    return lacks ? lacks : doorvervain_raw_log_next(doorvervain_from(log), length, number, size);
+}
+
+// Does the changes of a body, up to the first that is refused: the answer is why, and `*done` how many were done before it. `*done`
+// is 0 where none is refused. EINVAL: the bytes are no body. ENOMEM. With both `*done` is 0 and nothing was done.
+static inline uint8_t doorvervain_log_run(
+    struct doorvervain *fs, const uint8_t *body, size_t length, size_t *done) {
+    if (!done) return DOORVERVAIN_NULL;
+    *done = 0;
+    uint8_t lacks = doorvervain_lacks(fs, body, length);
+    return lacks ? lacks : doorvervain_raw_log_run(fs, doorvervain_from(body), length, done);
+}
+
+// Does the changes of a log's records, the first of which has this number, as far as they count. `*records` is how many were
+// done, and `*size` how many bytes they take. Where a change is refused the answer is why, and `*done` how many of its record
+// were done. EINVAL: its body is none, or a number of the log may pass 2^64.
+static inline uint8_t doorvervain_log_replay(struct doorvervain *fs, const uint8_t *log, size_t length,
+    uint64_t number, size_t *records, size_t *done, size_t *size) {
+    if (records) *records = 0;
+    if (done) *done = 0;
+    if (size) *size = 0;
+    if (!records || !done || !size) return DOORVERVAIN_NULL;
+    uint8_t lacks = doorvervain_lacks(fs, log, length);
+    return lacks ? lacks : doorvervain_raw_log_replay(fs, doorvervain_from(log), length, number, records, done, size);
 }
 
 // The word and a sentence for what a call answered, as "ENOENT: no such file or directory". It never answers null. The

@@ -5,4 +5,5 @@ pub mod Numbers
 pub mod Looks
 pub mod Changes
 pub mod Holes
+pub mod Log
 pub mod Handed

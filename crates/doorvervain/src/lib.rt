@@ -12,6 +12,7 @@ mod handle;
 mod holes;
 mod loading;
 mod loading_place;
+mod log;
 mod looks;
 mod numbers;
 mod parts;

@@ -1,0 +1,33 @@
+-- What the exports of logs tell.
+use Rattle.std.specs.Prelude.{◌≡◌, ◌⊎◌, ◌++◌, ◌≤◌, ◌+◌, ◌^◌, ℕ, List, length, Option, Some, None, Result, Ok, Err}
+use Rattle.pathkey.specs.declared.errno.Errno.{Errno}
+use Rattle.pathkey.specs.declared.errno.Errno.TheVariants.{EINVAL, ENOENT}
+use Rattle.logs.specs.Records.{LacksRecord, record_of}
+use Rattle.recovery.specs.Replays.{Replays}
+use Rattle.recovery.specs.declared.stopped.Stopped.{Stopped}
+use Rattle.volume.specs.Volumes.{PVolume}
+use Rattle.doorvervain.specs.Numbers.{told}
+
+-- the log begins with the record of the number, whose body has so many bytes; or with none (ENOENT)
+abbrev pub FindsRecord : ℕ → List ℕ → Result ℕ Errno → Type 0
+FindsRecord n log (Ok size) = (body : List ℕ) × (rest : List ℕ) × (log ≡ record_of n body ++ rest) × (size ≡ length body)
+FindsRecord n log (Err e) = (e ≡ ENOENT) × LacksRecord n log
+
+-- where a run stopped, by what was told and by how many changes were done
+abbrev pub stopped_of : Result (Unit {0}) Errno → ℕ → Option Stopped
+stopped_of (Ok u) done = None
+stopped_of (Err e) done = Some (record { done = done; fault = e })
+
+abbrev pub ended : Option Stopped → Result (Unit {0}) Stopped
+ended None = Ok tt
+ended (Some s) = Err s
+
+-- how a run ended, by the number and by how many changes were done
+abbrev pub stopped_told : ℕ → ℕ → Result (Unit {0}) Stopped
+stopped_told number done = ended (stopped_of (told number) done)
+
+-- a log was replayed; or its numbers would pass 2^64 (EINVAL), and nothing was done
+abbrev pub ReplaysTold : ℕ → List ℕ → ℕ → ℕ → ℕ → ℕ → PVolume → PVolume → Type 0
+ReplaysTold n log number records done size old new =
+    Replays n log (record { records = records; size = size; stopped = stopped_of (told number) done }) old new
+    ⊎ ((2 ^ 64 ≤ n + length log) × (told number ≡ Err EINVAL) × (new ≡ old))

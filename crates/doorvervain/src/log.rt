@@ -1,0 +1,348 @@
+//! Exports of logs: the changes and records of a log take no volume, and a log is run on one. A refusal gives 0 as each other result,
+//! where nothing else is said.
+ghost use Rattle.std.specs.Prelude.{◌≡◌, ◌↔◌, ◌++◌, IfErr, MatchOption, Ok, Err, length};
+ghost use Rattle.pathkey.specs.SnapNames.{snap_parsed};
+ghost use Rattle.pathkey.specs.Texts.{parsed};
+ghost use Rattle.pathkey.specs.declared.errno.Errno.TheVariants.{ENOMEM};
+ghost use Rattle.logs.specs.Lays.{Lays, LaysBytes, asked, moved};
+ghost use Rattle.logs.specs.Records.{digest, front};
+ghost use Rattle.logs.specs.declared.change.Change.TheVariants as change;
+ghost use Rattle.logs.specs.declared.change.Keeping.TheVariants as keeping;
+ghost use Rattle.logs.specs.declared.change.PathChange.TheVariants as on;
+ghost use Rattle.recovery.specs.Runs.{RunsBody};
+ghost use Rattle.doorvervain.specs.Log.{FindsRecord, ReplaysTold, stopped_told};
+ghost use Rattle.doorvervain.specs.Numbers.{IsNumber, IsShort, IsSizeNumber, short, sized_by, told, told_by};
+
+use crate::handle::Handle;
+use crate::numbers::{count, number, sized};
+use logs::lay::{lay_ends, lay_keep, lay_on_path, lay_punch, lay_rename, lay_truncate, lay_write};
+use logs::{Keeping, PathChange, next_record};
+use pathkey::Errno;
+use recovery::{Stopped, replay, run_body};
+use std::alloc::Global;
+
+/// The entry of a directory that is made. How many bytes it has goes to `size`; they are written where the buffer has
+/// room for all of them.
+#[unsafe(no_mangle)]
+pub extern "C" fn doorvervain_raw_log_mkdir(
+    alloc: Global,
+    path: &[u8],
+    at: u64,
+    out: &mut [u8],
+    size: &mut usize,
+) -> u8
+    ensures change { Lays (asked (λ p. change.OnPath on.Mkdir p at) (parsed path.now)) (sized_by result size.new) out.old out.new }
+    ensures short { (result ≡ short) ↔ IsShort size.new out.old }
+    ensures number { IsSizeNumber result }
+    ensures refused { IfErr (sized_by result size.new) (λ _. size.new ≡ 0) }
+{
+    let laid = lay_on_path(alloc, PathChange::Mkdir, path, at, out);
+    sized(laid, out.len(), size)
+}
+
+/// The entry of a file that is made. How many bytes it has goes to `size`; they are written where the buffer has
+/// room for all of them.
+#[unsafe(no_mangle)]
+pub extern "C" fn doorvervain_raw_log_create(
+    alloc: Global,
+    path: &[u8],
+    at: u64,
+    out: &mut [u8],
+    size: &mut usize,
+) -> u8
+    ensures change { Lays (asked (λ p. change.OnPath on.Create p at) (parsed path.now)) (sized_by result size.new) out.old out.new }
+    ensures short { (result ≡ short) ↔ IsShort size.new out.old }
+    ensures number { IsSizeNumber result }
+    ensures refused { IfErr (sized_by result size.new) (λ _. size.new ≡ 0) }
+{
+    let laid = lay_on_path(alloc, PathChange::Create, path, at, out);
+    sized(laid, out.len(), size)
+}
+
+/// The entry of a file that is taken out. How many bytes it has goes to `size`; they are written where the buffer has
+/// room for all of them.
+#[unsafe(no_mangle)]
+pub extern "C" fn doorvervain_raw_log_unlink(
+    alloc: Global,
+    path: &[u8],
+    at: u64,
+    out: &mut [u8],
+    size: &mut usize,
+) -> u8
+    ensures change { Lays (asked (λ p. change.OnPath on.Unlink p at) (parsed path.now)) (sized_by result size.new) out.old out.new }
+    ensures short { (result ≡ short) ↔ IsShort size.new out.old }
+    ensures number { IsSizeNumber result }
+    ensures refused { IfErr (sized_by result size.new) (λ _. size.new ≡ 0) }
+{
+    let laid = lay_on_path(alloc, PathChange::Unlink, path, at, out);
+    sized(laid, out.len(), size)
+}
+
+/// The entry of an empty directory that is taken out. How many bytes it has goes to `size`; they are written where the buffer has
+/// room for all of them.
+#[unsafe(no_mangle)]
+pub extern "C" fn doorvervain_raw_log_rmdir(
+    alloc: Global,
+    path: &[u8],
+    at: u64,
+    out: &mut [u8],
+    size: &mut usize,
+) -> u8
+    ensures change { Lays (asked (λ p. change.OnPath on.Rmdir p at) (parsed path.now)) (sized_by result size.new) out.old out.new }
+    ensures short { (result ≡ short) ↔ IsShort size.new out.old }
+    ensures number { IsSizeNumber result }
+    ensures refused { IfErr (sized_by result size.new) (λ _. size.new ≡ 0) }
+{
+    let laid = lay_on_path(alloc, PathChange::Rmdir, path, at, out);
+    sized(laid, out.len(), size)
+}
+
+/// The entry of what is taken out with all below it. How many bytes it has goes to `size`; they are written where the buffer has
+/// room for all of them.
+#[unsafe(no_mangle)]
+pub extern "C" fn doorvervain_raw_log_rmtree(
+    alloc: Global,
+    path: &[u8],
+    at: u64,
+    out: &mut [u8],
+    size: &mut usize,
+) -> u8
+    ensures change { Lays (asked (λ p. change.OnPath on.Rmtree p at) (parsed path.now)) (sized_by result size.new) out.old out.new }
+    ensures short { (result ≡ short) ↔ IsShort size.new out.old }
+    ensures number { IsSizeNumber result }
+    ensures refused { IfErr (sized_by result size.new) (λ _. size.new ≡ 0) }
+{
+    let laid = lay_on_path(alloc, PathChange::Rmtree, path, at, out);
+    sized(laid, out.len(), size)
+}
+
+/// The entry of a move from the first path to the second. How many bytes it has goes to `size`; they are written where the buffer has
+/// room for all of them.
+#[unsafe(no_mangle)]
+pub extern "C" fn doorvervain_raw_log_rename(
+    alloc: Global,
+    old: &[u8],
+    new: &[u8],
+    at: u64,
+    out: &mut [u8],
+    size: &mut usize,
+) -> u8
+    ensures change { Lays (moved at (parsed old.now) (parsed new.now)) (sized_by result size.new) out.old out.new }
+    ensures short { (result ≡ short) ↔ IsShort size.new out.old }
+    ensures number { IsSizeNumber result }
+    ensures refused { IfErr (sized_by result size.new) (λ _. size.new ≡ 0) }
+{
+    let laid = lay_rename(alloc, old, new, at, out);
+    sized(laid, out.len(), size)
+}
+
+/// The entry of a file that is cut or lengthened to so many bytes. How many bytes it has goes to `size`; they are written where the buffer has
+/// room for all of them.
+#[unsafe(no_mangle)]
+pub extern "C" fn doorvervain_raw_log_truncate(
+    alloc: Global,
+    path: &[u8],
+    length: u64,
+    at: u64,
+    out: &mut [u8],
+    size: &mut usize,
+) -> u8
+    ensures change { Lays (asked (λ p. change.Truncate p length at) (parsed path.now)) (sized_by result size.new) out.old out.new }
+    ensures short { (result ≡ short) ↔ IsShort size.new out.old }
+    ensures number { IsSizeNumber result }
+    ensures refused { IfErr (sized_by result size.new) (λ _. size.new ≡ 0) }
+{
+    let laid = lay_truncate(alloc, path, length, at, out);
+    sized(laid, out.len(), size)
+}
+
+/// The entry of bytes that are laid over a file from the offset on. How many bytes it has goes to `size`; they are written where the buffer has
+/// room for all of them.
+#[unsafe(no_mangle)]
+pub extern "C" fn doorvervain_raw_log_write(
+    alloc: Global,
+    path: &[u8],
+    offset: u64,
+    bytes: &[u8],
+    at: u64,
+    out: &mut [u8],
+    size: &mut usize,
+) -> u8
+    ensures change { Lays (asked (λ p. change.Write p offset bytes.now at) (parsed path.now)) (sized_by result size.new) out.old out.new }
+    ensures short { (result ≡ short) ↔ IsShort size.new out.old }
+    ensures number { IsSizeNumber result }
+    ensures refused { IfErr (sized_by result size.new) (λ _. size.new ≡ 0) }
+{
+    let laid = lay_write(alloc, path, offset, bytes, at, out);
+    sized(laid, out.len(), size)
+}
+
+/// The entry of a hole of so many bytes from the offset on. How many bytes it has goes to `size`; they are written where the buffer has
+/// room for all of them.
+#[unsafe(no_mangle)]
+pub extern "C" fn doorvervain_raw_log_punch(
+    alloc: Global,
+    path: &[u8],
+    offset: u64,
+    count: u64,
+    at: u64,
+    out: &mut [u8],
+    size: &mut usize,
+) -> u8
+    ensures change { Lays (asked (λ p. change.Punch p offset count at) (parsed path.now)) (sized_by result size.new) out.old out.new }
+    ensures short { (result ≡ short) ↔ IsShort size.new out.old }
+    ensures number { IsSizeNumber result }
+    ensures refused { IfErr (sized_by result size.new) (λ _. size.new ≡ 0) }
+{
+    let laid = lay_punch(alloc, path, offset, count, at, out);
+    sized(laid, out.len(), size)
+}
+
+/// The entry of a snapshot that is taken. How many bytes it has goes to `size`; they are written where the buffer has
+/// room for all of them.
+#[unsafe(no_mangle)]
+pub extern "C" fn doorvervain_raw_log_snapshot(
+    alloc: Global,
+    name: &[u8],
+    out: &mut [u8],
+    size: &mut usize,
+) -> u8
+    ensures change { Lays (asked (λ s. change.Keep keeping.Snapshot s) (snap_parsed name.now)) (sized_by result size.new) out.old out.new }
+    ensures short { (result ≡ short) ↔ IsShort size.new out.old }
+    ensures number { IsSizeNumber result }
+    ensures refused { IfErr (sized_by result size.new) (λ _. size.new ≡ 0) }
+{
+    let laid = lay_keep(alloc, Keeping::Snapshot, name, out);
+    sized(laid, out.len(), size)
+}
+
+/// The entry of a snapshot that is removed. How many bytes it has goes to `size`; they are written where the buffer has
+/// room for all of them.
+#[unsafe(no_mangle)]
+pub extern "C" fn doorvervain_raw_log_drop(
+    alloc: Global,
+    name: &[u8],
+    out: &mut [u8],
+    size: &mut usize,
+) -> u8
+    ensures change { Lays (asked (λ s. change.Keep keeping.Remove s) (snap_parsed name.now)) (sized_by result size.new) out.old out.new }
+    ensures short { (result ≡ short) ↔ IsShort size.new out.old }
+    ensures number { IsSizeNumber result }
+    ensures refused { IfErr (sized_by result size.new) (λ _. size.new ≡ 0) }
+{
+    let laid = lay_keep(alloc, Keeping::Remove, name, out);
+    sized(laid, out.len(), size)
+}
+
+/// The entry of a snapshot that is restored. How many bytes it has goes to `size`; they are written where the buffer has
+/// room for all of them.
+#[unsafe(no_mangle)]
+pub extern "C" fn doorvervain_raw_log_restore(
+    alloc: Global,
+    name: &[u8],
+    out: &mut [u8],
+    size: &mut usize,
+) -> u8
+    ensures change { Lays (asked (λ s. change.Keep keeping.Restore s) (snap_parsed name.now)) (sized_by result size.new) out.old out.new }
+    ensures short { (result ≡ short) ↔ IsShort size.new out.old }
+    ensures number { IsSizeNumber result }
+    ensures refused { IfErr (sized_by result size.new) (λ _. size.new ≡ 0) }
+{
+    let laid = lay_keep(alloc, Keeping::Restore, name, out);
+    sized(laid, out.len(), size)
+}
+
+/// What stands round the body of a record of this number: 24 bytes before it, and 32 behind it. How many bytes these are goes to `size`;
+/// they are written where the buffer has room for all of them.
+#[unsafe(no_mangle)]
+pub extern "C" fn doorvervain_raw_log_ends(
+    alloc: Global,
+    number: u64,
+    body: &[u8],
+    out: &mut [u8],
+    size: &mut usize,
+) -> u8
+    ensures ends { LaysBytes (front number (length body.now) ++ digest number body.now) (sized_by result size.new) out.old out.new }
+    ensures memory { IfErr (sized_by result size.new) (λ e. e ≡ ENOMEM) }
+    ensures short { (result ≡ short) ↔ IsShort size.new out.old }
+    ensures number { IsSizeNumber result }
+    ensures refused { IfErr (sized_by result size.new) (λ _. size.new ≡ 0) }
+{
+    let laid = lay_ends(alloc, number, body, out);
+    sized(laid, out.len(), size)
+}
+
+/// How many bytes the body has of the record of this number with which a log begins. They stand 24 bytes behind the log's beginning, and the
+/// next record 32 bytes behind them. ENOENT where the log begins with no such record.
+#[unsafe(no_mangle)]
+pub extern "C" fn doorvervain_raw_log_next(log: &[u8], number: u64, size: &mut usize) -> u8
+    ensures record { FindsRecord number log.now (told_by result size.new) }
+    ensures number { IsNumber result }
+    ensures refused { IfErr (told_by result size.new) (λ _. size.new ≡ 0) }
+{
+    let found = match next_record(log, number) {
+        Some((body, _)) => Ok(body.len()),
+        None => Err(Errno::ENOENT),
+    };
+    count(found, size)
+}
+
+/// Does the changes of the body of a record. Of those before the one that was refused, `done` tells how many there are; it is 0 where none was
+/// refused, and where the body was not read, which is EINVAL or ENOMEM.
+#[unsafe(no_mangle)]
+pub extern "C" fn doorvervain_raw_log_run(
+    alloc: Global,
+    fs: &mut Handle,
+    body: &[u8],
+    done: &mut usize,
+) -> u8
+    ensures run { RunsBody body.now (stopped_told result done.new) fs.old.volume fs.new.volume }
+    ensures number { IsNumber result }
+{
+    tell(run_body(alloc, fs.volume(), body).err(), done)
+}
+
+/// Does the changes of a log's records, of which the first has this number, as far as they count: `records` tells how many were done, and `size`
+/// how many bytes they take. Where a change was refused, `done` tells how many of its record were done. EINVAL, with nothing
+/// done, where the number is so great that the log's would pass 2^64.
+#[unsafe(no_mangle)]
+pub extern "C" fn doorvervain_raw_log_replay(
+    alloc: Global,
+    fs: &mut Handle,
+    log: &[u8],
+    number: u64,
+    records: &mut usize,
+    done: &mut usize,
+    size: &mut usize,
+) -> u8
+    ensures replayed { ReplaysTold number log.now result records.new done.new size.new fs.old.volume fs.new.volume }
+    ensures number { IsNumber result }
+{
+    if number > u64::MAX - log.len() as u64 {
+        *records = 0;
+        *done = 0;
+        *size = 0;
+        return Errno::EINVAL.number();
+    }
+    let told = replay(alloc, fs.volume(), log, number);
+    *records = told.records;
+    *size = told.size;
+    tell(told.stopped, done)
+}
+
+// The number of a run, and how many changes were done before the one that was refused.
+fn tell(stopped: Option<Stopped>, done: &mut usize) -> u8
+    ensures told { MatchOption stopped ((told result ≡ Ok tt) × (done.new ≡ 0)) (λ s. (told result ≡ Err s.fault) × (done.new ≡ s.done)) }
+    ensures number { IsNumber result }
+{
+    match stopped {
+        None => {
+            *done = 0;
+            number(Ok(()))
+        }
+        Some(stopped) => {
+            *done = stopped.done;
+            number(Err(stopped.fault))
+        }
+    }
+}

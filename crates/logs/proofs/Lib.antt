@@ -1,0 +1,4 @@
+pub mod Cuts
+pub mod Changes
+pub mod Bodies
+pub mod Logs

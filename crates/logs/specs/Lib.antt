@@ -1,0 +1,4 @@
+pub mod Entries
+pub mod Lays
+pub mod Records
+pub mod Laws

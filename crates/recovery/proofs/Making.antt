@@ -1,0 +1,55 @@
+-- A change that a volume was asked for is done, or refused, as each world that it meant says.
+use Rattle.std.proofs.Common.{◌≡◌, ◌⊎◌, ⊎_elim, inl, inr, ℕ, List, [], ◌∷◌, true, false, Bool, cond, refl, ap, sym, subst, ◌∙◌, Option, Some, None, Result, Ok, Err, IfErr}
+use Rattle.pathkey.specs.declared.errno.Errno.{Errno}
+use Rattle.pathkey.specs.declared.errno.Errno.TheVariants.{ENOMEM}
+use Rattle.reference.specs.Worlds.{World, Event, Ask, TakeSnapshot, DropSnapshot, RestoreSnapshot, Answer, Replied, Settled, Fits, MayLack, is_lack, next, outcome}
+use Rattle.reference.specs.declared.reply.Reply.{Reply}
+use Rattle.reference.specs.declared.reply.Reply.TheVariants.{Done, Count, Data, Stat, Names, Fault}
+use Rattle.volume.specs.Volumes.{PVolume, Means}
+use Rattle.logs.specs.declared.change.Change.{Change}
+use Rattle.recovery.specs.Runs.{IsRefused, Makes, Reaches, event_in, fault_in, fault_of}
+
+lack_told : (w : World) (e : Event) (a : Answer) → MayLack w e a → fault_of a ≡ Some ENOMEM
+lack_told w (Ask c at) a h = ap fault_of h
+lack_told w (TakeSnapshot s) a h = ap fault_of h.0
+lack_told w (DropSnapshot s) a h = absurd h
+lack_told w (RestoreSnapshot s) a h = ap fault_of h.0
+
+no_lack : (a : Answer) → fault_of a ≡ None → is_lack a ≡ false
+no_lack (Replied Done) h = refl
+no_lack (Replied (Count n)) h = refl
+no_lack (Replied (Data b)) h = refl
+no_lack (Replied (Stat k n at)) h = refl
+no_lack (Replied (Names es)) h = refl
+no_lack (Replied (Fault e)) h = cc
+no_lack (Settled (Ok u)) h = refl
+no_lack (Settled (Err e)) h = cc
+
+-- the answer fits each world that the volume meant, and it now means the next one
+pub Answers : Change → Answer → PVolume → PVolume → Type 0
+Answers c a old new = (w : World) → Means old w → Fits w (event_in w c) a × Means new (next w (event_in w c) a)
+
+pub answers_from : (c : Change) (a : Answer) (old new : PVolume) → ((w : World) → Means old w → Fits w (event_in w c) a × Means new (next w (event_in w c) a)) → Answers c a old new
+unfolding Answers
+answers_from c a old new h = h
+
+pub done_from : (c : Change) (a : Answer) (old new : PVolume) → Answers c a old new → fault_of a ≡ None → Reaches (c ∷ []) old new
+unfolding Answers
+done_from c a old new h good = λ w m.
+    let both = h w m in
+    let now : Means new (outcome w (event_in w c)).0 = subst (λ (t : Bool). Means new (cond t w (outcome w (event_in w c)).0)) (no_lack a good) both.1 in
+    ((⊎_elim
+    (λ (e : a ≡ (outcome w (event_in w c)).1). ap fault_of (sym e) ∙ good)
+    (λ (l : MayLack w (event_in w c) a). absurd (let told = lack_told w (event_in w c) a l in cc))
+    both.0, tt), now)
+
+pub refused_from : (c : Change) (a : Answer) (e : Errno) (old new : PVolume) → Answers c a old new → fault_of a ≡ Some e → IsRefused c e old
+unfolding Answers
+refused_from c a e old new h bad = λ w m. ⊎_elim
+    (λ (same : a ≡ (outcome w (event_in w c)).1). inl (ap fault_of (sym same) ∙ bad))
+    (λ (l : MayLack w (event_in w c) a). inr (let told = lack_told w (event_in w c) a l in cc))
+    (h w m).0
+
+pub settled_makes : (c : Change) (r : Result (Unit {0}) Errno) (old new : PVolume) → Answers c (Settled r) old new → IfErr r (λ _. new ≡ old) → Makes c r old new
+settled_makes c (Ok u) old new h kept = done_from c (Settled (Ok u)) old new h refl
+settled_makes c (Err e) old new h kept = (kept, refused_from c (Settled (Err e)) e old new h refl)

@@ -1,0 +1,36 @@
+-- What is told of a log that was replayed.
+use Rattle.std.specs.Prelude.{◌≡◌, ◌⊎◌, ◌+◌, ◌^◌, ◌<◌, ◌≤◌, ℕ, List, [], ◌∷◌, ◌++◌, length, map, flat_map, Option, Some, None, Result, Ok, Err, ⊤}
+use Rattle.pathkey.specs.declared.errno.Errno.{Errno}
+use Rattle.pathkey.specs.declared.errno.Errno.TheVariants.{EINVAL}
+use Rattle.logs.specs.Entries.{body_of}
+use Rattle.logs.specs.Records.{AreBodies, Counts, LacksRecord, record_of, written}
+use Rattle.logs.specs.declared.change.Change.{Change}
+use Rattle.volume.specs.Volumes.{PVolume}
+use Rattle.recovery.specs.Runs.{Reaches, RunsBody}
+use Rattle.recovery.specs.declared.replay.Replayed.{Replayed}
+use Rattle.recovery.specs.declared.stopped.Stopped.{Stopped}
+
+-- all changes of requests, in their order
+abbrev pub all_of : List (List Change) → List Change
+all_of css = flat_map (λ cs. cs) css
+
+-- the bodies of the requests' records
+abbrev pub bodies : List (List Change) → List (List ℕ)
+bodies css = map body_of css
+
+-- behind the records that were done no record more counts; or that of the next number was not done
+abbrev pub Ends : ℕ → List ℕ → Option Stopped → PVolume → PVolume → Type 0
+Ends n rest None old new = LacksRecord n rest × (new ≡ old)
+Ends n rest (Some s) old new = (body : List ℕ) × (behind : List ℕ) × (rest ≡ record_of n body ++ behind) × RunsBody body (Err s) old new
+
+-- the first records of a log were done, which are those of these requests
+pub record Replays (n : ℕ) (log : List ℕ) (told : Replayed) (old new : PVolume) : Type 0 where
+  pub css : List (List Change)
+  pub rest : List ℕ
+  pub between : PVolume
+  pub is : log ≡ written n (bodies css) ++ rest
+  pub fit : AreBodies (bodies css)
+  pub records : told.records ≡ length css
+  pub size : told.size ≡ length (written n (bodies css))
+  pub reaches : Reaches (all_of css) old between
+  pub ends : Ends (n + length css) rest told.stopped between new

@@ -1,0 +1,66 @@
+//! Does one change of a log.
+ghost use Rattle.volume.specs.Typed.{replied};
+ghost use Rattle.reference.specs.declared.reply.Reply.TheVariants.{Done};
+ghost use Rattle.volume.specs.Changes.{Called};
+ghost use Rattle.std.specs.Prelude.{◌≡◌};
+ghost use Rattle.recovery.specs.Runs.{Makes, call_at};
+
+use logs::{Change, Keeping, PathChange};
+use pathkey::{Errno, Path, SnapName};
+use std::alloc::Global;
+use volume::Volume;
+
+// Does a change.
+pub(crate) fn make(alloc: Global, volume: &mut Volume, change: &Change) -> Result<(), Errno>
+    ensures { Makes change.now result volume.old volume.new }
+{
+    match change {
+        Change::OnPath(what, path, at) => make_on_path(alloc, volume, *what, path, *at),
+        Change::Rename(old, new, at) => volume.rename(alloc, old, new, *at),
+        Change::Truncate(path, length, at) => volume.truncate(alloc, path, *length, *at),
+        Change::Write(path, offset, bytes, at) => {
+            volume.write(alloc, path, *offset, bytes.as_slice(), *at)?;
+            Ok(())
+        }
+        Change::Punch(path, offset, count, at) => {
+            volume.punch(alloc, path, *offset, *count, *at)?;
+            Ok(())
+        }
+        Change::Keep(what, name) => keep(alloc, volume, *what, name),
+    }
+}
+
+// Makes or takes out what stands at a path.
+fn make_on_path(
+    alloc: Global,
+    volume: &mut Volume,
+    what: PathChange,
+    path: &Path,
+    at: u64,
+) -> Result<(), Errno>
+    ensures { Called (call_at what path.now) at (replied (λ _. Done) result) volume.old volume.new }
+{
+    match what {
+        PathChange::Mkdir => volume.mkdir(alloc, path, at),
+        PathChange::Create => volume.create(alloc, path, at),
+        PathChange::Unlink => volume.unlink(alloc, path, at),
+        PathChange::Rmdir => volume.rmdir(alloc, path, at),
+        PathChange::Rmtree => volume.rmtree(alloc, path, at),
+    }
+}
+
+// Keeps, removes or restores a snapshot.
+fn keep(
+    alloc: Global,
+    volume: &mut Volume,
+    what: Keeping,
+    name: &SnapName,
+) -> Result<(), Errno>
+    ensures { Makes (Change.Keep what name.now) result volume.old volume.new }
+{
+    match what {
+        Keeping::Snapshot => volume.snapshot(alloc, name),
+        Keeping::Remove => volume.drop_snapshot(name),
+        Keeping::Restore => volume.restore(name),
+    }
+}
