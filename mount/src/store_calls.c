@@ -3,7 +3,7 @@
 #include <string.h>
 
 // What an entry takes beside its texts.
-enum { ENTRY = 48 };
+enum { ENTRY = DOORVERVAIN_LOG_ENTRY };
 
 static const uint8_t *text(const char *word) { return (const uint8_t *)word; }
 

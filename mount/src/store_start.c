@@ -13,7 +13,8 @@
 
 // A log's bytes, and how far its records are whole.
 struct log {
-    uint64_t number, records;
+    uint64_t number;
+    size_t records;
     int file;
     const char *bytes;
     size_t length, whole;
@@ -46,18 +47,18 @@ static void close_log_file(struct log *log) {
 
 // Runs the records that lie whole in front, one after the other.
 static int run_log(const struct store *store, struct log *log) {
-    uint64_t call = 0;
+    size_t call = 0;
     int fault =
         doorvervain_errno(doorvervain_log_replay(store->volume, (const uint8_t *)log->bytes, log->length,
                                                  store_record(log->number, 0), &log->records, &call, &log->whole));
     if (fault)
-        store_say(store, "log.%" PRIu64 ": call %" PRIu64 " of record %" PRIu64 ", at byte %zu, is not done: %s",
-                  log->number, call, log->records, log->whole, strerror(fault));
+        store_say(store, "log.%" PRIu64 ": call %zu of record %zu, at byte %zu, is not done: %s", log->number, call,
+                  log->records, log->whole, strerror(fault));
     return fault;
 }
 
 static int say_damage(const struct store *store, const struct log *log) {
-    store_say(store, "log.%" PRIu64 ": record %" PRIu64 ", at byte %zu, was on the disk and is damaged", log->number,
+    store_say(store, "log.%" PRIu64 ": record %zu, at byte %zu, was on the disk and is damaged", log->number,
               log->records, log->whole);
     return EINVAL;
 }
@@ -69,7 +70,7 @@ static int try_end(const struct store *store, const struct log *log, bool is_las
     if (!is_last ||
         calls_find_mark(log->bytes + log->whole, log->length - log->whole, store_record(log->number, log->records)))
         return say_damage(store, log);
-    store_say(store, "log.%" PRIu64 ": record %" PRIu64 ", at byte %zu, is not whole, and is cut off with %zu bytes",
+    store_say(store, "log.%" PRIu64 ": record %zu, at byte %zu, is not whole, and is cut off with %zu bytes",
               log->number, log->records, log->whole, log->length - log->whole);
     return 0;
 }
