@@ -3,6 +3,7 @@
 #include "store.h"
 #include "aside.h"
 #include "requests.h"
+#include "room.h"
 #include "store_calls.h"
 #include "store_inside.h"
 #include <errno.h>
@@ -11,7 +12,7 @@
 #include <time.h>
 #include <unistd.h>
 
-enum { SECONDS_BETWEEN = 5, ENOUGH_TO_WRITE = 1 << 20, MOST_WAITING = 16 << 20 };
+enum { SECONDS_BETWEEN = 5, ENOUGH_TO_WRITE = 1 << 20, MOST_WAITING = 32 << 20 };
 
 // ---- calls that change something
 
@@ -128,23 +129,29 @@ int store_end_calls(struct store *store) {
     return bytes_append(&queue->ends, &queue->calls.length, sizeof queue->calls.length);
 }
 
-// The log is long: the keeper is not to sleep on. An image has no snapshot: so where one stands the log goes on.
+// Calls wait to be written, or an image is due: the keeper is not to sleep on.
 static void wake_keeper(struct store *store) {
-    if (store->snapshots || store->fault || store->logged < store->enough || !store->is_kept) return;
+    if (!store->is_kept || store->is_wanted) return;
     pthread_mutex_lock(&store->waiting);
     store->is_wanted = true;
     pthread_cond_signal(&store->wakes);
     pthread_mutex_unlock(&store->waiting);
 }
 
-// Where the keeper writes, it need not be waited for, until too much waits.
+// An image has no snapshot: so where one stands the log goes on.
+static void ask_for_image(struct store *store) {
+    if (!store->snapshots && !store->fault && store->logged >= store->enough) wake_keeper(store);
+}
+
+// The keeper makes records of the calls and writes them, on another processor. Where it is too slow, it is waited for.
 static void spill(struct store *store) {
-    bool is_free = !pthread_mutex_trylock(&store->writing);
-    if (!is_free && store->queue.calls.length < MOST_WAITING) return;
-    if (!is_free) pthread_mutex_lock(&store->writing);
+    if (store->is_kept && store->queue.calls.length < store->most_waiting) {
+        wake_keeper(store);
+        return;
+    }
+    pthread_mutex_lock(&store->writing);
     store_take(store);
     store_write_taken(store);
-    wake_keeper(store);
     pthread_mutex_unlock(&store->writing);
 }
 
@@ -152,7 +159,7 @@ static int sync_all(struct store *store) {
     pthread_mutex_lock(&store->writing);
     store_take(store);
     int fault = store_sync_taken(store);
-    wake_keeper(store);
+    ask_for_image(store);
     pthread_mutex_unlock(&store->writing);
     return fault;
 }
@@ -193,38 +200,55 @@ int store_snapshots(struct store *store, struct bytes *out) {
 
 // ---- the keeper
 
-// Brings what was answered onto the disk, and holds requests up only while it takes that out of their way.
-static void sync_in_time(struct store *store) {
+// Writes what was answered, and brings it onto the disk where that is due. Requests are held up only while it is taken
+// out of their way.
+static void write_in_time(struct store *store, bool syncs) {
     requests_pause();
-    aside_settle(store->mount);
+    if (syncs) aside_settle(store->mount);
     int fault = store_end_calls(store);
     pthread_mutex_lock(&store->writing);
     store_take(store);
     requests_go_on();
-    if (!fault) store_sync_taken(store);
+    if (!fault && syncs) store_sync_taken(store);
+    else if (!fault) store_write_taken(store);
     pthread_mutex_unlock(&store->writing);
 }
 
-// Sleeps until it is time or an image is due, and says whether the end has come meanwhile.
-static bool sleep_or_end(struct store *store) {
-    struct timespec until;
-    clock_gettime(CLOCK_MONOTONIC, &until);
-    until.tv_sec += SECONDS_BETWEEN;
-    pthread_mutex_lock(&store->waiting);
-    int fault = 0;
-    while (!store->ends && !store->is_wanted && fault != ETIMEDOUT)
-        fault = pthread_cond_timedwait(&store->wakes, &store->waiting, &until);
+static bool is_past(const struct timespec *moment) {
+    struct timespec now;
+    clock_gettime(CLOCK_MONOTONIC, &now);
+    return now.tv_sec > moment->tv_sec || (now.tv_sec == moment->tv_sec && now.tv_nsec >= moment->tv_nsec);
+}
+
+static void set_next_sync(struct store *store) {
+    clock_gettime(CLOCK_MONOTONIC, &store->next_sync);
+    store->next_sync.tv_sec += SECONDS_BETWEEN;
+}
+
+// Does what is due.
+static void tend(struct store *store) {
+    bool syncs = is_past(&store->next_sync);
+    if (!syncs && !store->is_wanted) return;
     store->is_wanted = false;
-    bool ends = store->ends;
+    write_in_time(store, syncs);
+    if (syncs) set_next_sync(store);
+}
+
+// Sleeps until something is due, and says whether the end has come meanwhile.
+static bool sleep_or_end(struct store *store) {
+    int fault = 0;
+    pthread_mutex_lock(&store->waiting);
+    while (!store->ends && !store->is_wanted && fault != ETIMEDOUT)
+        fault = pthread_cond_timedwait(&store->wakes, &store->waiting, &store->next_sync);
     pthread_mutex_unlock(&store->waiting);
-    return ends;
+    return store->ends;
 }
 
 static void *keep(void *self) {
     struct store *store = self;
     while (!sleep_or_end(store)) {
-        sync_in_time(store);
-        if (store_is_long(store)) store_checkpoint(store, sync_in_time);
+        tend(store);
+        if (store_is_long(store)) store_checkpoint(store, tend);
     }
     return 0;
 }
@@ -232,6 +256,7 @@ static void *keep(void *self) {
 int store_keep(struct store *store, struct mount *mount) {
     pthread_condattr_t how;
     store->mount = mount;
+    set_next_sync(store);
     pthread_mutex_init(&store->waiting, 0);
     pthread_condattr_init(&how);
     pthread_condattr_setclock(&how, CLOCK_MONOTONIC);
@@ -285,12 +310,19 @@ static const struct way store_way = {
     store_list,   store_keep_name, store_punch,    store_data,  store_relieve, store_close,
 };
 
+// A part of the memory that the tree may take.
+static size_t most_waiting(void) {
+    uint64_t part = room_now().size / 16;
+    return part < MOST_WAITING ? (size_t)part : MOST_WAITING;
+}
+
 int store_open(const struct making *making, struct volume *volume, struct store **out) {
     struct store *store = calloc(1, sizeof *store);
     if (!store) return ENOMEM;
     pthread_mutex_init(&store->writing, 0);
     store->syncs_each = making->syncs_each;
     store->log_size = making->log_size;
+    store->most_waiting = most_waiting();
     int fault = store_lock(store, making->store);
     if (!fault) fault = store_load(store, making, volume);
     if (fault) {

@@ -6,10 +6,9 @@
 #include <inttypes.h>
 #include <stdio.h>
 #include <string.h>
-#include <time.h>
 #include <unistd.h>
 
-enum { PIECE = 1 << 18, SECONDS_BETWEEN_SYNCS = 5 };
+enum { PIECE = 1 << 18 };
 
 // An image that is being written.
 struct writing {
@@ -82,15 +81,12 @@ static int put_piece(struct writing *writing, uint8_t *piece, size_t *size) {
 
 static int put_all(struct store *store, struct writing *writing, void (*meanwhile)(struct store *store)) {
     static uint8_t piece[PIECE];
-    time_t synced = time(0);
     size_t size = 1;
     int fault = 0;
     while (!fault && size) {
         fault = put_piece(writing, piece, &size);
+        if (meanwhile) meanwhile(store);
         if (!fault && meanwhile && store->ends) fault = ECANCELED;
-        if (!meanwhile || time(0) - synced < SECONDS_BETWEEN_SYNCS) continue;
-        meanwhile(store);
-        synced = time(0);
     }
     return fault;
 }

@@ -19,6 +19,7 @@ struct store {
     struct mount *mount;
     bool syncs_each;
     uint64_t log_size;
+    size_t most_waiting; // bytes of calls before the keeper is waited for
 
     // Under the lock of requests.
     struct queue queue;
@@ -43,7 +44,8 @@ struct store {
     bool is_kept;
     pthread_mutex_t waiting; // of the keeper's sleep
     pthread_cond_t wakes;
-    bool is_wanted; // an image is due
+    _Atomic bool is_wanted; // calls wait, or an image is due
+    struct timespec next_sync;
     _Atomic bool ends;
 };
 

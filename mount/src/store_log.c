@@ -7,7 +7,7 @@
 #include <string.h>
 #include <unistd.h>
 
-enum { WRITTEN_AT_ONCE = 1 << 20, RECORDS_OF_A_LOG = 40 };
+enum { WRITTEN_AT_ONCE = 1 << 20, ROOM_KEPT = 8 << 20, RECORDS_OF_A_LOG = 40 };
 
 uint64_t store_record(uint64_t log, uint64_t index) { return log << RECORDS_OF_A_LOG | index; }
 
@@ -45,7 +45,15 @@ static int put_record(struct store *store, const char *body, size_t length) {
 // whole knows that the disk lost it.
 static int put_mark(struct store *store) { return store->is_synced && store->records ? put_record(store, "", 0) : 0; }
 
-static void clear(struct queue *queue) { queue->calls.length = queue->ends.length = 0; }
+static void clear_bytes(struct bytes *bytes) {
+    if (bytes->room > ROOM_KEPT) bytes_free(bytes);
+    bytes->length = 0;
+}
+
+static void clear(struct queue *queue) {
+    clear_bytes(&queue->calls);
+    clear_bytes(&queue->ends);
+}
 
 void store_take(struct store *store) {
     struct queue empty = store->taken;
