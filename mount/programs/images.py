@@ -7,7 +7,7 @@ import subprocess
 import time
 from pathlib import Path
 
-from own_mount import MOUNT, OPTIONS, Mount, case, run_cases
+from own_mount import MOUNT, OPTIONS, Mount, case, record_case, run_cases
 
 LARGE = os.urandom(1 << 20) * 48
 
@@ -202,6 +202,37 @@ def what_a_mount_set_aside_in_an_image(folder: Path):
     assert own in mount.said()
     assert mount.end() == 0
     assert (folder / "next").read_text().splitlines()[1:] == []
+
+
+def most_memory(mount: Mount) -> int:
+    """The most that its process ever had, in bytes; 0 where it has ended."""
+    text = Path(f"/proc/{mount.process.pid}/status").read_text()
+    return sum(int(line.split()[1]) * 1024 for line in text.splitlines() if line.startswith("VmHWM"))
+
+
+def most_at_its_end(mount: Mount) -> int:
+    subprocess.run(["fusermount3", "-u", mount.point], check=True)
+    most = 0
+    while mount.process.poll() is None:
+        most = max(most, most_memory(mount))
+        time.sleep(0.01)
+    assert mount.process.returncode == 0, mount.said()
+    return most
+
+
+@record_case
+def an_image_takes_no_memory_for_its_text(folder: Path):
+    if "sanitized" in MOUNT:
+        return
+    file = folder / "image"
+    mount = Mount(folder, "--image", file)
+    (mount.point / "large").write_bytes(LARGE)
+    most = most_memory(mount) + len(LARGE) // 4
+    assert most_at_its_end(mount) < most < file.stat().st_size
+    mount = Mount(folder, "--load", file)
+    assert most_memory(mount) < most
+    assert (mount.point / "large").read_bytes() == LARGE
+    assert mount.end() == 0, mount.said()
 
 
 run_cases()
