@@ -97,8 +97,9 @@ int main(int count, char **words) {
     static struct options options;
     int status = read_options(count, words, &options);
     if (status) return status;
-    if (options.helps) {
-        print_help();
+    if (options.helps || options.tells_version) {
+        if (options.helps) print_help();
+        else print_version();
         return 0;
     }
     options.mount_point = full_path(options.mount_point);

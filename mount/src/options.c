@@ -22,12 +22,13 @@ static const char help[] =
     "                  written (64M)\n"
     "  --size N        lets the tree take N bytes of memory, with K, M or G behind N, and at least 16M; an eighth is kept\n"
     "                  for removals. Not with --pipe\n"
-    "  --log NAME      puts every call in NAME.in, as a script, and every reply in NAME.out\n"
+    "  --record NAME   puts every call in NAME.in, as a script, and every reply in NAME.out, new files, for tests\n"
     "  --steps N       does N tree steps behind every 16 changes, 0 to 1000 (4)\n"
     "  --trust         lets owners, set-user bits and devices of the tree hold, also those of a FILE that is loaded; for\n"
     "                  root alone\n"
     "  --allow-other   lets other users in, by the modes of files\n"
     "  --foreground    does not go into the background\n"
+    "  --version       prints its release\n"
     "  --help          prints this\n"
     "\n"
     "mkdir MNT/.snapshots/NAME takes a snapshot, and rmdir of that folder drops it. What is below it is read-only.\n"
@@ -36,15 +37,32 @@ static const char help[] =
 
 void print_help(void) { fputs(help, stdout); }
 
+#ifdef UNPROVED
+#define OF_ITS_LIBRARY ", over a library of which nothing is proved"
+#else
+#define OF_ITS_LIBRARY ""
+#endif
+
+void print_version(void) { puts("doorvervain-mount " DOORVERVAIN_VERSION OF_ITS_LIBRARY); }
+
 static const struct option known[] = {
-    {"pipe", required_argument, 0, 'p'},     {"load", required_argument, 0, 'l'},
-    {"image", required_argument, 0, 'i'},    {"log", required_argument, 0, 'g'},
-    {"steps", required_argument, 0, 's'},    {"restore", required_argument, 0, 'r'},
-    {"store", required_argument, 0, 'd'},    {"sync", no_argument, 0, 'y'},
-    {"log-size", required_argument, 0, 'o'}, {"size", required_argument, 0, 'z'},
-    {"unmount", no_argument, 0, 'u'},        {"allow-other", no_argument, 0, 'a'},
-    {"foreground", no_argument, 0, 'f'},     {"trust", no_argument, 0, 't'},
-    {"help", no_argument, 0, 'h'},           {0},
+    {"pipe", required_argument, 0, 'p'},
+    {"load", required_argument, 0, 'l'},
+    {"image", required_argument, 0, 'i'},
+    {"record", required_argument, 0, 'g'},
+    {"steps", required_argument, 0, 's'},
+    {"restore", required_argument, 0, 'r'},
+    {"store", required_argument, 0, 'd'},
+    {"sync", no_argument, 0, 'y'},
+    {"log-size", required_argument, 0, 'o'},
+    {"size", required_argument, 0, 'z'},
+    {"unmount", no_argument, 0, 'u'},
+    {"allow-other", no_argument, 0, 'a'},
+    {"foreground", no_argument, 0, 'f'},
+    {"trust", no_argument, 0, 't'},
+    {"help", no_argument, 0, 'h'},
+    {"version", no_argument, 0, 'v'},
+    {0},
 };
 
 static int refuse(const char *text, const char *word) {
@@ -100,6 +118,7 @@ static int read_option(int letter, struct options *out) {
     case 't': out->trusts = true; return 0;
     case 'f': out->stays = true; return 0;
     case 'h': out->helps = true; return 0;
+    case 'v': out->tells_version = true; return 0;
     default: return 2;
     }
 }
@@ -108,7 +127,7 @@ int read_options(int count, char **words, struct options *out) {
     int letter, fault = 0;
     *out = (struct options){.making.steps = 4, .making.log_size = (uint64_t)64 << 20};
     while (!fault && (letter = getopt_long(count, words, "h", known, 0)) != -1) fault = read_option(letter, out);
-    if (fault || out->helps) return fault;
+    if (fault || out->helps || out->tells_version) return fault;
     if (optind + 1 != count) return refuse("one folder to mount on is wanted", "");
     if (out->making.store && (out->making.betr || out->making.image || out->image))
         return refuse("--store does not go with --pipe, --load or --image", "");
