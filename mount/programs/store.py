@@ -125,6 +125,66 @@ def nor_one_whose_timer_came(folder: Path):
     end_well(again)
 
 
+def kill_under(folder: Path, command: str, seconds: float) -> None:
+    """Kills the mount while a program works in it, which writes down in the folder what was answered."""
+    mount = store_mount(folder, "--log-size", "200K")
+    assert mount.stands, mount.said()
+    words = ["bash", "-c", command, "bash", folder / "answered"]
+    with subprocess.Popen(words, cwd=mount.point, stdout=subprocess.DEVNULL, stderr=subprocess.DEVNULL) as works:
+        time.sleep(seconds)
+        kill(mount)
+        works.wait()
+
+
+def output(*words, **named) -> str:
+    return subprocess.run(words, capture_output=True, text=True, check=True, **named).stdout
+
+
+# git syncs what it renames, and not the folder in which it does so.
+COMMITS = """
+    [ -d .git ] || git -c init.defaultBranch=main init -q .
+    rm -f .git/*.lock .git/*/*.lock .git/refs/heads/*.lock
+    while date +%N > "file$((RANDOM % 50))" && git add -A && git -c core.fsync=all commit -qm more; do
+        sync .git/refs/heads && git rev-parse HEAD >> "$1"
+    done
+"""
+
+
+@case
+def a_repository_of_git_is_whole_after_kills(folder: Path):
+    for _ in range(8):
+        kill_under(folder, COMMITS, WORKS.uniform(0.3, 2))
+        again = store_mount(folder)
+        if (again.point / ".git/HEAD").exists():
+            output("git", "fsck", "--full", "--strict", cwd=again.point)
+        answered = (folder / "answered").read_text().split() if (folder / "answered").exists() else []
+        for commit in answered[-5:]:
+            output("git", "merge-base", "--is-ancestor", commit, "HEAD", cwd=again.point)
+        end_well(again)
+
+
+# By itself sqlite does not sync the folder out of which it takes its journal.
+ROWS = """
+    sqlite3 data 'create table if not exists rows (number integer primary key, word text)' &&
+    for i in $(seq 1 100000); do
+        sqlite3 data "pragma synchronous=extra; insert into rows (word) values (hex(randomblob(2000))); select max(number) from rows" >> "$1" || exit
+    done
+"""
+
+
+@case
+def a_database_is_whole_after_kills(folder: Path):
+    for _ in range(8):
+        kill_under(folder, ROWS, WORKS.uniform(0.3, 2))
+        again, answered = store_mount(folder), folder / "answered"
+        if (again.point / "data").exists():
+            assert output("sqlite3", "data", "pragma integrity_check", cwd=again.point) == "ok\n"
+        rows = [int(it) for it in answered.read_text().split()] if answered.exists() else []
+        if rows:
+            assert int(output("sqlite3", "data", "select max(number) from rows", cwd=again.point)) >= rows[-1]
+        end_well(again)
+
+
 @case
 def all_that_a_tree_has_is_kept(folder: Path):
     mount = store_mount(folder)
@@ -278,7 +338,8 @@ class FailingDisk:
         self.control, self.synced = folder / "fails", folder / "synced"
         self.synced.mkdir()
         self.environment = {"LD_PRELOAD": str(library), "FAILING_STORE": str(folder / "store"),
-                            "FAILING_DISK": str(self.control), "FAILING_SYNCED": str(self.synced)}
+                            "FAILING_DISK": str(self.control), "FAILING_SYNCED": str(self.synced),
+                            "ASAN_OPTIONS": os.environ.get("ASAN_OPTIONS", "") + ":verify_asan_link_order=0"}
 
     def fail(self, what: str) -> None:
         self.control.write_text(what)
