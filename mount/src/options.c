@@ -11,7 +11,7 @@ static const char help[] =
     "\n"
     "  doorvervain-mount [OPTION..] MNT      mounts it on the folder MNT\n"
     "  doorvervain-mount --restore NAME MNT  makes the tree that is mounted on MNT that of its snapshot NAME\n"
-    "  doorvervain-mount --unmount MNT       takes it away, and waits until its image is whole; the status is the mount's\n"
+    "  doorvervain-mount --unmount MNT       takes it away, and waits until what it keeps is whole; the status is the mount's\n"
     "\n"
     "  --pipe BETR     speaks to the program BETR, in a process of its own, instead of the library\n"
     "  --load FILE     begins with the tree whose image is in FILE\n"
@@ -32,7 +32,7 @@ static const char help[] =
     "  --help          prints this\n"
     "\n"
     "mkdir MNT/.snapshots/NAME takes a snapshot, and rmdir of that folder drops it. What is below it is read-only.\n"
-    "No listing of MNT shows .snapshots. The tree lives in memory: what no image keeps is gone with the mount. An image\n"
+    "No listing of MNT shows .snapshots. The tree lives in memory: what no store or image keeps is gone with the mount. An image\n"
     "has modes, owners, links and extended attributes too, but for those of a mount with --pipe, which keeps none.\n";
 
 void print_help(void) { fputs(help, stdout); }

@@ -106,7 +106,7 @@ static int note_number(const struct store *store, const char *name, void *contex
 
 int store_numbers(const struct store *store, const char *kind, struct bytes *out) {
     int fault = each_name(store, note_number, &(struct wanted){kind, out});
-    if (!fault) qsort(out->at, out->length / sizeof(uint64_t), sizeof(uint64_t), compare);
+    if (!fault && out->length) qsort(out->at, out->length / sizeof(uint64_t), sizeof(uint64_t), compare);
     return fault;
 }
 

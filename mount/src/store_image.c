@@ -8,13 +8,13 @@
 #include <string.h>
 #include <unistd.h>
 
-enum { PIECE = 1 << 18 };
+enum { PIECE = 1 << 18, PIECES_SYNCED = 64 };
 
 // An image that is being written.
 struct writing {
     struct image image;
     struct doorvervain_printing printing;
-    uint64_t number, former_bytes, size;
+    uint64_t number, former_bytes, size, pieces;
     int former; // the log before it; -1: none was begun for it
 };
 
@@ -69,6 +69,12 @@ static int open_image(const struct store *store, struct writing *writing) {
     return fault ? fault : image_open(&writing->image, path);
 }
 
+// A little at a time, so that the last sync does not keep the log waiting for its own.
+static int sync_part(struct writing *writing) {
+    if (++writing->pieces % PIECES_SYNCED) return 0;
+    return fdatasync(writing->image.out) ? errno : 0;
+}
+
 // The lock of requests is held for a piece.
 static int put_piece(struct writing *writing, uint8_t *piece, size_t *size) {
     requests_pause();
@@ -76,7 +82,7 @@ static int put_piece(struct writing *writing, uint8_t *piece, size_t *size) {
     requests_go_on();
     if (!fault && *size) fault = image_put(&writing->image, (const char *)piece, *size);
     writing->size += *size;
-    return fault;
+    return fault ? fault : sync_part(writing);
 }
 
 static int put_all(struct store *store, struct writing *writing, void (*meanwhile)(struct store *store)) {
