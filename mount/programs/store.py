@@ -329,6 +329,55 @@ def a_tree_that_is_damaged_is_not_loaded(folder: Path):
     assert tree.exists()
 
 
+@case
+def a_log_that_is_missing_is_told(folder: Path):
+    mount = store_mount(folder, "--log-size", "1K")
+    fill(mount, 50)
+    sync(mount.point)
+    time.sleep(1)
+    end_well(mount)
+    log = logs(folder)[-1]
+    assert log.name != "log.0"
+    log.rename(folder / "elsewhere")
+    again = store_mount(folder)
+    assert not again.stands and f"{log.name} is missing" in again.said()
+    (folder / "elsewhere").rename(log)
+    assert names_after(folder) == {f"file{i}" for i in range(50)}
+
+
+@case
+def an_image_can_begin_a_store(folder: Path):
+    mount = Mount(folder, "--image", folder / "image")
+    (mount.point / "file").write_text("file")
+    end_well(mount)
+    (folder / "store").mkdir(mode=0o700)
+    (folder / "image").rename(folder / "store/tree.0")
+    again = store_mount(folder)
+    (again.point / "later").write_text("later")
+    end_well(again)
+    assert names_after(folder) == {"file", "later"}
+
+
+@case
+def snapshots_stand_again_and_hold_images_up(folder: Path):
+    mount = store_mount(folder, "--log-size", "10K")
+    (mount.point / ".snapshots/one").mkdir()
+    for i in range(20):
+        (mount.point / "file").write_bytes(bytes([i]) * 5000)
+        sync(mount.point)
+    time.sleep(0.5)
+    kill(mount)
+    assert [it.name for it in logs(folder)] == ["log.0"]
+    again = store_mount(folder, "--log-size", "10K")
+    assert os.listdir(again.point / ".snapshots/one") == []
+    (again.point / ".snapshots/one").rmdir()
+    sync(again.point)
+    time.sleep(1)
+    end_well(again)
+    assert [it.name for it in logs(folder)] == ["log.1"]
+    assert names_after(folder) == {"file"}
+
+
 class FailingDisk:
     """A disk below a store that fails when it is told to, and knows what was synced."""
 

@@ -140,19 +140,21 @@ static int run_all(struct store *store, struct logs *logs, uint64_t first) {
     return fault;
 }
 
-// The logs from the tree's number on, one for each number.
+static int say_missing(const struct store *store, uint64_t number) {
+    store_say(store, "log.%" PRIu64 " is missing", number);
+    return EINVAL;
+}
+
+// The logs from the tree's number on, one for each number. Only a tree 0 that was put there by hand has none.
 static int choose_logs(const struct store *store, const struct bytes *numbers, uint64_t first, struct bytes *out) {
     for (size_t i = 0; i < count_of(numbers); i++) {
         struct log log = {.number = number_at(numbers, i), .file = -1};
         if (log.number < first) continue;
         uint64_t wanted = first + out->length / sizeof log;
-        if (log.number != wanted) {
-            store_say(store, "log.%" PRIu64 " is missing", wanted);
-            return EINVAL;
-        }
+        if (log.number != wanted) return say_missing(store, wanted);
         if (bytes_append(out, &log, sizeof log)) return ENOMEM;
     }
-    return 0;
+    return first && !out->length ? say_missing(store, first) : 0;
 }
 
 static int load_logs(struct store *store, uint64_t first) {
