@@ -28,18 +28,15 @@ use Rattle.volume.specs.declared.rooted.Rooted.{Rooted}
 abbrev pub IsBehindRoot : Spot → Type 0
 IsBehindRoot s = (s.last ≡ []) × (s.from ≡ 0)
 
+is_root : (s : Spot) → IsBehindRoot s → s ≡ record { last = []; from = 0 }
+is_root s b = λ i. record { last = b.0 i; from = b.1 i }
+
+left_of_root : (t : Tree) → IsTree t → left_at t (record { last = []; from = 0 }) ≡ image_from (next_key []) t
+left_of_root (Dir date es) is = refl
+left_of_root (File date b) is = absurd is.root
+
 root_left : (t : Tree) (s : Spot) → IsTree t → IsBehindRoot s → left_at t s ≡ image_from (next_key []) t
-root_left t s is behind = ap (left_at t) (is_root s behind) ∙ same t is
-  where
-    abbrev root : Spot
-    root = record { last = []; from = 0 }
-
-    is_root : (s : Spot) → IsBehindRoot s → s ≡ root
-    is_root s b = λ i. record { last = b.0 i; from = b.1 i }
-
-    same : (t : Tree) → IsTree t → left_at t root ≡ image_from (next_key []) t
-    same (Dir date es) is = refl
-    same (File date b) is = absurd is.root
+root_left t s is behind = ap (left_at t) (is_root s behind) ∙ left_of_root t is
 
 -- the line of the root, and what is left behind it
 pub root_starts : (t : Tree) (s : Spot) (date : ℕ) → IsTree t → moment t ≡ date → IsBehindRoot s → image Second t ≡ number_line (codes "D / ") date ++ left_at t s

@@ -1,4 +1,4 @@
-use Rattle.std.proofs.Common.{ap, refl, sym, subst, ◌∙◌}
+use Rattle.std.proofs.Common.{[], ap, refl, sym, subst, ◌∙◌}
 use Rattle.reference.specs.Tree.{Dir, nothing}
 use Rattle.volume.specs.Volumes.{Means}
 use Rattle.images.specs.Loads.{HasRead, alone, form_of}
