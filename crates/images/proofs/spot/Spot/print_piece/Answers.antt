@@ -32,7 +32,7 @@ loop-path-preserved c = record {
       let k : ℕ = length c.loop-path.yielded in
       let e : Path × Meta = (c.in-Some.path, c.in-Some.meta) in
       let here = subst (λ r. MeanRooted r t) (sym c.loop-path.invariant.tree) mean in
-      let turn = YieldsList-turn (YieldsList-from_skip 1 (YieldsList-from_vec c.args.piece.items cc cc) cc) c.loop-path.yielded _ c.loop-path.yielded_by _ _ e c.in-Some.is c.next.ensures.steps in
+      let turn = YieldsList-turn (YieldsList-from_skip 1 (YieldsList-from_vec c.args.piece.items (cc) (cc)) (cc)) c.loop-path.yielded c.loop-path.path-iterator c.loop-path.yielded_by c.next.result c.next.new.self e c.in-Some.is c.next.ensures.steps in
       let now = subst (λ (es : List (Path × Meta)). Walks t a x c.loop-path.self c.loop-path.text.items (limit - 1 - k) es) (next_of all k e turn) (c.loop-path.invariant.walks t limit mean p) in
       let on = walks_on t a c.loop-path.self new x c.loop-path.text.items c.put_entry.new.text.items z (limit - 1 - k) e (drop (k + 1) all) mean.indexes.tree now
       (omega (arith, c.if-len-ge-ENOUGH.false, c.len.ensures)) c.in_ok-put_entry.ensures
@@ -46,7 +46,7 @@ pub returns-clause-passes : goal.returns-clause-passes
 returns-clause-passes c = λ t limit mean p.
     let all : List (Path × Meta) = drop 1 c.args.piece.items in
     let k : ℕ = length c.loop-path.yielded in
-    let end = YieldsList-end (YieldsList-from_skip 1 (YieldsList-from_vec c.args.piece.items cc cc) cc) c.loop-path.yielded _ c.loop-path.yielded_by _ _ c.in-None.is c.next.ensures.steps in
+    let end = YieldsList-end (YieldsList-from_skip 1 (YieldsList-from_vec c.args.piece.items (cc) (cc)) (cc)) c.loop-path.yielded c.loop-path.path-iterator c.loop-path.yielded_by c.next.result c.next.new.self c.in-None.is c.next.ensures.steps in
     let none : drop k all ≡ [] = drop_all k all (omega (arith, end.1)) in
     walks_end t _ _ _ _ limit (limit - 1 - k) _ mean.indexes.tree p
     (subst (λ (es : List (Path × Meta)). Walks t c.args.self.now c.args.text.now.items c.loop-path.self c.loop-path.text.items (limit - 1 - k) es) none (c.loop-path.invariant.walks t limit mean p))
