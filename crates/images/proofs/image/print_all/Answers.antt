@@ -22,3 +22,9 @@ returns-in_err-put-clause-err g c = λ t mean.
     let so_far = c.loop.invariant t mean in
     let on = c.in_ok-print.ensures.passes t mean so_far.3 in
     on_err _ _ (printed_more_part _ _ _ t c.loop.spot _ _ so_far (rw c.clear.ensures.items at on) (rw c.as_slice.ensures.value at c.in_err-put.ensures.err))
+
+pub loop-preserved : goal.loop-preserved
+loop-preserved g c = λ t mean.
+    let so_far = c.loop.invariant t mean in
+    let on = c.in_ok-print.ensures.passes t mean so_far.3 in
+    printed_more _ _ _ t c.loop.spot _ _ so_far (rw c.clear.ensures.items at on) (rw c.as_slice.ensures.value at c.in_ok-put.ensures.ok)

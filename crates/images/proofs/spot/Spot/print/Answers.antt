@@ -5,7 +5,7 @@ use Rattle.volume.specs.Volumes.{MeanRooted}
 use Rattle.images.proofs.spot.Spot.print.Goals as goal
 
 pub print_entries-requires : goal.print_entries-requires
-print_entries-requires c = c.in_ok-print_blocks.ensures.tree ∙ c.new-blocks.ensures
+print_entries-requires c = record { tree = c.in_ok-print_blocks.ensures.tree ∙ c.new-blocks.ensures }
 
 pub returns-clause-passes : goal.returns-clause-passes
 returns-clause-passes c = on_ok_weaker c.print_entries.result
