@@ -1,5 +1,5 @@
 -- Changes that are done one after the other.
-use Rattle.std.proofs.Common.{◌≡◌, ℕ, suc, ◌+◌, ◌<◌, List, [], ◌∷◌, ◌++◌, length, take, drop, get_or, refl, ap, sym, subst, ◌∙◌, arith, length-append, append_assoc, length-take-le, drop-cons, add-one}
+use Rattle.std.proofs.Common.{◌≡◌, ℕ, suc, ◌+◌, ◌<◌, List, [], ◌∷◌, ◌++◌, length, take, drop, get_or, refl, ap, sym, subst, ◌∙◌, arith, length-take-le, drop-cons, add-one}
 use Rattle.std.proofs.lemmas.Grind.{take_at_read}
 use Rattle.std.proofs.lemmas.List.{take-append-drop}
 use Rattle.pathkey.specs.declared.errno.Errno.{Errno}
@@ -7,7 +7,6 @@ use Rattle.reference.specs.Worlds.{World}
 use Rattle.volume.specs.Volumes.{PVolume, Means}
 use Rattle.logs.specs.declared.change.Change.{Change}
 use Rattle.recovery.specs.Runs.{AllDone, IsRefused, Reaches, Stops, after, made}
-use Rattle.recovery.specs.declared.stopped.Stopped.{Stopped}
 
 after-append : (w : World) (xs ys : List Change) → after w (xs ++ ys) ≡ after (after w xs) ys
 after-append w [] ys = refl

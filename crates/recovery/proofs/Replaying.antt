@@ -1,9 +1,9 @@
 -- Records that were done so far.
-use Rattle.std.proofs.Common.{◌≡◌, ◌⊎◌, ⊎_elim, ℕ, zero, suc, ◌+◌, ◌-◌, ◌<◌, ◌≤◌, List, [], ◌∷◌, ◌++◌, length, map, take, flat_map, refl, ap, sym, subst, ◌∙◌, arith, append_assoc, append-nil, length-append, add-zero, Some, None, Ok, Err}
+use Rattle.std.proofs.Common.{◌≡◌, ⊎_elim, ℕ, zero, suc, ◌+◌, ◌-◌, ◌<◌, ◌≤◌, List, [], ◌∷◌, ◌++◌, length, take, refl, ap, sym, subst, ◌∙◌, arith, append_assoc, append-nil, length-append, add-zero, Some, None, Ok, Err}
 use Rattle.std.proofs.lemmas.Grind.{flat_map-append}
 use Rattle.volume.specs.Volumes.{PVolume}
 use Rattle.logs.specs.Entries.{IsWord, body_of}
-use Rattle.logs.specs.Records.{AreBodies, Counts, LacksRecord, digest, record_of, whole, written}
+use Rattle.logs.specs.Records.{AreBodies, Counts, LacksRecord, digest, record_of, written}
 use Rattle.logs.specs.declared.change.Change.{Change}
 use Rattle.logs.proofs.Logs.{after_record, cut, first_ones, tail_after}
 use Rattle.recovery.specs.Laws.{log_of}
@@ -59,9 +59,9 @@ pub done_more : (n records : ℕ) (log rest body behind : List ℕ) (old now new
 done_more n records log rest body behind old now new cs before is fits told reached =
     let place : n + records ≡ n + length (bodies before.css) = omega (arith, before.count, length-bodies before.css) in
     let wrote : written n (bodies (before.css ++ cs ∷ [])) ≡ written n (bodies before.css) ++ record_of (n + records) body =
-      ap (written n) (bodies-append before.css cs) ∙ written-append n (bodies before.css) (body_of cs)
-      ∙ ap (λ (k : ℕ). written n (bodies before.css) ++ record_of k (body_of cs)) (sym place)
-      ∙ ap (λ (b : List ℕ). written n (bodies before.css) ++ record_of (n + records) b) (sym told) in
+    ap (written n) (bodies-append before.css cs) ∙ written-append n (bodies before.css) (body_of cs)
+    ∙ ap (λ (k : ℕ). written n (bodies before.css) ++ record_of k (body_of cs)) (sym place)
+    ∙ ap (λ (b : List ℕ). written n (bodies before.css) ++ record_of (n + records) b) (sym told) in
     let less = behind_shorter (n + records) rest body behind is in
     record {
       css = before.css ++ cs ∷ [];
@@ -70,7 +70,7 @@ done_more n records log rest body behind old now new cs before is fits told reac
       count = omega (arith, before.count, length-push before.css cs);
       few = omega (arith, before.few, less);
       reaches = subst (λ (xs : List Change). Reaches xs old new) (sym (flat_map-append (λ (xs : List Change). xs) before.css (cs ∷ [])))
-        (reaches_join (all_of before.css) (cs ++ []) old now new before.reaches (subst (λ (xs : List Change). Reaches xs now new) (sym (append-nil cs)) reached));
+          (reaches_join (all_of before.css) (cs ++ []) old now new before.reaches (subst (λ (xs : List Change). Reaches xs now new) (sym (append-nil cs)) reached));
     }
 
 -- ---- where a log ends, or a record is not done

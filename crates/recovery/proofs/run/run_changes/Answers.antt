@@ -13,5 +13,5 @@ pub loop-change-preserved : goal.loop-change-preserved
 loop-change-preserved c = record {
   count = omega (arith, c.loop-change.invariant.count);
   reached = reaches_more c.args.changes.now c.loop-change.change-index c.change-item.result c.args.volume.now c.loop-change.volume c.make.new.volume
-    c.loop-change-test.true c.change-item.is c.loop-change.invariant.reached c.in_default.ensures;
+      c.loop-change-test.true c.change-item.is c.loop-change.invariant.reached c.in_default.ensures;
 }
