@@ -83,10 +83,22 @@ fn read_as_they_were_laid(rt: HostRuntime) -> Result<(), Fail> {
 fn refused_texts(rt: HostRuntime) -> Result<(), Fail> {
     let mut room = [0u8; 64];
     let mkdir = PathChange::Mkdir;
-    assert_eq!(rt; lay_on_path(rt.alloc(), mkdir, b"", 1, &mut room), Err(Errno::ENOENT));
-    assert_eq!(rt; lay_on_path(rt.alloc(), mkdir, b"a", 1, &mut room), Err(Errno::EINVAL));
-    assert_eq!(rt; lay_rename(rt.alloc(), b"/a", b"b", 1, &mut room), Err(Errno::EINVAL));
-    assert_eq!(rt; lay_keep(rt.alloc(), Keeping::Snapshot, b"", &mut room), Err(Errno::EINVAL));
+    assert_eq!(rt;
+        lay_on_path(rt.alloc(), mkdir, b"", 1, &mut room),
+        Err(Errno::ENOENT)
+    );
+    assert_eq!(rt;
+        lay_on_path(rt.alloc(), mkdir, b"a", 1, &mut room),
+        Err(Errno::EINVAL)
+    );
+    assert_eq!(rt;
+        lay_rename(rt.alloc(), b"/a", b"b", 1, &mut room),
+        Err(Errno::EINVAL)
+    );
+    assert_eq!(rt;
+        lay_keep(rt.alloc(), Keeping::Snapshot, b"", &mut room),
+        Err(Errno::EINVAL)
+    );
     // No room: the size alone.
     assert_eq!(rt; lay_on_path(rt.alloc(), mkdir, b"/a", 1, &mut []), Ok(50));
     assert_eq!(rt; room[0], 0);
@@ -123,7 +135,13 @@ fn no_bodies(rt: HostRuntime) -> Result<(), Fail> {
     // No path.
     assert_eq!(rt; count(rt.alloc(), FIRST_BODY, 48, b'a'), Err(Errno::EINVAL));
     // Cut off.
-    assert_eq!(rt; count(rt.alloc(), &FIRST_BODY[..49], 999, 0), Err(Errno::EINVAL));
-    assert_eq!(rt; count(rt.alloc(), &SECOND_BODY[..100], 999, 0), Err(Errno::EINVAL));
+    assert_eq!(rt;
+        count(rt.alloc(), &FIRST_BODY[..49], 999, 0),
+        Err(Errno::EINVAL)
+    );
+    assert_eq!(rt;
+        count(rt.alloc(), &SECOND_BODY[..100], 999, 0),
+        Err(Errno::EINVAL)
+    );
     Ok(())
 }

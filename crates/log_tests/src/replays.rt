@@ -52,7 +52,10 @@ fn whole_and_cut(rt: HostRuntime) -> Result<(), Fail> {
             size,
             stopped: None,
         };
-        assert_eq!(rt; replayed(rt.alloc(), front(end), FIRST), Some((want, length)));
+        assert_eq!(rt;
+            replayed(rt.alloc(), front(end), FIRST),
+            Some((want, length))
+        );
     }
     Ok(())
 }

@@ -1,5 +1,5 @@
 -- Bodies of records: their changes are told by their bytes.
-use Rattle.std.proofs.Common.{◌≡◌, ◌≢◌, ◌⊎◌, ⊎_elim, inl, inr, ℕ, ◌+◌, ◌<◌, ◌≤◌, List, [], ◌∷◌, ◌++◌, length, flat_map, refl, ap, ap₂, sym, subst, ◌∙◌, arith, append_assoc, append-nil, Result, Ok}
+use Rattle.std.proofs.Common.{◌≡◌, ⊎_elim, inl, inr, ℕ, ◌≤◌, List, [], ◌∷◌, ◌++◌, length, refl, ap, ap₂, sym, ◌∙◌, arith, append_assoc, append-nil, Result, Ok}
 use Rattle.std.specs.List.{AllByRecursion}
 use Rattle.std.proofs.lemmas.Grind.{flat_map-append}
 use Rattle.pathkey.specs.Names.{Path, IsPath}
@@ -76,10 +76,13 @@ no_entry body rest before some lacks = λ cs all e. let now = before cs all e in
 pub no_change : (body rest behind : List ℕ) (h : Head) (f s : List ℕ) (e : Errno) → IsHead h × IsWord (length f) × IsWord (length s) → rest ≡ entry h f s ++ behind → Continues body rest → Refuses (IsNoEntry h f s) e → Refuses (IsNoBody body) e
 unfolding Continues
 no_change body rest behind h f s e fits is before told = ⊎_elim
-    (λ (u : (e ≡ EINVAL) × IsNoEntry h f s). inl (u.0, λ cs all same.
-    let now = before cs all same in
-    let found = leads h f s behind rest now.0 fits.0 fits.1 fits.2 is now.1 now.2 in
-    u.1 found.d found.is found.told))
+    (λ (u : (e ≡ EINVAL) × IsNoEntry h f s). inl (
+      u.0,
+      λ cs all same.
+          let now = before cs all same in
+          let found = leads h f s behind rest now.0 fits.0 fits.1 fits.2 is now.1 now.2 in
+          u.1 found.d found.is found.told,
+    ))
     (λ (m : e ≡ ENOMEM). inr m)
     told
 

@@ -1,5 +1,5 @@
 -- Texts of paths, and the sizes of what a change has.
-use Rattle.std.proofs.Common.{◌≡◌, ◌≢◌, ◌⊎◌, ⊎_elim, ℕ, ◌+◌, ◌<◌, ◌≤◌, ◌^◌, List, [], ◌∷◌, ◌++◌, length, get_or, nat_le, true, Fits, w8, refl, ap, sym, ◌∙◌, arith, Result, Ok, Err, IsOk, length-append}
+use Rattle.std.proofs.Common.{◌≡◌, ◌≢◌, ⊎_elim, ℕ, ◌<◌, ◌≤◌, List, [], ◌∷◌, length, get_or, nat_le, true, Fits, w8, refl, ap, sym, ◌∙◌, arith, Ok, Err, IsOk, length-append}
 use Rattle.std.specs.List.{list_all}
 use Rattle.std.proofs.lemmas.Bool.{and_parts}
 use Rattle.std.proofs.lemmas.Bool.Decides.{nat_tests}
@@ -28,10 +28,13 @@ text_read text p bytes told = ⊎_elim
 
 -- the text names this path
 pub text_names : (text : List ℕ) (p : Path) → ((i : ℕ) → Fits w8 (get_or text i 0)) → IsOrLacksMemory (Ok p) (parsed text) → (parsed text ≡ Ok p) × (text_of p ≡ text)
-text_names text p bytes told = (⊎_elim
-    (λ (e : Ok p ≡ parsed text). sym e)
-    (λ (u : (Ok p ≡ Err ENOMEM) × IsOk (parsed text)). let e = u.0 in cc)
-    told, text_read text p bytes told)
+text_names text p bytes told = (
+  ⊎_elim
+      (λ (e : Ok p ≡ parsed text). sym e)
+      (λ (u : (Ok p ≡ Err ENOMEM) × IsOk (parsed text)). let e = u.0 in cc)
+      told,
+  text_read text p bytes told,
+)
 
 pub no_text : (text : List ℕ) (e : Errno) → IsOrLacksMemory (Err e) (parsed text) → e ≢ ENOMEM → IsNoText text
 no_text text e told other = λ p is same. ⊎_elim

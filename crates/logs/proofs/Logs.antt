@@ -1,7 +1,7 @@
 -- Logs: which records count is told by the bytes, wherever they are cut.
-use Rattle.std.proofs.Common.{◌≡◌, ◌≢◌, ◌⊎◌, ⊎_elim, ℕ, zero, suc, ◌+◌, ◌-◌, ◌<◌, ◌≤◌, ◌*◌, List, [], ◌∷◌, ◌++◌, length, take, drop, Bool, true, false, nat_le, cond, codes, refl, ap, ap₂, sym, subst, ◌∙◌, arith, append_assoc, append-nil, length-append, add-zero, add-suc, length-take}
+use Rattle.std.proofs.Common.{◌≡◌, ◌≢◌, ◌⊎◌, ⊎_elim, ℕ, zero, suc, ◌+◌, ◌-◌, ◌<◌, ◌≤◌, ◌*◌, List, [], ◌∷◌, ◌++◌, length, take, drop, true, false, nat_le, cond, codes, refl, ap, ap₂, sym, subst, ◌∙◌, arith, append_assoc, append-nil, length-append, add-zero, length-take}
 use Rattle.std.specs.List.{AllByRecursion}
-use Rattle.std.proofs.lemmas.List.{append_cancel_left, take-append-drop, take-append-le, take_at}
+use Rattle.std.proofs.lemmas.List.{append_cancel_left, take-append-drop}
 use Rattle.std.proofs.lemmas.Bool.Decides.{nat_tests}
 use Rattle.std.proofs.Math.Seq.{take-append-add}
 use Rattle.sha2.specs.Sha256.{sha256, digest_bytes, final_hash, initial_hash_256}
@@ -100,19 +100,19 @@ cut n k [] h = ([], record { is = take_none k; fit = tt; ends = no_record_in_not
 cut n k (b ∷ bs) h =
     elim (nat_le (length (record_of n b)) k) as (λ t. nat_le (length (record_of n b)) k ≡ t → (rest : List ℕ) × Counts n (take k (written n (b ∷ bs))) (cond t (b ∷ whole (k - length (record_of n b)) (suc n) bs) []) rest) [
       | true ↦ λ t.
-        let fits : length (record_of n b) ≤ k = grind (arith, nat_tests, t) in
-        let below = cut (suc n) (k - length (record_of n b)) bs h.1 in (
-          below.0,
-          record {
-            is = take_past k (record_of n b) (written (suc n) bs) fits ∙ ap (λ (x : List ℕ). record_of n b ++ x) below.1.is ∙ sym (append_assoc (record_of n b) (written (suc n) (whole (k - length (record_of n b)) (suc n) bs)) below.0);
-            fit = (h.0, below.1.fit);
-            ends = lacks_earlier n (length (whole (k - length (record_of n b)) (suc n) bs)) below.0 below.1.ends;
-          },
-        )
+          let fits : length (record_of n b) ≤ k = grind (arith, nat_tests, t) in
+          let below = cut (suc n) (k - length (record_of n b)) bs h.1 in (
+            below.0,
+            record {
+              is = take_past k (record_of n b) (written (suc n) bs) fits ∙ ap (λ (x : List ℕ). record_of n b ++ x) below.1.is ∙ sym (append_assoc (record_of n b) (written (suc n) (whole (k - length (record_of n b)) (suc n) bs)) below.0);
+              fit = (h.0, below.1.fit);
+              ends = lacks_earlier n (length (whole (k - length (record_of n b)) (suc n) bs)) below.0 below.1.ends;
+            },
+          )
       | false ↦ λ t.
-        let short : k < length (record_of n b) = grind (arith, nat_tests, t) in
-        let none = no_beginning n k b (written (suc n) bs) h.0 short in
-        (take k (written n (b ∷ bs)), record { is = refl; fit = tt; ends = subst (λ (m : ℕ). LacksRecord m (take k (written n (b ∷ bs)))) (sym (add-zero n)) none })
+          let short : k < length (record_of n b) = grind (arith, nat_tests, t) in
+          let none = no_beginning n k b (written (suc n) bs) h.0 short in
+          (take k (written n (b ∷ bs)), record { is = refl; fit = tt; ends = subst (λ (m : ℕ). LacksRecord m (take k (written n (b ∷ bs)))) (sym (add-zero n)) none })
     ] refl
 
 pub first_ones : (n k : ℕ) (bs : List (List ℕ)) → (m : ℕ) × (m ≤ length bs) × (whole k n bs ≡ take m bs) × ((s : ℕ) → s ≤ length bs → length (written n (take s bs)) ≤ k → s ≤ m)
@@ -120,7 +120,7 @@ first_ones n k [] = (0, omega arith, refl, λ s few h. few)
 first_ones n k (b ∷ bs) =
     elim (nat_le (length (record_of n b)) k) as (λ t. nat_le (length (record_of n b)) k ≡ t → (m : ℕ) × (m ≤ length (b ∷ bs)) × (cond t (b ∷ whole (k - length (record_of n b)) (suc n) bs) [] ≡ take m (b ∷ bs)) × ((s : ℕ) → s ≤ length (b ∷ bs) → length (written n (take s (b ∷ bs))) ≤ k → s ≤ m)) [
       | true ↦ λ t. let below = first_ones (suc n) (k - length (record_of n b)) bs in
-        (suc below.0, omega (arith, below.1), ap (λ (xs : List (List ℕ)). b ∷ xs) below.2, longer below.0 below.3)
+          (suc below.0, omega (arith, below.1), ap (λ (xs : List (List ℕ)). b ∷ xs) below.2, longer below.0 below.3)
       | false ↦ λ t. (0, omega arith, refl, none (let short : k < length (record_of n b) = grind (arith, nat_tests, t) in short))
     ] refl
   where
@@ -224,18 +224,18 @@ module _ (bytes rest : List ℕ) (n : ℕ) (begins : bytes ≡ codes "dvlog 1\n"
 
   pub no_length : (found : ℕ) (after : List ℕ) → rest ≡ word found ++ after → length after < 8 → (len : ℕ) → IsWord len → bytes ≢ front n len
   no_length found after is few len fits e =
-    let size = after_word n rest (word len) (behind_mark len e) in
-    let size2 = after_word found rest after is in
-    let eight = length-word len in
-    omega arith
+      let size = after_word n rest (word len) (behind_mark len e) in
+      let size2 = after_word found rest after is in
+      let eight = length-word len in
+      omega arith
 
   pub not_so : (found len : ℕ) (after end : List ℕ) → IsWord n → IsWord found → IsWord len → rest ≡ word found ++ after → after ≡ word len ++ end → (found ≢ n) ⊎ (length end ≢ 0) → (other : ℕ) → IsWord other → bytes ≢ front n other
   not_so found len after end fn ff fl is is2 wrong other fits e =
-    let one = word_once found n after (word other) ff fn (sym is ∙ behind_mark other e) in
-    let two = word_once len other end [] fl fits (sym is2 ∙ one.1 ∙ sym (append-nil (word other))) in
-    ⊎_elim (λ (w : found ≢ n). w one.0) (λ (w : length end ≢ 0). w (ap length two.1)) wrong
+      let one = word_once found n after (word other) ff fn (sym is ∙ behind_mark other e) in
+      let two = word_once len other end [] fl fits (sym is2 ∙ one.1 ∙ sym (append-nil (word other))) in
+      ⊎_elim (λ (w : found ≢ n). w one.0) (λ (w : length end ≢ 0). w (ap length two.1)) wrong
 
   pub is_front : (found len : ℕ) (after end : List ℕ) → rest ≡ word found ++ after → after ≡ word len ++ end → found ≡ n → length end ≡ 0 → bytes ≡ front n len
   is_front found len after [] is is2 same none =
-    begins ∙ ap (λ (x : List ℕ). codes "dvlog 1\n" ++ x) (is ∙ ap (λ (k : ℕ). word k ++ after) same ∙ ap (λ (x : List ℕ). word n ++ x) (is2 ∙ append-nil (word len))) ∙ sym (front_parts n len)
+      begins ∙ ap (λ (x : List ℕ). codes "dvlog 1\n" ++ x) (is ∙ ap (λ (k : ℕ). word k ++ after) same ∙ ap (λ (x : List ℕ). word n ++ x) (is2 ∙ append-nil (word len))) ∙ sym (front_parts n len)
   is_front found len after (x ∷ end) is is2 same none = absurd (omega arith)

@@ -1,7 +1,7 @@
 -- Laws of logs that are cut off or damaged.
 use Rattle.std.specs.Prelude.{◌≡◌, ◌≢◌, ◌≤◌, ℕ, List, ◌++◌, length, take, codes}
 use Rattle.logs.specs.Entries.{IsWord, body_of, IsChange, word}
-use Rattle.logs.specs.Records.{AreBodies, Counts, LacksRecord, digest, front, record_of, whole, written}
+use Rattle.logs.specs.Records.{AreBodies, Counts, LacksRecord, digest, front, whole, written}
 use Rattle.logs.specs.declared.change.Change.{Change}
 use Rattle.std.specs.List.{AllByRecursion}
 

@@ -119,12 +119,7 @@ pub fn lay_punch(
 }
 
 /// What becomes of the snapshot of a name.
-pub fn lay_keep(
-    alloc: Global,
-    what: Keeping,
-    name: &[u8],
-    out: &mut [u8],
-) -> Result<usize, Errno>
+pub fn lay_keep(alloc: Global, what: Keeping, name: &[u8], out: &mut [u8]) -> Result<usize, Errno>
     ensures { Lays (asked (λ s. Change.Keep what s) (snap_parsed name.now)) result out.old out.new }
 {
     let parsed = SnapName::parse(alloc, name)?;
@@ -138,12 +133,7 @@ pub fn lay_keep(
 }
 
 /// What stands round the body of a record of this number: the 24 bytes before it, and the 32 behind it.
-pub fn lay_ends(
-    alloc: Global,
-    number: u64,
-    body: &[u8],
-    out: &mut [u8],
-) -> Result<usize, Errno>
+pub fn lay_ends(alloc: Global, number: u64, body: &[u8], out: &mut [u8]) -> Result<usize, Errno>
     ensures bytes { LaysBytes (front number (length body.now) ++ digest number body.now) result out.old out.new }
     ensures refused { IfErr result (λ e. e ≡ ENOMEM) }
 {

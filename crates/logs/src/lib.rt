@@ -5,8 +5,8 @@
 pub mod change;
 mod decode;
 mod entry;
-pub mod lay;
 pub mod laws;
+pub mod lay;
 pub mod record;
 mod words;
 

@@ -1,14 +1,13 @@
 -- A change that a volume was asked for is done, or refused, as each world that it meant says.
-use Rattle.std.proofs.Common.{◌≡◌, ◌⊎◌, ⊎_elim, inl, inr, ℕ, List, [], ◌∷◌, true, false, Bool, cond, refl, ap, sym, subst, ◌∙◌, Option, Some, None, Result, Ok, Err, IfErr}
+use Rattle.std.proofs.Common.{◌≡◌, ⊎_elim, inl, inr, [], ◌∷◌, false, Bool, cond, refl, ap, sym, subst, ◌∙◌, Some, None, Result, Ok, Err, IfErr}
 use Rattle.pathkey.specs.declared.errno.Errno.{Errno}
 use Rattle.pathkey.specs.declared.errno.Errno.TheVariants.{ENOMEM}
 use Rattle.reference.specs.Worlds.{World, Event, Ask, TakeSnapshot, DropSnapshot, RestoreSnapshot, Answer, Replied, Settled, Fits, MayLack, is_lack, next, outcome}
-use Rattle.reference.specs.declared.reply.Reply.{Reply}
 use Rattle.reference.specs.declared.reply.Reply.TheVariants.{Done, Count, Data, Stat, Names, Fault}
 use Rattle.volume.specs.Typed.{replied}
 use Rattle.volume.specs.Volumes.{PVolume, Means}
 use Rattle.logs.specs.declared.change.Change.{Change}
-use Rattle.recovery.specs.Runs.{IsRefused, Makes, Reaches, event_in, fault_in, fault_of}
+use Rattle.recovery.specs.Runs.{IsRefused, Makes, Reaches, event_in, fault_of}
 
 lack_told : (w : World) (e : Event) (a : Answer) → MayLack w e a → fault_of a ≡ Some ENOMEM
 lack_told w (Ask c at) a h = ap fault_of h
@@ -38,11 +37,16 @@ pub done_from : (c : Change) (a : Answer) (old new : PVolume) → Answers c a ol
 unfolding Answers
 done_from c a old new h good = λ w m.
     let both = h w m in
-    let now : Means new (outcome w (event_in w c)).0 = subst (λ (t : Bool). Means new (cond t w (outcome w (event_in w c)).0)) (no_lack a good) both.1 in
-    ((⊎_elim
-    (λ (e : a ≡ (outcome w (event_in w c)).1). ap fault_of (sym e) ∙ good)
-    (λ (l : MayLack w (event_in w c) a). absurd (let told = lack_told w (event_in w c) a l in cc))
-    both.0, tt), now)
+    let now : Means new (outcome w (event_in w c)).0 = subst (λ (t : Bool). Means new (cond t w (outcome w (event_in w c)).0)) (no_lack a good) both.1 in (
+      (
+        ⊎_elim
+            (λ (e : a ≡ (outcome w (event_in w c)).1). ap fault_of (sym e) ∙ good)
+            (λ (l : MayLack w (event_in w c) a). absurd (let told = lack_told w (event_in w c) a l in cc))
+            both.0,
+        tt,
+      ),
+      now,
+    )
 
 pub refused_from : (c : Change) (a : Answer) (e : Errno) (old new : PVolume) → Answers c a old new → fault_of a ≡ Some e → IsRefused c e old
 unfolding Answers

@@ -1,7 +1,5 @@
 -- What a crash leaves of the requests that a log tells.
-use Rattle.std.specs.Prelude.{◌≡◌, ◌≤◌, ℕ, List, ◌++◌, length, map, take}
-use Rattle.std.specs.List.{AllByRecursion}
-use Rattle.logs.specs.Entries.{IsChange, body_of}
+use Rattle.std.specs.Prelude.{◌≡◌, ◌≤◌, ℕ, List, ◌++◌, length, take}
 use Rattle.logs.specs.Records.{AreBodies, Counts, written}
 use Rattle.logs.specs.declared.change.Change.{Change}
 use Rattle.recovery.specs.Replays.{bodies}

@@ -1,13 +1,11 @@
 -- What is told of a log that was replayed.
-use Rattle.std.specs.Prelude.{◌≡◌, ◌⊎◌, ◌+◌, ◌^◌, ◌<◌, ◌≤◌, ℕ, List, [], ◌∷◌, ◌++◌, length, map, flat_map, Option, Some, None, Result, Ok, Err, ⊤}
-use Rattle.pathkey.specs.declared.errno.Errno.{Errno}
-use Rattle.pathkey.specs.declared.errno.Errno.TheVariants.{EINVAL}
+use Rattle.std.specs.Prelude.{◌≡◌, ◌+◌, ℕ, List, ◌++◌, length, map, flat_map, Option, Some, None, Err}
 use Rattle.logs.specs.Entries.{body_of}
-use Rattle.logs.specs.Records.{AreBodies, Counts, LacksRecord, record_of, written}
+use Rattle.logs.specs.Records.{AreBodies, LacksRecord, record_of, written}
 use Rattle.logs.specs.declared.change.Change.{Change}
 use Rattle.volume.specs.Volumes.{PVolume}
 use Rattle.recovery.specs.Runs.{Reaches, RunsBody}
-use Rattle.recovery.specs.declared.replay.Replayed.{Replayed}
+use Rattle.recovery.specs.declared.replays.Replayed.{Replayed}
 use Rattle.recovery.specs.declared.stopped.Stopped.{Stopped}
 
 -- all changes of requests, in their order

@@ -50,12 +50,7 @@ fn make_on_path(
 }
 
 // Keeps, removes or restores a snapshot.
-fn keep(
-    alloc: Global,
-    volume: &mut Volume,
-    what: Keeping,
-    name: &SnapName,
-) -> Result<(), Errno>
+fn keep(alloc: Global, volume: &mut Volume, what: Keeping, name: &SnapName) -> Result<(), Errno>
     ensures { Makes (Change.Keep what name.now) result volume.old volume.new }
 {
     match what {

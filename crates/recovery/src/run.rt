@@ -8,11 +8,7 @@ use std::alloc::Global;
 use volume::Volume;
 
 /// Does changes, one after the other, up to the first that is refused.
-pub fn run_changes(
-    alloc: Global,
-    volume: &mut Volume,
-    changes: &[Change],
-) -> Result<(), Stopped>
+pub fn run_changes(alloc: Global, volume: &mut Volume, changes: &[Change]) -> Result<(), Stopped>
     ensures { Runs changes.now result volume.old volume.new }
 {
     let mut done = 0;

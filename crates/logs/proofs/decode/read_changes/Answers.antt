@@ -1,4 +1,4 @@
-use Rattle.std.proofs.Common.{◌≡◌, ◌≢◌, ◌++◌, List, ℕ, length, ap, sym, ◌∙◌, refl, inl, arith}
+use Rattle.std.proofs.Common.{◌≢◌, ◌++◌, List, length, ap, sym, ◌∙◌, refl, inl, arith}
 use Rattle.std.proofs.lemmas.Grind.{common_steps}
 use Rattle.logs.specs.declared.change.Change.{Change}
 use Rattle.logs.specs.Entries.{body_of}
@@ -13,7 +13,7 @@ loop-rest-preserved c =
     let rest = c.loop-rest.rest.now in
     let behind = c.in-Some.behind.now in record {
       so_far = body_more c.args.body.now rest behind c.loop-rest.changes.items c.in-Ok.change c.in-Some.head c.in-Some.first.now c.in-Some.second.now c.loop-rest.invariant.so_far c.in-Some.ensures.is c.in-Ok.ensures
-        ∙ ap (λ (cs : List Change). body_of cs ++ behind) (sym c.in_ok-push-in-Ok.ensures);
+          ∙ ap (λ (cs : List Change). body_of cs ++ behind) (sym c.in_ok-push-in-Ok.ensures);
       others = continues_more c.args.body.now rest behind c.in-Some.head c.in-Some.first.now c.in-Some.second.now c.in-Some.ensures.fits c.in-Some.ensures.is c.loop-rest.invariant.others;
     }
 

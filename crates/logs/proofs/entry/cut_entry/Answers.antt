@@ -1,4 +1,4 @@
-use Rattle.std.proofs.Common.{◌≡◌, ◌+◌, ◌<◌, length, ap, arith, ◌∙◌, length-append}
+use Rattle.std.proofs.Common.{◌≡◌, ◌+◌, length, ap, arith, ◌∙◌, length-append}
 use Rattle.logs.proofs.Cuts.{after_head, after_word, entry_cut, shorter_behind, too_few, too_short}
 use Rattle.logs.proofs.entry.cut_entry.Goals as goal
 

@@ -1,4 +1,4 @@
-use Rattle.std.proofs.Common.{◌≡◌, ◌+◌, length, arith}
+use Rattle.std.proofs.Common.{arith}
 use Rattle.logs.proofs.Cuts.{after_word, head_cut}
 use Rattle.logs.proofs.entry.cut_head.Goals as goal
 

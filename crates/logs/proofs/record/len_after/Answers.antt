@@ -1,4 +1,4 @@
-use Rattle.std.proofs.Common.{◌≡◌, ◌≢◌, List, ℕ, ◌++◌, eqb, codes, inl, inr, rules, ◌∙◌, arith, length}
+use Rattle.std.proofs.Common.{◌≡◌, ◌≢◌, ◌++◌, eqb, codes, inl, inr, rules, ◌∙◌, arith, length}
 use Rattle.std.proofs.lemmas.Slice.Eq.{strip_prefix_is}
 use Rattle.std.proofs.lemmas.Option.{MatchOption-at_none, MatchOption-at_some}
 use Rattle.std.proofs.lemmas.Bool.Decides.{Decides-eqb}
@@ -30,9 +30,11 @@ returns-then-found-number c =
 
 pub returns : goal.returns
 returns c =
-    let begins = MatchOption-at_some _ _ _ c.in-Some.is (strip_prefix_is {E = eqb} Decides-eqb c.args.bytes.now (codes "dvlog 1\n") c.strip_prefix.result c.strip_prefix.ensures.cases) in
-    (is_front c.args.bytes.now c.in-Some.rest.now c.args.number begins c.in-Some-cut_word.found c.in-Some-cut_word-2.len c.in-Some-cut_word.rest.now c.in-Some-cut_word-2.rest.now
-    c.in-Some-cut_word.ensures.0 c.in-Some-cut_word-2.ensures.0 c.if-found-number.false (let none : length c.in-Some-cut_word-2.rest.now ≡ 0 = search rules in none), c.in-Some-cut_word-2.ensures.1)
+    let begins = MatchOption-at_some _ _ _ c.in-Some.is (strip_prefix_is {E = eqb} Decides-eqb c.args.bytes.now (codes "dvlog 1\n") c.strip_prefix.result c.strip_prefix.ensures.cases) in (
+      is_front c.args.bytes.now c.in-Some.rest.now c.args.number begins c.in-Some-cut_word.found c.in-Some-cut_word-2.len c.in-Some-cut_word.rest.now c.in-Some-cut_word-2.rest.now
+          c.in-Some-cut_word.ensures.0 c.in-Some-cut_word-2.ensures.0 c.if-found-number.false (let none : length c.in-Some-cut_word-2.rest.now ≡ 0 = search rules in none),
+      c.in-Some-cut_word-2.ensures.1,
+    )
 
 pub returns-in_default : goal.returns-in_default
 returns-in_default c = λ len fits e.

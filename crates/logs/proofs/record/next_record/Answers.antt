@@ -20,7 +20,8 @@ returns-in_default-behind_sum c =
     c.in-Some.ensures.0 c.in-Some-len_after.ensures.0 c.in-Some-len_after.ensures.1 c.in-Some-cut_at.ensures.0 c.in-Some-cut_at.ensures.1 c.in_default-behind_sum.ensures
 
 pub returns : goal.returns
-returns c =
-    (has_record c.args.number c.in-Some-len_after.len c.args.log.now c.in-Some.front.now c.in-Some.behind.now c.in-Some-cut_at.body.now c.in-Some-cut_at.end.now c.in-Some-behind_sum.rest.now
-    c.in-Some.ensures.0 c.in-Some-len_after.ensures.0 c.in-Some-cut_at.ensures.0 c.in-Some-cut_at.ensures.1 c.in-Some-behind_sum.ensures,
-    subst IsWord (sym c.in-Some-cut_at.ensures.1) c.in-Some-len_after.ensures.1)
+returns c = (
+  has_record c.args.number c.in-Some-len_after.len c.args.log.now c.in-Some.front.now c.in-Some.behind.now c.in-Some-cut_at.body.now c.in-Some-cut_at.end.now c.in-Some-behind_sum.rest.now
+      c.in-Some.ensures.0 c.in-Some-len_after.ensures.0 c.in-Some-cut_at.ensures.0 c.in-Some-cut_at.ensures.1 c.in-Some-behind_sum.ensures,
+  subst IsWord (sym c.in-Some-cut_at.ensures.1) c.in-Some-len_after.ensures.1,
+)

@@ -1,4 +1,4 @@
-use Rattle.std.proofs.Common.{◌≡◌, List, [], ℕ, ◌++◌, length, ap, sym, ◌∙◌, rules}
+use Rattle.std.proofs.Common.{◌≡◌, List, [], ℕ, ◌++◌, length, ap, ◌∙◌, rules}
 use Rattle.sha2.specs.Sha256.{sha256}
 use Rattle.logs.specs.Records.{digest, front}
 use Rattle.logs.proofs.record.record_ends.Goals as goal

@@ -1,4 +1,4 @@
-use Rattle.std.proofs.Common.{length, rules, w64, arith}
+use Rattle.std.proofs.Common.{rules}
 use Rattle.logs.proofs.Cuts.{word_read}
 use Rattle.logs.proofs.words.cut_word.Goals as goal
 
