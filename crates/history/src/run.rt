@@ -10,7 +10,7 @@ use std::alloc::Global;
 use std::marker::Brand;
 use std::sync::atomic::Ordering;
 use std::sync::{Mutex, Wait};
-use std::thread::{Threads, for_each_mut, scope, scope_env};
+use std::thread::{Scope, Threads, for_each_mut, scope, scope_env};
 
 /// How many clients there are.
 pub const CLIENTS: usize = 8;
@@ -37,6 +37,19 @@ fn work_all<J: Naming + Send + Sync, R: Threads + Wait + Sync>(
     );
 }
 
+/// Starts a flusher of the engine in a thread of its own, if there are both.
+fn hire<'s, E, J: Naming + Send + Sync + 's, R: Wait + Sync>(
+    scope: &Scope<'s, E>,
+    rt: &'s R,
+    alloc: Global,
+    engine: &mut Engine<J>,
+    watch: &'s Watch,
+) {
+    if let Ok(flusher) = engine.flusher() {
+        start(scope, rt, alloc, flusher, watch);
+    }
+}
+
 /// The clients work while flushers make turns.
 fn beside<J: Naming + Send + Sync, R: Threads + Wait + Sync>(
     rt: &R,
@@ -49,9 +62,7 @@ fn beside<J: Naming + Send + Sync, R: Threads + Wait + Sync>(
 ) {
     scope(scope_env(), rt, |scope| {
         for _ in 0..FLUSHERS {
-            if let Ok(flusher) = engine.flusher() {
-                start(scope, rt, alloc, flusher, watch);
-            }
+            hire(scope, rt, alloc, engine, watch);
         }
         work_all(rt, alloc, clients, course, logs);
         watch.stop.store(true, Ordering::SeqCst);
