@@ -3,7 +3,7 @@ import sys
 from collections.abc import Iterable
 from typing import NamedTuple
 
-from order import DONE, GONE, OTHER, STANDS, Call, Log
+from order import DONE, GONE, OTHER, STANDS, Broken, Call, Log
 
 ANSWERS = {"done": DONE, "ENOENT": GONE, "EEXIST": STANDS}
 
@@ -44,14 +44,17 @@ def seen(words: list[str]) -> tuple[int, tuple[int, ...]]:
 def read(lines: Iterable[str]) -> tuple[Log, Turns]:
     """The log, and what flushers did beside it."""
     lines = iter(lines)
-    _, clients, files, names = next(lines).split()
     calls = []
+    first = next(lines, "").split()
+    if len(first) != 4 or first[0] != "history":
+        raise Broken("the log does not begin as one")
+    clients, files, names = first[1:]
     for line in lines:
         if line.startswith("turns "):
             log = Log(calls, int(clients), int(files), int(names))
             return log, Turns(*map(int, line.split()[1:]))
         calls.append(call_of(line))
-    raise ValueError("the log ends before its last line")
+    raise Broken("the log ends before its last line")
 
 
 def told(call: Call) -> str:

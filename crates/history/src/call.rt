@@ -34,8 +34,8 @@ pub enum Answer {
     Mark(u64),
     /// It was refused.
     Fault(Errno),
-    /// It saw each file of a tree: what it saw stands in the log.
-    All,
+    /// It saw each file of a tree: what it saw stands in the log from this number on.
+    All(usize),
     /// What no call is to be answered here, as a part of a mark.
     Other,
 }

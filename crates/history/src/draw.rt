@@ -28,10 +28,11 @@ pub struct Draw {
 impl Draw {
     /// The first call is chosen by the seed and the client's number.
     pub fn new(seed: u32, client: usize) -> Draw {
-        let seed = seed.wrapping_mul(64).wrapping_add(client as u32);
+        let number = (client % 64) as u32;
+        let first = seed.wrapping_mul(64).wrapping_add(number);
         Draw {
-            random: Random(seed.wrapping_mul(2_654_435_761)),
-            client: (client as u64).wrapping_add(1),
+            random: Random(first.wrapping_mul(2_654_435_761)),
+            client: u64::from(number).wrapping_add(1),
             marks: 0,
             then: None,
         }

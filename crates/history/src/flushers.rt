@@ -9,17 +9,25 @@ use std::time::Duration;
 /// How many microseconds a rest takes, or somewhat more.
 const REST: u64 = 20;
 
+/// How many turns flushers made.
+#[derive(Clone, Copy)]
+pub struct Turns {
+    /// All of them.
+    pub made: u64,
+    /// Those in which a job was installed.
+    pub installed: u64,
+    /// Those in which the job was stale, since a restore came between.
+    pub stale: u64,
+}
+
 /// What flushers are told, and what they made.
 #[derive(Drop)]
 pub struct Watch {
     /// Whether they have to stop.
     pub stop: AtomicBool,
-    /// How many turns they made.
-    pub turns: AtomicU64,
-    /// In how many a job was installed.
-    pub installed: AtomicU64,
-    /// In how many the job was stale, since a restore came between.
-    pub stale: AtomicU64,
+    turns: AtomicU64,
+    installed: AtomicU64,
+    stale: AtomicU64,
 }
 
 impl Watch {
@@ -30,6 +38,15 @@ impl Watch {
             turns: AtomicU64::new(0),
             installed: AtomicU64::new(0),
             stale: AtomicU64::new(0),
+        }
+    }
+
+    /// How many turns there were so far.
+    pub fn turns(&self) -> Turns {
+        Turns {
+            made: self.turns.load(Ordering::SeqCst),
+            installed: self.installed.load(Ordering::SeqCst),
+            stale: self.stale.load(Ordering::SeqCst),
         }
     }
 

@@ -14,16 +14,16 @@ pub mod run;
 pub mod work;
 
 use crate::call::Log;
-use crate::flushers::Watch;
+use crate::flushers::Turns;
 use crate::names::{FILES, SNAPSHOTS};
 use crate::print::print_log;
-use crate::run::{CLIENTS, FLUSHERS, run};
+use crate::run::{CLIENTS, FLUSHERS, Outcome, run};
 use crate::work::Course;
 use std::alloc::Global;
 use std::io;
 use std::io::{BufWriter, Write};
 use std::sync::Wait;
-use std::sync::atomic::{AtomicU64, Ordering};
+use std::sync::atomic::AtomicU64;
 use std::thread::Threads;
 
 /// How many calls each client makes where there is no argument.
@@ -55,39 +55,50 @@ fn new_course(seed: u64, calls: u64) -> Course {
 /// Makes a few calls, and says how many were logged.
 fn few_calls<R: Threads + Wait + Print + Sync>(rt: &R, alloc: Global) -> anyhow::Result<()> {
     let course = new_course(1, FEW * CLIENTS as u64);
-    let mut logged = 0u64;
-    if let Some(logs) = run(rt, alloc, &course, &Watch::new()) {
-        for log in logs.iter() {
-            logged = logged.wrapping_add(log.made.len() as u64);
-        }
-    }
+    let logged = match run(rt, alloc, &course) {
+        Some(outcome) => logged(outcome.logs.as_slice()),
+        None => 0,
+    };
     println!(rt; "{logged} calls of {CLIENTS} clients beside {FLUSHERS} flushers")?;
     Ok(())
 }
 
-/// Makes the calls, and prints their lines.
+/// How many calls the logs have.
+fn logged(logs: &[Log]) -> usize {
+    let mut logged = 0usize;
+    for log in logs {
+        logged = logged.wrapping_add(log.made.len());
+    }
+    logged
+}
+
+/// Makes the calls of a course, and prints what came of it: nothing where memory is refused.
 fn show<R: Threads + Wait + Sync, W: Write + Drop>(
     rt: &R,
     alloc: Global,
     course: &Course,
     out: W,
 ) -> anyhow::Result<()> {
-    let watch = Watch::new();
-    let logs = run(rt, alloc, course, &watch).unwrap_or(Vec::new(alloc));
+    match run(rt, alloc, course) {
+        Some(outcome) => print_outcome(alloc, &outcome, out),
+        None => Ok(()),
+    }
+}
+
+/// Prints what came of a course, gathered into large writes.
+fn print_outcome<W: Write + Drop>(alloc: Global, outcome: &Outcome, out: W) -> anyhow::Result<()> {
     let mut out = BufWriter::new(alloc, out)?;
-    print_all(&mut out, logs.as_slice(), &watch)?;
+    print_all(&mut out, outcome.logs.as_slice(), outcome.turns)?;
     out.flush()?;
     Ok(())
 }
 
 /// Prints a line of what there is, the lines of all calls, and one of what flushers did.
-fn print_all<W: Write>(out: &mut W, logs: &[Log], watch: &Watch) -> io::Result<()> {
+fn print_all<W: Write>(out: &mut W, logs: &[Log], turns: Turns) -> io::Result<()> {
     writeln!(out, "history {CLIENTS} {FILES} {SNAPSHOTS}")?;
     for log in logs {
         print_log(out, log)?;
     }
-    let turns = watch.turns.load(Ordering::SeqCst);
-    let installed = watch.installed.load(Ordering::SeqCst);
-    let stale = watch.stale.load(Ordering::SeqCst);
-    writeln!(out, "turns {turns} {installed} {stale}")
+    let (made, installed, stale) = (turns.made, turns.installed, turns.stale);
+    writeln!(out, "turns {made} {installed} {stale}")
 }

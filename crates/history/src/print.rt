@@ -27,7 +27,7 @@ fn print_answer<W: Write>(out: &mut W, answer: Answer) -> Result<()> {
             let name = fault.name();
             write!(out, " {name}")
         }
-        Answer::All => Ok(()),
+        Answer::All(_) => Ok(()),
         Answer::Other => write!(out, " other"),
     }
 }
@@ -40,23 +40,28 @@ fn print_seen<W: Write>(out: &mut W, seen: &[Answer]) -> Result<()> {
     Ok(())
 }
 
-/// Prints the line of a call, without what was seen.
-fn print_made<W: Write>(out: &mut W, client: usize, made: Made) -> Result<()> {
-    let (begin, end) = (made.begin, made.end);
+/// Prints the line of a call.
+fn print_made<W: Write>(out: &mut W, log: &Log, made: Made) -> Result<()> {
+    let (begin, end, client) = (made.begin, made.end, log.client);
     write!(out, "{begin} {end} {client} ")?;
     print_asked(out, made.asked)?;
-    print_answer(out, made.answer)
+    print_answer(out, made.answer)?;
+    if let Answer::All(from) = made.answer {
+        print_seen(out, seen_from(log, from))?;
+    }
+    writeln!(out)
+}
+
+/// What was seen of each file of a tree, from this number on.
+fn seen_from(log: &Log, from: usize) -> &[Answer] {
+    let end = from.saturating_add(FILES);
+    log.seen.as_slice().get(from..end).unwrap_or(&[])
 }
 
 /// Prints a log.
 pub fn print_log<W: Write>(out: &mut W, log: &Log) -> Result<()> {
-    let mut seen = log.seen.as_slice().chunks(FILES);
     for made in log.made.iter() {
-        print_made(out, log.client, *made)?;
-        if matches!(made.answer, Answer::All) {
-            print_seen(out, seen.next().unwrap_or(&[]))?;
-        }
-        writeln!(out)?;
+        print_made(out, log, *made)?;
     }
     Ok(())
 }

@@ -2,7 +2,7 @@
 ghost use Rattle.std.specs.Prelude.{◌≡◌};
 
 use crate::call::Log;
-use crate::flushers::{Watch, start};
+use crate::flushers::{Turns, Watch, start};
 use crate::names::new_volume;
 use crate::work::{Course, work};
 use engine::{Client, Engine, Naming, Room};
@@ -37,7 +37,7 @@ fn work_all<J: Naming + Send + Sync, R: Threads + Wait + Sync>(
     );
 }
 
-/// The clients work while flushers make turns.
+/// The clients work while flushers make turns. How many turns they made.
 fn beside<J: Naming + Send + Sync, R: Threads + Wait + Sync>(
     rt: &R,
     alloc: Global,
@@ -45,44 +45,36 @@ fn beside<J: Naming + Send + Sync, R: Threads + Wait + Sync>(
     clients: &mut [Client<J>],
     course: &Course,
     logs: &Mutex<Vec<Log>>,
-    watch: &Watch,
-) {
+) -> Turns {
+    let watch = Watch::new();
     scope(scope_env(), rt, |scope| {
         for _ in 0..FLUSHERS {
             if let Ok(flusher) = engine.flusher() {
-                start(scope, rt, alloc, flusher, watch);
+                start(scope, rt, alloc, flusher, &watch);
             }
         }
         work_all(rt, alloc, clients, course, logs);
         watch.stop.store(true, Ordering::SeqCst);
     });
+    watch.turns()
 }
 
-/// The same of an engine in the room. Whether there was memory for it.
+/// The same of an engine in the room; none where memory is refused.
 fn in_room<J: Naming + Send + Sync, R: Threads + Wait + Sync>(
     rt: &R,
     alloc: Global,
     room: Room,
     course: &Course,
     logs: &Mutex<Vec<Log>>,
-    watch: &Watch,
-) -> bool
+) -> Option<Turns>
     requires names { (room.0 ≡ J.table) × (room.1 ≡ J.opening) × (J.clients ≡ 8) }
 {
     match Engine::<J>::open(alloc, room, CLIENTS) {
         Ok((mut engine, mut clients)) => {
-            beside(
-                rt,
-                alloc,
-                &mut engine,
-                clients.as_mut_slice(),
-                course,
-                logs,
-                watch,
-            );
-            true
+            let turns = beside(rt, alloc, &mut engine, clients.as_mut_slice(), course, logs);
+            Some(turns)
         }
-        Err(_) => false,
+        Err(_) => None,
     }
 }
 
@@ -94,17 +86,23 @@ fn new_room(alloc: Global) -> Option<Room> {
     }
 }
 
-/// The logs of all clients of an engine over a new volume. What is not there was refused memory.
-pub fn run<R: Threads + Wait + Sync>(
-    rt: &R,
-    alloc: Global,
-    course: &Course,
-    watch: &Watch,
-) -> Option<Vec<Log>> {
+/// What came of a course.
+#[derive(Drop)]
+pub struct Outcome {
+    /// The logs of the clients, in no order.
+    pub logs: Vec<Log>,
+    /// What the flushers made meanwhile.
+    pub turns: Turns,
+}
+
+/// Makes the calls of a course on an engine over a new volume; none where memory is refused before the first.
+pub fn run<R: Threads + Wait + Sync>(rt: &R, alloc: Global, course: &Course) -> Option<Outcome> {
     let logs: Mutex<Vec<Log>> = Mutex::new(Vec::new(alloc));
-    if in_room::<Brand, R>(rt, alloc, new_room(alloc)?, course, &logs, watch) {
-        Some(logs.into_inner())
-    } else {
-        None
+    match in_room::<Brand, R>(rt, alloc, new_room(alloc)?, course, &logs) {
+        Some(turns) => Some(Outcome {
+            logs: logs.into_inner(),
+            turns,
+        }),
+        None => None,
     }
 }

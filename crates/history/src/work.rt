@@ -180,9 +180,10 @@ fn seen_of(
     files: &[Path],
     seen: &mut Vec<Answer>,
 ) -> Answer {
+    let from = seen.len();
     match tree {
         Ok(tree) => if see_all(alloc, &tree, files, seen) {
-            Answer::All
+            Answer::All(from)
         } else {
             Answer::Other
         },
