@@ -91,7 +91,7 @@ class Keeper:
         """Removes the files whose keys are gone."""
         own = {Path(it.path) for it in known(self.log) if it.machine == self.machine}
         for it in self.folder.glob("*.image"):
-            if it.resolve() not in own:
+            if it.stem.isdigit() and it.resolve() not in own:
                 it.unlink()
 
     def own(self) -> Checkpoint | None:
