@@ -1,5 +1,5 @@
 -- What is told of a value that was handed out, and of an image that was not loaded.
-use Rattle.std.proofs.Common.{◌≡◌, ◌≢◌, ◌⊎◌, ◌↔◌, ℕ, zero, suc, false, List, Result, Ok, Err, Option, Some, IfOk, IfErr, MatchResult, refl, sym, ap, subst, subst₂, ◌∙◌, inl, inr, arith}
+use Rattle.std.proofs.Common.{◌≡◌, ◌≢◌, ◌↔◌, ℕ, zero, suc, false, List, Result, Ok, Err, Option, IfOk, IfErr, MatchResult, refl, sym, ap, subst, subst₂, ◌∙◌, inl, inr, arith}
 use Rattle.images.specs.declared.load.LoadFault.{LoadFault}
 use Rattle.images.specs.declared.load.LoadFault.TheVariants.{Shape as BadShape, Bad, Memory, Read}
 use Rattle.node.specs.Shapes.{is_shape}
