@@ -2,8 +2,9 @@
 
 Functions are proved one by one against contracts. So edits of different functions are first tried together, in one check of one copy
 of the crate. An edit of a function's body is refused there where the prover tells of a goal of that very function that does not hold.
-Nothing else counts: where an edit changes more than bodies, where no goal of its function is named, and where a function that no edit
-touched is refused too, each edit is tried by itself, by `rt must-fail`.
+Nothing else counts. Where a function that no edit touched is refused too, each half of the edits is tried, and so on. Where an edit
+changes more than bodies, where no goal of its function is named, and where one half is that one edit, it is tried by itself, by
+`rt must-fail`.
 """
 from __future__ import annotations
 
@@ -219,20 +220,29 @@ class Trial:
             for path, text in texts.items():
                 (self.crate.folder / path).write_text(text, encoding="utf-8")
 
-    def batch(self, edits: list[Edit]) -> set[Edit]:
-        """The edits that one check of all of them shows to be refused."""
+    def batch(self, edits: list[Edit]) -> tuple[set[Edit], bool]:
+        """The edits that one check of all of them shows to be refused, and whether it refused only functions that they touch."""
         if not edits:
-            return set()
+            return set(), True
         said, made = self.checked(edits)
         functions = {edit: self.bodies.touched(edit) for edit in made}
         unread = [(it[1], int(it[2])) for it in (UNREAD.match(line) for line in said.split("\n")) if it]
         if unread:
             bad = {edit for edit in made if any(it.has_line(*at) for it in functions[edit] for at in unread)}
-            return self.batch([it for it in made if it not in bad]) if bad else set()
+            return self.batch([it for it in made if it not in bad]) if bad else (set(), False)
         verdict = verdict_of(said, self.bodies, frozenset().union(*functions.values()))
         if "\nlogic=not-proved" not in said or not verdict.is_clean:
-            return set()
-        return {edit for edit in made if functions[edit] & verdict.failed}
+            return set(), False
+        return {edit for edit in made if functions[edit] & verdict.failed}, True
+
+    def halved(self, edits: list[Edit]) -> set[Edit]:
+        """The edits that checks of several of them show to be refused: of all, and of halves where one tells nothing."""
+        found, is_clean = self.batch(edits)
+        self.say(f"{self.crate.name}: {len(found)} of {len(edits)} edits refused in one check")
+        if is_clean or len(edits) < 2:
+            return found
+        middle = len(edits) // 2
+        return self.halved(edits[:middle]) | self.halved(edits[middle:])
 
     def alone(self, edits: list[Edit]) -> set[Edit]:
         """The edits that are refused where each is tried by itself. It tells of the others."""
@@ -260,8 +270,7 @@ class Trial:
         batches, left = ([], edits) if by_itself else together(edits, self.bodies)
         refused: set[Edit] = set()
         for batch in batches:
-            found = self.batch(batch)
-            self.say(f"{self.crate.name}: {len(found)} of {len(batch)} edits refused in one check")
+            found = self.halved(batch)
             refused |= found
             left = [*left, *(it for it in batch if it not in found)]
         if left:
