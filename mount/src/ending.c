@@ -4,11 +4,14 @@
 #include <errno.h>
 #include <fcntl.h>
 #include <limits.h>
+#include <poll.h>
 #include <stdio.h>
 #include <string.h>
 #include <sys/wait.h>
 #include <syslog.h>
 #include <unistd.h>
+
+enum { MILLISECONDS_OF_SILENCE = 5000 };
 
 static int ends[2] = {-1, -1};
 
@@ -66,6 +69,14 @@ static int take_away(const char *mount_point) {
     return status != 0;
 }
 
+// Says what may last where a mount does not end at once.
+static void await_word(int says) {
+    struct pollfd word = {.fd = says, .events = POLLIN};
+    if (!poll(&word, 1, MILLISECONDS_OF_SILENCE))
+        fputs("doorvervain-mount: it is not at its end yet: it writes an image, or another mount namespace has it too\n",
+              stderr);
+}
+
 // Reads what a mount says until its process has ended. The last byte is its status.
 static int read_end(int says) {
     struct bytes said = {0};
@@ -84,7 +95,10 @@ int ending_await(const char *mount_point) {
     int says = open_place(&place);
     if (says < 0) return say("cannot wait for ", mount_point, errno);
     int status = take_away(mount_point);
-    if (!status) status = read_end(says);
+    if (!status) {
+        await_word(says);
+        status = read_end(says);
+    }
     close(says);
     return status;
 }

@@ -84,7 +84,8 @@ int holes_seek(struct mount *mount, struct entry *entry, uint64_t offset, int wh
     return 0;
 }
 
-static int set_length(struct mount *mount, struct entry *entry, const struct spot *spot, uint64_t length, uint64_t at) {
+static int set_length(struct mount *mount, struct entry *entry, const struct spot *spot, uint64_t length,
+                      uint64_t at) {
     int fault = mount->volume.way->truncate(mount->volume.self, spot->path, length, at);
     if (!fault) holes_cut(mount, entry, length);
     return fault;
@@ -92,8 +93,8 @@ static int set_length(struct mount *mount, struct entry *entry, const struct spo
 
 // A hole of a file that has `length` bytes. One that reaches the file's end is made by a cut, which gives a last block
 // back also where that is shorter than others. Then the file gets its length again: no size of the mount refuses that.
-static int make_hole(struct mount *mount, struct entry *entry, const struct spot *spot, uint64_t length, struct run hole,
-                     uint64_t at) {
+static int make_hole(struct mount *mount, struct entry *entry, const struct spot *spot, uint64_t length,
+                     struct run hole, uint64_t at) {
     if (hole.from >= length || hole.to < length) {
         forget(entry);
         return mount->volume.way->punch(mount->volume.self, spot->path, hole.from, hole.to - hole.from, at);

@@ -27,8 +27,8 @@ static uint8_t piece[1 << 16]; // of an image
 
 static const uint8_t *text(const char *word) { return (const uint8_t *)word; }
 
-// What a call's number says in <errno.h>. Behind some changes the tree does steps: a step that moves one change down takes
-// about as long as one that moves many.
+// What a call's number says in <errno.h>. Behind some changes the tree does steps: a step that moves one change down
+// takes about as long as one that moves many.
 static int done_many(struct library *library, uint8_t number, size_t changes) {
     if (number) return doorvervain_errno(number);
     library->changes += changes;
@@ -215,8 +215,8 @@ static int load(struct library *library, const char *name) {
     int file = open(name, O_RDONLY | O_CLOEXEC), failed = file < 0 ? errno : 0;
     uint8_t number = 0;
     if (!failed)
-        number = doorvervain_load_from(&library->volume, DOORVERVAIN_FANOUT, DOORVERVAIN_PENDING, DOORVERVAIN_LEAF, piece,
-                                       sizeof piece, get, &file, &failed, &line);
+        number = doorvervain_load_from(&library->volume, DOORVERVAIN_FANOUT, DOORVERVAIN_PENDING, DOORVERVAIN_LEAF,
+                                       piece, sizeof piece, get, &file, &failed, &line);
     int fault = failed ? failed : doorvervain_errno(number);
     if (line) fprintf(stderr, "doorvervain-mount: %s: bad image at line %" PRIu64 "\n", name, line);
     else if (fault) fprintf(stderr, "doorvervain-mount: %s: %s\n", name, strerror(fault));

@@ -1,5 +1,5 @@
 -- What is told of a value that was handed out, and of an image that was not loaded.
-use Rattle.std.proofs.Common.{◌≡◌, ◌≢◌, ◌⊎◌, ◌↔◌, ℕ, zero, suc, false, List, Result, Ok, Err, Option, Some, IfOk, IfErr, MatchResult, refl, sym, ap, subst, subst₂, ◌∙◌, inl, inr, arith}
+use Rattle.std.proofs.Common.{◌≡◌, ◌≢◌, ◌↔◌, ℕ, zero, suc, false, List, Result, Ok, Err, Option, IfOk, IfErr, MatchResult, refl, sym, ap, subst, subst₂, ◌∙◌, inl, inr, arith}
 use Rattle.images.specs.declared.load.LoadFault.{LoadFault}
 use Rattle.images.specs.declared.load.LoadFault.TheVariants.{Shape as BadShape, Bad, Memory, Read}
 use Rattle.node.specs.Shapes.{is_shape}
@@ -25,9 +25,9 @@ anyway (Ok x) q = q
 anyway (Err e) q = tt
 
 -- two facts about what is there
-pub both_of : {A E : Type 0} {P Q : A → Type 0} (r : Result A E) → IfOk r P → IfOk r Q → IfOk r (λ x. P x × Q x)
-both_of (Ok x) p q = (p, q)
-both_of (Err e) p q = tt
+pub both_of : {A E : Type 0} (P Q : A → Type 0) (r : Result A E) → IfOk r P → IfOk r Q → IfOk r (λ x. P x × Q x)
+both_of P Q (Ok x) p q = (p, q)
+both_of P Q (Err e) p q = tt
 
 -- ---- what was made, and is handed out
 
@@ -130,14 +130,6 @@ answer_no_image text (Ok x) told line h bad fits = subst (λ (r : Result _ Errno
 answer_no_image text (Err f) told line (e, is, fault) bad fits =
     subst (λ (r : Result _ Errno). IfErr r (λ d. NoImage text d line)) (sym is)
     (no_image text f e line (λ n b. bad n (ap Err b)) (λ b. fits (ap Err b)) fault)
-
--- a refusal is told as that
-pub answer_fault : {X : Type 0} (made : Result X LoadFault) (outcome : Result (Unit {0}) Errno) (given : Option X) (told : Result X Errno) (line : ℕ) (f : LoadFault)
-    → AnswerTold made told line → HandsOut told outcome given → made ≡ Err f → AnswerTold {X = Unit {0}} (Err f) outcome line
-answer_fault (Ok x) outcome given told line f h out is = absurd (cc)
-answer_fault (Err g) outcome given told line f (e, is, fault) out same =
-    let one : g ≡ f = cc in
-    (e, told_out told outcome given e out is, subst (λ (h : LoadFault). FaultTold h e line) one fault)
 
 -- where it is handed out memory may be refused
 pub memory_no_image : {X : Type 0} (text : List ℕ) (made : Result X Errno) (line : ℕ) → IfOk made (λ _. line ≡ 0) → IfOk made (λ _. NoImage text ENOMEM line)

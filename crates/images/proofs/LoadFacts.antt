@@ -1,6 +1,6 @@
 -- One line more of an image: what it makes of what was loaded.
 use Rattle.std.proofs.Common.{◌≡◌, ◌≢◌, ◌⊎◌, inl, inr, ⊎_elim, ℕ, ◌+◌, ◌*◌, ◌<◌, ◌≤◌, List, [], ◌∷◌, ◌++◌, length, true, false, refl, sym, ap, subst, ◌∙◌, arith, append_assoc, append-nil, Option, Some, None, Result, Ok, Err}
-use Rattle.std.specs.Prelude.{IfOk, IfSome, MatchOption}
+use Rattle.std.specs.Prelude.{IfSome, MatchOption}
 use Rattle.std.specs.Result.{is_ok}
 use Rattle.std.specs.declared.cmp.Ordering.TheVariants.{Less}
 use Rattle.std.proofs.lemmas.Bool.{cases_lt, ltb-false, le-ltb}
@@ -42,10 +42,7 @@ use Rattle.volume.specs.Plants.{Plants}
 use Rattle.volume.specs.Volumes.{PVolume, IsNew, Means}
 use Rattle.images.specs.Image.{version_of}
 use Rattle.images.specs.ImageLines.{Spells, line_of}
-use Rattle.images.specs.Loads.{AreSoFar, Begun, Counts, FitsAt, alone, text_of, text_so_far, with_line, count_so_far, IsLoading, LoadsNext, LoadsRoot, LoadsLine, MayNotFollow, RefusesLine, HasRead, LoadsPiece, RefusesPiece, LoadsEnd, RefusesEnd, ReadsSoFar, HasBegun, Loaded, LoadsAll, IsBadIn, entry_line, form_of, len_of, new_form}
-use Rattle.std.specs.Io.KnownBytes.{Consumes, IsAtEnd, Keeps}
-use Rattle.std.proofs.KnownBytes.{Consumes-kept, Consumes-nil, Consumes-trans}
-use Rattle.lines.proofs.Known.{gave_all, known_text, known_whole}
+use Rattle.images.specs.Loads.{AreSoFar, Begun, Counts, FitsAt, alone, text_of, text_so_far, with_line, count_so_far, IsLoading, LoadsNext, LoadsRoot, LoadsLine, MayNotFollow, RefusesLine, HasRead, LoadsEnd, RefusesEnd, Loaded, entry_line, form_of, len_of, new_form}
 use Rattle.lines.proofs.HeldFacts.{holds_nothing}
 use Rattle.lines.specs.Held.{Holds, IsFree}
 use Rattle.images.specs.declared.image_line.ImageLine.{ImageLine}

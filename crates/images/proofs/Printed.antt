@@ -1,5 +1,5 @@
 -- An image that is printed line by line, and handed out in parts.
-use Rattle.std.proofs.Common.{◌≡◌, inr, ℕ, ◌+◌, ◌<◌, ◌≤◌, List, [], ◌∷◌, ◌++◌, length, take, drop, codes, decimal, refl, sym, ap, subst, ◌∙◌, append_assoc, append-nil, arith, Option, Result, Ok, Err, IfOk, OnErr}
+use Rattle.std.proofs.Common.{◌≡◌, inr, ℕ, ◌+◌, ◌<◌, ◌≤◌, List, [], ◌++◌, length, take, drop, codes, decimal, refl, sym, ap, subst, ◌∙◌, append_assoc, append-nil, arith, Option, Result, Ok, Err, IfOk, OnErr}
 use Rattle.std.specs.Io.KnownBytes.{Appends}
 use Rattle.std.proofs.KnownBytes.{Appends-trans}
 use Rattle.std.proofs.Math.Seq.{drop-drop, drop-nil}
@@ -14,7 +14,7 @@ use Rattle.reference.specs.Indexes.{meta_of}
 use Rattle.reference.specs.Looks.{sight}
 use Rattle.reference.specs.Tree.{Path, Tree, Dir, File, moment}
 use Rattle.images.specs.Image.{AppendsLines, EndsLine, image_from}
-use Rattle.images.specs.Printings.{HandsOut, HandsOver, IsReady, IsReadyFor, PPrinting, ready_text}
+use Rattle.images.specs.Printings.{HandsOut, HandsOver, IsReady, PPrinting, ready_text}
 use Rattle.images.specs.Spots.{IsAt, Passes, left_at}
 use Rattle.images.specs.declared.ready.Ready.{Ready}
 use Rattle.images.specs.declared.spot.Spot.{Spot}

@@ -1,10 +1,10 @@
 -- The lines of the entries of an image.
-use Rattle.std.specs.Prelude.{◌≡◌, ◌⊎◌, ℕ, Bool, cond, List, [], ◌∷◌, ◌+◌, ◌/◌, ◌++◌, length, drop, decimal, flat_map, Option}
+use Rattle.std.specs.Prelude.{◌≡◌, ◌⊎◌, ℕ, Bool, cond, List, [], ◌∷◌, ◌+◌, ◌/◌, ◌++◌, length, drop, decimal, Option}
 use Rattle.std.specs.Io.KnownBytes.{Appends}
 use Rattle.reference.specs.Image.{Text, Version, First, Second, directory_letter, file_letter, moment_text, block_lines, path_text}
 use Rattle.pathkey.specs.Keys.{Key, enc}
 use Rattle.message.specs.Ranges.{reaches}
-use Rattle.reference.specs.Tree.{Path, Tree, Dir, File, Entries, nothing, entry, At, Found, entry_at}
+use Rattle.reference.specs.Tree.{Path, Tree, Dir, File, Entries, nothing, entry, At, Found}
 use Rattle.reference.specs.declared.reply.Meta.{Meta}
 use Rattle.reference.specs.declared.reply.Meta.TheVariants.{Dir as DirMeta, File as FileMeta}
 use Rattle.images.specs.declared.version.ImageVersion.{ImageVersion}

@@ -1,7 +1,7 @@
 use Rattle.std.proofs.Common.{◌≡◌}
 use Rattle.images.specs.Taken.{LoadedIn}
 use Rattle.doorvervain.specs.Handed.{NoImage}
-use Rattle.doorvervain.proofs.Handed.{answer_fault, answer_line, answer_no_image, answer_ok, done_out, given_out, memory_no_image, refused_out}
+use Rattle.doorvervain.proofs.Handed.{answer_line, answer_no_image, answer_ok, done_out, given_out, memory_no_image, refused_out}
 use Rattle.doorvervain.proofs.pieces.end.Goals as goal
 
 pub returns-clause-loaded : goal.returns-clause-loaded

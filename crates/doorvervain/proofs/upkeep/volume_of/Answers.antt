@@ -3,7 +3,7 @@ use Rattle.doorvervain.proofs.Handed.{answer_line, answer_ok, answer_refused, an
 use Rattle.doorvervain.proofs.upkeep.volume_of.Goals as goal
 
 pub returns-clause-loaded : goal.returns-clause-loaded
-returns-clause-loaded c = answer_ok (LoadedIn c.args.shape c.args.text.now) c.load.result c.answer.result c.answer.new.line c.answer.ensures (both_of c.load.result c.load.ensures.loaded c.load.ensures.form)
+returns-clause-loaded c = answer_ok (LoadedIn c.args.shape c.args.text.now) c.load.result c.answer.result c.answer.new.line c.answer.ensures (both_of _ _ c.load.result c.load.ensures.loaded c.load.ensures.form)
 
 pub returns-clause-line : goal.returns-clause-line
 returns-clause-line c = answer_line c.load.result c.answer.result c.answer.new.line c.answer.ensures

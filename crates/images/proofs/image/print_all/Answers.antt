@@ -1,7 +1,6 @@
-use Rattle.std.proofs.Common.{◌≡◌, ◌<◌, ◌∙◌, length, sym, ap, subst, arith}
+use Rattle.std.proofs.Common.{◌∙◌, sym}
 use Rattle.lines.proofs.Known.{on_err}
-use Rattle.std.proofs.lemmas.Result.{err_from_is_err_and}
-use Rattle.images.proofs.Printed.{printed_all, printed_lines, printed_more, printed_more_part, printed_part, printed_root, root_part}
+use Rattle.images.proofs.Printed.{printed_lines, printed_more, printed_more_part, printed_part, printed_root, root_part}
 use Rattle.images.proofs.image.print_all.Goals as goal
 
 pub returns-in_err-put_number_line-clause-err : goal.returns-in_err-put_number_line-clause-err

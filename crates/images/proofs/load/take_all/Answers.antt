@@ -1,7 +1,6 @@
 use Rattle.std.proofs.Common.{◌≡◌, refl, rules, ◌∙◌, sym, arith}
-use Rattle.lines.proofs.Known.{on_ok}
 use Rattle.std.proofs.KnownBytes.{Keeps-refl}
-use Rattle.images.proofs.TakenFacts.{never_shape, takes_all, takes_bad, takes_failed, takes_nothing, takes_piece}
+use Rattle.images.proofs.TakenFacts.{takes_all, takes_bad, takes_failed, takes_nothing, takes_piece}
 use Rattle.images.proofs.load.take_all.Goals as goal
 
 pub loop-init : goal.loop-init

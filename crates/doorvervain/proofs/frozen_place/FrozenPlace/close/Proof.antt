@@ -1,5 +1,5 @@
 -- `close` writes null, and the place owns nothing from then on.
-use Rattle.doorvervain.proofs.Steps.{◌≡◌, List, [], ◌∷◌, ◌++◌, refl, sym, subst, lit<, full_share, SProp, ent, id⊢, ftrue, fsep, flft, named, Val, vptr, vnull, vunit, vstruct, of_list, WpFn, ‵, ◌⊛◌, ◌$◌, ◌∵◌, !, qed, move, keep, drop, split, join, fsplit, fsplit3, fjoin, fjoin3, feq_i, feq_l, fpack, rewrite, suffices, use1, done, whole, sub, store_in, enter, stop, fld, lit, of_opd, assigns, unit_lit, returns, alloc_all, pass_all, free_all, look_at, through, sets, tables, shows, cell_at, Valss, within, RawPtr, null_ptr, MutRef, Slot, plain, nothing, opens, closes, peeks, says, Stays, stay_ref, walk_of, ends_at, Goes-ref, proved_at, None}
+use Rattle.doorvervain.proofs.Steps.{List, [], ◌∷◌, ◌++◌, refl, sym, subst, lit<, full_share, SProp, ent, id⊢, ftrue, fsep, flft, named, Val, vptr, vnull, vunit, vstruct, of_list, WpFn, ‵, ◌⊛◌, ◌$◌, ◌∵◌, !, qed, move, keep, drop, split, join, fsplit, fsplit3, fjoin, fjoin3, feq_i, feq_l, fpack, rewrite, suffices, use1, done, whole, sub, store_in, enter, stop, fld, lit, of_opd, assigns, unit_lit, returns, alloc_all, pass_all, free_all, look_at, through, sets, tables, shows, cell_at, Valss, within, RawPtr, null_ptr, MutRef, Slot, plain, nothing, opens, closes, peeks, says, Stays, stay_ref, walk_of, ends_at, Goes-ref, proved_at, None}
 use denote.Struct.Owning.{shape}
 use Rattle.doorvervain.specs.contracts.frozen_place.FrozenPlace.{the_row as R, the_type}
 use Rattle.doorvervain.specs.contracts.frozen_place.FrozenPlace.close as f

@@ -1,5 +1,5 @@
 -- `loading` opens the handle, and lends what lies at its pointer until the borrow ends.
-use Rattle.doorvervain.proofs.Steps.{List, [], ◌∷◌, refl, sym, ap, ◌∙◌, full_share, never, fst∗, GName, ftrue, flft, named, bare, Val, vptr, sem, ‵, ◌⊛◌, some, later, at_ret, ◌$◌, ◌∵◌, !, qed, move, keep, drop, use1, join, split, split3, fsplit, fsplit3, fjoin, fpick, group, pick, await, rewrite, frame, suffices, done, whole, sub, look_in, enter, addr, load, stop, fld, of_opd, first, blocks, exec, returns, alloc_all, pass_all, free_all, look_at, get, through, sets, sets_last, env, tables, no, follows, lends_Part, shows, cell_at, lone, mem, Ptr, null_ptr, in_a_block, MutRef, mut_vals, mut_Tells, plain, mut_ref_to, nothing, opens, peeks, Struct, says, Stays, stay_dropped, walk_of, ends_at, Goes-spent_ref, after, proved, box_owns}
+use Rattle.doorvervain.proofs.Steps.{List, [], ◌∷◌, refl, sym, ap, ◌∙◌, full_share, never, fst∗, GName, ftrue, flft, named, bare, Val, vptr, sem, ‵, ◌⊛◌, some, later, at_ret, ◌$◌, ◌∵◌, !, qed, move, keep, drop, use1, join, split, split3, fsplit, fsplit3, fjoin, fpick, group, pick, await, rewrite, frame, suffices, done, whole, sub, look_in, enter, addr, load, stop, fld, of_opd, first, blocks, exec, returns, alloc_all, pass_all, free_all, look_at, get, through, sets, sets_last, env, tables, no, follows, lends_Part, shows, cell_at, lone, Ptr, null_ptr, in_a_block, MutRef, mut_vals, mut_Tells, plain, mut_ref_to, nothing, opens, peeks, Struct, says, Stays, stay_dropped, walk_of, ends_at, Goes-spent_ref, after, proved, box_owns}
 use denote.Struct.Owning.{shape}
 use Rattle.std.specs.contracts.impls.GlobalAllocator.TheImpl.{ghosts}
 use Rattle.doorvervain.proofs.Pointers.{Frame, whole_again}

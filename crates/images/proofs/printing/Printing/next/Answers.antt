@@ -1,5 +1,4 @@
-use Rattle.std.proofs.Common.{◌≡◌, ap, sym, ◌∙◌}
-use Rattle.images.specs.Printings.{PPrinting}
+use Rattle.std.proofs.Common.{◌≡◌}
 use Rattle.images.proofs.Printed.{next_piece, ready_after}
 use Rattle.images.proofs.printing.Printing.next.Goals as goal
 

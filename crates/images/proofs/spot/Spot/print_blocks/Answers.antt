@@ -1,6 +1,5 @@
-use Rattle.std.proofs.Common.{◌≡◌, refl, ℕ, List, [], ◌∷◌, ap, sym, subst, ◌∙◌, arith}
+use Rattle.std.proofs.Common.{refl, ap, sym, subst, ◌∙◌}
 use Rattle.std.specs.Option.{option_to_list}
-use Rattle.reference.specs.Image.{block_line, trimmed}
 use Rattle.reference.specs.Tree.{entry_at}
 use Rattle.volume.specs.Volumes.{MeanRooted}
 use Rattle.volume.specs.Walks.{AreBlocksAt}

@@ -1,4 +1,4 @@
-use Rattle.std.proofs.Common.{◌≡◌, ◌<◌, ◌≤◌, ◌∙◌, ℕ, length, sym, subst, arith}
+use Rattle.std.proofs.Common.{◌∙◌, sym, subst, arith}
 use Rattle.volume.specs.Volumes.{MeanRooted}
 use Rattle.images.proofs.Spots.{passes_nothing, passes_then}
 use Rattle.images.proofs.spot.Spot.print_entries.Goals as goal
