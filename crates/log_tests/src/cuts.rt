@@ -21,13 +21,15 @@ fn records_in(log: &[u8]) -> u64 {
 
 /// How many of the three records end at this byte or before it.
 fn whole_before(place: usize) -> u64 {
-    let mut whole = 0;
-    for end in [FIRST_END, SECOND_END, SIZE] {
-        if end <= place {
-            whole += 1;
-        }
+    if place < FIRST_END {
+        0
+    } else if place < SECOND_END {
+        1
+    } else if place < SIZE {
+        2
+    } else {
+        3
     }
-    whole
 }
 
 /// Whether a log that is cut at this byte has the records that lie whole before it.
