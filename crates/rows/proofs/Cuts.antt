@@ -1,5 +1,5 @@
 -- What stands in a range, and what is left without it.
-use Rattle.std.proofs.Common.{◌≡◌, ℕ, ◌+◌, Bool, true, false, not, List, [], ◌∷◌, ◌++◌, refl, ap, sym, ◌∙◌, subst, Option, Some, cond, append-nil, append_assoc}
+use Rattle.std.proofs.Common.{◌≡◌, ℕ, ◌+◌, Bool, true, false, not, List, [], ◌∷◌, ◌++◌, get_or, refl, ap, sym, ◌∙◌, subst, Option, Some, cond, append-nil, append_assoc}
 use Rattle.std.specs.Prelude.{◌&&◌}
 use Rattle.std.specs.declared.cmp.Ordering.TheVariants.{Less}
 use Rattle.std.specs.Ordering.{is_le}
@@ -12,10 +12,10 @@ use Rattle.pathkey.specs.Keys.{is_below, is_in}
 use Rattle.pathkey.specs.Order.{by_bytes}
 use Rattle.pathkey.specs.declared.range.KeyRange.{KeyRange}
 use Rattle.rows.specs.Places.{Rises, reaches, before, AreBefore, AreFrom, AreBelow, AreBeyond}
-use Rattle.rows.specs.Rows.{joined, AreSized, AreRows}
+use Rattle.rows.specs.Rows.{joined, AreRows}
 use Rattle.rows.proofs.Entries.{rises_cons}
-use Rattle.rows.proofs.Order.{not_reaches_from_before}
-use Rattle.rows.proofs.Table.{joined-append, sized-append}
+use Rattle.rows.proofs.Order.{not_before_from_reaches, not_reaches_from_before}
+use Rattle.rows.proofs.TableFacts.{rows_both}
 
 false_left : (b c : Bool) → b ≡ false → (b && c) ≡ false
 false_left b c h = ap (λ a. a && c) h
@@ -62,26 +62,23 @@ module _ {X : Type 0} where
       ]
 
   module _ (range : KeyRange) where
-    abbrev inside : List ℕ → Bool
-    inside q = is_in range q
-
-    ahead : (es : List (List ℕ × X)) → AllByRecursion (λ q. before q range.lo ≡ true) (keys_of es) → AllByRecursion (λ q. inside q ≡ false) (keys_of es)
+    ahead : (es : List (List ℕ × X)) → AllByRecursion (λ q. before q range.lo ≡ true) (keys_of es) → AllByRecursion (λ q. is_in range q ≡ false) (keys_of es)
     ahead [] a = tt
     ahead (e ∷ es) a = (false_left (reaches range.lo e.0) (is_below e.0 range.hi) (not_reaches_from_before e.0 range.lo a.0), ahead es a.1)
 
-    within : (es : List (List ℕ × X)) → AllByRecursion (λ q. reaches range.lo q ≡ true) (keys_of es) → AllByRecursion (λ q. is_below q range.hi ≡ true) (keys_of es) → AllByRecursion (λ q. inside q ≡ true) (keys_of es)
+    within : (es : List (List ℕ × X)) → AllByRecursion (λ q. reaches range.lo q ≡ true) (keys_of es) → AllByRecursion (λ q. is_below q range.hi ≡ true) (keys_of es) → AllByRecursion (λ q. is_in range q ≡ true) (keys_of es)
     within [] a b = tt
     within (e ∷ es) a b = (both_true (reaches range.lo e.0) (is_below e.0 range.hi) a.0 b.0, within es a.1 b.1)
 
-    beyond : (es : List (List ℕ × X)) → AllByRecursion (λ q. is_below q range.hi ≡ false) (keys_of es) → AllByRecursion (λ q. inside q ≡ false) (keys_of es)
+    beyond : (es : List (List ℕ × X)) → AllByRecursion (λ q. is_below q range.hi ≡ false) (keys_of es) → AllByRecursion (λ q. is_in range q ≡ false) (keys_of es)
     beyond [] a = tt
     beyond (e ∷ es) a = (false_right (reaches range.lo e.0) (is_below e.0 range.hi) a.0, beyond es a.1)
 
-    outside_all : (es : List (List ℕ × X)) → AllByRecursion (λ q. inside q ≡ false) (keys_of es) → AllByRecursion (λ q. not (inside q) ≡ true) (keys_of es)
+    outside_all : (es : List (List ℕ × X)) → AllByRecursion (λ q. is_in range q ≡ false) (keys_of es) → AllByRecursion (λ q. not (is_in range q) ≡ true) (keys_of es)
     outside_all [] a = tt
     outside_all (e ∷ es) a = (ap not a.0, outside_all es a.1)
 
-    outside_none : (es : List (List ℕ × X)) → AllByRecursion (λ q. inside q ≡ true) (keys_of es) → AllByRecursion (λ q. not (inside q) ≡ false) (keys_of es)
+    outside_none : (es : List (List ℕ × X)) → AllByRecursion (λ q. is_in range q ≡ true) (keys_of es) → AllByRecursion (λ q. not (is_in range q) ≡ false) (keys_of es)
     outside_none [] a = tt
     outside_none (e ∷ es) a = (ap not a.0, outside_none es a.1)
 
@@ -94,34 +91,40 @@ module _ {X : Type 0} where
       whole : all ≡ front ++ (mid ++ back)
       whole = parts ∙ ap (λ t. front ++ t) more
 
-      mid_in : AllByRecursion (λ q. inside q ≡ true) (keys_of mid)
+      mid_in : AllByRecursion (λ q. is_in range q ≡ true) (keys_of mid)
       mid_in =
           let from = left_from mid back (λ q. reaches range.lo q ≡ true) (subst (λ (t : List (List ℕ × X)). AllByRecursion (λ q. reaches range.lo q ≡ true) (keys_of t)) more (recursion_from_All (λ q. reaches range.lo q ≡ true) (keys_of rest) b)) in
           within mid from (recursion_from_All (λ q. is_below q range.hi ≡ true) (keys_of mid) c)
 
-      front_out : AllByRecursion (λ q. inside q ≡ false) (keys_of front)
+      front_out : AllByRecursion (λ q. is_in range q ≡ false) (keys_of front)
       front_out = ahead front (recursion_from_All (λ q. before q range.lo ≡ true) (keys_of front) a)
 
-      back_out : AllByRecursion (λ q. inside q ≡ false) (keys_of back)
+      back_out : AllByRecursion (λ q. is_in range q ≡ false) (keys_of back)
       back_out = beyond back (recursion_from_All (λ q. is_below q range.hi ≡ false) (keys_of back) d)
 
       three : (p : List ℕ × X → Bool) → filter p all ≡ filter p front ++ (filter p mid ++ filter p back)
       three p = ap (λ t. filter p t) whole ∙ filter-append p front (mid ++ back) ∙ ap (λ t. filter p front ++ t) (filter-append p mid back)
 
-      pub kept : front ++ back ≡ filter (λ e. not (inside e.0)) all
+      pub kept : front ++ back ≡ filter (λ e. not (is_in range e.0)) all
       kept =
-          sym (three (λ e. not (inside e.0))
-          ∙ ap (λ t. t ++ (filter (λ e. not (inside e.0)) mid ++ filter (λ e. not (inside e.0)) back)) (filter_all (λ q. not (inside q)) front (outside_all front front_out))
-          ∙ ap (λ t. front ++ (t ++ filter (λ e. not (inside e.0)) back)) (filter_none (λ q. not (inside q)) mid (outside_none mid mid_in))
-          ∙ ap (λ t. front ++ t) (filter_all (λ q. not (inside q)) back (outside_all back back_out)))
+          sym (three (λ e. not (is_in range e.0))
+          ∙ ap (λ t. t ++ (filter (λ e. not (is_in range e.0)) mid ++ filter (λ e. not (is_in range e.0)) back)) (filter_all (λ q. not (is_in range q)) front (outside_all front front_out))
+          ∙ ap (λ t. front ++ (t ++ filter (λ e. not (is_in range e.0)) back)) (filter_none (λ q. not (is_in range q)) mid (outside_none mid mid_in))
+          ∙ ap (λ t. front ++ t) (filter_all (λ q. not (is_in range q)) back (outside_all back back_out)))
 
-      pub taken : mid ≡ filter (λ e. inside e.0) all
+      pub taken : mid ≡ filter (λ e. is_in range e.0) all
       taken =
-          sym (three (λ e. inside e.0)
-          ∙ ap (λ t. t ++ (filter (λ e. inside e.0) mid ++ filter (λ e. inside e.0) back)) (filter_none inside front front_out)
-          ∙ ap (λ t. t ++ filter (λ e. inside e.0) back) (filter_all inside mid mid_in)
-          ∙ ap (λ t. mid ++ t) (filter_none inside back back_out)
+          sym (three (λ e. is_in range e.0)
+          ∙ ap (λ t. t ++ (filter (λ e. is_in range e.0) mid ++ filter (λ e. is_in range e.0) back)) (filter_none (λ q. is_in range q) front front_out)
+          ∙ ap (λ t. t ++ filter (λ e. is_in range e.0) back) (filter_all (λ q. is_in range q) mid mid_in)
+          ∙ ap (λ t. mid ++ t) (filter_none (λ q. is_in range q) back back_out)
           ∙ append-nil mid)
 
       pub kept_rises : Rises all → Rises (front ++ back)
-      kept_rises r = subst (λ (t : List (List ℕ × X)). Rises t) (sym kept) (rises_filter (λ e. not (inside e.0)) all r)
+      kept_rises r = subst (λ (t : List (List ℕ × X)). Rises t) (sym kept) (rises_filter (λ e. not (is_in range e.0)) all r)
+
+  pub beyond_from : (k : List ℕ) (es : List (List ℕ × X)) → AreFrom k es → AreBeyond (Some k) es
+  beyond_from k es h i d l = not_before_from_reaches k (get_or (keys_of es) i d) (h i d l)
+
+  pub kept_rows : (rs ss ts : List (List (List ℕ × X))) → ts ≡ rs ++ ss → Rises (joined rs ++ joined ss) → AreRows rs → AreRows ss → AreRows ts
+  kept_rows rs ss ts t r w v = rows_both rs ss ts t r w.sized v.sized

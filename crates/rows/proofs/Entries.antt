@@ -9,7 +9,7 @@ use Rattle.std.specs.BTreeMap.{insert_entry, is_at}
 use Rattle.std.specs.Option.{option_map}
 use Rattle.std.specs.Prelude.{Bool, nat_lt, ◌≢◌}
 use Rattle.std.proofs.lemmas.Bool.Decides.{nat_tests}
-use Rattle.std.proofs.lemmas.List.{set_split}
+use Rattle.std.proofs.lemmas.List.{get_or_default, set_split}
 use Rattle.std.proofs.lemmas.Map.Keys.{sorted_head, sorted_tail}
 use Rattle.pathkey.specs.Heads.{IsHeaded}
 use Rattle.pathkey.specs.Order.{by_bytes, by_bytes_total, same}
@@ -232,6 +232,10 @@ module _ {X : Type 0} where
         ∙ ap (λ m. take m es ++ (old.0, w) ∷ drop (suc m) es) h.number
         ∙ swap_is k w es old h.there held
         ∙ sym (put-set k w es h.there)
+
+  -- the same, where the entry is read by another default
+  pub value_held : (k : List ℕ) (es : List (List ℕ × X)) (i : ℕ) (d : List ℕ × X) → IsHolder k es i → Some (get_or es i d).1 ≡ at_key k es
+  value_held k es i d h = sym (held_value k es i (get_or es i d) h (get_or_default es i d (get_or es i d) h.bound))
 
   pub put_done : (k : List ℕ) (w : X) (es : List (List ℕ × X)) (i : ℕ) → IsGap k es i → insert es i (k, w) ≡ insert_entry by_bytes es k w
   put_done k w es i h = ap (λ n. insert es n (k, w)) h.number ∙ put_is (k, w) es h.absent

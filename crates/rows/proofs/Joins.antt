@@ -4,7 +4,7 @@ use Rattle.std.specs.List.{slice_set, insert, remove}
 use Rattle.std.proofs.lemmas.List.{length-append}
 use Rattle.rows.specs.Places.{Rises}
 use Rattle.rows.specs.Rows.{joined, AreSized, AreRows}
-use Rattle.rows.proofs.Table.{sized_at, sized_set}
+use Rattle.rows.proofs.TableFacts.{sized_at, sized_set}
 
 module _ {X : Type 0} where
   pub get_removed : (m : ℕ) (rs : List (List (List ℕ × X))) → suc m < length rs → get_or (remove rs (suc m)) m [] ≡ get_or rs m []

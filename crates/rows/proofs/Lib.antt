@@ -5,4 +5,4 @@ mod Lifts
 mod Nearest
 mod Order
 mod Parts
-mod Table
+mod TableFacts

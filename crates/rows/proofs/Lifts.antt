@@ -3,7 +3,7 @@ use Rattle.std.proofs.Common.{◌≡◌, ℕ, zero, suc, ◌+◌, ◌-◌, ◌<�
 use Rattle.std.specs.Prelude.{Result, Ok, Err}
 use Rattle.std.specs.declared.cmp.Ordering.TheVariants.{Less, Equal, Greater}
 use Rattle.std.specs.Ordering.{is_eq, match_ordering}
-use Rattle.std.specs.List.{slice_set}
+use Rattle.std.specs.List.{remove, slice_set}
 use Rattle.std.specs.Map.{keys_of}
 use Rattle.std.specs.BTreeMap.{insert_entry}
 use Rattle.std.proofs.Math.Seq.{drop-append-add}
@@ -15,7 +15,7 @@ use Rattle.rows.specs.Places.{Rises, at_key, place, place_past}
 use Rattle.rows.specs.Rows.{joined, AreSized, AreRows, number_in}
 use Rattle.rows.proofs.Entries.{all_ahead, none_ahead, rises_put}
 use Rattle.rows.proofs.Parts.{at_between, drop_between, past_between, place_between, put_between, rises_drop, take_between}
-use Rattle.rows.proofs.Table.{around, joined_cut, sized_at, sized_set}
+use Rattle.rows.proofs.TableFacts.{around, joined_cut, rows_tail, sized_at, sized_set}
 
 module _ {X : Type 0} where
   -- ---- how many entries there are after a value was put
@@ -56,10 +56,10 @@ module _ {X : Type 0} where
 
     -- where its entries stand among all
     pub row_place : place k (joined rs) ≡ length (joined (take n rs)) + place k (get_or rs n [])
-    row_place = (let c = around k rs n w e l in ap (place k) c.is ∙ place_between k c.front (get_or rs n []) c.back c.before c.behind)
+    row_place = (let c = around k rs n w e l in ap (place k) c.is ∙ place_between k c.front (get_or rs n []) c.back c.before c.behind ∙ ap (λ (t : List (List ℕ × X)). length t + place k (get_or rs n [])) c.is_front)
 
     pub row_past : place_past k (joined rs) ≡ length (joined (take n rs)) + place_past k (get_or rs n [])
-    row_past = (let c = around k rs n w e l in ap (place_past k) c.is ∙ past_between k c.front (get_or rs n []) c.back c.before c.behind)
+    row_past = (let c = around k rs n w e l in ap (place_past k) c.is ∙ past_between k c.front (get_or rs n []) c.back c.before c.behind ∙ ap (λ (t : List (List ℕ × X)). length t + place_past k (get_or rs n [])) c.is_front)
 
     pub row_drop : (i m : ℕ) → i ≤ length (get_or rs n []) → m ≡ length (joined (take n rs)) + i → drop i (get_or rs n []) ++ joined (drop (n + 1) rs) ≡ drop m (joined rs)
     row_drop i m b h =
@@ -158,3 +158,10 @@ module _ {X : Type 0} where
         rises = subst (λ (t : List (List ℕ × X)). Rises t) (sym (shortened rs ss count row l (omega (arith, h)) s d)) (rises_drop count (joined rs) w.rises);
         sized = subst (λ (t : List (List (List ℕ × X))). AreSized t) (sym s) (sized_set 0 rs row (omega (arith, long, h, length-drop count (get_or rs 0 []))) (omega (arith, long, size.1, length-drop count (get_or rs 0 []))) w.sized);
       }
+
+  -- a whole row leaves from the front
+  pub taken_rows : (rs ss ts : List (List (List ℕ × X))) (new : List (List ℕ × X)) → 0 < length rs → ss ≡ slice_set rs 0 new → ts ≡ remove ss 0 → AreRows rs → AreRows ts
+  taken_rows [] ss ts new l s t w = absurd (omega arith)
+  taken_rows (r ∷ rs) ss ts new l s t w =
+      let is : ts ≡ rs = t ∙ ap (λ (x : List (List (List ℕ × X))). remove x 0) s in
+      subst (λ (x : List (List (List ℕ × X))). AreRows x) (sym is) (rows_tail (r ∷ rs) r rs refl w)

@@ -1,5 +1,5 @@
 -- The entries next to a key.
-use Rattle.std.proofs.Common.{◌≡◌, ℕ, zero, suc, ◌+◌, ◌-◌, ◌<◌, ◌≤◌, true, false, List, [], ◌∷◌, ◌++◌, length, take, get_or, refl, ap, sym, ◌∙◌, subst, arith, append-nil}
+use Rattle.std.proofs.Common.{◌≡◌, ℕ, zero, suc, ◌+◌, ◌-◌, ◌<◌, ◌≤◌, true, false, List, [], ◌∷◌, ◌++◌, length, refl, ap, sym, ◌∙◌, Some, None, arith, append-nil}
 use Rattle.std.specs.declared.cmp.Ordering.TheVariants.{Less, Equal, Greater}
 use Rattle.std.specs.Ordering.{match_ordering}
 use Rattle.std.specs.List.{AllByRecursion, slice_get}
@@ -48,12 +48,35 @@ module _ {X : Type 0} where
   pub last_append : (xs ys : List (List ℕ × X)) → 0 < length ys → last_of (xs ++ ys) ≡ last_of ys
   last_append [] ys l = refl
   last_append (x ∷ xs) ys l =
-      let is : length (xs ++ ys) ≡ suc (length (xs ++ ys) - 1) = omega (arith, l, length-append xs ys) in
-      ap (λ j. slice_get (x ∷ (xs ++ ys)) j) is ∙ last_append xs ys l
+      let is : length ((x ∷ xs) ++ ys) - 1 ≡ suc (length (xs ++ ys) - 1) = omega (arith, l, length-append xs ys) in
+      ap (λ j. slice_get ((x ∷ xs) ++ ys) j) is ∙ last_append xs ys l
 
-  pub last_row : (rs : List (List (List ℕ × X))) (n : ℕ) → length rs ≡ suc n → AreSized rs → last_of (get_or rs n []) ≡ last_of (joined rs)
-  last_row [] n l f = absurd (omega (arith, l))
-  last_row (q ∷ []) zero l f = ap (λ (t : List (List ℕ × X)). last_of t) (sym (append-nil q))
-  last_row (q ∷ []) (suc n) l f = absurd (omega (arith, l))
-  last_row (q ∷ s ∷ rs) zero l f = absurd (omega (arith, l))
-  last_row (q ∷ s ∷ rs) (suc n) l f = last_row (s ∷ rs) n (omega (arith, l)) f.2 ∙ sym (last_append q (s ++ joined rs) (omega (arith, f.2.0, length-append s (joined rs))))
+  -- of rows
+  pub last_row : (rs : List (List (List ℕ × X))) (row : List (List ℕ × X)) → Some row ≡ slice_get rs (length rs - 1) → AreSized rs → last_of row ≡ last_of (joined rs)
+  last_row [] row h f = absurd (cc)
+  last_row (q ∷ []) row h f =
+      let is : length (q ∷ []) - 1 ≡ 0 = omega arith in
+      let one : Some row ≡ Some q = h ∙ ap (λ j. slice_get (q ∷ []) j) is in
+      let same : row ≡ q = (cc) in
+      ap (λ (t : List (List ℕ × X)). last_of t) (same ∙ sym (append-nil q))
+  last_row (q ∷ s ∷ rs) row h f =
+      let is : length (q ∷ s ∷ rs) - 1 ≡ suc (length (s ∷ rs) - 1) = omega arith in
+      last_row (s ∷ rs) row (h ∙ ap (λ j. slice_get (q ∷ s ∷ rs) j) is) f.2 ∙ sym (last_append q (s ++ joined rs) (omega (arith, f.2.0, length-append s (joined rs))))
+
+  pub none_last : (rs : List (List (List ℕ × X))) → None ≡ slice_get rs (length rs - 1) → None ≡ last_of (joined rs)
+  none_last [] h = refl
+  none_last (q ∷ []) h = (let is : length (q ∷ []) - 1 ≡ 0 = omega arith in absurd (let no : None ≡ Some q = h ∙ ap (λ j. slice_get (q ∷ []) j) is in cc))
+  none_last (q ∷ s ∷ rs) h = (let is : length (q ∷ s ∷ rs) - 1 ≡ suc (length (s ∷ rs) - 1) = omega arith in absurd (none_some s rs (h ∙ ap (λ j. slice_get (q ∷ s ∷ rs) j) is)))
+    where
+      none_some : (s : List (List ℕ × X)) (rs : List (List (List ℕ × X))) → None ≡ slice_get (s ∷ rs) (length (s ∷ rs) - 1) → ⊥
+      none_some s [] h = (let is : length (s ∷ []) - 1 ≡ 0 = omega arith in let no : None ≡ Some s = h ∙ ap (λ j. slice_get (s ∷ []) j) is in cc)
+      none_some s (r ∷ rs) h = (let is : length (s ∷ r ∷ rs) - 1 ≡ suc (length (r ∷ rs) - 1) = omega arith in none_some r rs (h ∙ ap (λ j. slice_get (s ∷ r ∷ rs) j) is))
+
+  -- whether there is one
+  pub none_first : (rs : List (List (List ℕ × X))) → None ≡ slice_get rs 0 → joined rs ≡ []
+  none_first [] h = refl
+  none_first (r ∷ rs) h = absurd (cc)
+
+  pub some_first : (rs : List (List (List ℕ × X))) (row : List (List ℕ × X)) → Some row ≡ slice_get rs 0 → AreSized rs → 0 < length (joined rs)
+  some_first [] row h f = absurd (cc)
+  some_first (r ∷ rs) row h f = omega (arith, f.0, length-append r (joined rs))

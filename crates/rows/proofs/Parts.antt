@@ -1,5 +1,5 @@
 -- Entries that rise, in parts: what stands before a key and what stands behind it.
-use Rattle.std.proofs.Common.{◌≡◌, ℕ, zero, suc, ◌+◌, ◌<◌, ◌≤◌, true, false, List, [], ◌∷◌, ◌++◌, length, take, drop, refl, ap, sym, ◌∙◌, subst, Some, cond, arith}
+use Rattle.std.proofs.Common.{◌≡◌, ℕ, zero, suc, ◌+◌, ◌-◌, ◌<◌, ◌≤◌, true, false, List, [], ◌∷◌, ◌++◌, length, take, drop, refl, ap, sym, ◌∙◌, subst, Some, cond, arith}
 use Rattle.std.specs.declared.cmp.Ordering.TheVariants.{Less, Equal, Greater}
 use Rattle.std.specs.Ordering.{is_lt, is_le, is_eq, match_ordering}
 use Rattle.std.specs.List.{AllByRecursion}
@@ -7,7 +7,7 @@ use Rattle.std.specs.List.Sorted.{IsStrictlySortedBy}
 use Rattle.std.specs.Map.{keys_of}
 use Rattle.std.specs.BTreeMap.{insert_entry}
 use Rattle.std.proofs.Math.Seq.{drop-append-add, take-append-add}
-use Rattle.std.proofs.lemmas.List.{map-append, take-append-drop, drop-append-le, take-append-le}
+use Rattle.std.proofs.lemmas.List.{length-drop, map-append, take_all, take-append-drop, drop-append-le, take-append-le}
 use Rattle.std.proofs.lemmas.List.Elements.{All-from_recursion}
 use Rattle.std.proofs.lemmas.Map.Keys.{sorted_head, sorted_tail}
 use Rattle.pathkey.specs.Order.{by_bytes}
@@ -36,6 +36,10 @@ keys_right : (ks ls : List (List ℕ)) → IsStrictlySortedBy by_bytes (ks ++ ls
 unfolding IsStrictlySortedBy
 keys_right [] ls r = r
 keys_right (k ∷ ks) ls r = keys_right ks ls r.1
+
+-- all from a place on
+pub rest_is : {Y : Type 0} (n : ℕ) (xs : List Y) → take (length xs - n) (drop n xs) ≡ drop n xs
+rest_is n xs = take_all (length xs - n) (drop n xs) (omega (arith, length-drop n xs))
 
 module _ {X : Type 0} where
   -- the keys stand before k, or behind it, or at it and behind it
@@ -108,8 +112,8 @@ module _ {X : Type 0} where
   put_between k w xs ys zs a b = put_front k w xs (ys ++ zs) a ∙ ap (λ t. xs ++ t) (put_back k w ys zs b)
 
   place_front : (k : List ℕ) (xs ys : List (List ℕ × X)) → AllBefore k xs → place k (xs ++ ys) ≡ length xs + place k ys
-  place_front k [] ys a = refl
-  place_front k (x ∷ xs) ys a = ap (λ o. match_ordering o 0 0 (suc (place k (xs ++ ys)))) a.0 ∙ ap (λ n. suc n) (place_front k xs ys a.1)
+  place_front k [] ys a = omega arith
+  place_front k (x ∷ xs) ys a = (let rest : suc (place k (xs ++ ys)) ≡ length (x ∷ xs) + place k ys = omega (arith, place_front k xs ys a.1) in ap (λ o. match_ordering o 0 0 (suc (place k (xs ++ ys)))) a.0 ∙ rest)
 
   place_none : (k : List ℕ) (zs : List (List ℕ × X)) → AllBehind k zs → place k zs ≡ 0
   place_none k [] a = refl
@@ -120,8 +124,8 @@ module _ {X : Type 0} where
   place_back k (y ∷ ys) zs a = ap (λ n. match_ordering (by_bytes k y.0) 0 0 (suc n)) (place_back k ys zs a)
 
   past_front : (k : List ℕ) (xs ys : List (List ℕ × X)) → AllBefore k xs → place_past k (xs ++ ys) ≡ length xs + place_past k ys
-  past_front k [] ys a = refl
-  past_front k (x ∷ xs) ys a = ap (λ o. match_ordering o 0 (suc (place_past k (xs ++ ys))) (suc (place_past k (xs ++ ys)))) a.0 ∙ ap (λ n. suc n) (past_front k xs ys a.1)
+  past_front k [] ys a = omega arith
+  past_front k (x ∷ xs) ys a = (let rest : suc (place_past k (xs ++ ys)) ≡ length (x ∷ xs) + place_past k ys = omega (arith, past_front k xs ys a.1) in ap (λ o. match_ordering o 0 (suc (place_past k (xs ++ ys))) (suc (place_past k (xs ++ ys)))) a.0 ∙ rest)
 
   pub past_none : (k : List ℕ) (zs : List (List ℕ × X)) → AllBehind k zs → place_past k zs ≡ 0
   past_none k [] a = refl
@@ -172,7 +176,7 @@ module _ {X : Type 0} where
   mid_all P [] e es a = a.0
   mid_all P (x ∷ xs) e es a = mid_all P xs e es a.1
 
-  right_all : (P : List ℕ → Type 0) (xs ys : List (List ℕ × X)) → AllByRecursion P (keys_of (xs ++ ys)) → AllByRecursion P (keys_of ys)
+  pub right_all : (P : List ℕ → Type 0) (xs ys : List (List ℕ × X)) → AllByRecursion P (keys_of (xs ++ ys)) → AllByRecursion P (keys_of ys)
   right_all P [] ys a = a
   right_all P (x ∷ xs) ys a = right_all P xs ys a.1
 

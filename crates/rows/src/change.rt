@@ -43,11 +43,12 @@ impl<T: Stored> Change<T> for Put<T> {
     ghost does = { λ p es fs r. IsPut p.key p.value es fs r };
 
     fn change(self, entries: &mut Vec<(Key, T)>) -> Result<Option<T>, (Key, T)> {
-        put(entries, self.key, self.value)
+        put_entry(entries, self.key, self.value)
     }
 }
 
 /// The value at a key is changed. Where none stands there the edit comes back.
+#[derive(Drop)]
 pub(crate) struct EditAt<'a, E> {
     pub(crate) key: &'a Key,
     pub(crate) edit: E,
@@ -61,7 +62,7 @@ impl<'a, T: Stored, E: Edit<T>> Change<T> for EditAt<'a, E> {
     ghost does = { λ s es fs r. IsEditedAt (E.does s.edit) s.key.now s.edit es fs r };
 
     fn change(self, entries: &mut Vec<(Key, T)>) -> Result<E::Answer, E> {
-        edit(entries, self.key, self.edit)
+        edit_entry(entries, self.key, self.edit)
     }
 }
 
@@ -114,12 +115,16 @@ impl<T: Stored> Change<T> for Join<T> {
     ghost does = { λ s es fs r. IsJoined s.row es fs r };
 
     fn change(self, entries: &mut Vec<(Key, T)>) -> Result<(), Row<T>> {
-        join(entries, self.row)
+        join_row(entries, self.row)
     }
 }
 
 /// Puts a value at the key of entries, and answers what stood there. On want of memory key and value come back.
-fn put<T: Stored>(entries: &mut Vec<(Key, T)>, key: Key, value: T) -> Result<Option<T>, (Key, T)>
+fn put_entry<T: Stored>(
+    entries: &mut Vec<(Key, T)>,
+    key: Key,
+    value: T,
+) -> Result<Option<T>, (Key, T)>
     requires { Rises entries.old.items }
     ensures { IsPut key value entries.old.items entries.new.items result }
 {
@@ -137,7 +142,7 @@ fn put<T: Stored>(entries: &mut Vec<(Key, T)>, key: Key, value: T) -> Result<Opt
 }
 
 /// Changes the value at the key of entries. Where none stands there the edit comes back.
-fn edit<T: Stored, E: Edit<T>>(
+fn edit_entry<T: Stored, E: Edit<T>>(
     entries: &mut Vec<(Key, T)>,
     key: &Key,
     edit: E,
@@ -170,7 +175,7 @@ fn cut_off<T: Stored>(entries: &mut Vec<(Key, T)>, at: usize) -> Result<Row<T>, 
 }
 
 /// Puts entries behind others, for which there is room.
-fn put_back<T>(entries: &mut Vec<(Key, T)>, back: Vec<(Key, T)>)
+fn put_back<T: Stored>(entries: &mut Vec<(Key, T)>, back: Vec<(Key, T)>)
     requires { vec_len entries.old + vec_len back ≤ vec_capacity entries.old }
     ensures { entries.new.items ≡ entries.old.items ++ back.items }
 {
@@ -181,7 +186,7 @@ fn put_back<T>(entries: &mut Vec<(Key, T)>, back: Vec<(Key, T)>)
 }
 
 /// Moves the entries of a row behind others. On want of memory the row comes back.
-fn join<T: Stored>(entries: &mut Vec<(Key, T)>, row: Row<T>) -> Result<(), Row<T>>
+fn join_row<T: Stored>(entries: &mut Vec<(Key, T)>, row: Row<T>) -> Result<(), Row<T>>
     ensures { IsJoined row entries.old.items entries.new.items result }
 {
     let mut row = row;

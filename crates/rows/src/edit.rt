@@ -2,7 +2,7 @@
 ghost use Rattle.std.specs.Prelude.{◌≡◌};
 
 /// A change of one value.
-pub trait Edit<T> {
+pub trait Edit<T>: Drop {
     /// What it answers.
     type Answer;
 

@@ -1,5 +1,5 @@
 //! The list of entries that callers see.
-ghost use Rattle.std.specs.Prelude.{◌≡◌, ◌+◌, ◌^◌, ◌<◌, ◌≤◌, ◌++◌, [], not, true, ◌↔◌, length, take, drop, OnOk, OnErr, IfOk, IfNone, IfSome};
+ghost use Rattle.std.specs.Prelude.{◌≡◌, ◌+◌, ◌^◌, ◌<◌, ◌≤◌, ◌++◌, [], not, true, false, length, take, drop, OnOk, OnErr, IfOk, IfNone, IfSome};
 ghost use Rattle.std.specs.Option.{option_copied, option_map};
 ghost use Rattle.std.specs.List.{filter, slice_get};
 ghost use Rattle.pathkey.specs.Keys.{is_in};
@@ -14,8 +14,8 @@ use crate::row::Row;
 use crate::search::value_at;
 use crate::stored::Stored;
 use crate::table::{
-    begin, edit_in, entries_in, make_room, number_in, part, put_in, share_rows, shorten_first,
-    take_row, whole_rows,
+    begin, edit_in, entries_in, has_none, make_room, number_in, part, put_in, share_rows,
+    shorten_first, take_row, whole_rows,
 };
 use crate::walk::Walk;
 use pathkey::{Key, KeyRange, NoMemory};
@@ -59,9 +59,10 @@ impl<T: Stored> Rows<T> {
 
     /// Whether there is no entry.
     pub fn is_empty(&self) -> bool
-        ensures { (result ≡ true) ↔ (self.now ≡ []) }
+        ensures yes { result ≡ true → self.now ≡ [] }
+        ensures no { result ≡ false → 0 < length self.now }
     {
-        self.rows.is_empty()
+        has_none(self.rows.as_slice())
     }
 
     /// How many entries there are. It asks each row.
@@ -257,8 +258,16 @@ fn drop_among<T: Stored>(rows: &mut Vec<Row<T>>, count: usize)
     ensures entries { joined rows.new.items ≡ drop count (joined rows.old.items) }
 {
     let (whole, left) = whole_rows(rows.as_slice(), count);
-    rows.drain(..whole);
+    skip(rows, whole);
     if left > 0 {
         shorten_first(rows, left);
     }
+}
+
+/// Takes the first rows away.
+fn skip<T: Stored>(rows: &mut Vec<Row<T>>, count: usize)
+    requires { count ≤ length rows.old.items }
+    ensures { rows.new.items ≡ drop count rows.old.items }
+{
+    rows.drain(..count);
 }

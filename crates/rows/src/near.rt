@@ -81,10 +81,10 @@ fn last_behind<'a, T: Stored>(
     requires { AreSized rows.now }
     ensures { option_map (λ p. (p.0.now, p.1.now)) result ≡ last_of (joined rows.now ++ entries.now) }
 {
-    match entries.last() {
-        None => last_in(rows),
-        Some(entry) => Some((&entry.0, &entry.1)),
+    if entries.is_empty() {
+        return last_in(rows);
     }
+    last_entry(entries)
 }
 
 /// The last entry of rows.
@@ -92,7 +92,18 @@ pub(crate) fn last_in<T: Stored>(rows: &[Row<T>]) -> Option<(&Key, &T)>
     requires { AreSized rows.now }
     ensures { option_map (λ p. (p.0.now, p.1.now)) result ≡ last_of (joined rows.now) }
 {
-    let row = rows.last()?;
-    let entry = row.entries().last()?;
-    Some((&entry.0, &entry.1))
+    match rows.last() {
+        None => None,
+        Some(row) => last_entry(row.entries()),
+    }
+}
+
+/// The last of entries.
+fn last_entry<T>(entries: &[(Key, T)]) -> Option<(&Key, &T)>
+    ensures { option_map (λ p. (p.0.now, p.1.now)) result ≡ last_of entries.now }
+{
+    match entries.last() {
+        None => None,
+        Some(entry) => Some((&entry.0, &entry.1)),
+    }
 }

@@ -129,7 +129,7 @@ fn shorten<T: Stored>(entries: &mut Arc<Vec<(Key, T)>>, gone: usize) -> usize
 {
     match Arc::get_mut(entries) {
         Some(own) => {
-            own.drain(..gone);
+            drop_first(own, gone);
             0
         }
         None => gone,
@@ -143,13 +143,21 @@ fn own<T: Stored>(entries: &mut Arc<Vec<(Key, T)>>, gone: usize) -> Result<(), N
     ensures err { OnErr result (entries.new.value.items ≡ entries.old.value.items) }
 {
     if let Some(own) = Arc::get_mut(entries) {
-        own.drain(..gone);
+        drop_first(own, gone);
         return Ok(());
     }
     let alloc = *entries.allocator();
     let copy = copy_of(alloc, &entries.as_slice()[gone..])?;
     *entries = Arc::new(alloc, copy)?;
     Ok(())
+}
+
+/// Takes the first entries out.
+fn drop_first<T: Stored>(entries: &mut Vec<(Key, T)>, count: usize)
+    requires { count ≤ length entries.old.items }
+    ensures { entries.new.items ≡ drop count entries.old.items }
+{
+    entries.drain(..count);
 }
 
 /// Equal entries.

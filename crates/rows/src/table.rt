@@ -1,9 +1,9 @@
 //! Rows one behind the other: which of them has a key, the walk to it, and rows that are made two or joined.
-ghost use Rattle.std.specs.Prelude.{◌≡◌, ◌+◌, ◌-◌, ◌<◌, ◌≤◌, ◌^◌, ◌++◌, ◌∷◌, [], length, take, drop, None, Some, OnOk, OnErr, IfOk, IfErr, IfSome, Result, MatchResult, vec_len, vec_capacity};
-ghost use Rattle.std.specs.List.{slice_index_or, slice_set};
+ghost use Rattle.std.specs.Prelude.{◌≡◌, ◌+◌, ◌-◌, ◌<◌, ◌≤◌, ◌^◌, ◌++◌, ◌∷◌, [], length, take, drop, None, Some, OnOk, OnErr, IfOk, IfErr, IfNone, IfSome, true, false, vec_len, vec_capacity};
+ghost use Rattle.std.specs.List.{insert, slice_index_or, slice_set};
 ghost use Rattle.rows.specs.Places.{AreBefore, AreFrom};
-ghost use Rattle.rows.specs.Rows.{joined, row_number, number_in, AreRows};
-ghost use Rattle.rows.specs.Changes.{IsPut, IsEditedAt, IsRowChanged, IsEdited};
+ghost use Rattle.rows.specs.Rows.{joined, row_number, number_in, AreRows, AreSized};
+ghost use Rattle.rows.specs.Changes.{IsPut, IsRowChanged, IsEdited};
 
 use crate::change::{Change, CutOff, EditAt, Join, Put, Take};
 use crate::edit::{Edit, Edited};
@@ -317,13 +317,47 @@ fn join_rows<T: Stored>(rows: &mut Vec<Row<T>>, m: usize)
     ensures same { joined rows.new.items ≡ joined rows.old.items }
 {
     let row = rows.remove(m);
-    match change_row(rows, m - 1, Join { row }) {
-        Ok(Ok(())) => {}
-        Ok(Err(row)) | Err(Join { row }) => {
-            let Ok(()) = rows.insert(m, row) else {
-                unreachable!()
-            };
-        }
+    if let Some(row) = put_behind(rows, m - 1, row) {
+        put_at(rows, m, row);
+    }
+}
+
+/// Moves the entries of a row behind those of the row with this number. On want of memory it comes back.
+fn put_behind<T: Stored>(rows: &mut Vec<Row<T>>, n: usize, row: Row<T>) -> Option<Row<T>>
+    requires { n < length rows.old.items }
+    ensures joined { IfNone result (rows.new.items ≡ slice_set rows.old.items n (slice_index_or rows.old.items n [] ++ row)) }
+    ensures same { IfSome result (λ _. rows.new.items ≡ rows.old.items) }
+    ensures back { IfSome result (λ r. r ≡ row) }
+    ensures len { vec_len rows.new ≡ vec_len rows.old }
+    ensures room { vec_capacity rows.new ≡ vec_capacity rows.old }
+{
+    match change_row(rows, n, Join { row }) {
+        Ok(Ok(())) => None,
+        Ok(Err(row)) => Some(row),
+        Err(Join { row }) => Some(row),
+    }
+}
+
+/// Puts a row to its place, for which there is room.
+fn put_at<T: Stored>(rows: &mut Vec<Row<T>>, m: usize, row: Row<T>)
+    requires bound { m ≤ length rows.old.items }
+    requires room { vec_len rows.old < vec_capacity rows.old }
+    ensures { rows.new.items ≡ insert rows.old.items m row }
+{
+    let Ok(()) = rows.insert(m, row) else {
+        unreachable!()
+    };
+}
+
+/// Whether rows have no entry.
+pub(crate) fn has_none<T: Stored>(rows: &[Row<T>]) -> bool
+    requires { AreSized rows.now }
+    ensures yes { result ≡ true → joined rows.now ≡ [] }
+    ensures no { result ≡ false → 0 < length (joined rows.now) }
+{
+    match rows.first() {
+        None => true,
+        Some(_) => false,
     }
 }
 

@@ -1,6 +1,6 @@
 use Rattle.std.proofs.Common.{◌≡◌, ◌∷◌, rules, sym, ap, ◌∙◌}
 use Rattle.rows.specs.Rows.{number_in}
-use Rattle.rows.proofs.Table.{rows_tail}
+use Rattle.rows.proofs.TableFacts.{rows_tail}
 use Rattle.rows.proofs.table.number_in.Goals as goal
 
 pub number_of-requires : goal.number_of-requires

@@ -1,7 +1,7 @@
 use Rattle.std.proofs.Common.{rules}
 use Rattle.std.proofs.lemmas.List.Sorted.{IsPartitionPoint-from_clause}
 use Rattle.rows.specs.Rows.{begins_by}
-use Rattle.rows.proofs.Table.{rows_partitioned, number_by_search}
+use Rattle.rows.proofs.TableFacts.{rows_partitioned, number_by_search}
 use Rattle.rows.proofs.table.number_of.Goals as goal
 
 pub returns-clause-number : goal.returns-clause-number

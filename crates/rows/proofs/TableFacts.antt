@@ -136,7 +136,7 @@ module _ {X : Type 0} where
       let rest = number_by_search k rs i (omega arith) ((λ j d a h. p.0 (suc j) d (omega arith) (omega arith)), (λ j d a h. p.1 (suc j) d (omega arith) (omega arith))) in
       ap (λ n. suc n) rest ∙ sym (ap (λ c. cond c (suc (row_number k rs)) 0) (p.0 0 r (omega arith) (omega arith)))
 
-  get_drop : (n : ℕ) (rs : List (List (List ℕ × X))) → get_or (drop n rs) 0 [] ≡ get_or rs n []
+  pub get_drop : (n : ℕ) (rs : List (List (List ℕ × X))) → get_or (drop n rs) 0 [] ≡ get_or rs n []
   get_drop zero rs = refl
   get_drop (suc n) [] = refl
   get_drop (suc n) (r ∷ rs) = get_drop n rs
