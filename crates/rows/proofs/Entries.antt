@@ -14,7 +14,6 @@ use Rattle.std.proofs.lemmas.Map.Keys.{sorted_head, sorted_tail}
 use Rattle.pathkey.specs.Heads.{IsHeaded}
 use Rattle.pathkey.specs.Order.{by_bytes, by_bytes_total, same}
 use Rattle.pathkey.proofs.HeadFacts.{order_of_heads}
-use Rattle.pathkey.proofs.OrderFacts.{same_true}
 use Rattle.rows.specs.Places.{Rises, BeginsHeaded, at_key, place, reaches, is_there, IsHolder, IsGap}
 use Rattle.rows.specs.Rows.{begins_by}
 use Rattle.rows.proofs.Order.{behind}

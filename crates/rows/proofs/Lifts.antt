@@ -7,10 +7,10 @@ use Rattle.std.specs.List.{remove, slice_set}
 use Rattle.std.specs.Map.{keys_of}
 use Rattle.std.specs.BTreeMap.{insert_entry}
 use Rattle.std.proofs.Math.Seq.{drop-append-add}
-use Rattle.std.proofs.lemmas.List.{drop-append-le, drop_all, length-drop, length-append}
+use Rattle.std.proofs.lemmas.List.{drop-append-le, length-drop, length-append}
 use Rattle.std.proofs.lemmas.Map.Keys.{sorted_head, sorted_tail}
 use Rattle.pathkey.specs.Order.{by_bytes}
-use Rattle.rows.specs.Changes.{IsPut, IsEditedAt, IsRowChanged, ChangesValue}
+use Rattle.rows.specs.Changes.{IsPut, IsRowChanged, ChangesValue}
 use Rattle.rows.specs.Places.{Rises, at_key, place, place_past}
 use Rattle.rows.specs.Rows.{joined, AreSized, AreRows, number_in}
 use Rattle.rows.proofs.Entries.{all_ahead, none_ahead, rises_put}

@@ -5,7 +5,7 @@ use Rattle.std.specs.Ordering.{is_lt, is_le}
 use Rattle.std.specs.List.{AllByRecursion, slice_set, insert}
 use Rattle.std.specs.List.Sorted.{IsStrictlySortedBy, IsPartitionedBy, IsPartitionPoint}
 use Rattle.std.specs.Map.{keys_of}
-use Rattle.std.proofs.lemmas.List.{length-take, length-drop, take-append-drop, take_more, drop_more, take_all, drop_all, get_or_default}
+use Rattle.std.proofs.lemmas.List.{length-take, length-drop, take-append-drop, take_more, drop_more, take_all, drop_all}
 use Rattle.std.proofs.lemmas.Map.Keys.{sorted_head}
 use Rattle.pathkey.specs.Order.{by_bytes}
 use Rattle.rows.specs.Places.{Rises, place, reaches, before, AreBefore, AreFrom}

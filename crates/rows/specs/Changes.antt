@@ -1,5 +1,5 @@
 -- What a change makes of entries, and of the value at a key.
-use Rattle.std.specs.Prelude.{◌≡◌, ℕ, List, [], ◌++◌, length, take, drop, Option, None, Some, Result, MatchResult}
+use Rattle.std.specs.Prelude.{◌≡◌, ℕ, List, [], ◌++◌, take, drop, Option, None, Some, Result, MatchResult}
 use Rattle.std.specs.List.{slice_set, slice_index_or}
 use Rattle.std.specs.BTreeMap.{insert_entry}
 use Rattle.pathkey.specs.Order.{by_bytes}

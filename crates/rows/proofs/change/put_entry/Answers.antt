@@ -10,8 +10,7 @@ returns-in-Ok g c =
     let k = c.args.key in
     let i = c.in-Ok.i in
     let e = c.index_mut-entry.result.now in
-    let h = subst (λ t. IsHolder k t i) c.as_slice.ensures.value c.in-Ok.ensures in
-    (
+    let h = subst (λ t. IsHolder k t i) c.as_slice.ensures.value c.in-Ok.ensures in (
       ap (λ w. slice_set es i (e.0, w)) c.replace-old.ensures.after ∙ replaced k es i e h c.index_mut-entry.ensures.value c.args.value,
       ap (λ w. Some w) c.replace-old.ensures.value ∙ sym (held_value k es i e h c.index_mut-entry.ensures.value),
     )

@@ -1,4 +1,3 @@
-use Rattle.std.proofs.Common.{◌≡◌, subst}
 use Rattle.rows.proofs.TableFacts.{rows_back}
 use Rattle.rows.proofs.list.drop_among.Goals as goal
 

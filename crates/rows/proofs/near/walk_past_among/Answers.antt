@@ -1,10 +1,10 @@
-use Rattle.std.proofs.Common.{◌≡◌, ◌<◌, ◌≤◌, ◌+◌, ◌-◌, ◌++◌, ◌∙◌, [], ap, subst, sym, arith, rules, length, get_or, take, drop}
+use Rattle.std.proofs.Common.{◌≡◌, ◌<◌, ◌≤◌, ◌+◌, ◌-◌, ◌++◌, ◌∙◌, [], ap, subst, sym, rules, length, get_or, take, drop}
 use Rattle.std.proofs.lemmas.List.{get_or_default}
-use Rattle.rows.specs.Places.{Rises, last_of, place, place_past}
-use Rattle.rows.specs.Rows.{joined, number_in, AreSized}
+use Rattle.rows.specs.Places.{Rises, place_past}
+use Rattle.rows.specs.Rows.{joined, AreSized}
 use Rattle.rows.proofs.Lifts.{row_drop, row_past}
 use Rattle.rows.proofs.Parts.{rest_is}
-use Rattle.rows.proofs.TableFacts.{row_rises, sized_drop, sized_take}
+use Rattle.rows.proofs.TableFacts.{row_rises, sized_drop}
 use Rattle.rows.proofs.near.walk_past_among.Goals as goal
 
 pub count_past-at-requires : goal.count_past-at-requires

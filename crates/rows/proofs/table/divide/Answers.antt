@@ -1,4 +1,4 @@
-use Rattle.std.proofs.Common.{◌≡◌, ◌<◌, ◌≤◌, ◌+◌, ◌++◌, ◌∙◌, [], ap, subst, sym, arith, rules, length, get_or, take, drop}
+use Rattle.std.proofs.Common.{◌≡◌, ◌<◌, ◌≤◌, ◌+◌, ◌∙◌, [], ap, subst, sym, arith, rules, length, get_or, take, drop}
 use Rattle.std.proofs.lemmas.List.{get_or_default}
 use Rattle.rows.specs.Places.{Rises, place}
 use Rattle.rows.specs.Rows.{joined, number_in}

@@ -1,4 +1,4 @@
-use Rattle.std.proofs.Common.{[], ◌<◌, ◌+◌, ◌++◌, ap, refl, sym, ◌∙◌, subst, length, get_or, take, drop}
+use Rattle.std.proofs.Common.{[], ◌<◌, ◌+◌, ◌++◌, ap, sym, ◌∙◌, subst, length, get_or, take, drop}
 use Rattle.rows.specs.Rows.{AreRows, joined}
 use Rattle.rows.proofs.TableFacts.{split_same, split_rows, split_front, split_back}
 use Rattle.rows.proofs.table.split.Goals as goal
