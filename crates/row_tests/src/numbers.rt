@@ -84,3 +84,14 @@ pub fn has(list: &Rows<Number>, from: u64, to: u64) -> bool {
     }
     walk.peek().is_none()
 }
+
+/// Takes so many numbers away from the front, one by one, and says whether there were as many.
+pub fn drop_some(list: &mut Rows<Number>, count: u16) -> bool {
+    for _ in 0..count {
+        if list.is_empty() {
+            return false;
+        }
+        list.drop_front(1);
+    }
+    true
+}

@@ -65,7 +65,7 @@ impl<T: Stored> Rows<T> {
         has_none(self.rows.as_slice())
     }
 
-    /// How many entries there are. It asks each row.
+    /// How many entries there are, where their number is known to fit. It asks each row.
     pub fn len(&self) -> usize
         requires { length self.now < 2 ^ 64 }
         ensures { result ≡ length self.now }
