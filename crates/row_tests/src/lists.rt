@@ -97,20 +97,14 @@ fn neighbours_are_found(rt: HostRuntime) {
     assert_eq!(rt; neighbours(rt.alloc()).ok(), Some((there, absent)));
 }
 
-/// How many entries the first row has that leaves a list, and whether those behind it stay.
+/// Whether a row leaves a list without its first numbers, and the numbers behind it stay.
 fn first_row(alloc: Global) -> Result<bool, NoMemory> {
     let mut list = numbers(alloc, 1000)?;
     let dropped = drop_some(&mut list, 150);
-    match list.pop_row()? {
-        Some(row) => {
-            Ok(
-                has(&list, 150u64.saturating_add(row.len() as u64), 1000)
-                    && 0 < row.len()
-                    && row.len() <= 128,
-            )
-        }
-        None => Ok(false),
-    }
+    let row = list.pop_row()?;
+    let count = row.map_or(0, |row| row.len());
+    let next = 150u64.saturating_add(count as u64);
+    Ok(dropped && 0 < count && count <= 128 && has(&list, next, 1000))
 }
 
 #[test]
