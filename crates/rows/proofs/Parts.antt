@@ -70,9 +70,6 @@ module _ {X : Type 0} where
   pub rises_right : (es fs : List (List ℕ × X)) → Rises (es ++ fs) → Rises fs
   rises_right es fs r = keys_right (keys_of es) (keys_of fs) (subst (λ ks. IsStrictlySortedBy by_bytes ks) (map-append (λ (e : List ℕ × X). e.0) es fs) r)
 
-  pub rises_take : (i : ℕ) (es : List (List ℕ × X)) → Rises es → Rises (take i es)
-  rises_take i es r = rises_left (take i es) (drop i es) (subst (λ t. Rises t) (sym (take-append-drop i es)) r)
-
   pub rises_drop : (i : ℕ) (es : List (List ℕ × X)) → Rises es → Rises (drop i es)
   rises_drop i es r = rises_right (take i es) (drop i es) (subst (λ t. Rises t) (sym (take-append-drop i es)) r)
 

@@ -174,7 +174,6 @@ module _ {X : Type 0} where
     pub front : List (List ℕ × X)
     pub back : List (List ℕ × X)
     pub is_front : front ≡ joined (take n rs)
-    pub is_back : back ≡ joined (drop (suc n) rs)
     pub is : joined rs ≡ front ++ (row ++ back)
     pub set : (new : List (List ℕ × X)) → joined (slice_set rs n new) ≡ front ++ (new ++ back)
     pub before : AllBefore k front
@@ -185,7 +184,6 @@ module _ {X : Type 0} where
     front = joined (take n rs);
     back = joined (drop (suc n) rs);
     is_front = refl;
-    is_back = refl;
     is = joined_cut n rs l;
     set = λ new. joined_set n rs new l;
     before = front_before k rs n w e l;
