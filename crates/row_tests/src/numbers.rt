@@ -1,0 +1,97 @@
+//! Numbers by keys of two bytes.
+ghost use Rattle.std.specs.Prelude.{◌≡◌};
+
+use pathkey::{Key, NoMemory};
+use rows::{Edit, Rows, Stored};
+use std::alloc::Global;
+
+/// A number that is copied only where it lies from 400 to 599, as if memory for others were refused.
+#[derive(Drop)]
+pub struct Number(pub u64);
+
+impl Stored for Number {
+    fn copy(&self, _alloc: Global) -> Result<Number, NoMemory> {
+        if self.0 < 400 || 600 <= self.0 {
+            return Err(NoMemory);
+        }
+        Ok(Number(self.0))
+    }
+}
+
+/// Another number takes the place of one, which it answers.
+#[derive(Drop)]
+pub struct Replace(pub u64);
+
+impl Edit<Number> for Replace {
+    type Answer = u64;
+
+    ghost does = { λ with old new answer. (answer ≡ old.0) × (new.0 ≡ with.0) };
+
+    fn edit(self, value: &mut Number) -> u64 {
+        let old = value.0;
+        value.0 = self.0;
+        old
+    }
+}
+
+/// The key of a number.
+pub fn key(alloc: Global, number: u16) -> Result<Key, NoMemory> {
+    Key::from_bytes(alloc, &number.to_be_bytes())
+}
+
+/// Puts a number at its key.
+pub fn put(alloc: Global, list: &mut Rows<Number>, number: u16) -> Result<(), NoMemory> {
+    let at = key(alloc, number)?;
+    match list.put(at, Number(number as u64)) {
+        Ok(_) => Ok(()),
+        Err(_) => Err(NoMemory),
+    }
+}
+
+/// The numbers up to this one, each at its key, put in their order.
+pub fn numbers(alloc: Global, count: u16) -> Result<Rows<Number>, NoMemory> {
+    let mut list = Rows::new(alloc);
+    for number in 0..count {
+        put(alloc, &mut list, number)?;
+    }
+    Ok(list)
+}
+
+/// The same numbers, put in another order: by steps of 77, which meets each of a thousand.
+pub fn scattered(alloc: Global) -> Result<Rows<Number>, NoMemory> {
+    let mut list = Rows::new(alloc);
+    for number in 0..1000u32 {
+        put(alloc, &mut list, (number * 77 % 1000) as u16)?;
+    }
+    Ok(list)
+}
+
+/// What stands at the key of a number.
+pub fn at(alloc: Global, list: &Rows<Number>, number: u16) -> Result<Option<u64>, NoMemory> {
+    let at = key(alloc, number)?;
+    Ok(list.get(&at).map(|found| found.0))
+}
+
+/// Whether a walk through the list meets the numbers from one up to another, each once and in order, and no other.
+pub fn has(list: &Rows<Number>, from: u64, to: u64) -> bool {
+    let mut walk = list.walk();
+    let mut next = from;
+    for _ in from..to {
+        match walk.next() {
+            Some((_, found)) if found.0 == next => next = next.saturating_add(1),
+            _ => return false,
+        }
+    }
+    walk.peek().is_none()
+}
+
+/// Takes so many numbers away from the front, one by one, and says whether there were as many.
+pub fn drop_some(list: &mut Rows<Number>, count: u16) -> bool {
+    for _ in 0..count {
+        if list.is_empty() {
+            return false;
+        }
+        list.drop_front(1);
+    }
+    true
+}

@@ -1,0 +1,8 @@
+mod Cuts
+mod Entries
+mod Joins
+mod Lifts
+mod Nearest
+mod Order
+mod Parts
+mod TableFacts

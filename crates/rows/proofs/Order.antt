@@ -1,0 +1,79 @@
+-- The order of two and three keys.
+use Rattle.std.proofs.Common.{◌≡◌, ℕ, true, false, List, refl, ap, sym, ◌∙◌, Ordering}
+use Rattle.std.specs.declared.cmp.Ordering.TheVariants.{Less, Equal, Greater}
+use Rattle.std.specs.Ordering.{is_lt, is_le, ordering_reverse}
+use Rattle.pathkey.specs.Order.{by_bytes, by_bytes_total}
+use Rattle.pathkey.proofs.OrderFacts.{equal}
+use Rattle.rows.specs.Places.{reaches, before}
+
+-- ---- two keys compared both ways
+
+le_from_lt : (o : Ordering) → is_lt o ≡ true → is_le o ≡ true
+le_from_lt Less e = refl
+le_from_lt Equal e = (cc)
+le_from_lt Greater e = (cc)
+
+lt_back : (o p : Ordering) → p ≡ ordering_reverse o → is_le o ≡ false → is_lt p ≡ true
+lt_back Less p e f = (cc)
+lt_back Equal p e f = (cc)
+lt_back Greater p e f = ap is_lt e
+
+not_lt_back : (o p : Ordering) → p ≡ ordering_reverse o → is_le o ≡ true → is_lt p ≡ false
+not_lt_back Less p e f = ap is_lt e
+not_lt_back Equal p e f = ap is_lt e
+not_lt_back Greater p e f = (cc)
+
+pub less_from_lt : (o : Ordering) → is_lt o ≡ true → o ≡ Less
+less_from_lt Less h = refl
+less_from_lt Equal h = (cc)
+less_from_lt Greater h = (cc)
+
+pub reaches-from_before : (a b : List ℕ) → before a b ≡ true → reaches a b ≡ true
+reaches-from_before a b h = le_from_lt (by_bytes a b) h
+
+pub not_before_from_reaches : (a k : List ℕ) → reaches a k ≡ true → before k a ≡ false
+not_before_from_reaches a k f = not_lt_back (by_bytes a k) (by_bytes k a) (by_bytes_total.antisymm k a) f
+
+pub before_from_not_reaches : (a k : List ℕ) → reaches a k ≡ false → before k a ≡ true
+before_from_not_reaches a k f = lt_back (by_bytes a k) (by_bytes k a) (by_bytes_total.antisymm k a) f
+
+-- a key behind another
+pub greater_from : (k x : List ℕ) → before x k ≡ true → by_bytes k x ≡ Greater
+greater_from k x h = by_bytes_total.antisymm k x ∙ ap ordering_reverse (less_from_lt (by_bytes x k) h)
+
+pub before_from : (k x : List ℕ) → by_bytes k x ≡ Greater → before x k ≡ true
+before_from k x p = ap is_lt (by_bytes_total.antisymm x k ∙ ap ordering_reverse p)
+
+-- ---- three keys in a row
+
+le_lt_by : (a b c : List ℕ) (o p : Ordering) → by_bytes a b ≡ o → by_bytes b c ≡ p → is_le o ≡ true → is_lt p ≡ true → before a c ≡ true
+le_lt_by a b c Less Less x y h k = ap is_lt (by_bytes_total.trans a b c x y)
+le_lt_by a b c Less Equal x y h k = (cc)
+le_lt_by a b c Less Greater x y h k = (cc)
+le_lt_by a b c Equal p x y h k = ap is_lt (by_bytes_total.congr a b c x ∙ y) ∙ k
+le_lt_by a b c Greater p x y h k = (cc)
+
+lt_le_by : (a b c : List ℕ) (o p : Ordering) → by_bytes a b ≡ o → by_bytes b c ≡ p → is_lt o ≡ true → is_le p ≡ true → before a c ≡ true
+lt_le_by a b c Less Less x y h k = ap is_lt (by_bytes_total.trans a b c x y)
+lt_le_by a b c Less Equal x y h k = ap (λ t. before a t) (sym (equal b c y)) ∙ ap is_lt x
+lt_le_by a b c Less Greater x y h k = (cc)
+lt_le_by a b c Equal p x y h k = (cc)
+lt_le_by a b c Greater p x y h k = (cc)
+
+-- at or before, and then before
+pub le_lt : (a b c : List ℕ) → reaches a b ≡ true → before b c ≡ true → before a c ≡ true
+le_lt a b c h k = le_lt_by a b c (by_bytes a b) (by_bytes b c) refl refl h k
+
+-- before, and then at or before
+pub lt_le : (a b c : List ℕ) → before a b ≡ true → reaches b c ≡ true → before a c ≡ true
+lt_le a b c h k = lt_le_by a b c (by_bytes a b) (by_bytes b c) refl refl h k
+
+-- a key behind one that stands behind a third
+pub behind : (x y k : List ℕ) → by_bytes x y ≡ Less → by_bytes k y ≡ Greater → by_bytes k x ≡ Greater
+behind x y k l g =
+    let back : by_bytes y k ≡ Less = by_bytes_total.antisymm y k ∙ ap ordering_reverse g in
+    by_bytes_total.antisymm k x ∙ ap ordering_reverse (by_bytes_total.trans x y k l back)
+
+-- a key before another is not reached by it
+pub not_reaches_from_before : (q p : List ℕ) → before q p ≡ true → reaches p q ≡ false
+not_reaches_from_before q p h = ap is_le (greater_from p q h)

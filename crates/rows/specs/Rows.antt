@@ -1,0 +1,34 @@
+-- Entries in rows, one row behind the other.
+use Rattle.std.specs.Prelude.{ℕ, suc, ◌<◌, ◌≤◌, Bool, false, List, [], ◌∷◌, ◌++◌, length, if◌then◌else◌}
+use Rattle.rows.specs.Places.{Rises, reaches}
+
+module _ {X : Type 0} where
+  -- the entries of all rows in one list
+  abbrev pub joined : List (List (List ℕ × X)) → List (List ℕ × X)
+  joined [] = []
+  joined (r ∷ rs) = r ++ joined rs
+
+  -- each row has an entry, and 128 at most
+  abbrev pub AreSized : List (List (List ℕ × X)) → Type 0
+  AreSized [] = Unit {0}
+  AreSized (r ∷ rs) = (0 < length r) × (length r ≤ 128) × AreSized rs
+
+  -- what holds of rows: no key stands twice or out of order, and no row is empty or too long
+  pub record AreRows (rs : List (List (List ℕ × X))) : Type 0 where
+    pub rises : Rises (joined rs)
+    pub sized : AreSized rs
+
+  -- a row begins at the key or before it
+  abbrev pub begins_by : List ℕ → List (List ℕ × X) → Bool
+  begins_by k [] = false
+  begins_by k (e ∷ es) = reaches e.0 k
+
+  -- how many rows do so, up to the first that does not
+  abbrev pub row_number : List ℕ → List (List (List ℕ × X)) → ℕ
+  row_number k [] = 0
+  row_number k (r ∷ rs) = if begins_by k r then suc (row_number k rs) else 0
+
+  -- the number of the row in which the key stands or would
+  abbrev pub number_in : List ℕ → List (List (List ℕ × X)) → ℕ
+  number_in k [] = 0
+  number_in k (r ∷ rs) = row_number k rs

@@ -1,0 +1,72 @@
+//! The entries of a range, out of rows.
+ghost use Rattle.std.specs.Prelude.{◌≡◌, ◌+◌, ◌≤◌, ◌++◌, not, length, OnOk, OnErr, IfOk, vec_len, vec_capacity};
+ghost use Rattle.std.specs.List.{filter};
+ghost use Rattle.std.specs.Option.{option_copied};
+ghost use Rattle.pathkey.specs.Keys.{is_in};
+ghost use Rattle.rows.specs.Places.{AreBelow, AreBeyond};
+ghost use Rattle.rows.specs.Rows.{joined, AreRows};
+
+use crate::row::Row;
+use crate::stored::Stored;
+use crate::table::{mend, part};
+use pathkey::{Key, KeyRange, NoMemory};
+
+/// Moves the entries inside the range out. On want of memory the entries are as they were.
+pub(crate) fn cut_out<T: Stored>(
+    rows: &mut Vec<Row<T>>,
+    range: &KeyRange,
+) -> Result<Vec<Row<T>>, NoMemory>
+    requires { AreRows rows.old.items }
+    ensures rows { AreRows rows.new.items }
+    ensures out_rows { IfOk result (λ out. AreRows out.items) }
+    ensures kept { OnOk result (joined rows.new.items ≡ filter (λ e. not (is_in range.now e.0)) (joined rows.old.items)) }
+    ensures taken { IfOk result (λ out. joined out.items ≡ filter (λ e. is_in range.now e.0) (joined rows.old.items)) }
+    ensures err { OnErr result (joined rows.new.items ≡ joined rows.old.items) }
+{
+    rows.reserve(2)?;
+    let mut out = part(rows, &range.lo)?;
+    let seam = rows.len();
+    match part_at_end(&mut out, range.hi.as_ref()) {
+        Ok(later) => {
+            put_behind(rows, later);
+            mend(rows, seam);
+            Ok(out)
+        }
+        Err(refused) => {
+            put_behind(rows, out);
+            Err(refused)
+        }
+    }
+}
+
+/// Moves the rows' entries from the end on into rows of their own; `None` is no end.
+fn part_at_end<T: Stored>(
+    rows: &mut Vec<Row<T>>,
+    end: Option<&Key>,
+) -> Result<Vec<Row<T>>, NoMemory>
+    requires { AreRows rows.old.items }
+    ensures parts { IfOk result (λ back. joined rows.old.items ≡ joined rows.new.items ++ joined back.items) }
+    ensures rows { AreRows rows.new.items }
+    ensures back_rows { IfOk result (λ back. AreRows back.items) }
+    ensures front { OnOk result (AreBelow (option_copied end.entry) (joined rows.new.items)) }
+    ensures back { IfOk result (λ back. AreBeyond (option_copied end.entry) (joined back.items)) }
+    ensures err { OnErr result (joined rows.new.items ≡ joined rows.old.items) }
+    ensures few { IfOk result (λ back. length back.items ≤ length rows.old.items + 1) }
+    ensures one { length rows.new.items ≤ length rows.old.items + 1 }
+{
+    match end {
+        None => Ok(Vec::new(*rows.allocator())),
+        Some(end) => part(rows, end),
+    }
+}
+
+/// Puts rows behind others, for which there is room.
+fn put_behind<T: Stored>(rows: &mut Vec<Row<T>>, later: Vec<Row<T>>)
+    requires { vec_len rows.old + vec_len later ≤ vec_capacity rows.old }
+    ensures { rows.new.items ≡ rows.old.items ++ later.items }
+{
+    let mut later = later;
+    let Ok(()) = rows.append(&mut later) else {
+        unreachable!()
+    };
+}

@@ -1,0 +1,273 @@
+//! The list of entries that callers see.
+ghost use Rattle.std.specs.Prelude.{◌≡◌, ◌+◌, ◌^◌, ◌<◌, ◌≤◌, ◌++◌, [], not, true, false, length, take, drop, OnOk, OnErr, IfOk, IfNone, IfSome};
+ghost use Rattle.std.specs.Option.{option_copied, option_map};
+ghost use Rattle.std.specs.List.{filter, slice_get};
+ghost use Rattle.pathkey.specs.Keys.{is_in};
+ghost use Rattle.rows.specs.Places.{Rises, at_key, last_of, place, place_past, AreBefore, AreFrom};
+ghost use Rattle.rows.specs.Rows.{joined, AreRows};
+ghost use Rattle.rows.specs.Changes.{IsPut, IsEdited};
+
+use crate::cut::cut_out;
+use crate::edit::{Edit, Edited};
+use crate::near::{last_before_among, last_by_among, last_in, walk_from_among, walk_past_among};
+use crate::row::Row;
+use crate::search::value_at;
+use crate::stored::Stored;
+use crate::table::{
+    begin, edit_in, entries_in, has_none, make_room, number_in, part, put_in, share_rows,
+    shorten_first, take_row, whole_rows,
+};
+use crate::walk::Walk;
+use pathkey::{Key, KeyRange, NoMemory};
+use std::alloc::Global;
+use std::marker::Model;
+
+/// Values by their keys, in shared rows. Contracts see the list of the entries, which rise by key.
+#[derive(Drop)]
+pub struct Rows<T> {
+    rows: Vec<Row<T>>,
+}
+
+impl<T> Model for Rows<T> {
+    ghost use Rattle.std.specs.Prelude.{List, ℕ};
+
+    ghost Value = { List (List ℕ × T) };
+
+    ghost use Rattle.rows.specs.Rows.{joined, AreRows};
+
+    ghost view = { λ r. joined r.rows.items };
+
+    ghost invariant = { λ r. AreRows r.rows.items };
+}
+
+impl<T: Stored> Rows<T> {
+    /// No entries. It takes no memory.
+    pub fn new(alloc: Global) -> Rows<T>
+        ensures { result ≡ [] }
+    {
+        Rows {
+            rows: Vec::new(alloc),
+        }
+    }
+
+    /// Says that the entries rise by key. It does nothing.
+    pub fn rise(&self)
+        ensures { Rises self.now }
+    {
+        let _ = self.rows.len();
+    }
+
+    /// Whether there is no entry.
+    pub fn is_empty(&self) -> bool
+        ensures yes { result ≡ true → self.now ≡ [] }
+        ensures no { result ≡ false → 0 < length self.now }
+    {
+        has_none(self.rows.as_slice())
+    }
+
+    /// How many entries there are, where their number is known to fit. It asks each row.
+    pub fn len(&self) -> usize
+        requires { length self.now < 2 ^ 64 }
+        ensures { result ≡ length self.now }
+    {
+        entries_in(self.rows.as_slice())
+    }
+
+    /// What stands at the key.
+    pub fn get(&self, key: &Key) -> Option<&T>
+        ensures { option_copied result ≡ at_key key.now self.now }
+    {
+        get_among(self.rows.as_slice(), key)
+    }
+
+    /// Puts a value at the key, and answers what stood there. On want of memory key and value come back, and all is as it was.
+    #[inline(always)]
+    pub fn put(&mut self, key: Key, value: T) -> Result<Option<T>, (Key, T)>
+        ensures { IsPut key value self.old self.new result }
+    {
+        put_among(&mut self.rows, key, value)
+    }
+
+    /// Changes the value at the key in its place.
+    #[inline(always)]
+    pub fn edit<E: Edit<T>>(&mut self, key: &Key, edit: E) -> Edited<E::Answer, E>
+        ensures { IsEdited (E.does edit) key.now edit self.old self.new result }
+    {
+        edit_among(&mut self.rows, key, edit)
+    }
+
+    /// All entries from the first on.
+    pub fn walk(&self) -> Walk<'_, T>
+        ensures { result ≡ self.now }
+    {
+        Walk::of(&[], self.rows.as_slice())
+    }
+
+    /// The entries at the key and behind it.
+    pub fn walk_from(&self, key: &Key) -> Walk<'_, T>
+        ensures { result ≡ drop (place key.now self.now) self.now }
+    {
+        walk_from_among(self.rows.as_slice(), key)
+    }
+
+    /// The entries behind the key.
+    pub fn walk_past(&self, key: &Key) -> Walk<'_, T>
+        ensures { result ≡ drop (place_past key.now self.now) self.now }
+    {
+        walk_past_among(self.rows.as_slice(), key)
+    }
+
+    /// The last entry.
+    pub fn last(&self) -> Option<(&Key, &T)>
+        ensures { option_map (λ p. (p.0.now, p.1.now)) result ≡ last_of self.now }
+    {
+        last_in(self.rows.as_slice())
+    }
+
+    /// The last entry before the key.
+    pub fn last_before(&self, key: &Key) -> Option<(&Key, &T)>
+        ensures { option_map (λ p. (p.0.now, p.1.now)) result ≡ last_of (take (place key.now self.now) self.now) }
+    {
+        last_before_among(self.rows.as_slice(), key)
+    }
+
+    /// The last entry at the key or before it.
+    pub fn last_by(&self, key: &Key) -> Option<(&Key, &T)>
+        ensures { option_map (λ p. (p.0.now, p.1.now)) result ≡ last_of (take (place_past key.now self.now) self.now) }
+    {
+        last_by_among(self.rows.as_slice(), key)
+    }
+
+    /// Moves the entries at the key and behind it out. On want of memory all are as they were.
+    pub fn split_off(&mut self, key: &Key) -> Result<Rows<T>, NoMemory>
+        ensures parts { IfOk result (λ back. self.old ≡ self.new ++ back) }
+        ensures front { OnOk result (AreBefore key.now self.new) }
+        ensures back { IfOk result (λ back. AreFrom key.now back) }
+        ensures err { OnErr result (self.new ≡ self.old) }
+    {
+        let rows = part(&mut self.rows, key)?;
+        Ok(Rows { rows })
+    }
+
+    /// Moves the entries inside the range out. On want of memory all are as they were.
+    pub fn cut_out(&mut self, range: &KeyRange) -> Result<Rows<T>, NoMemory>
+        ensures kept { OnOk result (self.new ≡ filter (λ e. not (is_in range.now e.0)) self.old) }
+        ensures taken { IfOk result (λ out. out ≡ filter (λ e. is_in range.now e.0) self.old) }
+        ensures err { OnErr result (self.new ≡ self.old) }
+    {
+        let rows = cut_out(&mut self.rows, range)?;
+        Ok(Rows { rows })
+    }
+
+    /// Moves the entries of another list behind these, where all its keys stand behind them. On want of memory both lists are
+    /// as they were.
+    pub fn append(&mut self, later: &mut Rows<T>) -> Result<(), NoMemory>
+        requires { Rises (self.old ++ later.old) }
+        ensures entries { OnOk result (self.new ≡ self.old ++ later.old) }
+        ensures moved { OnOk result (later.new ≡ []) }
+        ensures err { OnErr result (self.new ≡ self.old) }
+        ensures kept { OnErr result (later.new ≡ later.old) }
+    {
+        self.rows.append(&mut later.rows)?;
+        Ok(())
+    }
+
+    /// Takes the first entries away. It takes no memory.
+    pub fn drop_front(&mut self, count: usize)
+        requires { count ≤ length self.old }
+        ensures { self.new ≡ drop count self.old }
+    {
+        drop_among(&mut self.rows, count);
+    }
+
+    /// Takes entries out from the front, one row of them, where there is any. They are moved, or copied where others share the
+    /// row. On want of memory all is as it was.
+    pub fn pop_row(&mut self) -> Result<Option<Vec<(Key, T)>>, NoMemory>
+        ensures none { IfOk result (λ row. IfNone row ((self.old ≡ []) × (self.new ≡ []))) }
+        ensures taken { IfOk result (λ row. IfSome row (λ r. self.old ≡ r.items ++ self.new)) }
+        ensures some { IfOk result (λ row. IfSome row (λ r. 0 < length r.items)) }
+        ensures err { OnErr result (self.new ≡ self.old) }
+    {
+        if self.rows.is_empty() {
+            return Ok(None);
+        }
+        Ok(Some(take_row(&mut self.rows)?))
+    }
+
+    /// A list of the same entries, which both then share.
+    pub fn share(&self) -> Result<Rows<T>, NoMemory>
+        ensures { IfOk result (λ shared. shared ≡ self.now) }
+    {
+        let rows = share_rows(self.rows.as_slice(), *self.rows.allocator())?;
+        Ok(Rows { rows })
+    }
+}
+
+/// What stands at the key in rows.
+fn get_among<'a, T: Stored>(rows: &'a [Row<T>], key: &Key) -> Option<&'a T>
+    requires { AreRows rows.now }
+    ensures { option_copied result ≡ at_key key.now (joined rows.now) }
+{
+    let n = number_in(rows, key);
+    match rows.get(n) {
+        None => None,
+        Some(row) => value_at(row.entries(), key),
+    }
+}
+
+/// Puts a value at the key in rows, and answers what stood there.
+#[inline(always)]
+fn put_among<T: Stored>(rows: &mut Vec<Row<T>>, key: Key, value: T) -> Result<Option<T>, (Key, T)>
+    requires { AreRows rows.old.items }
+    ensures rows { AreRows rows.new.items }
+    ensures put { IsPut key value (joined rows.old.items) (joined rows.new.items) result }
+{
+    if rows.is_empty() {
+        begin(rows, key, value)?;
+        return Ok(None);
+    }
+    let Some(n) = make_room(rows, &key) else {
+        return Err((key, value));
+    };
+    put_in(rows, n, key, value)
+}
+
+/// Changes the value at the key in rows.
+#[inline(always)]
+fn edit_among<T: Stored, E: Edit<T>>(
+    rows: &mut Vec<Row<T>>,
+    key: &Key,
+    edit: E,
+) -> Edited<E::Answer, E>
+    requires { AreRows rows.old.items }
+    ensures rows { AreRows rows.new.items }
+    ensures edited { IsEdited (E.does edit) key.now edit (joined rows.old.items) (joined rows.new.items) result }
+{
+    let n = number_in(rows.as_slice(), key);
+    if n >= rows.len() {
+        return Edited::Absent(edit);
+    }
+    edit_in(rows, n, key, edit)
+}
+
+/// Takes the first entries of rows away.
+fn drop_among<T: Stored>(rows: &mut Vec<Row<T>>, count: usize)
+    requires rows { AreRows rows.old.items }
+    requires count { count ≤ length (joined rows.old.items) }
+    ensures rows { AreRows rows.new.items }
+    ensures entries { joined rows.new.items ≡ drop count (joined rows.old.items) }
+{
+    let (whole, left) = whole_rows(rows.as_slice(), count);
+    skip(rows, whole);
+    if left > 0 {
+        shorten_first(rows, left);
+    }
+}
+
+/// Takes the first rows away.
+fn skip<T: Stored>(rows: &mut Vec<Row<T>>, count: usize)
+    requires { count ≤ length rows.old.items }
+    ensures { rows.new.items ≡ drop count rows.old.items }
+{
+    rows.drain(..count);
+}

@@ -1,0 +1,172 @@
+//! A row of entries, which several lists may share.
+ghost use Rattle.std.specs.Prelude.{◌≡◌, ◌≤◌, drop, length, OnOk, OnErr, IfOk, IfErr};
+ghost use Rattle.rows.specs.Places.{BeginsHeaded};
+ghost use Rattle.rows.specs.Rows.{begins_by};
+
+use crate::change::Change;
+use crate::stored::Stored;
+use pathkey::{Key, NoMemory};
+use std::alloc::Global;
+use std::marker::Model;
+use std::sync::Arc;
+
+/// Entries that other rows may share, of which the first ones may be gone, and beside them the head of the first one's key:
+/// a search among rows seldom reads more of a row. Contracts see the entries that are left.
+#[derive(Drop)]
+pub struct Row<T> {
+    head: u64,
+    gone: usize,
+    entries: Arc<Vec<(Key, T)>>,
+}
+
+impl<T> Model for Row<T> {
+    ghost use Rattle.std.specs.Prelude.{List, ℕ, drop, ◌≤◌, length};
+
+    ghost Value = { List (List ℕ × T) };
+
+    ghost use Rattle.rows.specs.Places.{BeginsHeaded};
+
+    ghost view = { λ r. drop r.gone r.entries.value.items };
+
+    ghost invariant = { λ r. BeginsHeaded r.head (drop r.gone r.entries.value.items) × (r.gone ≤ length r.entries.value.items) };
+}
+
+impl<T: Stored> Row<T> {
+    /// A row of these entries.
+    pub(crate) fn of(entries: Arc<Vec<(Key, T)>>) -> Row<T>
+        ensures { result ≡ entries.value.items }
+    {
+        Row {
+            head: first_head(entries.as_slice()),
+            gone: 0,
+            entries,
+        }
+    }
+
+    /// The entries.
+    #[inline(always)]
+    pub(crate) fn entries(&self) -> &[(Key, T)]
+        ensures entries { result.now ≡ self.now }
+        ensures len { length result.now ≡ length self.now }
+    {
+        &self.entries.as_slice()[self.gone..]
+    }
+
+    /// Whether the first entry has the key or stands before it. Heads that differ say it alone.
+    #[inline(always)]
+    pub(crate) fn begins_by(&self, key: &Key) -> bool
+        ensures { result ≡ begins_by key.now self.now }
+    {
+        let Some(first) = self.entries().first() else {
+            return false;
+        };
+        let head = key.head();
+        if self.head != head {
+            return self.head < head;
+        }
+        first.0.cmp(key).is_le()
+    }
+
+    /// The same entries, which both rows then share.
+    pub(crate) fn share(&self) -> Result<Row<T>, NoMemory>
+        ensures { IfOk result (λ r. r ≡ self.now) }
+    {
+        let entries = Arc::try_clone(&self.entries)?;
+        Ok(Row {
+            head: self.head,
+            gone: self.gone,
+            entries,
+        })
+    }
+
+    /// Changes the entries, which first become this row's own. On want of memory the change comes back.
+    pub(crate) fn change<C: Change<T>>(&mut self, change: C) -> Result<C::Answer, C>
+        requires { C.fits change self.old }
+        ensures done { IfOk result (λ a. C.does change self.old self.new a) }
+        ensures err { OnErr result (self.new ≡ self.old) }
+        ensures back { IfErr result (λ c. c ≡ change) }
+    {
+        if own(&mut self.entries, self.gone).is_err() {
+            return Err(change);
+        }
+        self.gone = 0;
+        match Arc::get_mut(&mut self.entries) {
+            None => Err(change),
+            Some(entries) => {
+                let answer = change.change(entries);
+                self.head = first_head(self.entries.as_slice());
+                Ok(answer)
+            }
+        }
+    }
+
+    /// Takes the first entries away. It takes no memory.
+    pub(crate) fn drop_front(&mut self, count: usize)
+        requires { count ≤ length self.old }
+        ensures { self.new ≡ drop count self.old }
+    {
+        self.gone = shorten(&mut self.entries, self.gone + count);
+        self.head = first_head(&self.entries.as_slice()[self.gone..]);
+    }
+}
+
+/// The head of the first entry's key; 0 where there is none.
+#[inline(always)]
+fn first_head<T>(entries: &[(Key, T)]) -> u64
+    ensures { BeginsHeaded result entries.now }
+{
+    match entries.first() {
+        None => 0,
+        Some(entry) => entry.0.head(),
+    }
+}
+
+/// Takes the first entries out where nobody else holds them. It answers how many are still to be passed over.
+fn shorten<T: Stored>(entries: &mut Arc<Vec<(Key, T)>>, gone: usize) -> usize
+    requires { gone ≤ length entries.old.value.items }
+    ensures same { drop result entries.new.value.items ≡ drop gone entries.old.value.items }
+    ensures bound { result ≤ length entries.new.value.items }
+{
+    match Arc::get_mut(entries) {
+        Some(own) => {
+            drop_first(own, gone);
+            0
+        }
+        None => gone,
+    }
+}
+
+/// Takes copies in the place of entries that are shared, without the first ones, which are gone.
+fn own<T: Stored>(entries: &mut Arc<Vec<(Key, T)>>, gone: usize) -> Result<(), NoMemory>
+    requires { gone ≤ length entries.old.value.items }
+    ensures ok { OnOk result (entries.new.value.items ≡ drop gone entries.old.value.items) }
+    ensures err { OnErr result (entries.new.value.items ≡ entries.old.value.items) }
+{
+    if let Some(own) = Arc::get_mut(entries) {
+        drop_first(own, gone);
+        return Ok(());
+    }
+    let alloc = *entries.allocator();
+    let copy = copy_of(alloc, &entries.as_slice()[gone..])?;
+    *entries = Arc::new(alloc, copy)?;
+    Ok(())
+}
+
+/// Takes the first entries out.
+fn drop_first<T: Stored>(entries: &mut Vec<(Key, T)>, count: usize)
+    requires { count ≤ length entries.old.items }
+    ensures { entries.new.items ≡ drop count entries.old.items }
+{
+    entries.drain(..count);
+}
+
+/// Equal entries.
+fn copy_of<T: Stored>(alloc: Global, entries: &[(Key, T)]) -> Result<Vec<(Key, T)>, NoMemory>
+    ensures { IfOk result (λ copy. copy.items ≡ entries.now) }
+{
+    let mut copy = Vec::with_capacity(alloc, entries.len())?;
+    for entry in entries {
+        copy.push((entry.0.copy(alloc)?, entry.1.copy(alloc)?))?;
+    }
+    Ok(copy)
+}

@@ -1,0 +1,71 @@
+//! A walk through entries, in the order of their keys.
+ghost use Rattle.std.specs.Prelude.{◌≡◌, ◌++◌, [], IfNone};
+ghost use Rattle.std.specs.Option.{option_map, option_to_list};
+ghost use Rattle.std.specs.List.{slice_get};
+ghost use Rattle.rows.specs.Rows.{joined, AreSized};
+
+use crate::row::Row;
+use crate::stored::Stored;
+use pathkey::Key;
+use std::marker::Model;
+
+/// The entries that a walk has still before it. Contracts see the list of them.
+#[derive(Drop)]
+pub struct Walk<'a, T> {
+    entries: &'a [(Key, T)],
+    later: &'a [Row<T>],
+}
+
+impl<'a, T> Model for Walk<'a, T> {
+    ghost use Rattle.std.specs.Prelude.{List, ℕ, ◌≡◌, ◌++◌, length};
+    ghost use Rattle.rows.specs.Rows.{joined, AreSized};
+
+    ghost Value = { List (List ℕ × T) };
+
+    ghost view = { λ w. w.entries.now ++ joined w.later.now };
+
+    ghost invariant = { λ w. AreSized w.later.now × (length w.entries.now ≡ 0 → length w.later.now ≡ 0) };
+}
+
+impl<'a, T: Stored> Walk<'a, T> {
+    /// A walk through entries, and then through rows.
+    pub(crate) fn of(entries: &'a [(Key, T)], later: &'a [Row<T>]) -> Walk<'a, T>
+        requires { AreSized later.now }
+        ensures { result ≡ entries.now ++ joined later.now }
+    {
+        if !entries.is_empty() {
+            return Walk { entries, later };
+        }
+        match later.split_first() {
+            None => Walk { entries, later },
+            Some((row, later)) => Walk {
+                entries: row.entries(),
+                later,
+            },
+        }
+    }
+
+    /// The first entry that is left.
+    pub fn peek(&self) -> Option<(&'a Key, &'a T)>
+        ensures { option_map (λ p. (p.0.now, p.1.now)) result ≡ slice_get self.now 0 }
+    {
+        match self.entries.first() {
+            None => None,
+            Some(entry) => Some((&entry.0, &entry.1)),
+        }
+    }
+
+    /// Goes past the first entry that is left.
+    pub fn next(&mut self) -> Option<(&'a Key, &'a T)>
+        ensures passed { self.old ≡ option_to_list (option_map (λ p. (p.0.now, p.1.now)) result) ++ self.new }
+        ensures end { IfNone result (self.old ≡ []) }
+    {
+        match self.entries.split_first() {
+            None => None,
+            Some((entry, entries)) => {
+                *self = Walk::of(entries, self.later);
+                Some((&entry.0, &entry.1))
+            }
+        }
+    }
+}
