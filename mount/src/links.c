@@ -60,8 +60,8 @@ static int write_name(struct journal *journal, const char *path, uint64_t number
     return records_write(journal, path, &name, 0);
 }
 
-// The file goes to a place of its own, and what its only name was leads there. The folder of that name keeps its
-// moment.
+// The file goes to a place of its own, and what its only name was leads there: a record that it had is written over. The
+// folder of that name keeps its moment.
 static int give_place(struct journal *journal, struct entry *entry, uint64_t number, struct attributes *attributes) {
     struct mount *mount = journal->mount;
     struct own_path path = own_link(number);
@@ -76,7 +76,6 @@ static int give_place(struct journal *journal, struct entry *entry, uint64_t num
     attributes->has_record = false;
     if (!fault) fault = records_write(journal, path.text, attributes, &extended);
     bytes_free(&extended);
-    if (!fault) fault = records_drop(journal, entry->parent, spot.path);
     if (!fault) fault = journal_rename(journal, spot.path, path.text, parent.modified, parent.modified);
     if (!fault) fault = journal_make(journal, CREATE, spot.path, parent.modified, parent.modified);
     return fault ? fault : write_name(journal, spot.path, number);
