@@ -1,6 +1,6 @@
 //! Exports of logs: the changes and records of a log take no volume, and a log is run on one. A refusal gives 0 as each other result,
 //! where nothing else is said.
-ghost use Rattle.std.specs.Prelude.{◌≡◌, ◌↔◌, ◌++◌, IfErr, MatchOption, Ok, Err, length};
+ghost use Rattle.std.specs.Prelude.{◌≡◌, ◌↔◌, ◌++◌, IfErr, length};
 ghost use Rattle.pathkey.specs.SnapNames.{snap_parsed};
 ghost use Rattle.pathkey.specs.Texts.{parsed};
 ghost use Rattle.pathkey.specs.declared.errno.Errno.TheVariants.{ENOMEM};
@@ -10,7 +10,7 @@ ghost use Rattle.logs.specs.declared.change.Change.TheVariants as change;
 ghost use Rattle.logs.specs.declared.change.Keeping.TheVariants as keeping;
 ghost use Rattle.logs.specs.declared.change.PathChange.TheVariants as on;
 ghost use Rattle.recovery.specs.Runs.{RunsBody};
-ghost use Rattle.doorvervain.specs.Log.{FindsRecord, ReplaysTold, stopped_told};
+ghost use Rattle.doorvervain.specs.Log.{FindsRecord, ReplaysTold, stopped_of, stopped_told};
 ghost use Rattle.doorvervain.specs.Numbers.{IsNumber, IsShort, IsSizeNumber, short, sized_by, told, told_by};
 
 use crate::handle::Handle;
@@ -299,7 +299,10 @@ pub extern "C" fn doorvervain_raw_log_run(
     ensures run { RunsBody body.now (stopped_told result done.new) fs.old.volume fs.new.volume }
     ensures number { IsNumber result }
 {
-    tell(run_body(alloc, fs.volume(), body).err(), done)
+    match run_body(alloc, fs.volume(), body) {
+        Ok(()) => tell(None, done),
+        Err(stopped) => tell(Some(stopped), done),
+    }
 }
 
 /// Does the changes of a log's records, of which the first has this number, as far as they count: `records` tells how many were done, and `size`
@@ -332,7 +335,7 @@ pub extern "C" fn doorvervain_raw_log_replay(
 
 // The number of a run, and how many changes were done before the one that was refused.
 fn tell(stopped: Option<Stopped>, done: &mut usize) -> u8
-    ensures told { MatchOption stopped ((told result ≡ Ok tt) × (done.new ≡ 0)) (λ s. (told result ≡ Err s.fault) × (done.new ≡ s.done)) }
+    ensures told { stopped_of (told result) done.new ≡ stopped }
     ensures number { IsNumber result }
 {
     match stopped {

@@ -3,10 +3,13 @@
 /// The number of the first record.
 pub(crate) const FIRST: u64 = 5;
 
-/// Where each of the three records ends.
-pub(crate) const ENDS: [usize; 3] = [106, 268, 373];
+/// Where the first of the three records ends.
+pub(crate) const FIRST_END: usize = 106;
 
-/// How many bytes the log has.
+/// Where the second ends.
+pub(crate) const SECOND_END: usize = 268;
+
+/// How many bytes the log has: where the third ends.
 pub(crate) const SIZE: usize = 373;
 
 /// The body of the first record: `mkdir /a` at the moment 7.

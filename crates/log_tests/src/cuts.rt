@@ -1,5 +1,7 @@
 //! A log that is cut at each of its bytes, and one of which each byte is changed.
-use crate::by_hand::{ENDS, FIRST, FIRST_BODY, LOG, SECOND_BODY, SIZE, THIRD_BODY};
+use crate::by_hand::{
+    FIRST, FIRST_BODY, FIRST_END, LOG, SECOND_BODY, SECOND_END, SIZE, THIRD_BODY,
+};
 use logs::lay::lay_ends;
 use logs::next_record;
 use std::alloc::Global;
@@ -20,7 +22,7 @@ fn records_in(log: &[u8]) -> u64 {
 /// How many of the three records end at this byte or before it.
 fn whole_before(place: usize) -> u64 {
     let mut whole = 0;
-    for end in ENDS {
+    for end in [FIRST_END, SECOND_END, SIZE] {
         if end <= place {
             whole += 1;
         }
@@ -80,9 +82,10 @@ fn has_ends(alloc: Global, number: u64, body: &[u8], front: &[u8], back: &[u8]) 
 
 #[test]
 fn ends_of_records(rt: HostRuntime) -> Result<(), Fail> {
-    let (first, second) = (ENDS[0], ENDS[1]);
-    assert!(rt; has_ends(rt.alloc(), 5, FIRST_BODY, &LOG[..24], &LOG[first - 32..first]));
-    assert!(rt; has_ends(rt.alloc(), 6, SECOND_BODY, &LOG[first..first + 24], &LOG[second - 32..second]));
-    assert!(rt; has_ends(rt.alloc(), 7, THIRD_BODY, &LOG[second..second + 24], &LOG[SIZE - 32..SIZE]));
+    let (first, behind) = LOG.split_at(FIRST_END);
+    let (second, third) = behind.split_at(SECOND_END - FIRST_END);
+    assert!(rt; has_ends(rt.alloc(), 5, FIRST_BODY, &first[..24], &first[74..]));
+    assert!(rt; has_ends(rt.alloc(), 6, SECOND_BODY, &second[..24], &second[130..]));
+    assert!(rt; has_ends(rt.alloc(), 7, THIRD_BODY, &third[..24], &third[73..]));
     Ok(())
 }

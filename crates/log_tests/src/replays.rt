@@ -1,5 +1,5 @@
 //! What a log makes of a volume.
-use crate::by_hand::{ENDS, FIRST, LOG, SIZE};
+use crate::by_hand::{FIRST, FIRST_END, LOG, SECOND_END, SIZE};
 use pathkey::{Errno, Path};
 use recovery::{Replayed, Stopped, replay};
 use std::alloc::Global;
@@ -11,6 +11,11 @@ const SHAPE: Shape = Shape {
     pending: 4,
     leaf: 4,
 };
+
+/// The first bytes of the log.
+fn front(end: usize) -> &'static [u8] {
+    if end <= LOG.len() { &LOG[..end] } else { LOG }
+}
 
 /// How long the file is that the log makes, or that there is none.
 fn length_at(alloc: Global, volume: &Volume) -> Result<u64, Errno> {
@@ -35,10 +40,10 @@ fn replayed(alloc: Global, log: &[u8], number: u64) -> Option<(Replayed, Result<
 fn whole_and_cut(rt: HostRuntime) -> Result<(), Fail> {
     let rows = [
         (0, 0, 0, Err(Errno::ENOENT)),
-        (ENDS[0] - 1, 0, 0, Err(Errno::ENOENT)),
-        (ENDS[0], 1, ENDS[0], Err(Errno::ENOENT)),
-        (ENDS[1] - 1, 1, ENDS[0], Err(Errno::ENOENT)),
-        (ENDS[1], 2, ENDS[1], Ok(4)),
+        (FIRST_END - 1, 0, 0, Err(Errno::ENOENT)),
+        (FIRST_END, 1, FIRST_END, Err(Errno::ENOENT)),
+        (SECOND_END - 1, 1, FIRST_END, Err(Errno::ENOENT)),
+        (SECOND_END, 2, SECOND_END, Ok(4)),
         (SIZE, 3, SIZE, Ok(4)),
     ];
     for (end, records, size, length) in rows {
@@ -47,7 +52,7 @@ fn whole_and_cut(rt: HostRuntime) -> Result<(), Fail> {
             size,
             stopped: None,
         };
-        assert_eq!(rt; replayed(rt.alloc(), &LOG[..end], FIRST), Some((want, length)));
+        assert_eq!(rt; replayed(rt.alloc(), front(end), FIRST), Some((want, length)));
     }
     Ok(())
 }
@@ -64,7 +69,7 @@ fn stops_where_a_change_is_refused(rt: HostRuntime) -> Result<(), Fail> {
         }),
     };
     assert_eq!(rt;
-        replayed(rt.alloc(), &LOG[ENDS[0]..], FIRST + 1),
+        replayed(rt.alloc(), &LOG[FIRST_END..], FIRST + 1),
         Some((want, Err(Errno::ENOENT)))
     );
     Ok(())

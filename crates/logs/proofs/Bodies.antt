@@ -1,5 +1,5 @@
 -- Bodies of records: their changes are told by their bytes.
-use Rattle.std.proofs.Common.{◌≡◌, ◌≢◌, ◌⊎◌, ⊎_elim, inl, inr, ℕ, ◌+◌, ◌<◌, ◌≤◌, List, [], ◌∷◌, ◌++◌, length, flat_map, refl, ap, ap₂, sym, subst, ◌∙◌, arith, append_assoc, append-nil, Ok}
+use Rattle.std.proofs.Common.{◌≡◌, ◌≢◌, ◌⊎◌, ⊎_elim, inl, inr, ℕ, ◌+◌, ◌<◌, ◌≤◌, List, [], ◌∷◌, ◌++◌, length, flat_map, refl, ap, ap₂, sym, subst, ◌∙◌, arith, append_assoc, append-nil, Result, Ok}
 use Rattle.std.specs.List.{AllByRecursion}
 use Rattle.std.proofs.lemmas.Grind.{flat_map-append}
 use Rattle.pathkey.specs.Names.{Path, IsPath}
@@ -136,44 +136,44 @@ late_kinds Remove = omega arith
 late_kinds Restore = omega arith
 
 text_once : (p q : Path) → IsPath p → IsPath q → text_of p ≡ text_of q → p ≡ q
-text_once p q hp hq e = let same : Ok {E = Errno} p ≡ Ok q = sym (read_back p hp) ∙ ap parsed e ∙ read_back q hq in cc
+text_once p q hp hq e = let same : ◌≡◌ {A = Result Path Errno} (Ok p) (Ok q) = sym (read_back p hp) ∙ ap parsed e ∙ read_back q hq in cc
 
 same_change : (c d : Change) → IsChange c → IsChange d → head_of c ≡ head_of d → first_of c ≡ first_of d → second_of c ≡ second_of d → c ≡ d
 same_change (OnPath a p at) (OnPath b q t) hc hd eh ef es = let ek = path_kind_once a b (ap (λ (h : Head). h.kind) eh) in let et = ap (λ (h : Head). h.at) eh in let ep = text_once p q hc.0 hd.0 ef in cc
-same_change (OnPath a p at) (Rename p q t) hc hd eh ef es = absurd (omega (arith, ap (λ (h : Head). h.kind) eh, few_kinds a))
+same_change (OnPath a p at) (Rename u v t) hc hd eh ef es = absurd (omega (arith, ap (λ (h : Head). h.kind) eh, few_kinds a))
 same_change (OnPath a p at) (Truncate q m t) hc hd eh ef es = absurd (omega (arith, ap (λ (h : Head). h.kind) eh, few_kinds a))
-same_change (OnPath a p at) (Write q o v t) hc hd eh ef es = absurd (omega (arith, ap (λ (h : Head). h.kind) eh, few_kinds a))
-same_change (OnPath a p at) (Punch q o m t) hc hd eh ef es = absurd (omega (arith, ap (λ (h : Head). h.kind) eh, few_kinds a))
+same_change (OnPath a p at) (Write q g x t) hc hd eh ef es = absurd (omega (arith, ap (λ (h : Head). h.kind) eh, few_kinds a))
+same_change (OnPath a p at) (Punch q g m t) hc hd eh ef es = absurd (omega (arith, ap (λ (h : Head). h.kind) eh, few_kinds a))
 same_change (OnPath a p at) (Keep b r) hc hd eh ef es = absurd (omega (arith, ap (λ (h : Head). h.kind) eh, few_kinds a, late_kinds b))
 same_change (Rename o n at) (OnPath b q t) hc hd eh ef es = absurd (omega (arith, ap (λ (h : Head). h.kind) eh, few_kinds b))
-same_change (Rename o n at) (Rename p q t) hc hd eh ef es = let et = ap (λ (h : Head). h.at) eh in let eo = text_once o p hc.0 hd.0 ef in let en = text_once n q hc.1 hd.1 es in cc
+same_change (Rename o n at) (Rename u v t) hc hd eh ef es = let et = ap (λ (h : Head). h.at) eh in let eo = text_once o u hc.0 hd.0 ef in let en = text_once n v hc.1 hd.1 es in cc
 same_change (Rename o n at) (Truncate q m t) hc hd eh ef es = absurd (omega (arith, ap (λ (h : Head). h.kind) eh))
-same_change (Rename o n at) (Write q o v t) hc hd eh ef es = absurd (omega (arith, ap (λ (h : Head). h.kind) eh))
-same_change (Rename o n at) (Punch q o m t) hc hd eh ef es = absurd (omega (arith, ap (λ (h : Head). h.kind) eh))
+same_change (Rename o n at) (Write q g x t) hc hd eh ef es = absurd (omega (arith, ap (λ (h : Head). h.kind) eh))
+same_change (Rename o n at) (Punch q g m t) hc hd eh ef es = absurd (omega (arith, ap (λ (h : Head). h.kind) eh))
 same_change (Rename o n at) (Keep b r) hc hd eh ef es = absurd (omega (arith, ap (λ (h : Head). h.kind) eh, late_kinds b))
 same_change (Truncate p len at) (OnPath b q t) hc hd eh ef es = absurd (omega (arith, ap (λ (h : Head). h.kind) eh, few_kinds b))
-same_change (Truncate p len at) (Rename p q t) hc hd eh ef es = absurd (omega (arith, ap (λ (h : Head). h.kind) eh))
+same_change (Truncate p len at) (Rename u v t) hc hd eh ef es = absurd (omega (arith, ap (λ (h : Head). h.kind) eh))
 same_change (Truncate p len at) (Truncate q m t) hc hd eh ef es = let et = ap (λ (h : Head). h.at) eh in let el = ap (λ (h : Head). h.offset) eh in let ep = text_once p q hc.0 hd.0 ef in cc
-same_change (Truncate p len at) (Write q o v t) hc hd eh ef es = absurd (omega (arith, ap (λ (h : Head). h.kind) eh))
-same_change (Truncate p len at) (Punch q o m t) hc hd eh ef es = absurd (omega (arith, ap (λ (h : Head). h.kind) eh))
+same_change (Truncate p len at) (Write q g x t) hc hd eh ef es = absurd (omega (arith, ap (λ (h : Head). h.kind) eh))
+same_change (Truncate p len at) (Punch q g m t) hc hd eh ef es = absurd (omega (arith, ap (λ (h : Head). h.kind) eh))
 same_change (Truncate p len at) (Keep b r) hc hd eh ef es = absurd (omega (arith, ap (λ (h : Head). h.kind) eh, late_kinds b))
 same_change (Write p off w at) (OnPath b q t) hc hd eh ef es = absurd (omega (arith, ap (λ (h : Head). h.kind) eh, few_kinds b))
-same_change (Write p off w at) (Rename p q t) hc hd eh ef es = absurd (omega (arith, ap (λ (h : Head). h.kind) eh))
+same_change (Write p off w at) (Rename u v t) hc hd eh ef es = absurd (omega (arith, ap (λ (h : Head). h.kind) eh))
 same_change (Write p off w at) (Truncate q m t) hc hd eh ef es = absurd (omega (arith, ap (λ (h : Head). h.kind) eh))
-same_change (Write p off w at) (Write q o v t) hc hd eh ef es = let et = ap (λ (h : Head). h.at) eh in let eo = ap (λ (h : Head). h.offset) eh in let ep = text_once p q hc.0 hd.0 ef in cc
-same_change (Write p off w at) (Punch q o m t) hc hd eh ef es = absurd (omega (arith, ap (λ (h : Head). h.kind) eh))
+same_change (Write p off w at) (Write q g x t) hc hd eh ef es = let et = ap (λ (h : Head). h.at) eh in let eo = ap (λ (h : Head). h.offset) eh in let ep = text_once p q hc.0 hd.0 ef in cc
+same_change (Write p off w at) (Punch q g m t) hc hd eh ef es = absurd (omega (arith, ap (λ (h : Head). h.kind) eh))
 same_change (Write p off w at) (Keep b r) hc hd eh ef es = absurd (omega (arith, ap (λ (h : Head). h.kind) eh, late_kinds b))
 same_change (Punch p off n at) (OnPath b q t) hc hd eh ef es = absurd (omega (arith, ap (λ (h : Head). h.kind) eh, few_kinds b))
-same_change (Punch p off n at) (Rename p q t) hc hd eh ef es = absurd (omega (arith, ap (λ (h : Head). h.kind) eh))
+same_change (Punch p off n at) (Rename u v t) hc hd eh ef es = absurd (omega (arith, ap (λ (h : Head). h.kind) eh))
 same_change (Punch p off n at) (Truncate q m t) hc hd eh ef es = absurd (omega (arith, ap (λ (h : Head). h.kind) eh))
-same_change (Punch p off n at) (Write q o v t) hc hd eh ef es = absurd (omega (arith, ap (λ (h : Head). h.kind) eh))
-same_change (Punch p off n at) (Punch q o m t) hc hd eh ef es = let et = ap (λ (h : Head). h.at) eh in let eo = ap (λ (h : Head). h.offset) eh in let en = ap (λ (h : Head). h.count) eh in let ep = text_once p q hc.0 hd.0 ef in cc
+same_change (Punch p off n at) (Write q g x t) hc hd eh ef es = absurd (omega (arith, ap (λ (h : Head). h.kind) eh))
+same_change (Punch p off n at) (Punch q g m t) hc hd eh ef es = let et = ap (λ (h : Head). h.at) eh in let eo = ap (λ (h : Head). h.offset) eh in let en = ap (λ (h : Head). h.count) eh in let ep = text_once p q hc.0 hd.0 ef in cc
 same_change (Punch p off n at) (Keep b r) hc hd eh ef es = absurd (omega (arith, ap (λ (h : Head). h.kind) eh, late_kinds b))
 same_change (Keep a s) (OnPath b q t) hc hd eh ef es = absurd (omega (arith, ap (λ (h : Head). h.kind) eh, late_kinds a, few_kinds b))
-same_change (Keep a s) (Rename p q t) hc hd eh ef es = absurd (omega (arith, ap (λ (h : Head). h.kind) eh, late_kinds a))
+same_change (Keep a s) (Rename u v t) hc hd eh ef es = absurd (omega (arith, ap (λ (h : Head). h.kind) eh, late_kinds a))
 same_change (Keep a s) (Truncate q m t) hc hd eh ef es = absurd (omega (arith, ap (λ (h : Head). h.kind) eh, late_kinds a))
-same_change (Keep a s) (Write q o v t) hc hd eh ef es = absurd (omega (arith, ap (λ (h : Head). h.kind) eh, late_kinds a))
-same_change (Keep a s) (Punch q o m t) hc hd eh ef es = absurd (omega (arith, ap (λ (h : Head). h.kind) eh, late_kinds a))
+same_change (Keep a s) (Write q g x t) hc hd eh ef es = absurd (omega (arith, ap (λ (h : Head). h.kind) eh, late_kinds a))
+same_change (Keep a s) (Punch q g m t) hc hd eh ef es = absurd (omega (arith, ap (λ (h : Head). h.kind) eh, late_kinds a))
 same_change (Keep a s) (Keep b r) hc hd eh ef es = let ek = keeping_kind_once a b (ap (λ (h : Head). h.kind) eh) in cc
 
 pub one_body : (cs ds : List Change) → AllByRecursion IsChange cs → AllByRecursion IsChange ds → body_of cs ≡ body_of ds → cs ≡ ds

@@ -74,10 +74,13 @@ same_head h k a o n ek ea eo en =
     ∙ ap (λ (x : ℕ). let r : Head = record { kind = h.kind; at = h.at; offset = x; count = n } in r) eo
     ∙ ap (λ (x : ℕ). let r : Head = record { kind = h.kind; at = h.at; offset = h.offset; count = x } in r) en
 
-numbers_same : (h k : Head) → IsHead h → IsHead k → numbers h ≡ numbers k → h ≡ k
+numbers_parts : (h : Head) → numbers h ≡ word h.kind ++ (word h.at ++ (word h.offset ++ word h.count))
 unfolding numbers
+numbers_parts h = simp append_assoc
+
+numbers_same : (h k : Head) → IsHead h → IsHead k → numbers h ≡ numbers k → h ≡ k
 numbers_same h k p q e =
-    let one = word_once h.kind k.kind (word h.at ++ word h.offset ++ word h.count) (word k.at ++ word k.offset ++ word k.count) p.kind q.kind e in
+    let one = word_once h.kind k.kind (word h.at ++ (word h.offset ++ word h.count)) (word k.at ++ (word k.offset ++ word k.count)) p.kind q.kind (sym (numbers_parts h) ∙ e ∙ numbers_parts k) in
     let two = word_once h.at k.at (word h.offset ++ word h.count) (word k.offset ++ word k.count) p.at q.at one.1 in
     let three = word_once h.offset k.offset (word h.count) (word k.count) p.offset q.offset two.1 in
     same_head k h.kind h.at h.offset h.count one.0 two.0 three.0 (word_same h.count k.count p.count q.count three.1)

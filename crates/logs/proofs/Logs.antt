@@ -157,9 +157,12 @@ length-digest : (n : ℕ) (b : List ℕ) → length (digest n b) ≡ 32
 unfolding digest sha256
 length-digest n b = length-digest_bytes (final_hash initial_hash_256 (front n (length b) ++ b)) 8
 
+four_parts : (a b c d : List ℕ) → a ++ b ++ c ++ d ≡ a ++ (b ++ (c ++ d))
+four_parts a b c d = simp append_assoc
+
 pub other_digest : (n : ℕ) (body other rest : List ℕ) → IsWord (length body) → length other ≡ length body → digest n other ≢ digest n body → LacksRecord n (front n (length body) ++ other ++ digest n body ++ rest)
 other_digest n body other rest fits same differ = λ c r fc e.
-    let one = front_once n (length body) (length c) (other ++ (digest n body ++ rest)) (c ++ (digest n c ++ r)) fits fc (e ∙ parts_of n c r) in
+    let one = front_once n (length body) (length c) (other ++ (digest n body ++ rest)) (c ++ (digest n c ++ r)) fits fc (sym (four_parts (front n (length body)) other (digest n body) rest) ∙ e ∙ parts_of n c r) in
     let two = same_split (length body) other c (digest n body ++ rest) (digest n c ++ r) same (sym one.0) one.1 in
     let three = same_split 32 (digest n body) (digest n c) rest r (length-digest n body) (length-digest n c) two.1 in
     differ (ap (digest n) two.0 ∙ sym three.0)
@@ -208,7 +211,7 @@ has_record n len log f behind body end rest e ef eb size es =
 
 -- ---- what stands before a body, as it is read
 
-front_parts : (n len : ℕ) → front n len ≡ codes "dvlog 1\n" ++ (word n ++ word len)
+pub front_parts : (n len : ℕ) → front n len ≡ codes "dvlog 1\n" ++ (word n ++ word len)
 unfolding front
 front_parts n len = refl
 

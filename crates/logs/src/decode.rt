@@ -1,5 +1,5 @@
 //! Reads the changes that bytes are.
-ghost use Rattle.std.specs.Prelude.{◌≡◌, ◌≢◌, ◌⊎◌, MatchResult, [], true, ◌&&◌, ◌==◌};
+ghost use Rattle.std.specs.Prelude.{◌≡◌, ◌≢◌, ◌⊎◌, ◌++◌, ◌∷◌, MatchResult, OnOk, []};
 ghost use Rattle.pathkey.specs.declared.errno.Errno.TheVariants.{EINVAL, ENOMEM};
 ghost use Rattle.logs.specs.Entries.{IsNoName, IsNoText, ReadsEntry, RefusesBody, Refuses, body_of, has_no_numbers, keeping_kind, path_kind};
 ghost use Rattle.pathkey.specs.Texts.{text_of};
@@ -7,7 +7,7 @@ ghost use Rattle.pathkey.specs.Texts.{text_of};
 use crate::change::{Change, Keeping, PathChange};
 use crate::entry::{Head, cut_entry};
 use bytes::Bytes;
-use pathkey::{Errno, Path, SnapName};
+use pathkey::{Errno, NoMemory, Path, SnapName};
 use std::alloc::Global;
 
 /// The changes that the body of a record is. `EINVAL`: it is no list of changes. `ENOMEM`.
@@ -20,13 +20,21 @@ pub fn read_changes(alloc: Global, body: &[u8]) -> Result<Vec<Change>, Errno>
         let Some((head, first, second, behind)) = cut_entry(rest) else {
             return Err(Errno::EINVAL);
         };
-        let change = read_entry(alloc, head, first, second)?;
-        if changes.push(change).is_err() {
-            return Err(Errno::ENOMEM);
+        match read_entry(alloc, head, first, second) {
+            Ok(change) => push(&mut changes, change)?,
+            Err(fault) => return Err(fault),
         }
         rest = behind;
     }
     Ok(changes)
+}
+
+// Adds a change.
+fn push(changes: &mut Vec<Change>, change: Change) -> Result<(), NoMemory>
+    ensures { OnOk result (changes.new.items ≡ changes.old.items ++ change ∷ []) }
+{
+    changes.push(change)?;
+    Ok(())
 }
 
 // The change whose entry this is.

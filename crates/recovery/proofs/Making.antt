@@ -5,6 +5,7 @@ use Rattle.pathkey.specs.declared.errno.Errno.TheVariants.{ENOMEM}
 use Rattle.reference.specs.Worlds.{World, Event, Ask, TakeSnapshot, DropSnapshot, RestoreSnapshot, Answer, Replied, Settled, Fits, MayLack, is_lack, next, outcome}
 use Rattle.reference.specs.declared.reply.Reply.{Reply}
 use Rattle.reference.specs.declared.reply.Reply.TheVariants.{Done, Count, Data, Stat, Names, Fault}
+use Rattle.volume.specs.Typed.{replied}
 use Rattle.volume.specs.Volumes.{PVolume, Means}
 use Rattle.logs.specs.declared.change.Change.{Change}
 use Rattle.recovery.specs.Runs.{IsRefused, Makes, Reaches, event_in, fault_in, fault_of}
@@ -53,3 +54,7 @@ refused_from c a e old new h bad = λ w m. ⊎_elim
 pub settled_makes : (c : Change) (r : Result (Unit {0}) Errno) (old new : PVolume) → Answers c (Settled r) old new → IfErr r (λ _. new ≡ old) → Makes c r old new
 settled_makes c (Ok u) old new h kept = done_from c (Settled (Ok u)) old new h refl
 settled_makes c (Err e) old new h kept = (kept, refused_from c (Settled (Err e)) e old new h refl)
+
+pub called_makes : (c : Change) (r : Result (Unit {0}) Errno) (old new : PVolume) → Answers c (Replied (replied (λ _. Done) r)) old new → ((e : Errno) → replied (λ _. Done) r ≡ Fault e → new ≡ old) → Makes c r old new
+called_makes c (Ok u) old new h kept = done_from c (Replied Done) old new h refl
+called_makes c (Err e) old new h kept = (kept e refl, refused_from c (Replied (Fault e)) e old new h refl)

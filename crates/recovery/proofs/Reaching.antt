@@ -1,5 +1,6 @@
 -- Changes that are done one after the other.
 use Rattle.std.proofs.Common.{◌≡◌, ℕ, suc, ◌+◌, ◌<◌, List, [], ◌∷◌, ◌++◌, length, take, drop, get_or, refl, ap, sym, subst, ◌∙◌, arith, length-append, append_assoc, length-take-le, drop-cons, add-one}
+use Rattle.std.proofs.lemmas.Grind.{take_at_read}
 use Rattle.std.proofs.lemmas.List.{take-append-drop}
 use Rattle.pathkey.specs.declared.errno.Errno.{Errno}
 use Rattle.reference.specs.Worlds.{World}
@@ -24,6 +25,12 @@ reaches_join xs ys old between new h k = λ w m.
     let first = h w m in
     let second = k (after w xs) first.1 in
     (all_done-append w xs ys first.0 second.0, subst (Means new) (sym (after-append w xs ys)) second.1)
+
+pub reaches_more : (cs : List Change) (i : ℕ) (c : Change) (old between new : PVolume) → i < length cs → c ≡ get_or cs i c → Reaches (take i cs) old between → Reaches (c ∷ []) between new
+    → Reaches (take (i + 1) cs) old new
+reaches_more cs i c old between new lt is h k =
+    let more : take (i + 1) cs ≡ take i cs ++ c ∷ [] = (take_at_read cs i c lt).1 ∙ ap (λ (x : Change). take i cs ++ x ∷ []) (sym is) in
+    subst (λ (xs : List Change). Reaches xs old new) (sym more) (reaches_join (take i cs) (c ∷ []) old between new h k)
 
 -- a list at one of its items
 pub split_at_item : (cs : List Change) (i : ℕ) (c : Change) → i < length cs → c ≡ get_or cs i c → cs ≡ take i cs ++ c ∷ drop (i + 1) cs

@@ -1,13 +1,14 @@
 -- Records that were done so far.
-use Rattle.std.proofs.Common.{◌≡◌, ◌⊎◌, ⊎_elim, ℕ, zero, suc, ◌+◌, ◌<◌, ◌≤◌, List, [], ◌∷◌, ◌++◌, length, map, take, flat_map, refl, ap, sym, subst, ◌∙◌, arith, append_assoc, append-nil, length-append, add-zero, Ok, Err}
+use Rattle.std.proofs.Common.{◌≡◌, ◌⊎◌, ⊎_elim, ℕ, zero, suc, ◌+◌, ◌-◌, ◌<◌, ◌≤◌, List, [], ◌∷◌, ◌++◌, length, map, take, flat_map, refl, ap, sym, subst, ◌∙◌, arith, append_assoc, append-nil, length-append, add-zero, Some, None, Ok, Err}
 use Rattle.std.proofs.lemmas.Grind.{flat_map-append}
 use Rattle.volume.specs.Volumes.{PVolume}
 use Rattle.logs.specs.Entries.{IsWord, body_of}
-use Rattle.logs.specs.Records.{AreBodies, Counts, LacksRecord, record_of, whole, written}
+use Rattle.logs.specs.Records.{AreBodies, Counts, LacksRecord, digest, record_of, whole, written}
 use Rattle.logs.specs.declared.change.Change.{Change}
 use Rattle.logs.proofs.Logs.{after_record, cut, first_ones, tail_after}
 use Rattle.recovery.specs.Laws.{log_of}
-use Rattle.recovery.specs.Replays.{all_of, bodies}
+use Rattle.recovery.specs.Replays.{Replays, all_of, bodies}
+use Rattle.recovery.specs.declared.stopped.Stopped.{Stopped}
 use Rattle.recovery.specs.Runs.{Reaches, RunsBody}
 use Rattle.recovery.proofs.Reaching.{reaches_join, reaches_none}
 
@@ -45,6 +46,14 @@ length-bodies (cs ∷ css) = ap suc (length-bodies css)
 length-push : (css : List (List Change)) (cs : List Change) → length (css ++ cs ∷ []) ≡ length css + 1
 length-push css cs = length-append css (cs ∷ [])
 
+-- behind a record less is left
+pub behind_shorter : (k : ℕ) (rest body behind : List ℕ) → rest ≡ record_of k body ++ behind → length behind < length rest
+behind_shorter k rest body behind is =
+    let all = after_record k body behind rest is in
+    let first = length-append body (digest k body ++ behind) in
+    let second = length-append (digest k body) behind in
+    omega arith
+
 pub done_more : (n records : ℕ) (log rest body behind : List ℕ) (old now new : PVolume) (cs : List Change) → Done n log records rest old now → rest ≡ record_of (n + records) body ++ behind → IsWord (length body)
     → body ≡ body_of cs → Reaches cs now new → Done n log (records + 1) behind old new
 done_more n records log rest body behind old now new cs before is fits told reached =
@@ -53,19 +62,59 @@ done_more n records log rest body behind old now new cs before is fits told reac
       ap (written n) (bodies-append before.css cs) ∙ written-append n (bodies before.css) (body_of cs)
       ∙ ap (λ (k : ℕ). written n (bodies before.css) ++ record_of k (body_of cs)) (sym place)
       ∙ ap (λ (b : List ℕ). written n (bodies before.css) ++ record_of (n + records) b) (sym told) in
-    let size = after_record (n + records) body behind rest is in
+    let less = behind_shorter (n + records) rest body behind is in
     record {
       css = before.css ++ cs ∷ [];
       is = before.is ∙ ap (λ (x : List ℕ). written n (bodies before.css) ++ x) is ∙ sym (append_assoc (written n (bodies before.css)) (record_of (n + records) body) behind) ∙ ap (λ (x : List ℕ). x ++ behind) (sym wrote);
       fit = subst AreBodies (sym (bodies-append before.css cs)) (fit-append (bodies before.css) (body_of cs) before.fit (subst (λ (b : List ℕ). IsWord (length b)) told fits));
       count = omega (arith, before.count, length-push before.css cs);
-      few = omega (arith, before.few, size, length-behind (n + records) body behind);
+      few = omega (arith, before.few, less);
       reaches = subst (λ (xs : List Change). Reaches xs old new) (sym (flat_map-append (λ (xs : List Change). xs) before.css (cs ∷ [])))
         (reaches_join (all_of before.css) (cs ++ []) old now new before.reaches (subst (λ (xs : List Change). Reaches xs now new) (sym (append-nil cs)) reached));
     }
-  where
-    length-behind : (k : ℕ) (b r : List ℕ) → length r ≤ length (b ++ (Rattle.logs.specs.Records.digest k b ++ r))
-    length-behind k b r = let a = length-append b (Rattle.logs.specs.Records.digest k b ++ r) in let d = length-append (Rattle.logs.specs.Records.digest k b) r in omega arith
+
+-- ---- where a log ends, or a record is not done
+
+size_told : (n records : ℕ) (log rest : List ℕ) (old now : PVolume) (d : Done n log records rest old now) → length log - length rest ≡ length (written n (bodies d.css))
+size_told n records log rest old now d =
+    let size : length log ≡ length (written n (bodies d.css)) + length rest = ap length d.is ∙ length-append (written n (bodies d.css)) rest in
+    omega arith
+
+pub replays_end : (n records : ℕ) (log rest : List ℕ) (old now : PVolume) → Done n log records rest old now → LacksRecord (n + records) rest
+    → Replays n log (record { records = records; size = length log - length rest; stopped = None }) old now
+replays_end n records log rest old now d lacks = record {
+  css = d.css;
+  rest = rest;
+  between = now;
+  is = d.is;
+  fit = d.fit;
+  records = d.count;
+  size = size_told n records log rest old now d;
+  reaches = d.reaches;
+  ends = (subst (λ (k : ℕ). LacksRecord (n + k) rest) d.count lacks, refl);
+}
+
+pub replays_stop : (n records : ℕ) (log rest body behind : List ℕ) (s : Stopped) (old now new : PVolume) → Done n log records rest old now → rest ≡ record_of (n + records) body ++ behind → RunsBody body (Err s) now new
+    → Replays n log (record { records = records; size = length log - length rest; stopped = Some s }) old new
+replays_stop n records log rest body behind s old now new d is run = record {
+  css = d.css;
+  rest = rest;
+  between = now;
+  is = d.is;
+  fit = d.fit;
+  records = d.count;
+  size = size_told n records log rest old now d;
+  reaches = d.reaches;
+  ends = (body, behind, subst (λ (k : ℕ). rest ≡ record_of (n + k) body ++ behind) d.count is, run);
+}
+
+-- a record more that was done
+pub done_after : (n records : ℕ) (log rest body behind : List ℕ) (old now new : PVolume) → Done n log records rest old now → rest ≡ record_of (n + records) body ++ behind → IsWord (length body) → RunsBody body (Ok tt) now new
+    → Done n log (records + 1) behind old new
+done_after n records log rest body behind old now new d is fits run = ⊎_elim
+    (λ (u : (cs : List Change) × (body ≡ body_of cs) × Reaches cs now new). done_more n records log rest body behind old now new u.0 d is fits u.1 u.2)
+    (λ (x : ⊥). absurd x)
+    run
 
 -- ---- crashes
 

@@ -7,7 +7,7 @@ use Rattle.logs.specs.Records.{AreBodies, Counts, LacksRecord, record_of, writte
 use Rattle.logs.specs.declared.change.Change.{Change}
 use Rattle.volume.specs.Volumes.{PVolume}
 use Rattle.recovery.specs.Runs.{Reaches, RunsBody}
-use Rattle.recovery.specs.declared.replay.Replayed.{Replayed}
+use Rattle.recovery.specs.declared.replays.Replayed.{Replayed}
 use Rattle.recovery.specs.declared.stopped.Stopped.{Stopped}
 
 -- all changes of requests, in their order

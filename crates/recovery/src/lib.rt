@@ -3,10 +3,10 @@
 
 mod change;
 pub mod laws;
-pub mod replay;
+pub mod replays;
 pub mod run;
 pub mod stopped;
 
-pub use replay::{Replayed, replay};
+pub use replays::{Replayed, replay};
 pub use run::{run_body, run_changes};
 pub use stopped::Stopped;

@@ -1,0 +1,20 @@
+use Rattle.std.proofs.Common.{sym, subst}
+use Rattle.logs.specs.declared.change.Change.TheVariants.{Keep}
+use Rattle.logs.specs.declared.change.Keeping.{Keeping}
+use Rattle.logs.specs.declared.change.Keeping.TheVariants.{Remove, Restore}
+use Rattle.reference.specs.Worlds.{Settled}
+use Rattle.recovery.specs.Runs.{Makes}
+use Rattle.recovery.proofs.Making.{answers_from, settled_makes}
+use Rattle.recovery.proofs.change.keep.Goals as goal
+
+pub returns-in-Remove : goal.returns-in-Remove
+returns-in-Remove c =
+    subst (λ (k : Keeping). Makes (Keep k c.args.name.now) c.drop_snapshot.result c.args.volume.now c.drop_snapshot.new.self) (sym c.in-Remove.is)
+    (settled_makes (Keep Remove c.args.name.now) c.drop_snapshot.result c.args.volume.now c.drop_snapshot.new.self
+    (answers_from (Keep Remove c.args.name.now) (Settled c.drop_snapshot.result) c.args.volume.now c.drop_snapshot.new.self c.drop_snapshot.ensures.leads) c.drop_snapshot.ensures.refused)
+
+pub returns-in-Restore : goal.returns-in-Restore
+returns-in-Restore c =
+    subst (λ (k : Keeping). Makes (Keep k c.args.name.now) c.restore.result c.args.volume.now c.restore.new.self) (sym c.in-Restore.is)
+    (settled_makes (Keep Restore c.args.name.now) c.restore.result c.args.volume.now c.restore.new.self
+    (answers_from (Keep Restore c.args.name.now) (Settled c.restore.result) c.args.volume.now c.restore.new.self c.restore.ensures.leads) c.restore.ensures.refused)
