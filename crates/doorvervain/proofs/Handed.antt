@@ -1,5 +1,5 @@
 -- What is told of a value that was handed out, and of an image that was not loaded.
-use Rattle.std.proofs.Common.{◌≡◌, ◌⊎◌, ◌↔◌, ℕ, zero, suc, false, List, Result, Ok, Err, Option, Some, IfOk, IfErr, MatchResult, refl, sym, subst, subst₂, ◌∙◌, inl, inr, arith}
+use Rattle.std.proofs.Common.{◌≡◌, ◌≢◌, ◌⊎◌, ◌↔◌, ℕ, zero, suc, false, List, Result, Ok, Err, Option, Some, IfOk, IfErr, MatchResult, refl, sym, ap, subst, subst₂, ◌∙◌, inl, inr, arith}
 use Rattle.images.specs.declared.load.LoadFault.{LoadFault}
 use Rattle.images.specs.declared.load.LoadFault.TheVariants.{Shape as BadShape, Bad, Memory, Read}
 use Rattle.node.specs.Shapes.{is_shape}
@@ -7,7 +7,7 @@ use Rattle.node.specs.declared.shape.Shape.{Shape}
 use Rattle.pathkey.specs.declared.errno.Errno.{Errno}
 use Rattle.pathkey.specs.declared.errno.Errno.TheVariants.{EINVAL, ENOMEM}
 use Rattle.reference.specs.ImageLines.{IsBadAt}
-use Rattle.doorvervain.specs.Handed.{FaultTold, Given, HandsOut, NotLoaded}
+use Rattle.doorvervain.specs.Handed.{AnswerTold, FaultTold, Given, HandsOut, NoImage, NotLoaded}
 
 -- ---- what a value says of a result
 
@@ -23,6 +23,11 @@ when_err P Q (Err e) h = h
 pub anyway : {A E Q : Type 0} (r : Result A E) → Q → IfOk r (λ _. Q)
 anyway (Ok x) q = q
 anyway (Err e) q = tt
+
+-- two facts about what is there
+pub both_of : {A E : Type 0} {P Q : A → Type 0} (r : Result A E) → IfOk r P → IfOk r Q → IfOk r (λ x. P x × Q x)
+both_of (Ok x) p q = (p, q)
+both_of (Err e) p q = tt
 
 -- ---- what was made, and is handed out
 
@@ -83,3 +88,58 @@ shape_not_loaded fault e line is told = subst (λ (f : LoadFault). FaultTold f e
 pub memory_told : {X : Type 0} (shape : Shape) (text : List ℕ) (made : Result X Errno) (line : ℕ) → IfOk made (λ _. line ≡ 0) → IfOk made (λ _. NotLoaded shape text ENOMEM line)
 memory_told shape text (Ok x) line is = subst (NotLoaded shape text ENOMEM) (sym is) tt
 memory_told shape text (Err e) line is = tt
+
+-- ---- the answer of a load, as it is told
+
+-- what was made is told
+pub answer_ok : {X : Type 0} (P : X → Type 0) (made : Result X LoadFault) (told : Result X Errno) (line : ℕ) → AnswerTold made told line → IfOk made P → IfOk told P
+answer_ok P (Ok x) told line h p = subst (λ (r : Result _ Errno). IfOk r P) (sym h.0) p
+answer_ok P (Err f) told line (e, is, fault) p = subst (λ (r : Result _ Errno). IfOk r P) (sym is) tt
+
+-- with line 0
+pub answer_line : {X : Type 0} (made : Result X LoadFault) (told : Result X Errno) (line : ℕ) → AnswerTold made told line → IfOk told (λ _. line ≡ 0)
+answer_line (Ok x) told line h = subst (λ (r : Result _ Errno). IfOk r (λ _. line ≡ 0)) (sym h.0) h.1
+answer_line (Err f) told line (e, is, fault) = subst (λ (r : Result _ Errno). IfOk r (λ _. line ≡ 0)) (sym is) tt
+
+-- a bad shape
+pub answer_shape : {X : Type 0} (made : Result X LoadFault) (told : Result X Errno) (line : ℕ) → AnswerTold made told line → made ≡ Err BadShape → (told ≡ Err EINVAL) × (line ≡ 0)
+answer_shape (Ok x) told line h bad = absurd (cc)
+answer_shape (Err f) told line (e, is, fault) bad =
+    let same : f ≡ BadShape = cc in
+    let both : (e ≡ EINVAL) × (line ≡ 0) = shape_not_loaded f e line same fault in
+    (is ∙ ap Err both.0, both.1)
+
+-- why a text was not loaded
+pub answer_refused : {X : Type 0} (shape : Shape) (text : List ℕ) (made : Result X LoadFault) (told : Result X Errno) (line : ℕ) → AnswerTold made told line
+    → ((n : ℕ) → made ≡ Err (Bad n) → IsBadAt n text) → (made ≡ Err BadShape → is_shape shape ≡ false) → IfErr told (λ e. NotLoaded shape text e line)
+answer_refused shape text (Ok x) told line h bad unfit = subst (λ (r : Result _ Errno). IfErr r (λ e. NotLoaded shape text e line)) (sym h.0) tt
+answer_refused shape text (Err f) told line (e, is, fault) bad unfit =
+    subst (λ (r : Result _ Errno). IfErr r (λ d. NotLoaded shape text d line)) (sym is)
+    (not_loaded shape text f e line (λ n b. bad n (ap Err b)) (λ b. unfit (ap Err b)) fault)
+
+-- the same of one that was taken piece by piece
+no_image : (text : List ℕ) (fault : LoadFault) (e : Errno) (line : ℕ) → ((n : ℕ) → fault ≡ Bad n → IsBadAt n text) → fault ≢ BadShape → FaultTold fault e line → NoImage text e line
+no_image text BadShape e line bad fits told = absurd (fits refl)
+no_image text (Bad n) e line bad fits told = subst₂ (NoImage text) (sym told.0) (sym told.1) (bad n refl)
+no_image text Memory e line bad fits told = subst₂ (NoImage text) (sym told.0) (sym told.1) tt
+no_image text Read e line bad fits told = subst₂ (NoImage text) (sym told.0) (sym told.1) tt
+
+pub answer_no_image : {X : Type 0} (text : List ℕ) (made : Result X LoadFault) (told : Result X Errno) (line : ℕ) → AnswerTold made told line
+    → ((n : ℕ) → made ≡ Err (Bad n) → IsBadAt n text) → made ≢ Err BadShape → IfErr told (λ e. NoImage text e line)
+answer_no_image text (Ok x) told line h bad fits = subst (λ (r : Result _ Errno). IfErr r (λ e. NoImage text e line)) (sym h.0) tt
+answer_no_image text (Err f) told line (e, is, fault) bad fits =
+    subst (λ (r : Result _ Errno). IfErr r (λ d. NoImage text d line)) (sym is)
+    (no_image text f e line (λ n b. bad n (ap Err b)) (λ b. fits (ap Err b)) fault)
+
+-- a refusal is told as that
+pub answer_fault : {X : Type 0} (made : Result X LoadFault) (outcome : Result (Unit {0}) Errno) (given : Option X) (told : Result X Errno) (line : ℕ) (f : LoadFault)
+    → AnswerTold made told line → HandsOut told outcome given → made ≡ Err f → AnswerTold {X = Unit {0}} (Err f) outcome line
+answer_fault (Ok x) outcome given told line f h out is = absurd (cc)
+answer_fault (Err g) outcome given told line f (e, is, fault) out same =
+    let one : g ≡ f = cc in
+    (e, told_out told outcome given e out is, subst (λ (h : LoadFault). FaultTold h e line) one fault)
+
+-- where it is handed out memory may be refused
+pub memory_no_image : {X : Type 0} (text : List ℕ) (made : Result X Errno) (line : ℕ) → IfOk made (λ _. line ≡ 0) → IfOk made (λ _. NoImage text ENOMEM line)
+memory_no_image text (Ok x) line is = subst (NoImage text ENOMEM) (sym is) tt
+memory_no_image text (Err e) line is = tt

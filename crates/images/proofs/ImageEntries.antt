@@ -191,7 +191,7 @@ pub behind_root : (k : Key) → reaches (next_key k) [] ≡ false
 behind_root k = reaches-next k [] ∙ not_before_from_reaches [] k (from_start k)
 
 -- of what stands somewhere, metadata are told
-told_of : (x : Tree) → (v : Meta) × (meta_of (sighted (Found x)) ≡ Some v)
+pub told_of : (x : Tree) → (v : Meta) × (meta_of (sighted (Found x)) ≡ Some v)
 told_of (Dir date es) = (DirMeta date, refl)
 told_of (File date b) = (FileMeta (length b) date, refl)
 
@@ -317,13 +317,13 @@ module _ (t : Tree) (last : Path) (v : Meta) (n : ℕ) (es : List (Path × Meta)
       head (zero, l, e) = ap (λ (x : Path × Meta). x.0) e
       head (suc k, l, e) = absurd (no (subst (λ (x : Path × Meta). before (enc d.0) (enc x.0) ≡ true) e (from.rising 0 (suc k) (last, v) (omega arith) (omega (arith, l)))))
 
-  behind : (ds : List (Path × Meta)) → Begins ds → AreFrom t (enc last) n ds → AreFrom t (next_key (enc last)) (n - 1) (drop 1 ds) × (length ds ≡ length (drop 1 ds) + 1)
-  behind [] at from = absurd at
-  behind (d ∷ ds) at from = (subst (λ (p : Path). AreFrom t (next_key (enc p)) (n - 1) ds) at (others t (enc last) n d ds from), omega arith)
+  past_first : (ds : List (Path × Meta)) → Begins ds → AreFrom t (enc last) n ds → AreFrom t (next_key (enc last)) (n - 1) (drop 1 ds) × (length ds ≡ length (drop 1 ds) + 1)
+  past_first [] at from = absurd at
+  past_first (d ∷ ds) at from = (subst (λ (p : Path). AreFrom t (next_key (enc p)) (n - 1) ds) at (others t (enc last) n d ds from), omega arith)
 
   -- the others are a walk from the next key on
   pub behind_first : AreFrom t (next_key (enc last)) (n - 1) (drop 1 es) × (length es ≡ length (drop 1 es) + 1)
-  behind_first = behind es (begins es from_path) from_path
+  behind_first = past_first es (begins es from_path) from_path
 
 -- ---- one entry
 

@@ -1,5 +1,5 @@
 -- An image that is printed line by line, and handed out in parts.
-use Rattle.std.proofs.Common.{◌≡◌, inr, ℕ, ◌+◌, ◌<◌, ◌≤◌, List, [], ◌∷◌, ◌++◌, length, take, drop, codes, decimal, refl, sym, ap, subst, ◌∙◌, append_assoc, append-nil, arith, Option}
+use Rattle.std.proofs.Common.{◌≡◌, inr, ℕ, ◌+◌, ◌<◌, ◌≤◌, List, [], ◌∷◌, ◌++◌, length, take, drop, codes, decimal, refl, sym, ap, subst, ◌∙◌, append_assoc, append-nil, arith, Option, Result, Ok, Err, IfOk, OnErr}
 use Rattle.std.specs.Io.KnownBytes.{Appends}
 use Rattle.std.proofs.KnownBytes.{Appends-trans}
 use Rattle.std.proofs.Math.Seq.{drop-drop, drop-nil}
@@ -14,7 +14,7 @@ use Rattle.reference.specs.Indexes.{meta_of}
 use Rattle.reference.specs.Looks.{sight}
 use Rattle.reference.specs.Tree.{Path, Tree, Dir, File, moment}
 use Rattle.images.specs.Image.{AppendsLines, EndsLine, image_from}
-use Rattle.images.specs.Printings.{HandsOut, HandsOver, IsReady, IsReadyFor, ready_text}
+use Rattle.images.specs.Printings.{HandsOut, HandsOver, IsReady, IsReadyFor, PPrinting, ready_text}
 use Rattle.images.specs.Spots.{IsAt, Passes, left_at}
 use Rattle.images.specs.declared.ready.Ready.{Ready}
 use Rattle.images.specs.declared.spot.Spot.{Spot}
@@ -28,18 +28,15 @@ use Rattle.volume.specs.declared.rooted.Rooted.{Rooted}
 abbrev pub IsBehindRoot : Spot → Type 0
 IsBehindRoot s = (s.last ≡ []) × (s.from ≡ 0)
 
+is_root : (s : Spot) → IsBehindRoot s → s ≡ record { last = []; from = 0 }
+is_root s b = λ i. record { last = b.0 i; from = b.1 i }
+
+left_of_root : (t : Tree) → IsTree t → left_at t (record { last = []; from = 0 }) ≡ image_from (next_key []) t
+left_of_root (Dir date es) is = refl
+left_of_root (File date b) is = absurd is.root
+
 root_left : (t : Tree) (s : Spot) → IsTree t → IsBehindRoot s → left_at t s ≡ image_from (next_key []) t
-root_left t s is behind = ap (left_at t) (is_root s behind) ∙ same t is
-  where
-    abbrev root : Spot
-    root = record { last = []; from = 0 }
-
-    is_root : (s : Spot) → IsBehindRoot s → s ≡ root
-    is_root s b = λ i. record { last = b.0 i; from = b.1 i }
-
-    same : (t : Tree) → IsTree t → left_at t root ≡ image_from (next_key []) t
-    same (Dir date es) is = refl
-    same (File date b) is = absurd is.root
+root_left t s is behind = ap (left_at t) (is_root s behind) ∙ left_of_root t is
 
 -- the line of the root, and what is left behind it
 pub root_starts : (t : Tree) (s : Spot) (date : ℕ) → IsTree t → moment t ≡ date → IsBehindRoot s → image Second t ≡ number_line (codes "D / ") date ++ left_at t s
@@ -181,3 +178,38 @@ hands_over i t r n old new is mean filled out =
           let empty = out.some none some in
           ap (λ (l : Text). drop n l ++ left_at t r.spot) empty ∙ ap (λ (l : Text). l ++ left_at t r.spot) (drop-nil n) ∙ filled empty;
     }
+
+-- ---- the next piece
+
+-- what is ready behind it, whatever was answered
+pub ready_after : {E : Type 0} (i : Rooted) (r s : Ready) (told : Result ℕ E) (old new : List ℕ) → IsReady i r → IfOk told (λ n. HandsOut n r old new)
+    → IfOk told (λ n. s ≡ record r { used = r.used + n; done = r.done + n }) → OnErr told ((s ≡ r) × (new ≡ old)) → IsReady i s
+ready_after i r s (Ok n) old new is out on refused = subst (IsReady i) (sym on) (ready_less i r n old new is out)
+ready_after i r s (Err e) old new is out on refused = subst (IsReady i) (sym refused.0) is
+
+-- and what was handed over
+pub next_piece : {E : Type 0} (p : PPrinting) (i : Rooted) (r : Ready) (told : Result ℕ E) (old new : List ℕ) → p.tree ≡ i → p.done ≡ r.done → IsReady i r
+    → ((t : Tree) → MeanRooted i t → ready_text r ≡ [] → left_at t r.spot ≡ []) → IfOk told (λ n. HandsOut n r old new)
+    → IfOk told (λ n. (t : Tree) → MeanRooted p.tree t → HandsOver (image Second t) p.done n old new)
+next_piece p i r (Ok n) old new tree done is filled out = λ t mean.
+    let here = subst (λ (j : Rooted). MeanRooted j t) tree mean in
+    subst (λ (d : ℕ). HandsOver (image Second t) d n old new) (sym done) (hands_over i t r n old new is here (filled t here) out)
+next_piece p i r (Err e) old new tree done is filled out = tt
+
+-- ---- more lines
+
+-- where lines are ready
+pub still_ready : (i : Rooted) (r : Ready) → r.used < length r.text.items → (t : Tree) → MeanRooted i t → ready_text r ≡ [] → left_at t r.spot ≡ []
+still_ready i r some t mean none =
+    let l = length-drop r.used r.text.items in
+    let z : length (ready_text r) ≡ 0 = ap length none in
+    absurd (omega (arith, l, z, some))
+
+-- where none came
+pub none_came : (i : Rooted) (r s : Ready) → IsReady i r → s.used ≡ 0 → ((t : Tree) → MeanRooted i t → IsAt t r.spot → length s.text.items < 65536 → left_at t s.spot ≡ [])
+    → (t : Tree) → MeanRooted i t → ready_text s ≡ [] → left_at t s.spot ≡ []
+none_came i r s is used rest t mean none =
+    let was = is.for_tree t mean in
+    let text : s.text.items ≡ [] = sym (ap (λ (n : ℕ). drop n s.text.items) used) ∙ none in
+    let z : length s.text.items ≡ 0 = ap length text in
+    rest t mean was.at (omega (arith, z))

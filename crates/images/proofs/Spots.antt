@@ -1,5 +1,5 @@
 -- What is printed from one place of an image to another.
-use Rattle.std.proofs.Common.{◌≡◌, inl, ℕ, ◌+◌, ◌-◌, ◌<◌, List, [], ◌∷◌, ◌++◌, length, drop, refl, sym, ap, ◌∙◌, append_assoc, append-nil, arith}
+use Rattle.std.proofs.Common.{◌≡◌, inl, ℕ, ◌+◌, ◌-◌, ◌<◌, ◌≤◌, List, [], ◌∷◌, ◌++◌, length, drop, get_or, refl, sym, ap, subst, ◌∙◌, append_assoc, append-nil, arith}
 use Rattle.std.proofs.lemmas.List.{drop_more}
 use Rattle.pathkey.specs.Keys.{enc, next_key}
 use Rattle.pathkey.specs.Names.{Path}
@@ -88,6 +88,10 @@ walks_on t a s new x y line z n e es is w short put blocks passed last =
       passed = passed first.at;
       are = subst (λ (p : Path). AreFrom t (next_key (enc p)) (n - 1) es) (sym last) (others t (next_key (enc s.last)) n e es w.are);
     }
+
+-- the next of a list that a walk is in the middle of
+pub next_of : {X : Type 0} (all : List X) (k : ℕ) (x : X) → (k < length all) × (x ≡ get_or all k x) → drop k all ≡ x ∷ drop (k + 1) all
+next_of all k x h = drop_more all k x h.0 ∙ ap (λ y. y ∷ drop (k + 1) all) (sym h.1)
 
 -- at the end of the piece
 pub walks_end : (t : Tree) (a s : Spot) (x y : Text) (limit n : ℕ) (es : List (Path × Meta)) → IsTree t → IsPiece t a limit es → Walks t a x s y n [] → n ≡ limit - 1 - length (drop 1 es) → PassesPiece t limit es a x s y

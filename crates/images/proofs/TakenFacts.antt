@@ -21,7 +21,7 @@ use Rattle.volume.specs.Volumes.{PVolume}
 
 -- ---- answers
 
-open_from_ok : (i : Intake) → answer_of i ≡ Ok tt → i ≡ Open
+pub open_from_ok : (i : Intake) → answer_of i ≡ Ok tt → i ≡ Open
 open_from_ok Open e = refl
 open_from_ok Starved e = absurd (cc)
 open_from_ok (Spoiled n) e = absurd (cc)
@@ -39,21 +39,21 @@ never_read (Spoiled n) e = (cc)
 -- ---- pieces
 
 pub fresh_loader : (shape : Shape) (l : Loader) → l.intake ≡ Open → HasRead [] l.held.items l.loading → form_of l.loading.volume ≡ new_form shape → IsFresh shape l
-fresh_loader shape l open read form = (open, subst (λ (i : Intake). TookBy i shape [] l) (sym open) (read, form))
+fresh_loader shape l still read form = (still, subst (λ (i : Intake). TookBy i shape [] l) (sym still) (read, form))
 
 -- what an open one took
 pub took_open : (shape : Shape) (text : Text) (l : Loader) → l.intake ≡ Open → Took shape text l → HasRead text l.held.items l.loading × (form_of l.loading.volume ≡ new_form shape)
-took_open shape text l open took = subst (λ (i : Intake). TookBy i shape text l) open took
+took_open shape text l still took = subst (λ (i : Intake). TookBy i shape text l) still took
 
 -- a piece, by what was answered to it
 pub took_piece : (shape : Shape) (text piece : Text) (old new : Loader) (taken : Result (Unit {0}) LoadFault) → old.intake ≡ Open → answer_of new.intake ≡ taken
     → OnOk taken (LoadsPiece old.held.items piece new.held.items old.loading new.loading) → OnOk taken (form_of new.loading.volume ≡ form_of old.loading.volume)
     → ((n : ℕ) → taken ≡ Err (Bad n) → RefusesPiece old.held.items piece n old.loading)
     → Took shape text old → Took shape (text ++ piece) new
-took_piece shape text piece old new taken open answer loads form refuses took = go new.intake answer
+took_piece shape text piece old new taken still answer loads form refuses took = go new.intake answer
   where
     was : HasRead text old.held.items old.loading × (form_of old.loading.volume ≡ new_form shape)
-    was = took_open shape text old open took
+    was = took_open shape text old still took
 
     go : (i : Intake) → answer_of i ≡ taken → TookBy i shape (text ++ piece) new
     go Open e =
@@ -101,41 +101,41 @@ takes_nothing shape had l fresh = ([], Consumes-nil had, fresh.0, fresh.1)
 
 pub takes_piece : (shape : Shape) (had has now : Option (List ℕ)) (piece : Text) (l m : Loader) → TakesSoFar shape had has l → Consumes has now piece
     → ((shape : Shape) (text : List ℕ) → Took shape text l → Took shape (text ++ piece) m) → answer_of m.intake ≡ Ok tt → TakesSoFar shape had now m
-takes_piece shape had has now piece l m (text, read, open, took) more takes answer =
+takes_piece shape had has now piece l m (text, read, still, took) more takes answer =
     (text ++ piece, Consumes-trans had has now text piece read more, open_from_ok m.intake answer, takes shape text took)
 
 pub takes_all : (shape : Shape) (had has now : Option (List ℕ)) (none : Text) (l : Loader) → TakesSoFar shape had has l → Consumes has now none → none ≡ [] → IsAtEnd now → TakesAll shape had now l
-takes_all shape had has now none l (text, read, open, took) more no_bytes end = ((text, gave_all had has now text none read more no_bytes, open, took), end)
+takes_all shape had has now none l (text, read, still, took) more no_bytes end = ((text, gave_all had has now text none read more no_bytes, still, took), end)
 
 pub takes_bad : (shape : Shape) (had has now : Option (List ℕ)) (piece : Text) (n : ℕ) (l m : Loader) → TakesSoFar shape had has l → Consumes has now piece
     → ((shape : Shape) (text : List ℕ) → Took shape text l → Took shape (text ++ piece) m) → answer_of m.intake ≡ Err (Bad n) → IsBadIn had n
-takes_bad shape had has now piece n l m (text, read, open, took) more takes answer =
+takes_bad shape had has now piece n l m (text, read, still, took) more takes answer =
     let known : (rest : List ℕ) × IfSome had (λ all. all ≡ (text ++ piece) ++ rest) = known_text had now (text ++ piece) (Consumes-trans had has now text piece read more) in
     ((text ++ piece) ++ known.0, known.1, bad_whatever shape (text ++ piece) known.0 m n answer (takes shape text took))
 
 pub takes_failed : (shape : Shape) (had has now : Option (List ℕ)) (l : Loader) → TakesSoFar shape had has l → Keeps has now → HasBegun had now
-takes_failed shape had has now l (text, read, open, took) kept =
-    let h = (took_open shape text l open took).0 in
+takes_failed shape had has now l (text, read, still, took) kept =
+    let h = (took_open shape text l still took).0 in
     (text, Consumes-kept had has now text read kept, (h.so_far, h.left, h.loading.are, h.holds.free, h.cut))
 
 -- the end of the reader
 pub all_loaded : (shape : Shape) (had has : Option (List ℕ)) (l : Loader) (r : Result PVolume LoadFault) → TakesAll shape had has l
     → ((shape : Shape) (text : List ℕ) → Took shape text l → IfOk r (LoadedIn shape text)) → IfOk r (λ v. LoadsAll had has v × (form_of v ≡ new_form shape))
-all_loaded shape had has l (Ok v) ((text, read, open, took), end) loads =
+all_loaded shape had has l (Ok v) ((text, read, still, took), end) loads =
     let is = loads shape text took in
     ((text, read, end, (is.0.version, (image_law is.0.version text).1 (is.0.tree, is.0.is_tree, sym is.0.image_is)), is.0), is.1)
 all_loaded shape had has l (Err e) takes loads = tt
 
 pub all_bad : (shape : Shape) (had has : Option (List ℕ)) (l : Loader) (n : ℕ) → TakesAll shape had has l → ((text : List ℕ) → Took shape text l → IsBadAt n text) → IsBadIn had n
-all_bad shape had has l n ((text, read, open, took), end) bad = (text, known_whole had has text read end, bad text took)
+all_bad shape had has l n ((text, read, still, took), end) bad = (text, known_whole had has text read end, bad text took)
 
 -- ---- a load
 
 -- what a loader over a new volume gives
-pub first_part : {A : Type 0} {P Q : A → Type 0} (r : Result A LoadFault) → IfOk r (λ v. P v × Q v) → IfOk r P
-first_part (Ok v) h = h.0
-first_part (Err e) h = tt
+pub first_part : {A : Type 0} (P Q : A → Type 0) (r : Result A LoadFault) → IfOk r (λ v. P v × Q v) → IfOk r P
+first_part P Q (Ok v) h = h.0
+first_part P Q (Err e) h = tt
 
-pub second_part : {A : Type 0} {P Q : A → Type 0} (r : Result A LoadFault) → IfOk r (λ v. P v × Q v) → IfOk r Q
-second_part (Ok v) h = h.1
-second_part (Err e) h = tt
+pub second_part : {A : Type 0} (P Q : A → Type 0) (r : Result A LoadFault) → IfOk r (λ v. P v × Q v) → IfOk r Q
+second_part P Q (Ok v) h = h.1
+second_part P Q (Err e) h = tt

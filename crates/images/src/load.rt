@@ -112,12 +112,12 @@ fn load_pieces<R: Read>(
         drop(loader);
         return Err(LoadFault::Memory);
     };
-    let taken = take_all(alloc, &mut loader, reader, piece.as_mut_slice());
-    drop(piece);
-    if let Err(fault) = taken {
+    if let Err(fault) = take_all(alloc, &mut loader, reader, piece.as_mut_slice()) {
         drop(loader);
+        drop(piece);
         return Err(fault);
     }
+    drop(piece);
     loader.end()
 }
 

@@ -83,7 +83,7 @@ impl Loader {
             return Err(fault);
         }
         let taken = self.loading.take_piece(alloc, &mut self.held, piece);
-        self.intake = intake_of(&taken);
+        self.intake = Loader::intake_of(&taken);
         taken
     }
 
@@ -136,17 +136,17 @@ impl Loader {
             Intake::Spoiled(number) => Err(LoadFault::Bad(number)),
         }
     }
-}
 
-// What became of a piece.
-fn intake_of(taken: &Result<(), LoadFault>) -> Intake
-    requires shape { taken.now ≢ Err LoadFault.Shape }
-    requires read { taken.now ≢ Err LoadFault.Read }
-    ensures { answer_of result ≡ taken.now }
-{
-    match taken {
-        Ok(()) => Intake::Open,
-        Err(LoadFault::Bad(number)) => Intake::Spoiled(*number),
-        Err(_) => Intake::Starved,
+    // What became of a piece.
+    fn intake_of(taken: &Result<(), LoadFault>) -> Intake
+        requires shape { taken.now ≢ Err LoadFault.Shape }
+        requires read { taken.now ≢ Err LoadFault.Read }
+        ensures { answer_of result ≡ taken.now }
+    {
+        match taken {
+            Ok(()) => Intake::Open,
+            Err(LoadFault::Bad(number)) => Intake::Spoiled(*number),
+            Err(_) => Intake::Starved,
+        }
     }
 }

@@ -83,7 +83,7 @@ impl Spot {
         ensures last { self.new.last ≡ self.old.last }
         ensures tree { blocks.new ≡ blocks.old }
     {
-        while text.len() < ENOUGH {
+        'lines: while text.len() < ENOUGH {
             let Some((number, block)) = blocks.next(alloc, &self.last, self.from)? else {
                 return Ok(());
             };

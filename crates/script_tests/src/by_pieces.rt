@@ -107,7 +107,7 @@ fn goes(alloc: Global, text: &[u8], size: usize) -> bool
 /// Images of version 2.
 const IMAGES: [&[u8]; 5] = [
     b"D / 0\n",
-    b"D / 18446744073709551615\nF /%00 0 1\n",
+    b"D / 18446744073709551615\nF /%FF 0 1\n",
     b"D / 7\nD /a 5\nD /a/b 4\nF /a/b/c 3 2\nb 0 616263\nF /d 10000 1\nb 0 00ff\nb 2 01\n",
     b"D / 1\nF /f 1099511627776 2\nb 268435455 ff\n",
     b"D / 1\nF /a 8192 2\nF /b 8192 3\nb 1 01\nD /c 4\nF /c/d 1 5\nb 0 2a\n",

@@ -1,6 +1,7 @@
 use Rattle.std.proofs.Common.{◌≡◌}
 use Rattle.pathkey.specs.declared.errno.Errno.TheVariants.{EINVAL}
-use Rattle.doorvervain.specs.Handed.{LoadedIn, NotLoaded}
+use Rattle.images.specs.Taken.{LoadedIn}
+use Rattle.doorvervain.specs.Handed.{NotLoaded}
 use Rattle.doorvervain.proofs.Handed.{done_out, given_out, memory_told, refused_out, told_out}
 use Rattle.doorvervain.proofs.upkeep.load.Goals as goal
 

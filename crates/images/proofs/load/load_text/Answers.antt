@@ -1,5 +1,11 @@
-use Rattle.images.proofs.LoadFacts.{loaded_form}
+use Rattle.images.proofs.TakenFacts.{first_part, second_part}
 use Rattle.images.proofs.load.load_text.Goals as goal
 
+pub returns-in-Ok-clause-loaded : goal.returns-in-Ok-clause-loaded
+returns-in-Ok-clause-loaded c = first_part _ _ c.load_whole.result (c.load_whole.ensures.loaded c.args.shape c.in-Ok.ensures.fresh)
+
 pub returns-in-Ok-clause-form : goal.returns-in-Ok-clause-form
-returns-in-Ok-clause-form c = loaded_form c.load_whole.result c.in-Ok.volume c.args.shape c.in-Ok.ensures.new c.load_whole.ensures.form
+returns-in-Ok-clause-form c = second_part _ _ c.load_whole.result (c.load_whole.ensures.loaded c.args.shape c.in-Ok.ensures.fresh)
+
+pub returns-in-Ok-clause-bad : goal.returns-in-Ok-clause-bad
+returns-in-Ok-clause-bad c = λ n e. c.load_whole.ensures.bad c.args.shape n c.in-Ok.ensures.fresh e
