@@ -236,7 +236,7 @@ def a_log_that_is_cut_loads(folder: Path):
     sync(mount.point)
     kill(mount)
     log = logs(folder)[-1]
-    whole, before = log.read_bytes(), 41
+    whole, before = log.read_bytes().rstrip(b"\0"), 41
     for cut in range(1, 1001):
         log.write_bytes(whole[:-cut])
         names = names_after(folder)
@@ -308,7 +308,7 @@ def images_take_the_place_of_logs(folder: Path):
         time.sleep(0.02)
     time.sleep(0.5)
     sizes = sum(it.stat().st_size for it in (folder / "store").iterdir())
-    assert sizes < 1000000, sorted(os.listdir(folder / "store"))
+    assert sizes < 2000000, sorted(os.listdir(folder / "store"))
     kill(mount)
     again = store_mount(folder)
     assert (again.point / "file").read_bytes() == bytes([59]) * 50000
@@ -405,7 +405,7 @@ class FailingDisk:
             torn = bytearray(whole[:left])
             for at in WORKS.sample(range(least, left), min(2, max(0, left - least))):
                 torn[at] = 0
-            log.write_bytes(torn)
+            log.write_bytes(torn + bytes(WORKS.choice([0, len(whole) - left])))
         for part in (folder / "store").glob("*.part"):
             part.write_bytes(part.read_bytes()[:WORKS.randrange(1 << 16)])
 
@@ -425,7 +425,7 @@ def cut_power_often(folder: Path, *options) -> None:
         shutil.rmtree(folder / "synced", ignore_errors=True)
         disk, notes = FailingDisk(folder), folder / "notes"
         for log in logs(folder):
-            (disk.synced / log.name).write_text(str(log.stat().st_size))
+            (disk.synced / log.name).write_text(str(len(log.read_bytes().rstrip(b"\0"))))
         mount = store_mount(folder, *options, environment=disk.environment)
         kill_at_chance(folder, mount, number, first, notes)
         disk.lose_power(folder)
@@ -450,6 +450,18 @@ def nor_one_while_images_are_written(folder: Path):
     cut_power_often(folder, "--log-size", "20K")
 
 
+def write_when_it_may(path: Path) -> None:
+    """Changes are refused until an image is whole."""
+    for _ in range(300):
+        try:
+            path.write_text(path.name)
+            return
+        except OSError as fault:
+            assert fault.errno == errno.EIO, fault
+            time.sleep(0.1)
+    raise AssertionError("changes are refused still")
+
+
 def fail_and_mend(folder: Path, what: str) -> None:
     disk = FailingDisk(folder)
     mount = store_mount(folder, environment=disk.environment)
@@ -465,12 +477,7 @@ def fail_and_mend(folder: Path, what: str) -> None:
     refused(errno.EIO, os.write, held, b"more")
     assert (mount.point / "held").read_text() == "held"
     disk.mend()
-    for _ in range(200):
-        try:
-            (mount.point / "later").write_text("later")
-            break
-        except OSError:
-            time.sleep(0.1)
+    write_when_it_may(mount.point / "later")
     sync(mount.point)
     os.fsync(held)
     refused(errno.EIO, os.fsync, other)
@@ -568,12 +575,11 @@ def a_disk_that_has_room_again_is_used_again(folder: Path):
     def work(disk: Path) -> None:
         (disk / "other").write_bytes(bytes(24 << 20))
         mount = Mount(folder, "--store", disk / "store")
-        refused(errno.EIO, lambda: [(mount.point / f"file{i}").write_bytes(bytes([i]) * 500000) or sync(mount.point)
+        refused(errno.EIO, lambda: [(mount.point / f"file{i}").write_bytes(bytes([i]) * 500000) and sync(mount.point)
                                     for i in range(100)])
         names = set(os.listdir(mount.point))
         (disk / "other").unlink()
-        time.sleep(7)
-        (mount.point / "later").write_text("later")
+        write_when_it_may(mount.point / "later")
         sync(mount.point)
         kill(mount)
         again = Mount(folder, "--store", disk / "store")

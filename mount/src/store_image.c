@@ -15,7 +15,7 @@ struct writing {
     struct image image;
     struct doorvervain_printing printing;
     uint64_t number, former_bytes, size, pieces;
-    int former; // the log before it; -1: none was begun for it
+    struct former_log former; // the log before it
 };
 
 void store_enough(struct store *store, uint64_t image) {
@@ -42,7 +42,6 @@ static int freeze(struct store *store, struct writing *writing) {
 static int begin_log(struct store *store, struct writing *writing) {
     store_take(store);
     store_write_taken(store);
-    writing->former = -1;
     writing->former_bytes = store->logged;
     int fault = store->records || !store->fault ? store_next_log(store, &writing->former) : 0;
     writing->number = store->number;
@@ -55,7 +54,7 @@ static int begin(struct store *store, struct writing *writing) {
     pthread_mutex_lock(&store->writing);
     if (!fault) fault = store->snapshots ? EBUSY : begin_log(store, writing);
     requests_go_on();
-    int other = writing->former >= 0 ? store_end_log(store, writing->former) : 0;
+    int other = writing->former.file >= 0 ? store_end_log(store, &writing->former) : 0;
     pthread_mutex_unlock(&store->writing);
     return fault ? fault : other;
 }
@@ -117,7 +116,7 @@ static void succeed(struct store *store, const struct writing *writing) {
     pthread_mutex_lock(&store->writing);
     store_enough(store, writing->size);
     if (store->fault) store_say(store, "changes are kept again");
-    store->fault = 0;
+    store->fault = store->told = 0;
     pthread_mutex_unlock(&store->writing);
     store_clear(store, writing->number);
 }
@@ -125,15 +124,16 @@ static void succeed(struct store *store, const struct writing *writing) {
 // The logs go on, and it is tried again when they have grown by as much as a first one.
 static void give_up(struct store *store, const struct writing *writing, int fault) {
     pthread_mutex_lock(&store->writing);
-    store->logged += writing->former >= 0 ? writing->former_bytes : 0;
+    store->logged += writing->former.file >= 0 ? writing->former_bytes : 0;
     store->enough = store->logged + store->log_size;
-    if (!store->fault && fault != ECANCELED && fault != EBUSY)
+    if (fault != ECANCELED && fault != EBUSY && fault != store->told)
         store_say(store, "tree.%" PRIu64 " is not written: %s", writing->number, strerror(fault));
+    store->told = fault;
     pthread_mutex_unlock(&store->writing);
 }
 
 int store_checkpoint(struct store *store, void (*meanwhile)(struct store *store)) {
-    struct writing writing = {.former = -1};
+    struct writing writing = {.former.file = -1};
     int fault = begin(store, &writing);
     if (!fault) fault = put_image(store, &writing, meanwhile);
     end_printing(&writing);

@@ -11,6 +11,12 @@ struct queue {
     struct bytes ends; // as size_t: where those of each request end
 };
 
+// A log that is at its end.
+struct former_log {
+    int file; // -1: there is none
+    uint64_t length;
+};
+
 struct store {
     char folder[PATH_MAX];
     int directory, lock; // the folder, and its lock
@@ -29,6 +35,8 @@ struct store {
     pthread_mutex_t writing;
     uint64_t number;  // of the log
     int log;          // its file
+    uint64_t length;  // bytes of its records
+    uint64_t room;    // and with the zeros behind them
     uint64_t records; // in the log
     uint64_t logged;  // bytes of all logs behind the tree's image
     uint64_t enough;  // how many of them make another image worth its while
@@ -36,6 +44,7 @@ struct store {
     bool has_written; // this mount has written to it
     struct bytes out; // records that are put together
     struct queue taken;
+    int told; // why the last image was not written, as it was said; 0: it was
 
     _Atomic uint64_t failures;
     _Atomic int fault; // why changes are refused, until a new image is whole; 0: they are not
@@ -72,14 +81,14 @@ void store_take(struct store *store);
 // Writes what was taken, and syncs; under `writing`. A failure is noted, and changes are refused from then on.
 int store_write_taken(struct store *store);
 int store_sync_taken(struct store *store);
-// Opens a log to write behind what it has, and makes it where it is missing.
-int store_open_log(struct store *store, uint64_t number);
+// Opens a log to write behind so many bytes that it has, and makes it where it is missing.
+int store_open_log(struct store *store, uint64_t number, uint64_t length);
 // The log is at its end, until another mount: what is found damaged in it then was on the disk.
 int store_close_log(struct store *store);
 // Begins the next log, which has nothing yet, under both locks; and brings all of the former one onto the disk, under
 // `writing`. So what the next one has is never there without it.
-int store_next_log(struct store *store, int *former);
-int store_end_log(struct store *store, int former);
+int store_next_log(struct store *store, struct former_log *former);
+int store_end_log(struct store *store, const struct former_log *former);
 // The number of a record.
 uint64_t store_record(uint64_t log, uint64_t index);
 

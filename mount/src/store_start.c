@@ -63,10 +63,17 @@ static int say_damage(const struct store *store, const struct log *log) {
     return EINVAL;
 }
 
+// What a log has behind its records until it is closed.
+static bool has_zeros_alone(const struct log *log) {
+    const char *rest = log->bytes + log->whole;
+    size_t count = log->length - log->whole;
+    return !rest[0] && !memcmp(rest, rest + 1, count - 1);
+}
+
 // A record that is not whole was not synced, and the log ends before it: but not where a mark behind it tells that it was,
 // nor where a later log has something.
 static int try_end(const struct store *store, const struct log *log, bool is_last) {
-    if (log->whole == log->length) return 0;
+    if (log->whole == log->length || (is_last && has_zeros_alone(log))) return 0;
     if (!is_last ||
         calls_find_mark(log->bytes + log->whole, log->length - log->whole, store_record(log->number, log->records)))
         return say_damage(store, log);
@@ -119,13 +126,12 @@ static int cut_logs(const struct logs *logs) {
 static int go_on(struct store *store, const struct logs *logs, uint64_t first) {
     const struct log *last = logs->count ? &logs->at[logs->count - 1] : 0;
     int fault = cut_logs(logs);
-    if (!fault) fault = store_open_log(store, last ? last->number : first);
+    if (!fault) fault = store_open_log(store, last ? last->number : first, last ? last->whole : 0);
     if (!fault && fsync(store->directory)) fault = errno;
     if (fault) {
         store_say(store, "%s", strerror(fault));
         return fault;
     }
-    store->is_synced = true;
     store->records = last ? last->records : 0;
     for (size_t i = 0; i < logs->count; i++) store->logged += logs->at[i].whole;
     store_clear(store, first);
