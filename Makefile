@@ -107,7 +107,7 @@ UNPACKED := out/dist/$(PACKAGE)
 # A .pc file that finds its folder by itself, so that the package works wherever it is unpacked.
 dist:
 	rm -rf $(UNPACKED)
-	$(MAKE) install DESTDIR= PREFIX='$(CURDIR)/$(UNPACKED)' PC_PREFIX='$$$${pcfiledir}/../..'
+	$(MAKE) install DESTDIR= LINK= PREFIX='$(CURDIR)/$(UNPACKED)' PC_PREFIX='$$$${pcfiledir}/../..'
 	install -m 644 docs/INSTALL.md $(UNPACKED)/README.md
 	GATE='$(GATE)' GATE_FILE='$(GATE_FILE)' packaging/stamp > $(UNPACKED)/COMMIT
 	cd $(UNPACKED) && find . -type f ! -name SHA256SUMS | LC_ALL=C sort | xargs sha256sum > SHA256SUMS

@@ -137,13 +137,37 @@ def an_image_that_was_cut_is_refused(folder: Path):
 
 
 @case
-def only_the_owner_may_read_images_and_logs(folder: Path):
-    for name in ("image", "log.in"):
-        (folder / name).touch(mode=0o644)
-    file = keep_tree(folder, "--log", folder / "log")
+def only_the_owner_may_read_images_and_records(folder: Path):
+    (folder / "image").touch(mode=0o644)
+    file = keep_tree(folder, "--record", folder / "log")
     for name in ("image", "image.sum", "log.in", "log.out"):
         assert stat.S_IMODE((folder / name).stat().st_mode) == 0o600, name
     assert is_whole(file)
+
+
+@case
+def an_older_record_is_not_cut(folder: Path):
+    (folder / "log.in").write_text("older")
+    mount = Mount(folder, "--record", folder / "log")
+    assert not mount.stands and "log.in" in mount.said()
+    assert (folder / "log.in").read_text() == "older"
+
+
+@case
+def a_record_that_cannot_be_written_ends_with_whole_lines(folder: Path):
+    disk = folder / "disk"
+    disk.mkdir()
+    if os.getuid() or subprocess.run(["mount", "-t", "tmpfs", "-o", "size=200K", "none", disk]).returncode:
+        return
+    try:
+        mount = Mount(folder, "--record", disk / "log")
+        for i in range(200):
+            (mount.point / f"file{i}").write_bytes(os.urandom(1000))
+        assert mount.end() == 1 and "the record ends" in mount.said()
+        lines = [(disk / f"log.{it}").read_bytes() for it in ("in", "out")]
+        assert all(it.endswith(b"\n") for it in lines) and lines[0].count(b"\n") == lines[1].count(b"\n") > 100
+    finally:
+        subprocess.run(["umount", "-l", disk], check=True)
 
 
 @case

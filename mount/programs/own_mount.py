@@ -27,12 +27,13 @@ def record_case(run: Callable[[Path], None]) -> Callable[[Path], None]:
 class Mount:
     """It is tried to mount on a folder; `stands` says whether that was done."""
 
-    def __init__(self, folder: Path, *options, name: str = "mnt"):
+    def __init__(self, folder: Path, *options, name: str = "mnt", environment: dict[str, str] | None = None):
         self.point, self.words = folder / name, folder / "said"
         self.point.mkdir(exist_ok=True)
         with self.words.open("w") as said:
             command = [MOUNT, "--foreground", *OPTIONS, *map(str, options), self.point]
-            self.process = subprocess.Popen(command, stdin=subprocess.DEVNULL, stderr=said, start_new_session=True)
+            self.process = subprocess.Popen(command, stdin=subprocess.DEVNULL, stderr=said, start_new_session=True,
+                                            env=os.environ | (environment or {}))
         while not os.path.ismount(self.point) and self.process.poll() is None:
             time.sleep(0.01)
         self.stands = self.process.poll() is None

@@ -1,6 +1,7 @@
 // The file system as the static library in this very process.
 #include "doorvervain.h"
 #include "image.h"
+#include "library.h"
 #include "way.h"
 #include <errno.h>
 #include <fcntl.h>
@@ -187,6 +188,11 @@ static const struct way library_way = {
 
 static const struct record_form records = {doorvervain_mirror, doorvervain_record_path, doorvervain_record_print,
                                            doorvervain_record_parse};
+
+struct doorvervain *library_volume(void *self) {
+    struct library *library = self;
+    return &library->volume;
+}
 
 static int open_empty(struct library *library) {
     int fault = doorvervain_errno(

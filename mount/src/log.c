@@ -1,21 +1,32 @@
-// A log between a volume and its caller: every call as a line of a script, and every reply. Any program of the language
+// A record between a volume and its caller: every call as a line of a script, and every reply. Any program of the language
 // answers the script alike. A write that is longer than a line can be stands as several lines. One that is refused
 // stands as a note, and so does a hole, and what is refused for want of memory.
+#include "ending.h"
 #include "script.h"
 #include <errno.h>
 #include <fcntl.h>
 #include <inttypes.h>
+#include <stdarg.h>
 #include <stdio.h>
 #include <stdlib.h>
 #include <string.h>
-#include <sys/stat.h>
+#include <sys/types.h>
 #include <unistd.h>
 
-enum { LONGEST_NOTE = 100 };
+enum { LONGEST_NOTE = 100, WRITTEN_AT_ONCE = 1 << 16 };
+
+// One of the two files: what it has, whole lines, and lines that wait.
+struct sheet {
+    int file;
+    off_t whole;
+    struct bytes lines;
+};
 
 struct log {
     struct volume over;
-    FILE *calls, *replies;
+    const char *name;
+    struct sheet calls, replies;
+    int fault;   // why it ends before the mount does; 0: it does not
     uint64_t at; // the moment of the lines that follow
     struct bytes line, reply;
 };
@@ -25,11 +36,56 @@ static struct bytes *fresh(struct bytes *bytes) {
     return bytes;
 }
 
+static void write_sheet(struct log *log, struct sheet *sheet) {
+    for (size_t from = 0; !log->fault && from < sheet->lines.length;) {
+        ssize_t done = write(sheet->file, sheet->lines.at + from, sheet->lines.length - from);
+        if (done < 0 && errno != EINTR) log->fault = errno;
+        if (done > 0) from += (size_t)done;
+    }
+}
+
+static void cut_sheet(struct sheet *sheet) {
+    if (ftruncate(sheet->file, sheet->whole)) return;
+}
+
+// Writes the lines that wait into both files. Where that fails, both end with the lines before them, and get no others.
+static void flush(struct log *log) {
+    if (!log->fault) write_sheet(log, &log->calls);
+    if (!log->fault) write_sheet(log, &log->replies);
+    if (log->fault && (log->calls.lines.length || log->replies.lines.length)) {
+        ending_say("the record ends before the mount does: ", log->name, log->fault);
+        cut_sheet(&log->calls);
+        cut_sheet(&log->replies);
+    }
+    log->calls.whole += (off_t)log->calls.lines.length;
+    log->replies.whole += (off_t)log->replies.lines.length;
+    log->calls.lines.length = log->replies.lines.length = 0;
+}
+
+// Puts lines down: the same number in both files, but for notes.
+static void put_lines(struct log *log, const struct bytes *line, const struct bytes *reply) {
+    if (log->fault) return;
+    int fault = bytes_append(&log->calls.lines, line->at, line->length);
+    if (!fault && reply) fault = bytes_append(&log->replies.lines, reply->at, reply->length);
+    if (fault) log->fault = fault;
+    if (fault || log->calls.lines.length >= WRITTEN_AT_ONCE) flush(log);
+}
+
+static void put_note(struct log *log, const char *form, ...) __attribute__((format(printf, 2, 3)));
+static void put_note(struct log *log, const char *form, ...) {
+    char text[2 * LONGEST_NOTE];
+    va_list words;
+    va_start(words, form);
+    int length = vsnprintf(text, sizeof text, form, words);
+    va_end(words);
+    put_lines(log, &(struct bytes){text, (size_t)length, 0}, 0);
+}
+
 // What was refused for want of memory another program would do.
 static int note_line(struct log *log) {
     size_t length = log->line.length - 1;
     if (length > LONGEST_NOTE) length = LONGEST_NOTE;
-    fprintf(log->calls, "# memory was wanting for: %.*s\n", (int)length, log->line.at);
+    put_note(log, "# memory was wanting for: %.*s\n", (int)length, log->line.at);
     return ENOMEM;
 }
 
@@ -37,8 +93,7 @@ static int note_line(struct log *log) {
 static int tell(struct log *log, int fault) {
     if (fault == ENOMEM) return note_line(log);
     if (fault) reply_fault(fresh(&log->reply), fault);
-    fwrite(log->line.at, 1, log->line.length, log->calls);
-    fwrite(log->reply.at, 1, log->reply.length, log->replies);
+    put_lines(log, &log->line, &log->reply);
     return fault;
 }
 
@@ -95,7 +150,7 @@ static int log_write(void *self, const char *path, uint64_t offset, const char *
         script_write(fresh(&log->line), path, offset + *done, bytes + *done, count - *done);
         return tell(log, fault);
     }
-    fprintf(log->calls, "# a write of %zu bytes was refused\n", count - *done);
+    put_note(log, "# a write of %zu bytes was refused\n", count - *done);
     return fault;
 }
 
@@ -175,7 +230,7 @@ static int log_punch(void *self, const char *path, uint64_t offset, uint64_t cou
     struct run hole = within(offset, count, standing.length);
     if (!fault) fault = find_runs(log, path, hole, &runs);
     if (!fault) fault = log->over.way->punch(log->over.self, path, offset, count, at);
-    if (fault) fprintf(log->calls, "# a hole of %" PRIu64 " bytes was refused\n", count);
+    if (fault) put_note(log, "# a hole of %" PRIu64 " bytes was refused\n", count);
     else if (hole.from < hole.to) tell_hole(log, path, offset, &runs, at);
     bytes_free(&runs);
     return fault;
@@ -192,13 +247,20 @@ static unsigned log_relieve(void *self, unsigned steps) {
     return log->over.way->relieve(log->over.self, steps);
 }
 
+static void free_log(struct log *log) {
+    if (log->calls.file >= 0) close(log->calls.file);
+    if (log->replies.file >= 0) close(log->replies.file);
+    struct bytes *all[] = {&log->line, &log->reply, &log->calls.lines, &log->replies.lines};
+    for (size_t i = 0; i < sizeof all / sizeof *all; i++) bytes_free(all[i]);
+    free(log);
+}
+
 static int log_close(void *self, struct image *image) {
     struct log *log = self;
     int fault = log->over.way->close(log->over.self, image);
-    if (fclose(log->calls) || fclose(log->replies)) fault = EIO;
-    bytes_free(&log->line);
-    bytes_free(&log->reply);
-    free(log);
+    flush(log);
+    if (log->fault && !fault) fault = log->fault;
+    free_log(log);
     return fault;
 }
 
@@ -207,36 +269,30 @@ static const struct way log_way = {
     log_list,   log_keep,   log_punch,    log_data,  log_relieve, log_close,
 };
 
-// The bytes of files that only their owner may read go into a log: so may it only be read.
-static FILE *open_private(const char *name) {
-    int file = open(name, O_WRONLY | O_CREAT | O_TRUNC | O_CLOEXEC, 0600);
-    if (file < 0) return 0;
-    FILE *out = fchmod(file, 0600) ? 0 : fdopen(file, "w");
-    if (!out) close(file);
-    return out;
-}
-
-static FILE *open_part(const char *name, const char *ending) {
+// The bytes of files that only their owner may read go into a record: so may it only be read. An older one stays.
+static int open_sheet(const char *name, const char *ending, struct sheet *out) {
     struct bytes file = {0};
-    FILE *out = 0;
-    if (!bytes_append(&file, name, strlen(name)) && !bytes_append(&file, ending, strlen(ending) + 1))
-        out = open_private(file.at);
+    int fault = bytes_append(&file, name, strlen(name));
+    if (!fault) fault = bytes_append(&file, ending, strlen(ending) + 1);
+    if (!fault) out->file = open(file.at, O_WRONLY | O_CREAT | O_EXCL | O_CLOEXEC, 0600);
+    if (!fault && out->file < 0) fault = errno;
+    if (fault) fprintf(stderr, "doorvervain-mount: %s%s: %s\n", name, ending, strerror(fault));
     bytes_free(&file);
-    return out;
+    return fault;
 }
 
 int open_log(const struct making *making, struct volume *volume) {
     struct log *log = calloc(1, sizeof *log);
     if (!log) return ENOMEM;
     log->over = *volume;
-    log->calls = open_part(making->log, ".in");
-    log->replies = log->calls ? open_part(making->log, ".out") : 0;
-    if (log->replies) {
-        *volume = (struct volume){&log_way, log, log->over.records};
-        return 0;
+    log->name = making->log;
+    log->calls.file = log->replies.file = -1;
+    int fault = open_sheet(making->log, ".in", &log->calls);
+    if (!fault) fault = open_sheet(making->log, ".out", &log->replies);
+    if (fault) {
+        free_log(log);
+        return fault;
     }
-    fprintf(stderr, "doorvervain-mount: %s.in and %s.out cannot be written\n", making->log, making->log);
-    if (log->calls) fclose(log->calls);
-    free(log);
-    return EIO;
+    *volume = (struct volume){&log_way, log, log->over.records};
+    return 0;
 }

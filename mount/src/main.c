@@ -87,6 +87,7 @@ static int serve_in_background(const struct options *options) {
 static int serve_options(struct options *options) {
     options->image = full_name(options->image);
     options->making.image = full_name(options->making.image);
+    options->making.store = full_name(options->making.store);
     options->making.log = full_name(options->making.log);
     options->making.betr = full_name(options->making.betr);
     return options->stays ? serve_mount(options, say_it_stands) : serve_in_background(options);
@@ -96,8 +97,9 @@ int main(int count, char **words) {
     static struct options options;
     int status = read_options(count, words, &options);
     if (status) return status;
-    if (options.helps) {
-        print_help();
+    if (options.helps || options.tells_version) {
+        if (options.helps) print_help();
+        else print_version();
         return 0;
     }
     options.mount_point = full_path(options.mount_point);

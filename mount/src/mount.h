@@ -3,10 +3,13 @@
 #define MOUNT_H
 #include "entries.h"
 
+struct store; // of store.h
+
 struct mount {
     struct volume volume;
     struct entry *root;
-    uid_t user; // the owner of the mount
+    struct store *store; // null: nothing is kept but what an image has
+    uid_t user;          // the owner of the mount
     gid_t group;
     bool trusts;           // owners and set-user bits of records hold
     bool has_told;         // that a record cannot be read

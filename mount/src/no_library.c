@@ -1,5 +1,5 @@
 // In the place of library.c where the library is not built.
-#include "way.h"
+#include "store.h"
 #include <errno.h>
 #include <stdio.h>
 
@@ -8,3 +8,20 @@ int open_library(const struct making *making, struct volume *out) {
     fputs("doorvervain-mount: made without the library: name a program by --pipe\n", stderr);
     return ENOSYS;
 }
+
+int store_open(const struct making *making, struct volume *volume, struct store **out) {
+    (void)out;
+    return open_library(making, volume);
+}
+
+int store_snapshots(struct store *store, struct bytes *out) { return (void)store, (void)out, ENOSYS; }
+
+int store_keep(struct store *store, struct mount *mount) { return (void)store, (void)mount, ENOSYS; }
+
+int store_end_request(struct store *store) { return (void)store, 0; }
+
+bool store_syncs_each(const struct store *store) { return (void)store, false; }
+
+int store_sync(struct store *store, uint64_t *told) { return (void)store, (void)told, 0; }
+
+uint64_t store_failures(struct store *store) { return (void)store, 0; }

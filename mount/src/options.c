@@ -11,34 +11,57 @@ static const char help[] =
     "\n"
     "  doorvervain-mount [OPTION..] MNT      mounts it on the folder MNT\n"
     "  doorvervain-mount --restore NAME MNT  makes the tree that is mounted on MNT that of its snapshot NAME\n"
-    "  doorvervain-mount --unmount MNT       takes it away, and waits until its image is whole; the status is the mount's\n"
+    "  doorvervain-mount --unmount MNT       takes it away, and waits until what it keeps is whole; the status is the mount's\n"
     "\n"
     "  --pipe BETR     speaks to the program BETR, in a process of its own, instead of the library\n"
     "  --load FILE     begins with the tree whose image is in FILE\n"
     "  --image FILE    writes the image of the tree to FILE when the mount is taken away, and its checksum to FILE.sum\n"
+    "  --store DIR     keeps the tree in the folder DIR: what was synced is lost neither with the mount nor the machine\n"
+    "  --sync          syncs the store at each change\n"
+    "  --log-size N    lets the log of the store take N bytes, and twice those of its image, before another image is\n"
+    "                  written (64M)\n"
     "  --size N        lets the tree take N bytes of memory, with K, M or G behind N, and at least 16M; an eighth is kept\n"
     "                  for removals. Not with --pipe\n"
-    "  --log NAME      puts every call in NAME.in, as a script, and every reply in NAME.out\n"
+    "  --record NAME   puts every call in NAME.in, as a script, and every reply in NAME.out, new files, for tests\n"
     "  --steps N       does N tree steps behind every 16 changes, 0 to 1000 (4)\n"
     "  --trust         lets owners, set-user bits and devices of the tree hold, also those of a FILE that is loaded; for\n"
     "                  root alone\n"
     "  --allow-other   lets other users in, by the modes of files\n"
     "  --foreground    does not go into the background\n"
+    "  --version       prints its release\n"
     "  --help          prints this\n"
     "\n"
     "mkdir MNT/.snapshots/NAME takes a snapshot, and rmdir of that folder drops it. What is below it is read-only.\n"
-    "No listing of MNT shows .snapshots. The tree lives in memory: what no image keeps is gone with the mount. An image\n"
+    "No listing of MNT shows .snapshots. The tree lives in memory: what no store or image keeps is gone with the mount. An image\n"
     "has modes, owners, links and extended attributes too, but for those of a mount with --pipe, which keeps none.\n";
 
 void print_help(void) { fputs(help, stdout); }
 
+#ifdef UNPROVED
+#define OF_ITS_LIBRARY ", over a library of which nothing is proved"
+#else
+#define OF_ITS_LIBRARY ""
+#endif
+
+void print_version(void) { puts("doorvervain-mount " DOORVERVAIN_VERSION OF_ITS_LIBRARY); }
+
 static const struct option known[] = {
-    {"pipe", required_argument, 0, 'p'},  {"load", required_argument, 0, 'l'},
-    {"image", required_argument, 0, 'i'}, {"log", required_argument, 0, 'g'},
-    {"steps", required_argument, 0, 's'}, {"restore", required_argument, 0, 'r'},
-    {"size", required_argument, 0, 'z'},  {"unmount", no_argument, 0, 'u'},
-    {"allow-other", no_argument, 0, 'a'}, {"foreground", no_argument, 0, 'f'},
-    {"trust", no_argument, 0, 't'},       {"help", no_argument, 0, 'h'},
+    {"pipe", required_argument, 0, 'p'},
+    {"load", required_argument, 0, 'l'},
+    {"image", required_argument, 0, 'i'},
+    {"record", required_argument, 0, 'g'},
+    {"steps", required_argument, 0, 's'},
+    {"restore", required_argument, 0, 'r'},
+    {"store", required_argument, 0, 'd'},
+    {"sync", no_argument, 0, 'y'},
+    {"log-size", required_argument, 0, 'o'},
+    {"size", required_argument, 0, 'z'},
+    {"unmount", no_argument, 0, 'u'},
+    {"allow-other", no_argument, 0, 'a'},
+    {"foreground", no_argument, 0, 'f'},
+    {"trust", no_argument, 0, 't'},
+    {"help", no_argument, 0, 'h'},
+    {"version", no_argument, 0, 'v'},
     {0},
 };
 
@@ -64,13 +87,13 @@ static unsigned shift_of(char letter) {
     }
 }
 
-static int read_size(const char *word, uint64_t *out) {
+// A number of bytes, with K, M or G behind it.
+static int read_bytes(const char *word, uint64_t least, const char *refusal, uint64_t *out) {
     char *end;
     uint64_t size = strtoull(word, &end, 10);
     unsigned shift = shift_of(*end);
     bool is_number = *word >= '0' && *word <= '9' && !end[shift ? 1 : 0];
-    if (!is_number || size > UINT64_MAX >> 1 >> shift || size << shift < SMALLEST_SIZE)
-        return refuse("--size takes 16M or more, not ", word);
+    if (!is_number || size > UINT64_MAX >> 1 >> shift || size << shift < least) return refuse(refusal, word);
     *out = size << shift;
     return 0;
 }
@@ -83,25 +106,32 @@ static int read_option(int letter, struct options *out) {
         out->image = optarg;
         out->making.prints_image = true;
         return 0;
+    case 'd': out->making.store = optarg; return 0;
+    case 'o': return read_bytes(optarg, 1, "--log-size takes 1 or more, not ", &out->making.log_size);
+    case 'y': out->making.syncs_each = true; return 0;
     case 'g': out->making.log = optarg; return 0;
     case 's': return read_steps(optarg, &out->making.steps);
     case 'r': out->restore = optarg; return 0;
-    case 'z': return read_size(optarg, &out->size);
+    case 'z': return read_bytes(optarg, SMALLEST_SIZE, "--size takes 16M or more, not ", &out->size);
     case 'u': out->unmounts = true; return 0;
     case 'a': out->allows_other = true; return 0;
     case 't': out->trusts = true; return 0;
     case 'f': out->stays = true; return 0;
     case 'h': out->helps = true; return 0;
+    case 'v': out->tells_version = true; return 0;
     default: return 2;
     }
 }
 
 int read_options(int count, char **words, struct options *out) {
     int letter, fault = 0;
-    *out = (struct options){.making.steps = 4};
+    *out = (struct options){.making.steps = 4, .making.log_size = (uint64_t)64 << 20};
     while (!fault && (letter = getopt_long(count, words, "h", known, 0)) != -1) fault = read_option(letter, out);
-    if (fault || out->helps) return fault;
+    if (fault || out->helps || out->tells_version) return fault;
     if (optind + 1 != count) return refuse("one folder to mount on is wanted", "");
+    if (out->making.store && (out->making.betr || out->making.image || out->image))
+        return refuse("--store does not go with --pipe, --load or --image", "");
+    if (out->making.syncs_each && !out->making.store) return refuse("--sync is for a --store", "");
     if (out->size && out->making.betr) return refuse("--size does not go with --pipe", "");
     if (out->trusts && geteuid()) return refuse("--trust is for root", "");
     out->mount_point = words[optind];

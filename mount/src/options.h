@@ -13,10 +13,11 @@ struct options {
     bool stays;          // in the foreground
     bool allows_other;   // users may go in
     bool trusts;         // owners, set-user bits and devices of records hold
-    bool helps;
+    bool helps, tells_version;
 };
 
 // 0, or 2 where the command line is refused, which is said on standard error.
 int read_options(int count, char **words, struct options *out);
 void print_help(void);
+void print_version(void);
 #endif

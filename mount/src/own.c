@@ -107,7 +107,7 @@ int own_start(struct mount *mount) {
     if (!fault) fault = leave_out_file(mount, TREE_PATH);
     if (!fault) fault = leave_out_file(mount, LINKS_PATH);
     if (fault) return fault;
-    if (stands(mount, UNLINKED_PATH))
+    if (!mount->store && stands(mount, UNLINKED_PATH))
         fputs("doorvervain-mount: the image has " UNLINKED_PATH ", which is left out\n", stderr);
     fault = own_clear(mount);
     return fault ? fault : find_links(mount);

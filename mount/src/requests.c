@@ -13,6 +13,7 @@
 #include "names.h"
 #include "room.h"
 #include "snapshots.h"
+#include "store.h"
 #include <errno.h>
 #include <fcntl.h>
 #include <linux/capability.h>
@@ -38,6 +39,10 @@ bool requests_are_under_way(void) {
     pthread_mutex_unlock(&lock);
     return are;
 }
+
+void requests_pause(void) { pthread_mutex_lock(&lock); }
+
+void requests_go_on(void) { pthread_mutex_unlock(&lock); }
 
 static struct mount *mount_of(fuse_req_t req) { return fuse_req_userdata(req); }
 
@@ -65,6 +70,15 @@ static int begin_bytes(fuse_req_t req, fuse_ino_t number) {
     return is_leaving ? aside_settle(mount_of(req)) : 0;
 }
 
+// Leaves the lock: the request is at its end, and a store keeps what it did.
+static int leave(struct mount *mount, int fault) {
+    int other = 0;
+    if (mount->store && store_syncs_each(mount->store)) other = aside_settle(mount);
+    if (mount->store && !other) other = store_end_request(mount->store);
+    pthread_mutex_unlock(&lock);
+    return fault ? fault : other;
+}
+
 // Under the lock: an answer that names an entry is one more that the kernel holds.
 static int hold(int fault, const struct found *found) {
     if (!fault) found->entry->lookups++;
@@ -87,14 +101,14 @@ static void on_lookup(fuse_req_t req, fuse_ino_t parent, const char *name) {
     struct found found;
     int fault = begin(req);
     if (!fault) fault = hold(files_find(mount_of(req), entry_of(req, parent), name, &found), &found);
-    pthread_mutex_unlock(&lock);
+    fault = leave(mount_of(req), fault);
     answer_entry(req, fault, &found);
 }
 
 static void on_forget(fuse_req_t req, fuse_ino_t number, uint64_t lookups) {
     pthread_mutex_lock(&lock);
     if (number != FUSE_ROOT_ID) aside_forget(mount_of(req), entry_of(req, number), lookups);
-    pthread_mutex_unlock(&lock);
+    leave(mount_of(req), 0);
     fuse_reply_none(req);
 }
 
@@ -103,7 +117,7 @@ static void on_forget_many(fuse_req_t req, size_t count, struct fuse_forget_data
     for (size_t i = 0; i < count; i++)
         if (forgets[i].ino != FUSE_ROOT_ID)
             aside_forget(mount_of(req), entry_of(req, forgets[i].ino), forgets[i].nlookup);
-    pthread_mutex_unlock(&lock);
+    leave(mount_of(req), 0);
     fuse_reply_none(req);
 }
 
@@ -117,7 +131,7 @@ static void on_getattr(fuse_req_t req, fuse_ino_t number, struct fuse_file_info 
     (void)info;
     int fault = begin(req);
     if (!fault) fault = files_stat(mount_of(req), entry_of(req, number), &stat);
-    pthread_mutex_unlock(&lock);
+    fault = leave(mount_of(req), fault);
     answer_stat(req, fault, &stat);
 }
 
@@ -144,7 +158,7 @@ static void on_setattr(fuse_req_t req, fuse_ino_t number, struct stat *wanted, i
     int fault = begin(req);
     if (!fault) fault = files_set(mount_of(req), entry_of(req, number), &setting);
     if (!fault) fault = files_stat(mount_of(req), entry_of(req, number), &stat);
-    pthread_mutex_unlock(&lock);
+    fault = leave(mount_of(req), fault);
     answer_stat(req, fault, &stat);
 }
 
@@ -172,7 +186,7 @@ static void make(fuse_req_t req, fuse_ino_t parent, const char *name, const stru
     int fault = begin(req);
     if (!fault) fault = names_make(mount_of(req), entry_of(req, parent), name, novelty, &found);
     hold(fault, &found);
-    pthread_mutex_unlock(&lock);
+    fault = leave(mount_of(req), fault);
     if (fault) fuse_reply_err(req, fault);
     else answer_entry(req, 0, &found);
 }
@@ -198,7 +212,7 @@ static void on_readlink(fuse_req_t req, fuse_ino_t number) {
     struct bytes target = {0};
     int fault = begin(req);
     if (!fault) fault = files_read_link(mount_of(req), entry_of(req, number), &target);
-    pthread_mutex_unlock(&lock);
+    fault = leave(mount_of(req), fault);
     if (fault) fuse_reply_err(req, fault);
     else fuse_reply_readlink(req, target.at);
     bytes_free(&target);
@@ -209,7 +223,7 @@ static void on_link(fuse_req_t req, fuse_ino_t number, fuse_ino_t parent, const 
     int fault = begin(req);
     if (!fault) fault = links_make(mount_of(req), entry_of(req, number), entry_of(req, parent), name, &found);
     hold(fault, &found);
-    pthread_mutex_unlock(&lock);
+    fault = leave(mount_of(req), fault);
     if (fault) fuse_reply_err(req, fault);
     else answer_entry(req, 0, &found);
 }
@@ -217,7 +231,7 @@ static void on_link(fuse_req_t req, fuse_ino_t number, fuse_ino_t parent, const 
 static void take_name(fuse_req_t req, fuse_ino_t parent, const char *name, bool is_directory) {
     int fault = begin(req);
     if (!fault) fault = names_remove(mount_of(req), entry_of(req, parent), name, is_directory);
-    pthread_mutex_unlock(&lock);
+    fault = leave(mount_of(req), fault);
     fuse_reply_err(req, fault);
 }
 
@@ -230,8 +244,41 @@ static void on_rename(fuse_req_t req, fuse_ino_t parent, const char *name, fuse_
     struct mount *mount = mount_of(req);
     int fault = begin(req);
     if (!fault) fault = names_rename(mount, entry_of(req, parent), name, entry_of(req, new_parent), new_name, flags);
-    pthread_mutex_unlock(&lock);
+    fault = leave(mount_of(req), fault);
     fuse_reply_err(req, fault);
+}
+
+// A file or directory that is open. All of them stand in a row, since a mount may end before they are closed.
+struct handle {
+    struct bytes names; // of a directory, as they were when it was read from its beginning
+    uint64_t told;      // how many failed syncs of the store it was told
+    struct handle *before, *after;
+};
+
+static struct handle handles = {.before = &handles, .after = &handles};
+
+static struct handle *handle_of(struct fuse_file_info *info) { return (struct handle *)(uintptr_t)info->fh; }
+
+// Null where memory is wanting.
+static struct handle *open_handle(fuse_req_t req, struct fuse_file_info *info) {
+    struct store *store = mount_of(req)->store;
+    struct handle *handle = calloc(1, sizeof *handle);
+    info->fh = (uint64_t)(uintptr_t)handle;
+    if (!handle) return 0;
+    handle->told = store ? store_failures(store) : 0;
+    handle->before = &handles;
+    handle->after = handles.after;
+    handles.after = handle->after->before = handle;
+    return handle;
+}
+
+static void close_handle(struct fuse_file_info *info) {
+    struct handle *handle = handle_of(info);
+    if (!handle) return;
+    handle->before->after = handle->after;
+    handle->after->before = handle->before;
+    bytes_free(&handle->names);
+    free(handle);
 }
 
 // Whether who cuts a file takes its set-user bits away: all but those who have CAP_FSETID.
@@ -251,13 +298,23 @@ static bool may_drop(fuse_req_t req, const struct entry *entry, int flags) {
     return flags & O_TRUNC && entry->attributes.told.mode & (S_ISUID | S_ISGID) && drops_set_user(req);
 }
 
+// Where memory is wanting, the file is told of no sync that failed before.
+static void open_file(fuse_req_t req, struct fuse_file_info *info) {
+    info->fh = 0;
+    if (mount_of(req)->store) open_handle(req, info);
+}
+
 static void on_open(fuse_req_t req, fuse_ino_t number, struct fuse_file_info *info) {
     struct entry *entry = entry_of(req, number);
     int fault = begin(req);
     if (!fault) fault = files_open(mount_of(req), entry, info->flags, may_drop(req, entry, info->flags));
-    pthread_mutex_unlock(&lock);
-    if (fault) fuse_reply_err(req, fault);
-    else fuse_reply_open(req, info);
+    fault = leave(mount_of(req), fault);
+    if (fault) {
+        fuse_reply_err(req, fault);
+        return;
+    }
+    open_file(req, info);
+    fuse_reply_open(req, info);
 }
 
 // A file that stands already is opened as it is; where that cuts it, what is told is what stands then.
@@ -283,20 +340,21 @@ static void on_create(fuse_req_t req, fuse_ino_t parent, const char *name, mode_
     struct found found;
     int fault = begin(req);
     if (!fault) fault = create(req, parent, name, mode, info->flags, &found);
-    pthread_mutex_unlock(&lock);
+    fault = leave(mount_of(req), fault);
     if (fault) {
         fuse_reply_err(req, fault);
         return;
     }
     struct fuse_entry_param param = told(&found);
+    open_file(req, info);
     fuse_reply_create(req, &param, info);
 }
 
 static void on_release(fuse_req_t req, fuse_ino_t number, struct fuse_file_info *info) {
-    (void)info;
+    close_handle(info);
     pthread_mutex_lock(&lock);
     int fault = files_close(mount_of(req), entry_of(req, number));
-    pthread_mutex_unlock(&lock);
+    fault = leave(mount_of(req), fault);
     fuse_reply_err(req, fault);
 }
 
@@ -307,7 +365,7 @@ static void on_read(fuse_req_t req, fuse_ino_t number, size_t size, off_t offset
     int fault = begin_bytes(req, number);
     if (!bytes) fault = ENOMEM;
     if (!fault) fault = files_read(mount_of(req), entry_of(req, number), (uint64_t)offset, bytes, size, &got);
-    pthread_mutex_unlock(&lock);
+    fault = leave(mount_of(req), fault);
     if (fault) fuse_reply_err(req, fault);
     else fuse_reply_buf(req, bytes, got);
     free(bytes);
@@ -319,7 +377,7 @@ static void on_write(fuse_req_t req, fuse_ino_t number, const char *bytes, size_
     (void)info;
     int fault = begin_bytes(req, number);
     if (!fault) fault = files_write(mount_of(req), entry_of(req, number), (uint64_t)offset, bytes, size, &done);
-    pthread_mutex_unlock(&lock);
+    fault = leave(mount_of(req), fault);
     if (fault) fuse_reply_err(req, fault);
     else fuse_reply_write(req, done);
 }
@@ -328,9 +386,8 @@ static void on_fallocate(fuse_req_t req, fuse_ino_t number, int mode, off_t offs
                          struct fuse_file_info *info) {
     (void)info;
     int fault = begin(req);
-    if (!fault)
-        fault = holes_allocate(mount_of(req), entry_of(req, number), mode, (uint64_t)offset, (uint64_t)count);
-    pthread_mutex_unlock(&lock);
+    if (!fault) fault = holes_allocate(mount_of(req), entry_of(req, number), mode, (uint64_t)offset, (uint64_t)count);
+    fault = leave(mount_of(req), fault);
     fuse_reply_err(req, fault);
 }
 
@@ -339,49 +396,36 @@ static void on_lseek(fuse_req_t req, fuse_ino_t number, off_t offset, int whence
     (void)info;
     int fault = begin(req);
     if (!fault) fault = holes_seek(mount_of(req), entry_of(req, number), (uint64_t)offset, whence, &found);
-    pthread_mutex_unlock(&lock);
+    fault = leave(mount_of(req), fault);
     if (fault) fuse_reply_err(req, fault);
     else fuse_reply_lseek(req, (off_t)found);
 }
 
-// All is in memory.
+// Where nothing is kept, all is in memory.
 static void on_fsync(fuse_req_t req, fuse_ino_t number, int data_only, struct fuse_file_info *info) {
-    (void)number, (void)data_only, (void)info;
-    fuse_reply_err(req, 0);
+    struct mount *mount = mount_of(req);
+    struct handle *handle = handle_of(info);
+    int fault = 0;
+    (void)number, (void)data_only;
+    if (mount->store) {
+        fault = begin(req);
+        uint64_t told = handle ? handle->told : store_failures(mount->store);
+        if (!fault) fault = store_sync(mount->store, &told);
+        if (handle) handle->told = told;
+        fault = leave(mount, fault);
+    }
+    fuse_reply_err(req, fault);
 }
-
-// The names of an open directory, as they were when it was read from its beginning. All of them stand in a row, since a
-// mount may end before they are closed.
-struct listing {
-    struct bytes names;
-    struct listing *before, *after;
-};
-
-static struct listing listings = {.before = &listings, .after = &listings};
-
-static struct listing *listing_of(struct fuse_file_info *info) { return (struct listing *)(uintptr_t)info->fh; }
 
 static void on_opendir(fuse_req_t req, fuse_ino_t number, struct fuse_file_info *info) {
     (void)number;
-    struct listing *listing = calloc(1, sizeof *listing);
-    if (!listing) {
-        fuse_reply_err(req, ENOMEM);
-        return;
-    }
-    listing->before = &listings;
-    listing->after = listings.after;
-    listings.after = listing->after->before = listing;
-    info->fh = (uint64_t)(uintptr_t)listing;
-    fuse_reply_open(req, info);
+    if (open_handle(req, info)) fuse_reply_open(req, info);
+    else fuse_reply_err(req, ENOMEM);
 }
 
 static void on_releasedir(fuse_req_t req, fuse_ino_t number, struct fuse_file_info *info) {
     (void)number;
-    struct listing *listing = listing_of(info);
-    listing->before->after = listing->after;
-    listing->after->before = listing->before;
-    bytes_free(&listing->names);
-    free(listing);
+    close_handle(info);
     fuse_reply_err(req, 0);
 }
 
@@ -472,8 +516,8 @@ static void answer_page(fuse_req_t req, fuse_ino_t number, size_t size, off_t at
     struct page page = {req, entry_of(req, number), more, malloc(size), size, 0};
     int fault = begin(req);
     if (!page.out) fault = ENOMEM;
-    if (!fault) fault = fill_page(&page, &listing_of(info)->names, at);
-    pthread_mutex_unlock(&lock);
+    if (!fault) fault = fill_page(&page, &handle_of(info)->names, at);
+    fault = leave(mount_of(req), fault);
     if (fault) fuse_reply_err(req, fault);
     else fuse_reply_buf(req, page.out, page.length);
     free(page.out);
@@ -508,14 +552,14 @@ static void on_setxattr(fuse_req_t req, fuse_ino_t number, const char *name, con
                         int flags) {
     int fault = begin(req);
     if (!fault) fault = extended_set(mount_of(req), entry_of(req, number), name, value, size, flags);
-    pthread_mutex_unlock(&lock);
+    fault = leave(mount_of(req), fault);
     fuse_reply_err(req, fault);
 }
 
 static void on_removexattr(fuse_req_t req, fuse_ino_t number, const char *name) {
     int fault = begin(req);
     if (!fault) fault = extended_remove(mount_of(req), entry_of(req, number), name);
-    pthread_mutex_unlock(&lock);
+    fault = leave(mount_of(req), fault);
     fuse_reply_err(req, fault);
 }
 
@@ -531,7 +575,7 @@ static void on_getxattr(fuse_req_t req, fuse_ino_t number, const char *name, siz
     struct bytes value = {0};
     int fault = begin_bytes(req, number);
     if (!fault) fault = extended_get(mount_of(req), entry_of(req, number), name, &value);
-    pthread_mutex_unlock(&lock);
+    fault = leave(mount_of(req), fault);
     answer_sized(req, fault, &value, room);
     bytes_free(&value);
 }
@@ -540,7 +584,7 @@ static void on_listxattr(fuse_req_t req, fuse_ino_t number, size_t room) {
     struct bytes names = {0};
     int fault = begin_bytes(req, number);
     if (!fault) fault = extended_list(mount_of(req), entry_of(req, number), &names);
-    pthread_mutex_unlock(&lock);
+    fault = leave(mount_of(req), fault);
     answer_sized(req, fault, &names, room);
     bytes_free(&names);
 }
@@ -587,7 +631,7 @@ static void *restore(void *argument) {
     struct bytes stale = {0};
     int fault = begin(restoring->req);
     if (!fault) fault = snapshot_restore(mount_of(restoring->req), restoring->wanted.name, &stale);
-    pthread_mutex_unlock(&lock);
+    fault = leave(mount_of(restoring->req), fault);
     tell_stale(&stale);
     if (fault) fuse_reply_err(restoring->req, fault);
     else fuse_reply_ioctl(restoring->req, 0, 0, 0);

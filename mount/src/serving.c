@@ -4,6 +4,8 @@
 #include "readahead.h"
 #include "requests.h"
 #include "room.h"
+#include "snapshots.h"
+#include "store.h"
 #include <errno.h>
 #include <malloc.h>
 #include <poll.h>
@@ -11,12 +13,19 @@
 #include <stdio.h>
 #include <unistd.h>
 
+static int open_way(const struct making *making, struct mount *mount) {
+    if (making->store) return store_open(making, &mount->volume, &mount->store);
+    return making->betr ? open_pipe(making, &mount->volume) : open_library(making, &mount->volume);
+}
+
 static int open_volume(const struct options *options, struct mount *mount) {
     const struct making *making = &options->making;
-    int fault = making->betr ? open_pipe(making, &mount->volume) : open_library(making, &mount->volume);
+    int fault = open_way(making, mount);
     if (fault) return fault;
     if (making->log) fault = open_log(making, &mount->volume);
     if (!fault) fault = files_start(mount);
+    if (!fault && mount->store) fault = snapshots_find(mount);
+    if (!fault && mount->store) fault = store_keep(mount->store, mount);
     if (fault) mount->volume.way->close(mount->volume.self, 0);
     return fault;
 }
@@ -44,10 +53,21 @@ static int serve(struct fuse_session *session) {
     return status;
 }
 
+// What stands as the source in the table of mounts: the store. A comma or a backslash of it is none of the options.
+static void name_source(const struct options *options, char out[2 * PATH_MAX]) {
+    const char *from = options->making.store ? options->making.store : "doorvervain";
+    for (; *from && *from != '\n'; from++) {
+        if (*from == ',' || *from == '\\') *out++ = '\\';
+        *out++ = *from;
+    }
+    *out = 0;
+}
+
 // libfuse mounts with `nosuid,nodev` where nothing else is said.
 static struct fuse_session *open_session(const struct options *options, struct mount *mount) {
-    char how[128];
-    snprintf(how, sizeof how, "default_permissions,fsname=doorvervain,subtype=doorvervain%s%s",
+    static char source[2 * PATH_MAX], how[sizeof source + 128];
+    name_source(options, source);
+    snprintf(how, sizeof how, "default_permissions,fsname=%s,subtype=doorvervain%s%s", source,
              options->allows_other ? ",allow_other" : "", options->trusts ? ",suid,dev" : "");
     char *words[] = {"doorvervain-mount", "-o", how, 0};
     struct fuse_args args = FUSE_ARGS_INIT(3, words);

@@ -2,6 +2,7 @@
 #include "own.h"
 #include "records.h"
 #include "room.h"
+#include "store.h"
 #include <errno.h>
 #include <stdlib.h>
 #include <string.h>
@@ -16,6 +17,18 @@ static int take_tree(struct mount *mount, const char *name, struct entry **out) 
     if (*out) (*out)->role = SNAPSHOT_ROOT;
     else volume->way->keep(volume->self, DROP_SNAPSHOT, name);
     return *out ? 0 : ENOMEM;
+}
+
+int snapshots_find(struct mount *mount) {
+    struct bytes names = {0};
+    int fault = store_snapshots(mount->store, &names);
+    for (size_t at = 0; !fault && at < names.length; at += strlen(names.at + at) + 1) {
+        struct entry *entry = entry_add(folder(mount), names.at + at, true);
+        if (entry) entry->role = SNAPSHOT_ROOT;
+        else fault = ENOMEM;
+    }
+    bytes_free(&names);
+    return fault;
 }
 
 int snapshot_take(struct mount *mount, const char *name, struct found *out) {

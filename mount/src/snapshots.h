@@ -3,6 +3,8 @@
 #define SNAPSHOTS_H
 #include "files.h"
 
+// The snapshots of a store that was opened get their folders.
+int snapshots_find(struct mount *mount);
 int snapshot_take(struct mount *mount, const char *name, struct found *out);
 int snapshot_drop(struct mount *mount, const char *name);
 

@@ -89,6 +89,9 @@ struct making {
     const char *betr;  // the program to speak to; null: the library
     const char *image; // a file with the tree to begin with; null: the empty tree
     bool prints_image; // the image is asked for at the end
+    const char *store; // the folder that keeps it; null: none does
+    bool syncs_each;   // a store is synced at each change
+    uint64_t log_size; // bytes of its log that make another image worth its while
     const char *log;   // the name in front of `.in` and `.out`, where all calls and replies go; null: nowhere
     unsigned steps;    // tree steps after each call that changes something
 };

@@ -1,0 +1,18 @@
+# Completion of `doorvervain-mount` for bash: its options, files and folders.
+_doorvervain_mount() {
+    local word=${COMP_WORDS[COMP_CWORD]} before=${COMP_WORDS[COMP_CWORD - 1]}
+    case $before in
+    --size | --log-size | --steps | --restore) return ;;
+    --load | --image | --record | --pipe) mapfile -t COMPREPLY < <(compgen -f -- "$word") ;;
+    *)
+        if [[ $word == -* ]]; then
+            mapfile -t COMPREPLY < <(compgen -W "--store --sync --log-size --pipe --load --image --size --record --steps --trust \
+                --allow-other --foreground --restore --unmount --version --help" -- "$word")
+            return
+        fi
+        mapfile -t COMPREPLY < <(compgen -d -- "$word")
+        ;;
+    esac
+    compopt -o filenames 2> /dev/null
+}
+complete -F _doorvervain_mount doorvervain-mount

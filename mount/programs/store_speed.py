@@ -1,0 +1,96 @@
+"""What a store costs, for mount/speed: synced writes, and how long an image holds requests up."""
+import os
+import threading
+import time
+from pathlib import Path
+
+BLOCK, SYNCED, MEBIBYTE = bytes(range(256)) * 16, 200, 1 << 20
+
+
+def time_synced(folder: Path) -> dict[str, float]:
+    """Microseconds of a write that is synced, by the name of its row."""
+    file = os.open(folder / "synced", os.O_CREAT | os.O_WRONLY)
+    rows = {name: time_row(lambda number: write_synced(file, number)) for name in
+            ("append 4 KiB, fsync", "write 4 KiB over, fsync")}
+    os.close(file)
+    os.unlink(folder / "synced")
+    return rows | {"create, write 4 KiB, fsync": time_row(lambda number: create_synced(folder / f"synced{number}"))}
+
+
+def time_row(call) -> float:
+    began = time.perf_counter()
+    for number in range(SYNCED):
+        call(number)
+    return (time.perf_counter() - began) * 1e6 / SYNCED
+
+
+def write_synced(file: int, number: int) -> None:
+    os.pwrite(file, BLOCK, number * len(BLOCK))
+    os.fsync(file)
+
+
+def create_synced(path: Path) -> None:
+    file = os.open(path, os.O_CREAT | os.O_EXCL | os.O_WRONLY)
+    write_synced(file, 0)
+    os.close(file)
+
+
+class Probe(threading.Thread):
+    """Makes small requests, and notes how long the longest took."""
+
+    def __init__(self, folder: Path):
+        super().__init__()
+        self.folder, self.ends, self.longest, self.count = folder, False, 0.0, 0
+
+    def run(self) -> None:
+        file = os.open(self.folder / "probe", os.O_CREAT | os.O_WRONLY)
+        while not self.ends:
+            began = time.perf_counter()
+            os.pwrite(file, b"probe", 0)
+            self.longest = max(self.longest, time.perf_counter() - began)
+            self.count += 1
+            time.sleep(0.001)
+        os.close(file)
+
+
+def has_part(store: Path) -> bool:
+    return any(store.glob("tree.*.part"))
+
+
+def memory_of(process: int) -> float:
+    """The most memory that a process has had, in GiB."""
+    for line in Path(f"/proc/{process}/status").read_text().splitlines():
+        if line.startswith("VmHWM"):
+            return int(line.split()[1]) / 2**20
+    return 0
+
+
+def probe_for(folder: Path, until) -> tuple[float, int]:
+    probe = Probe(folder)
+    probe.start()
+    while not until():
+        time.sleep(0.02)
+    probe.ends = True
+    probe.join()
+    return probe.longest, probe.count
+
+
+def fill(folder: Path, mebibytes: int) -> None:
+    for number in range(mebibytes):
+        (folder / f"file{number}").write_bytes(os.urandom(MEBIBYTE))
+
+
+def measure_image(mount: Path, store: Path, process: int, mebibytes: int) -> None:
+    """Fills a mount whose store writes an image behind a little more, and says what the image held up."""
+    fill(mount, mebibytes)
+    time.sleep(6)
+    before, ends = memory_of(process), time.monotonic() + 10
+    quiet, _ = probe_for(mount, lambda: time.monotonic() > ends)
+    fill(mount, 80)
+    while not has_part(store):
+        time.sleep(0.01)
+    began = time.monotonic()
+    longest, count = probe_for(mount, lambda: not has_part(store))
+    print(f"an image of {mebibytes} MiB in files took {time.monotonic() - began:.1f} s; of {count} small writes meanwhile the longest"
+          f" took {longest * 1e3:.1f} ms, and {quiet * 1e3:.1f} ms of those before; the most memory was"
+          f" {memory_of(process):.2f} GiB, and {before:.2f} before")

@@ -1,0 +1,7 @@
+// The volume behind the library's way.
+#ifndef LIBRARY_H
+#define LIBRARY_H
+#include "doorvervain.h"
+
+struct doorvervain *library_volume(void *self);
+#endif

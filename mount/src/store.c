@@ -1,0 +1,336 @@
+// A store between a volume and its caller: each call that was answered as done is noted, and goes into the log with the
+// other calls of its request.
+#include "store.h"
+#include "aside.h"
+#include "requests.h"
+#include "room.h"
+#include "store_calls.h"
+#include "store_inside.h"
+#include <errno.h>
+#include <stdlib.h>
+#include <string.h>
+#include <time.h>
+#include <unistd.h>
+
+enum { SECONDS_BETWEEN = 5, ENOUGH_TO_WRITE = 1 << 20, MOST_WAITING = 32 << 20 };
+
+// ---- calls that change something
+
+// A request whose calls cannot be kept begins none. One that has begun is not refused on its way, since what it did may
+// have to be undone.
+static int may_change(const struct store *store) {
+    const struct queue *queue = &store->queue;
+    size_t count = queue->ends.length / sizeof(size_t);
+    size_t ended = count ? ((const size_t *)queue->ends.at)[count - 1] : 0;
+    return store->fault && queue->calls.length == ended ? EIO : 0;
+}
+
+// A call that was refused is none.
+static int settle(struct store *store, size_t before, int fault) {
+    if (fault) store->queue.calls.length = before;
+    return fault;
+}
+
+static int store_change(void *self, enum change what, const char *path, uint64_t at) {
+    struct store *store = self;
+    size_t before = store->queue.calls.length;
+    int fault = may_change(store);
+    if (!fault) fault = calls_change(&store->queue.calls, what, path, at);
+    if (!fault) fault = store->over.way->change(store->over.self, what, path, at);
+    return settle(store, before, fault);
+}
+
+static int store_rename(void *self, const char *from, const char *to, uint64_t at) {
+    struct store *store = self;
+    size_t before = store->queue.calls.length;
+    int fault = may_change(store);
+    if (!fault) fault = calls_rename(&store->queue.calls, from, to, at);
+    if (!fault) fault = store->over.way->rename(store->over.self, from, to, at);
+    return settle(store, before, fault);
+}
+
+static int store_truncate(void *self, const char *path, uint64_t length, uint64_t at) {
+    struct store *store = self;
+    size_t before = store->queue.calls.length;
+    int fault = may_change(store);
+    if (!fault) fault = calls_truncate(&store->queue.calls, path, length, at);
+    if (!fault) fault = store->over.way->truncate(store->over.self, path, length, at);
+    return settle(store, before, fault);
+}
+
+// The library writes all or nothing.
+static int store_write(void *self, const char *path, uint64_t offset, const char *bytes, size_t count, uint64_t at,
+                       size_t *done) {
+    struct store *store = self;
+    size_t before = store->queue.calls.length;
+    *done = 0;
+    int fault = may_change(store);
+    if (!fault) fault = calls_write(&store->queue.calls, path, offset, bytes, count, at);
+    if (!fault) fault = store->over.way->write(store->over.self, path, offset, bytes, count, at, done);
+    return settle(store, before, fault);
+}
+
+static int store_punch(void *self, const char *path, uint64_t offset, uint64_t count, uint64_t at) {
+    struct store *store = self;
+    size_t before = store->queue.calls.length;
+    int fault = may_change(store);
+    if (!fault) fault = calls_punch(&store->queue.calls, path, offset, count, at);
+    if (!fault) fault = store->over.way->punch(store->over.self, path, offset, count, at);
+    return settle(store, before, fault);
+}
+
+// No image has a snapshot. So where changes are refused until one is whole, a snapshot may still be dropped.
+static int store_keep_name(void *self, enum keeping what, const char *snapshot) {
+    struct store *store = self;
+    size_t before = store->queue.calls.length;
+    int fault = what == DROP_SNAPSHOT ? 0 : may_change(store);
+    if (!fault) fault = calls_keep(&store->queue.calls, what, snapshot);
+    if (!fault) fault = store->over.way->keep(store->over.self, what, snapshot);
+    if (!fault && what == TAKE_SNAPSHOT) store->snapshots++;
+    if (!fault && what == DROP_SNAPSHOT) store->snapshots--;
+    return settle(store, before, fault);
+}
+
+// ---- calls that look
+
+static int store_read(void *self, struct place at, uint64_t offset, char *out, size_t room, size_t *got) {
+    struct store *store = self;
+    return store->over.way->read(store->over.self, at, offset, out, room, got);
+}
+
+static int store_stat(void *self, struct place at, struct standing *out) {
+    struct store *store = self;
+    return store->over.way->stat(store->over.self, at, out);
+}
+
+static int store_list(void *self, struct place at, struct bytes *out) {
+    struct store *store = self;
+    return store->over.way->list(store->over.self, at, out);
+}
+
+static int store_data(void *self, struct place at, uint64_t offset, struct run *out) {
+    struct store *store = self;
+    return store->over.way->data(store->over.self, at, offset, out);
+}
+
+static unsigned store_relieve(void *self, unsigned steps) {
+    struct store *store = self;
+    return store->over.way->relieve(store->over.self, steps);
+}
+
+// ---- the log
+
+// What a request did is one record.
+int store_end_calls(struct store *store) {
+    struct queue *queue = &store->queue;
+    size_t count = queue->ends.length / sizeof(size_t);
+    size_t ended = count ? ((const size_t *)queue->ends.at)[count - 1] : 0;
+    if (queue->calls.length == ended) return 0;
+    return bytes_append(&queue->ends, &queue->calls.length, sizeof queue->calls.length);
+}
+
+// Calls wait to be written, or an image is due: the keeper is not to sleep on.
+static void wake_keeper(struct store *store) {
+    if (!store->is_kept || store->is_wanted) return;
+    pthread_mutex_lock(&store->waiting);
+    store->is_wanted = true;
+    pthread_cond_signal(&store->wakes);
+    pthread_mutex_unlock(&store->waiting);
+}
+
+// An image has no snapshot: so where one stands the log goes on.
+static void ask_for_image(struct store *store) {
+    if (!store->snapshots && !store->fault && store->logged >= store->enough) wake_keeper(store);
+}
+
+// The keeper makes records of the calls and writes them, on another processor. Where it is too slow, it is waited for.
+static void spill(struct store *store) {
+    if (store->is_kept && store->queue.calls.length < store->most_waiting) {
+        wake_keeper(store);
+        return;
+    }
+    pthread_mutex_lock(&store->writing);
+    store_take(store);
+    store_write_taken(store);
+    pthread_mutex_unlock(&store->writing);
+}
+
+static int sync_all(struct store *store) {
+    pthread_mutex_lock(&store->writing);
+    store_take(store);
+    int fault = store_sync_taken(store);
+    ask_for_image(store);
+    pthread_mutex_unlock(&store->writing);
+    return fault;
+}
+
+int store_end_request(struct store *store) {
+    int fault = store_end_calls(store);
+    if (fault) return fault;
+    if (store->syncs_each && store->queue.calls.length) return sync_all(store);
+    if (store->queue.calls.length >= ENOUGH_TO_WRITE) spill(store);
+    return 0;
+}
+
+bool store_syncs_each(const struct store *store) { return store->syncs_each; }
+
+uint64_t store_failures(struct store *store) { return store->failures; }
+
+int store_sync(struct store *store, uint64_t *told) {
+    int fault = store_end_calls(store);
+    if (!fault) fault = sync_all(store);
+    if (*told != store->failures) fault = EIO;
+    *told = store->failures;
+    return fault;
+}
+
+int store_snapshots(struct store *store, struct bytes *out) {
+    uint8_t number = DOORVERVAIN_DONE;
+    for (size_t index = 0;; index++) {
+        size_t size = 0;
+        if (bytes_reserve(out, LONGEST_SNAPSHOT + 1)) return ENOMEM;
+        uint8_t *to = (uint8_t *)out->at + out->length;
+        number = doorvervain_snapshot_name(store->volume, index, to, LONGEST_SNAPSHOT, &size);
+        if (number) return number == DOORVERVAIN_ENOENT ? 0 : doorvervain_errno(number);
+        out->length += size;
+        out->at[out->length++] = 0;
+        store->snapshots++;
+    }
+}
+
+// ---- the keeper
+
+// Writes what was answered, and brings it onto the disk where that is due. Requests are held up only while it is taken
+// out of their way.
+static void write_in_time(struct store *store, bool syncs) {
+    requests_pause();
+    if (syncs) aside_settle(store->mount);
+    int fault = store_end_calls(store);
+    pthread_mutex_lock(&store->writing);
+    store_take(store);
+    requests_go_on();
+    if (!fault && syncs) store_sync_taken(store);
+    else if (!fault) store_write_taken(store);
+    pthread_mutex_unlock(&store->writing);
+}
+
+static bool is_past(const struct timespec *moment) {
+    struct timespec now;
+    clock_gettime(CLOCK_MONOTONIC, &now);
+    return now.tv_sec > moment->tv_sec || (now.tv_sec == moment->tv_sec && now.tv_nsec >= moment->tv_nsec);
+}
+
+static void set_next_sync(struct store *store) {
+    clock_gettime(CLOCK_MONOTONIC, &store->next_sync);
+    store->next_sync.tv_sec += SECONDS_BETWEEN;
+}
+
+// Does what is due.
+static void tend(struct store *store) {
+    bool syncs = is_past(&store->next_sync);
+    if (!syncs && !store->is_wanted) return;
+    store->is_wanted = false;
+    write_in_time(store, syncs);
+    if (syncs) set_next_sync(store);
+}
+
+// Sleeps until something is due, and says whether the end has come meanwhile.
+static bool sleep_or_end(struct store *store) {
+    int fault = 0;
+    pthread_mutex_lock(&store->waiting);
+    while (!store->ends && !store->is_wanted && fault != ETIMEDOUT)
+        fault = pthread_cond_timedwait(&store->wakes, &store->waiting, &store->next_sync);
+    pthread_mutex_unlock(&store->waiting);
+    return store->ends;
+}
+
+static void *keep(void *self) {
+    struct store *store = self;
+    while (!sleep_or_end(store)) {
+        tend(store);
+        if (store_is_long(store)) store_checkpoint(store, tend);
+    }
+    return 0;
+}
+
+int store_keep(struct store *store, struct mount *mount) {
+    pthread_condattr_t how;
+    store->mount = mount;
+    set_next_sync(store);
+    pthread_mutex_init(&store->waiting, 0);
+    pthread_condattr_init(&how);
+    pthread_condattr_setclock(&how, CLOCK_MONOTONIC);
+    pthread_cond_init(&store->wakes, &how);
+    int fault = pthread_create(&store->keeper, 0, keep, store);
+    store->is_kept = !fault;
+    return fault;
+}
+
+static void end_keeper(struct store *store) {
+    if (!store->is_kept) return;
+    pthread_mutex_lock(&store->waiting);
+    store->ends = true;
+    pthread_cond_signal(&store->wakes);
+    pthread_mutex_unlock(&store->waiting);
+    pthread_join(store->keeper, 0);
+}
+
+// ---- its beginning and its end
+
+static void free_store(struct store *store) {
+    if (store->lock >= 0) close(store->lock);
+    if (store->directory >= 0) close(store->directory);
+    struct bytes *all[] = {&store->queue.calls, &store->queue.ends, &store->taken.calls, &store->taken.ends,
+                           &store->out};
+    for (size_t i = 0; i < sizeof all / sizeof *all; i++) bytes_free(all[i]);
+    free(store);
+}
+
+// What cannot be kept in the log goes into an image.
+static int keep_rest(struct store *store) {
+    int fault = store_end_calls(store);
+    if (!fault) fault = sync_all(store);
+    if (fault) fault = store_checkpoint(store, 0);
+    int other = store_close_log(store);
+    return fault ? fault : other;
+}
+
+static int store_close(void *self, struct image *image) {
+    struct store *store = self;
+    end_keeper(store);
+    int fault = keep_rest(store);
+    if (fault) store_say(store, "what was changed since the last sync is lost: %s", strerror(fault));
+    int other = store->over.way->close(store->over.self, image);
+    free_store(store);
+    return fault ? fault : other;
+}
+
+static const struct way store_way = {
+    store_change, store_rename,    store_truncate, store_write, store_read,    store_stat,
+    store_list,   store_keep_name, store_punch,    store_data,  store_relieve, store_close,
+};
+
+// A part of the memory that the tree may take.
+static size_t most_waiting(void) {
+    uint64_t part = room_now().size / 16;
+    return part < MOST_WAITING ? (size_t)part : MOST_WAITING;
+}
+
+int store_open(const struct making *making, struct volume *volume, struct store **out) {
+    struct store *store = calloc(1, sizeof *store);
+    if (!store) return ENOMEM;
+    pthread_mutex_init(&store->writing, 0);
+    store->syncs_each = making->syncs_each;
+    store->log_size = making->log_size;
+    store->most_waiting = most_waiting();
+    int fault = store_lock(store, making->store);
+    if (!fault) fault = store_load(store, making, volume);
+    if (fault) {
+        free_store(store);
+        return fault;
+    }
+    store->over = *volume;
+    *volume = (struct volume){&store_way, store, store->over.records};
+    *out = store;
+    return 0;
+}
