@@ -1,6 +1,6 @@
-// A record between a volume and its caller: every call as a line of a script, and every reply. Any program of the language
-// answers the script alike. A write that is longer than a line can be stands as several lines. One that is refused
-// stands as a note, and so does a hole, and what is refused for want of memory.
+// A record between a volume and its caller, for tests: every call as a line of a script, and every reply. Any program of
+// the language answers the script alike. A write that is longer than a line can be stands as several lines. One that is
+// refused stands as a note, and so does a hole, and what is refused for want of memory.
 #include "ending.h"
 #include "script.h"
 #include <errno.h>

@@ -299,7 +299,7 @@ static int store_close(void *self, struct image *image) {
     struct store *store = self;
     end_keeper(store);
     int fault = keep_rest(store);
-    if (fault) store_say(store, "what was changed since the last sync is lost: %s", strerror(fault));
+    if (fault) store_say(store, "what was changed since the last sync may be lost: %s", strerror(fault));
     int other = store->over.way->close(store->over.self, image);
     free_store(store);
     return fault ? fault : other;

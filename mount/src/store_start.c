@@ -70,8 +70,8 @@ static bool has_zeros_alone(const struct log *log) {
     return !rest[0] && !memcmp(rest, rest + 1, count - 1);
 }
 
-// A record that is not whole was not synced, and the log ends before it: but not where a mark behind it tells that it was,
-// nor where a later log has something.
+// A record that is not whole was not synced, and the log ends before it: but not where a mark behind it tells that it
+// was, nor where a later log has something.
 static int try_end(const struct store *store, const struct log *log, bool is_last) {
     if (log->whole == log->length || (is_last && has_zeros_alone(log))) return 0;
     if (!is_last ||
@@ -114,11 +114,12 @@ static int run_logs(const struct store *store, struct logs *logs) {
     return fault;
 }
 
-// Here the first byte is written.
+// Here the first byte is written. What a mount wrote that was killed may not be on the disk yet.
 static int cut_logs(const struct logs *logs) {
     for (size_t i = 0; i < logs->count; i++) {
         const struct log *log = &logs->at[i];
-        if (log->whole < log->length && (ftruncate(log->file, (off_t)log->whole) || fsync(log->file))) return errno;
+        if (log->whole < log->length && ftruncate(log->file, (off_t)log->whole)) return errno;
+        if (fsync(log->file)) return errno;
     }
     return 0;
 }
