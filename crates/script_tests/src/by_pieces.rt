@@ -1,4 +1,6 @@
 //! Images that go by pieces: what is loaded and printed, and which line a bad text is refused at, wherever it is cut.
+ghost use Rattle.std.specs.Prelude.{◌<◌};
+
 use crate::asked::{USUAL, freeze};
 use crate::pieces::{Piece, built};
 use crate::streams::has_image;
