@@ -187,7 +187,8 @@ int main(void) {
     printf("DOORVERVAIN_LOG_FRONT = %d\n", DOORVERVAIN_LOG_FRONT);
     printf("DOORVERVAIN_LOG_BACK = %d\n", DOORVERVAIN_LOG_BACK);
     printf("DOORVERVAIN_LOG_ENTRY = %d\n", DOORVERVAIN_LOG_ENTRY);
-    printf("write: %d, bytes %zu\n", write_log(&log), log.length);
+    int written = write_log(&log);
+    printf("write: %d, bytes %zu\n", written, log.length);
     say_digest(&log, 106);
     say_bodies(&log);
     say("whole", replay(log.at, log.length, FIRST));
