@@ -1,25 +1,28 @@
 """Planted edits, what they stand against, and the record of what was tried.
 
 An edit (`crates/NAME/planted/*.edit`) is a wrong body that the prover has to refuse. `tests/planted/tried` has a line for each
-crate: its name, a checksum of what its contracts say, how many edits were tried, how many were refused, and whether those were all
-of its edits or the named ones (`tests/planted/named`). A line holds as long as the crate's checksum is the one that it names.
+crate: its name, a checksum of what its contracts say and rest on, how many edits were tried, how many were refused, and whether those
+were all of its edits or the named ones (`tests/planted/named`). A line holds as long as the crate's checksum is the one that it names.
+
+The checksum is of what the crate states (`statements.py`), of its edits, and of what the names in these and in its bodies reach in the
+crates below (`beneath.py`), and of no more: what is added or changed there elsewhere, and what moves with its text, leaves it as it is.
 """
 from __future__ import annotations
 
 import dataclasses
 import functools
-import hashlib
 import re
 from pathlib import Path
 
-from source import HOLDERS, Item, Source, antt_said, read_source
+from beneath import Beneath
+from meanings import checksum
+from source import Source
+from statements import sources_of
 
 ALL, NAMED = "all", "named"
-# Attributes that help a proof or the compiler, and say nothing of what a function does.
-IDLE = re.compile(r"#\s*!?\s*\[\s*(tactic|inline|cold|allow)\b")
 HEADER = """\
-# What was tried of each crate's planted edits, written by tests/planted/try: the crate, a checksum of what its contracts say,
-# how many edits were tried, how many of them were refused, and whether those were all or the named ones.
+# What was tried of each crate's planted edits, written by tests/planted/try: the crate, a checksum of what its contracts say and rest
+# on, how many edits were tried, how many of them were refused, and whether those were all or the named ones.
 """
 
 
@@ -95,94 +98,9 @@ class Crate:
         """The files of src/, read."""
         return list(sources_of(self.folder))
 
-    def specs(self) -> list[str]:
-        """Each file of specs/ without its comments, behind its path."""
-        files = sorted((self.folder / "specs").rglob("*.antt"))
-        return [f"{it.relative_to(self.folder)} {antt_said(it.read_text(encoding='utf-8'))}" for it in files]
-
     def edits(self) -> list[Edit]:
         files = sorted((self.folder / "planted").glob("*"))
         return [Edit(self.name, it.stem, it) for it in files if it.suffix == ".edit"]
-
-
-@functools.lru_cache(maxsize=None)
-def sources_of(folder: Path) -> tuple[Source, ...]:
-    files = sorted((folder / "src").rglob("*.rt"))
-    return tuple(read_source(str(it.relative_to(folder)), it.read_text(encoding="utf-8")) for it in files)
-
-
-def said_of(source: Source, item: Item, end: int) -> str:
-    """What an item says from its start to a place, with those of its attributes that count."""
-    kept = [it.of(source.said) for it in item.attributes if not IDLE.match(source.code, it.start)]
-    return " ".join([*kept, *source.said[item.start : end].split()])
-
-
-def imports(source: Source, item: Item, text: str) -> str:
-    """What an item `ghost use` brings that the text uses: the module, and the names of it that stand in the text."""
-    said = said_of(source, item, item.span.end)
-    module, brace, names = said.partition("{")
-    used = [it for it in names.rstrip("}; ").split(", ") if any(part and part in text for part in re.split("◌| as ", it))]
-    return f"{module}{' '.join(used)}" if brace and used else "" if brace else said
-
-
-def everything(item: Item, holder: Item | None) -> bool:
-    return True
-
-
-def stated(source: Source, items: tuple[Item, ...], is_shown=everything, holder: Item | None = None) -> list[str]:
-    """What the items state: all of them but the bodies of functions and what is not cited. `is_shown` picks items, by what holds them."""
-    found = []
-    for item in items:
-        if item.kind in ("use", "ghost use") or item.kind == "mod" and not item.body or not is_shown(item, holder):
-            continue
-        if item.kind in HOLDERS and item.body:
-            parts = stated(source, item.parts, is_shown, item)
-            if parts or holder_is_trait_impl(source, item):
-                found += [said_of(source, item, item.body.start), *parts, "}"]
-        else:
-            found.append(said_of(source, item, item.body.start if item.kind == "fn" and item.body else item.span.end))
-    brought = (imports(source, it, " ".join(found)) for it in items if it.kind == "ghost use")
-    return [*filter(None, brought), *found]
-
-
-def header_of(source: Source, item: Item) -> str:
-    return source.code[item.start : item.body.start] if item.body else ""
-
-
-def holder_is_trait_impl(source: Source, item: Item) -> bool:
-    return item.kind == "trait" or item.kind == "impl" and bool(re.search(r"\bfor\b(?!\s*<)", header_of(source, item)))
-
-
-def self_type(source: Source, item: Item) -> str:
-    """The name of the type that an impl is of, or ''."""
-    header = re.sub(r"\bwhere\b.*", "", header_of(source, item), flags=re.S)
-    of_trait = re.search(r"\bfor\b(?!\s*<)(.*)", header, re.S)
-    text = of_trait[1] if of_trait else re.sub(r"^[^<]*<(?:[^<>]|<(?:[^<>]|<[^<>]*>)*>)*>(?=\s)", "", header) or header
-    found = re.search(r"\b([A-Z]\w*)", text)
-    return found[1] if found else ""
-
-
-def private_types(sources: list[Source]) -> set[str]:
-    kinds = ("struct", "enum", "union", "trait", "type")
-    found = [it for source in sources for it in source.items if it.kind in kinds]
-    return {it.name for it in found if not it.is_public} - {it.name for it in found if it.is_public}
-
-
-def publicly_stated(sources: list[Source]) -> list[str]:
-    """What a crate states to those above it: its public items, its constants, and what it implements for public types."""
-    private = private_types(sources)
-    found = []
-    for source in sources:
-
-        def is_shown(item: Item, holder: Item | None) -> bool:
-            if item.kind == "fn":
-                return item.is_public or holder is not None and holder_is_trait_impl(source, holder)
-            if item.kind == "impl":
-                return self_type(source, item) not in private
-            return item.is_public or item.kind not in ("struct", "enum", "union", "trait", "type") or holder is not None
-
-        found += [source.path, *stated(source, source.items, is_shown)]
-    return found
 
 
 class Repository:
@@ -195,7 +113,13 @@ class Repository:
         said = {head.split()[0]: uses.split() for head, _, uses in (it.partition(":") for it in lines if it)}
         for name, uses in said.items():
             self.crates[name] = Crate(name, top / "crates" / name, tuple(it for it in uses if it in said))
-        self.public: dict[str, str] = {}
+
+    @functools.cached_property
+    def beneath(self) -> Beneath:
+        """What the crates with edits state, and those below them."""
+        below = {it.name: [low.name for low in self.below(it)] for it in self.crates.values()}
+        known = {name for it in self.with_edits() for name in [it.name, *below[it.name]]}
+        return Beneath({it: self.crates[it].folder for it in self.crates if it in known}, below)
 
     def below(self, crate: Crate) -> list[Crate]:
         """The crates that it stands on, directly or not, by name."""
@@ -223,15 +147,9 @@ class Repository:
         return picked or crate.edits()
 
     def contracts(self, crate: Crate) -> str:
-        """A checksum of what the crate's contracts say and its edits are, and of what the crates below it state to others."""
-        own = [text for it in crate.sources() for text in (it.path, *stated(it, it.items))]
+        """A checksum of what the crate's contracts say and its edits are, and of what these rest on in the crates below."""
         edits = [f"{it.name} {it.path.read_text(encoding='utf-8')}" for it in crate.edits()]
-        return checksum([*own, *crate.specs(), *edits, *(self.stated_to_others(it) for it in self.below(crate))])
-
-    def stated_to_others(self, crate: Crate) -> str:
-        if crate.name not in self.public:
-            self.public[crate.name] = checksum([*publicly_stated(crate.sources()), *crate.specs()])
-        return self.public[crate.name]
+        return checksum([*edits, *self.beneath.rests_on(crate.name, "\n".join(edits))])
 
     def stray(self) -> list[str]:
         """What stands in a folder planted/ and is no edit of a crate, and names of edits that are not there."""
@@ -243,10 +161,6 @@ class Repository:
             *(f"{it.relative_to(self.top)} is no edit of a crate that crates.txt names: move or remove it" for it in lost),
             *(f"tests/planted/named names {it}, which is not there: remove the line" for it in sorted(self.named() - labels)),
         ]
-
-
-def checksum(texts: list[str]) -> str:
-    return hashlib.sha256(repr(texts).encode()).hexdigest()[:20]
 
 
 @dataclasses.dataclass(frozen=True)
@@ -286,7 +200,7 @@ def wrong_with(repository: Repository, crate: Crate, line: Line | None) -> str |
     if not line:
         return "has no line in tests/planted/tried"
     if line.contracts != repository.contracts(crate):
-        return "has a stale line in tests/planted/tried: what its contracts say, or those below it, or its edits changed"
+        return "has a stale line in tests/planted/tried: what its contracts say or rest on, or its edits changed"
     number = len(repository.edits(crate, line.which))
     if line.tried != number:
         return f"has a line in tests/planted/tried that tells of {line.tried} edits, and there are {number}"

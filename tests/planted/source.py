@@ -97,11 +97,6 @@ def blanked(text: str, quiet: re.Pattern, kinds: tuple[str, ...]) -> str:
         at = end
 
 
-def antt_said(text: str) -> str:
-    """A text of antt without its comments, in one line."""
-    return " ".join(blanked(text, ANTT_QUIET, ("comment",)).split())
-
-
 def closing(code: str, at: int) -> int:
     """Where the bracket that opens at the place is closed, behind its closing one; -1 where it is not."""
     depth = 0

@@ -16,8 +16,9 @@ import subprocess
 from pathlib import Path
 from typing import Iterator
 
-from planted import BadEdit, Crate, Edit, self_type
+from planted import BadEdit, Crate, Edit
 from source import Item, Source, Span
+from statements import self_type
 
 # How many edits one check tries at most.
 TOGETHER = 16
