@@ -118,6 +118,11 @@ static unsigned store_relieve(void *self, unsigned steps) {
     return store->over.way->relieve(store->over.self, steps);
 }
 
+static unsigned store_owes(void *self) {
+    struct store *store = self;
+    return store->over.way->owes(store->over.self);
+}
+
 // ---- the log
 
 // What a request did is one record.
@@ -306,8 +311,8 @@ static int store_close(void *self, struct image *image) {
 }
 
 static const struct way store_way = {
-    store_change, store_rename,    store_truncate, store_write, store_read,    store_stat,
-    store_list,   store_keep_name, store_punch,    store_data,  store_relieve, store_close,
+    store_change,    store_rename, store_truncate, store_write,   store_read, store_stat,  store_list,
+    store_keep_name, store_punch,  store_data,     store_relieve, store_owes, store_close,
 };
 
 // A part of the memory that the tree may take.
