@@ -64,7 +64,14 @@ static bool rest_once(struct mount *mount) {
     return is_due;
 }
 
+static void rest_store(struct mount *mount) {
+    pthread_mutex_lock(&lock);
+    store_rest(mount->store);
+    pthread_mutex_unlock(&lock);
+}
+
 void requests_rest(struct mount *mount) {
+    if (mount->store) rest_store(mount);
     while (rest_once(mount)) continue;
 }
 
@@ -100,6 +107,7 @@ static int leave(struct mount *mount, int fault) {
     if (mount->store && store_syncs_each(mount->store)) other = aside_settle(mount);
     if (mount->store && !other) other = store_end_request(mount->store);
     pthread_mutex_unlock(&lock);
+    if (mount->store) store_wait(mount->store);
     return fault ? fault : other;
 }
 

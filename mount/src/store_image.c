@@ -38,25 +38,33 @@ static int freeze(struct store *store, struct writing *writing) {
     return fault ? fault : doorvervain_errno(doorvervain_print_begin(&writing->printing, &tree));
 }
 
-// At one moment the tree is frozen, and another log begins. One that has nothing, since changes are refused, serves on.
-static int begin_log(struct store *store, struct writing *writing) {
+// At one moment the tree is frozen: all that was answered before is taken for the log that ends there.
+static int take_and_freeze(struct store *store, struct writing *writing) {
+    int fault = store->snapshots ? EBUSY : store_end_calls(store);
+    if (fault) return fault;
     store_take(store);
-    store_write_taken(store);
+    return freeze(store, writing);
+}
+
+// Another log begins. One that has nothing, since changes are refused, serves on.
+static int begin_log(struct store *store, struct writing *writing) {
     writing->former_bytes = store->logged;
     int fault = store->records || !store->fault ? store_next_log(store, &writing->former) : 0;
     writing->number = store->number;
-    return fault ? fault : freeze(store, writing);
+    if (!fault && writing->former.file >= 0) fault = store_end_log(store, &writing->former);
+    return fault;
 }
 
 static int begin(struct store *store, struct writing *writing) {
     requests_pause();
-    int fault = store_end_calls(store);
     pthread_mutex_lock(&store->writing);
-    if (!fault) fault = store->snapshots ? EBUSY : begin_log(store, writing);
+    int fault = take_and_freeze(store, writing);
     requests_go_on();
-    int other = writing->former.file >= 0 ? store_end_log(store, &writing->former) : 0;
+    writing->number = store->number;
+    store_write_taken(store);
+    if (!fault) fault = begin_log(store, writing);
     pthread_mutex_unlock(&store->writing);
-    return fault ? fault : other;
+    return fault;
 }
 
 static int open_image(const struct store *store, struct writing *writing) {
