@@ -19,10 +19,7 @@ enum { SECONDS_BETWEEN = 5, ENOUGH_TO_WRITE = 1 << 20, MOST_WAITING = 32 << 20, 
 // A request whose calls cannot be kept begins none. One that has begun is not refused on its way, since what it did may
 // have to be undone.
 static int may_change(const struct store *store) {
-    const struct queue *queue = store->queue;
-    size_t count = queue->ends.length / sizeof(size_t);
-    size_t ended = count ? ((const size_t *)queue->ends.at)[count - 1] : 0;
-    return store->fault && queue->calls.length == ended ? EIO : 0;
+    return store->fault && store->queue->calls.length == store_ended(store->queue) ? EIO : 0;
 }
 
 // A call that was refused is none.
@@ -125,15 +122,6 @@ static unsigned store_owes(void *self) {
 
 // ---- the log
 
-// What a request did is one record.
-int store_end_calls(struct store *store) {
-    struct queue *queue = store->queue;
-    size_t count = queue->ends.length / sizeof(size_t);
-    size_t ended = count ? ((const size_t *)queue->ends.at)[count - 1] : 0;
-    if (queue->calls.length == ended) return 0;
-    return bytes_append(&queue->ends, &queue->calls.length, sizeof queue->calls.length);
-}
-
 // Calls wait to be written, or an image is due: the keeper is not to sleep on.
 static void wake_keeper(struct store *store) {
     if (!store->is_kept || store->is_wanted) return;
@@ -155,15 +143,14 @@ static void spill(struct store *store) {
         return;
     }
     pthread_mutex_lock(&store->writing);
-    store_take(store);
-    store_write_taken(store);
+    if (!store_take(store)) store_write_taken(store);
     pthread_mutex_unlock(&store->writing);
 }
 
 static int sync_all(struct store *store) {
     pthread_mutex_lock(&store->writing);
-    store_take(store);
-    int fault = store_sync_taken(store);
+    int fault = store_take(store);
+    if (!fault) fault = store_sync_taken(store);
     ask_for_image(store);
     pthread_mutex_unlock(&store->writing);
     return fault;
@@ -183,8 +170,7 @@ int store_end_request(struct store *store) {
 // A program that syncs behind each few changes does so again: then its records are made while it gets the answer.
 void store_rest(struct store *store) {
     if (!store->queue->calls.length || store->changes > store->expected || pthread_mutex_trylock(&store->writing)) return;
-    store_take(store);
-    store_write_taken(store);
+    if (!store_take(store)) store_write_taken(store);
     if (store->changes == store->expected) store_begin_sync(store);
     pthread_mutex_unlock(&store->writing);
 }
@@ -194,10 +180,9 @@ bool store_syncs_each(const struct store *store) { return store->syncs_each; }
 uint64_t store_failures(struct store *store) { return store->failures; }
 
 int store_sync(struct store *store, uint64_t *told) {
-    int fault = store_end_calls(store);
     if (store->changes) store->expected = store->changes <= MOST_EXPECTED ? store->changes : 0;
     store->changes = 0;
-    if (!fault) fault = sync_all(store);
+    int fault = sync_all(store);
     if (*told != store->failures) fault = EIO;
     *told = store->failures;
     return fault;
@@ -224,9 +209,8 @@ int store_snapshots(struct store *store, struct bytes *out) {
 static void write_in_time(struct store *store, bool syncs) {
     requests_pause();
     if (syncs) aside_settle(store->mount);
-    int fault = store_end_calls(store);
     pthread_mutex_lock(&store->writing);
-    if (!fault) store_take(store);
+    int fault = store_take(store);
     requests_go_on();
     if (!fault && syncs) store_sync_taken(store);
     else if (!fault) store_write_taken(store);
@@ -310,8 +294,7 @@ static void free_store(struct store *store) {
 
 // What cannot be kept in the log goes into an image.
 static int keep_rest(struct store *store) {
-    int fault = store_end_calls(store);
-    if (!fault) fault = sync_all(store);
+    int fault = sync_all(store);
     if (fault) fault = store_checkpoint(store, 0);
     int other = store_close_log(store);
     return fault ? fault : other;

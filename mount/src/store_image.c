@@ -15,6 +15,7 @@ struct writing {
     struct image image;
     struct doorvervain_printing printing;
     uint64_t number, former_bytes, size, pieces;
+    uint64_t failures;        // of the logs up to its own
     struct former_log former; // the log before it
 };
 
@@ -40,10 +41,8 @@ static int freeze(struct store *store, struct writing *writing) {
 
 // At one moment the tree is frozen: all that was answered before is taken for the log that ends there.
 static int take_and_freeze(struct store *store, struct writing *writing) {
-    int fault = store->snapshots ? EBUSY : store_end_calls(store);
-    if (fault) return fault;
-    store_take(store);
-    return freeze(store, writing);
+    int fault = store->snapshots ? EBUSY : store_take(store);
+    return fault ? fault : freeze(store, writing);
 }
 
 // Another log begins. One that has nothing, since changes are refused, serves on.
@@ -63,6 +62,7 @@ static int begin(struct store *store, struct writing *writing) {
     writing->number = store->number;
     store_write_taken(store);
     if (!fault) fault = begin_log(store, writing);
+    writing->failures = store->failures;
     pthread_mutex_unlock(&store->writing);
     return fault;
 }
@@ -119,12 +119,16 @@ static void end_printing(struct writing *writing) {
     requests_go_on();
 }
 
-// Changes are done again where they were refused: all that was answered before lies in the image.
+// Changes are done again where they were refused: all that was answered before lies in the image. What its own log lost
+// since it began takes another image.
 static void succeed(struct store *store, const struct writing *writing) {
     pthread_mutex_lock(&store->writing);
     store_enough(store, writing->size);
-    if (store->fault) store_say(store, "changes are kept again");
-    store->fault = store->told = 0;
+    if (store->failures == writing->failures) {
+        if (store->fault) store_say(store, "changes are kept again");
+        store->fault = 0;
+    }
+    store->told = 0;
     pthread_mutex_unlock(&store->writing);
     store_clear(store, writing->number);
 }

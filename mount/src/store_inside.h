@@ -95,12 +95,17 @@ void store_say(const struct store *store, const char *form, ...) __attribute__((
 
 // ---- store_queue.c
 
+// How many bytes of a queue's calls are of requests that ended.
+size_t store_ended(const struct queue *queue);
 int store_queues_begin(struct store *store);
 void store_queues_free(struct store *store);
 // At the end of a request: where the queue has enough, another one begins. Under the lock of requests.
 void store_queue_next(struct store *store);
-// Takes the calls of all requests that ended out of their queues; under both locks.
-void store_take(struct store *store);
+// What waits of a request is at its end. Under the lock of requests.
+int store_end_calls(struct store *store);
+// Takes the calls of all requests out of their queues, which are at their end then; under both locks. Where that is
+// refused, all of them wait on.
+int store_take(struct store *store);
 // The first queue of those that were taken, null where there is none; and it is written, or dropped. Under `writing`.
 const struct queue *store_first_taken(const struct store *store);
 void store_drop_taken(struct store *store);
@@ -122,11 +127,6 @@ int store_next_log(struct store *store, struct former_log *former);
 int store_end_log(struct store *store, const struct former_log *former);
 // The number of a record.
 uint64_t store_record(uint64_t log, uint64_t index);
-
-// ---- store.c
-
-// What is waiting of a request is at its end. Under the lock of requests.
-int store_end_calls(struct store *store);
 
 // ---- store_start.c
 

@@ -76,6 +76,11 @@ void store_queues_free(struct store *store) {
 
 // ---- from a request to the log
 
+size_t store_ended(const struct queue *queue) {
+    size_t count = queue->ends.length / sizeof(size_t);
+    return count ? ((const size_t *)queue->ends.at)[count - 1] : 0;
+}
+
 static void end_queue(struct store *store, struct queue *another) {
     pthread_mutex_lock(&store->room_lock);
     store->waiting_bytes += store->queue->calls.length;
@@ -98,13 +103,23 @@ void store_wait(struct store *store) {
     pthread_mutex_unlock(&store->room_lock);
 }
 
+// What a request did is one record.
+int store_end_calls(struct store *store) {
+    struct queue *queue = store->queue;
+    if (queue->calls.length == store_ended(queue)) return 0;
+    return bytes_append(&queue->ends, &queue->calls.length, sizeof queue->calls.length);
+}
+
 // The reserve is there: all that was taken before was written.
-void store_take(struct store *store) {
+int store_take(struct store *store) {
+    struct queue *queue;
+    if (store_end_calls(store)) return ENOMEM;
     if (store->queue->calls.length) {
         end_queue(store, store->reserve);
         store->reserve = 0;
     }
-    for (struct queue *queue; (queue = take_first(&store->full));) put_last(&store->taken, queue);
+    while ((queue = take_first(&store->full))) put_last(&store->taken, queue);
+    return 0;
 }
 
 const struct queue *store_first_taken(const struct store *store) { return store->taken.first; }
