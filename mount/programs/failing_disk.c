@@ -1,6 +1,6 @@
 // A disk that fails, under a program: preloaded, it stands before writes and syncs of files in the folder FAILING_STORE.
-// Where the file FAILING_DISK has the word `sync`, syncs fail; with `write`, writes fail too. Behind each sync that is done,
-// the length of the file goes to the folder FAILING_SYNCED, below its name: so much a loss of power leaves at least.
+// Where the file FAILING_DISK has the word `sync`, syncs fail; with `write`, writes fail too; with `log`, both fail of a
+// file whose name begins with that. Behind each sync that is done, the length of the file goes to the folder FAILING_SYNCED, below its name: so much a loss of power leaves at least.
 #define _GNU_SOURCE
 #include <dlfcn.h>
 #include <errno.h>
@@ -25,12 +25,12 @@ static const char *name_of(int file, char path[PATH_MAX]) {
 
 static int fails(int file, const char *what) {
     char path[PATH_MAX], word[16] = "";
-    const char *control = getenv("FAILING_DISK");
-    FILE *told = control && name_of(file, path) ? fopen(control, "re") : 0;
+    const char *control = getenv("FAILING_DISK"), *name = control ? name_of(file, path) : 0;
+    FILE *told = name ? fopen(control, "re") : 0;
     if (!told) return 0;
     if (fscanf(told, "%15s", word) != 1) word[0] = 0;
     fclose(told);
-    return !strcmp(word, what) || !strcmp(word, "write");
+    return !strcmp(word, what) || !strcmp(word, "write") || (!strcmp(word, "log") && !strncmp(name, "log.", 4));
 }
 
 // The length of a file without the zeros at its end.

@@ -500,6 +500,29 @@ def a_disk_whose_writes_fail_is_told_until_an_image_is_whole(folder: Path):
 
 
 @case
+def what_a_log_loses_while_an_image_is_written_takes_another_image(folder: Path):
+    disk = FailingDisk(folder)
+    mount = store_mount(folder, "--log-size", "40M", environment=disk.environment)
+    (mount.point / "large").write_bytes(os.urandom(48 << 20))
+    sync(mount.point)
+    while not list((folder / "store").glob("tree.*.part")):
+        time.sleep(0.001)
+    held = os.open(mount.point / "held", os.O_CREAT | os.O_WRONLY)
+    os.write(held, b"held")
+    disk.fail("log")
+    refused(errno.EIO, os.fsync, held)
+    disk.mend()
+    assert list((folder / "store").glob("tree.*.part")), "the image was whole before its log failed"
+    write_when_it_may(mount.point / "later")
+    sync(mount.point)
+    kill(mount)
+    again = store_mount(folder)
+    assert again.stands, again.said()
+    assert (again.point / "held").read_text() == "held" and (again.point / "later").read_text() == "later"
+    end_well(again)
+
+
+@case
 def a_sync_in_time_that_fails_is_told_at_the_next_fsync(folder: Path):
     disk = FailingDisk(folder)
     mount = store_mount(folder, environment=disk.environment)

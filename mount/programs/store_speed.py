@@ -4,7 +4,7 @@ import threading
 import time
 from pathlib import Path
 
-BLOCK, SYNCED, MEBIBYTE = bytes(range(256)) * 16, 200, 1 << 20
+BLOCK, SYNCED, MEBIBYTE, MEBIBYTES_BEFORE = bytes(range(256)) * 16, 200, 1 << 20, 40
 
 
 def time_synced(folder: Path) -> dict[str, float]:
@@ -65,32 +65,49 @@ def memory_of(process: int) -> float:
     return 0
 
 
-def probe_for(folder: Path, until) -> tuple[float, int]:
+def probe_for(folder: Path, until, meanwhile=lambda: None) -> tuple[float, int]:
     probe = Probe(folder)
     probe.start()
     while not until():
+        meanwhile()
         time.sleep(0.02)
     probe.ends = True
     probe.join()
     return probe.longest, probe.count
 
 
-def fill(folder: Path, mebibytes: int) -> None:
-    for number in range(mebibytes):
+def fill(folder: Path, mebibytes: int, first: int = 0) -> None:
+    for number in range(first, first + mebibytes):
         (folder / f"file{number}").write_bytes(os.urandom(MEBIBYTE))
 
 
+class Filling:
+    """Fills a mount slowly until its store writes an image, and tells when that is over."""
+
+    def __init__(self, mount: Path, store: Path, first: int):
+        self.mount, self.store, self.next, self.began = mount, store, first, 0.0
+
+    def is_over(self) -> bool:
+        if has_part(self.store):
+            self.began = self.began or time.monotonic()
+            return False
+        return self.began > 0
+
+    def go_on(self) -> None:
+        if not self.began:
+            fill(self.mount, 1, self.next)
+            self.next += 1
+
+
 def measure_image(mount: Path, store: Path, process: int, mebibytes: int) -> None:
-    """Fills a mount whose store writes an image behind a little more, and says what the image held up."""
-    fill(mount, mebibytes)
+    """Fills a mount whose store writes an image behind a little more, and says what the image held up, from before it
+    begins until behind its end."""
+    fill(mount, mebibytes + MEBIBYTES_BEFORE)
     time.sleep(6)
     before, ends = memory_of(process), time.monotonic() + 10
     quiet, _ = probe_for(mount, lambda: time.monotonic() > ends)
-    fill(mount, 80)
-    while not has_part(store):
-        time.sleep(0.01)
-    began = time.monotonic()
-    longest, count = probe_for(mount, lambda: not has_part(store))
-    print(f"an image of {mebibytes} MiB in files took {time.monotonic() - began:.1f} s; of {count} small writes meanwhile the longest"
-          f" took {longest * 1e3:.1f} ms, and {quiet * 1e3:.1f} ms of those before; the most memory was"
+    filling = Filling(mount, store, mebibytes + MEBIBYTES_BEFORE)
+    longest, count = probe_for(mount, filling.is_over, filling.go_on)
+    print(f"an image of {mebibytes} MiB in files took {time.monotonic() - filling.began:.1f} s; of {count} small writes"
+          f" meanwhile the longest took {longest * 1e3:.1f} ms, and {quiet * 1e3:.1f} ms of those before; the most memory was"
           f" {memory_of(process):.2f} GiB, and {before:.2f} before")

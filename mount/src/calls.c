@@ -59,11 +59,13 @@ static int read_large(int i) {
 
 static void time_calls(const char *name, int (*call)(int), int count) {
     double began = seconds();
-    for (int i = 0; i < count; i++)
+    for (int i = 0; i < count; i++) {
         if (call(i)) {
             fprintf(stderr, "calls: %s was refused\n", name);
             exit(1);
         }
+        volume.way->relieve(volume.self, volume.way->owes(volume.self));
+    }
     printf("%-16s %10.2f\n", name, (seconds() - began) * 1e6 / count);
 }
 

@@ -12,12 +12,13 @@
 #include <unistd.h>
 
 // Each block of a write is one.
-enum { BLOCK = 4096, CHANGES_BEFORE_STEPS = 16 };
+enum { BLOCK = 4096, CHANGES_BEFORE_STEPS = 16, MOST_OWED = 1 << 20 };
 
 struct library {
     struct doorvervain volume;
     unsigned steps;
-    size_t changes; // that were made since the last steps
+    size_t changes; // for which no steps are due yet
+    unsigned owed;  // steps that are due
     // The tree of the snapshot that was looked into last; its name is empty where there is none.
     struct doorvervain_frozen tree;
     char snapshot[LONGEST_SNAPSHOT + 1];
@@ -27,14 +28,14 @@ static uint8_t piece[1 << 16]; // of an image
 
 static const uint8_t *text(const char *word) { return (const uint8_t *)word; }
 
-// What a call's number says in <errno.h>. Behind some changes the tree does steps: a step that moves one change down
-// takes about as long as one that moves many.
+// What a call's number says in <errno.h>. Behind some changes steps of the tree are due: a step that moves one change
+// down takes about as long as one that moves many.
 static int done_many(struct library *library, uint8_t number, size_t changes) {
     if (number) return doorvervain_errno(number);
     library->changes += changes;
     if (library->changes < CHANGES_BEFORE_STEPS) return 0;
     library->changes = 0;
-    doorvervain_relieve(&library->volume, library->steps);
+    if (library->owed < MOST_OWED) library->owed += library->steps;
     return 0;
 }
 
@@ -169,7 +170,14 @@ static int save(struct library *library, struct image *image) {
 
 static unsigned library_relieve(void *self, unsigned steps) {
     struct library *library = self;
-    return doorvervain_relieve(&library->volume, steps);
+    unsigned done = doorvervain_relieve(&library->volume, steps);
+    library->owed = done < steps || library->owed < steps ? 0 : library->owed - steps;
+    return done;
+}
+
+static unsigned library_owes(void *self) {
+    const struct library *library = self;
+    return library->owed;
 }
 
 static int library_close(void *self, struct image *image) {
@@ -182,8 +190,8 @@ static int library_close(void *self, struct image *image) {
 }
 
 static const struct way library_way = {
-    library_change, library_rename, library_truncate, library_write, library_read,    library_stat,
-    library_list,   library_keep,   library_punch,    library_data,  library_relieve, library_close,
+    library_change, library_rename, library_truncate, library_write,   library_read, library_stat,  library_list,
+    library_keep,   library_punch,  library_data,     library_relieve, library_owes, library_close,
 };
 
 static const struct record_form records = {doorvervain_mirror, doorvervain_record_path, doorvervain_record_print,

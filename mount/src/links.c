@@ -52,33 +52,58 @@ int links_find(struct mount *mount, struct entry *parent, const struct spot *spo
     return 0;
 }
 
-// The record of a name.
-static int write_name(struct journal *journal, const char *path, uint64_t number) {
-    struct attributes name = records_usual(journal->mount, false);
+// What the record of a name has.
+static struct attributes name_of(const struct mount *mount, uint64_t number) {
+    struct attributes name = records_usual(mount, false);
     name.told.kind = DOORVERVAIN_OTHER_NAME;
     name.told.link = number;
+    return name;
+}
+
+static int make_name_of(struct journal *journal, struct entry *parent, const char *path, uint64_t number) {
+    struct attributes name = name_of(journal->mount, number);
+    return records_make(journal, parent, path, &name, 0);
+}
+
+// What the only name of a file was leads to its place: a record that it had is written over.
+static int lead(struct journal *journal, struct entry *entry, const char *path, uint64_t number) {
+    struct attributes name = name_of(journal->mount, number);
+    if (!entry->attributes.has_record) return records_make(journal, entry->parent, path, &name, 0);
+    name.has_record = true;
     return records_write(journal, path, &name, 0);
 }
 
-// The file goes to a place of its own, and what its only name was leads there: a record that it had is written over. The
-// folder of that name keeps its moment.
-static int give_place(struct journal *journal, struct entry *entry, uint64_t number, struct attributes *attributes) {
-    struct mount *mount = journal->mount;
-    struct own_path path = own_link(number);
+// The file's record, with the extended attributes that it has, in its place.
+static int place_record(struct journal *journal, struct entry *entry, const struct spot *spot, const char *path,
+                        struct attributes *attributes) {
     struct bytes extended = {0};
     struct attributes old;
-    struct spot spot;
-    struct standing parent;
-    int fault = own_make(mount, OWN_LINKS);
-    if (!fault) fault = entry_spot(entry, 0, &spot);
-    if (!fault) fault = files_stand(mount, entry->parent, &parent);
-    if (!fault) fault = records_read(mount, &spot, false, &old, &extended);
-    attributes->has_record = false;
-    if (!fault) fault = records_write(journal, path.text, attributes, &extended);
+    int fault = 0;
+    if (entry->attributes.has_extended) fault = records_read(journal->mount, spot, false, &old, &extended);
+    if (!fault) fault = records_make(journal, entry->parent, path, attributes, &extended);
     bytes_free(&extended);
-    if (!fault) fault = journal_rename(journal, spot.path, path.text, parent.modified, parent.modified);
-    if (!fault) fault = journal_make(journal, CREATE, spot.path, parent.modified, parent.modified);
-    return fault ? fault : write_name(journal, spot.path, number);
+    return fault;
+}
+
+// The file's bytes in its place, and an empty file where they were. The folder of its name keeps its moment.
+static int place_bytes(struct journal *journal, struct entry *entry, const struct spot *spot, const char *path) {
+    struct standing file, parent;
+    int fault = stand_at(journal->mount, spot, &file);
+    if (fault || !file.length) return fault ? fault : journal_make(journal, CREATE, path, file.modified, 0);
+    fault = files_stand(journal->mount, entry->parent, &parent);
+    if (!fault) fault = journal_rename(journal, spot->path, path, parent.modified, parent.modified);
+    return fault ? fault : journal_make(journal, CREATE, spot->path, parent.modified, parent.modified);
+}
+
+// The file goes to a place of its own.
+static int give_place(struct journal *journal, struct entry *entry, uint64_t number, struct attributes *attributes) {
+    struct own_path path = own_link(number);
+    struct spot spot;
+    int fault = own_make(journal->mount, OWN_LINKS);
+    if (!fault) fault = entry_spot(entry, 0, &spot);
+    if (!fault) fault = place_record(journal, entry, &spot, path.text, attributes);
+    if (!fault) fault = place_bytes(journal, entry, &spot, path.text);
+    return fault ? fault : lead(journal, entry, spot.path, number);
 }
 
 static int make_once(struct journal *journal, struct entry *entry, struct entry *parent, const struct spot *spot,
@@ -87,8 +112,7 @@ static int make_once(struct journal *journal, struct entry *entry, struct entry 
     int fault = files_stand(journal->mount, parent, &before);
     attributes->told.names++;
     if (!fault) fault = journal_make(journal, CREATE, spot->path, journal->at, before.modified);
-    if (!fault) fault = records_drop(journal, parent, spot->path);
-    if (!fault) fault = write_name(journal, spot->path, number);
+    if (!fault) fault = make_name_of(journal, parent, spot->path, number);
     if (fault) return fault;
     return entry->link ? records_rewrite(journal, entry, attributes) : give_place(journal, entry, number, attributes);
 }

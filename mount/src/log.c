@@ -247,6 +247,11 @@ static unsigned log_relieve(void *self, unsigned steps) {
     return log->over.way->relieve(log->over.self, steps);
 }
 
+static unsigned log_owes(void *self) {
+    struct log *log = self;
+    return log->over.way->owes(log->over.self);
+}
+
 static void free_log(struct log *log) {
     if (log->calls.file >= 0) close(log->calls.file);
     if (log->replies.file >= 0) close(log->replies.file);
@@ -265,8 +270,8 @@ static int log_close(void *self, struct image *image) {
 }
 
 static const struct way log_way = {
-    log_change, log_rename, log_truncate, log_write, log_read,    log_stat,
-    log_list,   log_keep,   log_punch,    log_data,  log_relieve, log_close,
+    log_change, log_rename, log_truncate, log_write,   log_read, log_stat,  log_list,
+    log_keep,   log_punch,  log_data,     log_relieve, log_owes, log_close,
 };
 
 // The bytes of files that only their owner may read go into a record: so may it only be read. An older one stays.

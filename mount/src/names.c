@@ -28,15 +28,13 @@ static int write_target(struct journal *journal, const char *path, const char *t
     return volume->way->write(volume->self, path, 0, target, strlen(target), journal->at, &done);
 }
 
-// What an image left as the record of a name that was not there goes first.
 static int make_once(struct journal *journal, struct entry *parent, const struct spot *spot,
                      const struct novelty *novelty, struct attributes *attributes) {
     struct standing before;
     enum change what = novelty->told.kind == DOORVERVAIN_DIRECTORY ? MAKE_DIRECTORY : CREATE;
     int fault = files_stand(journal->mount, parent, &before);
     if (!fault) fault = journal_make(journal, what, spot->path, journal->at, before.modified);
-    if (!fault) fault = records_drop(journal, parent, spot->path);
-    if (!fault) fault = records_write(journal, spot->path, attributes, 0);
+    if (!fault) fault = records_make(journal, parent, spot->path, attributes, 0);
     if (!fault && novelty->target) fault = write_target(journal, spot->path, novelty->target);
     return fault;
 }

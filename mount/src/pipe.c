@@ -148,6 +148,11 @@ static unsigned pipe_relieve(void *self, unsigned steps) {
     return 0;
 }
 
+static unsigned pipe_owes(void *self) {
+    (void)self;
+    return 0;
+}
+
 // What `betr` prints behind its last reply, which is the image.
 static int save_rest(struct pipe *pipe, struct image *image) {
     int fault = pipe->is_broken ? EIO : 0;
@@ -176,8 +181,8 @@ static int pipe_close(void *self, struct image *image) {
 }
 
 static const struct way pipe_way = {
-    pipe_change, pipe_rename, pipe_truncate, pipe_write, pipe_read,    pipe_stat,
-    pipe_list,   pipe_keep,   pipe_punch,    pipe_data,  pipe_relieve, pipe_close,
+    pipe_change, pipe_rename, pipe_truncate, pipe_write,   pipe_read, pipe_stat,  pipe_list,
+    pipe_keep,   pipe_punch,  pipe_data,     pipe_relieve, pipe_owes, pipe_close,
 };
 
 // In a group of its own, so that a signal of the terminal ends the mount alone, which then asks for the image.

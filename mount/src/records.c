@@ -195,16 +195,24 @@ int records_of(struct mount *mount, struct entry *entry, const struct attributes
 
 // ---- writing
 
+static int make_folder_once(struct journal *journal, const char *path) {
+    return journal_make(journal, MAKE_DIRECTORY, path, journal->at, journal->at);
+}
+
+// What stands at a path goes, and a folder comes.
+static int make_folder_instead(struct journal *journal, const char *path) {
+    int fault = journal_park(journal, path);
+    return fault ? fault : make_folder_once(journal, path);
+}
+
 // Makes one folder. A file that an image has in its place goes.
 static int make_folder(struct journal *journal, const char *path) {
     const struct volume *volume = &journal->mount->volume;
     struct standing standing;
-    int fault = journal_make(journal, MAKE_DIRECTORY, path, journal->at, journal->at);
+    int fault = make_folder_once(journal, path);
     if (fault != EEXIST) return fault;
     fault = volume->way->stat(volume->self, (struct place){0, path}, &standing);
-    if (fault || standing.is_directory) return fault;
-    fault = journal_park(journal, path);
-    return fault ? fault : journal_make(journal, MAKE_DIRECTORY, path, journal->at, journal->at);
+    return fault || standing.is_directory ? fault : make_folder_instead(journal, path);
 }
 
 // Makes a folder for records, and those above it that do not stand.
@@ -240,38 +248,72 @@ static int print(const struct mount *mount, const struct attributes *attributes,
     return !fault && size > LARGEST_READ ? ENOSPC : fault;
 }
 
+static int make_text(struct journal *journal, const struct place_of_record *place, const struct bytes *text) {
+    const struct volume *volume = &journal->mount->volume;
+    size_t done;
+    int fault = journal_make(journal, CREATE, place->file, journal->at, journal->at);
+    return fault ? fault
+                 : volume->way->write(volume->self, place->file, 0, text->at, text->length, journal->at, &done);
+}
+
 // What stands there is an earlier record or nothing; or a folder, which an image had there, and which goes.
 static int put_text(struct journal *journal, const struct place_of_record *place, const struct bytes *text) {
-    const struct volume *volume = &journal->mount->volume;
-    struct standing standing;
-    size_t done;
-    int fault = volume->way->stat(volume->self, (struct place){0, place->file}, &standing);
-    if (!fault && !standing.is_directory) return journal_write(journal, place->file, text->at, text->length);
-    if (!fault) fault = journal_park(journal, place->file);
-    if (fault && fault != ENOENT && fault != ENOTDIR) return fault;
-    fault = place->folder[0] ? make_folders(journal, place->folder) : 0;
-    if (!fault) fault = journal_make(journal, CREATE, place->file, journal->at, journal->at);
-    if (fault) return fault;
-    return volume->way->write(volume->self, place->file, 0, text->at, text->length, journal->at, &done);
+    int fault = journal_write(journal, place->file, text->at, text->length);
+    if (fault != EISDIR && fault != ENOENT && fault != ENOTDIR) return fault;
+    if (fault == EISDIR) fault = journal_park(journal, place->file);
+    else fault = place->folder[0] ? make_folders(journal, place->folder) : 0;
+    return fault ? fault : make_text(journal, place, text);
+}
+
+// The folder of the record of what was just made. What an image left in its place goes.
+static int make_fresh_folder(struct journal *journal, const char *folder) {
+    int fault = make_folder_once(journal, folder);
+    if (fault == EEXIST) return make_folder_instead(journal, folder);
+    return fault == ENOENT || fault == ENOTDIR ? make_folders(journal, folder) : fault;
+}
+
+// The same of an entry that was just made: nothing stands there but what an image left.
+static int put_fresh(struct journal *journal, const struct place_of_record *place, const struct bytes *text) {
+    int fault = place->folder[0] ? make_fresh_folder(journal, place->folder) : 0;
+    if (!fault) fault = make_text(journal, place, text);
+    return fault == EEXIST ? put_text(journal, place, text) : fault;
+}
+
+typedef int putting(struct journal *journal, const struct place_of_record *place, const struct bytes *text);
+
+static int print_and_put(struct journal *journal, const char *path, const struct attributes *attributes,
+                         const struct bytes *extended, putting *put) {
+    struct place_of_record place;
+    struct bytes text = {0};
+    int fault = find_place(journal->mount, path, &place);
+    if (!fault) fault = print(journal->mount, attributes, extended, &text);
+    if (!fault) fault = put(journal, &place, &text);
+    bytes_free(&text);
+    return fault;
+}
+
+// Notes what the attributes have, and whether there is a record of them from now on: false where there is none.
+static bool note_record(const struct journal *journal, struct attributes *attributes, const struct bytes *extended) {
+    attributes->has_extended = extended && extended->length;
+    if (!mount_keeps_records(journal->mount)) return false;
+    attributes->has_record = !is_usual(journal->mount, attributes);
+    attributes->changed = attributes->has_record ? journal->at : 0;
+    return attributes->has_record;
 }
 
 int records_write(struct journal *journal, const char *path, struct attributes *attributes,
                   const struct bytes *extended) {
-    struct mount *mount = journal->mount;
-    struct place_of_record place;
-    struct bytes text = {0};
-    attributes->has_extended = extended && extended->length;
-    if (!mount_keeps_records(mount)) return 0;
-    bool is_wanted = !is_usual(mount, attributes), stood = attributes->has_record;
-    attributes->has_record = is_wanted;
-    attributes->changed = is_wanted ? journal->at : 0;
-    if (!is_wanted && !stood) return 0;
-    int fault = find_place(mount, path, &place);
-    if (!fault && !is_wanted) return journal_park(journal, place.file);
-    if (!fault) fault = print(mount, attributes, extended, &text);
-    if (!fault) fault = put_text(journal, &place, &text);
-    bytes_free(&text);
-    return fault;
+    bool stood = attributes->has_record;
+    if (note_record(journal, attributes, extended))
+        return print_and_put(journal, path, attributes, extended, put_text);
+    return stood ? records_drop_one(journal, path) : 0;
+}
+
+int records_make(struct journal *journal, struct entry *parent, const char *path, struct attributes *attributes,
+                 const struct bytes *extended) {
+    if (note_record(journal, attributes, extended))
+        return print_and_put(journal, path, attributes, extended, put_fresh);
+    return records_drop(journal, parent, path);
 }
 
 int records_rewrite(struct journal *journal, struct entry *entry, struct attributes *attributes) {
@@ -288,10 +330,14 @@ int records_rewrite(struct journal *journal, struct entry *entry, struct attribu
 }
 
 int records_drop(struct journal *journal, struct entry *parent, const char *path) {
+    const struct volume *volume = &journal->mount->volume;
+    struct standing standing;
     char folder[LONGEST_PATH + 1];
     if (is_bare(journal->mount, parent)) return 0;
-    int fault = form_path(journal->mount->volume.records->mirror, path, folder);
-    return fault == ENAMETOOLONG ? 0 : fault ? fault : journal_park(journal, folder);
+    int fault = form_path(volume->records->mirror, path, folder);
+    if (fault) return fault == ENAMETOOLONG ? 0 : fault;
+    fault = volume->way->stat(volume->self, (struct place){0, folder}, &standing);
+    return fault == ENOENT ? 0 : journal_park(journal, folder);
 }
 
 int records_erase(struct journal *journal, struct entry *parent, const char *path) {

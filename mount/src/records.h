@@ -34,6 +34,9 @@ void records_remember(struct mount *mount, struct entry *entry, const struct att
 // right.
 int records_write(struct journal *journal, const char *path, struct attributes *attributes,
                   const struct bytes *extended);
+// The record of an entry that was just made. What an image left in its place counts for nothing, and goes.
+int records_make(struct journal *journal, struct entry *parent, const char *path, struct attributes *attributes,
+                 const struct bytes *extended);
 // The record that an entry has, with its extended attributes, gets other attributes.
 int records_rewrite(struct journal *journal, struct entry *entry, struct attributes *attributes);
 // Moves the records of a path and of all below it to another path, where none stand then but these.

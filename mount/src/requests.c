@@ -17,12 +17,14 @@
 #include <errno.h>
 #include <fcntl.h>
 #include <linux/capability.h>
+#include <poll.h>
 #include <pthread.h>
 #include <stdio.h>
 #include <stdlib.h>
 #include <string.h>
 #include <unistd.h>
 
+enum { MOST_WAITING_STEPS = 64 };
 #define SECONDS_KNOWN 86400.0
 // The number of an entry that is not known, as libfuse has it.
 #define NO_NUMBER 0xffffffff
@@ -43,6 +45,35 @@ bool requests_are_under_way(void) {
 void requests_pause(void) { pthread_mutex_lock(&lock); }
 
 void requests_go_on(void) { pthread_mutex_unlock(&lock); }
+
+static bool one_waits(void) {
+    struct pollfd comes = {.fd = fuse_session_fd(session), .events = POLLIN};
+    return poll(&comes, 1, 0) > 0;
+}
+
+// Whether steps were left to be done. No size of the mount lets them take more than a call.
+static bool rest_once(struct mount *mount) {
+    const struct volume *volume = &mount->volume;
+    pthread_mutex_lock(&lock);
+    unsigned owed = volume->way->owes(volume->self);
+    bool is_due = owed > MOST_WAITING_STEPS || (owed && !one_waits());
+    room_begin();
+    if (is_due) volume->way->relieve(volume->self, 1);
+    room_lift();
+    pthread_mutex_unlock(&lock);
+    return is_due;
+}
+
+static void rest_store(struct mount *mount) {
+    pthread_mutex_lock(&lock);
+    store_rest(mount->store);
+    pthread_mutex_unlock(&lock);
+}
+
+void requests_rest(struct mount *mount) {
+    if (mount->store) rest_store(mount);
+    while (rest_once(mount)) continue;
+}
 
 static struct mount *mount_of(fuse_req_t req) { return fuse_req_userdata(req); }
 
@@ -76,6 +107,7 @@ static int leave(struct mount *mount, int fault) {
     if (mount->store && store_syncs_each(mount->store)) other = aside_settle(mount);
     if (mount->store && !other) other = store_end_request(mount->store);
     pthread_mutex_unlock(&lock);
+    if (mount->store) store_wait(mount->store);
     return fault ? fault : other;
 }
 

@@ -43,11 +43,23 @@ static void serve_one(struct fuse_session *session, struct fuse_buf *buffer) {
     else usleep(1000);
 }
 
-// A signal ends the loop with its number, and what was mounted ends well then. A thread that tells the kernel to forget
-// may wait for requests that are under way: so these are served until it is done.
-static int serve(struct fuse_session *session) {
+// Serves until a signal or an unmount, which is a good end.
+static int serve_all(struct fuse_session *session, struct mount *mount, struct fuse_buf *buffer) {
+    int got = -EINTR;
+    while (!fuse_session_exited(session) && (got > 0 || got == -EINTR)) {
+        got = fuse_session_receive_buf(session, buffer);
+        if (got > 0) fuse_session_process_buf(session, buffer);
+        if (got > 0) requests_rest(mount);
+    }
+    fuse_session_reset(session);
+    return got < 0 && got != -EINTR;
+}
+
+// A thread that tells the kernel to forget may wait for requests that are under way: so these are served until it is
+// done.
+static int serve(struct fuse_session *session, struct mount *mount) {
     static struct fuse_buf buffer; // its memory is libfuse's
-    int status = fuse_session_loop(session) < 0;
+    int status = serve_all(session, mount, &buffer);
     ignore_signals();
     while (requests_are_under_way()) serve_one(session, &buffer);
     return status;
@@ -86,7 +98,7 @@ static int mount_and_serve(const struct options *options, struct mount *mount, v
         raise_readahead(options->mount_point);
         stands();
         *stood = true;
-        status = serve(session);
+        status = serve(session, mount);
         fuse_session_unmount(session);
     }
     fuse_remove_signal_handlers(session);

@@ -12,48 +12,45 @@
 #include <time.h>
 #include <unistd.h>
 
-enum { SECONDS_BETWEEN = 5, ENOUGH_TO_WRITE = 1 << 20, MOST_WAITING = 32 << 20 };
+enum { SECONDS_BETWEEN = 5, ENOUGH_TO_WRITE = 1 << 20, MOST_WAITING = 32 << 20, MOST_EXPECTED = 4 };
 
 // ---- calls that change something
 
 // A request whose calls cannot be kept begins none. One that has begun is not refused on its way, since what it did may
 // have to be undone.
 static int may_change(const struct store *store) {
-    const struct queue *queue = &store->queue;
-    size_t count = queue->ends.length / sizeof(size_t);
-    size_t ended = count ? ((const size_t *)queue->ends.at)[count - 1] : 0;
-    return store->fault && queue->calls.length == ended ? EIO : 0;
+    return store->fault && store->queue->calls.length == store_ended(store->queue) ? EIO : 0;
 }
 
 // A call that was refused is none.
 static int settle(struct store *store, size_t before, int fault) {
-    if (fault) store->queue.calls.length = before;
+    if (fault) store->queue->calls.length = before;
     return fault;
 }
 
 static int store_change(void *self, enum change what, const char *path, uint64_t at) {
     struct store *store = self;
-    size_t before = store->queue.calls.length;
+    size_t before = store->queue->calls.length;
     int fault = may_change(store);
-    if (!fault) fault = calls_change(&store->queue.calls, what, path, at);
+    if (!fault) fault = calls_change(&store->queue->calls, what, path, at);
     if (!fault) fault = store->over.way->change(store->over.self, what, path, at);
     return settle(store, before, fault);
 }
 
 static int store_rename(void *self, const char *from, const char *to, uint64_t at) {
     struct store *store = self;
-    size_t before = store->queue.calls.length;
+    size_t before = store->queue->calls.length;
     int fault = may_change(store);
-    if (!fault) fault = calls_rename(&store->queue.calls, from, to, at);
+    if (!fault) fault = calls_rename(&store->queue->calls, from, to, at);
     if (!fault) fault = store->over.way->rename(store->over.self, from, to, at);
     return settle(store, before, fault);
 }
 
 static int store_truncate(void *self, const char *path, uint64_t length, uint64_t at) {
     struct store *store = self;
-    size_t before = store->queue.calls.length;
+    size_t before = store->queue->calls.length;
     int fault = may_change(store);
-    if (!fault) fault = calls_truncate(&store->queue.calls, path, length, at);
+    if (!fault) fault = calls_truncate(&store->queue->calls, path, length, at);
     if (!fault) fault = store->over.way->truncate(store->over.self, path, length, at);
     return settle(store, before, fault);
 }
@@ -62,19 +59,19 @@ static int store_truncate(void *self, const char *path, uint64_t length, uint64_
 static int store_write(void *self, const char *path, uint64_t offset, const char *bytes, size_t count, uint64_t at,
                        size_t *done) {
     struct store *store = self;
-    size_t before = store->queue.calls.length;
+    size_t before = store->queue->calls.length;
     *done = 0;
     int fault = may_change(store);
-    if (!fault) fault = calls_write(&store->queue.calls, path, offset, bytes, count, at);
+    if (!fault) fault = calls_write(&store->queue->calls, path, offset, bytes, count, at);
     if (!fault) fault = store->over.way->write(store->over.self, path, offset, bytes, count, at, done);
     return settle(store, before, fault);
 }
 
 static int store_punch(void *self, const char *path, uint64_t offset, uint64_t count, uint64_t at) {
     struct store *store = self;
-    size_t before = store->queue.calls.length;
+    size_t before = store->queue->calls.length;
     int fault = may_change(store);
-    if (!fault) fault = calls_punch(&store->queue.calls, path, offset, count, at);
+    if (!fault) fault = calls_punch(&store->queue->calls, path, offset, count, at);
     if (!fault) fault = store->over.way->punch(store->over.self, path, offset, count, at);
     return settle(store, before, fault);
 }
@@ -82,9 +79,9 @@ static int store_punch(void *self, const char *path, uint64_t offset, uint64_t c
 // No image has a snapshot. So where changes are refused until one is whole, a snapshot may still be dropped.
 static int store_keep_name(void *self, enum keeping what, const char *snapshot) {
     struct store *store = self;
-    size_t before = store->queue.calls.length;
+    size_t before = store->queue->calls.length;
     int fault = what == DROP_SNAPSHOT ? 0 : may_change(store);
-    if (!fault) fault = calls_keep(&store->queue.calls, what, snapshot);
+    if (!fault) fault = calls_keep(&store->queue->calls, what, snapshot);
     if (!fault) fault = store->over.way->keep(store->over.self, what, snapshot);
     if (!fault && what == TAKE_SNAPSHOT) store->snapshots++;
     if (!fault && what == DROP_SNAPSHOT) store->snapshots--;
@@ -118,16 +115,12 @@ static unsigned store_relieve(void *self, unsigned steps) {
     return store->over.way->relieve(store->over.self, steps);
 }
 
-// ---- the log
-
-// What a request did is one record.
-int store_end_calls(struct store *store) {
-    struct queue *queue = &store->queue;
-    size_t count = queue->ends.length / sizeof(size_t);
-    size_t ended = count ? ((const size_t *)queue->ends.at)[count - 1] : 0;
-    if (queue->calls.length == ended) return 0;
-    return bytes_append(&queue->ends, &queue->calls.length, sizeof queue->calls.length);
+static unsigned store_owes(void *self) {
+    struct store *store = self;
+    return store->over.way->owes(store->over.self);
 }
+
+// ---- the log
 
 // Calls wait to be written, or an image is due: the keeper is not to sleep on.
 static void wake_keeper(struct store *store) {
@@ -143,33 +136,43 @@ static void ask_for_image(struct store *store) {
     if (!store->snapshots && !store->fault && store->logged >= store->enough) wake_keeper(store);
 }
 
-// The keeper makes records of the calls and writes them, on another processor. Where it is too slow, it is waited for.
+// The keeper makes records of the calls and writes them, on another processor.
 static void spill(struct store *store) {
-    if (store->is_kept && store->queue.calls.length < store->most_waiting) {
+    if (store->is_kept) {
         wake_keeper(store);
         return;
     }
     pthread_mutex_lock(&store->writing);
-    store_take(store);
-    store_write_taken(store);
+    if (!store_take(store)) store_write_taken(store);
     pthread_mutex_unlock(&store->writing);
 }
 
 static int sync_all(struct store *store) {
     pthread_mutex_lock(&store->writing);
-    store_take(store);
-    int fault = store_sync_taken(store);
+    int fault = store_take(store);
+    if (!fault) fault = store_sync_taken(store);
     ask_for_image(store);
     pthread_mutex_unlock(&store->writing);
     return fault;
 }
 
 int store_end_request(struct store *store) {
+    size_t before = store->queue->ends.length;
     int fault = store_end_calls(store);
     if (fault) return fault;
-    if (store->syncs_each && store->queue.calls.length) return sync_all(store);
-    if (store->queue.calls.length >= ENOUGH_TO_WRITE) spill(store);
+    store->changes += store->queue->ends.length > before;
+    if (store->syncs_each && store->queue->calls.length) return sync_all(store);
+    store_queue_next(store);
+    if (store->waiting_bytes + store->queue->calls.length >= ENOUGH_TO_WRITE) spill(store);
     return 0;
+}
+
+// A program that syncs behind each few changes does so again: then its records are made while it gets the answer.
+void store_rest(struct store *store) {
+    if (!store->queue->calls.length || store->changes > store->expected || pthread_mutex_trylock(&store->writing)) return;
+    if (!store_take(store)) store_write_taken(store);
+    if (store->changes == store->expected) store_begin_sync(store);
+    pthread_mutex_unlock(&store->writing);
 }
 
 bool store_syncs_each(const struct store *store) { return store->syncs_each; }
@@ -177,8 +180,9 @@ bool store_syncs_each(const struct store *store) { return store->syncs_each; }
 uint64_t store_failures(struct store *store) { return store->failures; }
 
 int store_sync(struct store *store, uint64_t *told) {
-    int fault = store_end_calls(store);
-    if (!fault) fault = sync_all(store);
+    if (store->changes) store->expected = store->changes <= MOST_EXPECTED ? store->changes : 0;
+    store->changes = 0;
+    int fault = sync_all(store);
     if (*told != store->failures) fault = EIO;
     *told = store->failures;
     return fault;
@@ -205,9 +209,8 @@ int store_snapshots(struct store *store, struct bytes *out) {
 static void write_in_time(struct store *store, bool syncs) {
     requests_pause();
     if (syncs) aside_settle(store->mount);
-    int fault = store_end_calls(store);
     pthread_mutex_lock(&store->writing);
-    store_take(store);
+    int fault = store_take(store);
     requests_go_on();
     if (!fault && syncs) store_sync_taken(store);
     else if (!fault) store_write_taken(store);
@@ -256,6 +259,7 @@ static void *keep(void *self) {
 int store_keep(struct store *store, struct mount *mount) {
     pthread_condattr_t how;
     store->mount = mount;
+    crew_begin(&store->crew);
     set_next_sync(store);
     pthread_mutex_init(&store->waiting, 0);
     pthread_condattr_init(&how);
@@ -273,6 +277,7 @@ static void end_keeper(struct store *store) {
     pthread_cond_signal(&store->wakes);
     pthread_mutex_unlock(&store->waiting);
     pthread_join(store->keeper, 0);
+    store->is_kept = false;
 }
 
 // ---- its beginning and its end
@@ -280,16 +285,16 @@ static void end_keeper(struct store *store) {
 static void free_store(struct store *store) {
     if (store->lock >= 0) close(store->lock);
     if (store->directory >= 0) close(store->directory);
-    struct bytes *all[] = {&store->queue.calls, &store->queue.ends, &store->taken.calls, &store->taken.ends,
-                           &store->out};
-    for (size_t i = 0; i < sizeof all / sizeof *all; i++) bytes_free(all[i]);
+    crew_end(&store->crew);
+    store_queues_free(store);
+    bytes_free(&store->out);
+    bytes_free(&store->seals);
     free(store);
 }
 
 // What cannot be kept in the log goes into an image.
 static int keep_rest(struct store *store) {
-    int fault = store_end_calls(store);
-    if (!fault) fault = sync_all(store);
+    int fault = sync_all(store);
     if (fault) fault = store_checkpoint(store, 0);
     int other = store_close_log(store);
     return fault ? fault : other;
@@ -306,8 +311,8 @@ static int store_close(void *self, struct image *image) {
 }
 
 static const struct way store_way = {
-    store_change, store_rename,    store_truncate, store_write, store_read,    store_stat,
-    store_list,   store_keep_name, store_punch,    store_data,  store_relieve, store_close,
+    store_change,    store_rename, store_truncate, store_write,   store_read, store_stat,  store_list,
+    store_keep_name, store_punch,  store_data,     store_relieve, store_owes, store_close,
 };
 
 // A part of the memory that the tree may take.
@@ -323,7 +328,8 @@ int store_open(const struct making *making, struct volume *volume, struct store 
     store->syncs_each = making->syncs_each;
     store->log_size = making->log_size;
     store->most_waiting = most_waiting();
-    int fault = store_lock(store, making->store);
+    int fault = store_queues_begin(store);
+    if (!fault) fault = store_lock(store, making->store);
     if (!fault) fault = store_load(store, making, volume);
     if (fault) {
         free_store(store);

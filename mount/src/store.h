@@ -21,8 +21,12 @@ int store_keep(struct store *store, struct mount *mount);
 // 0, or why it is not.
 int store_end_request(struct store *store);
 bool store_syncs_each(const struct store *store);
+// Between two requests: what is about to be synced is written.
+void store_rest(struct store *store);
 // Brings all that was answered onto the disk. A failure that is not among those that `told` counts is told once: EIO.
 int store_sync(struct store *store, uint64_t *told);
+// Called with no lock: where too much waits to be written, it is waited for.
+void store_wait(struct store *store);
 // How many syncs have failed.
 uint64_t store_failures(struct store *store);
 #endif

@@ -64,15 +64,17 @@ int calls_keep(struct bytes *out, enum keeping what, const char *snapshot) {
     return put(out, calls[what](text(snapshot), length, end_of(out), ENTRY + length, &size), &size);
 }
 
-int calls_seal(struct bytes *out, uint64_t number, const char *calls, size_t length) {
-    uint8_t ends[DOORVERVAIN_LOG_FRONT + DOORVERVAIN_LOG_BACK];
+int calls_seal(struct seal *out, uint64_t number, const char *calls, size_t length) {
     size_t size = 0;
-    if (bytes_reserve(out, sizeof ends + length)) return ENOMEM;
-    int fault = doorvervain_errno(doorvervain_log_ends(number, text(calls), length, ends, sizeof ends, &size));
-    if (fault) return fault;
-    bytes_append(out, ends, DOORVERVAIN_LOG_FRONT);
+    return doorvervain_errno(
+        doorvervain_log_ends(number, text(calls), length, out->ends, sizeof out->ends, &size));
+}
+
+int calls_put(struct bytes *out, const struct seal *seal, const char *calls, size_t length) {
+    if (bytes_reserve(out, sizeof seal->ends + length)) return ENOMEM;
+    bytes_append(out, seal->ends, DOORVERVAIN_LOG_FRONT);
     bytes_append(out, calls, length);
-    return bytes_append(out, ends + DOORVERVAIN_LOG_FRONT, DOORVERVAIN_LOG_BACK);
+    return bytes_append(out, seal->ends + DOORVERVAIN_LOG_FRONT, DOORVERVAIN_LOG_BACK);
 }
 
 static uint64_t number_at(const char *at) {

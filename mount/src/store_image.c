@@ -15,6 +15,7 @@ struct writing {
     struct image image;
     struct doorvervain_printing printing;
     uint64_t number, former_bytes, size, pieces;
+    uint64_t failures;        // of the logs up to its own
     struct former_log former; // the log before it
 };
 
@@ -38,25 +39,32 @@ static int freeze(struct store *store, struct writing *writing) {
     return fault ? fault : doorvervain_errno(doorvervain_print_begin(&writing->printing, &tree));
 }
 
-// At one moment the tree is frozen, and another log begins. One that has nothing, since changes are refused, serves on.
+// At one moment the tree is frozen: all that was answered before is taken for the log that ends there.
+static int take_and_freeze(struct store *store, struct writing *writing) {
+    int fault = store->snapshots ? EBUSY : store_take(store);
+    return fault ? fault : freeze(store, writing);
+}
+
+// Another log begins. One that has nothing, since changes are refused, serves on.
 static int begin_log(struct store *store, struct writing *writing) {
-    store_take(store);
-    store_write_taken(store);
     writing->former_bytes = store->logged;
     int fault = store->records || !store->fault ? store_next_log(store, &writing->former) : 0;
     writing->number = store->number;
-    return fault ? fault : freeze(store, writing);
+    if (!fault && writing->former.file >= 0) fault = store_end_log(store, &writing->former);
+    return fault;
 }
 
 static int begin(struct store *store, struct writing *writing) {
     requests_pause();
-    int fault = store_end_calls(store);
     pthread_mutex_lock(&store->writing);
-    if (!fault) fault = store->snapshots ? EBUSY : begin_log(store, writing);
+    int fault = take_and_freeze(store, writing);
     requests_go_on();
-    int other = writing->former.file >= 0 ? store_end_log(store, &writing->former) : 0;
+    writing->number = store->number;
+    store_write_taken(store);
+    if (!fault) fault = begin_log(store, writing);
+    writing->failures = store->failures;
     pthread_mutex_unlock(&store->writing);
-    return fault ? fault : other;
+    return fault;
 }
 
 static int open_image(const struct store *store, struct writing *writing) {
@@ -111,12 +119,16 @@ static void end_printing(struct writing *writing) {
     requests_go_on();
 }
 
-// Changes are done again where they were refused: all that was answered before lies in the image.
+// Changes are done again where they were refused: all that was answered before lies in the image. What its own log lost
+// since it began takes another image.
 static void succeed(struct store *store, const struct writing *writing) {
     pthread_mutex_lock(&store->writing);
     store_enough(store, writing->size);
-    if (store->fault) store_say(store, "changes are kept again");
-    store->fault = store->told = 0;
+    if (store->failures == writing->failures) {
+        if (store->fault) store_say(store, "changes are kept again");
+        store->fault = 0;
+    }
+    store->told = 0;
     pthread_mutex_unlock(&store->writing);
     store_clear(store, writing->number);
 }

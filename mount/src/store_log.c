@@ -1,4 +1,5 @@
 // The log of a store on the disk: what is written to it, and when it is synced.
+#define _GNU_SOURCE
 #include "store_calls.h"
 #include "store_inside.h"
 #include <errno.h>
@@ -7,7 +8,13 @@
 #include <string.h>
 #include <unistd.h>
 
-enum { WRITTEN_AT_ONCE = 1 << 20, ROOM_KEPT = 8 << 20, ZEROS_AHEAD = 1 << 20, RECORDS_OF_A_LOG = 40 };
+enum {
+    WRITTEN_AT_ONCE = 1 << 20,
+    ROOM_KEPT = 8 << 20,
+    ZEROS_AHEAD = 1 << 20,
+    ENOUGH_TO_SHARE = 1 << 19,
+    RECORDS_OF_A_LOG = 40,
+};
 
 uint64_t store_record(uint64_t log, uint64_t index) { return log << RECORDS_OF_A_LOG | index; }
 
@@ -53,48 +60,90 @@ static void fill_ahead(struct store *store) {
         if (write_at(store->log, zeros, sizeof zeros, store->room)) return;
 }
 
-static int put_record(struct store *store, const char *body, size_t length) {
-    return calls_seal(&store->out, store_record(store->number, store->records++), body, length);
-}
-
 // A record of no calls is a mark: all that lies before it was on the disk. So who finds a record before it that is not
 // whole knows that the disk lost it.
-static int put_mark(struct store *store) { return store->is_synced && store->records ? put_record(store, "", 0) : 0; }
-
-static void clear_bytes(struct bytes *bytes) {
-    if (bytes->room > ROOM_KEPT) bytes_free(bytes);
-    bytes->length = 0;
+static int put_mark(struct store *store) {
+    struct seal seal;
+    if (!store->is_synced || !store->records) return 0;
+    int fault = calls_seal(&seal, store_record(store->number, store->records), "", 0);
+    if (!fault) fault = calls_put(&store->out, &seal, "", 0);
+    store->records += !fault;
+    return fault;
 }
 
-static void clear(struct queue *queue) {
-    clear_bytes(&queue->calls);
-    clear_bytes(&queue->ends);
+// The records of a queue, of which each has a seal.
+struct sealing {
+    const struct store *store;
+    const struct queue *queue;
+    struct seal *seals;
+    size_t count;
+    _Atomic int fault;
+};
+
+// The calls of a record.
+static const char *calls_of(const struct queue *queue, size_t index, size_t *length) {
+    const size_t *ends = (const size_t *)queue->ends.at;
+    size_t from = index ? ends[index - 1] : 0;
+    *length = ends[index] - from;
+    return queue->calls.at + from;
 }
 
-void store_take(struct store *store) {
-    struct queue empty = store->taken;
-    store->taken = store->queue;
-    store->queue = empty;
+static void seal_one(void *self, size_t index) {
+    struct sealing *sealing = self;
+    const struct store *store = sealing->store;
+    size_t length;
+    const char *calls = calls_of(sealing->queue, index, &length);
+    int fault = calls_seal(&sealing->seals[index], store_record(store->number, store->records + index), calls, length);
+    if (fault) sealing->fault = fault;
 }
 
-static int write_records(struct store *store) {
-    const size_t *ends = (const size_t *)store->taken.ends.at;
-    size_t count = store->taken.ends.length / sizeof *ends, from = 0;
-    int fault = count ? put_mark(store) : 0;
-    for (size_t i = 0; !fault && i < count; i++) {
-        fault = put_record(store, store->taken.calls.at + from, ends[i] - from);
-        from = ends[i];
+// Those of a large queue the crew shares.
+static int seal_all(struct store *store, struct sealing *sealing) {
+    struct work work = {seal_one, sealing, sealing->count, 0};
+    store->seals.length = 0;
+    if (bytes_reserve(&store->seals, sealing->count * sizeof *sealing->seals)) return ENOMEM;
+    sealing->seals = (struct seal *)store->seals.at;
+    if (sealing->queue->calls.length >= ENOUGH_TO_SHARE) crew_do(&store->crew, &work);
+    else
+        for (size_t i = 0; i < sealing->count; i++) seal_one(sealing, i);
+    return sealing->fault;
+}
+
+static int put_records(struct store *store, const struct sealing *sealing) {
+    int fault = 0;
+    for (size_t i = 0; !fault && i < sealing->count; i++) {
+        size_t length;
+        const char *calls = calls_of(sealing->queue, i, &length);
+        fault = calls_put(&store->out, &sealing->seals[i], calls, length);
+        store->records += !fault;
         if (!fault && store->out.length >= WRITTEN_AT_ONCE) fault = write_out(store);
     }
     return fault || !store->out.length ? fault : write_out(store);
 }
 
+static int write_queue(struct store *store, const struct queue *queue) {
+    struct sealing sealing = {store, queue, 0, queue->ends.length / sizeof(size_t), 0};
+    int fault = sealing.count ? put_mark(store) : 0;
+    if (!fault) fault = seal_all(store, &sealing);
+    return fault ? fault : put_records(store, &sealing);
+}
+
 int store_write_taken(struct store *store) {
-    int fault = store->fault ? store->fault : write_records(store);
-    clear(&store->taken);
+    const struct queue *queue;
+    int fault = store->fault;
+    while ((queue = store_first_taken(store))) {
+        if (!fault) fault = write_queue(store, queue);
+        store_drop_taken(store);
+    }
     store->out.length = 0;
+    if (store->out.room > ROOM_KEPT) bytes_free(&store->out);
     if (fault && !store->fault) fail(store, fault);
     return fault ? EIO : 0;
+}
+
+// The disk is at work already when the sync comes.
+void store_begin_sync(struct store *store) {
+    if (!store->fault) sync_file_range(store->log, 0, 0, SYNC_FILE_RANGE_WRITE);
 }
 
 int store_sync_taken(struct store *store) {

@@ -62,6 +62,8 @@ struct way {
     int (*data)(void *self, struct place at, uint64_t offset, struct run *out);
     // Does at most so many steps that move waiting changes down: how many, and 0 where the file system sees to them.
     unsigned (*relieve)(void *self, unsigned steps);
+    // How many such steps are due behind the changes that were made.
+    unsigned (*owes)(void *self);
     // Ends the file system and frees `self`. Where an image is wanted, that of the live tree is put there first; it is
     // whole where the answer is 0.
     int (*close)(void *self, struct image *image);
