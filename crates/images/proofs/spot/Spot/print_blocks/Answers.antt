@@ -26,3 +26,6 @@ pub returns-in_default-clause-rest : goal.returns-in_default-clause-rest
 returns-in_default-clause-rest c = λ t mean at short.
     let are = c.in_ok-number.ensures.block t (subst (λ r. MeanRooted r t) (sym c.lines.invariant.tree) mean) in
     blocks_passed (entry_at t c.lines.self.last) c.lines.self.from (subst (λ bs. AreBlocksAt (entry_at t c.lines.self.last) c.lines.self.from 1 bs) (ap option_to_list c.in_default.is) are)
+
+pub returns-then-from-ge-len-clause-rest : goal.returns-then-from-ge-len-clause-rest
+returns-then-from-ge-len-clause-rest c = λ t mean at ends short. ?
