@@ -29,27 +29,10 @@ use Rattle.reference.proofs.OneImage.{letters_differ}
 use Rattle.images.specs.Image.{directory_text, file_text}
 use Rattle.images.specs.ImageLines.{CutsMoment, Guesses, IsRoot}
 use Rattle.lines.specs.Values.{is_decimal, number_of, path_of}
-use Rattle.lines.proofs.Written.{all_visible, decode_byte, digits_told, number_told}
+use Rattle.lines.proofs.Written.{all_visible, digits_told, number_told, path_read}
 use Rattle.images.specs.declared.image_line.ImageLine.TheVariants.{Directory, File, Block}
 
 -- ---- a path in percent form
-
-decode_name : (n : Name) (rest : Text) → HasNameBytes n → percent_decode (flat_map percent n ++ rest) ≡ n ++ percent_decode rest
-decode_name [] rest h = refl
-decode_name (b ∷ n) rest h =
-    ap percent_decode (append_assoc (percent b) (flat_map percent n) rest)
-    ∙ decode_byte b (flat_map percent n ++ rest) h.1
-    ∙ ap (λ (t : Text). b ∷ t) (decode_name n rest h.3)
-
-decode_path : (p : Path) → EachName p → percent_decode (path_text p) ≡ slashed p
-decode_path [] h = percent_decode-nil
-decode_path (n ∷ p) h =
-    percent_decode_not_percent 47 (flat_map percent n ++ path_text p) (λ e. omega arith)
-    ∙ ap (λ (t : Text). 47 ∷ t) (decode_name n (path_text p) h.0.bytes ∙ ap (λ (t : Text). n ++ t) (decode_path p h.1))
-
-pub path_read : (p : Path) → IsPath p → p ≢ [] → path_of (path_text p) ≡ Ok p
-path_read [] h ne = absurd (ne refl)
-path_read (n ∷ p) h ne = ap parsed (decode_path (n ∷ p) h.names) ∙ read_back (n ∷ p) h
 
 -- what is read of the spelling of a path: the path, or want of memory
 pub path_spelled : (word : Text) (p q : Path) (r : Result Path Errno) (guess : Option Path) → (r ≡ path_of word) ⊎ (r ≡ Err ENOMEM) → r ≡ Ok q → IsPath p → p ≢ [] → word ≡ path_text p → (q ≢ [] → guess ≡ Some q) → guess ≡ Some p

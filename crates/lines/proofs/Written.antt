@@ -1,5 +1,5 @@
 -- Words as they are written, read back.
-use Rattle.std.proofs.Common.{◌≡◌, ◌≢◌, ⊎_elim, ℕ, ◌/◌, ◌%◌, ◌^◌, ◌<◌, ◌≤◌, List, [], ◌∷◌, ◌++◌, length, get_or, true, false, cond, ◌==◌, ◌&&◌, nat_lt, refl, sym, ap, ◌∙◌, arith, Some, Ok, decimal, flat_map, codes, All}
+use Rattle.std.proofs.Common.{◌≡◌, ◌≢◌, ⊎_elim, ℕ, ◌/◌, ◌%◌, ◌^◌, ◌<◌, ◌≤◌, List, [], ◌∷◌, ◌++◌, length, get_or, true, false, cond, ◌==◌, ◌&&◌, nat_lt, refl, sym, ap, ◌∙◌, arith, append_assoc, Some, Ok, decimal, flat_map, codes, All}
 use Rattle.std.specs.Prelude.{bytes_eq}
 use Rattle.std.specs.List.{list_all}
 use Rattle.std.specs.Char.{is_ascii_digit}
@@ -13,10 +13,13 @@ use Rattle.hex.proofs.HexLemmas.{decode_of-encode_lower}
 use Rattle.percent_encoding.specs.Percent.{percent_decode, percent_encode_byte}
 use Rattle.percent_encoding.proofs.PercentLemmas.{percent_decode-nil, percent_decode-percent_encode_byte, percent_decode_not_percent}
 use Rattle.pathkey.specs.Heads.{AreBytes}
-use Rattle.reference.specs.Image.{Text, digit, two_digits, percent}
+use Rattle.pathkey.specs.Names.{Name, Path, IsPath, EachName, HasNameBytes}
+use Rattle.pathkey.specs.Texts.{parsed, slashed}
+use Rattle.pathkey.proofs.TextFacts.{read_back}
+use Rattle.reference.specs.Image.{Text, digit, path_text, percent, two_digits}
 use Rattle.reference.proofs.ImageTexts.{Visible, hex_visible, percent_cases}
 use Rattle.lines.specs.Texts.{hex_text}
-use Rattle.lines.specs.Values.{bytes_of, is_decimal, number_of}
+use Rattle.lines.specs.Values.{bytes_of, is_decimal, number_of, path_of}
 use Rattle.lines.proofs.HexFacts.{encoded}
 use Rattle.lines.proofs.ValueFacts.{bytes_decoded, own}
 
@@ -48,7 +51,7 @@ escaped_byte : (b : ℕ) → b < 256 → 37 ∷ two_digits 55 b ≡ percent_enco
 unfolding percent_encode_byte
 escaped_byte b h = ap (λ (d : ℕ). 37 ∷ digit 55 d ∷ digit 55 (b % 16) ∷ []) (let e : b / 16 ≡ b / 16 % 16 = omega arith in e)
 
-pub decode_byte : (b : ℕ) (rest : Text) → b < 256 → percent_decode (percent b ++ rest) ≡ b ∷ percent_decode rest
+decode_byte : (b : ℕ) (rest : Text) → b < 256 → percent_decode (percent b ++ rest) ≡ b ∷ percent_decode rest
 decode_byte b rest h = ⊎_elim
     (λ (f : percent b ≡ 37 ∷ two_digits 55 b). ap (λ (t : Text). percent_decode (t ++ rest)) (f ∙ escaped_byte b h) ∙ percent_decode-percent_encode_byte b rest h)
     (λ (f : (33 ≤ b) × (b ≢ 37) × (percent b ≡ b ∷ [])). ap (λ (t : Text). percent_decode (t ++ rest)) f.2 ∙ percent_decode_not_percent b rest f.1)
@@ -58,6 +61,26 @@ decode_byte b rest h = ⊎_elim
 pub name_told : (n : List ℕ) → AreBytes n → percent_decode (flat_map percent n) ≡ n
 name_told [] h = percent_decode-nil
 name_told (b ∷ n) h = decode_byte b (flat_map percent n) h.0 ∙ ap (λ (t : Text). b ∷ t) (name_told n h.1)
+
+-- ---- paths
+
+decode_name : (n : Name) (rest : Text) → HasNameBytes n → percent_decode (flat_map percent n ++ rest) ≡ n ++ percent_decode rest
+decode_name [] rest h = refl
+decode_name (b ∷ n) rest h =
+    ap percent_decode (append_assoc (percent b) (flat_map percent n) rest)
+    ∙ decode_byte b (flat_map percent n ++ rest) h.1
+    ∙ ap (λ (t : Text). b ∷ t) (decode_name n rest h.3)
+
+decode_path : (p : Path) → EachName p → percent_decode (path_text p) ≡ slashed p
+decode_path [] h = percent_decode-nil
+decode_path (n ∷ p) h =
+    percent_decode_not_percent 47 (flat_map percent n ++ path_text p) (λ e. omega arith)
+    ∙ ap (λ (t : Text). 47 ∷ t) (decode_name n (path_text p) h.0.bytes ∙ ap (λ (t : Text). n ++ t) (decode_path p h.1))
+
+-- the path whose names a word writes
+pub path_read : (p : Path) → IsPath p → p ≢ [] → path_of (path_text p) ≡ Ok p
+path_read [] h ne = absurd (ne refl)
+path_read (n ∷ p) h ne = ap parsed (decode_path (n ∷ p) h.names) ∙ read_back (n ∷ p) h
 
 -- ---- bytes
 
