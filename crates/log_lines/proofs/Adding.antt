@@ -1,7 +1,8 @@
 -- Lines that tell one change after the other.
-use Rattle.std.proofs.Common.{◌≡◌, ◌≢◌, inl, inr, ℕ, zero, suc, ◌+◌, ◌<◌, List, [], ◌∷◌, ◌++◌, length, get_or, map, true, refl, sym, ap, subst, ◌∙◌, append_assoc, append-nil, arith}
+use Rattle.std.proofs.Common.{◌≡◌, ◌≢◌, inl, inr, ℕ, zero, suc, ◌+◌, ◌<◌, List, [], ◌∷◌, ◌++◌, length, get_or, map, take, true, refl, sym, ap, subst, ◌∙◌, append_assoc, append-nil, arith}
 use Rattle.std.specs.List.{AllByRecursion}
 use Rattle.std.proofs.lemmas.Grind.{flat_map-append}
+use Rattle.std.proofs.lemmas.List.{take_more}
 use Rattle.pathkey.specs.Names.{Path}
 use Rattle.reference.specs.Image.{Text}
 use Rattle.logs.specs.declared.change.Change.{Change}
@@ -116,6 +117,10 @@ adds_more cs c a b d all one = record {
   fit = all_more Fits all.told one.told all.fit one.fit;
   added = one.added ∙ ap (λ (l : Text). l ++ script one.told) all.added ∙ append_assoc a (script all.told) (script one.told) ∙ ap (λ (l : Text). a ++ l) (sym (flat_map-append line all.told one.told));
 }
+
+-- the next of a list
+pub adds_next : (cs : List Change) (i : ℕ) (c : Change) (a b d : Text) → i < length cs → c ≡ get_or cs i c → AddsAll (take i cs) a b → Adds c b d → AddsAll (take (i + 1) cs) a d
+adds_next cs i c a b d lt is all one = subst (λ (xs : List Change). AddsAll xs a d) (sym (take_more cs i c lt ∙ ap (λ (x : Change). take i cs ++ x ∷ []) (sym is))) (adds_more (take i cs) c a b d all one)
 
 -- a change that reaches too far
 pub far_there : (cs : List Change) (i : ℕ) (c : Change) → i < length cs → c ≡ get_or cs i c → is_far c ≡ true → HasFar cs

@@ -1,11 +1,12 @@
 -- What the lines of a script tell of the changes of a log.
-use Rattle.std.specs.Prelude.{◌≡◌, ◌≢◌, ◌⊎◌, ◌+◌, ◌^◌, ◌≤◌, nat_le, ℕ, List, [], ◌∷◌, ◌++◌, length, map, codes, Bool, true, false, Some, Ok, ⊤}
+use Rattle.std.specs.Prelude.{◌≡◌, ◌≢◌, ◌⊎◌, ◌+◌, ◌^◌, ◌≤◌, nat_le, ℕ, List, [], ◌∷◌, ◌++◌, length, map, codes, Bool, true, false, Some, Result, Ok, Err, ⊤}
 use Rattle.pathkey.specs.Names.{Path}
 use Rattle.pathkey.specs.declared.errno.Errno.{Errno}
 use Rattle.pathkey.specs.declared.errno.Errno.TheVariants.{EFBIG, ENOMEM}
 use Rattle.lines.specs.Lines.{lines_of, words_of}
 use Rattle.lines.specs.Values.{bytes_of, number_of, path_of}
 use Rattle.logs.specs.Entries.{RefusesBody, body_of}
+use Rattle.logs.specs.Lays.{laid}
 use Rattle.logs.specs.declared.change.Change.{Change}
 use Rattle.logs.specs.declared.change.Change.TheVariants.{OnPath, Rename, Truncate, Write, Punch, Keep}
 use Rattle.log_lines.specs.Lines.{Told, At, Makes, call_word, keeping_word}
@@ -69,3 +70,8 @@ RefusesTelling cs e = ((e ≡ EFBIG) × HasFar cs) ⊎ (e ≡ ENOMEM)
 -- why a body is not told: it is none, or a write of it reaches too far, or memory was refused
 abbrev pub RefusesLines : List ℕ → Errno → Type 0
 RefusesLines body e = RefusesBody body e ⊎ ((e ≡ EFBIG) × (cs : List Change) × (body ≡ body_of cs) × HasFar cs)
+
+-- the lines of a body are in the buffer where they fit, and this is how many bytes they have; or it is refused, and nothing changed
+abbrev pub LaysLines : List ℕ → Result ℕ Errno → List ℕ → List ℕ → Type 0
+LaysLines body (Ok n) old new = (text : List ℕ) × IsScriptOf body text × (n ≡ length text) × (new ≡ laid text old)
+LaysLines body (Err e) old new = RefusesLines body e × (new ≡ old)

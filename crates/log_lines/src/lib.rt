@@ -5,4 +5,4 @@ mod lay;
 mod spell;
 pub mod tell;
 
-pub use tell::log_lines;
+pub use tell::{lay_log_lines, log_lines};

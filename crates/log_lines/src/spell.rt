@@ -1,5 +1,5 @@
 //! One line of a script.
-ghost use Rattle.std.specs.Prelude.{◌≡◌, ◌++◌, ℕ, OnOk};
+ghost use Rattle.std.specs.Prelude.{◌≡◌, ◌≤◌, ◌++◌, ℕ, OnOk, length};
 ghost use Rattle.logs.specs.Entries.{IsWord};
 ghost use Rattle.logs.specs.declared.change.Change.{Change};
 ghost use Rattle.logs.specs.declared.change.Change.TheVariants.{OnPath, Rename, Truncate, Write, Punch, Keep};
@@ -7,9 +7,9 @@ ghost use Rattle.log_lines.specs.Added.{AddsLine};
 ghost use Rattle.log_lines.specs.Lines.{At, Makes, call_word, keeping_word, path_word};
 ghost use Rattle.pathkey.specs.Names.{IsPath};
 
-use logs::{Keeping, PathChange};
 use lines::output::{WriteFailed, put};
 use lines::text::{put_hex, put_number, put_number_line, put_path};
+use logs::{Keeping, PathChange};
 use pathkey::{Path, SnapName};
 
 // Adds the line of a moment.
@@ -20,7 +20,11 @@ pub(crate) fn put_moment(text: &mut Vec<u8>, at: u64) -> Result<(), WriteFailed>
 }
 
 // Adds the line of what is made or taken out at a path.
-pub(crate) fn put_on_path(text: &mut Vec<u8>, what: PathChange, path: &Path) -> Result<(), WriteFailed>
+pub(crate) fn put_on_path(
+    text: &mut Vec<u8>,
+    what: PathChange,
+    path: &Path,
+) -> Result<(), WriteFailed>
     ensures { OnOk result ((at : ℕ) → IsWord at → AddsLine (Makes (OnPath what path.now at)) text.old.items text.new.items) }
 {
     put(text, call_word(what))?;
@@ -58,6 +62,7 @@ pub(crate) fn put_write(
     offset: u64,
     bytes: &[u8],
 ) -> Result<(), WriteFailed>
+    requires { length bytes.now ≤ 28672 }
     ensures { OnOk result ((at : ℕ) → IsWord at → AddsLine (Makes (Write path.now offset bytes.now at)) text.old.items text.new.items) }
 {
     put(text, b"write ")?;
@@ -88,7 +93,11 @@ pub(crate) fn put_hole(
 }
 
 // Adds the line of what becomes of the snapshot of a name.
-pub(crate) fn put_keep(text: &mut Vec<u8>, what: Keeping, name: &SnapName) -> Result<(), WriteFailed>
+pub(crate) fn put_keep(
+    text: &mut Vec<u8>,
+    what: Keeping,
+    name: &SnapName,
+) -> Result<(), WriteFailed>
     ensures { OnOk result (AddsLine (Makes (Keep what name.now)) text.old.items text.new.items) }
 {
     put(text, keeping_word(what))?;

@@ -1,7 +1,8 @@
 //! Tells a body as lines of a script.
-ghost use Rattle.std.specs.Prelude.{MatchResult, OnOk, IfErr};
+ghost use Rattle.std.specs.Prelude.{◌≡◌, MatchResult, OnOk, IfErr};
+ghost use Rattle.logs.specs.Lays.{laid};
 ghost use Rattle.log_lines.specs.Added.{AddsAll};
-ghost use Rattle.log_lines.specs.Told.{IsScriptOf, RefusesLines, RefusesTelling};
+ghost use Rattle.log_lines.specs.Told.{IsScriptOf, LaysLines, RefusesLines, RefusesTelling};
 
 use crate::lay::{is_far, put_change};
 use logs::{Change, read_changes};
@@ -20,6 +21,24 @@ pub fn log_lines(alloc: Global, body: &[u8]) -> Result<Vec<u8>, Errno>
     match put_changes(&mut text, changes.as_slice()) {
         Ok(()) => Ok(text),
         Err(fault) => Err(fault),
+    }
+}
+
+/// The same lines in a buffer: how many bytes they have, which are written where the buffer has room for all of them.
+pub fn lay_log_lines(alloc: Global, body: &[u8], out: &mut [u8]) -> Result<usize, Errno>
+    ensures { LaysLines body.now result out.old out.new }
+{
+    let text = log_lines(alloc, body)?;
+    lay(text.as_slice(), out);
+    Ok(text.len())
+}
+
+// Lays a text into the front of a buffer, where it has room for it.
+fn lay(text: &[u8], out: &mut [u8])
+    ensures { out.new ≡ laid text.now out.old }
+{
+    if text.len() <= out.len() {
+        out[..text.len()].copy_from_slice(text);
     }
 }
 
