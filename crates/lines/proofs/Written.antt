@@ -82,6 +82,10 @@ pub path_read : (p : Path) → IsPath p → p ≢ [] → path_of (path_text p) �
 path_read [] h ne = absurd (ne refl)
 path_read (n ∷ p) h ne = ap parsed (decode_path (n ∷ p) h.names) ∙ read_back (n ∷ p) h
 
+-- a slash is the root
+pub root_read : path_of (47 ∷ []) ≡ Ok []
+root_read = ap parsed (percent_decode_not_percent 47 [] (λ e. omega arith) ∙ ap (λ (t : Text). 47 ∷ t) percent_decode-nil)
+
 -- ---- bytes
 
 are_small : (b : List ℕ) → AreBytes b → IsBytes b

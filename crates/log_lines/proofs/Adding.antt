@@ -1,5 +1,5 @@
 -- Lines that tell one change after the other.
-use Rattle.std.proofs.Common.{◌≡◌, ◌≢◌, inl, inr, ℕ, zero, suc, ◌+◌, ◌<◌, List, [], ◌∷◌, ◌++◌, length, get_or, map, take, true, refl, sym, ap, subst, ◌∙◌, append_assoc, append-nil, arith}
+use Rattle.std.proofs.Common.{◌≡◌, ◌≢◌, inl, inr, ℕ, zero, suc, ◌+◌, ◌<◌, List, [], ◌∷◌, ◌++◌, length, get_or, map, take, drop, true, refl, sym, ap, subst, ◌∙◌, append_assoc, append-nil, arith, take-append-drop}
 use Rattle.std.specs.List.{AllByRecursion}
 use Rattle.std.proofs.lemmas.Grind.{flat_map-append}
 use Rattle.std.proofs.lemmas.List.{take_more}
@@ -77,8 +77,12 @@ map_more : (cs : List Change) (c : Change) → map Makes (cs ++ c ∷ []) ≡ ma
 map_more [] c = refl
 map_more (d ∷ cs) c = ap (λ (ts : List Told). Makes d ∷ ts) (map_more cs c)
 
+-- what is left, cut in two
+pub rest_cut : (rest part behind : List ℕ) (n : ℕ) → part ≡ take n rest → behind ≡ drop n rest → rest ≡ part ++ behind
+rest_cut rest part behind n front back = sym (take-append-drop n rest) ∙ ap (λ (x : List ℕ). x ++ drop n rest) (sym front) ∙ ap (λ (x : List ℕ). part ++ x) (sym back)
+
 module _ (p : Path) (off : ℕ) (w : List ℕ) (at from : ℕ) (rest part behind : List ℕ) (a b c : Text) (so_far : Partly p off w at from rest a b) (split : rest ≡ part ++ behind) (one : AddsLine (Makes (Write p from part at)) b c) where
-  this : Change
+  abbrev this : Change
   this = Write p from part at
 
   more_fit : AllByRecursion Fits (map Makes (so_far.writes ++ this ∷ []))

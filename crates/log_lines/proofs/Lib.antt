@@ -1,3 +1,4 @@
 mod Reading
 mod Adding
 mod Spelling
+mod Telling

@@ -5,10 +5,8 @@ use Rattle.std.proofs.lemmas.Bool.{and_parts, leb-true}
 use Rattle.std.proofs.lemmas.Bool.Decides.{nat_tests}
 use Rattle.std.proofs.lemmas.Fmt.{length-decimal-le}
 use Rattle.std.proofs.lemmas.List.Elements.{All-from_recursion}
-use Rattle.percent_encoding.proofs.PercentLemmas.{percent_decode-nil, percent_decode_not_percent}
 use Rattle.pathkey.specs.Names.{Name, Path, IsPath, text_len}
 use Rattle.pathkey.specs.SnapNames.{is_snap_byte, is_snap_name}
-use Rattle.pathkey.specs.Texts.{parsed}
 use Rattle.pathkey.proofs.Pieces.{pieces_cut}
 use Rattle.reference.specs.Image.{Text, path_text, percent, two_digits}
 use Rattle.reference.proofs.ImageTexts.{Visible, decimal_visible, path_visible, percent_cases}
@@ -16,7 +14,7 @@ use Rattle.lines.specs.Lines.{lines_of, words_of}
 use Rattle.lines.specs.Texts.{hex_text}
 use Rattle.lines.specs.Values.{bytes_of, number_of, path_of}
 use Rattle.lines.proofs.WordFacts.{more_words, one_word}
-use Rattle.lines.proofs.Written.{all_visible, bytes_told, hex_text_visible, number_told, path_read}
+use Rattle.lines.proofs.Written.{all_visible, bytes_told, hex_text_visible, number_told, path_read, root_read}
 use Rattle.logs.specs.Entries.{IsWord}
 use Rattle.logs.specs.declared.change.Change.{Change}
 use Rattle.logs.specs.declared.change.Change.TheVariants.{OnPath, Rename, Truncate, Write, Punch, Keep}
@@ -103,7 +101,7 @@ four_words : (w x y z : Text) → Visible w → Visible x → Visible y → Visi
 four_words w x y z t u v s = more_words (w ++ 32 ∷ (x ++ 32 ∷ (y ++ 32 ∷ z))) w (x ++ 32 ∷ (y ++ 32 ∷ z)) refl (no_space w t) ∙ ap (λ ws. w ∷ ws) (three_words x y z u v s)
 
 path_word_read : (p : Path) → IsPath p → path_of (path_word p) ≡ Ok p
-path_word_read [] is = ap parsed (percent_decode_not_percent 47 [] (λ e. omega arith) ∙ ap (λ (t : Text). 47 ∷ t) percent_decode-nil)
+path_word_read [] is = root_read
 path_word_read (n ∷ p) is = path_read (n ∷ p) is (λ e. cc)
 
 number_read : (n : ℕ) → IsWord n → number_of (decimal n) ≡ Some n
@@ -113,31 +111,31 @@ number_read n h = number_told (decimal n) n h refl
 
 pub is_read : (t : Told) → Fits t → IsRead (spelled t) t
 is_read (At n) h = (decimal n, two_words (codes "at") (decimal n) (seen (codes "at") refl) (decimal_visible n h), number_read n h)
-is_read (Makes (OnPath what p at)) h = (path_word p, two_words (call_word what) (path_word p) (call_visible what) (path_word_visible p), path_word_read p h.0.0)
+is_read (Makes (OnPath what p at)) h = (path_word p, two_words (call_word what) (path_word p) (call_visible what) (path_word_visible p), path_word_read p h)
 is_read (Makes (Rename o n at)) h =
-    (path_word o, path_word n, three_words (codes "rename") (path_word o) (path_word n) (seen (codes "rename") refl) (path_word_visible o) (path_word_visible n), path_word_read o h.0.0, path_word_read n h.0.1)
+    (path_word o, path_word n, three_words (codes "rename") (path_word o) (path_word n) (seen (codes "rename") refl) (path_word_visible o) (path_word_visible n), path_word_read o h.0, path_word_read n h.1)
 is_read (Makes (Truncate p len at)) h =
-    (path_word p, decimal len, three_words (codes "truncate") (path_word p) (decimal len) (seen (codes "truncate") refl) (path_word_visible p) (decimal_visible len h.0.1), path_word_read p h.0.0, number_read len h.0.1)
+    (path_word p, decimal len, three_words (codes "truncate") (path_word p) (decimal len) (seen (codes "truncate") refl) (path_word_visible p) (decimal_visible len h.1), path_word_read p h.0, number_read len h.1)
 is_read (Makes (Write p off w at)) h = (
   path_word p,
   decimal off,
   hex_text w,
-  four_words (codes "write") (path_word p) (decimal off) (hex_text w) (seen (codes "write") refl) (path_word_visible p) (decimal_visible off h.0.1) (hex_text_visible w),
-  path_word_read p h.0.0,
-  number_read off h.0.1,
-  sym (bytes_told w h.1.0),
+  four_words (codes "write") (path_word p) (decimal off) (hex_text w) (seen (codes "write") refl) (path_word_visible p) (decimal_visible off h.1) (hex_text_visible w),
+  path_word_read p h.0,
+  number_read off h.1,
+  sym (bytes_told w h.2),
 )
 is_read (Makes (Punch p off n at)) h = (
   path_word p,
   decimal off,
   decimal n,
   more_words (spelled (Makes (Punch p off n at))) (codes "#") (codes "punch " ++ (path_word p ++ 32 ∷ (decimal off ++ 32 ∷ decimal n))) refl (no_space (codes "#") (seen (codes "#") refl))
-      ∙ ap (λ ws. codes "#" ∷ ws) (four_words (codes "punch") (path_word p) (decimal off) (decimal n) (seen (codes "punch") refl) (path_word_visible p) (decimal_visible off h.0.1) (decimal_visible n h.0.2)),
-  path_word_read p h.0.0,
-  number_read off h.0.1,
-  number_read n h.0.2,
+      ∙ ap (λ ws. codes "#" ∷ ws) (four_words (codes "punch") (path_word p) (decimal off) (decimal n) (seen (codes "punch") refl) (path_word_visible p) (decimal_visible off h.1) (decimal_visible n h.2)),
+  path_word_read p h.0,
+  number_read off h.1,
+  number_read n h.2,
 )
-is_read (Makes (Keep what s)) h = two_words (keeping_word what) s (keeping_visible what) (snap_visible s (and_parts _ _ h.0).1)
+is_read (Makes (Keep what s)) h = two_words (keeping_word what) s (keeping_visible what) (snap_visible s (and_parts _ _ h).1)
 
 -- it fits a script
 call_short : (what : PathChange) → length (call_word what) ≤ 6
@@ -163,37 +161,37 @@ is_short (At n) h = let d = decimal_short n h in omega (arith, d)
 is_short (Makes (OnPath what p at)) h =
     let l = spaced_length (call_word what) (path_word p) in
     let w = call_short what in
-    let a = path_word_short p h.0.0 in
+    let a = path_word_short p h in
     omega (arith, l, w, a)
 is_short (Makes (Rename o n at)) h =
     let l = spaced_length (path_word o) (path_word n) in
-    let a = path_word_short o h.0.0 in
-    let b = path_word_short n h.0.1 in
+    let a = path_word_short o h.0 in
+    let b = path_word_short n h.1 in
     omega (arith, l, a, b)
 is_short (Makes (Truncate p len at)) h =
     let l = spaced_length (path_word p) (decimal len) in
-    let a = path_word_short p h.0.0 in
-    let d = decimal_short len h.0.1 in
+    let a = path_word_short p h.0 in
+    let d = decimal_short len h.1 in
     omega (arith, l, a, d)
 is_short (Makes (Write p off w at)) h =
     let l = spaced_length (path_word p) (decimal off ++ 32 ∷ hex_text w) in
     let k = spaced_length (decimal off) (hex_text w) in
-    let a = path_word_short p h.0.0 in
-    let d = decimal_short off h.0.1 in
+    let a = path_word_short p h.0 in
+    let d = decimal_short off h.1 in
     let x = hex_short w in
-    let few = h.1.1 in
+    let few = h.3 in
     omega (arith, l, k, a, d, x, few)
 is_short (Makes (Punch p off n at)) h =
     let l = spaced_length (path_word p) (decimal off ++ 32 ∷ decimal n) in
     let k = spaced_length (decimal off) (decimal n) in
-    let a = path_word_short p h.0.0 in
-    let d = decimal_short off h.0.1 in
-    let e = decimal_short n h.0.2 in
+    let a = path_word_short p h.0 in
+    let d = decimal_short off h.1 in
+    let e = decimal_short n h.2 in
     omega (arith, l, k, a, d, e)
 is_short (Makes (Keep what s)) h =
     let l = spaced_length (keeping_word what) s in
     let w = keeping_short what in
-    let a = snap_short s h.0 in
+    let a = snap_short s h in
     omega (arith, l, w, a)
 
 -- it has no line feed
@@ -220,15 +218,15 @@ all_unbroken (Makes (OnPath what p at)) h = spaced (call_word what) (path_word p
 all_unbroken (Makes (Rename o n at)) h =
     spaced (codes "rename") (path_word o ++ 32 ∷ path_word n) (unbroken (codes "rename") (seen (codes "rename") refl)) (spaced (path_word o) (path_word n) (path_unbroken o) (path_unbroken n))
 all_unbroken (Makes (Truncate p len at)) h =
-    spaced (codes "truncate") (path_word p ++ 32 ∷ decimal len) (unbroken (codes "truncate") (seen (codes "truncate") refl)) (spaced (path_word p) (decimal len) (path_unbroken p) (decimal_unbroken len h.0.1))
+    spaced (codes "truncate") (path_word p ++ 32 ∷ decimal len) (unbroken (codes "truncate") (seen (codes "truncate") refl)) (spaced (path_word p) (decimal len) (path_unbroken p) (decimal_unbroken len h.1))
 all_unbroken (Makes (Write p off w at)) h =
     spaced (codes "write") (path_word p ++ 32 ∷ (decimal off ++ 32 ∷ hex_text w)) (unbroken (codes "write") (seen (codes "write") refl))
-    (spaced (path_word p) (decimal off ++ 32 ∷ hex_text w) (path_unbroken p) (spaced (decimal off) (hex_text w) (decimal_unbroken off h.0.1) (unbroken (hex_text w) (hex_text_visible w))))
+    (spaced (path_word p) (decimal off ++ 32 ∷ hex_text w) (path_unbroken p) (spaced (decimal off) (hex_text w) (decimal_unbroken off h.1) (unbroken (hex_text w) (hex_text_visible w))))
 all_unbroken (Makes (Punch p off n at)) h =
     spaced (codes "#") (codes "punch " ++ (path_word p ++ 32 ∷ (decimal off ++ 32 ∷ decimal n))) (unbroken (codes "#") (seen (codes "#") refl))
     (spaced (codes "punch") (path_word p ++ 32 ∷ (decimal off ++ 32 ∷ decimal n)) (unbroken (codes "punch") (seen (codes "punch") refl))
-    (spaced (path_word p) (decimal off ++ 32 ∷ decimal n) (path_unbroken p) (spaced (decimal off) (decimal n) (decimal_unbroken off h.0.1) (decimal_unbroken n h.0.2))))
-all_unbroken (Makes (Keep what s)) h = spaced (keeping_word what) s (unbroken (keeping_word what) (keeping_visible what)) (unbroken s (snap_visible s (and_parts _ _ h.0).1))
+    (spaced (path_word p) (decimal off ++ 32 ∷ decimal n) (path_unbroken p) (spaced (decimal off) (decimal n) (decimal_unbroken off h.1) (decimal_unbroken n h.2))))
+all_unbroken (Makes (Keep what s)) h = spaced (keeping_word what) s (unbroken (keeping_word what) (keeping_visible what)) (unbroken s (snap_visible s (and_parts _ _ h).1))
 
 pub is_one : (t : Told) → Fits t → All (λ b. b ≢ 10) (spelled t)
 is_one t h = All-from_recursion (λ b. b ≢ 10) (spelled t) (all_unbroken t h)

@@ -1,24 +1,29 @@
 -- Lines that were added to a text.
-use Rattle.std.specs.Prelude.{◌≡◌, ◌≢◌, ◌≤◌, ℕ, List, [], ◌++◌, length, flat_map, map, ⊤}
+use Rattle.std.specs.Prelude.{◌≡◌, ◌≢◌, ◌≤◌, ℕ, List, [], ◌++◌, length, flat_map, map, true}
 use Rattle.std.specs.List.{AllByRecursion}
 use Rattle.pathkey.specs.Heads.{AreBytes}
-use Rattle.pathkey.specs.Names.{Path}
+use Rattle.pathkey.specs.Names.{Path, IsPath}
+use Rattle.pathkey.specs.SnapNames.{is_snap_name}
 use Rattle.reference.specs.Image.{Text}
-use Rattle.logs.specs.Entries.{IsChange, IsWord}
+use Rattle.logs.specs.Entries.{IsWord}
 use Rattle.logs.specs.declared.change.Change.{Change}
-use Rattle.logs.specs.declared.change.Change.TheVariants.{Write}
+use Rattle.logs.specs.declared.change.Change.TheVariants.{OnPath, Rename, Truncate, Write, Punch, Keep}
 use Rattle.log_lines.specs.Lines.{Told, At, Makes, line}
 use Rattle.log_lines.specs.Told.{AreParts, TellAll, Tells}
 
--- the bytes of a write are bytes, and as few as fit a line
-abbrev pub IsShort : Change → Type 0
-IsShort (Write p off w at) = AreBytes w × (length w ≤ 28672)
-IsShort _ = ⊤
+-- a line has room for the change: its paths and names are some, its numbers fit, and a write has few bytes
+abbrev pub HasRoom : Change → Type 0
+HasRoom (OnPath what p at) = IsPath p
+HasRoom (Rename o n at) = IsPath o × IsPath n
+HasRoom (Truncate p len at) = IsPath p × IsWord len
+HasRoom (Write p off w at) = IsPath p × IsWord off × AreBytes w × (length w ≤ 28672)
+HasRoom (Punch p off n at) = IsPath p × IsWord off × IsWord n
+HasRoom (Keep what s) = is_snap_name s ≡ true
 
--- there is such a moment, or such a change, and it fits a line
+-- the same of a moment
 abbrev pub Fits : Told → Type 0
 Fits (At n) = IsWord n
-Fits (Makes c) = IsChange c × IsShort c
+Fits (Makes c) = HasRoom c
 
 -- the lines of these, one behind the other
 abbrev pub script : List Told → Text

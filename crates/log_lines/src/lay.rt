@@ -2,7 +2,6 @@
 ghost use Rattle.std.specs.Prelude.{◌≡◌, ◌+◌, ◌^◌, ◌<◌, ℕ, OnOk, false, length};
 ghost use Rattle.log_lines.specs.Added.{Adds, AddsParts};
 ghost use Rattle.log_lines.specs.Told.{is_far};
-ghost use Rattle.logs.specs.Entries.{IsWord};
 
 use crate::spell::{
     put_hole, put_keep, put_moment, put_on_path, put_rename, put_truncate, put_write,
@@ -54,7 +53,7 @@ pub(crate) fn put_change(text: &mut Vec<u8>, change: &Change) -> Result<(), Writ
 // Adds the lines of a write, each of as many bytes as a line has room for.
 fn put_parts(text: &mut Vec<u8>, path: &Path, offset: u64, bytes: &[u8]) -> Result<(), WriteFailed>
     requires { offset + length bytes.now < 2 ^ 64 }
-    ensures { OnOk result ((at : ℕ) → IsWord at → AddsParts path.now offset bytes.now at text.old.items text.new.items) }
+    ensures { OnOk result ((at : ℕ) → AddsParts path.now offset bytes.now at text.old.items text.new.items) }
 {
     let mut from = offset;
     let mut rest = bytes;

@@ -1,6 +1,5 @@
 //! One line of a script.
 ghost use Rattle.std.specs.Prelude.{◌≡◌, ◌≤◌, ◌++◌, ℕ, OnOk, length};
-ghost use Rattle.logs.specs.Entries.{IsWord};
 ghost use Rattle.logs.specs.declared.change.Change.{Change};
 ghost use Rattle.logs.specs.declared.change.Change.TheVariants.{OnPath, Rename, Truncate, Write, Punch, Keep};
 ghost use Rattle.log_lines.specs.Added.{AddsLine};
@@ -25,7 +24,7 @@ pub(crate) fn put_on_path(
     what: PathChange,
     path: &Path,
 ) -> Result<(), WriteFailed>
-    ensures { OnOk result ((at : ℕ) → IsWord at → AddsLine (Makes (OnPath what path.now at)) text.old.items text.new.items) }
+    ensures { OnOk result ((at : ℕ) → AddsLine (Makes (OnPath what path.now at)) text.old.items text.new.items) }
 {
     put(text, call_word(what))?;
     put(text, b" ")?;
@@ -35,7 +34,7 @@ pub(crate) fn put_on_path(
 
 // Adds the line of a move.
 pub(crate) fn put_rename(text: &mut Vec<u8>, old: &Path, new: &Path) -> Result<(), WriteFailed>
-    ensures { OnOk result ((at : ℕ) → IsWord at → AddsLine (Makes (Rename old.now new.now at)) text.old.items text.new.items) }
+    ensures { OnOk result ((at : ℕ) → AddsLine (Makes (Rename old.now new.now at)) text.old.items text.new.items) }
 {
     put(text, b"rename ")?;
     put_path_word(text, old)?;
@@ -46,7 +45,7 @@ pub(crate) fn put_rename(text: &mut Vec<u8>, old: &Path, new: &Path) -> Result<(
 
 // Adds the line of a file that is cut, or lengthened by zeros.
 pub(crate) fn put_truncate(text: &mut Vec<u8>, path: &Path, length: u64) -> Result<(), WriteFailed>
-    ensures { OnOk result ((at : ℕ) → IsWord at → AddsLine (Makes (Truncate path.now length at)) text.old.items text.new.items) }
+    ensures { OnOk result ((at : ℕ) → AddsLine (Makes (Truncate path.now length at)) text.old.items text.new.items) }
 {
     put(text, b"truncate ")?;
     put_path_word(text, path)?;
@@ -63,7 +62,7 @@ pub(crate) fn put_write(
     bytes: &[u8],
 ) -> Result<(), WriteFailed>
     requires { length bytes.now ≤ 28672 }
-    ensures { OnOk result ((at : ℕ) → IsWord at → AddsLine (Makes (Write path.now offset bytes.now at)) text.old.items text.new.items) }
+    ensures { OnOk result ((at : ℕ) → AddsLine (Makes (Write path.now offset bytes.now at)) text.old.items text.new.items) }
 {
     put(text, b"write ")?;
     put_path_word(text, path)?;
@@ -81,7 +80,7 @@ pub(crate) fn put_hole(
     offset: u64,
     count: u64,
 ) -> Result<(), WriteFailed>
-    ensures { OnOk result ((at : ℕ) → IsWord at → AddsLine (Makes (Punch path.now offset count at)) text.old.items text.new.items) }
+    ensures { OnOk result ((at : ℕ) → AddsLine (Makes (Punch path.now offset count at)) text.old.items text.new.items) }
 {
     put(text, b"# punch ")?;
     put_path_word(text, path)?;

@@ -1,5 +1,4 @@
 use Rattle.std.proofs.Common.{◌≡◌, ◌+◌, ℕ, length}
-use Rattle.logs.specs.Entries.{IsWord}
 use Rattle.log_lines.proofs.Adding.{Partly}
 use Rattle.log_lines.proofs.lay.put_parts.Given as goal
 
@@ -7,5 +6,5 @@ use Rattle.log_lines.proofs.lay.put_parts.Given as goal
 abbrev pub invariant-loop : goal.invariant-loop
 invariant-loop l = record {
   sum : l.from + length l.rest ≡ l.offset + length l.bytes;
-  partly : (at : ℕ) → IsWord at → Partly l.path l.offset l.bytes at l.from l.rest l.initial.text.items l.text.items;
+  partly : (at : ℕ) → Partly l.path l.offset l.bytes at l.from l.rest l.initial.text.items l.text.items;
 }

@@ -6,8 +6,8 @@ use Rattle.log_lines.proofs.spell.put_write.Goals as goal
 
 pub returns : goal.returns
 returns c = on_ok_weaker c.put-4.result
-    (λ h at w. record {
-      fits = ((c.put_path_word.ensures.valid, omega (arith, c.ranges.offset), omega (arith, c.requires), w), (are_bytes c.args.bytes.now c.type_inv.bytes, c.requires));
+    (λ h at. record {
+      fits = (c.put_path_word.ensures.valid, omega (arith, c.ranges.offset), are_bytes c.args.bytes.now c.type_inv.bytes, c.requires);
       added = seven_parts _ _ _ _ _ _ _ _ _ _ _ _ c.in_ok-put.ensures.ok c.in_ok-put_path_word.ensures.word c.in_ok-put-2.ensures.ok c.in_ok-put_number.ensures.ok c.in_ok-put-3.ensures.ok c.in_ok-put_hex.ensures.ok h;
     })
     c.put-4.ensures.ok
