@@ -1,7 +1,6 @@
 -- What is printed from one place of an image to another.
-use Rattle.std.proofs.Common.{◌≡◌, inl, inr, ℕ, suc, ◌+◌, ◌-◌, ◌*◌, ◌^◌, ◌<◌, ◌≤◌, Bool, true, false, List, [], ◌∷◌, ◌++◌, length, drop, refl, sym, ap, subst, ◌∙◌, append_assoc, append-nil, arith, Option, Some, None}
-use Rattle.std.specs.Option.{is_some, option_to_list}
-use Rattle.std.proofs.lemmas.List.{nil_from_length}
+use Rattle.std.proofs.Common.{◌≡◌, inl, inr, ℕ, suc, ◌+◌, ◌-◌, ◌*◌, ◌^◌, ◌<◌, ◌≤◌, true, false, List, [], ◌∷◌, ◌++◌, length, drop, refl, sym, ap, subst, ◌∙◌, append_assoc, append-nil, arith, Option, Some, None}
+use Rattle.std.specs.Option.{option_to_list}
 use Rattle.pathkey.specs.Keys.{Key, enc, next_key}
 use Rattle.pathkey.specs.Names.{Path}
 use Rattle.reference.specs.Image.{Text, block_line, trimmed}
@@ -115,8 +114,7 @@ ahead_piece t last m n es a is there some are rest all =
 next_none : (t : Tree) (last : Path) (old new : Ahead) → IsTree t → IsAhead t last old → old.entries.items ≡ [] → old.all ≡ true → new.entries.items ≡ [] → new.all ≡ old.all → IsNext t last None new
 next_none t last old new is ahead none all rest same =
     let few = ahead.all all in
-    let l : length old.entries.items ≡ 0 = ap length none in
-    (
+    let l : length old.entries.items ≡ 0 = ap length none in (
       none_behind t last ahead.count is (subst (AreFrom t (next_key (enc last)) ahead.count) none ahead.are) (omega (arith, few, l)),
       record {
         count = ahead.count;
@@ -133,8 +131,7 @@ next_some t last old new e is ahead split same =
     let are = subst (AreFrom t lo ahead.count) split ahead.are in
     let there = head_at t lo ahead.count e es are in
     let rest : Text = image_from (next_key (enc e.0)) t in
-    let l : length old.entries.items ≡ suc (length es) = ap length split in
-    (
+    let l : length old.entries.items ≡ suc (length es) = ap length split in (
       record {
         is = there.1;
         left = first_listed t lo ahead.count e es are is (behind_root (enc last))
@@ -148,13 +145,17 @@ next_some t last old new e is ahead split same =
       },
     )
 
+no_first : {X : Type 0} (xs : List X) → xs ≡ drop 1 xs → xs ≡ []
+no_first [] e = refl
+no_first (x ∷ xs) e = absurd (let l : length (x ∷ xs) ≡ length xs = ap length e in omega (arith, l))
+
 -- what comes next, of what was taken
 pub next_is : (t : Tree) (last : Path) (old new : Ahead) (e : Option (Path × Meta)) → IsTree t → IsAhead t last old → (old.entries.items ≡ [] → old.all ≡ true) → old.entries.items ≡ option_to_list e ++ new.entries.items
-    → (is_some e ≡ false → length old.entries.items ≡ 0) → new.all ≡ old.all → IsNext t last e new
-next_is t last old new None is ahead all split none same =
-    let empty : old.entries.items ≡ [] = nil_from_length old.entries.items (none refl) in
+    → new.entries.items ≡ drop 1 old.entries.items → new.all ≡ old.all → IsNext t last e new
+next_is t last old new None is ahead all split rest same =
+    let empty : old.entries.items ≡ [] = no_first old.entries.items (split ∙ rest) in
     next_none t last old new is ahead empty (all empty) (sym split ∙ empty) same
-next_is t last old new (Some e) is ahead all split none same = next_some t last old new e is ahead split same
+next_is t last old new (Some e) is ahead all split rest same = next_some t last old new e is ahead split same
 
 -- ---- from entry to entry
 

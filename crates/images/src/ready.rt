@@ -59,7 +59,13 @@ impl Ready {
         self.text.clear();
         self.used = 0;
         let mut blocks = BlockWalk::new(alloc, frozen);
-        if let Err(NoMemory) = spot.print(alloc, frozen, &mut self.ahead, &mut blocks, &mut self.text) {
+        if let Err(NoMemory) = spot.print(
+            alloc,
+            frozen,
+            &mut self.ahead,
+            &mut blocks,
+            &mut self.text,
+        ) {
             self.ahead.clear();
             self.text.clear();
             drop(spot);
