@@ -204,6 +204,7 @@ uint8_t doorvervain_raw_log_restore(const uint8_t *name, size_t length, uint8_t 
 uint8_t doorvervain_raw_log_ends(
     uint64_t number, const uint8_t *body, size_t length, uint8_t *out, size_t room, size_t *size);
 uint8_t doorvervain_raw_log_next(const uint8_t *log, size_t length, uint64_t number, size_t *size);
+uint8_t doorvervain_raw_log_lines(const uint8_t *body, size_t length, uint8_t *out, size_t room, size_t *size);
 uint8_t doorvervain_raw_log_run(struct doorvervain *fs, const uint8_t *body, size_t length, size_t *done);
 uint8_t doorvervain_raw_log_replay(struct doorvervain *fs, const uint8_t *log, size_t length, uint64_t number,
     size_t *records, size_t *done, size_t *size);
@@ -851,6 +852,16 @@ static inline uint8_t doorvervain_log_ends(
 static inline uint8_t doorvervain_log_next(const uint8_t *log, size_t length, uint64_t number, size_t *size) {
     uint8_t lacks = doorvervain_log_lacks(log, length, NULL, 0, size);
     return lacks ? lacks : doorvervain_raw_log_next(doorvervain_from(log), length, number, size);
+}
+
+// The lines of a script that ask for the changes of a body, in their order and each at its moment. A hole is told by a note, since
+// scripts have no line for it: "# punch PATH OFFSET COUNT". EINVAL: the bytes are no body. EFBIG: a write of it reaches past
+// 2^64. ENOMEM.
+static inline uint8_t doorvervain_log_lines(
+    const uint8_t *body, size_t length, uint8_t *out, size_t room, size_t *size) {
+    uint8_t lacks = doorvervain_log_lacks(body, length, out, room, size);
+    return lacks ? lacks
+                 : doorvervain_raw_log_lines(doorvervain_from(body), length, doorvervain_into(out), room, size);
 }
 
 // Does the changes of a body, up to the first that is refused: the answer is why, and `*done` how many were done before it. `*done`

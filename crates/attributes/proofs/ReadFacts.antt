@@ -19,8 +19,7 @@ use Rattle.reference.proofs.ImageTexts.{Visible, decimal_visible, hex_visible, n
 use Rattle.lines.specs.Held.{IsFree}
 use Rattle.lines.specs.Texts.{hex_text, number_line}
 use Rattle.lines.specs.Values.{bytes_of, is_decimal, number_of as number_written}
-use Rattle.lines.proofs.HexFacts.{encoded}
-use Rattle.lines.proofs.ValueFacts.{bytes_decoded, own}
+use Rattle.lines.proofs.Written.{hex_text_visible, number_told}
 use Rattle.attributes.specs.declared.record.Kind.{Kind}
 use Rattle.attributes.specs.declared.record.Kind.TheVariants.{Directory, File, SymbolicLink, Fifo, Socket, CharacterDevice, BlockDevice, NameOf}
 use Rattle.attributes.specs.declared.record.HandTime.{HandTime}
@@ -88,26 +87,6 @@ pub line_grouped : (word value rest : Text) → (word ++ value ++ 10 ∷ []) ++ 
 line_grouped word value rest = simp append_assoc
 
 -- ---- numbers
-
-not_led : (ds : Text) → 48 < get_or ds 0 0 → list_all is_ascii_digit ds ≡ true → is_decimal ds ≡ true
-not_led [] h g = absurd (omega arith)
-not_led (d ∷ ds) h g = elim (d == 48) as (λ b. (d == 48) ≡ b → cond b (length (d ∷ ds) == 1) (list_all is_ascii_digit (d ∷ ds)) ≡ true) [
-  | true ↦ λ e. absurd (let f : d ≡ 48 = eqb-true d 48 e in omega arith)
-  | false ↦ λ e. g
-] refl
-
-written_decimal : (n : ℕ) → n < 2 ^ 64 → is_decimal (decimal n) ≡ true
-written_decimal n h = ⊎_elim
-    (λ (z : 0 < n). not_led (decimal n) (first_decimal n z h) (digits_decimal own n h))
-    (λ (z : n ≤ 0). ap is_decimal (ap decimal (let e : n ≡ 0 = omega arith in e) ∙ decimal_digit 0 (omega arith)))
-    (cases_lt 0 n)
-
--- the number that a word writes
-pub number_told : (word : Text) (n : ℕ) → n < 2 ^ 64 → word ≡ decimal n → number_written word ≡ Some n
-number_told word n h e =
-    let value : digits_value 10 (decimal n) ≡ n = digits_value-decimal own n h in
-    let within : nat_lt (digits_value 10 (decimal n)) (2 ^ 64) ≡ true = lt-ltb _ _ (omega arith) in
-    ap number_written e ∙ rw (written_decimal n h, within) (ap Some value)
 
 pub free_decimal : (n : ℕ) → n < 2 ^ 64 → IsFree (decimal n)
 free_decimal n h = free_from_lacks (decimal n) (lacks_from_visible 10 (decimal n) (omega arith) (decimal_visible n h))
@@ -226,37 +205,6 @@ same_basic b k m u g n t ek em eu eg en et =
 
 -- ---- extended attributes
 
-escaped_byte : (b : ℕ) → b < 256 → 37 ∷ two_digits 55 b ≡ percent_encode_byte b
-unfolding percent_encode_byte
-escaped_byte b h = ap (λ (d : ℕ). 37 ∷ digit 55 d ∷ digit 55 (b % 16) ∷ []) (let e : b / 16 ≡ b / 16 % 16 = omega arith in e)
-
-decode_byte : (b : ℕ) (rest : Text) → b < 256 → percent_decode (percent b ++ rest) ≡ b ∷ percent_decode rest
-decode_byte b rest h = ⊎_elim
-    (λ (f : percent b ≡ 37 ∷ two_digits 55 b). ap (λ (t : Text). percent_decode (t ++ rest)) (f ∙ escaped_byte b h) ∙ percent_decode-percent_encode_byte b rest h)
-    (λ (f : (33 ≤ b) × (b ≢ 37) × (percent b ≡ b ∷ [])). ap (λ (t : Text). percent_decode (t ++ rest)) f.2 ∙ percent_decode_not_percent b rest f.1)
-    (percent_cases b)
-
--- the name that a word writes in percent form
-pub name_told : (n : List ℕ) → AreBytes n → percent_decode (flat_map percent n) ≡ n
-name_told [] h = percent_decode-nil
-name_told (b ∷ n) h = decode_byte b (flat_map percent n) h.0 ∙ ap (λ (t : Text). b ∷ t) (name_told n h.1)
-
-are_small : (b : List ℕ) → AreBytes b → IsBytes b
-are_small b h = λ i. ⊎_elim
-    (λ (l : i < length b). All-get_or (λ x. x < 256) b i 0 l (All-from_recursion (λ x. x < 256) b h))
-    (λ (g : length b ≤ i). let e : get_or b i 0 ≡ 0 = get_or_past b i 0 g in omega arith)
-    (cases_lt i (length b))
-
--- the bytes that a word writes in hexadecimal
-pub bytes_told : (v : List ℕ) → AreBytes v → Some v ≡ bytes_of (hex_text v)
-bytes_told [] h = refl
-bytes_told (b ∷ v) h =
-    let digits : decode_of (flat_map (two_digits 87) (b ∷ v)) ≡ Ok (b ∷ v) = ap decode_of (sym (encoded (b ∷ v) h)) ∙ decode_of-encode_lower (b ∷ v) (are_small (b ∷ v) h) in
-    bytes_decoded (flat_map (two_digits 87) (b ∷ v)) (b ∷ v) (no_dash (digit 87 (b / 16)) (digit 87 (b % 16)) (flat_map (two_digits 87) v)) (omega arith) digits
-  where
-    no_dash : (x y : ℕ) (l : Text) → bytes_eq (x ∷ y ∷ l) (codes "-") ≡ false
-    no_dash x y l = elim (x == 45) as (λ t. (t && false) ≡ false) [ true ↦ refl | false ↦ refl ]
-
 pub words_grouped : (e : ExtendedAttribute) → extended_words e ≡ codes "extended " ++ (flat_map percent e.name ++ 32 ∷ hex_text e.value)
 unfolding extended_words
 words_grouped e = regroup (codes "extended ") (flat_map percent e.name) (hex_text e.value)
@@ -268,10 +216,6 @@ pub words_cut : (text front back : Text) (e : ExtendedAttribute) → text ≡ fr
     → (front ≡ flat_map percent e.name) × (back ≡ hex_text e.value)
 words_cut text front back e is all same =
     same_cut 32 front (flat_map percent e.name) back (hex_text e.value) (lacks_from_all 32 front all) (lacks_from_visible 32 (flat_map percent e.name) (omega arith) (name_visible e.name)) (sym is ∙ same)
-
-hex_text_visible : (v : List ℕ) → Visible (hex_text v)
-hex_text_visible [] = (omega arith, tt)
-hex_text_visible (b ∷ v) = hex_visible (b ∷ v)
 
 words_free : (e : ExtendedAttribute) → Lacks 10 (extended_words e)
 unfolding Lacks

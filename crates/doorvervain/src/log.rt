@@ -9,12 +9,14 @@ ghost use Rattle.logs.specs.Records.{digest, front};
 ghost use Rattle.logs.specs.declared.change.Change.TheVariants as change;
 ghost use Rattle.logs.specs.declared.change.Keeping.TheVariants as keeping;
 ghost use Rattle.logs.specs.declared.change.PathChange.TheVariants as on;
+ghost use Rattle.log_lines.specs.Told.{LaysLines};
 ghost use Rattle.recovery.specs.Runs.{RunsBody};
 ghost use Rattle.doorvervain.specs.Log.{FindsRecord, ReplaysTold, stopped_of, stopped_told};
 ghost use Rattle.doorvervain.specs.Numbers.{IsNumber, IsShort, IsSizeNumber, short, sized_by, told, told_by};
 
 use crate::handle::Handle;
 use crate::numbers::{count, number, sized};
+use log_lines::lay_log_lines;
 use logs::lay::{lay_ends, lay_keep, lay_on_path, lay_punch, lay_rename, lay_truncate, lay_write};
 use logs::{Keeping, PathChange, next_record};
 use pathkey::Errno;
@@ -285,6 +287,24 @@ pub extern "C" fn doorvervain_raw_log_next(log: &[u8], number: u64, size: &mut u
         None => Err(Errno::ENOENT),
     };
     count(found, size)
+}
+
+/// The lines of a script that ask for the changes of a body. How many bytes they have goes to `size`; they are written where the buffer has
+/// room for all of them. EINVAL: the bytes are no body. EFBIG: a write reaches past 2^64. ENOMEM.
+#[unsafe(no_mangle)]
+pub extern "C" fn doorvervain_raw_log_lines(
+    alloc: Global,
+    body: &[u8],
+    out: &mut [u8],
+    size: &mut usize,
+) -> u8
+    ensures lines { LaysLines body.now (sized_by result size.new) out.old out.new }
+    ensures short { (result ≡ short) ↔ IsShort size.new out.old }
+    ensures number { IsSizeNumber result }
+    ensures refused { IfErr (sized_by result size.new) (λ _. size.new ≡ 0) }
+{
+    let laid = lay_log_lines(alloc, body, out);
+    sized(laid, out.len(), size)
 }
 
 /// Does the changes of the body of a record. Of those before the one that was refused, `done` tells how many there are; it is 0 where none was

@@ -23,6 +23,7 @@ use Rattle.meta_index.proofs.BelowPath.{in_below}
 use Rattle.meta_index.proofs.ChildOrder.{child_before}
 use Rattle.images.specs.Image.{blocks_left, directory_text, entry_lines, entry_text, file_text, image_from, lines_there, text_by, texts_by}
 use Rattle.lines.specs.Texts.{number_line}
+use Rattle.images.specs.Spots.{AreFrom}
 use Rattle.volume.specs.Walks.{AreEntries, IsEntry}
 use Rattle.volume.proofs.Walks.{stands}
 
@@ -223,13 +224,6 @@ first_text (Dir date es) lo k (n ∷ r) y is low at none key e =
         cc) ∙ sym h)
 
 -- ---- a walk from entry to entry
-
--- the first n entries from a key on, or all where there are fewer: what a walk lists, from a key and not from a path
-pub record AreFrom (t : Tree) (lo : Key) (n : ℕ) (es : List (Path × Meta)) : Type 0 where
-  pub few : length es ≤ n
-  pub sound : All (λ e. (reaches lo (enc e.0) ≡ true) × IsEntry t e.0 e.1) es
-  pub rising : AllPairs (λ d e. before (enc d.0) (enc e.0) ≡ true) es
-  pub complete : (p : Path) (m : Meta) → reaches lo (enc p) ≡ true → IsEntry t p m → Contains es (p, m) ⊎ ((length es ≡ n) × All (λ e. before (enc e.0) (enc p) ≡ true) es)
 
 -- no key stands before itself
 itself : (k : Key) → before k k ≡ false

@@ -29,38 +29,10 @@ use Rattle.reference.proofs.OneImage.{letters_differ}
 use Rattle.images.specs.Image.{directory_text, file_text}
 use Rattle.images.specs.ImageLines.{CutsMoment, Guesses, IsRoot}
 use Rattle.lines.specs.Values.{is_decimal, number_of, path_of}
-use Rattle.lines.proofs.HexFacts.{encoded}
-use Rattle.lines.proofs.ValueFacts.{own}
+use Rattle.lines.proofs.Written.{all_visible, digits_told, number_told, path_read}
 use Rattle.images.specs.declared.image_line.ImageLine.TheVariants.{Directory, File, Block}
 
 -- ---- a path in percent form
-
-escaped : (b : ℕ) → b < 256 → 37 ∷ two_digits 55 b ≡ percent_encode_byte b
-unfolding percent_encode_byte
-escaped b h = ap (λ (d : ℕ). 37 ∷ digit 55 d ∷ digit 55 (b % 16) ∷ []) (let e : b / 16 ≡ b / 16 % 16 = omega arith in e)
-
-decode_byte : (b : ℕ) (rest : Text) → b < 256 → percent_decode (percent b ++ rest) ≡ b ∷ percent_decode rest
-decode_byte b rest h = ⊎_elim
-    (λ (f : percent b ≡ 37 ∷ two_digits 55 b). ap (λ (t : Text). percent_decode (t ++ rest)) (f ∙ escaped b h) ∙ percent_decode-percent_encode_byte b rest h)
-    (λ (f : (33 ≤ b) × (b ≢ 37) × (percent b ≡ b ∷ [])). ap (λ (t : Text). percent_decode (t ++ rest)) f.2 ∙ percent_decode_not_percent b rest f.1)
-    (percent_cases b)
-
-decode_name : (n : Name) (rest : Text) → HasNameBytes n → percent_decode (flat_map percent n ++ rest) ≡ n ++ percent_decode rest
-decode_name [] rest h = refl
-decode_name (b ∷ n) rest h =
-    ap percent_decode (append_assoc (percent b) (flat_map percent n) rest)
-    ∙ decode_byte b (flat_map percent n ++ rest) h.1
-    ∙ ap (λ (t : Text). b ∷ t) (decode_name n rest h.3)
-
-decode_path : (p : Path) → EachName p → percent_decode (path_text p) ≡ slashed p
-decode_path [] h = percent_decode-nil
-decode_path (n ∷ p) h =
-    percent_decode_not_percent 47 (flat_map percent n ++ path_text p) (λ e. omega arith)
-    ∙ ap (λ (t : Text). 47 ∷ t) (decode_name n (path_text p) h.0.bytes ∙ ap (λ (t : Text). n ++ t) (decode_path p h.1))
-
-pub path_read : (p : Path) → IsPath p → p ≢ [] → path_of (path_text p) ≡ Ok p
-path_read [] h ne = absurd (ne refl)
-path_read (n ∷ p) h ne = ap parsed (decode_path (n ∷ p) h.names) ∙ read_back (n ∷ p) h
 
 -- what is read of the spelling of a path: the path, or want of memory
 pub path_spelled : (word : Text) (p q : Path) (r : Result Path Errno) (guess : Option Path) → (r ≡ path_of word) ⊎ (r ≡ Err ENOMEM) → r ≡ Ok q → IsPath p → p ≢ [] → word ≡ path_text p → (q ≢ [] → guess ≡ Some q) → guess ≡ Some p
@@ -78,37 +50,8 @@ path_not_refused word p fault r read is other path ne e = ⊎_elim
     (λ (f : r ≡ Err ENOMEM). other (let g : ◌≡◌ {A = Result Path Errno} (Err fault) (Err ENOMEM) = sym is ∙ f in cc))
     read
 
--- ---- a number
-
-not_led : (ds : Text) → 48 < get_or ds 0 0 → list_all is_ascii_digit ds ≡ true → is_decimal ds ≡ true
-not_led [] h g = absurd (omega arith)
-not_led (d ∷ ds) h g = elim (d == 48) as (λ b. (d == 48) ≡ b → cond b (length (d ∷ ds) == 1) (list_all is_ascii_digit (d ∷ ds)) ≡ true) [
-  | true ↦ λ e. absurd (let f : d ≡ 48 = eqb-true d 48 e in omega arith)
-  | false ↦ λ e. g
-] refl
-
-written_decimal : (n : ℕ) → n < 2 ^ 64 → is_decimal (decimal n) ≡ true
-written_decimal n h = ⊎_elim
-    (λ (z : 0 < n). not_led (decimal n) (first_decimal n z h) (digits_decimal own n h))
-    (λ (z : n ≤ 0). ap is_decimal (ap decimal (let e : n ≡ 0 = omega arith in e) ∙ decimal_digit 0 (omega arith)))
-    (cases_lt 0 n)
-
-pub number_read : (n : ℕ) → n < 2 ^ 64 → number_of (decimal n) ≡ Some n
-number_read n h =
-    let value : digits_value 10 (decimal n) ≡ n = digits_value-decimal own n h in
-    let within : nat_lt (digits_value 10 (decimal n)) (2 ^ 64) ≡ true = lt-ltb _ _ (omega arith) in
-    rw (written_decimal n h, within) (ap Some value)
-
--- ---- bytes
-
-are_small : (b : List ℕ) → AreBytes b → IsBytes b
-are_small b h = λ i. ⊎_elim
-    (λ (l : i < length b). All-get_or (λ x. x < 256) b i 0 l h)
-    (λ (g : length b ≤ i). let e : get_or b i 0 ≡ 0 = get_or_past b i 0 g in omega arith)
-    (cases_lt i (length b))
-
 pub bytes_read : (b : List ℕ) → AreBytes b → decode_of (flat_map (two_digits 87) b) ≡ Ok b
-bytes_read b h = ap decode_of (sym (encoded b (recursion_from_All (λ x. x < 256) b h))) ∙ decode_of-encode_lower b (are_small b h)
+bytes_read b h = digits_told b (recursion_from_All (λ x. x < 256) b h)
 
 pub bytes_spelled : (word : Text) (b bytes : List ℕ) → decode_of word ≡ Ok bytes → IsBlock b → word ≡ flat_map (two_digits 87) b → bytes ≡ b
 bytes_spelled word b bytes read is e = let g : ◌≡◌ {A = Result (List ℕ) FromHexError} (Ok bytes) (Ok b) = sym read ∙ ap decode_of e ∙ bytes_read b is.bytes in cc
@@ -161,11 +104,6 @@ cut_parts text front back xs r h v e = same_cut front xs back r (no_space_from_a
 -- a text without a space has none behind visible bytes
 pub never_cut : (text xs r : Text) → All (λ b. b ≢ 32) text → text ≡ xs ++ 32 ∷ r → ⊥
 never_cut text xs r h e = no_space_there xs r (subst NoSpace e (no_space_from_all text h))
-
--- visible bytes have no space
-all_visible : (xs : Text) → Visible xs → All (λ b. b ≢ 32) xs
-all_visible [] v = All-nil (λ b. b ≢ 32)
-all_visible (x ∷ xs) v = All-cons (λ b. b ≢ 32) x xs (λ e. let far : 33 ≤ x = v.0 in omega arith) (all_visible xs v.1)
 
 -- ---- guesses
 
@@ -285,17 +223,13 @@ never_ends text last at h e = no_space_there last (decimal at) (subst NoSpace e 
 
 -- texts without a space
 pub path_free : (p : Path) → All (λ b. b ≢ 32) (path_text p)
-path_free p = all_visible (path_text p) (path_visible p)
+path_free p = all_visible 32 (path_text p) (omega arith) (path_visible p)
 
 pub decimal_free : (n : ℕ) → n < 2 ^ 64 → All (λ b. b ≢ 32) (decimal n)
-decimal_free n h = all_visible (decimal n) (decimal_visible n h)
+decimal_free n h = all_visible 32 (decimal n) (omega arith) (decimal_visible n h)
 
 pub block_words : (words front back : Text) (i : ℕ) (b : List ℕ) → IsCut words front back → i < 2 ^ 28 → words ≡ decimal i ++ 32 ∷ flat_map (two_digits 87) b → (front ≡ decimal i) × (back ≡ flat_map (two_digits 87) b)
 block_words words front back i b h few e = cut_parts words front back (decimal i) (flat_map (two_digits 87) b) h (decimal_visible i (omega arith)) e
-
--- the number that a word spells
-pub number_spelled : (word : Text) (n : ℕ) → n < 2 ^ 64 → word ≡ decimal n → number_of word ≡ Some n
-number_spelled word n h e = ap number_of e ∙ number_read n h
 
 pub never_cut_number : (text : Text) (i : ℕ) (r : Text) → All (λ b. b ≢ 32) text → i < 2 ^ 28 → text ≡ decimal i ++ 32 ∷ r → ⊥
 never_cut_number text i r h few e = no_space_there (decimal i) r (subst NoSpace e (no_space_from_all text h))
@@ -370,7 +304,7 @@ cuts_no_number words front back h none = record {
   valid = tt;
   complete = λ last at free told e.
       let parts = moment_words words front back last at h free e in
-      let clash : ◌≡◌ {A = Option ℕ} None (Some at) = sym none ∙ number_spelled back at told parts.1 in absurd (cc);
+      let clash : ◌≡◌ {A = Option ℕ} None (Some at) = sym none ∙ number_told back at told parts.1 in absurd (cc);
 }
 
 pub cuts_last : (words front back : Text) (n : ℕ) → IsCut words front back → number_of back ≡ Some n → n < 2 ^ 64 → CutsMoment Second words (Some (front, n))
@@ -378,7 +312,7 @@ cuts_last words front back n h number few = record {
   valid = few;
   complete = λ last at free told e.
       let parts = moment_words words front back last at h free e in
-      let same : n ≡ at = same_Some n at (sym number ∙ number_spelled back at told parts.1) in
+      let same : n ≡ at = same_Some n at (sym number ∙ number_told back at told parts.1) in
       ap (λ (w : Text). Some (w, n)) parts.0 ∙ ap (λ (k : ℕ). Some (last, k)) same;
 }
 
@@ -388,4 +322,4 @@ pub len_spelled : (v : Version) (numbers number : Text) (cut : Option (Text × �
 len_spelled v numbers number cut h a is n at few told e =
     let small : n < 2 ^ 64 = omega arith in
     let parts = moment_cut v numbers cut h number a is (decimal n) at (decimal_free n small) told e in
-    (number_spelled number n small parts.0, parts.1)
+    (number_told number n small parts.0, parts.1)

@@ -15,7 +15,7 @@ use Rattle.reference.specs.Looks.{sight}
 use Rattle.reference.specs.Tree.{Path, Tree, Dir, File, moment}
 use Rattle.images.specs.Image.{AppendsLines, EndsLine, image_from}
 use Rattle.images.specs.Printings.{HandsOut, HandsOver, IsReady, PPrinting, ready_text}
-use Rattle.images.specs.Spots.{IsAt, Passes, left_at}
+use Rattle.images.specs.Spots.{IsAhead, IsAt, Passes, left_at}
 use Rattle.images.specs.declared.ready.Ready.{Ready}
 use Rattle.images.specs.declared.spot.Spot.{Spot}
 use Rattle.images.proofs.ImageEntries.{image_starts, told_of}
@@ -95,20 +95,21 @@ printed_all a c t s none (done, split, w, at, ends) = subst (Appends a c) (sym (
 -- ---- ahead
 
 -- the root's line is ready
-pub ready_root : (i : Rooted) (r : Ready) → r.done ≡ 0 → r.used ≡ 0 → r.text.items ≡ number_line (codes "D / ") i.modified → IsBehindRoot r.spot → IsReady i r
-ready_root i r done used text behind = record {
+pub ready_root : (i : Rooted) (r : Ready) → r.done ≡ 0 → r.used ≡ 0 → r.text.items ≡ number_line (codes "D / ") i.modified → IsBehindRoot r.spot → ((t : Tree) (last : Path) → IsAhead t last r.ahead) → IsReady i r
+ready_root i r done used text behind ahead = record {
   fits = omega (arith, used);
   for_tree = λ t mean. record {
     front = [];
     count = sym done;
     split = root_starts t r.spot i.modified mean.indexes.tree mean.root behind ∙ ap (λ (l : Text). l ++ left_at t r.spot) (sym text ∙ ap (λ (n : ℕ). drop n r.text.items) (sym used));
     at = at_root t r.spot behind;
+    ahead = ahead t r.spot.last;
   };
 }
 
 -- all that was ready was handed out
-pub ready_none : (i : Rooted) (r s : Ready) → length r.text.items ≤ r.used → IsReady i r → s.text.items ≡ [] → s.used ≡ 0 → s.spot ≡ r.spot → s.done ≡ r.done → IsReady i s
-ready_none i r s all is text used spot done = record {
+pub ready_none : (i : Rooted) (r s : Ready) → length r.text.items ≤ r.used → IsReady i r → s.text.items ≡ [] → s.used ≡ 0 → s.spot ≡ r.spot → s.done ≡ r.done → ((t : Tree) (last : Path) → IsAhead t last s.ahead) → IsReady i s
+ready_none i r s all is text used spot done ahead = record {
   fits = omega (arith, used);
   for_tree = λ t mean.
       let was = is.for_tree t mean in
@@ -119,17 +120,19 @@ ready_none i r s all is text used spot done = record {
         split = was.split ∙ ap (λ (l : Text). was.front ++ (l ++ left_at t r.spot)) (nothing ∙ sym (ap (drop s.used) text ∙ ap (λ (n : ℕ). drop n []) used))
             ∙ ap (λ (p : Spot). was.front ++ (ready_text s ++ left_at t p)) (sym spot);
         at = subst (IsAt t) (sym spot) was.at;
+        ahead = ahead t s.spot.last;
       };
 }
 
 -- more lines are ready
 pub ready_more : (i : Rooted) (r s : Ready) → length r.text.items ≤ r.used → IsReady i r → s.used ≡ 0 → s.done ≡ r.done
-    → ((t : Tree) → MeanRooted i t → IsAt t r.spot → Passes t r.spot [] s.spot s.text.items) → IsReady i s
-ready_more i r s all is used done passes = record {
+    → ((t : Tree) → MeanRooted i t → IsAt t r.spot → IsAhead t r.spot.last r.ahead → Passes t r.spot [] s.spot s.text.items)
+    → ((t : Tree) → MeanRooted i t → IsAt t r.spot → IsAhead t r.spot.last r.ahead → IsAhead t s.spot.last s.ahead) → IsReady i s
+ready_more i r s all is used done passes ahead = record {
   fits = omega (arith, used);
   for_tree = λ t mean.
       let was = is.for_tree t mean in
-      let on = passes t mean was.at in
+      let on = passes t mean was.at was.ahead in
       let nothing : ready_text r ≡ [] = drop_all r.used r.text.items all in
       record {
         front = was.front;
@@ -137,6 +140,7 @@ ready_more i r s all is used done passes = record {
         split = was.split ∙ ap (λ (l : Text). was.front ++ (l ++ left_at t r.spot)) nothing
             ∙ ap (λ (l : Text). was.front ++ l) (on.left ∙ ap (λ (l : Text). l ++ left_at t s.spot) (sym on.added ∙ ap (λ (n : ℕ). drop n s.text.items) (sym used)));
         at = on.at;
+        ahead = ahead t mean was.at was.ahead;
       };
 }
 
@@ -157,6 +161,7 @@ ready_less i r n old new is out = record {
             ∙ sym (append_assoc was.front (take n (ready_text r)) (drop n (ready_text r) ++ left_at t r.spot))
             ∙ ap (λ (l : Text). (was.front ++ take n (ready_text r)) ++ (l ++ left_at t r.spot)) (drop-drop n r.used r.text.items);
         at = was.at;
+        ahead = was.ahead;
       };
 }
 
@@ -206,10 +211,10 @@ still_ready i r some t mean none =
     absurd (omega (arith, l, z, some))
 
 -- where none came
-pub none_came : (i : Rooted) (r s : Ready) → IsReady i r → s.used ≡ 0 → ((t : Tree) → MeanRooted i t → IsAt t r.spot → length s.text.items < 65536 → left_at t s.spot ≡ [])
+pub none_came : (i : Rooted) (r s : Ready) → IsReady i r → s.used ≡ 0 → ((t : Tree) → MeanRooted i t → IsAt t r.spot → IsAhead t r.spot.last r.ahead → length s.text.items < 65536 → left_at t s.spot ≡ [])
     → (t : Tree) → MeanRooted i t → ready_text s ≡ [] → left_at t s.spot ≡ []
 none_came i r s is used rest t mean none =
     let was = is.for_tree t mean in
     let text : s.text.items ≡ [] = sym (ap (λ (n : ℕ). drop n s.text.items) used) ∙ none in
     let z : length s.text.items ≡ 0 = ap length text in
-    rest t mean was.at (omega (arith, z))
+    rest t mean was.at was.ahead (omega (arith, z))

@@ -1,19 +1,24 @@
 -- What is printed from one place of an image to another.
-use Rattle.std.proofs.Common.{◌≡◌, inl, ℕ, ◌+◌, ◌-◌, ◌<◌, ◌≤◌, List, [], ◌∷◌, ◌++◌, length, drop, get_or, refl, sym, ap, subst, ◌∙◌, append_assoc, append-nil, arith}
-use Rattle.std.proofs.lemmas.List.{drop_more}
-use Rattle.pathkey.specs.Keys.{enc, next_key}
+use Rattle.std.proofs.Common.{◌≡◌, inl, inr, ℕ, suc, ◌+◌, ◌-◌, ◌*◌, ◌^◌, ◌<◌, ◌≤◌, true, false, List, [], ◌∷◌, ◌++◌, length, drop, refl, sym, ap, subst, ◌∙◌, append_assoc, append-nil, arith, Option, Some, None}
+use Rattle.std.specs.Option.{option_to_list}
+use Rattle.pathkey.specs.Keys.{Key, enc, next_key}
 use Rattle.pathkey.specs.Names.{Path}
 use Rattle.reference.specs.Image.{Text, block_line, trimmed}
+use Rattle.reference.specs.Indexes.{meta_of}
+use Rattle.reference.specs.Looks.{sighted}
 use Rattle.reference.specs.Shape.{IsTree}
-use Rattle.reference.specs.Tree.{Tree, entry_at}
+use Rattle.reference.specs.Tree.{Tree, Dir, File, At, Found, Missing, Blocked, entry_at}
 use Rattle.reference.specs.declared.reply.Meta.{Meta}
+use Rattle.reference.specs.declared.reply.Meta.TheVariants.{Dir as DirMeta, File as FileMeta}
 use Rattle.images.specs.Image.{blocks_left, entry_text, image_from}
-use Rattle.images.specs.Spots.{IsAt, IsPassed, IsPiece, Passes, PassesPiece, left_at}
+use Rattle.images.specs.Spots.{AreFrom, EndsBy, IsAhead, IsAt, IsNext, IsNextAt, IsPassed, Passes, left_at, size_of}
+use Rattle.images.specs.declared.ahead.Ahead.{Ahead}
 use Rattle.images.specs.declared.spot.Spot.{Spot}
-use Rattle.images.proofs.ImageBlocks.{block_passed}
-use Rattle.images.proofs.ImageEntries.{AreFrom, behind_first, behind_root, entry_starts, first_listed, head_at, none_behind, others}
+use Rattle.images.proofs.ImageBlocks.{block_passed, blocks_passed}
+use Rattle.images.proofs.ImageEntries.{behind_first, behind_root, entry_starts, first_listed, head_at, none_behind, others}
 use Rattle.images.proofs.WholeLines.{block_ends, ends_after, entry_ends}
-use Rattle.volume.specs.Walks.{AreBlocksAt}
+use Rattle.volume.proofs.Walks.{past_bytes}
+use Rattle.volume.specs.Walks.{AreBlocksAt, AreEntries, IsEntry}
 
 -- no line
 pub passes_nothing : (t : Tree) (s : Spot) (had : Text) → IsAt t s → Passes t s had s had
@@ -43,70 +48,132 @@ passes_block t s number block had has at are put =
       at = at;
     }
 
--- the line of an entry
-pub passes_entry : (t : Tree) (s : Spot) (n : ℕ) (e : Path × Meta) (es : List (Path × Meta)) (had has : Text) → IsTree t → IsPassed t s
-    → AreFrom t (next_key (enc s.last)) n (e ∷ es) → has ≡ had ++ entry_text e.0 e.1 → Passes t s had (record { last = e.0; from = 0 }) has
-passes_entry t s n e es had has is passed are put =
-    let lo = next_key (enc s.last) in
-    let line : Text = entry_text e.0 e.1 in
-    let rest : Text = image_from (next_key (enc e.0)) t in
-    let there = head_at t lo n e es are in
+-- the line of the entry that comes next
+pub passes_entry : (t : Tree) (s : Spot) (e : Path × Meta) (had has : Text) → IsPassed t s → IsNextAt t s.last e → has ≡ had ++ entry_text e.0 e.1 → Passes t s had (record { last = e.0; from = 0 }) has
+passes_entry t s e had has passed next put = record {
+  lines = entry_text e.0 e.1;
+  added = put;
+  left = ap (λ (l : Text). l ++ image_from (next_key (enc s.last)) t) passed ∙ next.left;
+  whole = entry_ends e.0 e.1;
+  at = (e.1, next.is);
+}
+
+-- ---- where the blocks of an entry end
+
+ends_at : (a : At) (m : Meta) (i : ℕ) → meta_of (sighted a) ≡ Some m → size_of m ≤ i * 4096 → blocks_left a i ≡ []
+ends_at (Found (File date b)) (FileMeta len at) i e le =
+    let l : length b ≡ len = cc in
+    blocks_passed (Found (File date b)) i (record {
+      few = omega arith;
+      sound = λ k x lt. absurd (omega (arith, lt));
+      rising = λ j k x a lt. absurd (omega (arith, lt));
+      complete = λ j ge. inr (inl (past_bytes b j (omega (arith, l, le, ge))));
+    })
+ends_at (Found (File date b)) (DirMeta at) i e le = absurd (cc)
+ends_at (Found (Dir date es)) m i e le = refl
+ends_at Missing m i e le = refl
+ends_at Blocked m i e le = refl
+
+-- by what is told of it
+pub ends_by : (t : Tree) (p : Path) (m : Meta) → IsEntry t p m → EndsBy t p (size_of m)
+ends_by t p m is = λ i few le. ends_at (entry_at t p) m i is le
+
+-- no block has such a number
+pub ends_by_all : (t : Tree) (p : Path) (len : ℕ) → 2 ^ 44 ≤ len → EndsBy t p len
+ends_by_all t p len all = λ i few le. absurd (omega (arith, all, few, le))
+
+-- ---- what was taken ahead
+
+nothing_from : (t : Tree) (lo : Key) → AreFrom t lo 0 []
+nothing_from t lo = record {
+  few = omega arith;
+  sound = λ k e lt. absurd (omega (arith, lt));
+  rising = λ j k e a lt. absurd (omega (arith, lt));
+  complete = λ p m r is. inr (refl, λ k e lt. absurd (omega (arith, lt)));
+}
+
+-- nothing
+pub ahead_nothing : (t : Tree) (last : Path) (a : Ahead) → a.entries.items ≡ [] → a.all ≡ false → IsAhead t last a
+ahead_nothing t last a none not = record {
+  count = 0;
+  are = subst (AreFrom t (next_key (enc last)) 0) (sym none) (nothing_from t (next_key (enc last)));
+  all = λ yes. absurd (cc);
+}
+
+-- a piece that begins with the entry itself, without that
+pub ahead_piece : (t : Tree) (last : Path) (m : Meta) (n : ℕ) (es : List (Path × Meta)) (a : Ahead) → IsTree t → IsEntry t last m → 0 < n → AreEntries t last n es → a.entries.items ≡ drop 1 es → (a.all ≡ true → length es < n) → IsAhead t last a
+ahead_piece t last m n es a is there some are rest all =
+    let behind = behind_first t last m n es is are there some in
     record {
-      lines = line;
-      added = put;
-      left = ap (λ (l : Text). l ++ image_from lo t) passed
-          ∙ first_listed t lo n e es are is (behind_root (enc s.last))
-          ∙ ap (λ (l : Text). l ++ rest) (entry_starts (entry_at t e.0) e.0 e.1 there.1)
-          ∙ append_assoc line (blocks_left (entry_at t e.0) 0) rest;
-      whole = entry_ends e.0 e.1;
-      at = (e.1, there.1);
+      count = n - 1;
+      are = subst (AreFrom t (next_key (enc last)) (n - 1)) (sym rest) behind.0;
+      all = λ yes. let l : length a.entries.items ≡ length (drop 1 es) = ap length rest in let few = all yes in let one = behind.1 in omega (arith, l, few, one);
     }
 
--- ---- a piece of entries
+-- where no other is left, none comes next
+next_none : (t : Tree) (last : Path) (old new : Ahead) → IsTree t → IsAhead t last old → old.entries.items ≡ [] → old.all ≡ true → new.entries.items ≡ [] → new.all ≡ old.all → IsNext t last None new
+next_none t last old new is ahead none all rest same =
+    let few = ahead.all all in
+    let l : length old.entries.items ≡ 0 = ap length none in (
+      none_behind t last ahead.count is (subst (AreFrom t (next_key (enc last)) ahead.count) none ahead.are) (omega (arith, few, l)),
+      record {
+        count = ahead.count;
+        are = subst (AreFrom t (next_key (enc last)) ahead.count) (none ∙ sym rest) ahead.are;
+        all = λ yes. let k : length new.entries.items ≡ 0 = ap length rest in omega (arith, few, l, k);
+      },
+    )
 
--- lines up to a place were added, and these entries come behind it, of so many that were asked for
-pub record Walks (t : Tree) (old : Spot) (had : Text) (new : Spot) (has : Text) (n : ℕ) (es : List (Path × Meta)) : Type 0 where
+-- and else the first
+next_some : (t : Tree) (last : Path) (old new : Ahead) (e : Path × Meta) → IsTree t → IsAhead t last old → old.entries.items ≡ e ∷ new.entries.items → new.all ≡ old.all → IsNext t last (Some e) new
+next_some t last old new e is ahead split same =
+    let lo = next_key (enc last) in
+    let es : List (Path × Meta) = new.entries.items in
+    let are = subst (AreFrom t lo ahead.count) split ahead.are in
+    let there = head_at t lo ahead.count e es are in
+    let rest : Text = image_from (next_key (enc e.0)) t in
+    let l : length old.entries.items ≡ suc (length es) = ap length split in (
+      record {
+        is = there.1;
+        left = first_listed t lo ahead.count e es are is (behind_root (enc last))
+            ∙ ap (λ (x : Text). x ++ rest) (entry_starts (entry_at t e.0) e.0 e.1 there.1)
+            ∙ append_assoc (entry_text e.0 e.1) (blocks_left (entry_at t e.0) 0) rest;
+      },
+      record {
+        count = ahead.count - 1;
+        are = others t lo ahead.count e es are;
+        all = λ yes. let few = ahead.all (sym same ∙ yes) in omega (arith, few, l);
+      },
+    )
+
+no_first : {X : Type 0} (xs : List X) → xs ≡ drop 1 xs → xs ≡ []
+no_first [] e = refl
+no_first (x ∷ xs) e = absurd (let l : length (x ∷ xs) ≡ length xs = ap length e in omega (arith, l))
+
+-- what comes next, of what was taken
+pub next_is : (t : Tree) (last : Path) (old new : Ahead) (e : Option (Path × Meta)) → IsTree t → IsAhead t last old → (old.entries.items ≡ [] → old.all ≡ true) → old.entries.items ≡ option_to_list e ++ new.entries.items
+    → new.entries.items ≡ drop 1 old.entries.items → new.all ≡ old.all → IsNext t last e new
+next_is t last old new None is ahead all split rest same =
+    let empty : old.entries.items ≡ [] = no_first old.entries.items (split ∙ rest) in
+    next_none t last old new is ahead empty (all empty) (sym split ∙ empty) same
+next_is t last old new (Some e) is ahead all split rest same = next_some t last old new e is ahead split same
+
+-- ---- from entry to entry
+
+-- lines up to a place were added, those of its entry are passed unless the text has enough bytes, and these entries come behind it
+pub record Prints (t : Tree) (old : Spot) (had : Text) (new : Spot) (has : Text) (a : Ahead) : Type 0 where
   pub passes : Passes t old had new has
   pub passed : length has < 65536 → IsPassed t new
-  pub are : AreFrom t (next_key (enc new.last)) n es
-
-pub walks_start : (t : Tree) (s : Spot) (had : Text) (limit : ℕ) (es : List (Path × Meta)) → IsTree t → IsPiece t s limit es → Walks t s had s had (limit - 1) (drop 1 es)
-walks_start t s had limit es is p = record {
-  passes = passes_nothing t s had p.at;
-  passed = λ short. p.passed;
-  are = (behind_first t s.last p.at.0 limit es is p.are p.at.1 p.some).0;
-}
+  pub ahead : IsAhead t new.last a
 
 -- the next entry, and lines of its blocks
-pub walks_on : (t : Tree) (a s new : Spot) (x y line z : Text) (n : ℕ) (e : Path × Meta) (es : List (Path × Meta)) → IsTree t → Walks t a x s y n (e ∷ es) → length y < 65536
-    → line ≡ y ++ entry_text e.0 e.1 → (IsAt t (record { last = e.0; from = 0 }) → Passes t (record { last = e.0; from = 0 }) line new z)
-    → (IsAt t (record { last = e.0; from = 0 }) → length z < 65536 → IsPassed t new) → new.last ≡ e.0 → Walks t a x new z (n - 1) es
-walks_on t a s new x y line z n e es is w short put blocks passed last =
-    let first = passes_entry t s n e es y line is (w.passed short) w.are put in
-    record {
-      passes = passes_then t a s new x y z w.passes (passes_then t s (record { last = e.0; from = 0 }) new y line z first (blocks first.at));
-      passed = passed first.at;
-      are = subst (λ (p : Path). AreFrom t (next_key (enc p)) (n - 1) es) (sym last) (others t (next_key (enc s.last)) n e es w.are);
-    }
-
--- the next of a list that a walk is in the middle of
-pub next_of : {X : Type 0} (all : List X) (k : ℕ) (x : X) → (k < length all) × (x ≡ get_or all k x) → drop k all ≡ x ∷ drop (k + 1) all
-next_of all k x h = drop_more all k x h.0 ∙ ap (λ y. y ∷ drop (k + 1) all) (sym h.1)
-
--- at the end of the piece
-pub walks_end : (t : Tree) (a s : Spot) (x y : Text) (limit n : ℕ) (es : List (Path × Meta)) → IsTree t → IsPiece t a limit es → Walks t a x s y n [] → n ≡ limit - 1 - length (drop 1 es) → PassesPiece t limit es a x s y
-walks_end t a s x y limit n es is p w count = record {
-  passes = w.passes;
-  passed = w.passed;
-  rest = λ short few.
-      let some = (behind_first t a.last p.at.0 limit es is p.are p.at.1 p.some).1 in
-      ap (λ (l : Text). l ++ image_from (next_key (enc s.last)) t) (w.passed short) ∙ none_behind t s.last n is w.are (omega (arith, count, some, few));
+pub prints_on : (t : Tree) (a s new : Spot) (x y z : Text) (old ahead : Ahead) (e : Path × Meta) → Prints t a x s y old → length y < 65536 → IsNext t s.last (Some e) ahead
+    → (IsPassed t s → IsNextAt t s.last e → Passes t s y new z) → (IsNextAt t s.last e → length z < 65536 → IsPassed t new) → new.last ≡ e.0 → Prints t a x new z ahead
+prints_on t a s new x y z old ahead e so_far short next passes passed last = record {
+  passes = passes_then t a s new x y z so_far.passes (passes (so_far.passed short) next.0);
+  passed = passed next.0;
+  ahead = subst (λ (p : Path). IsAhead t p ahead) (sym last) next.1;
 }
 
--- where the text has enough bytes
-pub walks_enough : (t : Tree) (a s : Spot) (x y : Text) (limit n : ℕ) (es ds : List (Path × Meta)) → Walks t a x s y n ds → 65536 ≤ length y → PassesPiece t limit es a x s y
-walks_enough t a s x y limit n es ds w enough = record {
-  passes = w.passes;
-  passed = w.passed;
-  rest = λ short few. absurd (omega (arith, short, enough));
-}
+-- where none comes next, no line is left
+pub prints_end : (t : Tree) (a s : Spot) (x y : Text) (old ahead : Ahead) → Prints t a x s y old → IsNext t s.last None ahead → length y < 65536 → left_at t s ≡ []
+prints_end t a s x y old ahead so_far next short = ap (λ (l : Text). l ++ image_from (next_key (enc s.last)) t) (so_far.passed short) ∙ next.0

@@ -3,7 +3,7 @@ use Rattle.std.specs.Prelude.{◌≡◌, ℕ, ◌<◌, ◌≤◌, List, [], ◌+
 use Rattle.std.specs.Coded.{Coded, code_by, coded×, coded_ℕ}
 use Rattle.reference.specs.Image.{Text, Second, image}
 use Rattle.reference.specs.Tree.{Tree}
-use Rattle.images.specs.Spots.{IsAt, left_at}
+use Rattle.images.specs.Spots.{IsAhead, IsAt, left_at}
 use Rattle.images.specs.declared.ready.Ready.{Ready}
 use Rattle.volume.specs.Codes.{coded_rooted}
 use Rattle.volume.specs.Volumes.{MeanRooted}
@@ -35,12 +35,13 @@ pub record HandsOver (text : Text) (done n : ℕ) (old new : List ℕ) : Type 0 
 abbrev pub ready_text : Ready → Text
 ready_text r = drop r.used r.text.items
 
--- what was handed out of the image of a tree, what is ready, and what is left behind that are all of it
+-- what was handed out of the image of a tree, what is ready, and what is left behind that are all of it; entries behind were taken ahead
 pub record IsReadyFor (t : Tree) (r : Ready) : Type 0 where
   pub front : Text
   pub count : length front ≡ r.done
   pub split : image Second t ≡ front ++ (ready_text r ++ left_at t r.spot)
   pub at : IsAt t r.spot
+  pub ahead : IsAhead t r.spot.last r.ahead
 
 -- the same of each tree that is meant, and no more was handed out of the text than it has
 pub record IsReady (i : Rooted) (r : Ready) : Type 0 where

@@ -1,12 +1,15 @@
 -- Places between two lines of an image, and what is printed from one to another.
-use Rattle.std.specs.Prelude.{◌≡◌, ℕ, ◌<◌, List, [], ◌++◌, length}
-use Rattle.pathkey.specs.Keys.{enc, next_key}
+use Rattle.std.specs.Prelude.{◌≡◌, ◌⊎◌, ℕ, ◌*◌, ◌^◌, ◌<◌, ◌≤◌, true, List, [], ◌++◌, length, Option, Some, None, All, AllPairs, Contains}
+use Rattle.message.specs.Ranges.{before, reaches}
+use Rattle.pathkey.specs.Keys.{Key, enc, next_key}
 use Rattle.reference.specs.Image.{Text}
 use Rattle.reference.specs.Tree.{Path, Tree, entry_at}
 use Rattle.reference.specs.declared.reply.Meta.{Meta}
-use Rattle.images.specs.Image.{EndsLine, blocks_left, image_from}
+use Rattle.reference.specs.declared.reply.Meta.TheVariants.{Dir as DirMeta, File as FileMeta}
+use Rattle.images.specs.Image.{EndsLine, blocks_left, entry_text, image_from}
+use Rattle.images.specs.declared.ahead.Ahead.{Ahead}
 use Rattle.images.specs.declared.spot.Spot.{Spot}
-use Rattle.volume.specs.Walks.{AreEntries, IsEntry}
+use Rattle.volume.specs.Walks.{IsEntry}
 
 -- the lines behind a place
 abbrev pub left_at : Tree → Spot → Text
@@ -28,15 +31,37 @@ pub record Passes (t : Tree) (old : Spot) (had : Text) (new : Spot) (has : Text)
   pub whole : EndsLine lines
   pub at : IsAt t new
 
--- the first `limit` entries from that of the place on, whose lines are passed, or all where there are fewer
-pub record IsPiece (t : Tree) (s : Spot) (limit : ℕ) (es : List (Path × Meta)) : Type 0 where
-  pub some : 0 < limit
-  pub at : IsAt t s
-  pub passed : IsPassed t s
-  pub are : AreEntries t s.last limit es
+-- ---- what comes next
 
--- lines of such entries were added: all of them, unless the text has enough bytes
-pub record PassesPiece (t : Tree) (limit : ℕ) (es : List (Path × Meta)) (old : Spot) (had : Text) (new : Spot) (has : Text) : Type 0 where
-  pub passes : Passes t old had new has
-  pub passed : length has < 65536 → IsPassed t new
-  pub rest : length has < 65536 → length es < limit → left_at t new ≡ []
+-- the first n entries from a key on, or all where there are fewer: each stands in the tree there, they rise, and none is missing unless
+-- there are n before it
+pub record AreFrom (t : Tree) (lo : Key) (n : ℕ) (es : List (Path × Meta)) : Type 0 where
+  pub few : length es ≤ n
+  pub sound : All (λ e. (reaches lo (enc e.0) ≡ true) × IsEntry t e.0 e.1) es
+  pub rising : AllPairs (λ d e. before (enc d.0) (enc e.0) ≡ true) es
+  pub complete : (p : Path) (m : Meta) → reaches lo (enc p) ≡ true → IsEntry t p m → Contains es (p, m) ⊎ ((length es ≡ n) × All (λ e. before (enc e.0) (enc p) ≡ true) es)
+
+-- entries that were taken ahead: the first behind the one at a path, and where `all` says so, no other is left
+pub record IsAhead (t : Tree) (last : Path) (a : Ahead) : Type 0 where
+  pub count : ℕ
+  pub are : AreFrom t (next_key (enc last)) count a.entries.items
+  pub all : a.all ≡ true → length a.entries.items < count
+
+-- the lines of an entry come next behind those of the entry at a path
+pub record IsNextAt (t : Tree) (last : Path) (e : Path × Meta) : Type 0 where
+  pub is : IsEntry t e.0 e.1
+  pub left : image_from (next_key (enc last)) t ≡ entry_text e.0 e.1 ++ left_at t (record { last = e.0; from = 0 })
+
+-- the entry that comes next, with those ahead behind it; none only where no line comes next
+abbrev pub IsNext : Tree → Path → Option (Path × Meta) → Ahead → Type 0
+IsNext t last None a = (image_from (next_key (enc last)) t ≡ []) × IsAhead t last a
+IsNext t last (Some e) a = IsNextAt t last e × IsAhead t e.0 a
+
+-- how many bytes an entry has; a directory has none
+abbrev pub size_of : Meta → ℕ
+size_of (DirMeta at) = 0
+size_of (FileMeta len at) = len
+
+-- no block that begins behind so many bytes of what stands at the path has a line
+abbrev pub EndsBy : Tree → Path → ℕ → Type 0
+EndsBy t p len = (i : ℕ) → i < 2 ^ 32 → len ≤ i * 4096 → blocks_left (entry_at t p) i ≡ []

@@ -1,22 +1,24 @@
 //! Prints the image of a tree that stands still, in version 2, which tells moments; and the lines of either version.
-ghost use Rattle.std.specs.Prelude.{◌≡◌, ◌≤◌, ◌++◌, ◌∷◌, [], Err, decimal, flat_map, length, take, OnOk, OnErr};
+ghost use Rattle.std.specs.Prelude.{◌≡◌, ◌≤◌, ◌++◌, ◌∷◌, [], ℕ, List, Err, decimal, flat_map, length, take, OnOk, OnErr};
 ghost use Rattle.std.specs.Io.KnownBytes.{Appends};
 ghost use Rattle.reference.specs.Image.{Second, block_line, image, moment_text, path_text, percent, trimmed};
 ghost use Rattle.reference.specs.Tree.{Tree};
 ghost use Rattle.images.specs.Image.{AppendsLines, directory_text, file_text, version_of};
+ghost use Rattle.images.specs.Spots.{IsAhead};
 ghost use Rattle.images.specs.declared.image.ImageFault.TheVariants as fault;
 ghost use Rattle.lines.specs.Parts.{AppendsPart};
 ghost use Rattle.volume.specs.Volumes.{MeanRooted};
 
+use crate::ahead::Ahead;
 use crate::spot::{ENOUGH, Spot};
 use crate::version::{ImageVersion, directory_word, file_word};
 use lines::output::{WriteFailed, put};
-use lines::text::{put_hex, put_number, put_number_line, put_percent};
+use lines::text::{put_hex, put_number, put_number_line, put_path};
 use pathkey::{NoMemory, Path};
 use std::alloc::Global;
 use std::io::Write;
 use thiserror::Error;
-use volume::Frozen;
+use volume::{BlockWalk, Frozen};
 
 /// Why an image was not printed to its end.
 #[derive(Debug, Drop, PartialEq, Eq, Error)]
@@ -60,30 +62,35 @@ pub fn print_image<W: Write>(
 {
     let mut text = Vec::new(alloc);
     let mut spot = Spot::behind_root(alloc);
-    let told = print_all(alloc, frozen, &mut spot, &mut text, writer);
+    let mut ahead = Ahead::new(alloc);
+    let told = print_all(alloc, frozen, &mut spot, &mut ahead, &mut text, writer);
+    drop(ahead);
     drop(spot);
     drop(text);
     told
 }
 
-/// Writes the image of a tree, or a beginning of it, with a place behind the root and a text to print into.
+/// Writes the image of a tree, or a beginning of it, with a place behind the root, where nothing was taken ahead, and a text to print into.
 fn print_all<W: Write>(
     alloc: Global,
     frozen: &Frozen,
     spot: &mut Spot,
+    ahead: &mut Ahead,
     text: &mut Vec<u8>,
     writer: &mut W,
 ) -> Result<(), ImageFault>
-    requires { (spot.old.last ≡ []) × (spot.old.from ≡ 0) }
+    requires place { (spot.old.last ≡ []) × (spot.old.from ≡ 0) }
+    requires ahead { (t : Tree) (last : List (List ℕ)) → IsAhead t last ahead.old }
     ensures ok { (t : Tree) → MeanRooted frozen.now t → OnOk result (Appends (W.contents writer.old) (W.contents writer.new) (image Second t)) }
     ensures err { (t : Tree) → MeanRooted frozen.now t → OnErr result (AppendsPart (W.contents writer.old) (W.contents writer.new) (image Second t)) }
     ensures memory { (t : Tree) → MeanRooted frozen.now t → result ≡ Err ImageFault.Memory → AppendsLines (W.contents writer.old) (W.contents writer.new) (image Second t) }
 {
     put_number_line(writer, b"D / ", frozen.modified())?;
+    let mut blocks = BlockWalk::new(alloc, frozen);
     // No tree has more lines.
     for _ in 0..u64::MAX {
         text.clear();
-        spot.print(alloc, frozen, text)?;
+        spot.print(alloc, frozen, ahead, &mut blocks, text)?;
         put(writer, text.as_slice())?;
         if text.len() < ENOUGH {
             return Ok(());
@@ -154,20 +161,6 @@ fn put_end<W: Write>(
         ImageVersion::First => put(writer, b"\n"),
         ImageVersion::Second => put_number_line(writer, b" ", modified),
     }
-}
-
-/// Writes a path's text in percent form, or a beginning of it.
-fn put_path<W: Write>(writer: &mut W, path: &Path) -> Result<(), WriteFailed>
-    ensures ok { OnOk result (Appends (W.contents writer.old) (W.contents writer.new) (path_text path.now)) }
-    ensures err { OnErr result (AppendsPart (W.contents writer.old) (W.contents writer.new) (path_text path.now)) }
-{
-    let mut left = path.names();
-    'names: while let Some((name, rest)) = left.split_first() {
-        put(writer, b"/")?;
-        put_percent(writer, name)?;
-        left = rest;
-    }
-    Ok(())
 }
 
 /// Writes the line of a block, or a beginning of it; none where all its bytes are zero.

@@ -4,6 +4,7 @@
 //! Each tree has one image of each version, and an image of version 2 is that of one tree: an image of version 1 tells no moments.
 #![tactic(auto)]
 
+mod ahead;
 pub mod image;
 pub mod image_line;
 pub mod load;

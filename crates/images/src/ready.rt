@@ -5,11 +5,12 @@ ghost use Rattle.images.specs.Printings.{HandsOut, IsReady, ready_text};
 ghost use Rattle.images.specs.Spots.{left_at};
 ghost use Rattle.volume.specs.Volumes.{MeanRooted};
 
+use crate::ahead::Ahead;
 use crate::spot::Spot;
 use lines::text::put_number_line;
 use pathkey::NoMemory;
 use std::alloc::Global;
-use volume::Frozen;
+use volume::{BlockWalk, Frozen};
 
 /// Lines that are ready, and the place behind them.
 #[derive(Drop)]
@@ -20,6 +21,8 @@ pub(crate) struct Ready {
     pub(crate) used: usize,
     /// The place behind them.
     pub(crate) spot: Spot,
+    /// Entries behind it that were taken already.
+    pub(crate) ahead: Ahead,
     /// How many bytes of the image were handed out.
     pub(crate) done: u64,
 }
@@ -37,6 +40,7 @@ impl Ready {
             text,
             used: 0,
             spot: Spot::behind_root(alloc),
+            ahead: Ahead::new(alloc),
             done: 0,
         })
     }
@@ -54,7 +58,15 @@ impl Ready {
         let mut spot = self.spot.copy(alloc)?;
         self.text.clear();
         self.used = 0;
-        if let Err(NoMemory) = spot.print(alloc, frozen, &mut self.text) {
+        let mut blocks = BlockWalk::new(alloc, frozen);
+        if let Err(NoMemory) = spot.print(
+            alloc,
+            frozen,
+            &mut self.ahead,
+            &mut blocks,
+            &mut self.text,
+        ) {
+            self.ahead.clear();
             self.text.clear();
             drop(spot);
             return Err(NoMemory);

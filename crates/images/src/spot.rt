@@ -1,13 +1,15 @@
 //! Where the printing of an image stands, and the lines that come next: one for each entry in key order, and for a file one for
 //! each block that holds a byte other than zero.
-ghost use Rattle.std.specs.Prelude.{◌≡◌, ◌<◌, ◌≤◌, ◌++◌, [], ℕ, IfOk, OnOk, length};
+ghost use Rattle.std.specs.Prelude.{◌≡◌, ◌<◌, ◌++◌, [], IfOk, OnOk, length};
 ghost use Rattle.reference.specs.Tree.{Tree};
 ghost use Rattle.images.specs.Image.{entry_text};
-ghost use Rattle.images.specs.Spots.{IsAt, IsPassed, IsPiece, Passes, PassesPiece, left_at};
+ghost use Rattle.images.specs.Spots.{EndsBy, IsAhead, IsAt, IsNextAt, IsPassed, Passes, left_at, size_of};
 ghost use Rattle.volume.specs.Volumes.{MeanRooted};
 
+use crate::ahead::Ahead;
 use crate::image::{put_block, put_directory, put_file};
 use crate::version::ImageVersion;
+use block_index::block::BLOCK;
 use lines::output::WriteFailed;
 use pathkey::{NoMemory, Path};
 use reference::Meta;
@@ -16,12 +18,6 @@ use volume::{BlockWalk, Frozen};
 
 /// How many bytes of lines are printed in one go, and more where a line ends behind them.
 pub(crate) const ENOUGH: usize = 65_536;
-
-/// How many entries the first piece of a walk may have.
-const FIRST: usize = 8;
-
-/// How many a piece may have at most.
-const MOST: usize = 256;
 
 /// A place between two lines of an image, behind the root's: behind the line of an entry, and behind those of its first blocks.
 #[derive(Drop)]
@@ -56,34 +52,73 @@ impl Spot {
 
     /// Adds lines to a text until it has enough bytes, or the image has no more lines, and goes behind them.
     ///
-    /// It walks through the entries, and beside them through the blocks, piece by piece. It holds a piece of each.
+    /// It walks through the entries, and beside them through the blocks, of which what was taken ahead is held.
     pub(crate) fn print(
         &mut self,
         alloc: Global,
         frozen: &Frozen,
+        ahead: &mut Ahead,
+        blocks: &mut BlockWalk,
         text: &mut Vec<u8>,
     ) -> Result<(), NoMemory>
-        ensures passes { OnOk result ((t : Tree) → MeanRooted frozen.now t → IsAt t self.old → Passes t self.old text.old.items self.new text.new.items) }
-        ensures rest { OnOk result ((t : Tree) → MeanRooted frozen.now t → IsAt t self.old → length text.new.items < 65536 → left_at t self.new ≡ []) }
+        requires tree { blocks.old ≡ frozen.now }
+        ensures passes { OnOk result ((t : Tree) → MeanRooted frozen.now t → IsAt t self.old → IsAhead t self.old.last ahead.old → Passes t self.old text.old.items self.new text.new.items) }
+        ensures ahead { OnOk result ((t : Tree) → MeanRooted frozen.now t → IsAt t self.old → IsAhead t self.old.last ahead.old → IsAhead t self.new.last ahead.new) }
+        ensures rest { OnOk result ((t : Tree) → MeanRooted frozen.now t → IsAt t self.old → IsAhead t self.old.last ahead.old → length text.new.items < 65536 → left_at t self.new ≡ []) }
+        ensures tree { blocks.new ≡ blocks.old }
     {
-        let mut blocks = BlockWalk::new(alloc, frozen);
-        self.print_blocks(alloc, &mut blocks, text)?;
-        self.print_entries(alloc, frozen, &mut blocks, text)
+        // How many bytes the entry has is not kept.
+        self.print_blocks(alloc, blocks, u64::MAX, text)?;
+        // No tree has more entries.
+        for _ in 0..u64::MAX {
+            if text.len() >= ENOUGH {
+                return Ok(());
+            }
+            let Some((path, meta)) = ahead.next(alloc, frozen, &self.last)? else {
+                return Ok(());
+            };
+            self.print_entry(alloc, blocks, path, meta, text)?;
+        }
+        Err(NoMemory)
     }
 
-    /// Adds the lines of blocks of the entry, until the text has enough bytes.
+    /// Adds the line of the entry that comes next, and those of its blocks, until the text has enough bytes.
+    fn print_entry(
+        &mut self,
+        alloc: Global,
+        blocks: &mut BlockWalk,
+        path: Path,
+        meta: Meta,
+        text: &mut Vec<u8>,
+    ) -> Result<(), NoMemory>
+        ensures passes { OnOk result ((t : Tree) → MeanRooted blocks.old t → IsPassed t self.old → IsNextAt t self.old.last (path, meta) → Passes t self.old text.old.items self.new text.new.items) }
+        ensures rest { OnOk result ((t : Tree) → MeanRooted blocks.old t → IsNextAt t self.old.last (path, meta) → length text.new.items < 65536 → IsPassed t self.new) }
+        ensures last { OnOk result (self.new.last ≡ path) }
+        ensures tree { blocks.new ≡ blocks.old }
+    {
+        put_entry(text, &path, meta)?;
+        self.last = path;
+        self.from = 0;
+        self.print_blocks(alloc, blocks, len_of(meta), text)
+    }
+
+    /// Adds the lines of blocks of the entry, which has no more than so many bytes, until the text has enough bytes.
     fn print_blocks(
         &mut self,
         alloc: Global,
         blocks: &mut BlockWalk,
+        len: u64,
         text: &mut Vec<u8>,
     ) -> Result<(), NoMemory>
         ensures passes { OnOk result ((t : Tree) → MeanRooted blocks.old t → IsAt t self.old → Passes t self.old text.old.items self.new text.new.items) }
-        ensures rest { OnOk result ((t : Tree) → MeanRooted blocks.old t → IsAt t self.old → length text.new.items < 65536 → IsPassed t self.new) }
+        ensures rest { OnOk result ((t : Tree) → MeanRooted blocks.old t → IsAt t self.old → EndsBy t self.old.last len → length text.new.items < 65536 → IsPassed t self.new) }
         ensures last { self.new.last ≡ self.old.last }
         ensures tree { blocks.new ≡ blocks.old }
     {
         'lines: while text.len() < ENOUGH {
+            if u64::from(self.from) * BLOCK >= len {
+                return Ok(());
+            }
             let Some((number, block)) = blocks.next(alloc, &self.last, self.from)? else {
                 return Ok(());
             };
@@ -94,66 +129,16 @@ impl Spot {
         }
         Ok(())
     }
-
-    /// Adds the lines of the entries behind this one, whose own are passed unless the text has enough bytes, until it has.
-    fn print_entries(
-        &mut self,
-        alloc: Global,
-        frozen: &Frozen,
-        blocks: &mut BlockWalk,
-        text: &mut Vec<u8>,
-    ) -> Result<(), NoMemory>
-        requires tree { blocks.old ≡ frozen.now }
-        ensures passes { OnOk result ((t : Tree) → MeanRooted frozen.now t → IsAt t self.old → (length text.old.items < 65536 → IsPassed t self.old) → Passes t self.old text.old.items self.new text.new.items) }
-        ensures rest { OnOk result ((t : Tree) → MeanRooted frozen.now t → IsAt t self.old → (length text.old.items < 65536 → IsPassed t self.old) → length text.new.items < 65536 → left_at t self.new ≡ []) }
-    {
-        let mut most = FIRST;
-        // No tree has more entries.
-        for _ in 0..u64::MAX {
-            if text.len() >= ENOUGH {
-                return Ok(());
-            }
-            let piece = frozen.entries(alloc, &self.last, most)?;
-            let count = piece.len();
-            self.print_piece(alloc, blocks, piece, text)?;
-            if count < most {
-                return Ok(());
-            }
-            most = grown(most);
-        }
-        Err(NoMemory)
-    }
-
-    /// Adds the lines of a piece of the entries, which begins with this one, until the text has enough bytes.
-    fn print_piece(
-        &mut self,
-        alloc: Global,
-        blocks: &mut BlockWalk,
-        piece: Vec<(Path, Meta)>,
-        text: &mut Vec<u8>,
-    ) -> Result<(), NoMemory>
-        ensures passes { OnOk result ((t : Tree) (limit : ℕ) → MeanRooted blocks.old t → IsPiece t self.old limit piece.items → PassesPiece t limit piece.items self.old text.old.items self.new text.new.items) }
-        ensures tree { blocks.new ≡ blocks.old }
-    {
-        for (path, meta) in piece.into_iter().skip(1) {
-            if text.len() >= ENOUGH {
-                return Ok(());
-            }
-            put_entry(text, &path, meta)?;
-            self.last = path;
-            self.from = 0;
-            self.print_blocks(alloc, blocks, text)?;
-        }
-        Ok(())
-    }
 }
 
-/// How many the piece behind one of so many may have.
-fn grown(most: usize) -> usize
-    requires { (0 < most) × (most ≤ 256) }
-    ensures { (0 < result) × (result ≤ 256) }
+/// How many bytes an entry has; a directory has none.
+fn len_of(meta: Meta) -> u64
+    ensures { result ≡ size_of meta }
 {
-    (most * 2).min(MOST)
+    match meta {
+        Meta::Dir { modified: _ } => 0,
+        Meta::File { len, modified: _ } => len,
+    }
 }
 
 /// Adds the line of an entry to a text.

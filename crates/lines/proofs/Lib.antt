@@ -4,3 +4,4 @@ pub mod ValueFacts
 pub mod Texts
 pub mod HeldFacts
 pub mod HexFacts
+pub mod Written

@@ -20,7 +20,7 @@ pub one_word : (line : List ℕ) → All (λ b. b ≢ 32) line → words_of line
 one_word line none = pieces_cut 32 line [] none
 
 -- a line is its first word, and the words after the space
-more_words : (line word rest : List ℕ) → line ≡ word ++ 32 ∷ rest → All (λ b. b ≢ 32) word → words_of line ≡ word ∷ words_of rest
+pub more_words : (line word rest : List ℕ) → line ≡ word ++ 32 ∷ rest → All (λ b. b ≢ 32) word → words_of line ≡ word ∷ words_of rest
 more_words line word rest is none =
     ap words_of is ∙ ap (pieces 32) (append_assoc word (32 ∷ rest) (32 ∷ [])) ∙ pieces_cut 32 word (rest ++ 32 ∷ []) none
 

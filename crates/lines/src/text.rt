@@ -1,13 +1,14 @@
 //! Writes numbers, and bytes in hexadecimal and in percent form.
-ghost use Rattle.std.specs.Prelude.{◌≡◌, ◌≤◌, ◌<◌, ◌↔◌, All, MatchOption, OnOk, OnErr, decimal, flat_map, length, slice_index, take, true};
+ghost use Rattle.std.specs.Prelude.{◌≡◌, ◌*◌, ◌≤◌, ◌<◌, ◌↔◌, All, MatchOption, OnOk, OnErr, decimal, flat_map, length, slice_index, take, true};
 ghost use Rattle.std.specs.Io.KnownBytes.{Appends};
-ghost use Rattle.reference.specs.Image.{percent, two_digits};
+ghost use Rattle.reference.specs.Image.{path_text, percent, two_digits};
 ghost use Rattle.lines.specs.Parts.{AppendsPart};
 ghost use Rattle.lines.specs.Texts.{IsPlain, hex_text, number_line};
 
 use crate::output::{WriteFailed, put};
 use itoa::Buffer;
-use reference::digits::escape;
+use pathkey::Path;
+use reference::digits::{escape, lower_digits};
 use std::io::Write;
 
 /// Of how many bytes the digits are written in one go.
@@ -70,9 +71,19 @@ fn put_piece<W: Write>(writer: &mut W, bytes: &[u8]) -> Result<(), WriteFailed>
 {
     let mut room = [0u8; 2 * AT_ONCE];
     let digits = &mut room[..2 * bytes.len()];
-    match hex::encode_to_slice(bytes, digits) {
-        Ok(()) => put(writer, digits),
-        Err(_) => unreachable!(),
+    lay_digits(bytes, digits);
+    put(writer, digits)
+}
+
+/// Lays the two digits of each byte into room for all of them.
+fn lay_digits(bytes: &[u8], digits: &mut [u8])
+    requires { length digits.old ≡ 2 * length bytes.now }
+    ensures { digits.new ≡ flat_map (two_digits 87) bytes.now }
+{
+    for number in 0..bytes.len() {
+        let [high, low] = lower_digits(bytes[number]);
+        digits[2 * number] = high;
+        digits[2 * number + 1] = low;
     }
 }
 
@@ -93,6 +104,20 @@ pub fn put_percent<W: Write>(writer: &mut W, name: &[u8]) -> Result<(), WriteFai
         rest = after;
     }
     Err(WriteFailed)
+}
+
+/// Writes a slash and a name in percent form for each name of a path, or a beginning of that; nothing for the root.
+pub fn put_path<W: Write>(writer: &mut W, path: &Path) -> Result<(), WriteFailed>
+    ensures ok { OnOk result (Appends (W.contents writer.old) (W.contents writer.new) (path_text path.now)) }
+    ensures err { OnErr result (AppendsPart (W.contents writer.old) (W.contents writer.new) (path_text path.now)) }
+{
+    let mut left = path.names();
+    'names: while let Some((name, rest)) = left.split_first() {
+        put(writer, b"/")?;
+        put_percent(writer, name)?;
+        left = rest;
+    }
+    Ok(())
 }
 
 /// Whether each byte stands for itself in percent form, so that the form is the name.

@@ -9,3 +9,5 @@ mod by_hand;
 mod cuts;
 #[cfg(test)]
 mod replays;
+#[cfg(test)]
+mod told;

@@ -1,5 +1,5 @@
 -- A change that a volume was asked for is done, or refused, as each world that it meant says.
-use Rattle.std.proofs.Common.{◌≡◌, ⊎_elim, inl, inr, [], ◌∷◌, false, Bool, cond, refl, ap, sym, subst, ◌∙◌, Some, None, Result, Ok, Err, IfErr}
+use Rattle.std.proofs.Common.{◌≡◌, ⊎_elim, [], ◌∷◌, false, Bool, cond, refl, ap, sym, subst, ◌∙◌, Some, None, Result, Ok, Err, IfErr}
 use Rattle.pathkey.specs.declared.errno.Errno.{Errno}
 use Rattle.pathkey.specs.declared.errno.Errno.TheVariants.{ENOMEM}
 use Rattle.reference.specs.Worlds.{World, Event, Ask, TakeSnapshot, DropSnapshot, RestoreSnapshot, Answer, Replied, Settled, Fits, MayLack, is_lack, next, outcome}
@@ -50,10 +50,7 @@ done_from c a old new h good = λ w m.
 
 pub refused_from : (c : Change) (a : Answer) (e : Errno) (old new : PVolume) → Answers c a old new → fault_of a ≡ Some e → IsRefused c e old
 unfolding Answers
-refused_from c a e old new h bad = λ w m. ⊎_elim
-    (λ (same : a ≡ (outcome w (event_in w c)).1). inl (ap fault_of (sym same) ∙ bad))
-    (λ (l : MayLack w (event_in w c) a). inr (let told = lack_told w (event_in w c) a l in cc))
-    (h w m).0
+refused_from c a e old new h bad = λ w m. (a, (h w m).0, bad)
 
 pub settled_makes : (c : Change) (r : Result (Unit {0}) Errno) (old new : PVolume) → Answers c (Settled r) old new → IfErr r (λ _. new ≡ old) → Makes c r old new
 settled_makes c (Ok u) old new h kept = done_from c (Settled (Ok u)) old new h refl

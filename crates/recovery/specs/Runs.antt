@@ -2,8 +2,7 @@
 use Rattle.std.specs.Prelude.{◌≡◌, ◌⊎◌, ℕ, List, [], ◌∷◌, ◌++◌, length, Option, Some, None, Result, Ok, Err, MatchResult, ⊤}
 use Rattle.pathkey.specs.Names.{Path}
 use Rattle.pathkey.specs.declared.errno.Errno.{Errno}
-use Rattle.pathkey.specs.declared.errno.Errno.TheVariants.{ENOMEM}
-use Rattle.reference.specs.Worlds.{World, Event, Ask, TakeSnapshot, DropSnapshot, RestoreSnapshot, Answer, Replied, Settled, outcome}
+use Rattle.reference.specs.Worlds.{World, Event, Ask, TakeSnapshot, DropSnapshot, RestoreSnapshot, Answer, Replied, Settled, Fits, outcome}
 use Rattle.reference.specs.declared.call.Call.{Call}
 use Rattle.reference.specs.declared.call.Call.TheVariants as ask
 use Rattle.reference.specs.declared.reply.Reply.TheVariants.{Fault}
@@ -66,9 +65,9 @@ AllDone w (c ∷ cs) = (fault_in w c ≡ None) × AllDone (made w c) cs
 abbrev pub Reaches : List Change → PVolume → PVolume → Type 0
 Reaches cs old new = (w : World) → Means old w → AllDone w cs × Means new (after w cs)
 
--- the change is refused so in each world that the volume means; or memory was refused
+-- each world that the volume means answers the change with this fault: its own, or want of memory where that may be
 abbrev pub IsRefused : Change → Errno → PVolume → Type 0
-IsRefused c e v = (w : World) → Means v w → (fault_in w c ≡ Some e) ⊎ (e ≡ ENOMEM)
+IsRefused c e v = (w : World) → Means v w → (a : Answer) × Fits w (event_in w c) a × (fault_of a ≡ Some e)
 
 -- the change was done; or it was refused so, and nothing changed
 abbrev pub Makes : Change → Result (Unit {0}) Errno → PVolume → PVolume → Type 0

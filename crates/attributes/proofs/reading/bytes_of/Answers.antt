@@ -1,7 +1,7 @@
 use Rattle.std.proofs.Common.{◌≡◌, ℕ, List, Option, Some, None, ap, sym, ◌∙◌}
 use Rattle.std.proofs.lemmas.Option.{same_Some}
 use Rattle.lines.specs.Values.{bytes_of}
-use Rattle.attributes.proofs.ReadFacts.{bytes_told}
+use Rattle.lines.proofs.Written.{bytes_told}
 use Rattle.attributes.proofs.reading.bytes_of.Goals as goal
 
 pub returns-in-Some : goal.returns-in-Some

@@ -1,6 +1,7 @@
 use Rattle.std.proofs.Common.{◌≡◌, ℕ, Option, Some, None, decimal, sym, ◌∙◌}
 use Rattle.std.proofs.lemmas.Option.{same_Some}
-use Rattle.attributes.proofs.ReadFacts.{free_decimal, line_grouped, number_told}
+use Rattle.lines.proofs.Written.{number_told}
+use Rattle.attributes.proofs.ReadFacts.{free_decimal, line_grouped}
 use Rattle.attributes.proofs.reading.guess_number.Goals as goal
 
 pub returns-in-Some : goal.returns-in-Some

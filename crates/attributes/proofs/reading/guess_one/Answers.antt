@@ -1,6 +1,7 @@
 use Rattle.std.proofs.Common.{ap, ◌∙◌}
 use Rattle.percent_encoding.specs.Percent.{percent_decode}
-use Rattle.attributes.proofs.ReadFacts.{name_told, same_extended}
+use Rattle.lines.proofs.Written.{name_told}
+use Rattle.attributes.proofs.ReadFacts.{same_extended}
 use Rattle.attributes.proofs.reading.guess_one.Goals as goal
 
 pub returns : goal.returns

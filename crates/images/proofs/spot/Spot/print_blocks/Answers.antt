@@ -1,6 +1,8 @@
-use Rattle.std.proofs.Common.{refl, ap, sym, subst, ◌∙◌}
+use Rattle.std.proofs.Common.{refl, ap, sym, subst, ◌∙◌, arith}
 use Rattle.std.specs.Option.{option_to_list}
+use Rattle.pathkey.specs.Names.{Path}
 use Rattle.reference.specs.Tree.{entry_at}
+use Rattle.images.specs.Image.{blocks_left}
 use Rattle.volume.specs.Volumes.{MeanRooted}
 use Rattle.volume.specs.Walks.{AreBlocksAt}
 use Rattle.images.proofs.ImageBlocks.{blocks_passed}
@@ -23,6 +25,11 @@ lines-preserved c = record {
 }
 
 pub returns-in_default-clause-rest : goal.returns-in_default-clause-rest
-returns-in_default-clause-rest c = λ t mean at short.
+returns-in_default-clause-rest c = λ t mean at ends short.
     let are = c.in_ok-number.ensures.block t (subst (λ r. MeanRooted r t) (sym c.lines.invariant.tree) mean) in
     blocks_passed (entry_at t c.lines.self.last) c.lines.self.from (subst (λ bs. AreBlocksAt (entry_at t c.lines.self.last) c.lines.self.from 1 bs) (ap option_to_list c.in_default.is) are)
+
+pub returns-then-from-len-clause-rest : goal.returns-then-from-len-clause-rest
+returns-then-from-len-clause-rest c = λ t mean at ends short.
+    ap (λ (p : Path). blocks_left (entry_at t p) c.lines.self.from) c.lines.invariant.last
+    ∙ ends c.lines.self.from (omega (arith, c.from.ensures)) (omega (arith, c.from.ensures, c.if-from-len.true))

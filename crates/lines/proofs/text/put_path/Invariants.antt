@@ -1,7 +1,7 @@
 use Rattle.std.proofs.Common.{◌≡◌, ℕ, List, ◌++◌, length}
 use Rattle.std.specs.Io.KnownBytes.{Appends}
 use Rattle.reference.specs.Image.{path_text}
-use Rattle.images.proofs.image.put_path.Given as goal
+use Rattle.lines.proofs.text.put_path.Given as goal
 
 -- the text of the names that are left is all that is left to write
 abbrev pub invariant-names : goal.invariant-names

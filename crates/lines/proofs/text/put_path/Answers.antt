@@ -4,7 +4,7 @@ use Rattle.std.proofs.KnownBytes.{Appends-trans}
 use Rattle.reference.specs.Image.{path_text, percent}
 use Rattle.lines.specs.Parts.{AppendsPart}
 use Rattle.lines.proofs.Known.{on_err, part_after, part_before}
-use Rattle.images.proofs.image.put_path.Goals as goal
+use Rattle.lines.proofs.text.put_path.Goals as goal
 
 pub returns-in_err-put-clause-err : goal.returns-in_err-put-clause-err
 returns-in_err-put-clause-err g c =

@@ -1,0 +1,4 @@
+mod Reading
+mod Adding
+mod Spelling
+mod Telling
