@@ -2,6 +2,7 @@
 #![tactic(auto)]
 
 mod lay;
+pub mod laws;
 mod spell;
 pub mod tell;
 

@@ -1,4 +1,4 @@
-use Rattle.std.proofs.Common.{◌∙◌, sym}
+use Rattle.std.proofs.Common.{◌∙◌, sym, arith}
 use Rattle.lines.proofs.Known.{on_err}
 use Rattle.images.proofs.Printed.{printed_all, printed_lines, printed_more, printed_more_part, printed_part, printed_root, root_part}
 use Rattle.images.proofs.image.print_all.Goals as goal
@@ -25,6 +25,14 @@ returns-in_err-put-clause-err g c = λ t mean.
     let so_far = c.loop.invariant.printed t mean in
     let on = c.in_ok-print.ensures.passes t mean so_far.3 (c.loop.invariant.ahead t mean) in
     on_err _ _ (printed_more_part _ _ _ t c.loop.spot _ _ so_far (rw c.clear.ensures.items at on) (rw c.as_slice.ensures.value at c.in_err-put.ensures.err))
+
+pub returns-then-len-lt-ENOUGH-clause-ok : goal.returns-then-len-lt-ENOUGH-clause-ok
+returns-then-len-lt-ENOUGH-clause-ok g c = λ t mean.
+    let so_far = c.loop.invariant.printed t mean in
+    let ahead = c.loop.invariant.ahead t mean in
+    let on = c.in_ok-print.ensures.passes t mean so_far.3 ahead in
+    printed_all _ _ t c.print.new.self (c.in_ok-print.ensures.rest t mean so_far.3 ahead (omega (arith, c.if-len-lt-ENOUGH.true, c.len.ensures)))
+    (printed_more _ _ _ t c.loop.spot _ _ so_far (rw c.clear.ensures.items at on) (rw c.as_slice.ensures.value at c.in_ok-put.ensures.ok))
 
 pub loop-preserved : goal.loop-preserved
 loop-preserved g c = record {
