@@ -20,6 +20,10 @@ int store_keep(struct store *store, struct mount *mount) { return (void)store, (
 
 int store_end_request(struct store *store) { return (void)store, 0; }
 
+void store_rest(struct store *store) { (void)store; }
+
+void store_wait(struct store *store) { (void)store; }
+
 bool store_syncs_each(const struct store *store) { return (void)store, false; }
 
 int store_sync(struct store *store, uint64_t *told) { return (void)store, (void)told, 0; }

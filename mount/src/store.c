@@ -324,6 +324,7 @@ static size_t most_waiting(void) {
 int store_open(const struct making *making, struct volume *volume, struct store **out) {
     struct store *store = calloc(1, sizeof *store);
     if (!store) return ENOMEM;
+    store->directory = store->lock = -1;
     pthread_mutex_init(&store->writing, 0);
     store->syncs_each = making->syncs_each;
     store->log_size = making->log_size;

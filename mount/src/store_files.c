@@ -53,7 +53,6 @@ static int take_lock(struct store *store) {
 }
 
 int store_lock(struct store *store, const char *folder) {
-    store->directory = store->lock = -1;
     snprintf(store->folder, sizeof store->folder, "%s", folder);
     int fault = mkdir(folder, 0700) && errno != EEXIST ? errno : 0;
     if (!fault && !realpath(folder, store->folder)) fault = errno;
