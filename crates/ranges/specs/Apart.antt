@@ -1,5 +1,7 @@
 -- Ranges that lie apart, each as its low end with its high end: which keys they hold.
 use Rattle.std.specs.Prelude.{◌≡◌, ℕ, ◌+◌, ◌≤◌, Bool, true, false, ◌||◌, List, [], ◌∷◌, map, length, Option}
+use Rattle.std.specs.List.{AllByRecursion}
+use Rattle.std.specs.Map.{keys_of}
 use Rattle.pathkey.specs.Keys.{is_below}
 use Rattle.message.specs.declared.msg.Msg.{Msg}
 use Rattle.message.specs.declared.msg.Msg.TheVariants.{DelRange}
@@ -15,8 +17,7 @@ covered (e ∷ rs) k = within e.0 e.1 k || covered rs k
 
 -- each range begins at the end or behind it
 abbrev pub BeginFrom : Option (List ℕ) → List Span → Type 0
-BeginFrom h [] = Unit {0}
-BeginFrom h (e ∷ rs) = (is_below e.0 h ≡ false) × BeginFrom h rs
+BeginFrom h rs = AllByRecursion (λ q. is_below q h ≡ false) (keys_of rs)
 
 -- each range holds a key, and ends before the later ones begin
 abbrev pub AreApart : List Span → Type 0
