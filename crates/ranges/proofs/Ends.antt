@@ -1,5 +1,5 @@
 -- Ends of ranges and keys, and what the ranges of a list have in common.
-use Rattle.std.proofs.Common.{◌≡◌, ℕ, Bool, true, false, not, List, [], ◌∷◌, ◌++◌, Option, Some, None, refl, ap, sym, ◌∙◌, subst, cond}
+use Rattle.std.proofs.Common.{◌≡◌, ℕ, Bool, true, false, not, List, [], ◌∷◌, ◌++◌, take, drop, Option, Some, None, refl, ap, sym, ◌∙◌, subst, cond}
 use Rattle.std.specs.Prelude.{◌&&◌, ◌||◌}
 use Rattle.std.specs.declared.cmp.Ordering.{Ordering}
 use Rattle.std.specs.declared.cmp.Ordering.TheVariants.{Less, Equal, Greater}
@@ -7,6 +7,7 @@ use Rattle.std.specs.Ordering.{is_lt, ordering_reverse}
 use Rattle.std.specs.List.{AllByRecursion}
 use Rattle.std.specs.List.Sorted.{IsStrictlySortedBy}
 use Rattle.std.specs.Map.{keys_of}
+use Rattle.std.proofs.lemmas.List.{take-append-drop}
 use Rattle.pathkey.specs.Order.{by_bytes, by_bytes_total}
 use Rattle.pathkey.specs.Keys.{is_below}
 use Rattle.message.specs.Ranges.{reaches, before, within, ends_within}
@@ -43,6 +44,10 @@ ends_on (Some h) a b e r = not_before_from_reaches h b (le_le h a b (reaches-fro
 pub ahead_of_end : (h : Option (List ℕ)) (a b : List ℕ) → is_below a h ≡ true → is_below b h ≡ false → before a b ≡ true
 ahead_of_end None a b x y = absurd (cc)
 ahead_of_end (Some h) a b x y = lt_le a h b x (reaches-from_not_before b h y)
+
+pub end_passed : (h : Option (List ℕ)) (k : List ℕ) → ends_within h (Some k) ≡ true → is_below k h ≡ false
+end_passed None k e = absurd (cc)
+end_passed (Some h) k e = not_before_from_reaches h k e
 
 pub below_later : (k : List ℕ) (hi end : Option (List ℕ)) → ends_within hi end ≡ true → is_below k hi ≡ true → is_below k end ≡ true
 below_later k hi None e b = refl
@@ -92,3 +97,6 @@ apart_left (e ∷ es) fs a = (a.0, begin_left e.1 es fs a.1, apart_left es fs a.
 pub apart_right : (es fs : List Span) → AreApart (es ++ fs) → AreApart fs
 apart_right [] fs a = a
 apart_right (e ∷ es) fs a = apart_right es fs a.2
+
+pub apart_drop : (n : ℕ) (rs : List Span) → AreApart rs → AreApart (drop n rs)
+apart_drop n rs a = apart_right (take n rs) (drop n rs) (subst (λ t. AreApart t) (sym (take-append-drop n rs)) a)

@@ -2,7 +2,10 @@
 use Rattle.std.proofs.Common.{◌≡◌, ℕ, Bool, true, false, not, List, [], ◌∷◌, Option, Some, None, refl, ap, sym, ◌∙◌, subst, cond}
 use Rattle.std.specs.Prelude.{◌&&◌, ◌||◌}
 use Rattle.std.proofs.lemmas.Bool.{and_from, or_parts}
+use Rattle.std.specs.declared.cmp.Ordering.TheVariants.{Less, Equal, Greater}
+use Rattle.std.specs.Ordering.{is_lt, is_le, is_eq}
 use Rattle.pathkey.specs.Keys.{is_below}
+use Rattle.pathkey.specs.Order.{by_bytes, same}
 use Rattle.message.specs.Ranges.{reaches, before, within, ends_within}
 use Rattle.message.proofs.KeyOrder.{both, reaches-refl, reaches-from_before, reaches-from_not_before, not_before_from_reaches, before_from_not_reaches, le_le, le_lt, lt_le, begins_before_end}
 use Rattle.ranges.specs.Apart.{Span, covered, BeginFrom, AreApart}
@@ -122,6 +125,14 @@ widens rs lo low hi high s l h = record {
 }
 
 -- ---- of two ranges that meet at a key
+
+-- a key that stands at another or before it, and is not that one, stands before it
+pub before_apart : (a b : List ℕ) → reaches a b ≡ true → same a b ≡ false → before a b ≡ true
+before_apart a b r n = elim (by_bytes a b) as (λ o. is_le o ≡ true → is_eq o ≡ false → is_lt o ≡ true) [
+  | Less ↦ λ s t. refl
+  | Equal ↦ λ s t. absurd (cc)
+  | Greater ↦ λ s t. absurd (cc)
+] r n
 
 -- both as one hold a key
 pub welded_some : (rs : List Span) (key low : List ℕ) (high : Option (List ℕ)) → IsHighEnd rs (Some key) high → before low key ≡ true → is_below low high ≡ true

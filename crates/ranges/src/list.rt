@@ -52,7 +52,7 @@ impl Ranges {
     pub fn lie_apart(&self)
         ensures { AreApart self.now }
     {
-        let _ = self.count;
+        let _ = &self.rows;
     }
 
     /// How many ranges there are.
@@ -115,6 +115,7 @@ impl Ranges {
         ensures err { OnErr result (self.new ≡ self.old) }
         ensures kept { OnErr result (from.new ≡ from.old) }
     {
+        from.lie_apart();
         if let Some((lo, hi)) = from.first() {
             self.lay_between(alloc, lo, hi.as_ref())?;
             from.drop_front(1);
@@ -152,7 +153,7 @@ impl Ranges {
     pub fn begin_from<U: Update>(&self, pivot: &Key) -> bool
         ensures { result ≡ true → LieIn pivot.now None (range_msgs {U = U} {V = U.Value} self.now) }
     {
-        match self.first() {
+        match self.rows.walk().peek() {
             None => true,
             Some((low, _)) => pivot.cmp(low).is_le(),
         }
@@ -247,6 +248,7 @@ impl Ranges {
         requires low { EndBy range.lo self.old }
         requires few { length self.old < 2 ^ 63 }
         ensures ok { OnOk result (self.new ≡ spliced range self.old) }
+        ensures bound { OnOk result (length self.new ≤ length self.old + 1) }
         ensures err { OnErr result (self.new ≡ self.old) }
     {
         let gone = splice(&mut self.rows, range)?;

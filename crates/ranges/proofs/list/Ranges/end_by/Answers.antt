@@ -1,0 +1,27 @@
+use Rattle.std.proofs.Common.{◌≡◌, ◌∙◌, [], Some, ap, sym, subst, true, false}
+use Rattle.std.specs.Prelude.{IfSome}
+use Rattle.pathkey.specs.Keys.{is_below}
+use Rattle.message.specs.Cuts.{LieIn}
+use Rattle.message.specs.Ranges.{ends_within}
+use Rattle.ranges.specs.Apart.{range_msgs}
+use Rattle.ranges.proofs.Ends.{end_passed}
+use Rattle.ranges.proofs.Parting.{all_end, front_lies}
+use Rattle.ranges.proofs.list.Ranges.end_by.Goals as goal
+
+pub returns-in-None : goal.returns-in-None
+returns-in-None g c h =
+    let p = c.args.pivot.now in
+    let rs = c.self.inside.rows in
+    let a = c.self.invariant.apart in
+    let end = all_end p rs a (subst (λ o. IfSome o (λ e. is_below p e.1 ≡ false)) c.in-None.ensures tt) in
+    subst (λ t. LieIn [] (Some p) (range_msgs {U = g.row.U.Denot} {V = g.row.U-Value.Denot} t)) c.self.view_is (front_lies {U = g.row.U.Denot} {V = g.row.U-Value.Denot} p rs a end)
+
+pub returns-in-Some : goal.returns-in-Some
+returns-in-Some g c h =
+    let p = c.args.pivot.now in
+    let rs = c.self.inside.rows in
+    let a = c.self.invariant.apart in
+    let high = c.in-Some.high.now in
+    let by : is_below p high ≡ false = end_passed high p (sym (c.ends_by.ensures ∙ ap (λ t. ends_within t (Some p)) c.as_ref.ensures.value) ∙ h) in
+    let end = all_end p rs a (subst (λ o. IfSome o (λ e. is_below p e.1 ≡ false)) c.in-Some.ensures by) in
+    subst (λ t. LieIn [] (Some p) (range_msgs {U = g.row.U.Denot} {V = g.row.U-Value.Denot} t)) c.self.view_is (front_lies {U = g.row.U.Denot} {V = g.row.U-Value.Denot} p rs a end)
