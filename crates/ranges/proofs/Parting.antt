@@ -84,8 +84,9 @@ module _ {U V : Type 0} where
   no_part : (lo l : List ℕ) (hi h : Option (List ℕ)) (e : Span) → later_key lo e.0 ≡ l → earlier_end hi e.1 ≡ h → is_below l h ≡ false → cut_to {U = U} {V = V} lo hi (del e) ≡ None
   no_part lo l hi h e a b c = ap (λ x. cut_range {U = U} {V = V} x (earlier_end hi e.1)) a ∙ ap (λ x. cut_range {U = U} {V = V} l x) b ∙ ap (λ t. cond t (Some (del (l, h))) None) c
 
-  -- ---- ranges that end by the pivot, and such as begin from it on
+-- ---- ranges that end by the pivot, and such as begin from it on
 
+module _ (U V : Type 0) where
   pub front_lies : (p : List ℕ) (rs : List Span) → AreApart rs → AllEndBy p rs → LieIn [] (Some p) (range_msgs {U = U} {V = V} rs)
   front_lies p [] a d = tt
   front_lies p (e ∷ rs) a d = (a_part [] e.0 (Some p) e.1 e (later_start e.0) (earlier_own p e.1 d.0) a.0, front_lies p rs a.2 d.1)
@@ -178,10 +179,10 @@ module _ (U V : Type 0) (p : List ℕ) (all es fs : List Span) (e : all ≡ es +
         let end : AllEndBy p es = all_end p es apart_parts.0 n in
         record {
           parts = msgs_both;
-          front_in = front_lies p es apart_parts.0 end;
-          front_out = front_off p es apart_parts.0 end;
-          back_in = back_lies p fs apart_parts.1 from;
-          back_out = back_off p fs from;
+          front_in = front_lies U V p es apart_parts.0 end;
+          front_out = front_off U V p es apart_parts.0 end;
+          back_in = back_lies U V p fs apart_parts.1 from;
+          back_out = back_off U V p fs from;
         }
 
     pub front_whole : range_msgs {U = U} {V = V} es ≡ pieces [] (Some p) (range_msgs all)
@@ -206,13 +207,13 @@ module _ (U V : Type 0) (p : List ℕ) (all es fs : List Span) (e : all ≡ es +
         ap (λ t. range_msgs t) g
         ∙ made_last.front
         ∙ sym (append-nil (pieces [] (Some p) (range_msgs es)))
-        ∙ ap (λ t. pieces [] (Some p) (range_msgs es) ++ t) (sym (pieces-out [] (Some p) (range_msgs fs) (back_off p fs from)))
+        ∙ ap (λ t. pieces [] (Some p) (range_msgs es) ++ t) (sym (pieces-out [] (Some p) (range_msgs fs) (back_off U V p fs from)))
         ∙ sym (ap (λ t. pieces [] (Some p) t) msgs_both ∙ pieces-append [] (Some p) (range_msgs es) (range_msgs fs))
 
     pub back_cut : range_msgs {U = U} {V = V} hs ≡ pieces p None (range_msgs all)
     back_cut =
         ap (λ t. range_msgs t) first
-        ∙ ap (λ t. del (p, over.hi) ∷ t) (sym (pieces-in p None (range_msgs fs) (back_lies p fs apart_parts.1 from)))
+        ∙ ap (λ t. del (p, over.hi) ∷ t) (sym (pieces-in p None (range_msgs fs) (back_lies U V p fs apart_parts.1 from)))
         ∙ ap (λ t. t ++ pieces p None (range_msgs fs)) (sym made_last.rest)
         ∙ sym (ap (λ t. pieces p None t) msgs_both ∙ pieces-append p None (range_msgs es) (range_msgs fs))
 
@@ -230,25 +231,30 @@ apart_append : (p : List ℕ) (rs ss : List Span) → AllEndBy p rs → AllFrom 
 apart_append p [] ss e f a b = b
 apart_append p (r ∷ rs) ss e f a b = (a.0, begin_append r.1 p rs ss e.0 a.1 f, apart_append p rs ss e.1 f a.2 b)
 
+ends_by_own : (p : List ℕ) (h : Option (List ℕ)) → earlier_end (Some p) h ≡ h → is_below p h ≡ false
+ends_by_own p None e = absurd (cc)
+ends_by_own p (Some q) e = split_bool (before p q)
+    (λ y. (let hit : Some p ≡ Some q = sym (ap (λ c. Some (cond c p q)) y) ∙ e in let is : p ≡ q = (cc) in subst (λ x. before p x ≡ false) is (not_before_from_reaches p p (reaches-refl p))))
+    (λ n. n)
+
 module _ {U V : Type 0} where
   -- a range-delete that is its own part
   own_part : (b : Bool) (l : List ℕ) (h : Option (List ℕ)) (e : Span) → cond b (Some (del {U = U} {V = V} (l, h))) None ≡ Some (del e) → (l ≡ e.0) × (h ≡ e.1)
-  own_part true l h e c = (let is : l ≡ e.0 = (cc) in let same : h ≡ e.1 = (cc) in (is, same))
+  own_part true l h e c =
+      let made : KeyRange = record { lo = l; hi = h } in
+      let whole : KeyRange = record { lo = e.0; hi = e.1 } in
+      let is : made ≡ whole = (cc) in
+      (ap (λ (t : KeyRange). t.lo) is, ap (λ (t : KeyRange). t.hi) is)
   own_part false l h e c = absurd (cc)
 
-  ends_by_own : (p : List ℕ) (h : Option (List ℕ)) → earlier_end (Some p) h ≡ h → is_below p h ≡ false
-  ends_by_own p None e = absurd (cc)
-  ends_by_own p (Some q) e = split_bool (before p q)
-      (λ y. (let hit : Some p ≡ Some q = sym (ap (λ c. Some (cond c p q)) y) ∙ e in let is : p ≡ q = (cc) in subst (λ x. before p x ≡ false) is (not_before_from_reaches p p (reaches-refl p))))
-      (λ n. n)
-
+module _ (U V : Type 0) where
   all_end_by : (p : List ℕ) (rs : List Span) → LieIn [] (Some p) (range_msgs {U = U} {V = V} rs) → AllEndBy p rs
   all_end_by p [] l = tt
-  all_end_by p (e ∷ rs) l = (ends_by_own p e.1 (own_part (is_below (later_key [] e.0) (earlier_end (Some p) e.1)) (later_key [] e.0) (earlier_end (Some p) e.1) e l.0).1, all_end_by p rs l.1)
+  all_end_by p (e ∷ rs) l = (ends_by_own p e.1 (own_part {U = U} {V = V} (is_below (later_key [] e.0) (earlier_end (Some p) e.1)) (later_key [] e.0) (earlier_end (Some p) e.1) e l.0).1, all_end_by p rs l.1)
 
   all_begin : (p : List ℕ) (rs : List Span) → LieIn p None (range_msgs {U = U} {V = V} rs) → AllFrom p rs
   all_begin p [] l = tt
-  all_begin p (e ∷ rs) l = (subst (λ x. reaches p x ≡ true) (own_part (is_below (later_key p e.0) e.1) (later_key p e.0) e.1 e l.0).0 (reaches-later p e.0), all_begin p rs l.1)
+  all_begin p (e ∷ rs) l = (subst (λ x. reaches p x ≡ true) (own_part {U = U} {V = V} (is_below (later_key p e.0) e.1) (later_key p e.0) e.1 e l.0).0 (reaches-later p e.0), all_begin p rs l.1)
 
   -- ranges that end by a pivot, and such as begin from it on
   pub joined_apart : (p : List ℕ) (rs ss : List Span) → LieIn [] (Some p) (range_msgs {U = U} {V = V} rs) → LieIn p None (range_msgs {U = U} {V = V} ss) → AreApart rs → AreApart ss → AreApart (rs ++ ss)

@@ -225,6 +225,13 @@ filter_shorter p (x ∷ xs) = elim (p x) as (λ c. length (cond c (x ∷ filter 
   | false ↦ omega (arith, filter_shorter p xs)
 ]
 
+tie : (a b : List ℕ) → reaches a b ≡ true → before a b ≡ false → by_bytes a b ≡ Equal
+tie a b y n = elim (by_bytes a b) as (λ o. is_le o ≡ true → is_lt o ≡ false → o ≡ Equal) [
+  | Less ↦ λ s t. absurd (cc)
+  | Equal ↦ λ s t. refl
+  | Greater ↦ λ s t. absurd (cc)
+] y n
+
 -- where its low end is held, and no range reaches over it, one that begins there goes
 pub one_goes : (r : KeyRange) (rs : List Span) → is_below r.lo r.hi ≡ true → covered rs r.lo ≡ true → EndBy r.lo rs → length (filter (λ e. stays r e) rs) < length rs
 one_goes r [] b c f = absurd (cc)
@@ -244,10 +251,3 @@ one_goes r (e ∷ rs) b c f =
         let gone : stays r e ≡ false = goes r e (reaches-from_not_before e.0 r.lo n) (subst (λ q. is_below q r.hi ≡ true) (sym is) b) in
         let no : true ≡ false = sym k ∙ gone in absurd (cc))
         (λ m. ap (λ t. t && is_below r.lo e.1) m))
-
-    tie : (a b : List ℕ) → reaches a b ≡ true → before a b ≡ false → by_bytes a b ≡ Equal
-    tie a b y n = elim (by_bytes a b) as (λ o. is_le o ≡ true → is_lt o ≡ false → o ≡ Equal) [
-      | Less ↦ λ s t. absurd (cc)
-      | Equal ↦ λ s t. refl
-      | Greater ↦ λ s t. absurd (cc)
-    ] y n

@@ -89,7 +89,14 @@ high_above : (from : List ℕ) (o : Option Span) → is_below from (high_ahead f
 high_above from None = refl
 high_above from (Some e) = ahead_after from e.1
 
-module _ {U V : Type 0} where
+own_high : (from lo : List ℕ) (h : Option (List ℕ)) → IfSome (ahead_of from h) (Contains (lo ∷ option_to_list h))
+own_high from lo None = tt
+own_high from lo (Some h) = elim (before from h) as (λ c. IfSome (cond c (Some h) None) (Contains (lo ∷ h ∷ []))) [
+  | true ↦ (1, omega arith, refl)
+  | false ↦ tt
+]
+
+module _ (U V : Type 0) where
   -- the ends of the ranges
   abbrev Ends : List Span → List ℕ → Type 0
   Ends rs d = Contains (all_ends (range_msgs {U = U} {V = V} rs)) d
@@ -108,13 +115,6 @@ module _ {U V : Type 0} where
   low_is_end from (e ∷ rs) = elim (before from e.0) as (λ c. IfSome (cond c (Some e.0) (first_behind from rs)) (Ends (e ∷ rs))) [
     | true ↦ here e rs e.0 (0, omega arith, refl)
     | false ↦ weaker (Ends rs) (Ends (e ∷ rs)) (first_behind from rs) (later e rs) (low_is_end from rs)
-  ]
-
-  own_high : (from lo : List ℕ) (h : Option (List ℕ)) → IfSome (ahead_of from h) (Contains (lo ∷ option_to_list h))
-  own_high from lo None = tt
-  own_high from lo (Some h) = elim (before from h) as (λ c. IfSome (cond c (Some h) None) (Contains (lo ∷ h ∷ []))) [
-    | true ↦ (1, omega arith, refl)
-    | false ↦ tt
   ]
 
   high_is_end : (from : List ℕ) (p : List ℕ → Bool) (rs : List Span) → IfSome (high_ahead from (last_where p rs)) (Ends rs)

@@ -21,7 +21,7 @@ pub(crate) fn part<U: Update>(
     ensures front { IfOk result (λ r. range_msgs {U = U} {V = U.Value} r.0 ≡ pieces [] (Some pivot.now) (range_msgs rows)) }
     ensures back { IfOk result (λ r. range_msgs {U = U} {V = U.Value} r.1 ≡ pieces pivot.now None (range_msgs rows)) }
     ensures apart { IfOk result (λ r. AreApart r.0 × AreApart r.1) }
-    ensures bound { IfOk result (λ r. length r.0 + length r.1 ≤ length rows + 1) }
+    ensures bound { IfOk result (λ r. (length r.0 ≤ length rows + 1) × (length r.1 ≤ length rows + 1)) }
 {
     let mut front = rows;
     let mut back = front.split_off(pivot)?;

@@ -7,4 +7,4 @@ use Rattle.ranges.proofs.stretch.stretch_end.Goals as goal
 pub returns : goal.returns
 returns g c =
     let first = c.earlier.ensures ∙ ap (earlier_end (option_copied c.args.end)) c.next_begin.ensures in
-    ranges_stretch c.args.from.now (option_copied c.args.end) (option_copied c.earlier-2.result) c.args.ranges.now c.requires.apart c.requires.some (c.earlier-2.ensures ∙ (λ j. earlier_end (first j) (c.next_end.ensures j)))
+    ranges_stretch g.row.U.Denot g.row.U-Value.Denot c.args.from.now (option_copied c.args.end) (option_copied c.earlier-2.result) c.args.ranges.now c.requires.apart c.requires.some (c.earlier-2.ensures ∙ (λ j. earlier_end (first j) (c.next_end.ensures j)))
