@@ -1,6 +1,6 @@
 -- Ends of ranges and keys, and what the ranges of a list have in common.
 use Rattle.std.proofs.Common.{◌≡◌, ℕ, Bool, true, false, not, List, [], ◌∷◌, ◌++◌, take, drop, Option, Some, None, refl, ap, sym, ◌∙◌, subst, cond}
-use Rattle.std.specs.Prelude.{◌&&◌, ◌||◌}
+use Rattle.std.specs.Prelude.{◌&&◌, ◌||◌, Result, Ok, Err, OnOk, OnErr}
 use Rattle.std.specs.declared.cmp.Ordering.{Ordering}
 use Rattle.std.specs.declared.cmp.Ordering.TheVariants.{Less, Equal, Greater}
 use Rattle.std.specs.Ordering.{is_lt, ordering_reverse}
@@ -32,6 +32,11 @@ not_false false h = absurd (cc)
 pub second_false : (a b : Bool) → b ≡ false → (a && b) ≡ false
 second_false true b h = h
 second_false false b h = refl
+
+-- what follows from either outcome
+pub either_way : {T E P Q R : Type 0} (r : Result T E) → OnOk r P → OnErr r Q → (P → R) → (Q → R) → R
+either_way (Ok x) p q f g = f p
+either_way (Err e) p q f g = g q
 
 -- ---- an end and keys
 

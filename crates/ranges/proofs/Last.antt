@@ -172,3 +172,13 @@ held_more false c h = refl
 
 pub held_covers : (lo : List ℕ) (hi : Option (List ℕ)) (rs : List Span) → AreHeld lo hi rs → CoversMore lo hi rs rs
 held_covers lo hi rs h k = held_more (within lo hi k) (covered rs k) (h k)
+
+-- ---- the first range
+
+pub first_none : (rs : List Span) → None ≡ slice_get rs 0 → rs ≡ []
+first_none [] h = refl
+first_none (e ∷ rs) h = absurd (cc)
+
+pub first_some : (rs : List Span) (x : Span) → AreApart rs → Some x ≡ slice_get rs 0 → is_below x.0 x.1 ≡ true
+first_some [] x a h = absurd (cc)
+first_some (e ∷ rs) x a h = (let is : e ≡ x = (cc) in subst (λ t. is_below t.0 t.1 ≡ true) is a.0)

@@ -18,8 +18,8 @@ use Rattle.pathkey.proofs.OrderFacts.{equal}
 use Rattle.message.specs.Ranges.{reaches, before, within}
 use Rattle.message.proofs.KeyOrder.{both, reaches-from_before, reaches-from_not_before, not_before_from_reaches, before_from_not_reaches, not_reaches_from_before, le_le, le_lt}
 use Rattle.rows.specs.Places.{Rises, at_key, place_past}
-use Rattle.ranges.specs.Apart.{Span, covered, BeginFrom, AreApart}
-use Rattle.ranges.specs.Ends.{EndBy, EndByEnd, spliced}
+use Rattle.ranges.specs.Apart.{Span, covered, BeginFrom, AreApart, CoversMore}
+use Rattle.ranges.specs.Ends.{EndBy, EndByEnd, Widens, spliced}
 use Rattle.ranges.proofs.Ends.{split_bool, not_true, not_false, second_false, ends_on, ahead_of_end, less_from_before, greater_from_before, apart_rises}
 
 -- ---- what stays and what goes
@@ -251,3 +251,18 @@ one_goes r (e ∷ rs) b c f =
         let gone : stays r e ≡ false = goes r e (reaches-from_not_before e.0 r.lo n) (subst (λ q. is_below q r.hi ≡ true) (sym is) b) in
         let no : true ≡ false = sym k ∙ gone in absurd (cc))
         (λ m. ap (λ t. t && is_below r.lo e.1) m))
+
+pub spliced_length : (r : KeyRange) (rs : List Span) → is_below r.lo r.hi ≡ true → covered rs r.lo ≡ true → EndBy r.lo rs → length (spliced r rs) ≤ length rs
+spliced_length r rs b c f = omega (arith, one_goes r rs b c f, longer r.lo r.hi (filter (λ e. stays r e) rs))
+  where
+    longer : (lo : List ℕ) (hi : Option (List ℕ)) (es : List Span) → length (insert_entry by_bytes es lo hi) ≤ length es + 1
+    longer lo hi [] = omega arith
+    longer lo hi (e ∷ es) = elim (by_bytes lo e.0) as (λ o. length (match_ordering o ((lo, hi) ∷ e ∷ es) ((e.0, hi) ∷ es) (e ∷ insert_entry by_bytes es lo hi)) ≤ length (e ∷ es) + 1) [
+      | Less ↦ omega arith
+      | Equal ↦ omega arith
+      | Greater ↦ omega (arith, longer lo hi es)
+    ]
+
+-- behind a range that was widened
+pub wide_covers : (lo : List ℕ) (hi : Option (List ℕ)) (rs : List Span) (wide : KeyRange) → AreApart rs → Widens rs lo hi wide → CoversMore lo hi rs (spliced wide rs)
+wide_covers lo hi rs wide a w k = spliced_covers wide rs k w.some a w.high ∙ w.same k
