@@ -11,9 +11,9 @@ use Rattle.std.proofs.lemmas.List.{take-append-drop}
 use Rattle.pathkey.specs.Order.{by_bytes, by_bytes_total}
 use Rattle.pathkey.specs.Keys.{is_below}
 use Rattle.message.specs.Ranges.{reaches, before, within, ends_within}
-use Rattle.message.proofs.KeyOrder.{both, reaches-from_not_before, not_before_from_reaches, begins_before_end, le_le, lt_le}
+use Rattle.message.proofs.KeyOrder.{both, reaches-from_before, reaches-from_not_before, not_before_from_reaches, begins_before_end, le_le, lt_le}
 use Rattle.rows.specs.Places.{Rises}
-use Rattle.ranges.specs.Apart.{Span, covered, BeginFrom, AreApart, CoversMore}
+use Rattle.ranges.specs.Apart.{Span, covered, ends_before, BeginBehind, AreApart, CoversMore}
 
 -- ---- booleans
 
@@ -40,10 +40,18 @@ either_way (Err e) p q f g = g q
 
 -- ---- an end and keys
 
--- a key behind one that an end does not pass
-pub ends_on : (h : Option (List ℕ)) (a b : List ℕ) → is_below a h ≡ false → reaches a b ≡ true → is_below b h ≡ false
+-- a key behind one that an end stands before, or does not pass
+pub ends_on : (h : Option (List ℕ)) (a b : List ℕ) → ends_before h a ≡ true → reaches a b ≡ true → ends_before h b ≡ true
 ends_on None a b e r = absurd (cc)
-ends_on (Some h) a b e r = not_before_from_reaches h b (le_le h a b (reaches-from_not_before a h e) r)
+ends_on (Some h) a b e r = lt_le h a b e r
+
+pub past_on : (h : Option (List ℕ)) (a b : List ℕ) → is_below a h ≡ false → reaches a b ≡ true → is_below b h ≡ false
+past_on None a b e r = absurd (cc)
+past_on (Some h) a b e r = not_before_from_reaches h b (le_le h a b (reaches-from_not_before a h e) r)
+
+pub past_end : (h : Option (List ℕ)) (k : List ℕ) → ends_before h k ≡ true → is_below k h ≡ false
+past_end None k e = absurd (cc)
+past_end (Some h) k e = not_before_from_reaches h k (reaches-from_before h k e)
 
 -- what lies before an end that another key does not pass stands before that key
 pub ahead_of_end : (h : Option (List ℕ)) (a b : List ℕ) → is_below a h ≡ true → is_below b h ≡ false → before a b ≡ true
@@ -82,16 +90,16 @@ none_more lo hi rs n k = sym (ap (λ b. b || covered rs k) (none_within lo hi k 
 
 -- ---- ranges that lie apart
 
-all_ahead : (k : List ℕ) (h : Option (List ℕ)) (rs : List Span) → is_below k h ≡ true → BeginFrom h rs → AllByRecursion (λ y. by_bytes k y ≡ Less) (keys_of rs)
+all_ahead : (k : List ℕ) (h : Option (List ℕ)) (rs : List Span) → is_below k h ≡ true → BeginBehind h rs → AllByRecursion (λ y. by_bytes k y ≡ Less) (keys_of rs)
 all_ahead k h [] b a = tt
-all_ahead k h (e ∷ rs) b a = (less_from_before k e.0 (ahead_of_end h k e.0 b a.0), all_ahead k h rs b a.1)
+all_ahead k h (e ∷ rs) b a = (less_from_before k e.0 (ahead_of_end h k e.0 b (past_end h e.0 a.0)), all_ahead k h rs b a.1)
 
 pub apart_rises : (rs : List Span) → AreApart rs → Rises rs
 unfolding IsStrictlySortedBy
 apart_rises [] a = tt
 apart_rises (e ∷ rs) a = (all_ahead e.0 e.1 rs a.0 a.1, apart_rises rs a.2)
 
-begin_left : (h : Option (List ℕ)) (es fs : List Span) → BeginFrom h (es ++ fs) → BeginFrom h es
+begin_left : (h : Option (List ℕ)) (es fs : List Span) → BeginBehind h (es ++ fs) → BeginBehind h es
 begin_left h [] fs b = tt
 begin_left h (e ∷ es) fs b = (b.0, begin_left h es fs b.1)
 

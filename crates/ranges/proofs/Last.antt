@@ -12,9 +12,9 @@ use Rattle.pathkey.specs.Keys.{is_below}
 use Rattle.message.specs.Ranges.{reaches, before, within, ends_within}
 use Rattle.message.proofs.KeyOrder.{both, reaches-from_before, reaches-from_not_before, before_from_not_reaches, not_reaches_from_before, le_le}
 use Rattle.rows.specs.Places.{Rises, last_of, place, place_past}
-use Rattle.ranges.specs.Apart.{Span, covered, BeginFrom, AreApart, CoversMore}
-use Rattle.ranges.specs.Ends.{EndBy, AreHeld}
-use Rattle.ranges.proofs.Ends.{split_bool, not_true, second_false, ends_on, below_later, apart_rises}
+use Rattle.ranges.specs.Apart.{Span, covered, ends_before, BeginBehind, AreApart, CoversMore}
+use Rattle.ranges.specs.Ends.{EndBefore, AreHeld}
+use Rattle.ranges.proofs.Ends.{split_bool, not_true, ends_on, past_end, below_later, apart_rises}
 
 -- the last range whose low end passes
 abbrev pub last_or : Bool → Span → Option Span → Option Span
@@ -100,12 +100,12 @@ ends_after None k = false
 ends_after (Some e) k = is_below k e.1
 
 -- it begins behind what all begin behind
-pub found_begins : (p : List ℕ → Bool) (rs : List Span) (h : Option (List ℕ)) (x : Span) → last_where p rs ≡ Some x → BeginFrom h rs → (is_below x.0 h ≡ false) × (p x.0 ≡ true)
+pub found_begins : (p : List ℕ → Bool) (rs : List Span) (h : Option (List ℕ)) (x : Span) → last_where p rs ≡ Some x → BeginBehind h rs → (ends_before h x.0 ≡ true) × (p x.0 ≡ true)
 found_begins p [] h x e b = absurd (cc)
 found_begins p (r ∷ rs) h x e b =
-    elim (last_where p rs) as (λ t. last_where p rs ≡ t → last_or (p r.0) r t ≡ Some x → (is_below x.0 h ≡ false) × (p x.0 ≡ true)) [
+    elim (last_where p rs) as (λ t. last_where p rs ≡ t → last_or (p r.0) r t ≡ Some x → (ends_before h x.0 ≡ true) × (p x.0 ≡ true)) [
       | None ↦ λ n f. split_bool (p r.0)
-          (λ y. (let hit : Some r ≡ Some x = sym (ap (λ c. cond c (Some r) None) y) ∙ f in let is : r ≡ x = cc in (subst (λ z. is_below z.0 h ≡ false) is b.0, subst (λ z. p z.0 ≡ true) is y)))
+          (λ y. (let hit : Some r ≡ Some x = sym (ap (λ c. cond c (Some r) None) y) ∙ f in let is : r ≡ x = cc in (subst (λ z. ends_before h z.0 ≡ true) is b.0, subst (λ z. p z.0 ≡ true) is y)))
           (λ y. (let no : None ≡ Some x = sym (ap (λ c. cond c (Some r) None) y) ∙ f in absurd (cc)))
       | Some z ↦ λ s f. found_begins p rs h x (s ∙ f) b.1
     ] refl e
@@ -139,21 +139,30 @@ covered_by_last (r ∷ rs) q a =
           (λ y. ap (λ b. (b && is_below q r.1) || covered rs q) (not_reaches_from_before q r.0 y) ∙ none ∙ sym (ap (λ b. ends_after (cond (not b) (Some r) None) q) y))
           (λ y. ap (λ b. (b && is_below q r.1) || covered rs q) (reaches-from_not_before q r.0 y) ∙ ap (λ c. is_below q r.1 || c) none ∙ or_none (is_below q r.1) ∙ sym (ap (λ b. ends_after (cond (not b) (Some r) None) q) y)))
       | Some x ↦ λ s. (let f = found_begins (λ k. not (before q k)) rs r.1 x s a.1 in
-          let out : is_below q r.1 ≡ false = ends_on r.1 x.0 q f.0 (reaches-from_not_before q x.0 (not_true (before q x.0) f.1)) in
+          let out : is_below q r.1 ≡ false = past_end r.1 q (ends_on r.1 x.0 q f.0 (reaches-from_not_before q x.0 (not_true (before q x.0) f.1))) in
           ap (λ b. (reaches r.0 q && b) || covered rs q) out ∙ and_none (reaches r.0 q) (covered rs q) ∙ covered_by_last rs q a.2 ∙ ap (λ t. ends_after t q) s)
     ] refl
 
-pub end_by_last : (rs : List Span) (q : List ℕ) → AreApart rs → ends_after (before_key q rs) q ≡ false → EndBy q rs
+-- a range ends at the key or behind it
+abbrev pub ends_from : Option Span → List ℕ → Bool
+ends_from None k = false
+ends_from (Some e) k = ends_within (Some k) e.1
+
+not_reached : (h : Option (List ℕ)) (k : List ℕ) → ends_within (Some k) h ≡ false → ends_before h k ≡ true
+not_reached None k e = absurd (cc)
+not_reached (Some h) k e = before_from_not_reaches k h e
+
+pub end_by_last : (rs : List Span) (q : List ℕ) → AreApart rs → ends_from (before_key q rs) q ≡ false → EndBefore q rs
 end_by_last [] q a e = tt
 end_by_last (r ∷ rs) q a e =
-    elim (before_key q rs) as (λ t. before_key q rs ≡ t → ends_after (last_or (not (reaches q r.0)) r t) q ≡ false → EndBy q (r ∷ rs)) [
+    elim (before_key q rs) as (λ t. before_key q rs ≡ t → ends_from (last_or (not (reaches q r.0)) r t) q ≡ false → EndBefore q (r ∷ rs)) [
       | None ↦ λ n f. (
-        (λ b. sym (ap (λ c. ends_after (cond (not c) (Some r) None) q) (not_reaches_from_before r.0 q b)) ∙ f),
-        end_by_last rs q a.2 (ap (λ t. ends_after t q) n),
+        (λ b. not_reached r.1 q (sym (ap (λ c. ends_from (cond (not c) (Some r) None) q) (not_reaches_from_before r.0 q b)) ∙ f)),
+        end_by_last rs q a.2 (ap (λ t. ends_from t q) n),
       )
       | Some x ↦ λ s f. (let g = found_begins (λ k. not (reaches q k)) rs r.1 x s a.1 in (
         (λ b. ends_on r.1 x.0 q g.0 (reaches-from_before x.0 q (before_from_not_reaches q x.0 (not_true (reaches q x.0) g.1)))),
-        end_by_last rs q a.2 (ap (λ t. ends_after t q) s ∙ f),
+        end_by_last rs q a.2 (ap (λ t. ends_from t q) s ∙ f),
       ))
     ] refl e
 
@@ -182,3 +191,10 @@ first_none (e ∷ rs) h = absurd (cc)
 pub first_some : (rs : List Span) (x : Span) → AreApart rs → Some x ≡ slice_get rs 0 → is_below x.0 x.1 ≡ true
 first_some [] x a h = absurd (cc)
 first_some (e ∷ rs) x a h = (let is : e ≡ x = (cc) in subst (λ t. is_below t.0 t.1 ≡ true) is a.0)
+
+-- ---- the last of all
+
+pub last_some : (rs : List Span) (x : Span) → AreApart rs → last_of rs ≡ Some x → is_below x.0 x.1 ≡ true
+last_some [] x a h = absurd (cc)
+last_some (e ∷ []) x a h = (let hit : Some e ≡ Some x = sym (last_one e) ∙ h in let is : e ≡ x = (cc) in subst (λ t. is_below t.0 t.1 ≡ true) is a.0)
+last_some (e ∷ s ∷ rs) x a h = last_some (s ∷ rs) x a.2 (sym (last_rest e s rs) ∙ h)
