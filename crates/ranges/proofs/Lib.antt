@@ -3,4 +3,5 @@ pub mod Last
 pub mod Widening
 pub mod Splicing
 pub mod Parting
+pub mod Joining
 pub mod Stretching

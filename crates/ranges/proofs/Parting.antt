@@ -21,11 +21,11 @@ use Rattle.message.specs.Ranges.{reaches, before, later_key, earlier_end}
 use Rattle.message.proofs.KeyOrder.{reaches-refl, reaches-later, reaches-from_before, reaches-from_not_before, not_before_from_reaches, le_le}
 use Rattle.message.proofs.Parting.{pieces-in, pieces-out, pieces-append, front_part, back_part}
 use Rattle.rows.specs.Places.{last_of, AreBefore, AreFrom}
-use Rattle.ranges.specs.Apart.{Span, range_msgs, BeginFrom, AreApart}
+use Rattle.ranges.specs.Apart.{Span, range_msgs, ends_before, BeginBehind, AreApart}
 use Rattle.ranges.specs.Ends.{IsOver}
-use Rattle.ranges.proofs.Ends.{split_bool, ends_on, ahead_of_end, greater_from_before, apart_rises, apart_left, apart_right}
+use Rattle.ranges.proofs.Ends.{split_bool, ends_on, past_end, ahead_of_end, greater_from_before, apart_rises, apart_left, apart_right}
 use Rattle.ranges.proofs.Last.{last_one, last_rest, last_keys}
-use Rattle.ranges.proofs.Splicing.{AllFrom, from_later, begin_insert, insert_first}
+use Rattle.ranges.proofs.Splicing.{AllFrom, behind_past, from_later, begin_insert, insert_first}
 
 -- ---- ranges that end by a key
 
@@ -39,7 +39,7 @@ all_end p [] a h = tt
 all_end p (e ∷ []) a h = (subst (λ o. IfSome o (λ x. is_below p x.1 ≡ false)) (last_one e) h, tt)
 all_end p (e ∷ s ∷ rs) a h =
     let rest = all_end p (s ∷ rs) a.2 (subst (λ o. IfSome o (λ x. is_below p x.1 ≡ false)) (last_rest e s rs) h) in
-    (ends_on e.1 s.0 p a.1.0 (reaches-from_before s.0 p (ahead_of_end s.1 s.0 p a.2.0 rest.0)), rest)
+    (past_end e.1 p (ends_on e.1 s.0 p a.1.0 (reaches-from_before s.0 p (ahead_of_end s.1 s.0 p a.2.0 rest.0))), rest)
 
 -- ---- ends at a pivot
 
@@ -75,7 +75,7 @@ fewer_first k p (Some q) b = split_bool (before p q)
 -- ---- one range
 
 module _ {U V : Type 0} where
-  abbrev del : Span → Msg U V
+  abbrev pub del : Span → Msg U V
   del e = DelRange (record { lo = e.0; hi = e.1 })
 
   a_part : (lo l : List ℕ) (hi h : Option (List ℕ)) (e : Span) → later_key lo e.0 ≡ l → earlier_end hi e.1 ≡ h → is_below l h ≡ true → cut_to {U = U} {V = V} lo hi (del e) ≡ Some (del (l, h))
@@ -91,7 +91,7 @@ module _ (U V : Type 0) where
   front_lies p [] a d = tt
   front_lies p (e ∷ rs) a d = (a_part [] e.0 (Some p) e.1 e (later_start e.0) (earlier_own p e.1 d.0) a.0, front_lies p rs a.2 d.1)
 
-  front_off : (p : List ℕ) (rs : List Span) → AreApart rs → AllEndBy p rs → LieOut p None (range_msgs {U = U} {V = V} rs)
+  pub front_off : (p : List ℕ) (rs : List Span) → AreApart rs → AllEndBy p rs → LieOut p None (range_msgs {U = U} {V = V} rs)
   front_off p [] a d = tt
   front_off p (e ∷ rs) a d = (no_part p p None e.1 e (later_pivot p e.0 (ahead_of_end e.1 e.0 p a.0 d.0)) refl d.0, front_off p rs a.2 d.1)
 
@@ -99,7 +99,7 @@ module _ (U V : Type 0) where
   back_lies p [] a b = tt
   back_lies p (e ∷ rs) a b = (a_part p e.0 None e.1 e (later_same p e.0 b.0) refl a.0, back_lies p rs a.2 b.1)
 
-  back_off : (p : List ℕ) (rs : List Span) → AllFrom p rs → LieOut [] (Some p) (range_msgs {U = U} {V = V} rs)
+  pub back_off : (p : List ℕ) (rs : List Span) → AllFrom p rs → LieOut [] (Some p) (range_msgs {U = U} {V = V} rs)
   back_off p [] b = tt
   back_off p (e ∷ rs) b = (no_part [] e.0 (Some p) (earlier_end (Some p) e.1) e (later_start e.0) refl (fewer_first e.0 p e.1 (not_before_from_reaches p e.0 b.0)), back_off p rs b.1)
 
@@ -114,21 +114,17 @@ all_from p (e ∷ rs) f = (All-head (λ q. reaches p q ≡ true) e.0 (keys_of rs
 -- ---- the last range lies over the pivot
 
 -- the ranges before the pivot with the last one cut there
-record IsCutLast (U V : Type 0) (p : List ℕ) (high : Option (List ℕ)) (es fs : List Span) : Type 0 where
-  front : range_msgs {U = U} {V = V} fs ≡ pieces [] (Some p) (range_msgs es)
-  rest : pieces p None (range_msgs {U = U} {V = V} es) ≡ del (p, high) ∷ []
-  apart : AreApart fs
+pub record IsCutLast (U V : Type 0) (p : List ℕ) (high : Option (List ℕ)) (es fs : List Span) : Type 0 where
+  pub front : range_msgs {U = U} {V = V} fs ≡ pieces [] (Some p) (range_msgs es)
+  pub rest : pieces p None (range_msgs {U = U} {V = V} es) ≡ del (p, high) ∷ []
+  pub apart : AreApart fs
 
-begin_right : (h : Option (List ℕ)) (es fs : List Span) → BeginFrom h (es ++ fs) → BeginFrom h fs
-begin_right h [] fs b = b
-begin_right h (e ∷ es) fs b = begin_right h es fs b.1
-
-begins_after : (es fs : List Span) (x : Span) → AreApart (es ++ fs) → last_of es ≡ Some x → BeginFrom x.1 fs
+begins_after : (es fs : List Span) (x : Span) → AreApart (es ++ fs) → last_of es ≡ Some x → BeginBehind x.1 fs
 begins_after [] fs x a h = absurd (cc)
-begins_after (e ∷ []) fs x a h = (let hit : Some e ≡ Some x = sym (last_one e) ∙ h in let is : e ≡ x = (cc) in subst (λ t. BeginFrom t.1 fs) is a.1)
+begins_after (e ∷ []) fs x a h = (let hit : Some e ≡ Some x = sym (last_one e) ∙ h in let is : e ≡ x = (cc) in subst (λ t. BeginBehind t.1 fs) is a.1)
 begins_after (e ∷ s ∷ es) fs x a h = begins_after (s ∷ es) fs x a.2 (sym (last_rest e s es) ∙ h)
 
-cut_last : (U V : Type 0) (p low : List ℕ) (high : Option (List ℕ)) (es : List Span) → AreApart es → last_of es ≡ Some (low, high) → before low p ≡ true → is_below p high ≡ true → IsCutLast U V p high es (insert_entry by_bytes es low (Some p))
+pub cut_last : (U V : Type 0) (p low : List ℕ) (high : Option (List ℕ)) (es : List Span) → AreApart es → last_of es ≡ Some (low, high) → before low p ≡ true → is_below p high ≡ true → IsCutLast U V p high es (insert_entry by_bytes es low (Some p))
 cut_last U V p low high [] a h l o = absurd (cc)
 cut_last U V p low high (e ∷ []) a h l o =
     let hit : Some e ≡ Some (low, high) = sym (last_one e) ∙ h in
@@ -144,9 +140,9 @@ cut_last U V p low high (e ∷ s ∷ es) a h l o =
     let last : last_of (s ∷ es) ≡ Some (low, high) = sym (last_rest e s es) ∙ h in
     let r = cut_last U V p low high (s ∷ es) a.2 last l o in
     let fs = insert_entry by_bytes (s ∷ es) low (Some p) in
-    let ends : is_below low e.1 ≡ false = last_keys (λ q. is_below q e.1 ≡ false) (s ∷ es) (low, high) a.1 last in
-    let first : before e.0 low ≡ true = ahead_of_end e.1 e.0 low a.0 ends in
-    let by_pivot : is_below p e.1 ≡ false = ends_on e.1 low p ends (reaches-from_before low p l) in
+    let ends : ends_before e.1 low ≡ true = last_keys (λ q. ends_before e.1 q ≡ true) (s ∷ es) (low, high) a.1 last in
+    let first : before e.0 low ≡ true = ahead_of_end e.1 e.0 low a.0 (past_end e.1 low ends) in
+    let by_pivot : is_below p e.1 ≡ false = past_end e.1 p (ends_on e.1 low p ends (reaches-from_before low p l)) in
     let made : insert_entry by_bytes (e ∷ s ∷ es) low (Some p) ≡ e ∷ fs = ap (λ t. match_ordering t ((low, Some p) ∷ e ∷ s ∷ es) ((e.0, Some p) ∷ s ∷ es) (e ∷ fs)) (greater_from_before e.0 low first) in
     record {
       front =
@@ -196,11 +192,11 @@ module _ (U V : Type 0) (p : List ℕ) (all es fs : List Span) (e : all ≡ es +
     made_last : IsCutLast U V p over.hi es (insert_entry by_bytes es over.lo (Some p))
     made_last = cut_last U V p over.lo over.hi es apart_parts.0 o.0 (last_keys (λ q. before q p ≡ true) es (over.lo, over.hi) (recursion_from_All (λ q. before q p ≡ true) (keys_of es) b) o.0) o.1
 
-    behind : BeginFrom over.hi fs
+    behind : BeginBehind over.hi fs
     behind = begins_after es fs (over.lo, over.hi) apart_both o.0
 
     first : hs ≡ (p, over.hi) ∷ fs
-    first = h ∙ insert_first p over.hi fs o.1 behind
+    first = h ∙ insert_first p over.hi fs o.1 (behind_past over.hi fs behind)
 
     pub front_cut : range_msgs {U = U} {V = V} gs ≡ pieces [] (Some p) (range_msgs all)
     front_cut =
@@ -219,43 +215,3 @@ module _ (U V : Type 0) (p : List ℕ) (all es fs : List Span) (e : all ≡ es +
 
     pub apart_cut : AreApart gs × AreApart hs
     apart_cut = (subst (λ t. AreApart t) (sym g) made_last.apart, subst (λ t. AreApart t) (sym first) (o.1, behind, apart_parts.1))
-
--- ---- lists side by side
-
-begin_append : (h : Option (List ℕ)) (p : List ℕ) (rs ss : List Span) → is_below p h ≡ false → BeginFrom h rs → AllFrom p ss → BeginFrom h (rs ++ ss)
-begin_append h p [] [] e b f = tt
-begin_append h p [] (s ∷ ss) e b f = (ends_on h p s.0 e f.0, begin_append h p [] ss e b f.1)
-begin_append h p (r ∷ rs) ss e b f = (b.0, begin_append h p rs ss e b.1 f)
-
-apart_append : (p : List ℕ) (rs ss : List Span) → AllEndBy p rs → AllFrom p ss → AreApart rs → AreApart ss → AreApart (rs ++ ss)
-apart_append p [] ss e f a b = b
-apart_append p (r ∷ rs) ss e f a b = (a.0, begin_append r.1 p rs ss e.0 a.1 f, apart_append p rs ss e.1 f a.2 b)
-
-ends_by_own : (p : List ℕ) (h : Option (List ℕ)) → earlier_end (Some p) h ≡ h → is_below p h ≡ false
-ends_by_own p None e = absurd (cc)
-ends_by_own p (Some q) e = split_bool (before p q)
-    (λ y. (let hit : Some p ≡ Some q = sym (ap (λ c. Some (cond c p q)) y) ∙ e in let is : p ≡ q = (cc) in subst (λ x. before p x ≡ false) is (not_before_from_reaches p p (reaches-refl p))))
-    (λ n. n)
-
-module _ {U V : Type 0} where
-  -- a range-delete that is its own part
-  own_part : (b : Bool) (l : List ℕ) (h : Option (List ℕ)) (e : Span) → cond b (Some (del {U = U} {V = V} (l, h))) None ≡ Some (del e) → (l ≡ e.0) × (h ≡ e.1)
-  own_part true l h e c =
-      let made : KeyRange = record { lo = l; hi = h } in
-      let whole : KeyRange = record { lo = e.0; hi = e.1 } in
-      let is : made ≡ whole = (cc) in
-      (ap (λ (t : KeyRange). t.lo) is, ap (λ (t : KeyRange). t.hi) is)
-  own_part false l h e c = absurd (cc)
-
-module _ (U V : Type 0) where
-  all_end_by : (p : List ℕ) (rs : List Span) → LieIn [] (Some p) (range_msgs {U = U} {V = V} rs) → AllEndBy p rs
-  all_end_by p [] l = tt
-  all_end_by p (e ∷ rs) l = (ends_by_own p e.1 (own_part {U = U} {V = V} (is_below (later_key [] e.0) (earlier_end (Some p) e.1)) (later_key [] e.0) (earlier_end (Some p) e.1) e l.0).1, all_end_by p rs l.1)
-
-  all_begin : (p : List ℕ) (rs : List Span) → LieIn p None (range_msgs {U = U} {V = V} rs) → AllFrom p rs
-  all_begin p [] l = tt
-  all_begin p (e ∷ rs) l = (subst (λ x. reaches p x ≡ true) (own_part {U = U} {V = V} (is_below (later_key p e.0) e.1) (later_key p e.0) e.1 e l.0).0 (reaches-later p e.0), all_begin p rs l.1)
-
-  -- ranges that end by a pivot, and such as begin from it on
-  pub joined_apart : (p : List ℕ) (rs ss : List Span) → LieIn [] (Some p) (range_msgs {U = U} {V = V} rs) → LieIn p None (range_msgs {U = U} {V = V} ss) → AreApart rs → AreApart ss → AreApart (rs ++ ss)
-  joined_apart p rs ss l m a b = apart_append p rs ss (all_end_by p rs l) (all_begin p ss m) a b

@@ -20,7 +20,7 @@ use Rattle.message.proofs.StretchEnds.{ahead_after, below_alike, below_both, bel
 use Rattle.rows.specs.Places.{Rises, last_of, place_past}
 use Rattle.ranges.specs.Apart.{Span, range_msgs, AreApart}
 use Rattle.ranges.specs.Ends.{next_begin, next_end}
-use Rattle.ranges.proofs.Ends.{split_bool, not_true, ends_on, apart_rises}
+use Rattle.ranges.proofs.Ends.{split_bool, not_true, ends_on, past_end, apart_rises}
 use Rattle.ranges.proofs.Last.{last_or, last_where, by_key, by_key_is, found_begins}
 
 -- the first range that begins behind the key
@@ -74,7 +74,7 @@ same_in from k (e ∷ rs) a s r b h = split_bool (before from e.0)
       | Some x ↦ λ n g. (
         (let f = found_begins (λ q. not (before from q)) rs e.1 x n a.1 in
             let under : reaches x.0 from ≡ true = reaches-from_not_before from x.0 (not_true (before from x.0) f.1) in
-            joined (ends_on e.1 x.0 k f.0 (le_le x.0 from k under r) ∙ sym (ends_on e.1 x.0 from f.0 under))),
+            joined (past_end e.1 k (ends_on e.1 x.0 k f.0 (le_le x.0 from k under r)) ∙ sym (past_end e.1 from (ends_on e.1 x.0 from f.0 under)))),
         same_in from k rs a.2 (sorted_tail by_bytes e.0 (keys_of rs) s) r next (ap (λ t. is_below k (high_ahead from t)) n ∙ g),
       )
     ]) refl h)

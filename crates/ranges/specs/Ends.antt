@@ -1,5 +1,5 @@
 -- A range that comes among others: where those lie that reach over its ends.
-use Rattle.std.specs.Prelude.{◌≡◌, ℕ, Bool, true, false, not, ◌||◌, List, [], ◌∷◌, take, drop, Option, Some, None, IfSome}
+use Rattle.std.specs.Prelude.{◌≡◌, ◌⊎◌, ℕ, Bool, true, false, not, ◌||◌, List, [], ◌∷◌, take, drop, Option, Some, None, IfSome}
 use Rattle.std.specs.List.{filter, slice_get}
 use Rattle.std.specs.Option.{option_map, option_and_then}
 use Rattle.std.specs.BTreeMap.{insert_entry}
@@ -56,6 +56,12 @@ IsOver k rs (Some r) = (last_of rs ≡ Some (r.lo, r.hi)) × (is_below k r.hi �
 abbrev pub AreMeeting : List Span → List Span → Option KeyRange → Type 0
 AreMeeting es fs None = IfSome (last_of es) (λ x. IfSome (slice_get fs 0) (λ y. is_key x.1 y.0 ≡ false))
 AreMeeting es fs (Some r) = (k : List ℕ) × (last_of es ≡ Some (r.lo, Some k)) × (slice_get fs 0 ≡ Some (k, r.hi))
+
+-- the two became one where they meet, which stands in the one list, and else both lists are as they were
+abbrev pub AreWelded : List Span → List Span → List Span → List Span → Type 0
+AreWelded es fs gs hs =
+    (AreMeeting es fs None × (gs ≡ es) × (hs ≡ fs))
+    ⊎ ((r : KeyRange) × AreMeeting es fs (Some r) × (gs ≡ insert_entry by_bytes es r.lo r.hi) × (hs ≡ drop 1 fs))
 
 -- where the first range begins that begins behind the key
 abbrev pub next_begin : List ℕ → List Span → Option (List ℕ)

@@ -3,7 +3,7 @@ use Rattle.std.specs.BTreeMap.{insert_entry}
 use Rattle.pathkey.specs.Order.{by_bytes}
 use Rattle.ranges.specs.Ends.{IsOver}
 use Rattle.ranges.proofs.Parting.{apart_parts, front_whole, back_whole, front_cut, back_cut, apart_cut}
-use Rattle.ranges.proofs.cut.part.Goals as goal
+use Rattle.ranges.proofs.pivot.part.Goals as goal
 
 pub returns-in_default-clause-front : goal.returns-in_default-clause-front
 returns-in_default-clause-front g c =
