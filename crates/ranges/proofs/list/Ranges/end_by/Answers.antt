@@ -22,6 +22,7 @@ returns-in-Some g c h =
     let rs = c.self.inside.rows in
     let a = c.self.invariant.apart in
     let high = c.in-Some.high.now in
-    let by : is_below p high ≡ false = end_passed high p (sym (c.ends_by.ensures ∙ ap (λ t. ends_within t (Some p)) c.as_ref.ensures.value) ∙ h) in
+    let told : c.ends_by.result ≡ ends_within high (Some p) = c.ends_by.ensures ∙ ap (λ t. ends_within t (Some p)) c.as_ref.ensures.value in
+    let by : is_below p high ≡ false = end_passed high p (sym told ∙ h) in
     let end = all_end p rs a (subst (λ o. IfSome o (λ e. is_below p e.1 ≡ false)) c.in-Some.ensures by) in
     subst (λ t. LieIn [] (Some p) (range_msgs {U = g.row.U.Denot} {V = g.row.U-Value.Denot} t)) c.self.view_is (front_lies g.row.U.Denot g.row.U-Value.Denot p rs a end)
