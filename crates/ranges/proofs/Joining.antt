@@ -4,14 +4,12 @@ use Rattle.std.specs.Prelude.{IfSome}
 use Rattle.std.specs.declared.cmp.Ordering.TheVariants.{Less, Equal, Greater}
 use Rattle.std.specs.Ordering.{is_lt, is_le, is_eq, match_ordering}
 use Rattle.std.specs.List.{slice_get}
-use Rattle.std.specs.Map.{keys_of}
 use Rattle.std.specs.BTreeMap.{insert_entry}
 use Rattle.std.proofs.lemmas.List.{length-map, map-append}
 use Rattle.pathkey.specs.Order.{by_bytes, same}
 use Rattle.pathkey.specs.Keys.{is_below}
 use Rattle.pathkey.specs.declared.range.KeyRange.{KeyRange}
-use Rattle.pathkey.proofs.OrderFacts.{equal, tied, same_true}
-use Rattle.message.specs.declared.msg.Msg.{Msg}
+use Rattle.pathkey.proofs.OrderFacts.{equal, tied}
 use Rattle.message.specs.Cuts.{pieces, IsJoined, LieIn}
 use Rattle.message.specs.Ranges.{reaches, before, later_key, earlier_end}
 use Rattle.message.specs.Stretches.{is_key}
@@ -23,7 +21,7 @@ use Rattle.ranges.specs.Ends.{AreMeeting, AreWelded}
 use Rattle.ranges.proofs.Ends.{split_bool, ends_on, past_end, ahead_of_end, greater_from_before}
 use Rattle.ranges.proofs.Last.{last_one, last_rest, last_keys, last_some}
 use Rattle.ranges.proofs.Splicing.{AllFrom, begin_insert, tie}
-use Rattle.ranges.proofs.Parting.{AllEndBy, IsCutLast, back_lies, back_off, cut_last, del, front_lies, front_off}
+use Rattle.ranges.proofs.Parting.{AllEndBy, back_lies, back_off, cut_last, del, front_off}
 
 -- ---- range-deletes that are their own parts
 

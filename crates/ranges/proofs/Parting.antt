@@ -1,5 +1,5 @@
 -- Ranges on both sides of a pivot.
-use Rattle.std.proofs.Common.{◌≡◌, ℕ, ◌+◌, ◌≤◌, Bool, true, false, List, [], ◌∷◌, ◌++◌, length, Option, Some, None, refl, ap, sym, ◌∙◌, subst, cond, append-nil}
+use Rattle.std.proofs.Common.{◌≡◌, ℕ, true, false, List, [], ◌∷◌, ◌++◌, Option, Some, None, refl, ap, sym, ◌∙◌, subst, cond, append-nil}
 use Rattle.std.specs.Prelude.{IfSome}
 use Rattle.std.specs.declared.cmp.Ordering.TheVariants.{Less, Equal, Greater}
 use Rattle.std.specs.Ordering.{is_lt, is_le, match_ordering}
@@ -10,7 +10,7 @@ use Rattle.std.specs.BTreeMap.{insert_entry}
 use Rattle.std.proofs.lemmas.List.{map-append}
 use Rattle.std.proofs.lemmas.List.Elements.{All-head, All-tail, recursion_from_All}
 use Rattle.std.proofs.lemmas.Map.Keys.{sorted_head}
-use Rattle.pathkey.specs.Order.{by_bytes, by_bytes_total}
+use Rattle.pathkey.specs.Order.{by_bytes}
 use Rattle.pathkey.specs.Keys.{is_below}
 use Rattle.pathkey.specs.declared.range.KeyRange.{KeyRange}
 use Rattle.pathkey.proofs.OrderFacts.{equal, tied}
@@ -18,7 +18,7 @@ use Rattle.message.specs.declared.msg.Msg.{Msg}
 use Rattle.message.specs.declared.msg.Msg.TheVariants.{DelRange}
 use Rattle.message.specs.Cuts.{cut_range, cut_to, pieces, LieIn, LieOut, IsParted}
 use Rattle.message.specs.Ranges.{reaches, before, later_key, earlier_end}
-use Rattle.message.proofs.KeyOrder.{reaches-refl, reaches-later, reaches-from_before, reaches-from_not_before, not_before_from_reaches, le_le}
+use Rattle.message.proofs.KeyOrder.{reaches-from_before, reaches-from_not_before, not_before_from_reaches, le_le}
 use Rattle.message.proofs.Parting.{pieces-in, pieces-out, pieces-append, front_part, back_part}
 use Rattle.rows.specs.Places.{last_of, AreBefore, AreFrom}
 use Rattle.ranges.specs.Apart.{Span, range_msgs, ends_before, BeginBehind, AreApart}
@@ -130,12 +130,12 @@ cut_last U V p low high (e ∷ []) a h l o =
     let hit : Some e ≡ Some (low, high) = sym (last_one e) ∙ h in
     let is : e ≡ (low, high) = (cc) in
     subst (λ t. IsCutLast U V p high (t ∷ []) (insert_entry by_bytes (t ∷ []) low (Some p))) (sym is) (
-      let made : insert_entry by_bytes ((low, high) ∷ []) low (Some p) ≡ (low, Some p) ∷ [] = ap (λ t. match_ordering t ((low, Some p) ∷ (low, high) ∷ []) ((low, Some p) ∷ []) ((low, high) ∷ (low, Some p) ∷ [])) (tied low) in
-      record {
-        front = ap (λ t. range_msgs t) made ∙ sym (ap (λ t. option_to_list t ++ []) (a_part [] low (Some p) (Some p) (low, high) (later_start low) (earlier_pivot p high o) l));
-        rest = ap (λ t. option_to_list t ++ []) (a_part p p None high (low, high) (later_pivot p low l) refl o);
-        apart = subst (λ t. AreApart t) (sym made) (l, tt, tt);
-      })
+    let made : insert_entry by_bytes ((low, high) ∷ []) low (Some p) ≡ (low, Some p) ∷ [] = ap (λ t. match_ordering t ((low, Some p) ∷ (low, high) ∷ []) ((low, Some p) ∷ []) ((low, high) ∷ (low, Some p) ∷ [])) (tied low) in
+    record {
+      front = ap (λ t. range_msgs t) made ∙ sym (ap (λ t. option_to_list t ++ []) (a_part [] low (Some p) (Some p) (low, high) (later_start low) (earlier_pivot p high o) l));
+      rest = ap (λ t. option_to_list t ++ []) (a_part p p None high (low, high) (later_pivot p low l) refl o);
+      apart = subst (λ t. AreApart t) (sym made) (l, tt, tt);
+    })
 cut_last U V p low high (e ∷ s ∷ es) a h l o =
     let last : last_of (s ∷ es) ≡ Some (low, high) = sym (last_rest e s es) ∙ h in
     let r = cut_last U V p low high (s ∷ es) a.2 last l o in

@@ -1,6 +1,6 @@
 -- A range in the place of those that begin in it.
-use Rattle.std.proofs.Common.{◌≡◌, ℕ, suc, ◌+◌, ◌<◌, ◌≤◌, Bool, true, false, not, List, [], ◌∷◌, length, drop, Option, Some, None, refl, ap, sym, ◌∙◌, subst, cond, arith}
-use Rattle.std.specs.Prelude.{◌&&◌, ◌||◌, is_some, IfSome}
+use Rattle.std.proofs.Common.{◌≡◌, ℕ, suc, ◌+◌, Bool, true, false, not, List, [], ◌∷◌, length, drop, Option, Some, None, refl, ap, sym, ◌∙◌, subst, cond, arith}
+use Rattle.std.specs.Prelude.{◌&&◌, ◌||◌, IfSome}
 use Rattle.std.specs.declared.cmp.Ordering.TheVariants.{Less, Equal, Greater}
 use Rattle.std.specs.Ordering.{is_lt, is_le, match_ordering, ordering_reverse}
 use Rattle.std.specs.List.{AllByRecursion, filter, slice_get, sum_by}
@@ -17,7 +17,7 @@ use Rattle.pathkey.specs.Keys.{is_below, is_in}
 use Rattle.pathkey.specs.declared.range.KeyRange.{KeyRange}
 use Rattle.pathkey.proofs.OrderFacts.{equal}
 use Rattle.message.specs.Ranges.{reaches, before, within}
-use Rattle.message.proofs.KeyOrder.{both, reaches-from_before, reaches-from_not_before, not_before_from_reaches, before_from_not_reaches, not_reaches_from_before, le_le, le_lt}
+use Rattle.message.proofs.KeyOrder.{both, reaches-from_before, reaches-from_not_before, not_before_from_reaches, not_reaches_from_before, le_le, le_lt}
 use Rattle.rows.specs.Places.{Rises, at_key, place_past}
 use Rattle.ranges.specs.Apart.{Span, covered, ends_before, BeginBehind, AreApart, CoversMore}
 use Rattle.ranges.specs.Ends.{EndBefore, IsFree, Widens, spliced}

@@ -1,5 +1,5 @@
 -- Up to where ranges hold all keys or none.
-use Rattle.std.proofs.Common.{◌≡◌, ℕ, suc, ◌⊎◌, inl, inr, Bool, true, false, not, List, [], ◌∷◌, take, drop, Option, Some, None, refl, ap, sym, ◌∙◌, subst, cond, arith}
+use Rattle.std.proofs.Common.{◌≡◌, ℕ, suc, ◌⊎◌, inl, inr, Bool, true, false, not, List, [], ◌∷◌, drop, Option, Some, None, refl, ap, sym, ◌∙◌, subst, cond, arith}
 use Rattle.std.specs.Prelude.{◌&&◌, All, Contains, IfSome}
 use Rattle.std.specs.declared.cmp.Ordering.TheVariants.{Less, Equal, Greater}
 use Rattle.std.specs.Ordering.{is_lt, match_ordering}
@@ -17,7 +17,7 @@ use Rattle.message.specs.Ranges.{reaches, before, within, earlier_end}
 use Rattle.message.specs.Stretches.{ahead_of, ends_of, all_ends, IsStretch}
 use Rattle.message.proofs.KeyOrder.{both, le_le, lt_le, reaches-from_before, reaches-from_not_before, not_reaches_from_before}
 use Rattle.message.proofs.StretchEnds.{ahead_after, below_alike, below_both, below_earlier, some_earlier, weaker}
-use Rattle.rows.specs.Places.{Rises, last_of, place_past}
+use Rattle.rows.specs.Places.{Rises, place_past}
 use Rattle.ranges.specs.Apart.{Span, range_msgs, AreApart}
 use Rattle.ranges.specs.Ends.{next_begin, next_end}
 use Rattle.ranges.proofs.Ends.{split_bool, not_true, ends_on, past_end, apart_rises}

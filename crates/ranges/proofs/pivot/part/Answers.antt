@@ -1,4 +1,4 @@
-use Rattle.std.proofs.Common.{◌≡◌, ◌∙◌, ap, sym, subst, Some, None, length, length-append, arith}
+use Rattle.std.proofs.Common.{◌∙◌, ap, subst, Some, None, length, length-append, arith}
 use Rattle.std.specs.BTreeMap.{insert_entry}
 use Rattle.pathkey.specs.Order.{by_bytes}
 use Rattle.ranges.specs.Ends.{IsOver}

@@ -1,4 +1,4 @@
-use Rattle.std.proofs.Common.{◌≡◌, ◌+◌, ◌∙◌, ap, sym, length, arith}
+use Rattle.std.proofs.Common.{◌∙◌, ap, sym, length, arith}
 use Rattle.ranges.proofs.Splicing.{put_new, put_over}
 use Rattle.ranges.proofs.splice.put.Goals as goal
 

@@ -1,4 +1,4 @@
-use Rattle.std.proofs.Common.{◌≡◌, ◌∙◌, [], Some, ap, sym, subst, true, false}
+use Rattle.std.proofs.Common.{◌≡◌, ◌∙◌, [], Some, ap, sym, subst, false}
 use Rattle.std.specs.Prelude.{IfSome}
 use Rattle.pathkey.specs.Keys.{is_below}
 use Rattle.message.specs.Cuts.{LieIn}

@@ -1,4 +1,4 @@
-use Rattle.std.proofs.Common.{ap, sym, ◌∙◌, subst, true, ◌≡◌}
+use Rattle.std.proofs.Common.{sym, subst, true, ◌≡◌}
 use Rattle.pathkey.specs.Keys.{is_below}
 use Rattle.ranges.proofs.Last.{first_some, first_none}
 use Rattle.ranges.proofs.list.Ranges.take_first.Goals as goal
