@@ -52,6 +52,12 @@ abbrev pub IsOver : List ℕ → List Span → Option KeyRange → Type 0
 IsOver k rs None = IfSome (last_of rs) (λ e. is_below k e.1 ≡ false)
 IsOver k rs (Some r) = (last_of rs ≡ Some (r.lo, r.hi)) × (is_below k r.hi ≡ true)
 
+-- it became two at the pivot, one in each list, and else both lists are as they were
+abbrev pub AreDivided : List ℕ → List Span → List Span → List Span → List Span → Type 0
+AreDivided p es fs gs hs =
+    (IsOver p es None × (gs ≡ es) × (hs ≡ fs))
+    ⊎ ((r : KeyRange) × IsOver p es (Some r) × (gs ≡ insert_entry by_bytes es r.lo (Some p)) × (hs ≡ insert_entry by_bytes fs p r.hi))
+
 -- the last range of the one list and the first of the other as one range, where they meet
 abbrev pub AreMeeting : List Span → List Span → Option KeyRange → Type 0
 AreMeeting es fs None = IfSome (last_of es) (λ x. IfSome (slice_get fs 0) (λ y. is_key x.1 y.0 ≡ false))

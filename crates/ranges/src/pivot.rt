@@ -1,8 +1,8 @@
 //! Ranges that are parted at a pivot, and joined there.
 ghost use Rattle.std.specs.Prelude.{◌≡◌, ◌+◌, ◌≤◌, true, [], Some, None, length, OnOk, IfOk};
-ghost use Rattle.message.specs.Cuts.{pieces, IsJoined, LieIn};
+ghost use Rattle.message.specs.Cuts.{IsJoined, LieIn};
 ghost use Rattle.ranges.specs.Apart.{range_msgs, AreApart};
-ghost use Rattle.ranges.specs.Ends.{AreMeeting, AreWelded, IsOver};
+ghost use Rattle.ranges.specs.Ends.{AreDivided, AreMeeting, AreWelded, IsOver};
 
 use crate::splice::put;
 use message::Update;
@@ -18,22 +18,34 @@ pub(crate) fn part<U: Update>(
     pivot: &Key,
 ) -> Result<(Rows<Option<Key>>, Rows<Option<Key>>), NoMemory>
     requires { AreApart rows }
-    ensures front { IfOk result (λ r. range_msgs {U = U} {V = U.Value} r.0 ≡ pieces [] (Some pivot.now) (range_msgs rows)) }
-    ensures back { IfOk result (λ r. range_msgs {U = U} {V = U.Value} r.1 ≡ pieces pivot.now None (range_msgs rows)) }
+    ensures sides { IfOk result (λ r. IsJoined pivot.now (range_msgs {U = U} {V = U.Value} r.0) (range_msgs r.1) (range_msgs rows)) }
     ensures apart { IfOk result (λ r. AreApart r.0 × AreApart r.1) }
-    ensures bound { IfOk result (λ r. (length r.0 ≤ length rows + 1) × (length r.1 ≤ length rows + 1)) }
+    ensures few { IfOk result (λ r. length r.0 + length r.1 ≤ length rows + 1) }
 {
     let mut front = rows;
     let mut back = front.split_off(pivot)?;
-    let Some(over) = last_over(&front, alloc, pivot)? else {
-        return Ok((front, back));
+    divide(&mut front, alloc, &mut back, pivot)?;
+    Ok((front, back))
+}
+
+/// Makes two ranges of the last of the front, where it lies over the pivot. The second stands in the back.
+fn divide(
+    front: &mut Rows<Option<Key>>,
+    alloc: Global,
+    back: &mut Rows<Option<Key>>,
+    pivot: &Key,
+) -> Result<(), NoMemory>
+    ensures { OnOk result (AreDivided pivot.now front.old back.old front.new back.new) }
+{
+    let Some(over) = last_over(front, alloc, pivot)? else {
+        return Ok(());
     };
     let KeyRange { lo, hi } = over;
     let end = pivot.copy(alloc)?;
-    put(&mut front, KeyRange { lo, hi: Some(end) })?;
+    put(front, KeyRange { lo, hi: Some(end) })?;
     let begin = pivot.copy(alloc)?;
-    put(&mut back, KeyRange { lo: begin, hi })?;
-    Ok((front, back))
+    put(back, KeyRange { lo: begin, hi })?;
+    Ok(())
 }
 
 /// A copy of the last of the ranges, where it ends behind the pivot.

@@ -5,7 +5,7 @@ use Rattle.std.specs.List.{slice_get}
 use Rattle.message.specs.Cuts.{LieIn}
 use Rattle.message.specs.Ranges.{reaches}
 use Rattle.ranges.specs.Apart.{range_msgs}
-use Rattle.ranges.proofs.Parting.{from_first, back_lies}
+use Rattle.ranges.proofs.Sides.{from_first, back_lies}
 use Rattle.ranges.proofs.list.Ranges.begin_from.Goals as goal
 
 pub returns-in-None : goal.returns-in-None

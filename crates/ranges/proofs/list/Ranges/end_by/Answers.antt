@@ -5,7 +5,7 @@ use Rattle.message.specs.Cuts.{LieIn}
 use Rattle.message.specs.Ranges.{ends_within}
 use Rattle.ranges.specs.Apart.{range_msgs}
 use Rattle.ranges.proofs.Ends.{end_passed}
-use Rattle.ranges.proofs.Parting.{all_end, front_lies}
+use Rattle.ranges.proofs.Sides.{all_end, front_lies}
 use Rattle.ranges.proofs.list.Ranges.end_by.Goals as goal
 
 pub returns-in-None : goal.returns-in-None
