@@ -62,6 +62,10 @@ pub end_passed : (h : Option (List ℕ)) (k : List ℕ) → ends_within h (Some 
 end_passed None k e = absurd (cc)
 end_passed (Some h) k e = not_before_from_reaches h k e
 
+pub end_reached : (h : Option (List ℕ)) (k : List ℕ) → is_below k h ≡ false → ends_within h (Some k) ≡ true
+end_reached None k e = absurd (cc)
+end_reached (Some h) k e = reaches-from_not_before k h e
+
 pub below_later : (k : List ℕ) (hi end : Option (List ℕ)) → ends_within hi end ≡ true → is_below k hi ≡ true → is_below k end ≡ true
 below_later k hi None e b = refl
 below_later k None (Some d) e b = absurd (cc)

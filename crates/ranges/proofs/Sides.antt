@@ -129,11 +129,11 @@ module _ {U V : Type 0} where
   own_part false l h e c = absurd (cc)
 
 module _ (U V : Type 0) where
-  all_end_by : (p : List ℕ) (rs : List Span) → LieIn [] (Some p) (range_msgs {U = U} {V = V} rs) → AllEndBy p rs
+  pub all_end_by : (p : List ℕ) (rs : List Span) → LieIn [] (Some p) (range_msgs {U = U} {V = V} rs) → AllEndBy p rs
   all_end_by p [] l = tt
   all_end_by p (e ∷ rs) l = (ends_by_own p e.1 (own_part {U = U} {V = V} (is_below (later_key [] e.0) (earlier_end (Some p) e.1)) (later_key [] e.0) (earlier_end (Some p) e.1) e l.0).1, all_end_by p rs l.1)
 
-  all_begin : (p : List ℕ) (rs : List Span) → LieIn p None (range_msgs {U = U} {V = V} rs) → AllFrom p rs
+  pub all_begin : (p : List ℕ) (rs : List Span) → LieIn p None (range_msgs {U = U} {V = V} rs) → AllFrom p rs
   all_begin p [] l = tt
   all_begin p (e ∷ rs) l = (subst (λ x. reaches p x ≡ true) (own_part {U = U} {V = V} (is_below (later_key p e.0) e.1) (later_key p e.0) e.1 e l.0).0 (reaches-later p e.0), all_begin p rs l.1)
 
@@ -202,9 +202,15 @@ last_ends : (p : List ℕ) (init : List Span) (x : Span) → AllEndBy p (init ++
 last_ends p [] x d = d.0
 last_ends p (e ∷ init) x d = last_ends p init x d.1
 
+pub end_of_last : (p : List ℕ) (es : List Span) (x : Span) → AllEndBy p es → last_of es ≡ Some x → is_below p x.1 ≡ false
+end_of_last p es x d l = (let cut = last_split es x l in last_ends p cut.0 x (subst (λ t. AllEndBy p t) cut.1 d))
+
 first_is : (fs : List Span) (y : Span) → slice_get fs 0 ≡ Some y → fs ≡ y ∷ drop 1 fs
 first_is [] y h = absurd (cc)
 first_is (f ∷ fs) y h = (let is : f ≡ y = (cc) in ap (λ t. t ∷ fs) is)
+
+pub first_from : (p : List ℕ) (fs : List Span) (y : Span) → AllFrom p fs → slice_get fs 0 ≡ Some y → reaches p y.0 ≡ true
+first_from p fs y f h = (subst (λ t. AllFrom p t) (first_is fs y h) f).0
 
 -- ---- what lies on both sides
 
@@ -319,7 +325,7 @@ module _ (U V : Type 0) where
         by_last None e m = subst (λ xs. AreApart (xs ++ fs)) (sym (none_last es e)) b
         by_last (Some x) e m =
             let cut = last_split es x e in
-            let behind = begin_beyond x.1 p fs (last_ends p cut.0 x (subst (λ xs. AllEndBy p xs) cut.1 end)) begin b m in
+            let behind = begin_beyond x.1 p fs (end_of_last p es x end e) begin b m in
             let some = (apart_right cut.0 (x ∷ []) (subst (λ xs. AreApart xs) cut.1 a)).0 in
             subst (λ xs. AreApart xs) (sym (ap (λ xs. xs ++ fs) cut.1 ∙ append_assoc cut.0 (x ∷ []) fs)) (apart_again cut.0 x.0 x.1 x.1 [] fs (subst (λ xs. AreApart xs) cut.1 a) some behind b)
 
@@ -332,7 +338,7 @@ module _ (U V : Type 0) where
         let front : AreApart (init ++ (r.lo, Some k) ∷ []) = subst (λ xs. AreApart xs) cut.1 a in
         let later : AreApart ((k, r.hi) ∷ hs) = subst (λ xs. AreApart xs) whole b in
         let from : AllFrom p ((k, r.hi) ∷ hs) = subst (λ xs. AllFrom p xs) whole begin in
-        let is : k ≡ p = equal k p (tie k p (reaches-from_not_before p k (last_ends p init (r.lo, Some k) (subst (λ xs. AllEndBy p xs) cut.1 end))) from.0) in
+        let is : k ≡ p = equal k p (tie k p (reaches-from_not_before p k (end_of_last p es (r.lo, Some k) end l)) from.0) in
         let low : before r.lo k ≡ true = (apart_right init ((r.lo, Some k) ∷ []) front).0 in
         let apart : AreApart (init ++ (r.lo, r.hi) ∷ hs) = apart_again init r.lo (Some k) r.hi [] hs front (begins_before_end r.lo k r.hi (reaches-from_before r.lo k low) later.0) later.1 later.2 in
         let over : AreSides p (init ++ (r.lo, Some p) ∷ []) ((p, r.hi) ∷ hs) (init ++ (r.lo, r.hi) ∷ hs) = sides_over p r.lo r.hi init hs apart (subst (λ q. before r.lo q ≡ true) is low) (subst (λ q. is_below q r.hi ≡ true) is later.0) from.1 in

@@ -125,7 +125,8 @@ impl Ranges {
 
     /// Whether each range ends at the pivot or before it.
     pub fn end_by<U: Update>(&self, pivot: &Key) -> bool
-        ensures { result ≡ true → LieIn [] (Some pivot.now) (range_msgs {U = U} {V = U.Value} self.now) }
+        ensures yes { result ≡ true → LieIn [] (Some pivot.now) (range_msgs {U = U} {V = U.Value} self.now) }
+        ensures no { result ≡ false → LieIn [] (Some pivot.now) (range_msgs {U = U} {V = U.Value} self.now) → ⊥ }
     {
         match self.rows.last() {
             None => true,
@@ -135,7 +136,8 @@ impl Ranges {
 
     /// Whether each range begins at the pivot or behind it.
     pub fn begin_from<U: Update>(&self, pivot: &Key) -> bool
-        ensures { result ≡ true → LieIn pivot.now None (range_msgs {U = U} {V = U.Value} self.now) }
+        ensures yes { result ≡ true → LieIn pivot.now None (range_msgs {U = U} {V = U.Value} self.now) }
+        ensures no { result ≡ false → LieIn pivot.now None (range_msgs {U = U} {V = U.Value} self.now) → ⊥ }
     {
         match self.rows.walk().peek() {
             None => true,
