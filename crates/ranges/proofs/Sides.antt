@@ -1,5 +1,5 @@
 -- Ranges on both sides of a pivot: parted there, and joined.
-use Rattle.std.proofs.Common.{◌≡◌, ◌⊎◌, ℕ, ◌+◌, ◌≤◌, Bool, true, false, List, [], ◌∷◌, ◌++◌, drop, length, Option, Some, None, refl, ap, sym, ◌∙◌, subst, cond, arith, append_assoc, append-nil, length-append, inl, inr}
+use Rattle.std.proofs.Common.{◌≡◌, ℕ, ◌+◌, ◌≤◌, Bool, true, false, List, [], ◌∷◌, ◌++◌, drop, length, Option, Some, None, refl, ap, sym, ◌∙◌, subst, cond, arith, append_assoc, append-nil, length-append, inl, inr}
 use Rattle.std.specs.Prelude.{IfSome}
 use Rattle.std.specs.declared.cmp.Ordering.TheVariants.{Less, Equal, Greater}
 use Rattle.std.specs.Ordering.{is_lt, is_le, is_eq, match_ordering}
@@ -344,7 +344,7 @@ module _ (U V : Type 0) where
         let over : AreSides p (init ++ (r.lo, Some p) ∷ []) ((p, r.hi) ∷ hs) (init ++ (r.lo, r.hi) ∷ hs) = sides_over p r.lo r.hi init hs apart (subst (λ q. before r.lo q ≡ true) is low) (subst (λ q. is_below q r.hi ≡ true) is later.0) from.1 in
         let both : AreSides p es fs (init ++ (r.lo, r.hi) ∷ hs) = subst (λ xs. AreSides p xs fs (init ++ (r.lo, r.hi) ∷ hs)) (sym (cut.1 ∙ ap (λ q. init ++ (r.lo, Some q) ∷ []) is)) (subst (λ ys. AreSides p (init ++ (r.lo, Some p) ∷ []) ys (init ++ (r.lo, r.hi) ∷ hs)) (sym (whole ∙ ap (λ q. (q, r.hi) ∷ hs) is)) over) in
         let made : insert_entry by_bytes es r.lo r.hi ++ hs ≡ init ++ (r.lo, r.hi) ∷ hs = ap (λ xs. insert_entry by_bytes xs r.lo r.hi ++ hs) cut.1 ∙ ap (λ xs. xs ++ hs) (insert_last init r.lo (Some k) r.hi front) ∙ append_assoc init ((r.lo, r.hi) ∷ []) hs in
-        subst (AreBeside p es fs) (sym made) (record { sides = both; apart = apart; })
+        subst (AreBeside p es fs) (sym made) (record { sides = both; apart = apart })
 
     pub beside : (gs hs : List Span) → AreWelded es fs gs hs → AreBeside p es fs (gs ++ hs)
     beside gs hs (inl (n, x, y)) = subst (λ xs. AreBeside p es fs (xs ++ hs)) (sym x) (subst (λ ys. AreBeside p es fs (es ++ ys)) (sym y) (beside_whole n))
