@@ -94,7 +94,7 @@ impl Ranges {
     }
 
     /// Lays a range over the others: those inside it give way to it, it becomes one with those that reach over its ends or
-    /// meet them, and it is left out where another holds it or it holds no key. On want of memory all are as they were.
+    /// meet it, and it is left out where another holds it or it holds no key. On want of memory all are as they were.
     pub fn lay(&mut self, alloc: Global, range: &KeyRange) -> Result<(), NoMemory>
         requires { length self.old < 2 ^ 63 }
         ensures covers { OnOk result (CoversMore range.now.lo range.now.hi self.old self.new) }
@@ -155,7 +155,8 @@ impl Ranges {
         Ok((Ranges::of(front), Ranges::of(back)))
     }
 
-    /// The ranges of both lists, where these lie before the pivot and the newer ones from it on. Two that meet there become one.
+    /// The ranges of both lists, where these lie before the pivot and the newer ones from it on. Two that meet there become
+    /// one.
     pub fn joined<U: Update>(
         self,
         alloc: Global,
@@ -228,8 +229,8 @@ impl Ranges {
         self.splice(wide)
     }
 
-    /// Puts a range in the place of those that begin in it, where no other reaches over its ends or meets it. On want of memory all are as
-    /// they were.
+    /// Puts a range in the place of those that begin in it, where no other reaches over its ends or meets it. On want of
+    /// memory all are as they were.
     fn splice(&mut self, range: KeyRange) -> Result<(), NoMemory>
         requires some { is_below range.lo range.hi ≡ true }
         requires low { EndBefore range.lo self.old }

@@ -9,8 +9,8 @@ use message::ends::is_before_end;
 use pathkey::{Key, KeyRange, NoMemory};
 use rows::Rows;
 
-/// Puts a range in the place of those that begin in it, and answers how many of these there were. On want of memory all are as
-/// they were.
+/// Puts a range in the place of those that begin in it, and answers how many of these there were. On want of memory all are
+/// as they were.
 pub(crate) fn splice(rows: &mut Rows<Option<Key>>, range: KeyRange) -> Result<usize, NoMemory>
     requires some { is_below range.lo range.hi ≡ true }
     requires few { length rows.old < 2 ^ 63 }
