@@ -1,6 +1,6 @@
 -- The lines of an image from a key on: how they begin with those of the entries that a walk lists.
-use Rattle.std.proofs.Common.{◌≡◌, ◌⊎◌, inl, inr, ℕ, zero, suc, List, [], ◌∷◌, ◌++◌, Bool, true, false, cond, refl, sym, ap, subst, ◌∙◌, append_assoc, append-nil, Option, Some, None, length, drop, get_or, ◌+◌, ◌-◌, ◌/◌, ◌<◌, ◌≤◌, arith}
-use Rattle.std.specs.Prelude.{All, AllPairs, Contains, fold, codes, decimal}
+use Rattle.std.proofs.Common.{◌≡◌, inl, inr, ℕ, zero, suc, List, [], ◌∷◌, ◌++◌, Bool, true, false, cond, refl, sym, ap, subst, ◌∙◌, append_assoc, append-nil, Option, Some, None, length, drop, get_or, ◌+◌, ◌-◌, ◌/◌, ◌<◌, arith}
+use Rattle.std.specs.Prelude.{Contains, fold, codes, decimal}
 use Rattle.std.specs.declared.cmp.Ordering.TheVariants.{Less}
 use Rattle.std.proofs.lemmas.Bool.{and_parts, false_from_ne_true}
 use Rattle.pathkey.specs.Order.{by_bytes, same}

@@ -1,34 +1,23 @@
 -- What is guessed of a line of an image is the line that it spells.
-use Rattle.std.proofs.Common.{◌≡◌, ◌≢◌, ◌⊎◌, ⊎_elim, ℕ, ◌/◌, ◌%◌, ◌^◌, ◌<◌, ◌≤◌, List, [], ◌∷◌, ◌++◌, length, drop, get_or, true, false, cond, ◌==◌, nat_lt, refl, sym, ap, subst, ◌∙◌, arith, append_assoc, append-nil, Option, Some, None, Result, Ok, Err, decimal, flat_map, codes, All}
+use Rattle.std.proofs.Common.{◌≡◌, ◌≢◌, ◌⊎◌, ⊎_elim, ℕ, ◌^◌, ◌<◌, ◌≤◌, List, [], ◌∷◌, ◌++◌, length, drop, refl, sym, ap, subst, ◌∙◌, arith, append_assoc, append-nil, Option, Some, None, Result, Ok, Err, decimal, flat_map, codes, All}
 use Rattle.std.specs.Prelude.{IfSome}
-use Rattle.std.specs.List.{list_all}
-use Rattle.std.specs.Char.{is_ascii_digit}
-use Rattle.std.specs.Str.Parse.{digits_value}
-use Rattle.std.proofs.lemmas.Bool.{lt-ltb, cases_lt, eqb-true}
-use Rattle.std.proofs.lemmas.Fmt.{decimal_digit, first_decimal, digits_decimal, digits_value-decimal}
-use Rattle.std.proofs.lemmas.List.{get_or_past}
 use Rattle.std.proofs.lemmas.Option.{same_Some}
-use Rattle.std.proofs.lemmas.List.Elements.{recursion_from_All, All-cons, All-head, All-nil, All-tail, All-get_or}
-use Rattle.hex.specs.Hex.{decode_of, IsBytes}
+use Rattle.std.proofs.lemmas.List.Elements.{recursion_from_All, All-head, All-tail}
+use Rattle.hex.specs.Hex.{decode_of}
 use Rattle.hex.specs.declared.error.FromHexError.{FromHexError}
 use Rattle.hex.specs.declared.error.FromHexError.TheVariants.{OutOfMemory}
-use Rattle.hex.proofs.HexLemmas.{decode_of-encode_lower}
-use Rattle.percent_encoding.specs.Percent.{percent_decode, percent_encode_byte}
-use Rattle.percent_encoding.proofs.PercentLemmas.{percent_decode-nil, percent_decode-percent_encode_byte, percent_decode_not_percent}
-use Rattle.pathkey.specs.Names.{Name, Path, IsPath, EachName, HasNameBytes}
+use Rattle.pathkey.specs.Names.{Path, IsPath}
 use Rattle.pathkey.specs.declared.errno.Errno.{Errno}
 use Rattle.pathkey.specs.declared.errno.Errno.TheVariants.{ENOMEM}
-use Rattle.pathkey.specs.Texts.{parsed, slashed}
-use Rattle.pathkey.proofs.TextFacts.{read_back}
-use Rattle.reference.specs.Image.{Text, Version, First, Second, directory_letter, file_letter, moment_text, root_line, digit, two_digits, percent, path_text}
+use Rattle.reference.specs.Image.{Text, Version, First, Second, directory_letter, file_letter, moment_text, root_line, two_digits, path_text}
 use Rattle.reference.specs.ImageLines.{Line, DirectoryLine, FileLine, BlockLine, spelled, IsLine, IsBlock, IsTold}
 use Rattle.reference.specs.Shape.{AreBytes}
-use Rattle.reference.proofs.ImageTexts.{Visible, path_visible, decimal_visible, percent_cases}
+use Rattle.reference.proofs.ImageTexts.{Visible, path_visible, decimal_visible}
 use Rattle.reference.proofs.LinesRead.{no_block as no_block_letter}
 use Rattle.reference.proofs.OneImage.{letters_differ}
 use Rattle.images.specs.Image.{directory_text, file_text}
 use Rattle.images.specs.ImageLines.{CutsMoment, Guesses, IsRoot}
-use Rattle.lines.specs.Values.{is_decimal, number_of, path_of}
+use Rattle.lines.specs.Values.{number_of, path_of}
 use Rattle.lines.proofs.Written.{all_visible, digits_told, number_told, path_read}
 use Rattle.images.specs.declared.image_line.ImageLine.TheVariants.{Directory, File, Block}
 
