@@ -2,3 +2,4 @@ mod Reading
 mod Adding
 mod Spelling
 mod Telling
+mod Splitting

@@ -1,5 +1,5 @@
 -- A line that is written is read as what it tells.
-use Rattle.std.proofs.Common.{◌≡◌, ◌≢◌, ⊎_elim, ℕ, ◌+◌, ◌*◌, ◌^◌, ◌<◌, ◌≤◌, nat_le, List, [], ◌∷◌, ◌++◌, length, map, Bool, true, refl, sym, ap, subst, ◌∙◌, arith, append_assoc, length-append, Some, Ok, decimal, flat_map, codes, All}
+use Rattle.std.proofs.Common.{◌≡◌, ◌≢◌, ⊎_elim, ℕ, ◌+◌, ◌*◌, ◌≤◌, nat_le, List, [], ◌∷◌, ◌++◌, length, map, true, refl, sym, ap, ◌∙◌, arith, append_assoc, length-append, Some, Ok, decimal, flat_map, codes, All}
 use Rattle.std.specs.List.{AllByRecursion, list_all}
 use Rattle.std.proofs.lemmas.Bool.{and_parts, leb-true}
 use Rattle.std.proofs.lemmas.Bool.Decides.{nat_tests}
@@ -12,18 +12,17 @@ use Rattle.reference.specs.Image.{Text, path_text, percent, two_digits}
 use Rattle.reference.proofs.ImageTexts.{Visible, decimal_visible, path_visible, percent_cases}
 use Rattle.lines.specs.Lines.{lines_of, words_of}
 use Rattle.lines.specs.Texts.{hex_text}
-use Rattle.lines.specs.Values.{bytes_of, number_of, path_of}
+use Rattle.lines.specs.Values.{number_of, path_of}
 use Rattle.lines.proofs.WordFacts.{more_words, one_word}
 use Rattle.lines.proofs.Written.{all_visible, bytes_told, hex_text_visible, number_told, path_read, root_read}
 use Rattle.logs.specs.Entries.{IsWord}
-use Rattle.logs.specs.declared.change.Change.{Change}
 use Rattle.logs.specs.declared.change.Change.TheVariants.{OnPath, Rename, Truncate, Write, Punch, Keep}
 use Rattle.logs.specs.declared.change.Keeping.{Keeping}
 use Rattle.logs.specs.declared.change.Keeping.TheVariants.{Snapshot, Remove, Restore}
 use Rattle.logs.specs.declared.change.PathChange.{PathChange}
 use Rattle.logs.specs.declared.change.PathChange.TheVariants.{Mkdir, Create, Unlink, Rmdir, Rmtree}
 use Rattle.log_lines.specs.Added.{Fits, script}
-use Rattle.log_lines.specs.Lines.{Told, At, Makes, call_word, keeping_word, line, path_word, spelled}
+use Rattle.log_lines.specs.Lines.{Told, At, Makes, call_word, keeping_word, path_word, spelled}
 use Rattle.log_lines.specs.Told.{AreRead, IsRead}
 
 -- ---- visible words

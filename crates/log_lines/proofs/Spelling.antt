@@ -1,5 +1,5 @@
 -- What is written part by part is a line.
-use Rattle.std.proofs.Common.{◌≡◌, ℕ, List, [], ◌∷◌, ◌++◌, ap, ◌∙◌, append_assoc}
+use Rattle.std.proofs.Common.{◌≡◌, [], ◌∷◌, ◌++◌, ap, ◌∙◌, append_assoc}
 use Rattle.reference.specs.Image.{Text}
 
 -- three words behind a first, and a line feed

@@ -1,5 +1,5 @@
 -- A write in two parts.
-use Rattle.std.proofs.Common.{◌≡◌, ℕ, ◌+◌, ◌-◌, ◌^◌, ◌<◌, ◌≤◌, max, nat_lt, List, [], ◌∷◌, ◌++◌, length, get_or, Bool, true, false, cond, not, ◌&&◌, refl, sym, ap, subst, ◌∙◌, append-nil, length-append, arith, Option, Some, None, option_map, ⊎_elim}
+use Rattle.std.proofs.Common.{◌≡◌, ℕ, ◌+◌, ◌-◌, ◌<◌, ◌≤◌, nat_lt, List, [], ◌∷◌, ◌++◌, length, get_or, Bool, true, false, cond, not, ◌&&◌, refl, sym, ap, subst, ◌∙◌, append-nil, length-append, arith, Option, Some, None, option_map, ⊎_elim}
 use Rattle.std.specs.declared.cmp.Ordering.{Ordering}
 use Rattle.std.specs.declared.cmp.Ordering.TheVariants.{Less, Equal, Greater}
 use Rattle.std.proofs.lemmas.Bool.{cases_lt, le-ltb, ltb-false}
@@ -7,12 +7,14 @@ use Rattle.std.proofs.lemmas.List.{ext_get_or, get_or-append_right, get_or_appen
 use Rattle.pathkey.specs.Names.{Name, Path}
 use Rattle.pathkey.specs.Order.{by_bytes}
 use Rattle.pathkey.proofs.OrderFacts.{tied}
-use Rattle.reference.specs.Calls.{Outcome, changed, does, faults_of_file, greatest_file, is_empty, unless, when, written, bytes_of}
+use Rattle.reference.specs.Calls.{Outcome, changed, does, faults_of_file, greatest_file, is_empty, unless, when, bytes_of}
 use Rattle.reference.specs.Tree.{Tree, Dir, File, Entries, nothing, entry, At, Found, Missing, Blocked, by_order, edited, entry_at, named, onward, found, over, put, set_entry, with_entry}
 use Rattle.reference.specs.declared.call.Call.TheVariants.{Write}
 use Rattle.reference.specs.declared.reply.Reply.{Reply}
-use Rattle.reference.specs.declared.reply.Reply.TheVariants.{Count, Fault}
+use Rattle.reference.specs.declared.reply.Reply.TheVariants.{Count}
 use Rattle.pathkey.specs.declared.errno.Errno.TheVariants.{EFBIG, EISDIR}
+use Rattle.reference.specs.Shape.{IsTree}
+use Rattle.log_lines.specs.Laws.{SplitLaw}
 use Rattle.reference.proofs.Contents.{length-over}
 use Rattle.reference.proofs.Edits.{fold-Blocked, fold-Missing, named-set_same}
 use Rattle.reference.proofs.FileBlocks.{over_after, over_before, over_inside}
@@ -46,8 +48,7 @@ put_there (Dir date es) n (m ∷ p) x y z e = elim (named n es) as (λ c. named 
       | Some u ↦ λ same there.
           let ih = put_there u m p x y z there in
           let v : Tree = edited u (m ∷ p) (Some x) in
-          let one : named n (put n v es) ≡ Some v = named-set_same n (Some v) es in
-          (
+          let one : named n (put n v es) ≡ Some v = named-set_same n (Some v) es in (
             ap (λ (o : Option Tree). fold onward (found o) (m ∷ p)) one ∙ ih.0,
             ap (λ (o : Option Tree). Dir date (set_entry n (option_map (λ w. edited w (m ∷ p) (Some y)) o) (put n v es))) one
                 ∙ ap (λ (w : Tree). Dir date (put n w (put n v es))) ih.1
@@ -135,26 +136,59 @@ write_done at t p off w date b there near =
 file_root : (t : Tree) (date : ℕ) (b : List ℕ) → IsTree t → Found t ≡ Found (File date b) → ⊥
 file_root t date b is e = let one : t ≡ File date b = cc in (subst IsTree one is).root
 
-module _ (at : ℕ) (t : Tree) (p : Path) (off : ℕ) (is : IsTree t) (date : ℕ) (b : List ℕ) (there : entry_at t p ≡ Found (File date b)) where
-  abbrev one : List ℕ → Outcome
-  one w = does at t (Write p off w)
+-- a write, and one where it ended, of the bytes that one write has
+abbrev InTwo : ℕ → Tree → Path → ℕ → List ℕ → List ℕ → Type 0
+InTwo at t p off x y = ((does at t (Write p off x)).1 ≡ Count (length x)) × (does at (does at t (Write p off x)).0 (Write p (off + length x) y) ≡ ((does at t (Write p off (x ++ y))).0, Count (length y)))
 
-  in_two : (x y : List ℕ) → too_far off x ≡ false → too_far (off + length x) y ≡ false → too_far off (x ++ y) ≡ false → (one (x ++ y)).1 ≡ Count (length (x ++ y))
-      → ((one x).1 ≡ Count (length x)) × (does at (one x).0 (Write p (off + length x) y) ≡ ((one (x ++ y)).0, Count (length y)))
-  in_two [] y near_x near_y near done =
-      let front : one [] ≡ (t, Count 0) = write_done at t p off [] date b there near_x in
-      (
+-- the first of no bytes
+first_empty : (at : ℕ) (t : Tree) (p : Path) (off : ℕ) (y : List ℕ) (date : ℕ) (b : List ℕ) → entry_at t p ≡ Found (File date b) → (does at t (Write p off y)).1 ≡ Count (length y) → InTwo at t p off [] y
+first_empty at t p off y date b there done =
+    let front : does at t (Write p off []) ≡ (t, Count 0) = write_done at t p off [] date b there refl in (
+      ap (λ (o : Outcome). o.1) front,
+      ap (λ (o : Outcome). does at o.0 (Write p (off + 0) y)) front
+          ∙ ap (λ (k : ℕ). does at t (Write p k y)) (let e : off + 0 ≡ off = omega arith in e)
+          ∙ ap (λ (r : Reply). let o : Outcome = ((does at t (Write p off y)).0, r) in o) done,
+    )
+
+module _ (at : ℕ) (t : Tree) (n : Name) (q : Path) (off : ℕ) (a : ℕ) (xs : List ℕ) (date : ℕ) (b : List ℕ) (there : entry_at t (n ∷ q) ≡ Found (File date b)) where
+  abbrev p : Path
+  p = n ∷ q
+
+  abbrev x : List ℕ
+  x = a ∷ xs
+
+  abbrev between : Tree
+  between = edited t p (Some (File at (over b off x)))
+
+  -- what the second makes
+  abbrev second : List ℕ → Outcome
+  second y = laid at between p (off + length x) (over b off x) y
+
+  same_end : (y : List ℕ) → second y ≡ (with_entry t p (File at (over b off (x ++ y))), Count (length y))
+  same_end [] = ap (λ (w : List ℕ). let o : Outcome = (with_entry t p (File at (over b off w)), Count 0) in o) (sym (append-nil x))
+  same_end (c ∷ y) =
+      let twice = (put_there t n q (File at (over b off x)) (File at (over (over b off x) (off + length x) (c ∷ y))) (File date b) there).1 in
+      ap (λ (u : Tree). let o : Outcome = (u, Count (length (c ∷ y))) in o) (twice ∙ ap (λ (w : List ℕ). with_entry t p (File at w)) (over_join b off x (c ∷ y)))
+
+  first_some : (y : List ℕ) → too_far off x ≡ false → too_far (off + length x) y ≡ false → too_far off (x ++ y) ≡ false → InTwo at t p off x y
+  first_some y near_x near_y near =
+      let front : does at t (Write p off x) ≡ (between, Count (length x)) = write_done at t p off x date b there near_x in
+      let all : does at t (Write p off (x ++ y)) ≡ (with_entry t p (File at (over b off (x ++ y))), Count (length (x ++ y))) = write_done at t p off (x ++ y) date b there near in
+      let stands = (put_there t n q (File at (over b off x)) (File at []) (File date b) there).0 in (
         ap (λ (o : Outcome). o.1) front,
-        ap (λ (o : Outcome). does at o.0 (Write p (off + 0) y)) front
-            ∙ ap (λ (k : ℕ). does at t (Write p k y)) (let e : off + 0 ≡ off = omega arith in e)
-            ∙ ap (λ (r : Reply). ((one y).0, r)) done,
+        ap (λ (o : Outcome). does at o.0 (Write p (off + length x) y)) front
+            ∙ write_done at between p (off + length x) y at (over b off x) stands near_y
+            ∙ same_end y
+            ∙ ap (λ (o : Outcome). let r : Outcome = (o.0, Count (length y)) in r) (sym all),
       )
-  in_two (a ∷ xs) y near_x near_y near done = at_path p refl
-    where
-      x : List ℕ
-      x = a ∷ xs
-      at_path : (q : Path) → p ≡ q → ((one (a ∷ xs)).1 ≡ Count (length (a ∷ xs))) × (does at (one (a ∷ xs)).0 (Write p (off + length (a ∷ xs)) y) ≡ ((one ((a ∷ xs) ++ y)).0, Count (length y)))
-      at_path q e = ?
 
-split_law : SplitLaw
-split_law at t p off x y is done = ?
+in_two : (at : ℕ) (t : Tree) (p : Path) (off : ℕ) (x y : List ℕ) → IsTree t → IsDone t p off (x ++ y) → (does at t (Write p off (x ++ y))).1 ≡ Count (length (x ++ y)) → InTwo at t p off x y
+in_two at t p off [] y is d done = first_empty at t p off y d.date d.bytes d.there done
+in_two at t [] off (a ∷ xs) y is d done = absurd (file_root t d.date d.bytes is d.there)
+in_two at t (n ∷ q) off (a ∷ xs) y is d done =
+    let l = length-append (a ∷ xs) y in
+    let end = far_end off ((a ∷ xs) ++ y) d.near (omega (arith, l)) in
+    first_some at t n q off a xs d.date d.bytes d.there y (near_end off (a ∷ xs) (λ some. omega (arith, l, end))) (near_end (off + length (a ∷ xs)) y (λ some. omega (arith, l, end))) d.near
+
+pub split_law : SplitLaw
+split_law at t p off x y is done = in_two at t p off x y is (is_done at t p off (x ++ y) (length (x ++ y)) (entry_at t p) refl (sym (ap (λ (o : Outcome). o.1) (does_write at t p off (x ++ y))) ∙ done)) done

@@ -1,5 +1,5 @@
 -- What is told of a body.
-use Rattle.std.proofs.Common.{◌≡◌, inl, inr, List, ℕ, [], ◌++◌, length, sym, ap, subst, ◌∙◌, refl, Result, Ok, Err}
+use Rattle.std.proofs.Common.{◌≡◌, inl, inr, List, ℕ, [], ◌++◌, sym, ap, subst, ◌∙◌}
 use Rattle.pathkey.specs.declared.errno.Errno.{Errno}
 use Rattle.reference.specs.Image.{Text}
 use Rattle.lines.specs.Lines.{lines_of}

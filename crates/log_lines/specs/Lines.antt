@@ -1,5 +1,5 @@
 -- Lines of a script that tell changes, as they are written.
-use Rattle.std.specs.Prelude.{ℕ, List, [], ◌∷◌, ◌++◌, codes, decimal}
+use Rattle.std.specs.Prelude.{ℕ, [], ◌∷◌, ◌++◌, codes, decimal}
 use Rattle.pathkey.specs.Names.{Path}
 use Rattle.reference.specs.Image.{Text, path_text}
 use Rattle.lines.specs.Texts.{hex_text}

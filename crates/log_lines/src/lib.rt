@@ -1,8 +1,8 @@
 //! The log of a store as lines of a script: of a log's body, lines that ask for its changes in their order, at their moments.
 #![tactic(auto)]
 
-mod lay;
 pub mod laws;
+mod lay;
 mod spell;
 pub mod tell;
 

@@ -1,5 +1,5 @@
 -- A change that a volume was asked for is done, or refused, as each world that it meant says.
-use Rattle.std.proofs.Common.{◌≡◌, ⊎_elim, [], ◌∷◌, false, Bool, cond, refl, ap, sym, subst, ◌∙◌, Some, None, Result, Ok, Err, IfErr}
+use Rattle.std.proofs.Common.{◌≡◌, ⊎_elim, [], ◌∷◌, false, Bool, cond, refl, ap, sym, subst, ◌∙◌, Some, None, Result, Ok, Err, IfErr, MatchResult, ℕ}
 use Rattle.pathkey.specs.declared.errno.Errno.{Errno}
 use Rattle.pathkey.specs.declared.errno.Errno.TheVariants.{ENOMEM}
 use Rattle.reference.specs.Worlds.{World, Event, Ask, TakeSnapshot, DropSnapshot, RestoreSnapshot, Answer, Replied, Settled, Fits, MayLack, is_lack, next, outcome}
@@ -59,3 +59,9 @@ settled_makes c (Err e) old new h kept = (kept, refused_from c (Settled (Err e))
 pub called_makes : (c : Change) (r : Result (Unit {0}) Errno) (old new : PVolume) → Answers c (Replied (replied (λ _. Done) r)) old new → ((e : Errno) → replied (λ _. Done) r ≡ Fault e → new ≡ old) → Makes c r old new
 called_makes c (Ok u) old new h kept = done_from c (Replied Done) old new h refl
 called_makes c (Err e) old new h kept = (kept e refl, refused_from c (Replied (Fault e)) e old new h refl)
+
+-- of a call that tells a number, that is left out
+pub counted_makes : (c : Change) (counted : Result ℕ Errno) (r : Result (Unit {0}) Errno) (old new : PVolume) → MatchResult counted (λ n. r ≡ Ok tt) (λ e. r ≡ Err e)
+    → Answers c (Replied (replied (λ n. Count n) counted)) old new → ((e : Errno) → replied (λ n. Count n) counted ≡ Fault e → new ≡ old) → Makes c r old new
+counted_makes c (Ok n) r old new told h kept = subst (λ (s : Result (Unit {0}) Errno). Makes c s old new) (sym told) (done_from c (Replied (Count n)) old new h refl)
+counted_makes c (Err e) r old new told h kept = subst (λ (s : Result (Unit {0}) Errno). Makes c s old new) (sym told) (kept e refl, refused_from c (Replied (Fault e)) e old new h refl)

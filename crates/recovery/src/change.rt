@@ -2,7 +2,7 @@
 ghost use Rattle.volume.specs.Typed.{replied};
 ghost use Rattle.reference.specs.declared.reply.Reply.TheVariants.{Done};
 ghost use Rattle.volume.specs.Changes.{Called};
-ghost use Rattle.std.specs.Prelude.{◌≡◌};
+ghost use Rattle.std.specs.Prelude.{◌≡◌, Err, MatchResult, Ok};
 ghost use Rattle.recovery.specs.Runs.{Makes, call_at};
 
 use logs::{Change, Keeping, PathChange};
@@ -19,14 +19,22 @@ pub(crate) fn make(alloc: Global, volume: &mut Volume, change: &Change) -> Resul
         Change::Rename(old, new, at) => volume.rename(alloc, old, new, *at),
         Change::Truncate(path, length, at) => volume.truncate(alloc, path, *length, *at),
         Change::Write(path, offset, bytes, at) => {
-            volume.write(alloc, path, *offset, bytes.as_slice(), *at)?;
-            Ok(())
+            settled(volume.write(alloc, path, *offset, bytes.as_slice(), *at))
         }
         Change::Punch(path, offset, count, at) => {
-            volume.punch(alloc, path, *offset, *count, *at)?;
-            Ok(())
+            settled(volume.punch(alloc, path, *offset, *count, *at))
         }
         Change::Keep(what, name) => keep(alloc, volume, *what, name),
+    }
+}
+
+// Whether a call that tells a number was done.
+fn settled(counted: Result<u64, Errno>) -> Result<(), Errno>
+    ensures { MatchResult counted (λ _. result ≡ Ok tt) (λ e. result ≡ Err e) }
+{
+    match counted {
+        Ok(_) => Ok(()),
+        Err(fault) => Err(fault),
     }
 }
 

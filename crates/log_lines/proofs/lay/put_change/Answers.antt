@@ -1,7 +1,7 @@
-use Rattle.std.proofs.Common.{ℕ, List, refl, sym, subst, ap, OnOk}
+use Rattle.std.proofs.Common.{ℕ, List, refl, sym, subst, OnOk}
 use Rattle.std.proofs.lemmas.Result.{on_ok_weaker}
 use Rattle.logs.specs.declared.change.Change.{Change}
-use Rattle.logs.specs.declared.change.Change.TheVariants.{OnPath, Rename, Truncate, Write, Punch, Keep}
+use Rattle.logs.specs.declared.change.Change.TheVariants.{OnPath, Rename, Truncate, Punch, Keep}
 use Rattle.log_lines.specs.Added.{Adds, AddsParts}
 use Rattle.log_lines.proofs.Adding.{adds_one, adds_two, adds_write}
 use Rattle.log_lines.proofs.lay.put_change.Goals as goal

@@ -1,4 +1,4 @@
-use Rattle.std.proofs.Common.{ℕ, List, length, refl, sym, arith}
+use Rattle.std.proofs.Common.{ℕ, List, refl, sym, arith}
 use Rattle.std.proofs.lemmas.Bool.{eqb-true}
 use Rattle.std.proofs.lemmas.List.{nil_from_length}
 use Rattle.log_lines.proofs.Adding.{parts_all, parts_more, parts_none, rest_cut}

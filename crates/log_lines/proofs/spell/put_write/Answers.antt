@@ -1,4 +1,4 @@
-use Rattle.std.proofs.Common.{arith, ap, ◌∙◌}
+use Rattle.std.proofs.Common.{arith}
 use Rattle.std.proofs.lemmas.Result.{on_ok_weaker}
 use Rattle.pathkey.proofs.HeadFacts.{are_bytes}
 use Rattle.log_lines.proofs.Spelling.{seven_parts}

@@ -1,4 +1,3 @@
-use Rattle.std.proofs.Common.{ℕ, List}
 use Rattle.log_lines.proofs.Telling.{refused_told, script_told}
 use Rattle.log_lines.proofs.tell.log_lines.Goals as goal
 

@@ -1,11 +1,17 @@
 use Rattle.std.proofs.Common.{sym, subst}
 use Rattle.logs.specs.declared.change.Change.TheVariants.{Keep}
 use Rattle.logs.specs.declared.change.Keeping.{Keeping}
-use Rattle.logs.specs.declared.change.Keeping.TheVariants.{Remove, Restore}
+use Rattle.logs.specs.declared.change.Keeping.TheVariants.{Snapshot, Remove, Restore}
 use Rattle.reference.specs.Worlds.{Settled}
 use Rattle.recovery.specs.Runs.{Makes}
 use Rattle.recovery.proofs.Making.{answers_from, settled_makes}
 use Rattle.recovery.proofs.change.keep.Goals as goal
+
+pub returns-in-Snapshot : goal.returns-in-Snapshot
+returns-in-Snapshot c =
+    subst (λ (k : Keeping). Makes (Keep k c.args.name.now) c.snapshot.result c.args.volume.now c.snapshot.new.self) (sym c.in-Snapshot.is)
+    (settled_makes (Keep Snapshot c.args.name.now) c.snapshot.result c.args.volume.now c.snapshot.new.self
+    (answers_from (Keep Snapshot c.args.name.now) (Settled c.snapshot.result) c.args.volume.now c.snapshot.new.self c.snapshot.ensures.leads) c.snapshot.ensures.refused)
 
 pub returns-in-Remove : goal.returns-in-Remove
 returns-in-Remove c =
