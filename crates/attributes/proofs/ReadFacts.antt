@@ -1,15 +1,24 @@
 -- What a text seems to tell is what it tells, where it is a record.
-use Rattle.std.proofs.Common.{◌≡◌, ◌≢◌, ◌⊎◌, ⊎_elim, eq-eqb, inl, inr, ℕ, ◌^◌, ◌<◌, ◌≤◌, List, [], ◌∷◌, ◌++◌, Bool, true, false, ◌==◌, not, refl, sym, ap, subst, ◌∙◌, arith, append_assoc, append-nil, Option, Some, None, decimal, flat_map, codes, All}
-use Rattle.std.specs.Prelude.{IfSome, slice_index}
+use Rattle.std.proofs.Common.{◌≡◌, ◌≢◌, ◌⊎◌, ⊎_elim, eq-eqb, inl, inr, ℕ, ◌/◌, ◌%◌, ◌^◌, ◌<◌, ◌≤◌, List, [], ◌∷◌, ◌++◌, length, get_or, Bool, true, false, cond, ◌==◌, ◌&&◌, not, nat_lt, refl, sym, ap, subst, ◌∙◌, arith, append_assoc, append-nil, Option, Some, None, Ok, decimal, flat_map, codes, All}
+use Rattle.std.specs.Prelude.{IfSome, slice_index, bytes_eq}
 use Rattle.std.specs.List.{list_all, AllByRecursion}
-use Rattle.std.proofs.lemmas.Bool.{and_parts, false≢true}
-use Rattle.std.proofs.lemmas.List.Elements.{All-head, All-tail}
+use Rattle.std.specs.Char.{is_ascii_digit}
+use Rattle.std.specs.Str.Parse.{digits_value}
+use Rattle.std.proofs.lemmas.Bool.{and_parts, lt-ltb, cases_lt, eqb-true, false≢true}
+use Rattle.std.proofs.lemmas.Fmt.{decimal_digit, first_decimal, digits_decimal, digits_value-decimal}
+use Rattle.std.proofs.lemmas.List.{get_or_past}
+use Rattle.std.proofs.lemmas.List.Elements.{All-from_recursion, All-head, All-tail, All-get_or}
+use Rattle.hex.specs.Hex.{decode_of, IsBytes}
+use Rattle.hex.proofs.HexLemmas.{decode_of-encode_lower}
+use Rattle.percent_encoding.specs.Percent.{percent_decode, percent_encode_byte}
+use Rattle.percent_encoding.proofs.PercentLemmas.{percent_decode-nil, percent_decode-percent_encode_byte, percent_decode_not_percent}
+use Rattle.pathkey.specs.Heads.{AreBytes}
 use Rattle.pathkey.proofs.Pieces.{not_empty}
-use Rattle.reference.specs.Image.{percent}
-use Rattle.reference.proofs.ImageTexts.{Visible, decimal_visible, name_visible}
+use Rattle.reference.specs.Image.{digit, two_digits, percent}
+use Rattle.reference.proofs.ImageTexts.{Visible, decimal_visible, hex_visible, name_visible, percent_cases}
 use Rattle.lines.specs.Held.{IsFree}
 use Rattle.lines.specs.Texts.{hex_text, number_line}
-use Rattle.lines.specs.Values.{number_of as number_written}
+use Rattle.lines.specs.Values.{bytes_of, is_decimal, number_of as number_written}
 use Rattle.lines.proofs.Written.{hex_text_visible, number_told}
 use Rattle.attributes.specs.declared.record.Kind.{Kind}
 use Rattle.attributes.specs.declared.record.Kind.TheVariants.{Directory, File, SymbolicLink, Fifo, Socket, CharacterDevice, BlockDevice, NameOf}
