@@ -329,6 +329,32 @@ def a_tree_that_is_damaged_is_not_loaded(folder: Path):
     assert tree.exists()
 
 
+def keep_much(folder: Path, *options) -> None:
+    """More than may wait to be written: large writes with small ones between, then a kill behind a sync."""
+    mount, written = store_mount(folder, *options), {}
+    for number in range(100):
+        bytes_of_it = WORKS.randbytes(1 << 20)
+        written |= {f"large{number % 8}": bytes_of_it, f"small{number % 8}": bytes_of_it[-100:]}
+        for name in (f"large{number % 8}", f"small{number % 8}"):
+            (mount.point / name).write_bytes(written[name])
+    sync(mount.point)
+    kill(mount)
+    again = store_mount(folder, *options)
+    assert again.stands, again.said()
+    assert {it.name: it.read_bytes() for it in again.point.iterdir()} == written
+    end_well(again)
+
+
+@case
+def more_than_may_wait_is_kept_in_order(folder: Path):
+    keep_much(folder)
+
+
+@case
+def and_so_it_is_where_little_may_wait(folder: Path):
+    keep_much(folder, "--size", "48M")
+
+
 @case
 def a_log_that_is_missing_is_told(folder: Path):
     mount = store_mount(folder, "--log-size", "1K")
