@@ -8,11 +8,7 @@ use Rattle.rows.specs.Places.{Rises, at_key, reaches}
 use Rattle.points.specs.Changes.{Change, Put, Del, Edit, run_msgs, run_effect}
 
 module _ {U V : Type 0} where
-  -- keys, each with the changes that wait at it
-  abbrev pub Entries : Type 0
-  Entries = List (List ℕ × List (Change U V))
-
-  -- their messages
+  -- the messages that wait at keys
   abbrev pub point_msgs : List (List ℕ × List (Change U V)) → List (Msg U V)
   point_msgs [] = []
   point_msgs (e ∷ es) = run_msgs e.0 e.1 ++ point_msgs es
