@@ -1,4 +1,4 @@
-use Rattle.std.proofs.Common.{◌∙◌, ap, sym, arith, length}
+use Rattle.std.proofs.Common.{◌∙◌, ap, sym, refl, arith, length}
 use Rattle.std.specs.List.{slice_get}
 use Rattle.std.specs.BTreeMap.{insert_entry}
 use Rattle.pathkey.specs.Order.{by_bytes}
@@ -25,7 +25,7 @@ returns-clause-moved g c =
         some = c.len-came.ensures.some;
         few = omega arith;
         is = is;
-        lays = lays_put means key (run_effect means run) run old c.put_run.new.rows is (λ o. sym (c.if-not-is_free.ensures o));
+        lays = lays_put means key (run_effect means run) run old c.put_run.new.rows is (λ o. sym (c.if-not-is_free.ensures refl o));
         bound = omega (arith, counted, len, c.len-came.ensures.len);
       };
       counted = omega (arith, counted, len, c.len-came.ensures.len);
