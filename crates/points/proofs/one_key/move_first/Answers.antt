@@ -1,4 +1,4 @@
-use Rattle.std.proofs.Common.{◌∙◌, Some, ap, arith, length, refl, subst, sym}
+use Rattle.std.proofs.Common.{◌∙◌, ap, arith, length, refl, subst, sym}
 use Rattle.std.specs.List.{slice_get}
 use Rattle.rows.specs.Places.{at_key}
 use Rattle.points.specs.Changes.{run_effect}
