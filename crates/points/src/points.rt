@@ -53,10 +53,11 @@ impl<U: Update> Points<U> {
         }
     }
 
-    /// Says that the keys rise and that some change waits at each. It does nothing.
+    /// Says that the keys rise, that some change waits at each, and that all are not too many. It does nothing.
     pub fn stand(&self)
         ensures rises { Rises self.now }
         ensures runs { AreRuns self.now }
+        ensures small { point_count self.now ≤ 2 ^ 62 }
     {
         self.rows.rise();
     }
