@@ -1,0 +1,10 @@
+//! The messages that wait in one slot.
+#![tactic(auto)]
+
+pub mod lent;
+pub(crate) mod list;
+pub mod part;
+pub(crate) mod spans;
+pub(crate) mod stretch;
+pub(crate) mod tail;
+pub mod waiting;
