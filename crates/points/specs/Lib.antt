@@ -1,0 +1,3 @@
+pub mod Changes
+pub mod Points
+pub mod Runs

@@ -1,0 +1,77 @@
+//! Walks that count messages.
+ghost use Rattle.std.specs.Prelude.{◌≡◌, ◌+◌, ◌<◌, ◌≤◌, ◌^◌, ◌++◌, length, take, drop, OnOk};
+ghost use Rattle.std.specs.Option.{option_map, unwrap_or};
+ghost use Rattle.points.specs.Points.{left, point_count, point_msgs, IsLeft};
+
+use crate::run::Run;
+use message::{Msg, Update};
+use pathkey::NoMemory;
+use rows::Rows;
+use std::alloc::Global;
+
+/// How many messages there are.
+pub(crate) fn count_of<U: Update>(rows: &Rows<Run<U>>) -> usize
+    requires { point_count rows.now < 2 ^ 63 }
+    ensures { result ≡ point_count rows.now }
+{
+    let mut count = 0;
+    let mut walk = rows.walk();
+    while let Some((_, run)) = walk.next() {
+        count += run.len();
+    }
+    count
+}
+
+/// How many of the first keys have only messages among the `count` oldest, and how many of these are then left.
+pub(crate) fn whole_keys<U: Update>(rows: &Rows<Run<U>>, count: usize) -> (usize, usize)
+    requires { count ≤ point_count rows.now }
+    ensures keys { result.0 ≤ length rows.now }
+    ensures counted { point_count (take result.0 rows.now) + result.1 ≡ count }
+    ensures left { IsLeft result.1 (drop result.0 rows.now) }
+{
+    let mut keys = 0;
+    let mut left = count;
+    let mut walk = rows.walk();
+    while let Some((_, run)) = walk.next() {
+        let len = run.len();
+        if left < len {
+            return (keys, left);
+        }
+        left -= len;
+        keys += 1;
+    }
+    (keys, left)
+}
+
+/// Copies of the messages but the `gone` oldest of the first key, put behind those in `front`, until it has so many.
+pub(crate) fn copy_msgs<U: Update>(
+    rows: &Rows<Run<U>>,
+    alloc: Global,
+    gone: usize,
+    count: usize,
+    front: &mut Vec<Msg<U>>,
+) -> Result<(), NoMemory>
+    requires { IsLeft gone rows.now }
+    ensures { OnOk result (take count front.new.items ≡ take count (front.old.items ++ point_msgs (left gone rows.now))) }
+{
+    let mut gone = gone;
+    let mut walk = rows.walk();
+    while let Some((key, run)) = walk.next() {
+        if front.len() >= count {
+            return Ok(());
+        }
+        run.copy_into(alloc, key, gone, count, front)?;
+        gone = 0;
+    }
+    Ok(())
+}
+
+/// How many changes wait, where any do.
+pub(crate) fn len_of<U: Update>(run: &Option<Run<U>>) -> usize
+    ensures { result ≡ unwrap_or (option_map length run.now) 0 }
+{
+    match run {
+        None => 0,
+        Some(run) => run.len(),
+    }
+}

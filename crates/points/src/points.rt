@@ -1,0 +1,381 @@
+//! What waits at single keys, by the keys.
+ghost use Rattle.std.specs.Prelude.{◌≡◌, ◌+◌, ◌≤◌, ◌<◌, ◌^◌, ◌++◌, ◌∷◌, [], not, true, false, length, drop, take, IfOk, IfErr, OnOk, OnErr, IfSome, IfNone};
+ghost use Rattle.std.specs.BTreeMap.{insert_entry};
+ghost use Rattle.std.specs.List.{filter, list_any, slice_get};
+ghost use Rattle.std.specs.Option.{option_copied, option_map, unwrap_or};
+ghost use Rattle.pathkey.specs.Keys.{is_in};
+ghost use Rattle.pathkey.specs.Order.{by_bytes};
+ghost use Rattle.rows.specs.Places.{Rises, at_key, AreBefore, AreFrom};
+ghost use Rattle.points.specs.Changes.{Put, Del, run_effect};
+ghost use Rattle.points.specs.Points.{left, point_count, point_msgs, first_from, AreRuns, IsFree, IsLeft, IsMoved, Lays, TakesFirst};
+
+use crate::counts::{copy_msgs, count_of, len_of, whole_keys};
+use crate::lay::{Lay, Shorten};
+use crate::run::Run;
+use message::ends::is_before_end;
+use message::{Changes, Msg, Update};
+use pathkey::{Key, KeyRange, NoMemory};
+use rows::{Edited, Rows, Stored};
+use std::alloc::Global;
+use std::marker::Model;
+
+/// The messages that wait at single keys, those of each key in one place. Contracts see the keys, which rise, each with the
+/// changes that wait there.
+#[derive(Drop)]
+pub struct Points<U: Changes> {
+    rows: Rows<Run<U>>,
+    count: usize,
+}
+
+impl<U: Changes> Model for Points<U> {
+    ghost use Rattle.std.specs.Prelude.{List, ℕ};
+    ghost use Rattle.points.specs.Changes.{Change};
+
+    ghost Value = { List (List ℕ × List (Change U U.Value)) };
+
+    ghost use Rattle.points.specs.Points.{ArePoints};
+
+    ghost view = { λ p. p.rows };
+
+    ghost invariant = { λ p. ArePoints p.rows p.count };
+}
+
+// ---- what is asked
+
+impl<U: Update> Points<U> {
+    /// No messages. It takes no memory.
+    pub fn new(alloc: Global) -> Points<U>
+        ensures { result ≡ [] }
+    {
+        Points {
+            rows: Rows::new(alloc),
+            count: 0,
+        }
+    }
+
+    /// Says that the keys rise and that some change waits at each. It does nothing.
+    pub fn stand(&self)
+        ensures rises { Rises self.now }
+        ensures runs { AreRuns self.now }
+    {
+        let _ = self.count;
+    }
+
+    /// How many messages there are.
+    pub fn len(&self) -> usize
+        ensures len { result ≡ point_count self.now }
+        ensures small { result ≤ 2 ^ 62 }
+    {
+        self.count
+    }
+
+    /// What waits at the first key.
+    pub fn first(&self) -> Option<(&Key, &Run<U>)>
+        ensures { option_map (λ p. (p.0.now, p.1.now)) result ≡ slice_get self.now 0 }
+    {
+        self.rows.walk().peek()
+    }
+
+    /// What waits at the key.
+    pub fn run_at(&self, key: &Key) -> Option<&Run<U>>
+        ensures { option_copied result ≡ at_key key.now self.now }
+    {
+        self.rows.get(key)
+    }
+
+    /// The first key that has messages, at this one or behind it.
+    pub fn first_from(&self, key: &Key) -> Option<&Key>
+        ensures { option_copied result ≡ first_from key.now self.now }
+    {
+        match self.rows.walk_from(key).peek() {
+            None => None,
+            Some((first, _)) => Some(first),
+        }
+    }
+
+    /// Whether a key that has messages stands from `lo` on and before `hi`; `None` is no end.
+    pub fn has_within(&self, lo: &Key, hi: Option<&Key>) -> bool
+        ensures { result ≡ list_any (λ e. is_in (record { lo = lo.now; hi = option_copied hi.entry }) e.0) self.now }
+    {
+        match self.first_from(lo) {
+            None => false,
+            Some(next) => is_before_end(next, hi),
+        }
+    }
+
+    /// Whether no key stands before `lo`.
+    pub fn begin_from(&self, lo: &Key) -> bool
+        ensures yes { result ≡ true → AreFrom lo.now self.now }
+        ensures no { result ≡ false → AreFrom lo.now self.now → ⊥ }
+    {
+        match self.rows.walk().peek() {
+            None => true,
+            Some((first, _)) => lo.cmp(first).is_le(),
+        }
+    }
+
+    /// Whether each key stands before the pivot.
+    pub fn end_before(&self, pivot: &Key) -> bool
+        ensures yes { result ≡ true → AreBefore pivot.now self.now }
+        ensures no { result ≡ false → AreBefore pivot.now self.now → ⊥ }
+    {
+        match self.rows.last() {
+            None => true,
+            Some((last, _)) => last.cmp(pivot).is_lt(),
+        }
+    }
+
+    /// Copies of the messages but the `gone` oldest of the first key, put behind those in `front`, until it has so many.
+    pub fn copy_into(
+        &self,
+        alloc: Global,
+        gone: usize,
+        count: usize,
+        front: &mut Vec<Msg<U>>,
+    ) -> Result<(), NoMemory>
+        requires { IsLeft gone self.now }
+        ensures { OnOk result (take count front.new.items ≡ take count (front.old.items ++ point_msgs (left gone self.now))) }
+    {
+        copy_msgs(&self.rows, alloc, gone, count, front)
+    }
+
+    /// The same messages, which both then share.
+    pub fn copy(&self) -> Result<Points<U>, NoMemory>
+        ensures { IfOk result (λ p. p ≡ self.now) }
+    {
+        let rows = self.rows.share()?;
+        Ok(Points {
+            rows,
+            count: self.count,
+        })
+    }
+
+    // ---- what comes in
+
+    /// A put comes in the place of what waits at the key. On want of memory it comes back, and all is as it was.
+    #[inline(always)]
+    pub fn put(&mut self, key: Key, value: U::Value) -> Result<(), (Key, U::Value)>
+        requires { point_count self.old < 2 ^ 62 }
+        ensures entries { OnOk result (self.new ≡ insert_entry by_bytes self.old key (Put value ∷ [])) }
+        ensures lays { OnOk result (Lays U.means key (λ o. Some value) self.old self.new) }
+        ensures bound { OnOk result (point_count self.new ≤ point_count self.old + 1) }
+        ensures unchanged { OnErr result (self.new ≡ self.old) }
+        ensures back { IfErr result (λ p. p ≡ (key, value)) }
+    {
+        match self.overwrite(key, Run::put(value)) {
+            Ok(()) => Ok(()),
+            Err((key, run)) => Err((key, run.into_value())),
+        }
+    }
+
+    /// Likewise a delete.
+    #[inline(always)]
+    pub fn del(&mut self, key: Key) -> Result<(), Key>
+        requires { point_count self.old < 2 ^ 62 }
+        ensures entries { OnOk result (self.new ≡ insert_entry by_bytes self.old key (Del ∷ [])) }
+        ensures lays { OnOk result (Lays U.means key (λ o. None) self.old self.new) }
+        ensures bound { OnOk result (point_count self.new ≤ point_count self.old + 1) }
+        ensures unchanged { OnErr result (self.new ≡ self.old) }
+        ensures back { IfErr result (λ k. k ≡ key) }
+    {
+        match self.overwrite(key, Run::del()) {
+            Ok(()) => Ok(()),
+            Err((key, _)) => Err(key),
+        }
+    }
+
+    /// An update is laid over what waits at the key. On want of memory it comes back, and all is as it was.
+    #[inline(always)]
+    pub fn edit(&mut self, alloc: Global, key: Key, update: U) -> Result<(), (Key, U)>
+        requires { point_count self.old < 2 ^ 62 }
+        ensures lays { OnOk result (Lays U.means key (U.means update) self.old self.new) }
+        ensures bound { OnOk result (point_count self.new ≤ point_count self.old + 1) }
+        ensures unchanged { OnErr result (self.new ≡ self.old) }
+        ensures back { IfErr result (λ p. p ≡ (key, update)) }
+    {
+        match self.rows.edit(&key, Lay { alloc, update }) {
+            Edited::Done(Ok((before, after))) => {
+                self.count = self.count + after - before;
+                Ok(())
+            }
+            Edited::Done(Err(update)) => Err((key, update)),
+            Edited::Refused(lay) => Err((key, lay.update)),
+            Edited::Absent(lay) => self.begin(key, lay.update),
+        }
+    }
+
+    /// An update comes to a key at which nothing waits.
+    fn begin(&mut self, key: Key, update: U) -> Result<(), (Key, U)>
+        requires room { point_count self.old < 2 ^ 62 }
+        requires absent { at_key key self.old ≡ None }
+        ensures lays { OnOk result (Lays U.means key (U.means update) self.old self.new) }
+        ensures bound { OnOk result (point_count self.new ≤ point_count self.old + 1) }
+        ensures unchanged { OnErr result (self.new ≡ self.old) }
+        ensures back { IfErr result (λ p. p ≡ (key, update)) }
+    {
+        match self.overwrite(key, Run::of_edit(update)) {
+            Ok(()) => Ok(()),
+            Err((key, run)) => Err((key, run.into_update())),
+        }
+    }
+
+    /// One change comes in the place of what waits at the key.
+    fn overwrite(&mut self, key: Key, run: Run<U>) -> Result<(), (Key, Run<U>)>
+        requires room { point_count self.old < 2 ^ 62 }
+        requires one { length run ≡ 1 }
+        ensures entries { OnOk result (self.new ≡ insert_entry by_bytes self.old key run) }
+        ensures bound { OnOk result (point_count self.new ≤ point_count self.old + 1) }
+        ensures unchanged { OnErr result (self.new ≡ self.old) }
+        ensures back { IfErr result (λ p. p ≡ (key, run)) }
+    {
+        match self.rows.put(key, run) {
+            Ok(was) => {
+                self.count = self.count + 1 - len_of(&was);
+                Ok(())
+            }
+            Err(refused) => Err(refused),
+        }
+    }
+
+    /// Moves what waits at the first key of another list, at most `most` messages and newer than all that are here, to its place,
+    /// and answers how many came. None come where `from` has none, where they are more, where memory is refused, or where
+    /// updates would be laid over what waits here.
+    pub fn take_first(
+        &mut self,
+        alloc: Global,
+        from: &mut Points<U>,
+        most: usize,
+    ) -> Option<usize>
+        requires { point_count self.old + most ≤ 2 ^ 62 }
+        ensures moved { IfSome result (λ n. TakesFirst U.means n most from.old self.old from.new self.new) }
+        ensures none { IfNone result ((self.new ≡ self.old) × (from.new ≡ from.old)) }
+    {
+        let (key, run) = from.first()?;
+        let came = run.len();
+        if came > most || !self.is_free(key, run) {
+            return None;
+        }
+        let was = move_first(&mut self.rows, alloc, &mut from.rows)?;
+        self.count = self.count + came - len_of(&was);
+        from.count -= came;
+        Some(came)
+    }
+
+    /// Whether a run can come in the place of what waits at its key: nothing does, or it does not ask for it.
+    fn is_free(&self, key: &Key, run: &Run<U>) -> bool
+        ensures { result ≡ true → IsFree U.means run.now (at_key key.now self.now) }
+    {
+        run.is_whole() || self.rows.get(key).is_none()
+    }
+
+    // ---- what goes
+
+    /// Takes away what waits at the keys of a range. On want of memory all is as it was.
+    pub fn clear(&mut self, range: &KeyRange) -> Result<(), NoMemory>
+        ensures ok { OnOk result (self.new ≡ filter (λ e. not (is_in range.now e.0)) self.old) }
+        ensures bound { point_count self.new ≤ point_count self.old }
+        ensures err { OnErr result (self.new ≡ self.old) }
+    {
+        if !self.has_within(&range.lo, range.hi.as_ref()) {
+            return Ok(());
+        }
+        let out = self.rows.cut_out(range)?;
+        self.count -= count_of(&out);
+        Ok(())
+    }
+
+    /// Takes the oldest messages away, as far as these are all of a key, and answers how many of the first key left are then to go.
+    /// It takes no memory.
+    pub fn drop_oldest(&mut self, count: usize) -> usize
+        requires { count ≤ point_count self.old }
+        ensures same { point_msgs (left result self.new) ≡ drop count (point_msgs self.old) }
+        ensures left { IsLeft result self.new }
+    {
+        let (keys, left) = whole_keys(&self.rows, count);
+        self.rows.drop_front(keys);
+        self.count -= count - left;
+        left
+    }
+
+    /// Takes the `gone` oldest messages of the first key away. On want of memory all is as it was.
+    pub fn make_whole(&mut self, alloc: Global, gone: usize) -> Result<(), NoMemory>
+        requires { IsLeft gone self.old }
+        ensures ok { OnOk result (self.new ≡ left gone self.old) }
+        ensures err { OnErr result (self.new ≡ self.old) }
+    {
+        if gone == 0 {
+            return Ok(());
+        }
+        let Some((first, _)) = self.rows.walk().peek() else {
+            return Ok(());
+        };
+        let key = first.copy(alloc)?;
+        match self.rows.edit(&key, Shorten { gone }) {
+            Edited::Done(()) => {
+                self.count -= gone;
+                Ok(())
+            }
+            _ => Err(NoMemory),
+        }
+    }
+
+    /// Moves what waits at the pivot and behind it out. On want of memory all is as it was.
+    pub fn split_off(&mut self, pivot: &Key) -> Result<Points<U>, NoMemory>
+        ensures parts { IfOk result (λ back. self.old ≡ self.new ++ back) }
+        ensures front { OnOk result (AreBefore pivot.now self.new) }
+        ensures back { IfOk result (λ back. AreFrom pivot.now back) }
+        ensures err { OnErr result (self.new ≡ self.old) }
+    {
+        let rows = self.rows.split_off(pivot)?;
+        let count = count_of(&rows);
+        self.count -= count;
+        Ok(Points { rows, count })
+    }
+
+    /// The messages of both lists, where all keys of the newer one stand behind the others.
+    pub fn joined(self, newer: Points<U>) -> Result<Points<U>, NoMemory>
+        requires rises { Rises self → Rises newer → Rises (self ++ newer) }
+        requires small { point_count self + point_count newer ≤ 2 ^ 62 }
+        ensures { IfOk result (λ p. p ≡ self ++ newer) }
+    {
+        let mut rows = self.rows;
+        let mut later = newer.rows;
+        rows.append(&mut later)?;
+        Ok(Points {
+            rows,
+            count: self.count + newer.count,
+        })
+    }
+}
+
+/// Moves what waits at the first key of other rows to its place in these, and answers what stood there. On want of memory all is as
+/// it was.
+fn move_first<U: Update>(
+    rows: &mut Rows<Run<U>>,
+    alloc: Global,
+    from: &mut Rows<Run<U>>,
+) -> Option<Option<Run<U>>>
+    ensures moved { IfSome result (λ was. IsMoved was from.old rows.old from.new rows.new) }
+    ensures none { IfNone result ((rows.new ≡ rows.old) × (from.new ≡ from.old)) }
+{
+    let (key, run) = first_copy(from, alloc)?;
+    let Ok(was) = rows.put(key, run) else {
+        return None;
+    };
+    from.drop_front(1);
+    Some(was)
+}
+
+/// A copy of the first key with what waits there; none where memory is refused too.
+fn first_copy<U: Update>(rows: &Rows<Run<U>>, alloc: Global) -> Option<(Key, Run<U>)>
+    ensures { IfSome result (λ p. slice_get rows.now 0 ≡ Some p) }
+{
+    let (key, run) = rows.walk().peek()?;
+    let Ok(key) = key.copy(alloc) else {
+        return None;
+    };
+    let Ok(run) = run.copy(alloc) else {
+        return None;
+    };
+    Some((key, run))
+}

@@ -1,0 +1,128 @@
+//! How what waits at one key lies in memory.
+ghost use Rattle.std.specs.Prelude.{◌≡◌, ◌∷◌, [], ◌+◌, ◌<◌, ◌≤◌, Option, None, length, OnOk, OnErr, IfOk, IfErr};
+ghost use Rattle.points.specs.Changes.{Put, Del, Edit, run_effect};
+ghost use Rattle.points.specs.Runs.{changes_in, edits_effect};
+
+use crate::edits;
+use message::{Changes, Update};
+use pathkey::NoMemory;
+use std::alloc::Global;
+
+/// The changes that wait at one key: one, or updates that do not join.
+#[derive(Drop)]
+pub enum Waits<U: Changes> {
+    /// The key gets the value.
+    Put(U::Value),
+    /// The key has no value any more.
+    Del,
+    /// The key's value, or its absence, is changed by the update.
+    Edit(U),
+    /// It is changed by one update after the other.
+    Edits(Vec<U>),
+}
+
+impl<U: Update> Waits<U> {
+    /// What leaves this value.
+    fn of_value(value: Option<U::Value>) -> Waits<U>
+        ensures meaning { (o : Option U.Value) → run_effect U.means (changes_in result) o ≡ value }
+        ensures len { length (changes_in result) ≡ 1 }
+    {
+        match value {
+            Some(value) => Waits::Put(value),
+            None => Waits::Del,
+        }
+    }
+
+    /// The same with an update laid over it. On want of memory the update comes back.
+    pub(crate) fn edited(self, alloc: Global, later: U) -> (Waits<U>, Result<(), U>)
+        requires { 0 < length (changes_in self) }
+        ensures meaning { OnOk result.1 ((o : Option U.Value) → run_effect U.means (changes_in result.0) o ≡ U.means later (run_effect U.means (changes_in self) o)) }
+        ensures bound { length (changes_in result.0) ≤ length (changes_in self) + 1 }
+        ensures some { 0 < length (changes_in result.0) }
+        ensures unchanged { OnErr result.1 (changes_in result.0 ≡ changes_in self) }
+        ensures back { IfErr result.1 (λ u. u ≡ later) }
+    {
+        match self {
+            Waits::Put(value) => Waits::edited_put(alloc, value, later),
+            Waits::Del => Waits::edited_del(alloc, later),
+            Waits::Edit(first) => Waits::edited_edit(alloc, first, later),
+            Waits::Edits(updates) => Waits::edited_edits(alloc, updates, later),
+        }
+    }
+
+    /// The value with an update laid over it in its place.
+    fn edited_put(alloc: Global, value: U::Value, later: U) -> (Waits<U>, Result<(), U>)
+        ensures meaning { OnOk result.1 ((o : Option U.Value) → run_effect U.means (changes_in result.0) o ≡ U.means later (Some value)) }
+        ensures len { length (changes_in result.0) ≡ 1 }
+        ensures unchanged { OnErr result.1 (changes_in result.0 ≡ Put value ∷ []) }
+        ensures back { IfErr result.1 (λ u. u ≡ later) }
+    {
+        let mut value = value;
+        match later.change(alloc, &mut value) {
+            Ok(true) => (Waits::Put(value), Ok(())),
+            Ok(false) => (Waits::Del, Ok(())),
+            Err(_) => (Waits::Put(value), Err(later)),
+        }
+    }
+
+    /// What an update makes where there is no value.
+    fn edited_del(alloc: Global, later: U) -> (Waits<U>, Result<(), U>)
+        ensures meaning { OnOk result.1 ((o : Option U.Value) → run_effect U.means (changes_in result.0) o ≡ U.means later None) }
+        ensures len { length (changes_in result.0) ≡ 1 }
+        ensures unchanged { OnErr result.1 (changes_in result.0 ≡ Del ∷ []) }
+        ensures back { IfErr result.1 (λ u. u ≡ later) }
+    {
+        let nothing: Option<U::Value> = None;
+        match later.apply(alloc, nothing.as_ref()) {
+            Ok(value) => (Waits::of_value(value), Ok(())),
+            Err(_) => (Waits::Del, Err(later)),
+        }
+    }
+
+    /// One update of two where they join, else both.
+    fn edited_edit(alloc: Global, first: U, later: U) -> (Waits<U>, Result<(), U>)
+        ensures meaning { OnOk result.1 ((o : Option U.Value) → run_effect U.means (changes_in result.0) o ≡ U.means later (U.means first o)) }
+        ensures bound { length (changes_in result.0) ≤ 2 }
+        ensures some { 0 < length (changes_in result.0) }
+        ensures unchanged { OnErr result.1 (changes_in result.0 ≡ Edit first ∷ []) }
+        ensures back { IfErr result.1 (λ u. u ≡ later) }
+    {
+        if let Ok(Some(joined)) = first.join(alloc, &later) {
+            return (Waits::Edit(joined), Ok(()));
+        }
+        match Vec::with_capacity(alloc, 2) {
+            Ok(mut both) => {
+                both.push_reserved(first);
+                both.push_reserved(later);
+                (Waits::Edits(both), Ok(()))
+            }
+            Err(_) => (Waits::Edit(first), Err(later)),
+        }
+    }
+
+    /// The updates, and one more.
+    fn edited_edits(alloc: Global, updates: Vec<U>, later: U) -> (Waits<U>, Result<(), U>)
+        requires { 0 < length updates.items }
+        ensures meaning { OnOk result.1 ((o : Option U.Value) → run_effect U.means (changes_in result.0) o ≡ U.means later (edits_effect U.means updates.items o)) }
+        ensures bound { length (changes_in result.0) ≤ length updates.items + 1 }
+        ensures some { 0 < length (changes_in result.0) }
+        ensures unchanged { OnErr result.1 (changes_in result.0 ≡ changes_in (Waits.Edits updates)) }
+        ensures back { IfErr result.1 (λ u. u ≡ later) }
+    {
+        let mut updates = updates;
+        let answer = edits::push(&mut updates, alloc, later);
+        (Waits::Edits(updates), answer)
+    }
+
+    /// An equal one.
+    pub(crate) fn copy(&self, alloc: Global) -> Result<Waits<U>, NoMemory>
+        ensures { IfOk result (λ w. changes_in w ≡ changes_in self.now) }
+    {
+        match self {
+            Waits::Put(value) => Ok(Waits::Put(U::copy_value(alloc, value)?)),
+            Waits::Del => Ok(Waits::Del),
+            Waits::Edit(update) => Ok(Waits::Edit(update.copy(alloc)?)),
+            Waits::Edits(updates) => Ok(Waits::Edits(edits::copy_all(alloc, updates)?)),
+        }
+    }
+}
