@@ -1,0 +1,62 @@
+-- A range that comes among others: where those lie that reach over its ends.
+use Rattle.std.specs.Prelude.{◌≡◌, ℕ, Bool, true, false, not, ◌||◌, List, [], ◌∷◌, take, drop, Option, Some, None, IfSome}
+use Rattle.std.specs.List.{filter, slice_get}
+use Rattle.std.specs.Option.{option_map, option_and_then}
+use Rattle.std.specs.BTreeMap.{insert_entry}
+use Rattle.pathkey.specs.Keys.{is_below, is_in}
+use Rattle.pathkey.specs.Order.{by_bytes}
+use Rattle.pathkey.specs.declared.range.KeyRange.{KeyRange}
+use Rattle.message.specs.Ranges.{reaches, before, within, ends_within}
+use Rattle.message.specs.Stretches.{ahead_of}
+use Rattle.rows.specs.Places.{last_of, place_past}
+use Rattle.ranges.specs.Apart.{Span, covered}
+
+-- each range that begins before the key ends before it or at it
+abbrev pub EndBy : List ℕ → List Span → Type 0
+EndBy k [] = Unit {0}
+EndBy k (e ∷ rs) = (before e.0 k ≡ true → is_below k e.1 ≡ false) × EndBy k rs
+
+-- likewise for an end
+abbrev pub EndByEnd : Option (List ℕ) → List Span → Type 0
+EndByEnd None rs = Unit {0}
+EndByEnd (Some h) rs = EndBy h rs
+
+-- the keys from lo on and without hi are held by the ranges
+abbrev pub AreHeld : List ℕ → Option (List ℕ) → List Span → Type 0
+AreHeld lo hi rs = (k : List ℕ) → within lo hi k ≡ true → covered rs k ≡ true
+
+-- low stands at lo, or at the low end of one of the ranges that holds all from there up to lo
+pub record IsLowEnd (rs : List Span) (lo low : List ℕ) : Type 0 where
+  pub begins : reaches low lo ≡ true
+  pub apart : EndBy low rs
+  pub held : AreHeld low (Some lo) rs
+
+-- high is the end hi, or the high end of one of the ranges that holds all from hi on
+pub record IsHighEnd (rs : List Span) (hi high : Option (List ℕ)) : Type 0 where
+  pub ends : ends_within hi high ≡ true
+  pub apart : EndByEnd high rs
+  pub held : (k : List ℕ) → is_below k hi ≡ false → is_below k high ≡ true → covered rs k ≡ true
+
+-- the range from lo up to hi is made wider where the ranges hold the keys, and then no other reaches over its ends
+pub record Widens (rs : List Span) (lo : List ℕ) (hi : Option (List ℕ)) (wide : KeyRange) : Type 0 where
+  pub some : is_below wide.lo wide.hi ≡ true
+  pub low : EndBy wide.lo rs
+  pub high : EndByEnd wide.hi rs
+  pub same : (k : List ℕ) → (within wide.lo wide.hi k || covered rs k) ≡ (within lo hi k || covered rs k)
+
+-- the ranges with this one in the place of those that begin in it
+abbrev pub spliced : KeyRange → List Span → List Span
+spliced r rs = insert_entry by_bytes (filter (λ e. not (is_in r e.0)) rs) r.lo r.hi
+
+-- the last of the ranges, where it ends behind the key
+abbrev pub IsOver : List ℕ → List Span → Option KeyRange → Type 0
+IsOver k rs None = IfSome (last_of rs) (λ e. is_below k e.1 ≡ false)
+IsOver k rs (Some r) = (last_of rs ≡ Some (r.lo, r.hi)) × (is_below k r.hi ≡ true)
+
+-- where the first range begins that begins behind the key
+abbrev pub next_begin : List ℕ → List Span → Option (List ℕ)
+next_begin k rs = option_map (λ e. e.0) (slice_get (drop (place_past k rs) rs) 0)
+
+-- the high end of the last range that begins at the key or before it, where it lies behind the key
+abbrev pub next_end : List ℕ → List Span → Option (List ℕ)
+next_end k rs = option_and_then (λ e. ahead_of k e.1) (last_of (take (place_past k rs) rs))

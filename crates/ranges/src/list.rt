@@ -1,0 +1,256 @@
+//! The ranges that callers see.
+ghost use Rattle.std.specs.Prelude.{◌≡◌, ◌≢◌, ◌+◌, ◌≤◌, ◌<◌, ◌^◌, ◌++◌, List, ℕ, true, false, [], length, take, drop, Some, None, OnOk, OnErr, IfOk};
+ghost use Rattle.std.specs.Option.{option_map, option_copied};
+ghost use Rattle.std.specs.List.{slice_get};
+ghost use Rattle.pathkey.specs.Keys.{is_below};
+ghost use Rattle.message.specs.Cuts.{pieces, LieIn};
+ghost use Rattle.message.specs.Stretches.{IsStretch};
+ghost use Rattle.ranges.specs.Apart.{covered, range_msgs, AreApart, CoversMore, TakesFirst};
+ghost use Rattle.ranges.specs.Ends.{spliced, EndBy, EndByEnd};
+
+use crate::cut::part;
+use crate::near::{ends_by, high_end, is_covered, is_held, low_end, widened};
+use crate::splice::splice;
+use crate::stretch::stretch_end;
+use message::ends::{copy_end, is_before_end};
+use message::{Msg, Update};
+use pathkey::{Key, KeyRange, NoMemory};
+use rows::Rows;
+use std::alloc::Global;
+use std::marker::Model;
+
+/// Ranges by their low ends, each with its high end; `None` is no end. Contracts see the list of them.
+#[derive(Drop)]
+pub struct Ranges {
+    rows: Rows<Option<Key>>,
+    count: usize,
+}
+
+impl Model for Ranges {
+    ghost use Rattle.std.specs.Prelude.{List, ℕ, Option};
+    ghost use Rattle.ranges.specs.Apart.{AreRanges};
+
+    ghost Value = { List (List ℕ × Option (List ℕ)) };
+
+    ghost view = { λ r. r.rows };
+
+    ghost invariant = { λ r. AreRanges r.rows r.count };
+}
+
+impl Ranges {
+    /// No ranges. It takes no memory.
+    pub fn new(alloc: Global) -> Ranges
+        ensures { result ≡ [] }
+    {
+        Ranges {
+            rows: Rows::new(alloc),
+            count: 0,
+        }
+    }
+
+    /// Says that the ranges lie apart. It does nothing.
+    pub fn lie_apart(&self)
+        ensures { AreApart self.now }
+    {
+        let _ = self.count;
+    }
+
+    /// How many ranges there are.
+    pub fn len(&self) -> usize
+        ensures { result ≡ length self.now }
+    {
+        self.count
+    }
+
+    /// The first range.
+    pub fn first(&self) -> Option<(&Key, &Option<Key>)>
+        ensures { option_map (λ p. (p.0.now, p.1.now)) result ≡ slice_get self.now 0 }
+    {
+        self.rows.walk().peek()
+    }
+
+    /// Takes the first ranges away. It takes no memory.
+    pub fn drop_front(&mut self, count: usize)
+        requires { count ≤ length self.old }
+        ensures { self.new ≡ drop count self.old }
+    {
+        self.rows.drop_front(count);
+        self.count -= count;
+    }
+
+    /// Whether one of the ranges holds the key.
+    pub fn is_covered(&self, key: &Key) -> bool
+        ensures { result ≡ covered self.now key.now }
+    {
+        is_covered(&self.rows, key)
+    }
+
+    /// Where the ranges next begin or end to hold keys behind `from`, if that is before `end`; else `end`.
+    pub fn stretch_end<'a, U: Update>(&'a self, from: &Key, end: Option<&'a Key>) -> Option<&'a Key>
+        requires { is_below from.now (option_copied end) ≡ true }
+        ensures { IsStretch (range_msgs {U = U} {V = U.Value} self.now) from.now (option_copied end.entry) (option_copied result) }
+    {
+        stretch_end::<U>(&self.rows, from, end)
+    }
+
+    /// Lays a range over the others: those inside it give way to it, it becomes one with those that reach over its ends or
+    /// meet them, and it is left out where another holds it or it holds no key. On want of memory all are as they were.
+    pub fn lay(&mut self, alloc: Global, range: &KeyRange) -> Result<(), NoMemory>
+        requires { length self.old < 2 ^ 63 }
+        ensures covers { OnOk result (CoversMore range.now.lo range.now.hi self.old self.new) }
+        ensures bound { OnOk result (length self.new ≤ length self.old + 1) }
+        ensures err { OnErr result (self.new ≡ self.old) }
+    {
+        if !is_before_end(&range.lo, range.hi.as_ref()) {
+            return Ok(());
+        }
+        self.lay_between(alloc, &range.lo, range.hi.as_ref())
+    }
+
+    /// Lays the first range of another list over these. On want of memory both lists are as they were.
+    pub fn take_first(&mut self, alloc: Global, from: &mut Ranges) -> Result<(), NoMemory>
+        requires some { from.old ≢ [] }
+        requires few { length self.old < 2 ^ 63 }
+        ensures taken { OnOk result (TakesFirst from.old from.new self.old self.new) }
+        ensures err { OnErr result (self.new ≡ self.old) }
+        ensures kept { OnErr result (from.new ≡ from.old) }
+    {
+        if let Some((lo, hi)) = from.first() {
+            self.lay_between(alloc, lo, hi.as_ref())?;
+            from.drop_front(1);
+        }
+        Ok(())
+    }
+
+    /// Makes one range of the one that ends at the key and the one that begins there. On want of memory all are as they were.
+    pub fn weld(&mut self, alloc: Global, key: &Key) -> Result<(), NoMemory>
+        requires { length self.old < 2 ^ 63 }
+        ensures same { (k : List ℕ) → covered self.new k ≡ covered self.old k }
+        ensures bound { length self.new ≤ length self.old }
+        ensures err { OnErr result (self.new ≡ self.old) }
+    {
+        let low = low_end(&self.rows, key);
+        if low == key || !is_covered(&self.rows, key) {
+            return Ok(());
+        }
+        let lo = low.copy(alloc)?;
+        let hi = copy_end(alloc, high_end(&self.rows, Some(key)))?;
+        self.splice(KeyRange { lo, hi })
+    }
+
+    /// Whether each range ends at the pivot or before it.
+    pub fn end_by<U: Update>(&self, pivot: &Key) -> bool
+        ensures { result ≡ true → LieIn [] (Some pivot.now) (range_msgs {U = U} {V = U.Value} self.now) }
+    {
+        match self.rows.last() {
+            None => true,
+            Some((_, high)) => ends_by(high.as_ref(), Some(pivot)),
+        }
+    }
+
+    /// Whether each range begins at the pivot or behind it.
+    pub fn begin_from<U: Update>(&self, pivot: &Key) -> bool
+        ensures { result ≡ true → LieIn pivot.now None (range_msgs {U = U} {V = U.Value} self.now) }
+    {
+        match self.first() {
+            None => true,
+            Some((low, _)) => pivot.cmp(low).is_le(),
+        }
+    }
+
+    /// The ranges up to the pivot, and those from it on. One that lies over it is made two.
+    pub fn cut_at<U: Update>(self, alloc: Global, pivot: &Key) -> Result<(Ranges, Ranges), NoMemory>
+        requires { length self < 2 ^ 63 }
+        ensures front { IfOk result (λ r. range_msgs {U = U} {V = U.Value} r.0 ≡ pieces [] (Some pivot.now) (range_msgs self)) }
+        ensures back { IfOk result (λ r. range_msgs {U = U} {V = U.Value} r.1 ≡ pieces pivot.now None (range_msgs self)) }
+    {
+        let (front, back) = part::<U>(self.rows, alloc, pivot)?;
+        Ok((Ranges::of(front), Ranges::of(back)))
+    }
+
+    /// The ranges of both lists, where all of the newer one begin behind the others.
+    pub fn joined(self, newer: Ranges) -> Result<Ranges, NoMemory>
+        requires apart { AreApart (self ++ newer) }
+        requires few { length self + length newer < 2 ^ 64 }
+        ensures { IfOk result (λ r. r ≡ self ++ newer) }
+    {
+        let mut rows = self.rows;
+        let mut later = newer.rows;
+        rows.append(&mut later)?;
+        Ok(Ranges {
+            rows,
+            count: self.count + newer.count,
+        })
+    }
+
+    /// Copies of the range-deletes, put behind those in `front`, until it has so many.
+    pub fn copy_into<U: Update>(
+        &self,
+        alloc: Global,
+        count: usize,
+        front: &mut Vec<Msg<U>>,
+    ) -> Result<(), NoMemory>
+        ensures { OnOk result (take count front.new.items ≡ take count (front.old.items ++ range_msgs self.now)) }
+    {
+        let mut ranges = self.rows.walk();
+        while front.len() < count {
+            let Some((lo, hi)) = ranges.next() else {
+                return Ok(());
+            };
+            let lo = lo.copy(alloc)?;
+            let hi = copy_end(alloc, hi.as_ref())?;
+            front.push(Msg::DelRange(KeyRange { lo, hi }))?;
+        }
+        Ok(())
+    }
+
+    /// Equal ranges, in rows that both then share.
+    pub fn copy(&self) -> Result<Ranges, NoMemory>
+        ensures { IfOk result (λ r. r ≡ self.now) }
+    {
+        let rows = self.rows.share()?;
+        Ok(Ranges {
+            rows,
+            count: self.count,
+        })
+    }
+
+    /// Ranges in these rows.
+    fn of(rows: Rows<Option<Key>>) -> Ranges
+        requires apart { AreApart rows }
+        requires few { length rows < 2 ^ 64 }
+        ensures { result ≡ rows }
+    {
+        let count = rows.len();
+        Ranges { rows, count }
+    }
+
+    /// The same as `lay`, by the ends.
+    fn lay_between(&mut self, alloc: Global, lo: &Key, hi: Option<&Key>) -> Result<(), NoMemory>
+        requires some { is_below lo.now (option_copied hi) ≡ true }
+        requires few { length self.old < 2 ^ 63 }
+        ensures covers { OnOk result (CoversMore lo.now (option_copied hi.entry) self.old self.new) }
+        ensures bound { OnOk result (length self.new ≤ length self.old + 1) }
+        ensures err { OnErr result (self.new ≡ self.old) }
+    {
+        if is_held(&self.rows, lo, hi) {
+            return Ok(());
+        }
+        let wide = widened(&self.rows, alloc, lo, hi)?;
+        self.splice(wide)
+    }
+
+    /// Puts a range in the place of those that begin in it, where no other reaches over its ends. On want of memory all are as
+    /// they were.
+    fn splice(&mut self, range: KeyRange) -> Result<(), NoMemory>
+        requires some { is_below range.lo range.hi ≡ true }
+        requires low { EndBy range.lo self.old }
+        requires few { length self.old < 2 ^ 63 }
+        ensures ok { OnOk result (self.new ≡ spliced range self.old) }
+        ensures err { OnErr result (self.new ≡ self.old) }
+    {
+        let gone = splice(&mut self.rows, range)?;
+        self.count = self.count + 1 - gone;
+        Ok(())
+    }
+}

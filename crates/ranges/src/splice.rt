@@ -1,0 +1,67 @@
+//! A range in the place of those that begin in it.
+ghost use Rattle.std.specs.Prelude.{◌≡◌, ◌+◌, ◌<◌, ◌^◌, true, false, length, OnOk, OnErr, IfOk};
+ghost use Rattle.std.specs.BTreeMap.{insert_entry};
+ghost use Rattle.pathkey.specs.Keys.{is_below};
+ghost use Rattle.pathkey.specs.Order.{by_bytes};
+ghost use Rattle.ranges.specs.Ends.{spliced};
+
+use message::ends::is_before_end;
+use pathkey::{Key, KeyRange, NoMemory};
+use rows::Rows;
+
+/// Puts a range in the place of those that begin in it, and answers how many of these there were. On want of memory all are as
+/// they were.
+pub(crate) fn splice(rows: &mut Rows<Option<Key>>, range: KeyRange) -> Result<usize, NoMemory>
+    requires some { is_below range.lo range.hi ≡ true }
+    requires few { length rows.old < 2 ^ 63 }
+    ensures ok { OnOk result (rows.new ≡ spliced range rows.old) }
+    ensures counted { IfOk result (λ gone. length rows.new + gone ≡ length rows.old + 1) }
+    ensures err { OnErr result (rows.new ≡ rows.old) }
+{
+    if has_inside(rows, &range) {
+        replace(rows, range)
+    } else {
+        put(rows, range)
+    }
+}
+
+/// Whether a range begins behind the low end of another and before its high end.
+fn has_inside(rows: &Rows<Option<Key>>, range: &KeyRange) -> bool
+    requires { is_below range.now.lo range.now.hi ≡ true }
+    ensures { result ≡ false → spliced range.now rows.now ≡ insert_entry by_bytes rows.now range.now.lo range.now.hi }
+{
+    rows.rise();
+    match rows.walk_past(&range.lo).peek() {
+        None => false,
+        Some((next, _)) => is_before_end(next, range.hi.as_ref()),
+    }
+}
+
+/// Puts a range in, in the place of one that begins where it does, and answers how many such there were.
+pub(crate) fn put(rows: &mut Rows<Option<Key>>, range: KeyRange) -> Result<usize, NoMemory>
+    ensures ok { OnOk result (rows.new ≡ insert_entry by_bytes rows.old range.lo range.hi) }
+    ensures counted { IfOk result (λ gone. length rows.new + gone ≡ length rows.old + 1) }
+    ensures err { OnErr result (rows.new ≡ rows.old) }
+{
+    rows.rise();
+    match rows.put(range.lo, range.hi) {
+        Ok(None) => Ok(0),
+        Ok(Some(_)) => Ok(1),
+        Err(_) => Err(NoMemory),
+    }
+}
+
+/// The same as `splice`, on rows that are shared until it is done.
+fn replace(rows: &mut Rows<Option<Key>>, range: KeyRange) -> Result<usize, NoMemory>
+    requires { length rows.old < 2 ^ 63 }
+    ensures ok { OnOk result (rows.new ≡ spliced range rows.old) }
+    ensures counted { IfOk result (λ gone. length rows.new + gone ≡ length rows.old + 1) }
+    ensures err { OnErr result (rows.new ≡ rows.old) }
+{
+    let mut others = rows.share()?;
+    let inside = others.cut_out(&range)?;
+    let gone = inside.len();
+    let replaced = put(&mut others, range)?;
+    *rows = others;
+    Ok(gone + replaced)
+}
