@@ -6,6 +6,8 @@ ghost use Rattle.message.specs.Effects.{touches as is_touched, effect, point as 
 ghost use Rattle.message.specs.Oldest.{put_at, given_at, covers_first};
 ghost use Rattle.message.specs.PointKeys.{clears};
 ghost use Rattle.message.specs.Stretches.{is_for};
+ghost use Rattle.points.specs.Changes.{msg_at};
+ghost use Rattle.points.specs.Runs.{lent_change};
 ghost use Rattle.pending.specs.Lent.{lent_msg};
 
 use crate::spans::{holds_part, overlaps, reaches_over};
@@ -37,6 +39,17 @@ impl<'a, U: Update> Lent<'a, U> {
             Msg::Del(key) => Lent::Del(key),
             Msg::DelRange(range) => Lent::DelRange(&range.lo, range.hi.as_ref()),
             Msg::Edit(key, update) => Lent::Edit(key, update),
+        }
+    }
+
+    /// A change that waits at the key.
+    pub(crate) fn at(key: &'a Key, change: points::Lent<'a, U>) -> Lent<'a, U>
+        ensures { lent_msg result ≡ msg_at key.now (lent_change change.entry) }
+    {
+        match change {
+            points::Lent::Put(value) => Lent::Put(key, value),
+            points::Lent::Del => Lent::Del(key),
+            points::Lent::Edit(update) => Lent::Edit(key, update),
         }
     }
 
