@@ -2,6 +2,8 @@
 use Rattle.std.proofs.Common.{◌≡◌, ℕ, ◌+◌, ◌<◌, ◌≤◌, ◌^◌, List, [], ◌∷◌, ◌++◌, length, drop, take, refl, sym, ap, ◌∙◌, subst, Option, Some, None, Bool, true, false, cond, not, ◌||◌, arith, length-append}
 use Rattle.std.proofs.Math.Seq.{take-append_seam, drop-append_seam}
 use Rattle.std.specs.List.{All, filter, list_any}
+use Rattle.std.specs.Prelude.{Result, Ok, Err, OnOk, OnErr}
+use Rattle.std.proofs.lemmas.Result.{on_ok_weaker}
 use Rattle.std.specs.Map.{keys_of}
 use Rattle.std.specs.BTreeMap.{is_at}
 use Rattle.std.proofs.lemmas.Bool.{or_parts}
@@ -19,7 +21,7 @@ use Rattle.message.specs.Effects.{touches, any_touches, point, effects, made_of,
 use Rattle.message.specs.Oldest.{first_point}
 use Rattle.message.proofs.Composing.{untouched_first, untouched_second}
 use Rattle.message.proofs.KeyOrder.{within-same, empty_by}
-use Rattle.message.proofs.Lists.{effects-append, any_touches-append}
+use Rattle.message.proofs.Lists.{effects-append, any_touches-append, takes-append}
 use Rattle.message.proofs.NextKey.{by_bool}
 use Rattle.points.specs.Changes.{Change, run_msgs, run_effect}
 use Rattle.points.specs.Points.{point_msgs, point_count, found_effect, AreRuns, Lays, TakesFirst}
@@ -44,6 +46,27 @@ module _ {U V : Type 0} (means : U → Option V → Option V) where
         let p : same k q ≡ false = sym (w q) ∙ (or_parts (touches m q) false a).0 in
         untouched_from_none fs q (l.touched q p (none_from_untouched es q r h));
   }
+
+  -- what stands before a list stays before it
+  pub takes_behind : (p a x b : List (Msg U V)) → Takes means a x b → Takes means (p ++ a) x (p ++ b)
+  takes_behind p a x b t = record {
+    meaning = λ k v. effects-append means p b k v ∙ t.meaning k (effects means p k v) ∙ ap (λ w. effects means x k w) (sym (effects-append means p a k v));
+    bound = omega (arith, t.bound, length-append p a, length-append p b);
+    touched = λ k h g. any_touches-append p b k (untouched_first p a k h) (t.touched k (untouched_second p a k h) g);
+  }
+
+  -- the whole list takes a message that its points take
+  pub lays_point : {E : Type 0} (r : Result Unit E) (m n : Msg U V) (rs : List Span) (es fs : List (List ℕ × List (Change U V))) → n ≡ m → OnOk r (Takes means (point_msgs es) (m ∷ []) (point_msgs fs)) → OnOk r (Takes means (sorted_msgs rs es) (n ∷ []) (sorted_msgs rs fs))
+  lays_point r m n rs es fs e t = subst (λ x. OnOk r (Takes means (sorted_msgs rs es) (x ∷ []) (sorted_msgs rs fs))) (sym e) (on_ok_weaker r (λ l. takes_behind (range_msgs rs) (point_msgs es) (m ∷ []) (point_msgs fs) l) t)
+
+  -- a message that finds no place stands behind what stayed
+  pub lays_none : (m : Msg U V) (old new : List (Msg U V)) → new ≡ old → Takes means old (m ∷ []) (new ++ m ∷ [])
+  lays_none m old new e = subst (λ t. Takes means old (m ∷ []) (t ++ m ∷ [])) (sym e) (takes-append means old (m ∷ []))
+
+  -- what takes a message or keeps it behind itself is one message longer at most
+  pub laid_few : {E : Type 0} (r : Result Unit E) (m : Msg U V) (old new : List (Msg U V)) → OnOk r (Takes means old (m ∷ []) new) → OnErr r (Takes means old (m ∷ []) (new ++ m ∷ [])) → length new ≤ length old + 1
+  laid_few (Ok x) m old new t f = omega (arith, t.bound)
+  laid_few (Err x) m old new t f = omega (arith, f.bound, length-append new (m ∷ []))
 
   -- ---- a range-delete
 
@@ -128,19 +151,6 @@ module _ {U V : Type 0} (means : U → Option V → Option V) where
         (untouched_first (range_msgs rs) (point_msgs es) q h)
         (untouched_from_none fs q (l.touched q (apart_from_untouched k q cs some a) (none_from_untouched es q runs (untouched_second (range_msgs rs) (point_msgs es) q h))));
   }
-
-  -- ranges that hold the same keys mean the same before the points
-  pub takes_welded : (rs ss : List Span) (es : List (List ℕ × List (Change U V))) (old : List (Msg U V)) → sorted_msgs rs es ≡ old → ((k : List ℕ) → covered ss k ≡ covered rs k) → length ss ≤ length rs → Takes means old [] (sorted_msgs ss es)
-  takes_welded rs ss es old v c l = subst (λ w. Takes means w [] (sorted_msgs ss es)) v (record {
-    meaning = λ k o.
-        effects-append means (range_msgs ss) (point_msgs es) k o
-        ∙ ap (λ w. effects means (point_msgs es) k w) (effects-ranges means ss k o ∙ ap (λ b. cond b None o) (c k) ∙ sym (effects-ranges means rs k o))
-        ∙ sym (effects-append means (range_msgs rs) (point_msgs es) k o);
-    bound = omega (arith, length-sorted rs es, length-sorted ss es, l);
-    touched = λ k h g.
-        let none : covered ss k ≡ false = c k ∙ sym (touches-ranges U V rs k) ∙ untouched_first (range_msgs rs) (point_msgs es) k h in
-        any_touches-append (range_msgs ss) (point_msgs es) k (touches-ranges U V ss k ∙ none) (untouched_second (range_msgs rs) (point_msgs es) k h);
-  })
 
   -- ---- what follows where the first run of one list has gone to another
 

@@ -8,13 +8,13 @@ use Rattle.std.proofs.lemmas.List.Elements.{All-head, All-tail}
 use Rattle.std.proofs.lemmas.List.Sums.{sum_by-append}
 use Rattle.rows.specs.Places.{Rises, AreBefore, AreFrom}
 use Rattle.message.specs.declared.msg.Msg.{Msg}
-use Rattle.message.specs.declared.msg.Msg.TheVariants as msg
 use Rattle.message.specs.Cuts.{cut_to, pieces, LieIn, LieOut, IsJoined, IsParted}
 use Rattle.message.specs.Ranges.{within, reaches, before}
 use Rattle.message.proofs.Cutting.{pieces_few}
-use Rattle.message.proofs.Joining.{in_left, in_right, out_back, out_front, rise_both}
+use Rattle.message.proofs.Joining.{in_left, in_right, rise_both}
 use Rattle.message.proofs.KeyOrder.{both, from_start, not_reaches_from_before, not_before_from_reaches}
-use Rattle.message.proofs.Parting.{front_part, back_part, in_both, pieces-append, pieces-in, pieces-out, second_false}
+use Rattle.message.proofs.Parting.{front_part, back_part, in_both, second_false}
+use Rattle.message.proofs.SideBySide.{joined_both, joined_ends}
 use Rattle.points.specs.Changes.{Change, Put, Del, Edit, msg_at, run_msgs}
 use Rattle.points.specs.Points.{point_msgs, point_count, AreRuns}
 use Rattle.ranges.specs.Apart.{Span, range_msgs}
@@ -25,6 +25,9 @@ all_left : (P : List ℕ → Type 0) (ks ls : List (List ℕ)) → All P (ks ++ 
 all_left P [] ls a i d h = absurd (omega arith)
 all_left P (k ∷ ks) ls a zero d h = a 0 d (omega arith)
 all_left P (k ∷ ks) ls a (suc i) d h = all_left P ks ls (All-tail P k (ks ++ ls) a) i d (omega arith)
+
+both_true : (b c : Bool) → b ≡ true → c ≡ true → (b && c) ≡ true
+both_true b c g h = ap (λ a. a && c) g ∙ h
 
 module _ {U V : Type 0} where
   -- ---- the messages of one key
@@ -62,9 +65,6 @@ module _ {U V : Type 0} where
 
   pub counted_both : (es fs all : List (List ℕ × List (Change U V))) → all ≡ es ++ fs → point_count all ≡ point_count es + point_count fs
   counted_both es fs all e = ap (λ (t : List (List ℕ × List (Change U V))). point_count t) e ∙ sum_by-append (λ (x : List ℕ × List (Change U V)). length x.1) es fs
-
-  both_true : (b c : Bool) → b ≡ true → c ≡ true → (b && c) ≡ true
-  both_true b c g h = ap (λ a. a && c) g ∙ h
 
   -- entries from lo on, cut at the pivot, are parted there
   pub entries_parted : (lo p : List ℕ) (all es fs : List (List ℕ × List (Change U V))) → all ≡ es ++ fs → AreFrom lo all → AreBefore p es → AreFrom p fs → IsParted lo p (point_msgs all) (point_msgs es) (point_msgs fs)
@@ -144,47 +144,7 @@ module _ {U V : Type 0} (p : List ℕ) (rs ss : List Span) (es fs : List (List �
   pub few_both : (length rs + point_count es) + (length ss + point_count fs) ≡ length front + length back
   few_both = omega (arith, ap (λ t. length t) f, ap (λ t. length t) b, length-sorted rs es, length-sorted ss fs)
 
-  module _ (gs : List Span) (hs : List (List ℕ × List (Change U V))) (g : gs ≡ rs ++ ss) (h : hs ≡ es ++ fs) where
-    whole : sorted_msgs {U = U} {V = V} gs hs ≡ (range_msgs rs ++ range_msgs ss) ++ (point_msgs es ++ point_msgs fs)
-    whole =
-        ap (λ t. range_msgs t ++ point_msgs hs) g
-        ∙ ap (λ (t : List (List ℕ × List (Change U V))). range_msgs (rs ++ ss) ++ point_msgs t) h
-        ∙ ap (λ t. t ++ point_msgs (es ++ fs)) (map-append (λ (e : Span). msg.DelRange (record { lo = e.0; hi = e.1 })) rs ss)
-        ∙ ap (λ t. (range_msgs rs ++ range_msgs ss) ++ t) (msgs_append es fs)
-
-    -- the pieces of four lists
-    four : (lo : List ℕ) (hi : Option (List ℕ)) (ks bs cs ds : List (Msg U V)) → pieces lo hi ((ks ++ bs) ++ (cs ++ ds)) ≡ (pieces lo hi ks ++ pieces lo hi bs) ++ (pieces lo hi cs ++ pieces lo hi ds)
-    four lo hi ks bs cs ds =
-        pieces-append lo hi (ks ++ bs) (cs ++ ds)
-        ∙ ap (λ t. t ++ pieces lo hi (cs ++ ds)) (pieces-append lo hi ks bs)
-        ∙ ap (λ t. (pieces lo hi ks ++ pieces lo hi bs) ++ t) (pieces-append lo hi cs ds)
-
-    first_two : (ks bs cs ds ws xs ys zs : List (Msg U V)) → ws ≡ ks → xs ≡ [] → ys ≡ cs → zs ≡ [] → (ws ++ xs) ++ (ys ++ zs) ≡ ks ++ cs
-    first_two ks bs cs ds ws xs ys zs w x y z =
-        ap (λ t. (ws ++ t) ++ (ys ++ zs)) x
-        ∙ ap (λ t. t ++ (ys ++ zs)) (append-nil ws ∙ w)
-        ∙ ap (λ t. ks ++ (ys ++ t)) z
-        ∙ ap (λ t. ks ++ t) (append-nil ys ∙ y)
-
-    pub both_joined : IsJoined p front back (sorted_msgs gs hs)
-    both_joined =
-        let rm : List (Msg U V) = range_msgs rs in
-        let sm : List (Msg U V) = range_msgs ss in
-        let em = point_msgs es in
-        let fm = point_msgs fs in
-        record {
-          front_is =
-              ap (λ t. pieces [] (Some p) t) whole
-              ∙ four [] (Some p) rm sm em fm
-              ∙ first_two rm sm em fm _ _ _ _ (pieces-in [] (Some p) rm front_ranges) (pieces-out [] (Some p) sm (out_front p sm back_ranges)) (pieces-in [] (Some p) em front_points) (pieces-out [] (Some p) fm (out_front p fm back_points))
-              ∙ f;
-          back_is =
-              ap (λ t. pieces p None t) whole
-              ∙ four p None rm sm em fm
-              ∙ ap (λ t. (t ++ pieces p None sm) ++ (pieces p None em ++ pieces p None fm)) (pieces-out p None rm (out_back p rm front_ranges))
-              ∙ ap (λ t. t ++ (pieces p None em ++ pieces p None fm)) (pieces-in p None sm back_ranges)
-              ∙ ap (λ t. sm ++ (t ++ pieces p None fm)) (pieces-out p None em (out_back p em front_points))
-              ∙ ap (λ t. sm ++ t) (pieces-in p None fm back_points)
-              ∙ b;
-          bound = omega (arith, ap (λ t. length t) whole, length-append (rm ++ sm) (em ++ fm), length-append rm sm, length-append em fm, ap (λ t. length t) f, ap (λ t. length t) b, length-append rm em, length-append sm fm);
-        }
+  pub both_joined : (gs : List Span) (hs : List (List ℕ × List (Change U V))) → IsJoined p (range_msgs {U = U} {V = V} rs) (range_msgs ss) (range_msgs gs) → hs ≡ es ++ fs → IsJoined p front back (sorted_msgs gs hs)
+  both_joined gs hs g h =
+      let points : IsJoined p (point_msgs es) (point_msgs fs) (point_msgs hs) = subst (λ t. IsJoined p (point_msgs es) (point_msgs fs) t) (sym (ap (λ (t : List (List ℕ × List (Change U V))). point_msgs t) h ∙ msgs_append es fs)) (joined_ends p (point_msgs es) (point_msgs fs) front_points back_points) in
+      subst (λ t. IsJoined p front t (sorted_msgs gs hs)) b (subst (λ t. IsJoined p t (sorted_msgs ss fs) (sorted_msgs gs hs)) f (joined_both p (range_msgs rs) (point_msgs es) (range_msgs ss) (point_msgs fs) (range_msgs gs) (point_msgs hs) g points))

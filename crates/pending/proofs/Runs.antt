@@ -1,6 +1,8 @@
 -- The messages of what waits at keys.
 use Rattle.std.proofs.Common.{◌≡◌, ℕ, zero, suc, ◌+◌, ◌-◌, ◌<◌, ◌≤◌, List, [], ◌∷◌, ◌++◌, length, drop, map, refl, sym, ap, ◌∙◌, subst, Option, Some, None, Bool, true, false, cond, ◌||◌, arith, append_assoc, length-append, length-drop}
 use Rattle.std.specs.List.{All, sum_by, slice_get}
+use Rattle.std.specs.Option.{option_map}
+use Rattle.std.specs.Prelude.{IfSome}
 use Rattle.std.specs.Ordering.{is_eq}
 use Rattle.std.specs.Map.{keys_of}
 use Rattle.std.specs.BTreeMap.{is_at}
@@ -10,7 +12,7 @@ use Rattle.std.proofs.lemmas.List.Elements.{All-nil, All-cons, All-head, All-tai
 use Rattle.std.proofs.lemmas.List.Sums.{sum_by-cons}
 use Rattle.std.proofs.lemmas.Map.Entries.{lookup_head, lookup_tail}
 use Rattle.pathkey.specs.Order.{by_bytes, same, by_bytes_equiv}
-use Rattle.rows.specs.Places.{Rises, at_key}
+use Rattle.rows.specs.Places.{Rises, at_key, AreBefore, AreFrom}
 use Rattle.message.specs.declared.msg.Msg.{Msg}
 use Rattle.message.specs.Effects.{touches, any_touches, effect, effects, point, range_count}
 use Rattle.message.specs.Oldest.{first_point}
@@ -95,6 +97,14 @@ module _ {U V : Type 0} where
   left_none [] = refl
   left_none (e ∷ es) = refl
 
+  -- where none are gone, some are left
+  pub none_left : (n : ℕ) (es : List (List ℕ × List (Change U V))) → n ≡ 0 → AreRuns es → IsLeft n es
+  none_left n [] z r = z
+  none_left n (e ∷ es) z r = omega (arith, z, All-head (λ (x : List ℕ × List (Change U V)). 0 < length x.1) e es r)
+
+  pub left_whole : (n : ℕ) (es : List (List ℕ × List (Change U V))) → n ≡ 0 → left n es ≡ es
+  left_whole n es z = ap (λ i. left i es) z ∙ left_none es
+
   pub left_rises : (n : ℕ) (es : List (List ℕ × List (Change U V))) → Rises es → Rises (left n es)
   left_rises n [] r = r
   left_rises n (e ∷ es) r = r
@@ -117,6 +127,14 @@ module _ {U V : Type 0} where
   left_keys n [] = refl
   left_keys n (e ∷ es) = refl
 
+  pub left_keys_from : (lo : List ℕ) (n : ℕ) (es : List (List ℕ × List (Change U V))) → AreFrom lo es → AreFrom lo (left n es)
+  left_keys_from lo n [] f = f
+  left_keys_from lo n (e ∷ es) f = f
+
+  pub left_keys_before : (p : List ℕ) (n : ℕ) (es : List (List ℕ × List (Change U V))) → AreBefore p es → AreBefore p (left n es)
+  left_keys_before p n [] f = f
+  left_keys_before p n (e ∷ es) f = f
+
   -- the changes that are left at a key
   pub left_first : (n : ℕ) (es : List (List ℕ × List (Change U V))) (k : List ℕ) (cs : List (Change U V)) (q : List ℕ) → slice_get es 0 ≡ Some (k, cs) → same k q ≡ true → at_key q (left n es) ≡ Some (drop n cs)
   left_first n [] k cs q h s = absurd (cc)
@@ -131,6 +149,47 @@ module _ {U V : Type 0} where
       let is : e ≡ (k, cs) = cc in
       let at : is_eq (by_bytes q e.0) ≡ false = by_bytes_equiv.symm q e.0 ∙ ap (λ (x : List ℕ × List (Change U V)). same x.0 q) is ∙ s in
       lookup_tail (is_at (by_bytes q)) (e.0, drop n e.1) es at ∙ sym (lookup_tail (is_at (by_bytes q)) e es at)
+
+  pub left_absent : (n : ℕ) (es : List (List ℕ × List (Change U V))) (q : List ℕ) → None ≡ at_key q es → None ≡ at_key q (left n es)
+  left_absent n [] q h = h
+  left_absent n (e ∷ es) q h = absent (is_eq (by_bytes q e.0)) h
+    where
+      absent : (b : Bool) → None ≡ cond b (Some e.1) (at_key q es) → None ≡ cond b (Some (drop n e.1)) (at_key q es)
+      absent true h = absurd (cc)
+      absent false h = h
+
+  -- ---- how many are gone at a key
+
+  same_option : (t : Option (List (Change U V))) → t ≡ option_map (λ cs. drop 0 cs) t
+  same_option None = refl
+  same_option (Some cs) = refl
+
+  pub gone_none : (n : ℕ) (es : List (List ℕ × List (Change U V))) (q : List ℕ) → at_key q (left n es) ≡ at_key q es → at_key q (left n es) ≡ option_map (λ cs. drop 0 cs) (at_key q es)
+  gone_none n es q h = h ∙ same_option (at_key q es)
+
+  pub some_at : (es : List (List ℕ × List (Change U V))) (q : List ℕ) → AreRuns es → IfSome (at_key q es) (λ cs. 0 < length cs)
+  some_at [] q r = tt
+  some_at (e ∷ es) q r = elim (is_eq (by_bytes q e.0)) as (λ b. IfSome (cond b (Some e.1) (at_key q es)) (λ cs. 0 < length cs)) [
+    | true ↦ All-head (λ (x : List ℕ × List (Change U V)). 0 < length x.1) e es r
+    | false ↦ some_at es q (All-tail (λ (x : List ℕ × List (Change U V)). 0 < length x.1) e es r)
+  ]
+
+  pub left_bound : (n : ℕ) (es : List (List ℕ × List (Change U V))) (k : List ℕ) (cs : List (Change U V)) → slice_get es 0 ≡ Some (k, cs) → IsLeft n es → n < length cs
+  left_bound n [] k cs h l = absurd (cc)
+  left_bound n (e ∷ es) k cs h l = (let is : e ≡ (k, cs) = cc in subst (λ (x : List ℕ × List (Change U V)). n < length x.1) is l)
+
+  -- at the first key
+  pub gone_first : (n : ℕ) (es : List (List ℕ × List (Change U V))) (k : List ℕ) (cs : List (Change U V)) (q : List ℕ) → slice_get es 0 ≡ Some (k, cs) → same k q ≡ true → at_key q (left n es) ≡ option_map (λ ds. drop n ds) (at_key q es)
+  gone_first n es k cs q h s = left_first n es k cs q h s ∙ ap (option_map (λ ds. drop n ds)) (sym (sym (ap (at_key q) (left_none es)) ∙ left_first 0 es k cs q h s))
+
+  pub some_first : (n : ℕ) (es : List (List ℕ × List (Change U V))) (k : List ℕ) (cs : List (Change U V)) (q : List ℕ) → slice_get es 0 ≡ Some (k, cs) → same k q ≡ true → IsLeft n es → IfSome (at_key q es) (λ ds. n < length ds)
+  some_first n es k cs q h s l =
+      let here : Some cs ≡ at_key q es = sym (sym (ap (at_key q) (left_none es)) ∙ left_first 0 es k cs q h s) in
+      subst (λ t. IfSome t (λ ds. n < length ds)) here (left_bound n es k cs h l)
+
+  pub left_empty : (n : ℕ) (es : List (List ℕ × List (Change U V))) → None ≡ slice_get es 0 → left n es ≡ es
+  left_empty n [] h = refl
+  left_empty n (e ∷ es) h = absurd (cc)
 
 module _ {U V : Type 0} (means : U → Option V → Option V) where
   effect_here : (k q : List ℕ) (c : Change U V) (o : Option V) → same k q ≡ true → effect means (msg_at k c) q o ≡ changed means c o

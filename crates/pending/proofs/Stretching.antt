@@ -46,6 +46,17 @@ end_past (Some h) x y b = by_bool (before h x) (earlier_end (Some (cond (before 
     (λ t. subst (λ c. earlier_end (Some (cond c h x)) (Some y) ≡ Some (cond c h x)) (sym t) (earlier_of h y (lt_le h x y t (reaches-from_before x y b))))
     (λ f. subst (λ c. earlier_end (Some (cond c h x)) (Some y) ≡ Some (cond c h x)) (sym f) (earlier_of x y b))
 
+below_end : (k q : List ℕ) (end : Option (List ℕ)) → is_below k end ≡ true → is_below q end ≡ false → before k q ≡ true
+below_end k q None u n = absurd (cc)
+below_end k q (Some h) u n = lt_le k h q u (reaches-from_not_before q h n)
+
+-- a key up to the stop stands before the key that makes it
+before_stop : (from q k : List ℕ) (end : Option (List ℕ)) → reaches from q ≡ true → within from (point_stop (Some q) from end) k ≡ true → before k q ≡ true
+before_stop from q k end r w = (elim (within from end q) as (λ c. within from end q ≡ c → within from (cond c (Some q) end) k ≡ true → before k q ≡ true) [
+  | true ↦ λ e h. (both (reaches from k) (before k q) h).1
+  | false ↦ λ e h. below_end k q end (both (reaches from k) (is_below k end) h).1 (sym (ap (λ c. c && is_below q end) r) ∙ e)
+]) refl w
+
 module _ {X : Type 0} where
   -- the first key from one on, where all stand behind another
   next_past : (from x : List ℕ) (es : List (List ℕ × X)) → reaches from x ≡ true → AllByRecursion (λ y. by_bytes x y ≡ Less) (keys_of es) → (first_from from es ≡ None) ⊎ ((y : List ℕ) × (first_from from es ≡ Some y) × (before x y ≡ true))
@@ -111,17 +122,6 @@ module _ {U V : Type 0} where
   sorted_next rs k es r h = point_end (sorted_msgs rs es) k (has_point-append (range_msgs rs) (point_msgs es) k ∙ or_right (has_point {U = U} {V = V} (range_msgs rs) k) (has_point (point_msgs es) k) (points_at k es r h))
 
   -- ---- where the next key with a message stands
-
-  below_end : (k q : List ℕ) (end : Option (List ℕ)) → is_below k end ≡ true → is_below q end ≡ false → before k q ≡ true
-  below_end k q None u n = absurd (cc)
-  below_end k q (Some h) u n = lt_le k h q u (reaches-from_not_before q h n)
-
-  -- a key up to the stop stands before the key that makes it
-  before_stop : (from q k : List ℕ) (end : Option (List ℕ)) → reaches from q ≡ true → within from (point_stop (Some q) from end) k ≡ true → before k q ≡ true
-  before_stop from q k end r w = (elim (within from end q) as (λ c. within from end q ≡ c → within from (cond c (Some q) end) k ≡ true → before k q ≡ true) [
-    | true ↦ λ e h. (both (reaches from k) (before k q) h).1
-    | false ↦ λ e h. below_end k q end (both (reaches from k) (is_below k end) h).1 (sym (ap (λ c. c && is_below q end) r) ∙ e)
-  ]) refl w
 
   -- messages of later keys alone
   none_ahead : (k x : List ℕ) (es : List (List ℕ × List (Change U V))) → AreRuns es → before k x ≡ true → AllByRecursion (λ y. by_bytes x y ≡ Less) (keys_of es) → has_point (point_msgs es) k ≡ false

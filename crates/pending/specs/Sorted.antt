@@ -2,7 +2,7 @@
 use Rattle.std.specs.Prelude.{ℕ, ◌+◌, ◌^◌, ◌≤◌, List, ◌++◌, length}
 use Rattle.message.specs.declared.msg.Msg.{Msg}
 use Rattle.points.specs.Changes.{Change}
-use Rattle.points.specs.Points.{point_count, point_msgs, IsLeft}
+use Rattle.points.specs.Points.{left, point_count, point_msgs, IsLeft}
 use Rattle.ranges.specs.Apart.{Span, range_msgs}
 
 module _ {U V : Type 0} where
@@ -13,4 +13,4 @@ module _ {U V : Type 0} where
   -- what holds of the parts of a sorted list, where so many of the first key's messages are gone
   pub record IsSorted (rs : List Span) (es : List (List ℕ × List (Change U V))) (gone : ℕ) : Type 0 where
     pub left : IsLeft gone es
-    pub small : length rs + point_count es ≤ 2 ^ 62
+    pub small : length rs + point_count (left gone es) ≤ 2 ^ 62

@@ -441,21 +441,12 @@ impl<U: Update> Pending<U> {
         ensures { IfOk result (λ p. Takes U.means self.0 newer.0 p.0) }
     {
         if self.lies_before(alloc, pivot) && newer.lies_from(pivot) {
-            let mut all = self.joined_at(alloc, newer, pivot)?;
-            all.weld(alloc, pivot)?;
-            return Ok(all);
+            return self.joined_at(alloc, newer, pivot);
         }
         let mut all = self;
         let mut rest = newer;
         rest.sink_all(&mut all)?;
         Ok(all)
-    }
-
-    /// Makes one range-delete of the one that ends at the key and the one that begins there.
-    fn weld(&mut self, alloc: Global, key: &Key) -> Result<(), NoMemory>
-        ensures { Takes U.means self.old.0 [] self.new.0 }
-    {
-        self.sorted.weld(alloc, key)
     }
 
     /// Whether each message lies whole before the pivot.

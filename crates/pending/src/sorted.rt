@@ -11,8 +11,8 @@ ghost use Rattle.message.specs.Stretches.{EndsAhead, is_key};
 ghost use Rattle.message.specs.Told.{IsTold};
 ghost use Rattle.message.specs.declared.msg.Msg.TheVariants as msg;
 ghost use Rattle.message.specs.declared.told.Told.TheVariants as told;
-ghost use Rattle.rows.specs.Places.{at_key};
-ghost use Rattle.points.specs.Points.{left, point_count, point_msgs, IsLeft};
+ghost use Rattle.rows.specs.Places.{Rises, at_key};
+ghost use Rattle.points.specs.Points.{left, point_count, point_msgs, AreRuns, IsLeft};
 ghost use Rattle.pending.specs.Lent.{lent_msg};
 ghost use Rattle.pending.specs.Sorted.{sorted_msgs};
 
@@ -21,7 +21,7 @@ use crate::stretch::point_stop;
 use message::ends::{earlier, is_before_end};
 use message::{Changes, Msg, Told, Update};
 use pathkey::{Key, KeyRange, NoMemory};
-use points::{Points, Run};
+use points::Points;
 use ranges::Ranges;
 use std::alloc::Global;
 use std::marker::Model;
@@ -108,10 +108,15 @@ impl<U: Update> Sorted<U> {
         ensures refused { OnErr result (Takes U.means self.old (msg ∷ []) (self.new ++ msg ∷ [])) }
         ensures back { IfErr result (λ m. m ≡ msg) }
     {
-        if self.len() >= MOST || make_whole(&mut self.points, alloc, &mut self.gone).is_err() {
+        if self.len() >= MOST {
             return Err(msg);
         }
-        lay(&mut self.ranges, &mut self.points, alloc, msg)
+        let Ok(()) = make_whole(&mut self.points, alloc, &mut self.gone) else {
+            return Err(msg);
+        };
+        let answer = lay(&mut self.ranges, &mut self.points, alloc, msg);
+        self.points.stand();
+        answer
     }
 
     /// Moves the oldest messages of another list, a range-delete or those of one key and at most `most`, into their place, newer
@@ -138,9 +143,16 @@ impl<U: Update> Sorted<U> {
                 None
             };
         }
-        make_whole(&mut self.points, alloc, &mut self.gone).ok()?;
-        make_whole(&mut from.points, alloc, &mut from.gone).ok()?;
-        self.points.take_first(alloc, &mut from.points, most)
+        let Ok(()) = make_whole(&mut self.points, alloc, &mut self.gone) else {
+            return None;
+        };
+        let Ok(()) = make_whole(&mut from.points, alloc, &mut from.gone) else {
+            return None;
+        };
+        let came = self.points.take_first(alloc, &mut from.points, most);
+        self.points.stand();
+        from.points.stand();
+        came
     }
 
     /// Moves the first range-delete of another list here, newer than all that are here, as it lies in memory. It says whether it
@@ -159,14 +171,11 @@ impl<U: Update> Sorted<U> {
         if self.points.has_within(low, high.as_ref()) {
             return false;
         }
-        self.ranges.take_first(alloc, &mut from.ranges).is_ok()
-    }
-
-    /// Makes one range-delete of the one that ends at the key and the one that begins there.
-    pub(crate) fn weld(&mut self, alloc: Global, key: &Key) -> Result<(), NoMemory>
-        ensures { Takes U.means self.old [] self.new }
-    {
-        self.ranges.weld(alloc, key)
+        self.points.stand();
+        let Ok(()) = self.ranges.take_first(alloc, &mut from.ranges) else {
+            return false;
+        };
+        true
     }
 
     // ---- what goes out
@@ -176,6 +185,7 @@ impl<U: Update> Sorted<U> {
         requires { count ≤ length self.old }
         ensures { self.new ≡ drop count self.old }
     {
+        self.points.stand();
         let first = count.min(self.ranges.len());
         self.ranges.drop_front(first);
         self.gone = self.points.drop_oldest(self.gone + (count - first));
@@ -288,7 +298,7 @@ impl<U: Update> Sorted<U> {
         let points = whole(self.points, alloc, self.gone)?;
         let later = whole(newer.points, alloc, newer.gone)?;
         Ok(Sorted {
-            ranges: self.ranges.joined(newer.ranges)?,
+            ranges: self.ranges.joined::<U>(alloc, newer.ranges, pivot)?,
             points: points.joined(later)?,
             gone: 0,
         })
@@ -305,9 +315,10 @@ impl<U: Update> Sorted<U> {
     ) -> Result<Option<U::Value>, NoMemory>
         ensures { IfOk result (λ v. v ≡ effects U.means self.now key.now old) }
     {
+        self.points.stand();
         let below = unless(self.ranges.is_covered(key), old);
-        match found(&self.points, self.gone, key) {
-            Some((run, gone)) => run.apply(alloc, gone, below),
+        match self.points.run_at(key) {
+            Some(run) => run.apply(alloc, gone_at(&self.points, self.gone, key), below),
             None => Ok(below),
         }
     }
@@ -316,9 +327,10 @@ impl<U: Update> Sorted<U> {
     pub(crate) fn told(&self, alloc: Global, key: &Key) -> Result<Told<U::Value>, NoMemory>
         ensures { IfOk result (IsTold U.means self.now key.now) }
     {
+        self.points.stand();
         let is_covered = self.ranges.is_covered(key);
-        match found(&self.points, self.gone, key) {
-            Some((run, gone)) => run.told(alloc, gone, is_covered),
+        match self.points.run_at(key) {
+            Some(run) => run.told(alloc, gone_at(&self.points, self.gone, key), is_covered),
             None => Ok(untouched(is_covered)),
         }
     }
@@ -332,6 +344,7 @@ impl<U: Update> Sorted<U> {
         requires { is_below from.now (option_copied end) ≡ true }
         ensures { EndsAhead self.now from.now (option_copied end.entry) (option_map option_copied result) }
     {
+        self.points.stand();
         let next = self.points.first_from(from);
         if is_key(next, from) {
             return None;
@@ -344,6 +357,7 @@ impl<U: Update> Sorted<U> {
     pub(crate) fn next_point<'a>(&'a self, from: &'a Key, end: Option<&'a Key>) -> Option<&'a Key>
         ensures { IsPointStop self.now from.now (option_copied end.entry) (option_copied result) }
     {
+        self.points.stand();
         point_stop(self.points.first_from(from), from, end)
     }
 
@@ -373,23 +387,25 @@ fn make_whole<U: Update>(
     ensures same { left gone.new points.new ≡ left gone.old points.old }
     ensures left { IsLeft gone.new points.new }
     ensures whole { OnOk result (gone.new ≡ 0) }
-    ensures few { point_count points.new ≤ point_count points.old }
+    ensures rises { OnOk result (Rises points.new) }
+    ensures runs { OnOk result (AreRuns points.new) }
 {
-    if *gone == 0 {
-        return Ok(());
-    }
     points.make_whole(alloc, *gone)?;
     *gone = 0;
+    points.stand();
     Ok(())
 }
 
 /// The messages without those of the first key that are gone.
 fn whole<U: Update>(points: Points<U>, alloc: Global, gone: usize) -> Result<Points<U>, NoMemory>
     requires { IsLeft gone points }
-    ensures { IfOk result (λ p. p ≡ left gone points) }
+    ensures same { IfOk result (λ p. p ≡ left gone points) }
+    ensures rises { IfOk result Rises }
+    ensures runs { IfOk result AreRuns }
 {
     let mut points = points;
     points.make_whole(alloc, gone)?;
+    points.stand();
     Ok(points)
 }
 
@@ -422,8 +438,12 @@ fn put<U: Update>(points: &mut Points<U>, key: Key, value: U::Value) -> Result<(
     ensures unchanged { OnErr result (points.new ≡ points.old) }
     ensures back { IfErr result (λ m. m ≡ msg.Put key value) }
 {
+    points.stand();
     match points.put(key, value) {
-        Ok(()) => Ok(()),
+        Ok(()) => {
+            points.stand();
+            Ok(())
+        }
         Err((key, value)) => Err(Msg::Put(key, value)),
     }
 }
@@ -436,8 +456,12 @@ fn del<U: Update>(points: &mut Points<U>, key: Key) -> Result<(), Msg<U>>
     ensures unchanged { OnErr result (points.new ≡ points.old) }
     ensures back { IfErr result (λ m. m ≡ msg.Del key) }
 {
+    points.stand();
     match points.del(key) {
-        Ok(()) => Ok(()),
+        Ok(()) => {
+            points.stand();
+            Ok(())
+        }
         Err(key) => Err(Msg::Del(key)),
     }
 }
@@ -450,8 +474,12 @@ fn edit<U: Update>(points: &mut Points<U>, alloc: Global, key: Key, update: U) -
     ensures unchanged { OnErr result (points.new ≡ points.old) }
     ensures back { IfErr result (λ m. m ≡ msg.Edit key update) }
 {
+    points.stand();
     match points.edit(alloc, key, update) {
-        Ok(()) => Ok(()),
+        Ok(()) => {
+            points.stand();
+            Ok(())
+        }
         Err((key, update)) => Err(Msg::Edit(key, update)),
     }
 }
@@ -472,35 +500,30 @@ fn del_range<U: Update>(
     if !is_before_end(&range.lo, range.hi.as_ref()) {
         return Ok(());
     }
+    points.stand();
     let Ok(()) = points.clear(&range) else {
         return Err(Msg::DelRange(range));
     };
+    points.stand();
     let Ok(()) = ranges.lay(alloc, &range) else {
         return Err(Msg::DelRange(range));
     };
     Ok(())
 }
 
-/// What waits at the key, and how many of its oldest messages are gone.
-fn found<'a, U: Update>(
-    points: &'a Points<U>,
-    gone: usize,
-    key: &Key,
-) -> Option<(&'a Run<U>, usize)>
+/// How many of the oldest messages at a key are gone: of the first key alone some may be.
+fn gone_at<U: Update>(points: &Points<U>, gone: usize, key: &Key) -> usize
     requires { IsLeft gone points.now }
-    ensures value { option_map (λ p. drop p.1 p.0.now) result ≡ at_key key.now (left gone points.now) }
-    ensures some { IfSome result (λ p. p.1 < length p.0.now) }
+    ensures left { at_key key.now (left gone points.now) ≡ option_map (λ cs. drop result cs) (at_key key.now points.now) }
+    ensures some { IfSome (at_key key.now points.now) (λ cs. result < length cs) }
 {
-    if gone > 0
-        && let Some((first, run)) = points.first()
-    {
-        if first == key {
-            return Some((run, gone));
-        }
+    points.stand();
+    if gone == 0 {
+        return 0;
     }
-    match points.run_at(key) {
-        None => None,
-        Some(run) => Some((run, 0)),
+    match points.first() {
+        Some((first, _)) if first == key => gone,
+        _ => 0,
     }
 }
 
