@@ -20,7 +20,7 @@ module _ {U V : Type 0} where
   abbrev pub run_msgs : List ℕ → List (Change U V) → List (Msg U V)
   run_msgs k cs = map (msg_at k) cs
 
-  -- the oldest does not ask what was there
+  -- the first does not ask what was there
   abbrev pub is_whole : List (Change U V) → Bool
   is_whole [] = false
   is_whole (Put v ∷ cs) = true

@@ -4,15 +4,11 @@ use Rattle.std.specs.List.{sum_by, All}
 use Rattle.std.specs.BTreeMap.{insert_entry}
 use Rattle.pathkey.specs.Order.{by_bytes, same}
 use Rattle.message.specs.declared.msg.Msg.{Msg}
-use Rattle.rows.specs.Places.{Rises, at_key, reaches}
+use Rattle.rows.specs.Places.{at_key, reaches}
 use Rattle.points.specs.Changes.{Change, Put, Del, Edit, run_msgs, run_effect}
 
 module _ {U V : Type 0} where
-  -- keys, each with the changes that wait at it
-  abbrev pub Entries : Type 0
-  Entries = List (List ℕ × List (Change U V))
-
-  -- their messages
+  -- the messages that wait at keys
   abbrev pub point_msgs : List (List ℕ × List (Change U V)) → List (Msg U V)
   point_msgs [] = []
   point_msgs (e ∷ es) = run_msgs e.0 e.1 ++ point_msgs es
@@ -37,18 +33,9 @@ module _ {U V : Type 0} where
 
   -- what holds of a list with so many messages
   pub record ArePoints (es : List (List ℕ × List (Change U V))) (count : ℕ) : Type 0 where
-    pub rises : Rises es
     pub runs : AreRuns es
     pub counted : count ≡ point_count es
     pub small : count ≤ 2 ^ 62
-
-  -- the first entry has left a list for its place in another, where `was` stood
-  pub record IsMoved (was : Option (List (Change U V))) (from old left new : List (List ℕ × List (Change U V))) : Type 0 where
-    pub key : List ℕ
-    pub run : List (Change U V)
-    pub parts : from ≡ (key, run) ∷ left
-    pub is : new ≡ insert_entry by_bytes old key run
-    pub found : was ≡ at_key key old
 
   module _ (means : U → Option V → Option V) where
     -- the value after the changes, where there are any
@@ -66,17 +53,22 @@ module _ {U V : Type 0} where
     IsFree cs found = (o : Option V) → run_effect means cs (found_effect found o) ≡ run_effect means cs o
 
     -- the changes of the first key, which are `came` and at most `most`, have left a list and stand in another in the place of
-    -- what they do not ask for
-    pub record TakesFirst (came most : ℕ) (from old left new : List (List ℕ × List (Change U V))) : Type 0 where
+    -- others that they do not ask for
+    pub record TakesFirst (came most : ℕ) (from old rest new : List (List ℕ × List (Change U V))) : Type 0 where
       pub key : List ℕ
       pub run : List (Change U V)
-      pub parts : from ≡ (key, run) ∷ left
+      pub parts : from ≡ (key, run) ∷ rest
       pub all : came ≡ length run
       pub some : 0 < came
       pub few : came ≤ most
       pub is : new ≡ insert_entry by_bytes old key run
       pub lays : Lays key (run_effect means run) old new
       pub bound : point_count new ≤ point_count old + came
+
+    -- the others are `gone`
+    pub record IsMoved (came gone most : ℕ) (from old rest new : List (List ℕ × List (Change U V))) : Type 0 where
+      pub takes : TakesFirst came most from old rest new
+      pub counted : point_count new + gone ≡ point_count old + came
 
 -- the first key that passes
 abbrev pub first_where : {X : Type 0} → (List ℕ → Bool) → List (List ℕ × X) → Option (List ℕ)

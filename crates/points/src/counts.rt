@@ -1,7 +1,6 @@
 //! Walks that count messages.
 ghost use Rattle.std.specs.Prelude.{◌≡◌, ◌+◌, ◌<◌, ◌≤◌, ◌^◌, ◌++◌, length, take, drop, OnOk};
-ghost use Rattle.std.specs.Option.{option_map, unwrap_or};
-ghost use Rattle.points.specs.Points.{left, point_count, point_msgs, IsLeft};
+ghost use Rattle.points.specs.Points.{left, point_count, point_msgs, AreRuns, IsLeft};
 
 use crate::run::Run;
 use message::{Msg, Update};
@@ -51,7 +50,8 @@ pub(crate) fn copy_msgs<U: Update>(
     count: usize,
     front: &mut Vec<Msg<U>>,
 ) -> Result<(), NoMemory>
-    requires { IsLeft gone rows.now }
+    requires runs { AreRuns rows.now }
+    requires left { IsLeft gone rows.now }
     ensures { OnOk result (take count front.new.items ≡ take count (front.old.items ++ point_msgs (left gone rows.now))) }
 {
     let mut gone = gone;
@@ -64,14 +64,4 @@ pub(crate) fn copy_msgs<U: Update>(
         gone = 0;
     }
     Ok(())
-}
-
-/// How many changes wait, where any do.
-pub(crate) fn len_of<U: Update>(run: &Option<Run<U>>) -> usize
-    ensures { result ≡ unwrap_or (option_map length run.now) 0 }
-{
-    match run {
-        None => 0,
-        Some(run) => run.len(),
-    }
 }

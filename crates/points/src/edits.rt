@@ -1,5 +1,5 @@
 //! Updates of one key that do not join, the oldest first.
-ghost use Rattle.std.specs.Prelude.{◌≡◌, ◌+◌, ◌<◌, ◌≤◌, ◌++◌, Option, length, take, map, OnOk, OnErr, IfOk, IfErr};
+ghost use Rattle.std.specs.Prelude.{◌≡◌, ◌+◌, ◌<◌, ◌≤◌, ◌++◌, ◌∷◌, [], Option, length, drop, take, map, OnOk, OnErr, IfOk, IfErr};
 ghost use Rattle.std.specs.Bool.{OnTrue, OnFalse};
 ghost use Rattle.message.specs.declared.msg.Msg.TheVariants as msg;
 ghost use Rattle.points.specs.Runs.{edits_effect};
@@ -21,6 +21,23 @@ pub(crate) fn apply_all<U: Update>(
         value = update.apply(alloc, value.as_ref())?;
     }
     Ok(value)
+}
+
+/// The updates from this number on.
+pub(crate) fn later<U: Update>(updates: &[U], older: usize) -> &[U]
+    requires { older ≤ length updates.now }
+    ensures { result.now ≡ drop older updates.now }
+{
+    &updates[older..]
+}
+
+/// The only update.
+pub(crate) fn only<U: Update>(updates: Vec<U>) -> U
+    requires { length updates.items ≡ 1 }
+    ensures { updates.items ≡ result ∷ [] }
+{
+    let mut updates = updates;
+    updates.remove(0)
 }
 
 /// A copy of the update, as a message at the key.
@@ -80,11 +97,19 @@ pub(crate) fn push<U: Update>(updates: &mut Vec<U>, alloc: Global, later: U) -> 
     }
 }
 
+/// Takes the first updates out.
+pub(crate) fn drop_first<U: Update>(updates: &mut Vec<U>, count: usize)
+    requires { count ≤ length updates.old.items }
+    ensures { updates.new.items ≡ drop count updates.old.items }
+{
+    updates.drain(..count);
+}
+
 /// Makes one of the newest update and `later`, where that can be.
 fn absorb<U: Update>(updates: &mut Vec<U>, alloc: Global, later: &U) -> bool
     ensures meaning { OnTrue result ((o : Option U.Value) → edits_effect U.means updates.new.items o ≡ U.means later.now (edits_effect U.means updates.old.items o)) }
     ensures len { length updates.new.items ≡ length updates.old.items }
-    ensures unchanged { OnFalse result (updates.new.items ≡ updates.old.items) }
+    ensures unchanged { OnFalse result (updates.new ≡ updates.old) }
     ensures some { OnTrue result (0 < length updates.old.items) }
 {
     let count = updates.len();

@@ -10,13 +10,15 @@
 //! - the list knows how many messages it has.
 //!
 //! `run` is what waits at one key, `waits` how it lies in memory, `edits` updates one behind the other, and `lent` a change that
-//! is lent. `lay` has the edits of a run in its place. `points` is what callers see, and `counts` goes through it.
+//! is lent. `lay` has the edits of a run in its place. `points` is what callers see, `one_key` what is done at one key of it,
+//! and `counts` goes through it.
 #![tactic(auto)]
 
 pub(crate) mod counts;
 pub(crate) mod edits;
 pub(crate) mod lay;
 pub mod lent;
+pub(crate) mod one_key;
 pub mod points;
 pub mod run;
 pub mod waits;

@@ -2,20 +2,20 @@
 ghost use Rattle.std.specs.Prelude.{◌≡◌, ◌+◌, ◌≤◌, ◌<◌, ◌^◌, ◌++◌, ◌∷◌, [], not, true, false, length, drop, take, IfOk, IfErr, OnOk, OnErr, IfSome, IfNone};
 ghost use Rattle.std.specs.BTreeMap.{insert_entry};
 ghost use Rattle.std.specs.List.{filter, list_any, slice_get};
-ghost use Rattle.std.specs.Option.{option_copied, option_map, unwrap_or};
+ghost use Rattle.std.specs.Option.{option_copied, option_map};
 ghost use Rattle.pathkey.specs.Keys.{is_in};
 ghost use Rattle.pathkey.specs.Order.{by_bytes};
 ghost use Rattle.rows.specs.Places.{Rises, at_key, AreBefore, AreFrom};
 ghost use Rattle.points.specs.Changes.{Put, Del, run_effect};
-ghost use Rattle.points.specs.Points.{left, point_count, point_msgs, first_from, AreRuns, IsFree, IsLeft, IsMoved, Lays, TakesFirst};
+ghost use Rattle.points.specs.Points.{left, point_count, point_msgs, first_from, AreRuns, IsLeft, Lays, TakesFirst};
 
-use crate::counts::{copy_msgs, count_of, len_of, whole_keys};
-use crate::lay::{Lay, Shorten};
+use crate::counts::{copy_msgs, count_of, whole_keys};
+use crate::one_key::{lay_over, move_first, put_run, shorten_first};
 use crate::run::Run;
 use message::ends::is_before_end;
 use message::{Changes, Msg, Update};
 use pathkey::{Key, KeyRange, NoMemory};
-use rows::{Edited, Rows, Stored};
+use rows::Rows;
 use std::alloc::Global;
 use std::marker::Model;
 
@@ -58,7 +58,7 @@ impl<U: Update> Points<U> {
         ensures rises { Rises self.now }
         ensures runs { AreRuns self.now }
     {
-        let _ = self.count;
+        self.rows.rise();
     }
 
     /// How many messages there are.
@@ -97,6 +97,7 @@ impl<U: Update> Points<U> {
     pub fn has_within(&self, lo: &Key, hi: Option<&Key>) -> bool
         ensures { result ≡ list_any (λ e. is_in (record { lo = lo.now; hi = option_copied hi.entry }) e.0) self.now }
     {
+        self.rows.rise();
         match self.first_from(lo) {
             None => false,
             Some(next) => is_before_end(next, hi),
@@ -108,6 +109,7 @@ impl<U: Update> Points<U> {
         ensures yes { result ≡ true → AreFrom lo.now self.now }
         ensures no { result ≡ false → AreFrom lo.now self.now → ⊥ }
     {
+        self.rows.rise();
         match self.rows.walk().peek() {
             None => true,
             Some((first, _)) => lo.cmp(first).is_le(),
@@ -119,6 +121,7 @@ impl<U: Update> Points<U> {
         ensures yes { result ≡ true → AreBefore pivot.now self.now }
         ensures no { result ≡ false → AreBefore pivot.now self.now → ⊥ }
     {
+        self.rows.rise();
         match self.rows.last() {
             None => true,
             Some((last, _)) => last.cmp(pivot).is_lt(),
@@ -193,30 +196,9 @@ impl<U: Update> Points<U> {
         ensures unchanged { OnErr result (self.new ≡ self.old) }
         ensures back { IfErr result (λ p. p ≡ (key, update)) }
     {
-        match self.rows.edit(&key, Lay { alloc, update }) {
-            Edited::Done(Ok((before, after))) => {
-                self.count = self.count + after - before;
-                Ok(())
-            }
-            Edited::Done(Err(update)) => Err((key, update)),
-            Edited::Refused(lay) => Err((key, lay.update)),
-            Edited::Absent(lay) => self.begin(key, lay.update),
-        }
-    }
-
-    /// An update comes to a key at which nothing waits.
-    fn begin(&mut self, key: Key, update: U) -> Result<(), (Key, U)>
-        requires room { point_count self.old < 2 ^ 62 }
-        requires absent { at_key key self.old ≡ None }
-        ensures lays { OnOk result (Lays U.means key (U.means update) self.old self.new) }
-        ensures bound { OnOk result (point_count self.new ≤ point_count self.old + 1) }
-        ensures unchanged { OnErr result (self.new ≡ self.old) }
-        ensures back { IfErr result (λ p. p ≡ (key, update)) }
-    {
-        match self.overwrite(key, Run::of_edit(update)) {
-            Ok(()) => Ok(()),
-            Err((key, run)) => Err((key, run.into_update())),
-        }
+        let (before, after) = lay_over(&mut self.rows, alloc, key, update)?;
+        self.count = self.count - before + after;
+        Ok(())
     }
 
     /// One change comes in the place of what waits at the key.
@@ -228,13 +210,9 @@ impl<U: Update> Points<U> {
         ensures unchanged { OnErr result (self.new ≡ self.old) }
         ensures back { IfErr result (λ p. p ≡ (key, run)) }
     {
-        match self.rows.put(key, run) {
-            Ok(was) => {
-                self.count = self.count + 1 - len_of(&was);
-                Ok(())
-            }
-            Err(refused) => Err(refused),
-        }
+        let gone = put_run(&mut self.rows, key, run)?;
+        self.count = self.count + 1 - gone;
+        Ok(())
     }
 
     /// Moves what waits at the first key of another list, at most `most` messages and newer than all that are here, to its place,
@@ -250,22 +228,10 @@ impl<U: Update> Points<U> {
         ensures moved { IfSome result (λ n. TakesFirst U.means n most from.old self.old from.new self.new) }
         ensures none { IfNone result ((self.new ≡ self.old) × (from.new ≡ from.old)) }
     {
-        let (key, run) = from.first()?;
-        let came = run.len();
-        if came > most || !self.is_free(key, run) {
-            return None;
-        }
-        let was = move_first(&mut self.rows, alloc, &mut from.rows)?;
-        self.count = self.count + came - len_of(&was);
+        let (came, gone) = move_first(&mut self.rows, alloc, &mut from.rows, most)?;
+        self.count = self.count + came - gone;
         from.count -= came;
         Some(came)
-    }
-
-    /// Whether a run can come in the place of what waits at its key: nothing does, or it does not ask for it.
-    fn is_free(&self, key: &Key, run: &Run<U>) -> bool
-        ensures { result ≡ true → IsFree U.means run.now (at_key key.now self.now) }
-    {
-        run.is_whole() || self.rows.get(key).is_none()
     }
 
     // ---- what goes
@@ -303,20 +269,9 @@ impl<U: Update> Points<U> {
         ensures ok { OnOk result (self.new ≡ left gone self.old) }
         ensures err { OnErr result (self.new ≡ self.old) }
     {
-        if gone == 0 {
-            return Ok(());
-        }
-        let Some((first, _)) = self.rows.walk().peek() else {
-            return Ok(());
-        };
-        let key = first.copy(alloc)?;
-        match self.rows.edit(&key, Shorten { gone }) {
-            Edited::Done(()) => {
-                self.count -= gone;
-                Ok(())
-            }
-            _ => Err(NoMemory),
-        }
+        shorten_first(&mut self.rows, alloc, gone)?;
+        self.count -= gone;
+        Ok(())
     }
 
     /// Moves what waits at the pivot and behind it out. On want of memory all is as it was.
@@ -340,42 +295,12 @@ impl<U: Update> Points<U> {
     {
         let mut rows = self.rows;
         let mut later = newer.rows;
+        rows.rise();
+        later.rise();
         rows.append(&mut later)?;
         Ok(Points {
             rows,
             count: self.count + newer.count,
         })
     }
-}
-
-/// Moves what waits at the first key of other rows to its place in these, and answers what stood there. On want of memory all is as
-/// it was.
-fn move_first<U: Update>(
-    rows: &mut Rows<Run<U>>,
-    alloc: Global,
-    from: &mut Rows<Run<U>>,
-) -> Option<Option<Run<U>>>
-    ensures moved { IfSome result (λ was. IsMoved was from.old rows.old from.new rows.new) }
-    ensures none { IfNone result ((rows.new ≡ rows.old) × (from.new ≡ from.old)) }
-{
-    let (key, run) = first_copy(from, alloc)?;
-    let Ok(was) = rows.put(key, run) else {
-        return None;
-    };
-    from.drop_front(1);
-    Some(was)
-}
-
-/// A copy of the first key with what waits there; none where memory is refused too.
-fn first_copy<U: Update>(rows: &Rows<Run<U>>, alloc: Global) -> Option<(Key, Run<U>)>
-    ensures { IfSome result (λ p. slice_get rows.now 0 ≡ Some p) }
-{
-    let (key, run) = rows.walk().peek()?;
-    let Ok(key) = key.copy(alloc) else {
-        return None;
-    };
-    let Ok(run) = run.copy(alloc) else {
-        return None;
-    };
-    Some((key, run))
 }

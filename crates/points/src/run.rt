@@ -1,10 +1,10 @@
 //! What waits at one key.
 ghost use Rattle.std.specs.Prelude.{true, false, ◌≡◌, ◌+◌, ◌-◌, ◌<◌, ◌≤◌, [], ◌∷◌, ◌++◌, Option, None, Some, if◌then◌else◌, length, take, drop, OnOk, OnErr, IfOk, IfErr};
 ghost use Rattle.std.specs.List.{slice_get};
-ghost use Rattle.points.specs.Changes.{Put, Del, is_whole, run_effect, run_msgs};
+ghost use Rattle.points.specs.Changes.{Put, Del, Edit, is_whole, run_effect, run_msgs};
 ghost use Rattle.points.specs.Runs.{lent_change, IsLaid, IsToldOf};
 
-use crate::edits;
+use crate::edits::{self, later, only};
 use crate::lent::Lent;
 use crate::waits::Waits;
 use message::{Changes, Msg, Told, Update};
@@ -76,9 +76,10 @@ impl<U: Update> Run<U> {
         }
     }
 
-    /// Whether the oldest does not ask what was there.
+    /// Whether it is one change that does not ask what was there.
     pub fn is_whole(&self) -> bool
-        ensures { result ≡ is_whole self.now }
+        ensures whole { result ≡ is_whole self.now }
+        ensures alone { result ≡ true → length self.now ≡ 1 }
     {
         match &self.waits {
             Waits::Put(_) | Waits::Del => true,
@@ -113,7 +114,7 @@ impl<U: Update> Run<U> {
             Waits::Put(value) => Ok(Some(U::copy_value(alloc, value)?)),
             Waits::Del => Ok(None),
             Waits::Edit(update) => update.apply(alloc, old.as_ref()),
-            Waits::Edits(updates) => edits::apply_all(alloc, &updates[gone..], old),
+            Waits::Edits(updates) => edits::apply_all(alloc, later(updates, gone), old),
         }
     }
 
@@ -128,11 +129,17 @@ impl<U: Update> Run<U> {
         requires { gone < length self.now }
         ensures { IfOk result (IsToldOf (λ o. run_effect U.means (drop gone self.now) (if is_covered then None else o))) }
     {
-        if !is_covered && !self.is_whole() {
-            return Ok(Told::Change);
+        match &self.waits {
+            Waits::Put(value) => Ok(Told::Value(Some(U::copy_value(alloc, value)?))),
+            Waits::Del => Ok(Told::Value(None)),
+            Waits::Edit(_) | Waits::Edits(_) => {
+                if !is_covered {
+                    return Ok(Told::Change);
+                }
+                let value = self.apply(alloc, gone, None)?;
+                Ok(Told::Value(value))
+            }
         }
-        let value = self.apply(alloc, gone, None)?;
-        Ok(Told::Value(value))
     }
 
     /// Copies of the changes but the `gone` oldest, as messages at the key, put behind those in `front`, until it has so many.
@@ -155,7 +162,7 @@ impl<U: Update> Run<U> {
             Waits::Del => front.push(Msg::Del(key.copy(alloc)?))?,
             Waits::Edit(update) => front.push(edits::msg_of(alloc, key, update)?)?,
             Waits::Edits(updates) => {
-                return edits::copy_msgs(alloc, key, &updates[gone..], count, front);
+                return edits::copy_msgs(alloc, key, later(updates, gone), count, front);
             }
         }
         Ok(())
@@ -179,10 +186,7 @@ impl<U: Update> Run<U> {
     pub(crate) fn drop_oldest(&mut self, gone: usize)
         ensures dropped { gone < length self.old → self.new ≡ drop gone self.old }
     {
-        if let Waits::Edits(updates) = &mut self.waits {
-            let gone = gone.min(updates.len() - 1);
-            updates.drain(..gone);
-        }
+        self.waits.drop_oldest(gone);
     }
 
     /// The value of a put.
@@ -203,6 +207,7 @@ impl<U: Update> Run<U> {
     {
         match self.waits {
             Waits::Edit(update) => update,
+            Waits::Edits(updates) => only(updates),
             _ => unreachable!(),
         }
     }

@@ -1,5 +1,5 @@
 //! How what waits at one key lies in memory.
-ghost use Rattle.std.specs.Prelude.{◌≡◌, ◌∷◌, [], ◌+◌, ◌<◌, ◌≤◌, Option, None, length, OnOk, OnErr, IfOk, IfErr};
+ghost use Rattle.std.specs.Prelude.{◌≡◌, ◌∷◌, [], ◌+◌, ◌<◌, ◌≤◌, Option, None, Some, drop, length, OnOk, OnErr, IfOk, IfErr};
 ghost use Rattle.points.specs.Changes.{Put, Del, Edit, run_effect};
 ghost use Rattle.points.specs.Runs.{changes_in, edits_effect};
 
@@ -112,6 +112,19 @@ impl<U: Update> Waits<U> {
         let mut updates = updates;
         let answer = edits::push(&mut updates, alloc, later);
         (Waits::Edits(updates), answer)
+    }
+
+    /// Takes the `gone` oldest changes away, or all but the newest where they are no more.
+    pub(crate) fn drop_oldest(&mut self, gone: usize)
+        requires { 0 < length (changes_in self.old) }
+        ensures dropped { gone < length (changes_in self.old) → changes_in self.new ≡ drop gone (changes_in self.old) }
+        ensures some { 0 < length (changes_in self.new) }
+    {
+        let Waits::Edits(updates) = self else {
+            return;
+        };
+        let count = gone.min(updates.len() - 1);
+        edits::drop_first(updates, count);
     }
 
     /// An equal one.

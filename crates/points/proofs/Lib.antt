@@ -1,0 +1,5 @@
+pub mod Counting
+pub mod Laying
+pub mod Nearby
+pub mod Parting
+pub mod Updates

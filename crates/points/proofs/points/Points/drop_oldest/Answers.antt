@@ -1,0 +1,23 @@
+use Rattle.std.proofs.Common.{◌∙◌, ap, sym, drop, arith, subst, length, take, ◌≤◌, ◌+◌, ◌≡◌}
+use Rattle.points.specs.Points.{point_msgs, IsLeft}
+use Rattle.points.proofs.Parting.{counted_drop, msgs_dropped, runs_drop}
+use Rattle.points.proofs.points.Points.drop_oldest.Goals as goal
+
+pub invariant_of-self : goal.invariant_of-self
+invariant_of-self g c =
+    let es = c.self.inside.rows in
+    let n = c.whole_keys-keys.result.0 in
+    let counted = counted_drop es c.drop_front.new.self n c.drop_front.ensures in
+    record {
+      runs = runs_drop n es c.drop_front.new.self c.drop_front.ensures c.self.invariant.runs;
+      counted = omega (arith, counted, c.whole_keys-keys.ensures.counted, c.self.invariant.counted);
+      small = omega (arith, c.self.invariant.small);
+    }
+
+pub returns-clause-same : goal.returns-clause-same
+returns-clause-same g c =
+    let es = c.self.inside.rows in
+    let n = c.whole_keys-keys.result.0 in
+    let left = c.whole_keys-keys.result.1 in
+    msgs_dropped n left c.args.count es c.drop_front.new.self c.whole_keys-keys.ensures.keys c.drop_front.ensures (subst (λ t. IsLeft left t) (sym c.drop_front.ensures) c.whole_keys-keys.ensures.left) c.whole_keys-keys.ensures.counted
+    ∙ ap (λ t. drop c.args.count (point_msgs t)) c.self.view_is

@@ -1,0 +1,158 @@
+//! What is done at one key of rows, and how many messages went and came there.
+ghost use Rattle.std.specs.Prelude.{◌≡◌, ◌+◌, ◌<◌, ◌≤◌, true, None, length, IfOk, IfErr, OnOk, OnErr, IfSome, IfNone};
+ghost use Rattle.std.specs.BTreeMap.{insert_entry};
+ghost use Rattle.std.specs.Option.{option_map, unwrap_or};
+ghost use Rattle.pathkey.specs.Order.{by_bytes};
+ghost use Rattle.rows.specs.Places.{at_key};
+ghost use Rattle.points.specs.Points.{left, point_count, AreRuns, IsFree, IsLeft, IsMoved, Lays};
+
+use crate::lay::{Lay, Shorten};
+use crate::run::Run;
+use message::Update;
+use pathkey::{Key, NoMemory};
+use rows::{Edited, Rows, Stored};
+use std::alloc::Global;
+
+/// Puts a run in the place of what waits at the key, and answers how many messages that was. On want of memory it comes back, and
+/// all is as it was.
+pub(crate) fn put_run<U: Update>(
+    rows: &mut Rows<Run<U>>,
+    key: Key,
+    run: Run<U>,
+) -> Result<usize, (Key, Run<U>)>
+    ensures entries { OnOk result (rows.new ≡ insert_entry by_bytes rows.old key run) }
+    ensures counted { IfOk result (λ gone. point_count rows.new + gone ≡ point_count rows.old + length run) }
+    ensures found { IfOk result (λ gone. gone ≡ unwrap_or (option_map length (at_key key rows.old)) 0) }
+    ensures unchanged { OnErr result (rows.new ≡ rows.old) }
+    ensures back { IfErr result (λ p. p ≡ (key, run)) }
+{
+    rows.rise();
+    match rows.put(key, run) {
+        Ok(was) => Ok(len_of(&was)),
+        Err(refused) => Err(refused),
+    }
+}
+
+/// How many changes wait, where any do.
+fn len_of<U: Update>(run: &Option<Run<U>>) -> usize
+    ensures { result ≡ unwrap_or (option_map length run.now) 0 }
+{
+    match run {
+        None => 0,
+        Some(run) => run.len(),
+    }
+}
+
+/// Lays an update over what waits at the key, and answers how many messages that was and is. On want of memory it comes back, and
+/// all is as it was.
+pub(crate) fn lay_over<U: Update>(
+    rows: &mut Rows<Run<U>>,
+    alloc: Global,
+    key: Key,
+    update: U,
+) -> Result<(usize, usize), (Key, U)>
+    ensures lays { OnOk result (Lays U.means key (U.means update) rows.old rows.new) }
+    ensures counted { IfOk result (λ n. point_count rows.new + n.0 ≡ point_count rows.old + n.1) }
+    ensures bound { IfOk result (λ n. n.1 ≤ n.0 + 1) }
+    ensures within { IfOk result (λ n. n.0 ≤ point_count rows.old) }
+    ensures runs { AreRuns rows.old → AreRuns rows.new }
+    ensures unchanged { OnErr result (rows.new ≡ rows.old) }
+    ensures back { IfErr result (λ p. p ≡ (key, update)) }
+{
+    rows.rise();
+    match rows.edit(&key, Lay { alloc, update }) {
+        Edited::Done(Ok(counts)) => Ok(counts),
+        Edited::Done(Err(update)) => Err((key, update)),
+        Edited::Refused(lay) => Err((key, lay.update)),
+        Edited::Absent(lay) => begin(rows, key, lay.update),
+    }
+}
+
+/// The same where nothing waits at the key.
+fn begin<U: Update>(
+    rows: &mut Rows<Run<U>>,
+    key: Key,
+    update: U,
+) -> Result<(usize, usize), (Key, U)>
+    requires { at_key key rows.old ≡ None }
+    ensures lays { OnOk result (Lays U.means key (U.means update) rows.old rows.new) }
+    ensures counted { IfOk result (λ n. point_count rows.new + n.0 ≡ point_count rows.old + n.1) }
+    ensures bound { IfOk result (λ n. n.1 ≤ n.0 + 1) }
+    ensures within { IfOk result (λ n. n.0 ≤ point_count rows.old) }
+    ensures runs { AreRuns rows.old → AreRuns rows.new }
+    ensures unchanged { OnErr result (rows.new ≡ rows.old) }
+    ensures back { IfErr result (λ p. p ≡ (key, update)) }
+{
+    match put_run(rows, key, Run::of_edit(update)) {
+        Ok(gone) => Ok((gone, 1)),
+        Err((key, run)) => Err((key, run.into_update())),
+    }
+}
+
+/// Moves what waits at the first key of other rows, at most `most` messages, to its place in these, and answers how many came and
+/// how many went there. None come where there are none, where they are more, where memory is refused, or where they ask for what
+/// waits there.
+pub(crate) fn move_first<U: Update>(
+    rows: &mut Rows<Run<U>>,
+    alloc: Global,
+    from: &mut Rows<Run<U>>,
+    most: usize,
+) -> Option<(usize, usize)>
+    ensures moved { IfSome result (λ n. IsMoved U.means n.0 n.1 most from.old rows.old from.new rows.new) }
+    ensures none { IfNone result ((rows.new ≡ rows.old) × (from.new ≡ from.old)) }
+{
+    let (key, run) = from.walk().peek()?;
+    let came = run.len();
+    if came > most || !is_free(rows, key, run) {
+        return None;
+    }
+    let (key, run) = copy_of(alloc, key, run)?;
+    let Ok(gone) = put_run(rows, key, run) else {
+        return None;
+    };
+    from.drop_front(1);
+    Some((came, gone))
+}
+
+/// Whether a run can come in the place of what waits at its key: nothing does, or it does not ask for it.
+fn is_free<U: Update>(rows: &Rows<Run<U>>, key: &Key, run: &Run<U>) -> bool
+    ensures { result ≡ true → IsFree U.means run.now (at_key key.now rows.now) }
+{
+    run.is_whole() || rows.get(key).is_none()
+}
+
+/// An equal key with an equal run; none where memory is refused.
+fn copy_of<U: Update>(alloc: Global, key: &Key, run: &Run<U>) -> Option<(Key, Run<U>)>
+    ensures { IfSome result (λ p. p ≡ (key.now, run.now)) }
+{
+    let Ok(key) = key.copy(alloc) else {
+        return None;
+    };
+    let Ok(run) = run.copy(alloc) else {
+        return None;
+    };
+    Some((key, run))
+}
+
+/// Takes the `gone` oldest changes at the first key away. On want of memory all is as it was.
+pub(crate) fn shorten_first<U: Update>(
+    rows: &mut Rows<Run<U>>,
+    alloc: Global,
+    gone: usize,
+) -> Result<(), NoMemory>
+    requires { IsLeft gone rows.old }
+    ensures ok { OnOk result (rows.new ≡ left gone rows.old) }
+    ensures err { OnErr result (rows.new ≡ rows.old) }
+{
+    if gone == 0 {
+        return Ok(());
+    }
+    let Some((first, _)) = rows.walk().peek() else {
+        return Ok(());
+    };
+    let key = first.copy(alloc)?;
+    match rows.edit(&key, Shorten { gone }) {
+        Edited::Done(()) => Ok(()),
+        _ => Err(NoMemory),
+    }
+}
