@@ -1,7 +1,7 @@
 -- What comes to a sorted list.
 use Rattle.std.proofs.Common.{◌≡◌, ℕ, ◌+◌, ◌<◌, ◌≤◌, ◌^◌, List, [], ◌∷◌, ◌++◌, length, drop, take, refl, sym, ap, ◌∙◌, subst, Option, Some, None, Bool, true, false, cond, not, ◌||◌, arith, length-append}
 use Rattle.std.proofs.Math.Seq.{take-append_seam, drop-append_seam}
-use Rattle.std.specs.List.{All, filter, list_any}
+use Rattle.std.specs.List.{All, filter, slice_get}
 use Rattle.std.specs.Prelude.{Result, Ok, Err, OnOk, OnErr}
 use Rattle.std.proofs.lemmas.Result.{on_ok_weaker}
 use Rattle.std.specs.Map.{keys_of}
@@ -29,6 +29,11 @@ use Rattle.ranges.specs.Apart.{Span, covered, range_msgs, CoversMore, TakesFirst
 use Rattle.pending.specs.Sorted.{sorted_msgs}
 use Rattle.pending.proofs.Runs.{run_alike, run_first, length-run, effects-run_here, effects-run_apart, apart_from_untouched, none_from_untouched, untouched_from_none, length-points}
 use Rattle.pending.proofs.Meaning.{effects-points, effects-ranges, effects-sorted, length-ranges, length-sorted, touches-ranges}
+
+module _ {U V : Type 0} where
+  -- the points that a range leaves
+  abbrev pub left_by : KeyRange → List (List ℕ × List (Change U V)) → List (List ℕ × List (Change U V))
+  left_by r es = filter (λ e. not (is_in r e.0)) es
 
 module _ {U V : Type 0} (means : U → Option V → Option V) where
   -- ---- a message for one key
@@ -69,10 +74,6 @@ module _ {U V : Type 0} (means : U → Option V → Option V) where
   laid_few (Err x) m old new t f = omega (arith, f.bound, length-append new (m ∷ []))
 
   -- ---- a range-delete
-
-  -- the points that a range leaves
-  abbrev pub left_by : KeyRange → List (List ℕ × List (Change U V)) → List (List ℕ × List (Change U V))
-  left_by r es = filter (λ e. not (is_in r e.0)) es
 
   at_key-left : (r : KeyRange) (q : List ℕ) (es : List (List ℕ × List (Change U V))) → at_key q (left_by r es) ≡ cond (not (is_in r q)) (at_key q es) None
   at_key-left r q es = lookup-filter-keys (is_at (by_bytes q)) (λ k. not (is_in r k)) (not (is_in r q)) (λ k h. ap not (sym (within-same r.lo q k r.hi h))) es
@@ -205,3 +206,10 @@ module _ {U V : Type 0} (means : U → Option V → Option V) where
       where
         alone : (m : Msg U V) (o : Option (List ℕ)) → point m ≡ o → All (λ x. point x ≡ o) (m ∷ [])
         alone m o e = All-cons (λ (x : Msg U V). point x ≡ o) m [] e (All-nil (λ (x : Msg U V). point x ≡ o))
+
+-- the range that leaves is the first one
+pub first_is : (gs hs : List Span) (e : Span) (lo : List ℕ) (hi end : Option (List ℕ)) → gs ≡ e ∷ hs → Some (lo, hi) ≡ slice_get gs 0 → end ≡ hi → let range : KeyRange = record { lo = lo; hi = end } in range ≡ record { lo = e.0; hi = e.1 }
+first_is gs hs e lo hi end parts first is =
+    let one : Some (lo, hi) ≡ Some e = first ∙ ap (λ t. slice_get t 0) parts in
+    let two : (lo, hi) ≡ e = cc in
+    ap (λ h. record { lo = lo; hi = h }) is ∙ ap (λ (x : Span). record { lo = x.0; hi = x.1 }) two

@@ -1,11 +1,10 @@
 -- A sorted list that is cut at a pivot, and lists with a pivot between them.
 use Rattle.std.proofs.Common.{◌≡◌, ℕ, zero, suc, ◌+◌, ◌^◌, ◌<◌, ◌≤◌, List, [], ◌∷◌, ◌++◌, length, get_or, refl, sym, ap, ◌∙◌, subst, Option, Some, None, Bool, true, false, cond, arith, append_assoc, append-nil, length-append}
 use Rattle.std.specs.Prelude.{◌&&◌}
-use Rattle.std.specs.List.{All, AllByRecursion, sum_by}
+use Rattle.std.specs.List.{All, AllByRecursion}
 use Rattle.std.specs.Map.{keys_of}
 use Rattle.std.proofs.lemmas.List.{map-append}
-use Rattle.std.proofs.lemmas.List.Elements.{All-head, All-tail}
-use Rattle.std.proofs.lemmas.List.Sums.{sum_by-append}
+use Rattle.std.proofs.lemmas.List.Elements.{All-append, All-head, All-tail}
 use Rattle.rows.specs.Places.{Rises, AreBefore, AreFrom}
 use Rattle.message.specs.declared.msg.Msg.{Msg}
 use Rattle.message.specs.Cuts.{cut_to, pieces, LieIn, LieOut, IsJoined, IsParted}
@@ -63,8 +62,7 @@ module _ {U V : Type 0} where
   msgs_append [] fs = refl
   msgs_append (e ∷ es) fs = ap (λ t. run_msgs e.0 e.1 ++ t) (msgs_append es fs) ∙ sym (append_assoc (run_msgs e.0 e.1) (point_msgs es) (point_msgs fs))
 
-  pub counted_both : (es fs all : List (List ℕ × List (Change U V))) → all ≡ es ++ fs → point_count all ≡ point_count es + point_count fs
-  counted_both es fs all e = ap (λ (t : List (List ℕ × List (Change U V))). point_count t) e ∙ sum_by-append (λ (x : List ℕ × List (Change U V)). length x.1) es fs
+
 
   -- entries from lo on, cut at the pivot, are parted there
   pub entries_parted : (lo p : List ℕ) (all es fs : List (List ℕ × List (Change U V))) → all ≡ es ++ fs → AreFrom lo all → AreBefore p es → AreFrom p fs → IsParted lo p (point_msgs all) (point_msgs es) (point_msgs fs)
@@ -90,6 +88,9 @@ module _ {U V : Type 0} where
 
     pub points_back : point_msgs fs ≡ pieces p None (point_msgs all)
     points_back = back_part [] p (point_msgs all) (point_msgs es) (point_msgs fs) parted
+
+  pub runs_both : (es fs all : List (List ℕ × List (Change U V))) → all ≡ es ++ fs → AreRuns es → AreRuns fs → AreRuns all
+  runs_both es fs all e r s = subst (λ (t : List (List ℕ × List (Change U V))). AreRuns t) (sym e) (All-append (λ (x : List ℕ × List (Change U V)). 0 < length x.1) es fs r s)
 
   -- ---- where the keys of point messages stand
 

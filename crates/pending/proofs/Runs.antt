@@ -1,17 +1,19 @@
 -- The messages of what waits at keys.
-use Rattle.std.proofs.Common.{◌≡◌, ℕ, zero, suc, ◌+◌, ◌-◌, ◌<◌, ◌≤◌, List, [], ◌∷◌, ◌++◌, length, drop, map, refl, sym, ap, ◌∙◌, subst, Option, Some, None, Bool, true, false, cond, ◌||◌, arith, append_assoc, length-append, length-drop}
-use Rattle.std.specs.List.{All, sum_by, slice_get}
+use Rattle.std.proofs.Common.{◌≡◌, ℕ, ◌<◌, List, [], ◌∷◌, ◌++◌, length, drop, refl, sym, ap, ◌∙◌, subst, Option, Some, None, Bool, true, false, cond, ◌||◌, arith, length-append}
+use Rattle.std.specs.List.{All, list_any, slice_get}
 use Rattle.std.specs.Option.{option_map}
 use Rattle.std.specs.Prelude.{IfSome}
 use Rattle.std.specs.Ordering.{is_eq}
 use Rattle.std.specs.Map.{keys_of}
 use Rattle.std.specs.BTreeMap.{is_at}
 use Rattle.std.proofs.lemmas.Bool.{or_parts}
-use Rattle.std.proofs.lemmas.List.{length-map, drop-map, drop-append-le}
+use Rattle.std.proofs.lemmas.List.{length-map}
 use Rattle.std.proofs.lemmas.List.Elements.{All-nil, All-cons, All-head, All-tail}
 use Rattle.std.proofs.lemmas.List.Sums.{sum_by-cons}
 use Rattle.std.proofs.lemmas.Map.Entries.{lookup_head, lookup_tail}
+use Rattle.pathkey.specs.Keys.{is_in}
 use Rattle.pathkey.specs.Order.{by_bytes, same, by_bytes_equiv}
+use Rattle.pathkey.specs.declared.range.KeyRange.{KeyRange}
 use Rattle.rows.specs.Places.{Rises, at_key, AreBefore, AreFrom}
 use Rattle.message.specs.declared.msg.Msg.{Msg}
 use Rattle.message.specs.Effects.{touches, any_touches, effect, effects, point, range_count}
@@ -21,6 +23,7 @@ use Rattle.message.proofs.Composing.{untouched_first, untouched_second}
 use Rattle.message.proofs.NextKey.{by_bool}
 use Rattle.points.specs.Changes.{Change, Put, Del, Edit, msg_at, run_msgs, changed, run_effect}
 use Rattle.points.specs.Points.{point_msgs, point_count, left, AreRuns, IsLeft}
+use Rattle.points.proofs.Counting.{none_gone}
 
 module _ {U V : Type 0} where
   -- ---- one change
@@ -93,9 +96,7 @@ module _ {U V : Type 0} where
 
   -- ---- without the oldest of the first key
 
-  pub left_none : (es : List (List ℕ × List (Change U V))) → left 0 es ≡ es
-  left_none [] = refl
-  left_none (e ∷ es) = refl
+
 
   -- where none are gone, some are left
   pub none_left : (n : ℕ) (es : List (List ℕ × List (Change U V))) → n ≡ 0 → AreRuns es → IsLeft n es
@@ -103,29 +104,26 @@ module _ {U V : Type 0} where
   none_left n (e ∷ es) z r = omega (arith, z, All-head (λ (x : List ℕ × List (Change U V)). 0 < length x.1) e es r)
 
   pub left_whole : (n : ℕ) (es : List (List ℕ × List (Change U V))) → n ≡ 0 → left n es ≡ es
-  left_whole n es z = ap (λ i. left i es) z ∙ left_none es
+  left_whole n es z = ap (λ i. left i es) z ∙ none_gone es
 
   pub left_rises : (n : ℕ) (es : List (List ℕ × List (Change U V))) → Rises es → Rises (left n es)
   left_rises n [] r = r
   left_rises n (e ∷ es) r = r
 
-  pub left_runs : (n : ℕ) (es : List (List ℕ × List (Change U V))) → IsLeft n es → AreRuns es → AreRuns (left n es)
-  left_runs n [] l r = r
-  left_runs n (e ∷ es) l r = All-cons (λ (x : List ℕ × List (Change U V)). 0 < length x.1) (e.0, drop n e.1) es (omega (arith, l, length-drop n e.1)) (All-tail (λ (x : List ℕ × List (Change U V)). 0 < length x.1) e es r)
 
-  pub left_count : (n : ℕ) (es : List (List ℕ × List (Change U V))) → IsLeft n es → point_count (left n es) + n ≡ point_count es
-  left_count n [] l = omega (arith, l)
-  left_count n (e ∷ es) l = omega (arith, l, length-drop n e.1, sum_by-cons (λ (x : List ℕ × List (Change U V)). length x.1) e es, sum_by-cons (λ (x : List ℕ × List (Change U V)). length x.1) (e.0, drop n e.1) es)
 
-  pub left_msgs : (n : ℕ) (es : List (List ℕ × List (Change U V))) → IsLeft n es → point_msgs (left n es) ≡ drop n (point_msgs es)
-  left_msgs zero [] l = refl
-  left_msgs (suc n) [] l = refl
-  left_msgs n (e ∷ es) l =
-      sym (drop-append-le n (run_msgs e.0 e.1) (point_msgs es) (omega (arith, l, length-run e.0 e.1)) ∙ ap (λ t. t ++ point_msgs es) (drop-map (msg_at e.0) n e.1))
+
+
+
 
   pub left_keys : (n : ℕ) (es : List (List ℕ × List (Change U V))) → keys_of (left n es) ≡ keys_of es
   left_keys n [] = refl
   left_keys n (e ∷ es) = refl
+
+  -- those in a range
+  pub left_any : (r : KeyRange) (n : ℕ) (es : List (List ℕ × List (Change U V))) → list_any (λ e. is_in r e.0) (left n es) ≡ list_any (λ e. is_in r e.0) es
+  left_any r n [] = refl
+  left_any r n (e ∷ es) = refl
 
   pub left_keys_from : (lo : List ℕ) (n : ℕ) (es : List (List ℕ × List (Change U V))) → AreFrom lo es → AreFrom lo (left n es)
   left_keys_from lo n [] f = f
@@ -180,11 +178,11 @@ module _ {U V : Type 0} where
 
   -- at the first key
   pub gone_first : (n : ℕ) (es : List (List ℕ × List (Change U V))) (k : List ℕ) (cs : List (Change U V)) (q : List ℕ) → slice_get es 0 ≡ Some (k, cs) → same k q ≡ true → at_key q (left n es) ≡ option_map (λ ds. drop n ds) (at_key q es)
-  gone_first n es k cs q h s = left_first n es k cs q h s ∙ ap (option_map (λ ds. drop n ds)) (sym (sym (ap (at_key q) (left_none es)) ∙ left_first 0 es k cs q h s))
+  gone_first n es k cs q h s = left_first n es k cs q h s ∙ ap (option_map (λ ds. drop n ds)) (sym (sym (ap (at_key q) (none_gone es)) ∙ left_first 0 es k cs q h s))
 
   pub some_first : (n : ℕ) (es : List (List ℕ × List (Change U V))) (k : List ℕ) (cs : List (Change U V)) (q : List ℕ) → slice_get es 0 ≡ Some (k, cs) → same k q ≡ true → IsLeft n es → IfSome (at_key q es) (λ ds. n < length ds)
   some_first n es k cs q h s l =
-      let here : Some cs ≡ at_key q es = sym (sym (ap (at_key q) (left_none es)) ∙ left_first 0 es k cs q h s) in
+      let here : Some cs ≡ at_key q es = sym (sym (ap (at_key q) (none_gone es)) ∙ left_first 0 es k cs q h s) in
       subst (λ t. IfSome t (λ ds. n < length ds)) here (left_bound n es k cs h l)
 
   pub left_empty : (n : ℕ) (es : List (List ℕ × List (Change U V))) → None ≡ slice_get es 0 → left n es ≡ es

@@ -12,5 +12,5 @@ module _ {U V : Type 0} where
 
   -- what holds of the parts of a sorted list, where so many of the first key's messages are gone
   pub record IsSorted (rs : List Span) (es : List (List ℕ × List (Change U V))) (gone : ℕ) : Type 0 where
-    pub left : IsLeft gone es
+    pub some : IsLeft gone es
     pub small : length rs + point_count (left gone es) ≤ 2 ^ 62

@@ -149,10 +149,10 @@ impl<U: Update> Sorted<U> {
         let Ok(()) = make_whole(&mut from.points, alloc, &mut from.gone) else {
             return None;
         };
-        let came = self.points.take_first(alloc, &mut from.points, most);
+        let came = self.points.take_first(alloc, &mut from.points, most)?;
         self.points.stand();
         from.points.stand();
-        came
+        Some(came)
     }
 
     /// Moves the first range-delete of another list here, newer than all that are here, as it lies in memory. It says whether it
@@ -185,7 +185,8 @@ impl<U: Update> Sorted<U> {
         requires { count ≤ length self.old }
         ensures { self.new ≡ drop count self.old }
     {
-        self.points.stand();
+        // What `len` promises says that the sum below is a number.
+        let _ = self.points.len();
         let first = count.min(self.ranges.len());
         self.ranges.drop_front(first);
         self.gone = self.points.drop_oldest(self.gone + (count - first));
@@ -297,9 +298,11 @@ impl<U: Update> Sorted<U> {
         }
         let points = whole(self.points, alloc, self.gone)?;
         let later = whole(newer.points, alloc, newer.gone)?;
+        let ranges = self.ranges.joined::<U>(alloc, newer.ranges, pivot)?;
+        let all = points.joined(later)?;
         Ok(Sorted {
-            ranges: self.ranges.joined::<U>(alloc, newer.ranges, pivot)?,
-            points: points.joined(later)?,
+            ranges,
+            points: all,
             gone: 0,
         })
     }

@@ -26,6 +26,6 @@ invariant_of-self-2 g c =
     let same : es ≡ left c.self.inside.gone c.self.inside.points = sym (left_whole c.make_whole.new.gone es c.in-Ok.ensures.whole) ∙ c.make_whole.ensures.same in
     let few = laid_few g.U.Update.means c.lay-answer.result c.args.msg (sorted_msgs rs es) (sorted_msgs c.lay-answer.new.ranges c.lay-answer.new.points) c.lay-answer.ensures.takes c.lay-answer.ensures.refused in
     record {
-      left = none_left c.make_whole.new.gone c.lay-answer.new.points c.in-Ok.ensures.whole c.stand.ensures.runs;
-      small = omega (arith, few, length-sorted rs es, length-sorted c.lay-answer.new.ranges c.lay-answer.new.points, length-sorted rs (left c.self.inside.gone c.self.inside.points), ap length c.self.view_is, ap (λ t. point_count t) same, c.len.ensures.len, c.if-len-ge-MOST.false);
+      some = none_left c.make_whole.new.gone c.lay-answer.new.points c.in-Ok.ensures.whole c.stand.ensures.runs;
+      small = omega (arith, few, length-sorted rs es, length-sorted c.lay-answer.new.ranges c.lay-answer.new.points, ap (λ t. point_count t) (left_whole c.make_whole.new.gone c.lay-answer.new.points c.in-Ok.ensures.whole), length-sorted rs (left c.self.inside.gone c.self.inside.points), ap length c.self.view_is, ap (λ t. point_count t) same, c.len.ensures.len, c.if-len-ge-MOST.false);
     }
