@@ -21,5 +21,5 @@ returns-in-Err-clause-takes g c =
     let m = c.args.msg in
     let none : f ≡ [] = nil_from_length f (omega (arith, c.len.ensures.len, c.if-len-gt0.false)) in
     let before : s ≡ s ++ f = sym (ap (λ x. s ++ x) none ∙ append-nil s) in
-    let behind : t ++ m ∷ [] ≡ t ++ c.push_reserved-in-Err.new.self.0 = ap (λ x. t ++ x) (sym (c.push_reserved-in-Err.ensures.messages ∙ ap (λ x. x ++ _) none ∙ ap (λ x. x ∷ []) c.in-Err.ensures.back)) in
+    let behind : t ++ m ∷ [] ≡ t ++ c.push_reserved-in-Err.new.self.0 = ap (λ x. t ++ x) (sym (c.push_reserved-in-Err.ensures.messages ∙ ap (λ x. x ++ c.in-Err.msg ∷ []) none ∙ ap (λ x. x ∷ []) c.in-Err.ensures.back)) in
     takes-then means _ [] (s ++ f) _ _ c.fold.ensures.same (subst (λ x. Takes means (s ++ f) (m ∷ []) x) behind (subst (λ x. Takes means x (m ∷ []) (t ++ m ∷ [])) before c.in-Err.ensures.refused))
