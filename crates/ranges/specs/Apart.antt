@@ -1,9 +1,11 @@
 -- Ranges that lie apart, each as its low end with its high end: which keys they hold.
-use Rattle.std.specs.Prelude.{◌≡◌, ℕ, ◌+◌, ◌≤◌, Bool, true, false, ◌||◌, List, [], ◌∷◌, map, length, Option}
+use Rattle.std.specs.Prelude.{◌≡◌, ℕ, ◌+◌, ◌≤◌, Bool, true, false, ◌||◌, List, [], ◌∷◌, map, length, Option, Some, None}
+use Rattle.std.specs.List.{AllByRecursion}
+use Rattle.std.specs.Map.{keys_of}
 use Rattle.pathkey.specs.Keys.{is_below}
 use Rattle.message.specs.declared.msg.Msg.{Msg}
 use Rattle.message.specs.declared.msg.Msg.TheVariants.{DelRange}
-use Rattle.message.specs.Ranges.{within}
+use Rattle.message.specs.Ranges.{before, within}
 
 abbrev pub Span : Type 0
 Span = List ℕ × Option (List ℕ)
@@ -13,15 +15,19 @@ abbrev pub covered : List Span → List ℕ → Bool
 covered [] k = false
 covered (e ∷ rs) k = within e.0 e.1 k || covered rs k
 
--- each range begins at the end or behind it
-abbrev pub BeginFrom : Option (List ℕ) → List Span → Type 0
-BeginFrom h [] = Unit {0}
-BeginFrom h (e ∷ rs) = (is_below e.0 h ≡ false) × BeginFrom h rs
+-- an end stands before the key
+abbrev pub ends_before : Option (List ℕ) → List ℕ → Bool
+ends_before None k = false
+ends_before (Some h) k = before h k
 
--- each range holds a key, and ends before the later ones begin
+-- each range begins behind the end
+abbrev pub BeginBehind : Option (List ℕ) → List Span → Type 0
+BeginBehind h rs = AllByRecursion (λ q. ends_before h q ≡ true) (keys_of rs)
+
+-- each range holds a key, and ends before the later ones begin: no two of them meet
 abbrev pub AreApart : List Span → Type 0
 AreApart [] = Unit {0}
-AreApart (e ∷ rs) = (is_below e.0 e.1 ≡ true) × BeginFrom e.1 rs × AreApart rs
+AreApart (e ∷ rs) = (is_below e.0 e.1 ≡ true) × BeginBehind e.1 rs × AreApart rs
 
 -- such ranges, and how many they are
 pub record AreRanges (rs : List Span) (count : ℕ) : Type 0 where

@@ -9,12 +9,12 @@
 //! - so the last range that begins at a key or before it tells whether one holds the key.
 //!
 //! `list` is what callers see. `near` finds what lies next to a key, and `splice` puts a range in the place of those inside
-//! it. `cut` parts ranges at a key, and `stretch` says up to where they hold all keys or none.
+//! it. `pivot` parts and joins ranges at a key, and `stretch` says up to where they hold all keys or none.
 #![tactic(auto)]
 
-pub(crate) mod cut;
 pub mod list;
 pub(crate) mod near;
+pub(crate) mod pivot;
 pub(crate) mod splice;
 pub(crate) mod stretch;
 

@@ -3,13 +3,13 @@ ghost use Rattle.std.specs.Prelude.{◌≡◌, ◌≢◌, ◌+◌, ◌≤◌, �
 ghost use Rattle.std.specs.Option.{option_map, option_copied};
 ghost use Rattle.std.specs.List.{slice_get};
 ghost use Rattle.pathkey.specs.Keys.{is_below};
-ghost use Rattle.message.specs.Cuts.{pieces, LieIn};
+ghost use Rattle.message.specs.Cuts.{pieces, IsJoined, LieIn};
 ghost use Rattle.message.specs.Stretches.{IsStretch};
 ghost use Rattle.ranges.specs.Apart.{covered, range_msgs, AreApart, CoversMore, TakesFirst};
-ghost use Rattle.ranges.specs.Ends.{spliced, EndBy, EndByEnd};
+ghost use Rattle.ranges.specs.Ends.{spliced, EndBefore, IsFree};
 
-use crate::cut::part;
-use crate::near::{ends_by, high_end, is_covered, is_held, low_end, widened};
+use crate::near::{ends_by, is_covered, is_held, widened};
+use crate::pivot::{join, part};
 use crate::splice::splice;
 use crate::stretch::stretch_end;
 use message::ends::{copy_end, is_before_end};
@@ -52,7 +52,7 @@ impl Ranges {
     pub fn lie_apart(&self)
         ensures { AreApart self.now }
     {
-        let _ = self.count;
+        let _ = &self.rows;
     }
 
     /// How many ranges there are.
@@ -115,6 +115,7 @@ impl Ranges {
         ensures err { OnErr result (self.new ≡ self.old) }
         ensures kept { OnErr result (from.new ≡ from.old) }
     {
+        from.lie_apart();
         if let Some((lo, hi)) = from.first() {
             self.lay_between(alloc, lo, hi.as_ref())?;
             from.drop_front(1);
@@ -122,25 +123,10 @@ impl Ranges {
         Ok(())
     }
 
-    /// Makes one range of the one that ends at the key and the one that begins there. On want of memory all are as they were.
-    pub fn weld(&mut self, alloc: Global, key: &Key) -> Result<(), NoMemory>
-        requires { length self.old < 2 ^ 63 }
-        ensures same { (k : List ℕ) → covered self.new k ≡ covered self.old k }
-        ensures bound { length self.new ≤ length self.old }
-        ensures err { OnErr result (self.new ≡ self.old) }
-    {
-        let low = low_end(&self.rows, key);
-        if low == key || !is_covered(&self.rows, key) {
-            return Ok(());
-        }
-        let lo = low.copy(alloc)?;
-        let hi = copy_end(alloc, high_end(&self.rows, Some(key)))?;
-        self.splice(KeyRange { lo, hi })
-    }
-
     /// Whether each range ends at the pivot or before it.
     pub fn end_by<U: Update>(&self, pivot: &Key) -> bool
-        ensures { result ≡ true → LieIn [] (Some pivot.now) (range_msgs {U = U} {V = U.Value} self.now) }
+        ensures yes { result ≡ true → LieIn [] (Some pivot.now) (range_msgs {U = U} {V = U.Value} self.now) }
+        ensures no { result ≡ false → LieIn [] (Some pivot.now) (range_msgs {U = U} {V = U.Value} self.now) → ⊥ }
     {
         match self.rows.last() {
             None => true,
@@ -150,9 +136,10 @@ impl Ranges {
 
     /// Whether each range begins at the pivot or behind it.
     pub fn begin_from<U: Update>(&self, pivot: &Key) -> bool
-        ensures { result ≡ true → LieIn pivot.now None (range_msgs {U = U} {V = U.Value} self.now) }
+        ensures yes { result ≡ true → LieIn pivot.now None (range_msgs {U = U} {V = U.Value} self.now) }
+        ensures no { result ≡ false → LieIn pivot.now None (range_msgs {U = U} {V = U.Value} self.now) → ⊥ }
     {
-        match self.first() {
+        match self.rows.walk().peek() {
             None => true,
             Some((low, _)) => pivot.cmp(low).is_le(),
         }
@@ -168,19 +155,20 @@ impl Ranges {
         Ok((Ranges::of(front), Ranges::of(back)))
     }
 
-    /// The ranges of both lists, where all of the newer one begin behind the others.
-    pub fn joined(self, newer: Ranges) -> Result<Ranges, NoMemory>
-        requires apart { AreApart (self ++ newer) }
+    /// The ranges of both lists, where these lie before the pivot and the newer ones from it on. Two that meet there become one.
+    pub fn joined<U: Update>(
+        self,
+        alloc: Global,
+        newer: Ranges,
+        pivot: &Key,
+    ) -> Result<Ranges, NoMemory>
+        requires before { LieIn [] (Some pivot.now) (range_msgs {U = U} {V = U.Value} self) }
+        requires from { LieIn pivot.now None (range_msgs {U = U} {V = U.Value} newer) }
         requires few { length self + length newer < 2 ^ 64 }
-        ensures { IfOk result (λ r. r ≡ self ++ newer) }
+        ensures { IfOk result (λ all. IsJoined pivot.now (range_msgs {U = U} {V = U.Value} self) (range_msgs newer) (range_msgs all)) }
     {
-        let mut rows = self.rows;
-        let mut later = newer.rows;
-        rows.append(&mut later)?;
-        Ok(Ranges {
-            rows,
-            count: self.count + newer.count,
-        })
+        let rows = join::<U>(self.rows, alloc, newer.rows, pivot)?;
+        Ok(Ranges::of(rows))
     }
 
     /// Copies of the range-deletes, put behind those in `front`, until it has so many.
@@ -240,13 +228,15 @@ impl Ranges {
         self.splice(wide)
     }
 
-    /// Puts a range in the place of those that begin in it, where no other reaches over its ends. On want of memory all are as
+    /// Puts a range in the place of those that begin in it, where no other reaches over its ends or meets it. On want of memory all are as
     /// they were.
     fn splice(&mut self, range: KeyRange) -> Result<(), NoMemory>
         requires some { is_below range.lo range.hi ≡ true }
-        requires low { EndBy range.lo self.old }
+        requires low { EndBefore range.lo self.old }
+        requires high { IsFree self.old range.hi }
         requires few { length self.old < 2 ^ 63 }
         ensures ok { OnOk result (self.new ≡ spliced range self.old) }
+        ensures bound { OnOk result (length self.new ≤ length self.old + 1) }
         ensures err { OnErr result (self.new ≡ self.old) }
     {
         let gone = splice(&mut self.rows, range)?;

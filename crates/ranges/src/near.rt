@@ -60,10 +60,7 @@ pub(crate) fn low_end<'a>(ranges: &'a Rows<Option<Key>>, key: &'a Key) -> &'a Ke
 }
 
 /// Where the range ends that holds the end; the end where there is none. `None` is no end.
-pub(crate) fn high_end<'a>(
-    ranges: &'a Rows<Option<Key>>,
-    end: Option<&'a Key>,
-) -> Option<&'a Key>
+pub(crate) fn high_end<'a>(ranges: &'a Rows<Option<Key>>, end: Option<&'a Key>) -> Option<&'a Key>
     requires { AreApart ranges.now }
     ensures { IsHighEnd ranges.now (option_copied end.entry) (option_copied result) }
 {

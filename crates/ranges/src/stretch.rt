@@ -21,7 +21,10 @@ pub(crate) fn stretch_end<'a, U: Update>(
     requires some { is_below from.now (option_copied end) ≡ true }
     ensures { IsStretch (range_msgs {U = U} {V = U.Value} ranges.now) from.now (option_copied end.entry) (option_copied result) }
 {
-    earlier(earlier(end, next_begin(ranges, from)), next_end(ranges, from))
+    earlier(
+        earlier(end, next_begin(ranges, from)),
+        next_end(ranges, from),
+    )
 }
 
 /// Where the first range begins that begins behind the key.
