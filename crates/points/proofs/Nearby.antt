@@ -1,11 +1,11 @@
 -- The first keys and the last, and whether one lies in a range.
-use Rattle.std.proofs.Common.{◌≡◌, ℕ, zero, suc, ◌+◌, ◌-◌, ◌<◌, Bool, true, false, ◌&&◌, ◌||◌, cond, List, [], ◌∷◌, length, drop, refl, ap, sym, ◌∙◌, subst, Option, Some, None, arith, Ordering}
+use Rattle.std.proofs.Common.{◌≡◌, ℕ, suc, ◌-◌, Bool, true, false, ◌&&◌, ◌||◌, cond, List, [], ◌∷◌, length, drop, refl, ap, sym, ◌∙◌, subst, Option, Some, None, arith}
 use Rattle.std.specs.declared.cmp.Ordering.TheVariants.{Less, Equal, Greater}
 use Rattle.std.specs.Ordering.{is_lt, is_le, match_ordering}
 use Rattle.std.specs.List.{AllByRecursion, list_any, slice_get}
 use Rattle.std.specs.Map.{keys_of}
 use Rattle.std.specs.Option.{option_map}
-use Rattle.std.proofs.lemmas.List.Elements.{All-from_recursion, All-head, All-nil, All-tail}
+use Rattle.std.proofs.lemmas.List.Elements.{All-from_recursion, All-head, All-tail}
 use Rattle.std.proofs.lemmas.Map.Keys.{sorted_head, sorted_tail}
 use Rattle.pathkey.specs.Keys.{is_below, is_in}
 use Rattle.pathkey.specs.Order.{by_bytes}
@@ -50,6 +50,7 @@ module _ {X : Type 0} where
       none_either : (a b : Bool) → ((a && false) || b) ≡ b
       none_either true b = refl
       none_either false b = refl
+
       not_below : (hi : Option (List ℕ)) (x y : List ℕ) → is_below x hi ≡ false → before x y ≡ true → is_below y hi ≡ false
       not_below None x y n b = absurd (cc)
       not_below (Some h) x y n b = not_before_from_reaches h y (le_le h x y (reaches-from_not_before x h n) (reaches-from_before x y b))

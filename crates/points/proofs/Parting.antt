@@ -1,15 +1,14 @@
 -- Entries that leave a list, and those that stay.
-use Rattle.std.proofs.Common.{◌≡◌, ℕ, zero, suc, ◌+◌, ◌-◌, ◌<◌, ◌≤◌, Bool, true, false, not, cond, ◌||◌, List, [], ◌∷◌, ◌++◌, length, take, drop, map, refl, ap, sym, ◌∙◌, subst, arith, length-drop}
+use Rattle.std.proofs.Common.{◌≡◌, ℕ, zero, suc, ◌+◌, ◌<◌, ◌≤◌, Bool, true, false, not, cond, ◌||◌, List, [], ◌∷◌, ◌++◌, length, take, drop, refl, ap, sym, ◌∙◌, subst, arith, length-drop}
 use Rattle.std.specs.List.{filter, list_any}
 use Rattle.std.proofs.Math.Seq.{drop-append-add, drop-append_seam, take-append_seam}
-use Rattle.std.proofs.lemmas.List.{drop-map, length-map, take-append-drop, drop-append-le}
-use Rattle.std.proofs.lemmas.List.Elements.{All-cons, All-drop, All-filter, All-head, All-tail, All-take}
+use Rattle.std.proofs.lemmas.List.{drop-map, length-map, drop-append-le}
+use Rattle.std.proofs.lemmas.List.Elements.{All-cons, All-drop, All-filter, All-tail, All-take}
 use Rattle.std.proofs.lemmas.List.Filters.{sum_by-filter_both}
 use Rattle.std.proofs.lemmas.List.Sums.{sum_by-append, sum_by-take-drop}
-use Rattle.message.specs.declared.msg.Msg.{Msg}
 use Rattle.points.specs.Changes.{Change, msg_at, run_msgs}
-use Rattle.points.specs.Points.{left, point_count, point_msgs, AreRuns, ArePoints, IsLeft}
-use Rattle.points.proofs.Counting.{point_count-cons, none_gone}
+use Rattle.points.specs.Points.{left, point_count, point_msgs, AreRuns, IsLeft}
+use Rattle.points.proofs.Counting.{point_count-cons}
 use Rattle.points.proofs.Laying.{split_bool}
 
 module _ {X : Type 0} where

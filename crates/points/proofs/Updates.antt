@@ -1,5 +1,5 @@
 -- Updates of one key, one after the other.
-use Rattle.std.proofs.Common.{◌≡◌, ℕ, zero, suc, ◌+◌, false, List, [], ◌∷◌, length, get_or, drop, ◌⊎◌, inl, inr, map, Option, Some, refl, ap, sym, ◌∙◌, ◌-◌, ◌<◌, min, arith}
+use Rattle.std.proofs.Common.{◌≡◌, ℕ, zero, suc, ◌+◌, false, List, [], ◌∷◌, length, get_or, drop, ◌⊎◌, inl, inr, map, Option, refl, ap, sym, ◌∙◌, ◌-◌, ◌<◌, min, arith}
 use Rattle.std.proofs.Math.ListN.{set}
 use Rattle.std.proofs.lemmas.List.{drop-map, length-map}
 use Rattle.std.proofs.lemmas.List.Folds.{fold-map}
@@ -7,7 +7,7 @@ use Rattle.std.specs.Global.{Vec}
 use Rattle.message.specs.declared.msg.Msg.TheVariants as msg
 use Rattle.points.specs.declared.waits.Waits.{Waits}
 use Rattle.points.specs.declared.waits.Waits.TheVariants as waits
-use Rattle.points.specs.Changes.{Change, Put, Del, Edit, changed, is_whole, run_effect, run_msgs}
+use Rattle.points.specs.Changes.{Change, Put, Edit, changed, is_whole, run_effect, run_msgs}
 use Rattle.points.specs.Runs.{changes_in, edits_effect}
 
 module _ {U V : Type 0} (means : U → Option V → Option V) where

@@ -1,11 +1,11 @@
 -- What waits at single keys, by the keys.
-use Rattle.std.specs.Prelude.{◌≡◌, ℕ, ◌+◌, ◌^◌, ◌<◌, ◌≤◌, Bool, true, false, if◌then◌else◌, List, [], ◌∷◌, ◌++◌, length, drop, Option, Some, None, Result, OnOk, OnErr, IfOk, IfErr}
+use Rattle.std.specs.Prelude.{◌≡◌, ℕ, ◌+◌, ◌^◌, ◌<◌, ◌≤◌, Bool, false, if◌then◌else◌, List, [], ◌∷◌, ◌++◌, length, drop, Option, Some, None}
 use Rattle.std.specs.List.{sum_by, All}
 use Rattle.std.specs.BTreeMap.{insert_entry}
 use Rattle.pathkey.specs.Order.{by_bytes, same}
 use Rattle.message.specs.declared.msg.Msg.{Msg}
 use Rattle.rows.specs.Places.{at_key, reaches}
-use Rattle.points.specs.Changes.{Change, Put, Del, Edit, run_msgs, run_effect}
+use Rattle.points.specs.Changes.{Change, run_msgs, run_effect}
 
 module _ {U V : Type 0} where
   -- the messages that wait at keys

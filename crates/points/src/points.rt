@@ -218,12 +218,7 @@ impl<U: Update> Points<U> {
     /// Moves what waits at the first key of another list, at most `most` messages and newer than all that are here, to its place,
     /// and answers how many came. None come where `from` has none, where they are more, where memory is refused, or where
     /// updates would be laid over what waits here.
-    pub fn take_first(
-        &mut self,
-        alloc: Global,
-        from: &mut Points<U>,
-        most: usize,
-    ) -> Option<usize>
+    pub fn take_first(&mut self, alloc: Global, from: &mut Points<U>, most: usize) -> Option<usize>
         requires { point_count self.old + most ≤ 2 ^ 62 }
         ensures moved { IfSome result (λ n. TakesFirst U.means n most from.old self.old from.new self.new) }
         ensures none { IfNone result ((self.new ≡ self.old) × (from.new ≡ from.old)) }
@@ -256,6 +251,7 @@ impl<U: Update> Points<U> {
         requires { count ≤ point_count self.old }
         ensures same { point_msgs (left result self.new) ≡ drop count (point_msgs self.old) }
         ensures left { IsLeft result self.new }
+        ensures bound { point_count self.new ≤ point_count self.old }
     {
         let (keys, left) = whole_keys(&self.rows, count);
         self.rows.drop_front(keys);

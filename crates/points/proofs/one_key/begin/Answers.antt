@@ -1,4 +1,4 @@
-use Rattle.std.proofs.Common.{◌∙◌, ap, sym, arith, length, subst, ◌<◌}
+use Rattle.std.proofs.Common.{◌∙◌, ap, sym, arith, length}
 use Rattle.std.specs.Option.{option_map, unwrap_or}
 use Rattle.points.specs.Changes.{run_effect}
 use Rattle.points.specs.Points.{found_effect}
@@ -10,7 +10,7 @@ returns-in-Ok-clause-lays g c =
     let means = g.U.Update.means in
     let u = c.args.update in
     lays_put means c.args.key (means u) c.of_edit.result c.args.rows.now c.put_run.new.rows c.in-Ok.ensures.entries
-      (λ o. ap (λ t. run_effect means t o) c.of_edit.ensures ∙ sym (ap (λ t. means u (found_effect means t o)) c.requires))
+    (λ o. ap (λ t. run_effect means t o) c.of_edit.ensures ∙ sym (ap (λ t. means u (found_effect means t o)) c.requires))
 
 pub returns-in-Ok-clause-counted : goal.returns-in-Ok-clause-counted
 returns-in-Ok-clause-counted g c = omega (arith, c.in-Ok.ensures.counted, ap (λ t. length t) c.of_edit.ensures)

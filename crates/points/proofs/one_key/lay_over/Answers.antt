@@ -1,7 +1,7 @@
-use Rattle.std.proofs.Common.{◌∙◌, Some, ap, sym, arith, subst}
+use Rattle.std.proofs.Common.{◌∙◌, Some, ap, sym, arith}
 use Rattle.std.specs.BTreeMap.{insert_entry}
 use Rattle.pathkey.specs.Order.{by_bytes}
-use Rattle.points.specs.Points.{found_effect, AreRuns}
+use Rattle.points.specs.Points.{found_effect}
 use Rattle.points.proofs.Laying.{lays_put, counted_at, counted_put, put_same, runs_put}
 use Rattle.points.proofs.one_key.lay_over.Goals as goal
 

@@ -12,7 +12,7 @@ returns-in-Done-clause-ok g c =
     let es = c.args.rows.now in
     let key = c.in_ok-key.ensures in
     first_shortened c.args.gone c.in-Some.first.now c.in-Some.field-0-1.now h.old h.new es c.edit.new.self
-      (c.in-Some.ensures ∙ ap (λ t. slice_get t 0) c.walk.ensures)
-      (ap (λ t. at_key t es) (sym key) ∙ h.there)
-      (h.is ∙ ap (λ t. insert_entry by_bytes es t h.new) key)
-      h.done c.requires
+    (c.in-Some.ensures ∙ ap (λ t. slice_get t 0) c.walk.ensures)
+    (ap (λ t. at_key t es) (sym key) ∙ h.there)
+    (h.is ∙ ap (λ t. insert_entry by_bytes es t h.new) key)
+    h.done c.requires

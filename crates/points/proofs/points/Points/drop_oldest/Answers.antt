@@ -1,5 +1,5 @@
-use Rattle.std.proofs.Common.{◌∙◌, ap, sym, drop, arith, subst, length, take, ◌≤◌, ◌+◌, ◌≡◌}
-use Rattle.points.specs.Points.{point_msgs, IsLeft}
+use Rattle.std.proofs.Common.{◌∙◌, ap, sym, drop, arith, subst}
+use Rattle.points.specs.Points.{point_count, point_msgs, IsLeft}
 use Rattle.points.proofs.Parting.{counted_drop, msgs_dropped, runs_drop}
 use Rattle.points.proofs.points.Points.drop_oldest.Goals as goal
 
@@ -21,3 +21,8 @@ returns-clause-same g c =
     let left = c.whole_keys-keys.result.1 in
     msgs_dropped n left c.args.count es c.drop_front.new.self c.whole_keys-keys.ensures.keys c.drop_front.ensures (subst (λ t. IsLeft left t) (sym c.drop_front.ensures) c.whole_keys-keys.ensures.left) c.whole_keys-keys.ensures.counted
     ∙ ap (λ t. drop c.args.count (point_msgs t)) c.self.view_is
+
+pub returns-clause-bound : goal.returns-clause-bound
+returns-clause-bound g c =
+    let counted = counted_drop c.self.inside.rows c.drop_front.new.self c.whole_keys-keys.result.0 c.drop_front.ensures in
+    omega (arith, counted, ap (λ t. point_count t) c.self.view_is)

@@ -1,4 +1,4 @@
-use Rattle.std.proofs.Common.{◌∙◌, ap, sym, subst}
+use Rattle.std.proofs.Common.{◌∙◌, ap, subst}
 use Rattle.std.specs.Option.{option_copied}
 use Rattle.rows.specs.Places.{Rises}
 use Rattle.points.proofs.Nearby.{any_from, next_below}

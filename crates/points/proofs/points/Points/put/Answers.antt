@@ -1,4 +1,4 @@
-use Rattle.std.proofs.Common.{◌∙◌, ap, refl, Some}
+use Rattle.std.proofs.Common.{ap, Some}
 use Rattle.points.specs.Changes.{run_effect}
 use Rattle.points.proofs.Laying.{lays_put}
 use Rattle.points.proofs.points.Points.put.Goals as goal

@@ -12,5 +12,5 @@ returns-in-Edits g c =
     let old = c.args.old in
     let is = sym c.self.view_is ∙ ap (λ w. changes_in w) c.in-Edits.is in
     IfOk-weaker c.apply_all.result (λ v. v ≡ edits_effect means c.later.result.now old) (λ v. v ≡ run_effect means (drop c.args.gone c.args.self.now) old)
-      (λ v h. h ∙ ap (λ t. edits_effect means t old) (c.later.ensures ∙ ap (λ t. drop c.args.gone t) c.deref.ensures.value) ∙ sym (effect_left means c.args.gone us old) ∙ ap (λ t. run_effect means (drop c.args.gone t) old) (sym is))
-      c.apply_all.ensures
+    (λ v h. h ∙ ap (λ t. edits_effect means t old) (c.later.ensures ∙ ap (λ t. drop c.args.gone t) c.deref.ensures.value) ∙ sym (effect_left means c.args.gone us old) ∙ ap (λ t. run_effect means (drop c.args.gone t) old) (sym is))
+    c.apply_all.ensures

@@ -1,5 +1,4 @@
-use Rattle.std.proofs.Common.{◌≡◌, ◌++◌, ◌∙◌, ap, sym, drop, take, map}
-use Rattle.std.proofs.lemmas.Result.{IfOk-weaker}
+use Rattle.std.proofs.Common.{◌∙◌, ap, sym, drop, map}
 use Rattle.message.specs.declared.msg.Msg.TheVariants as msg
 use Rattle.points.specs.Changes.{run_msgs}
 use Rattle.points.specs.Runs.{changes_in}

@@ -1,4 +1,4 @@
-use Rattle.std.proofs.Common.{◌∙◌, ap, sym, drop, min, ◌-◌, arith}
+use Rattle.std.proofs.Common.{◌∙◌, ap, sym, drop, arith}
 use Rattle.points.specs.Runs.{changes_in}
 use Rattle.points.proofs.Updates.{left_updates}
 use Rattle.points.proofs.waits.Waits.drop_oldest.Goals as goal
