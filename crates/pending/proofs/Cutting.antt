@@ -62,8 +62,6 @@ module _ {U V : Type 0} where
   msgs_append [] fs = refl
   msgs_append (e ∷ es) fs = ap (λ t. run_msgs e.0 e.1 ++ t) (msgs_append es fs) ∙ sym (append_assoc (run_msgs e.0 e.1) (point_msgs es) (point_msgs fs))
 
-
-
   -- entries from lo on, cut at the pivot, are parted there
   pub entries_parted : (lo p : List ℕ) (all es fs : List (List ℕ × List (Change U V))) → all ≡ es ++ fs → AreFrom lo all → AreBefore p es → AreFrom p fs → IsParted lo p (point_msgs all) (point_msgs es) (point_msgs fs)
   entries_parted lo p all es fs e from low high =

@@ -96,8 +96,6 @@ module _ {U V : Type 0} where
 
   -- ---- without the oldest of the first key
 
-
-
   -- where none are gone, some are left
   pub none_left : (n : ℕ) (es : List (List ℕ × List (Change U V))) → n ≡ 0 → AreRuns es → IsLeft n es
   none_left n [] z r = z
@@ -109,12 +107,6 @@ module _ {U V : Type 0} where
   pub left_rises : (n : ℕ) (es : List (List ℕ × List (Change U V))) → Rises es → Rises (left n es)
   left_rises n [] r = r
   left_rises n (e ∷ es) r = r
-
-
-
-
-
-
 
   pub left_keys : (n : ℕ) (es : List (List ℕ × List (Change U V))) → keys_of (left n es) ≡ keys_of es
   left_keys n [] = refl

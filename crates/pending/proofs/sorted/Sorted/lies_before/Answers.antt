@@ -15,4 +15,4 @@ returns-then-end_by g c h =
     let es = c.self.inside.points in
     let n = c.self.inside.gone in
     let before : AreBefore p (left n es) = left_keys_before p n es (c.end_before.ensures.yes h) in
-    subst (λ t. LieIn [] (Some p) t) c.self.view_is (in_both [] (Some p) (range_msgs rs) (point_msgs (left n es)) (c.end_by.ensures c.if-end_by.true) (points_lie_before p (left n es) before))
+    subst (λ t. LieIn [] (Some p) t) c.self.view_is (in_both [] (Some p) (range_msgs rs) (point_msgs (left n es)) (c.end_by.ensures.yes c.if-end_by.true) (points_lie_before p (left n es) before))

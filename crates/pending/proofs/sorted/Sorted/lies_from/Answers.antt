@@ -15,4 +15,4 @@ returns-then-begin_from g c h =
     let es = c.self.inside.points in
     let n = c.self.inside.gone in
     let from : AreFrom p (left n es) = left_keys_from p n es (c.begin_from-then-begin_from.ensures.yes h) in
-    subst (λ t. LieIn p None t) c.self.view_is (in_both p None (range_msgs rs) (point_msgs (left n es)) (c.begin_from.ensures c.if-begin_from.true) (points_lie_from p (left n es) from))
+    subst (λ t. LieIn p None t) c.self.view_is (in_both p None (range_msgs rs) (point_msgs (left n es)) (c.begin_from.ensures.yes c.if-begin_from.true) (points_lie_from p (left n es) from))
