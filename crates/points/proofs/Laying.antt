@@ -68,10 +68,13 @@ module _ {X : Type 0} where
         | Greater ↦ λ p i. ap (λ t. e ∷ t) (put_same k v es (sorted_tail by_bytes e.0 (keys_of es) r) i)
       ] refl h
 
--- the first leaves
-pub first_parts : {X : Type 0} (e : X) (es fs : List X) → Some e ≡ slice_get es 0 → fs ≡ drop 1 es → es ≡ e ∷ fs
-first_parts e [] fs h d = absurd (cc)
-first_parts e (x ∷ es) fs h d = cc
+-- there is a first
+pub first_some : {X : Type 0} (e : X) (es : List X) → Some e ≡ slice_get es 0 → 0 < length es
+first_some e [] h = absurd (cc)
+first_some e (x ∷ es) h = omega arith
+
+pub first_is : {X : Type 0} (e f : X) (es fs : List X) → Some e ≡ slice_get es 0 → es ≡ f ∷ fs → e ≡ f
+first_is e f es fs h p = (let is : Some e ≡ Some f = h ∙ ap (λ t. slice_get t 0) p in cc)
 
 module _ {U V : Type 0} where
   -- changes of the first key are gone

@@ -10,7 +10,7 @@ use crate::lay::{Lay, Shorten};
 use crate::run::Run;
 use message::Update;
 use pathkey::{Key, NoMemory};
-use rows::{Edited, Rows, Stored};
+use rows::{Edited, Rows};
 use std::alloc::Global;
 
 /// Puts a run in the place of what waits at the key, and answers how many messages that was. On want of memory it comes back, and
@@ -94,24 +94,22 @@ fn begin<U: Update>(
 /// waits there.
 pub(crate) fn move_first<U: Update>(
     rows: &mut Rows<Run<U>>,
-    alloc: Global,
     from: &mut Rows<Run<U>>,
     most: usize,
 ) -> Option<(usize, usize)>
     ensures moved { IfSome result (λ n. IsMoved U.means n.0 n.1 most from.old rows.old from.new rows.new) }
     ensures none { IfNone result ((rows.new ≡ rows.old) × (from.new ≡ from.old)) }
 {
+    rows.rise();
     let (key, run) = from.walk().peek()?;
     let came = run.len();
     if came > most || !is_free(rows, key, run) {
         return None;
     }
-    let (key, run) = copy_of(alloc, key, run)?;
-    let Ok(gone) = put_run(rows, key, run) else {
+    let Ok(was) = rows.take_first(from) else {
         return None;
     };
-    from.drop_front(1);
-    Some((came, gone))
+    Some((came, len_of(&was)))
 }
 
 /// Whether a run can come in the place of what waits at its key: nothing does, or it does not ask for it.
@@ -119,19 +117,6 @@ fn is_free<U: Update>(rows: &Rows<Run<U>>, key: &Key, run: &Run<U>) -> bool
     ensures { result ≡ true → IsFree U.means run.now (at_key key.now rows.now) }
 {
     run.is_whole() || rows.get(key).is_none()
-}
-
-/// An equal key with an equal run; none where memory is refused.
-fn copy_of<U: Update>(alloc: Global, key: &Key, run: &Run<U>) -> Option<(Key, Run<U>)>
-    ensures { IfSome result (λ p. p ≡ (key.now, run.now)) }
-{
-    let Ok(key) = key.copy(alloc) else {
-        return None;
-    };
-    let Ok(run) = run.copy(alloc) else {
-        return None;
-    };
-    Some((key, run))
 }
 
 /// Takes the `gone` oldest changes at the first key away. On want of memory all is as it was.

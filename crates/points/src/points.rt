@@ -218,12 +218,12 @@ impl<U: Update> Points<U> {
     /// Moves what waits at the first key of another list, at most `most` messages and newer than all that are here, to its place,
     /// and answers how many came. None come where `from` has none, where they are more, where memory is refused, or where
     /// updates would be laid over what waits here.
-    pub fn take_first(&mut self, alloc: Global, from: &mut Points<U>, most: usize) -> Option<usize>
+    pub fn take_first(&mut self, from: &mut Points<U>, most: usize) -> Option<usize>
         requires { point_count self.old + most ≤ 2 ^ 62 }
         ensures moved { IfSome result (λ n. TakesFirst U.means n most from.old self.old from.new self.new) }
         ensures none { IfNone result ((self.new ≡ self.old) × (from.new ≡ from.old)) }
     {
-        let (came, gone) = move_first(&mut self.rows, alloc, &mut from.rows, most)?;
+        let (came, gone) = move_first(&mut self.rows, &mut from.rows, most)?;
         self.count = self.count + came - gone;
         from.count -= came;
         Some(came)

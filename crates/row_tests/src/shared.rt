@@ -50,6 +50,31 @@ fn the_front_leaves_without_a_copy(rt: HostRuntime) {
     assert_eq!(rt; front_leaves(rt.alloc()).ok(), Some(true));
 }
 
+/// Whether the first entry of a list goes to another without a copy, and stays where it is shared and cannot be copied.
+fn first_goes(alloc: Global) -> Result<bool, NoMemory> {
+    let mut list = numbers(alloc, 10)?;
+    let mut later = numbers(alloc, 1000)?;
+    let dropped = drop_some(&mut later, 10);
+    let moved = moves_first(&mut list, &mut later);
+    let other = later.share()?;
+    let refused = !moves_first(&mut list, &mut later);
+    let kept = has(&list, 0, 11) && has(&later, 11, 1000) && has(&other, 11, 1000);
+    Ok(dropped && moved && refused && kept)
+}
+
+/// Moves the first number of a list to another, and says whether it went and found no other there.
+fn moves_first(list: &mut Rows<Number>, from: &mut Rows<Number>) -> bool {
+    if from.is_empty() {
+        return false;
+    }
+    matches!(list.take_first(from), Ok(None))
+}
+
+#[test]
+fn a_first_entry_goes_to_another_list(rt: HostRuntime) {
+    assert_eq!(rt; first_goes(rt.alloc()).ok(), Some(true));
+}
+
 /// Whether lists are cut between rows and joined again without a copy.
 fn joins(alloc: Global) -> Result<bool, NoMemory> {
     let mut list = numbers(alloc, 1000)?;

@@ -1,21 +1,26 @@
 -- What is done to one row, said of all entries.
 use Rattle.std.proofs.Common.{◌≡◌, ℕ, zero, suc, ◌+◌, ◌-◌, ◌<◌, ◌≤◌, List, [], ◌∷◌, ◌++◌, length, take, drop, get_or, refl, ap, sym, ◌∙◌, subst, Option, Some, None, cond, arith}
-use Rattle.std.specs.Prelude.{Result, Ok, Err}
+use Rattle.std.specs.Prelude.{Result, Ok, Err, IfOk, IfSome, OnErr, ◌==◌, false}
 use Rattle.std.specs.declared.cmp.Ordering.TheVariants.{Less, Equal, Greater}
 use Rattle.std.specs.Ordering.{is_eq, match_ordering}
-use Rattle.std.specs.List.{remove, slice_set}
+use Rattle.std.specs.List.{remove, slice_get, slice_set}
 use Rattle.std.specs.Map.{keys_of}
 use Rattle.std.specs.BTreeMap.{insert_entry}
 use Rattle.std.proofs.Math.Seq.{drop-append-add}
-use Rattle.std.proofs.lemmas.List.{drop-append-le, length-drop, length-append}
+use Rattle.std.proofs.lemmas.List.{drop-append-le, length-drop, length-append, set-get_or}
 use Rattle.std.proofs.lemmas.Map.Keys.{sorted_head, sorted_tail}
 use Rattle.pathkey.specs.Order.{by_bytes}
 use Rattle.rows.specs.Changes.{IsPut, IsRowChanged, ChangesValue}
+use Rattle.rows.specs.Moves.{IsFirstMoved}
 use Rattle.rows.specs.Places.{Rises, at_key, place, place_past}
 use Rattle.rows.specs.Rows.{joined, AreSized, AreRows, number_in}
 use Rattle.rows.proofs.Entries.{all_ahead, none_ahead, rises_put}
 use Rattle.rows.proofs.Parts.{at_between, drop_between, past_between, place_between, put_between, rises_drop, take_between}
 use Rattle.rows.proofs.TableFacts.{around, joined_cut, rows_tail, sized_at, sized_set}
+
+pub some_of : (n : ℕ) → false ≡ (n == 0) → 0 < n
+some_of zero e = absurd (cc)
+some_of (suc n) e = omega arith
 
 module _ {X : Type 0} where
   -- ---- how many entries there are after a value was put
@@ -158,6 +163,28 @@ module _ {X : Type 0} where
         rises = subst (λ (t : List (List ℕ × X)). Rises t) (sym (shortened rs ss count row l (omega (arith, h)) s d)) (rises_drop count (joined rs) w.rises);
         sized = subst (λ (t : List (List (List ℕ × X))). AreSized t) (sym s) (sized_set 0 rs row (omega (arith, long, h, length-drop count (get_or rs 0 []))) (omega (arith, long, size.1, length-drop count (get_or rs 0 []))) w.sized);
       }
+
+  -- the first of more leaves
+  pub popped_rows : (rs ss : List (List (List ℕ × X))) (e : List ℕ × X) (row : List (List ℕ × X)) → 0 < length rs → get_or rs 0 [] ≡ e ∷ row → ss ≡ slice_set rs 0 row → 0 < length row → AreRows rs → AreRows ss
+  popped_rows rs ss e row l h s some w = shortened_rows rs ss 1 row l (omega (arith, some, ap (λ (t : List (List ℕ × X)). length t) h)) s (sym (ap (λ (t : List (List ℕ × X)). drop 1 t) h)) w
+
+  -- it goes to its place in a row of another list
+  module _ (from rest : List (List ℕ × X)) (rs ss : List (List (List ℕ × X))) (n : ℕ) (row : List (List ℕ × X)) (w : AreRows rs) (l : n < length rs) (s : ss ≡ slice_set rs n row) (number : IfSome (slice_get from 0) (λ e. n ≡ number_in e.0 rs)) where
+    moved_at : (was : Option X) (m : IsFirstMoved was from (get_or rs n []) rest row) → n ≡ number_in m.key rs
+    moved_at was m = subst (λ (t : List (List ℕ × X)). IfSome (slice_get t 0) (λ e. n ≡ number_in e.0 rs)) m.parts number
+
+    moved_row : (was : Option X) (m : IsFirstMoved was from (get_or rs n []) rest row) → IsRowChanged (IsPut m.key m.value) n rs ss (Ok was)
+    moved_row was m = record { row = row; is = s; done = (m.is, m.found) }
+
+    pub moved_whole : (was : Option X) → IsFirstMoved was from (get_or rs n []) rest row → IsFirstMoved was from (joined rs) rest (joined ss)
+    moved_whole was m =
+        let put = put_whole m.key rs n w (moved_at was m) l m.value ss (Ok was) (moved_row was m) in
+        record { key = m.key; value = m.value; parts = m.parts; is = put.0; found = put.1 }
+
+    -- or none went
+    pub moved_rows : {E : Type 0} (r : Result (Option X) E) → length (get_or rs n []) < 128 → IfOk r (λ was. IsFirstMoved was from (get_or rs n []) rest row) → OnErr r (row ≡ get_or rs n []) → AreRows ss
+    moved_rows (Ok was) room m same = put_rows m.key rs n w (moved_at was m) l m.value ss (Ok was) room (moved_row was m)
+    moved_rows (Err e) room m same = subst (λ (t : List (List (List ℕ × X))). AreRows t) (sym (s ∙ ap (λ t. slice_set rs n t) same ∙ set-get_or rs n [])) w
 
   -- a whole row leaves from the front
   pub taken_rows : (rs ss ts : List (List (List ℕ × X))) (new : List (List ℕ × X)) → 0 < length rs → ss ≡ slice_set rs 0 new → ts ≡ remove ss 0 → AreRows rs → AreRows ts

@@ -1,3 +1,4 @@
 pub mod Changes
+pub mod Moves
 pub mod Places
 pub mod Rows

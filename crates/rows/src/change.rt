@@ -1,12 +1,17 @@
 //! What is done to the entries of one row, once nobody else holds it.
-ghost use Rattle.std.specs.Prelude.{◌≡◌, ◌≤◌, ◌+◌, ◌++◌, ℕ, List, Option, Some, None, Result, length, take, drop, vec_len, vec_capacity, MatchResult, ⊤, []};
+ghost use Rattle.std.specs.Prelude.{◌≡◌, ◌<◌, ◌≤◌, ◌+◌, ◌++◌, ℕ, List, Option, Some, None, Result, length, take, drop, IfOk, OnErr, vec_len, vec_capacity, MatchResult, ⊤, []};
+ghost use Rattle.std.specs.BTreeMap.{insert_entry};
+ghost use Rattle.pathkey.specs.Order.{by_bytes};
 ghost use Rattle.rows.specs.Places.{Rises, at_key};
+ghost use Rattle.rows.specs.Rows.{joined, AreRows};
+ghost use Rattle.rows.specs.Moves.{IsFirstMoved};
 ghost use Rattle.rows.specs.Changes.{IsPut, IsCutOff, IsEditedAt, IsJoined, AreTaken, ChangesValue};
 
 use crate::edit::Edit;
 use crate::row::Row;
 use crate::search::find;
 use crate::stored::Stored;
+use crate::table::pop_entry;
 use pathkey::{Key, NoMemory};
 use std::alloc::Global;
 use std::sync::Arc;
@@ -138,6 +143,45 @@ fn put_entry<T: Stored>(
             Ok(()) => Ok(None),
             Err(refused) => Err(refused.value),
         },
+    }
+}
+
+/// Moves the first entry of rows to its place among entries, and answers what stood there. On want of memory all is as it was.
+pub(crate) fn take_first<T: Stored>(
+    entries: &mut Vec<(Key, T)>,
+    from: &mut Vec<Row<T>>,
+) -> Result<Option<T>, NoMemory>
+    requires rises { Rises entries.old.items }
+    requires rows { AreRows from.old.items }
+    requires some { 0 < length from.old.items }
+    ensures rows { AreRows from.new.items }
+    ensures moved { IfOk result (λ was. IsFirstMoved was (joined from.old.items) entries.old.items (joined from.new.items) entries.new.items) }
+    ensures err { OnErr result (entries.new.items ≡ entries.old.items) }
+    ensures kept { OnErr result (joined from.new.items ≡ joined from.old.items) }
+{
+    entries.reserve(1)?;
+    let (key, value) = pop_entry(from)?;
+    Ok(put_reserved(entries, key, value))
+}
+
+/// Puts a value at the key of entries, which have room for it, and answers what stood there.
+fn put_reserved<T: Stored>(entries: &mut Vec<(Key, T)>, key: Key, value: T) -> Option<T>
+    requires rises { Rises entries.old.items }
+    requires room { vec_len entries.old < vec_capacity entries.old }
+    ensures entries { entries.new.items ≡ insert_entry by_bytes entries.old.items key value }
+    ensures was { result ≡ at_key key entries.old.items }
+{
+    match find(entries.as_slice(), &key) {
+        Ok(i) => {
+            let entry = &mut entries[i];
+            Some(std::mem::replace(&mut entry.1, value))
+        }
+        Err(i) => {
+            let Ok(()) = entries.insert(i, (key, value)) else {
+                unreachable!()
+            };
+            None
+        }
     }
 }
 

@@ -1,11 +1,12 @@
 //! The list of entries that callers see.
-ghost use Rattle.std.specs.Prelude.{◌≡◌, ◌+◌, ◌^◌, ◌<◌, ◌≤◌, ◌++◌, [], not, true, false, length, take, drop, OnOk, OnErr, IfOk, IfNone, IfSome};
+ghost use Rattle.std.specs.Prelude.{◌≡◌, ◌+◌, ◌^◌, ◌<◌, ◌≤◌, ◌++◌, ◌∷◌, [], not, true, false, length, take, drop, OnOk, OnErr, IfOk, IfNone, IfSome};
 ghost use Rattle.std.specs.Option.{option_copied, option_map};
 ghost use Rattle.std.specs.List.{filter, slice_get};
 ghost use Rattle.pathkey.specs.Keys.{is_in};
 ghost use Rattle.rows.specs.Places.{Rises, at_key, last_of, place, place_past, AreBefore, AreFrom};
 ghost use Rattle.rows.specs.Rows.{joined, AreRows};
 ghost use Rattle.rows.specs.Changes.{IsPut, IsEdited};
+ghost use Rattle.rows.specs.Moves.{IsFirstMoved};
 
 use crate::cut::cut_out;
 use crate::edit::{Edit, Edited};
@@ -15,7 +16,7 @@ use crate::search::value_at;
 use crate::stored::Stored;
 use crate::table::{
     begin, edit_in, entries_in, has_none, make_room, number_in, part, put_in, share_rows,
-    shorten_first, take_row, whole_rows,
+    shorten_first, take_in, take_row, whole_rows,
 };
 use crate::walk::Walk;
 use pathkey::{Key, KeyRange, NoMemory};
@@ -194,6 +195,17 @@ impl<T: Stored> Rows<T> {
         Ok(Some(take_row(&mut self.rows)?))
     }
 
+    /// Moves the first entry of another list to its place here, and answers what stood there. It is copied where others share its
+    /// row, or where none stands here. On want of memory both lists are as they were.
+    pub fn take_first(&mut self, from: &mut Rows<T>) -> Result<Option<T>, NoMemory>
+        requires { 0 < length from.old }
+        ensures moved { IfOk result (λ was. IsFirstMoved was from.old self.old from.new self.new) }
+        ensures err { OnErr result (self.new ≡ self.old) }
+        ensures kept { OnErr result (from.new ≡ from.old) }
+    {
+        take_among(&mut self.rows, &mut from.rows)
+    }
+
     /// A list of the same entries, which both then share.
     pub fn share(&self) -> Result<Rows<T>, NoMemory>
         ensures { IfOk result (λ shared. shared ≡ self.now) }
@@ -248,6 +260,50 @@ fn edit_among<T: Stored, E: Edit<T>>(
         return Edited::Absent(edit);
     }
     edit_in(rows, n, key, edit)
+}
+
+/// Moves the first entry of other rows to its place in these, and answers what stood there.
+fn take_among<T: Stored>(
+    rows: &mut Vec<Row<T>>,
+    from: &mut Vec<Row<T>>,
+) -> Result<Option<T>, NoMemory>
+    requires rows { AreRows rows.old.items }
+    requires from { AreRows from.old.items }
+    requires some { 0 < length (joined from.old.items) }
+    ensures rows { AreRows rows.new.items }
+    ensures from { AreRows from.new.items }
+    ensures moved { IfOk result (λ was. IsFirstMoved was (joined from.old.items) (joined rows.old.items) (joined from.new.items) (joined rows.new.items)) }
+    ensures err { OnErr result (joined rows.new.items ≡ joined rows.old.items) }
+    ensures kept { OnErr result (joined from.new.items ≡ joined from.old.items) }
+{
+    let Some((key, value)) = Walk::of(&[], from.as_slice()).peek() else {
+        unreachable!()
+    };
+    if rows.is_empty() {
+        begin_with(rows, key, value)?;
+        drop_among(from, 1);
+        return Ok(None);
+    }
+    let Some(n) = make_room(rows, key) else {
+        return Err(NoMemory);
+    };
+    take_in(rows, n, from)
+}
+
+/// Makes a first row of a copy of an entry.
+fn begin_with<T: Stored>(rows: &mut Vec<Row<T>>, key: &Key, value: &T) -> Result<(), NoMemory>
+    requires { rows.old.items ≡ [] }
+    ensures rows { AreRows rows.new.items }
+    ensures entries { OnOk result (joined rows.new.items ≡ (key.now, value.now) ∷ []) }
+    ensures err { OnErr result (rows.new.items ≡ rows.old.items) }
+{
+    let alloc = *rows.allocator();
+    let key = key.copy(alloc)?;
+    let value = value.copy(alloc)?;
+    match begin(rows, key, value) {
+        Ok(()) => Ok(()),
+        Err(_) => Err(NoMemory),
+    }
 }
 
 /// Takes the first entries of rows away.

@@ -1,9 +1,10 @@
 //! A row of entries, which several lists may share.
-ghost use Rattle.std.specs.Prelude.{◌≡◌, ◌≤◌, drop, length, OnOk, OnErr, IfOk, IfErr};
-ghost use Rattle.rows.specs.Places.{BeginsHeaded};
-ghost use Rattle.rows.specs.Rows.{begins_by};
+ghost use Rattle.std.specs.Prelude.{◌≡◌, ◌<◌, ◌≤◌, ◌∷◌, drop, length, OnOk, OnErr, IfOk, IfErr};
+ghost use Rattle.rows.specs.Places.{BeginsHeaded, Rises};
+ghost use Rattle.rows.specs.Rows.{begins_by, joined, AreRows};
+ghost use Rattle.rows.specs.Moves.{IsFirstMoved};
 
-use crate::change::Change;
+use crate::change::{Change, take_first};
 use crate::stored::Stored;
 use pathkey::{Key, NoMemory};
 use std::alloc::Global;
@@ -100,6 +101,40 @@ impl<T: Stored> Row<T> {
         }
     }
 
+    /// Moves the first entry of other rows to its place here, and answers what stood there. On want of memory all is as it was.
+    pub(crate) fn take_first(&mut self, from: &mut Vec<Row<T>>) -> Result<Option<T>, NoMemory>
+        requires rises { Rises self.old }
+        requires rows { AreRows from.old.items }
+        requires some { 0 < length from.old.items }
+        ensures rows { AreRows from.new.items }
+        ensures moved { IfOk result (λ was. IsFirstMoved was (joined from.old.items) self.old (joined from.new.items) self.new) }
+        ensures err { OnErr result (self.new ≡ self.old) }
+        ensures kept { OnErr result (joined from.new.items ≡ joined from.old.items) }
+    {
+        own(&mut self.entries, self.gone)?;
+        self.gone = 0;
+        match Arc::get_mut(&mut self.entries) {
+            None => Err(NoMemory),
+            Some(entries) => {
+                let answer = take_first(entries, from);
+                self.head = first_head(self.entries.as_slice());
+                answer
+            }
+        }
+    }
+
+    /// Takes the first entry out. It is moved, or copied where others share the row. On want of memory all is as it was.
+    pub(crate) fn pop(&mut self) -> Result<(Key, T), NoMemory>
+        requires { 0 < length self.old }
+        ensures taken { IfOk result (λ e. self.old ≡ e ∷ self.new) }
+        ensures err { OnErr result (self.new ≡ self.old) }
+    {
+        let (entry, gone) = pop_first(&mut self.entries, self.gone)?;
+        self.gone = gone;
+        self.head = first_head(&self.entries.as_slice()[gone..]);
+        Ok(entry)
+    }
+
     /// Takes the first entries away. It takes no memory.
     pub(crate) fn drop_front(&mut self, count: usize)
         requires { count ≤ length self.old }
@@ -136,6 +171,33 @@ fn shorten<T: Stored>(entries: &mut Arc<Vec<(Key, T)>>, gone: usize) -> usize
     }
 }
 
+/// Takes the first entry out that is not gone, or a copy of it where others hold them. It answers too how many are then to be
+/// passed over.
+fn pop_first<T: Stored>(
+    entries: &mut Arc<Vec<(Key, T)>>,
+    gone: usize,
+) -> Result<((Key, T), usize), NoMemory>
+    requires { gone < length entries.old.value.items }
+    ensures taken { IfOk result (λ r. drop gone entries.old.value.items ≡ r.0 ∷ drop r.1 entries.new.value.items) }
+    ensures bound { IfOk result (λ r. r.1 ≤ length entries.new.value.items) }
+    ensures err { OnErr result (entries.new.value.items ≡ entries.old.value.items) }
+{
+    if let Some(own) = Arc::get_mut(entries) {
+        drop_first(own, gone);
+        return Ok((own.remove(0), 0));
+    }
+    let entry = copied(*entries.allocator(), &entries.as_slice()[gone])?;
+    Ok((entry, gone + 1))
+}
+
+/// An equal entry.
+fn copied<T: Stored>(alloc: Global, entry: &(Key, T)) -> Result<(Key, T), NoMemory>
+    ensures { IfOk result (λ e. e ≡ entry.now) }
+{
+    let key = entry.0.copy(alloc)?;
+    Ok((key, entry.1.copy(alloc)?))
+}
+
 /// Takes copies in the place of entries that are shared, without the first ones, which are gone.
 fn own<T: Stored>(entries: &mut Arc<Vec<(Key, T)>>, gone: usize) -> Result<(), NoMemory>
     requires { gone ≤ length entries.old.value.items }
@@ -166,7 +228,7 @@ fn copy_of<T: Stored>(alloc: Global, entries: &[(Key, T)]) -> Result<Vec<(Key, T
 {
     let mut copy = Vec::with_capacity(alloc, entries.len())?;
     for entry in entries {
-        copy.push((entry.0.copy(alloc)?, entry.1.copy(alloc)?))?;
+        copy.push(copied(alloc, entry)?)?;
     }
     Ok(copy)
 }

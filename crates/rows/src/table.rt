@@ -1,9 +1,10 @@
 //! Rows one behind the other: which of them has a key, the walk to it, and rows that are made two or joined.
 ghost use Rattle.std.specs.Prelude.{◌≡◌, ◌+◌, ◌-◌, ◌<◌, ◌≤◌, ◌^◌, ◌++◌, ◌∷◌, [], length, take, drop, None, Some, OnOk, OnErr, IfOk, IfErr, IfNone, IfSome, true, false, vec_len, vec_capacity};
-ghost use Rattle.std.specs.List.{insert, slice_index_or, slice_set};
+ghost use Rattle.std.specs.List.{insert, slice_get, slice_index_or, slice_set};
 ghost use Rattle.rows.specs.Places.{AreBefore, AreFrom};
 ghost use Rattle.rows.specs.Rows.{joined, row_number, number_in, AreRows, AreSized};
 ghost use Rattle.rows.specs.Changes.{IsPut, IsRowChanged, IsEdited};
+ghost use Rattle.rows.specs.Moves.{IsFirstMoved};
 
 use crate::change::{Change, CutOff, EditAt, Join, Put, Take};
 use crate::edit::{Edit, Edited};
@@ -245,6 +246,46 @@ pub(crate) fn take_row<T: Stored>(rows: &mut Vec<Row<T>>) -> Result<Vec<(Key, T)
         }
         Err(_) => Err(NoMemory),
     }
+}
+
+/// Takes the first entry out. It is moved, or copied where others share its row. On want of memory all is as it was.
+pub(crate) fn pop_entry<T: Stored>(rows: &mut Vec<Row<T>>) -> Result<(Key, T), NoMemory>
+    requires rows { AreRows rows.old.items }
+    requires some { 0 < length rows.old.items }
+    ensures rows { AreRows rows.new.items }
+    ensures taken { IfOk result (λ e. joined rows.old.items ≡ e ∷ joined rows.new.items) }
+    ensures err { OnErr result (joined rows.new.items ≡ joined rows.old.items) }
+{
+    let row = &mut rows[0];
+    let entry = row.pop()?;
+    if !rows[0].entries().is_empty() {
+        return Ok(entry);
+    }
+    rows.remove(0);
+    Ok(entry)
+}
+
+/// Moves the first entry of other rows into the row in which it stands or would, which has room, and answers what stood there. On
+/// want of memory all is as it was.
+pub(crate) fn take_in<T: Stored>(
+    rows: &mut Vec<Row<T>>,
+    n: usize,
+    from: &mut Vec<Row<T>>,
+) -> Result<Option<T>, NoMemory>
+    requires rows { AreRows rows.old.items }
+    requires number { IfSome (slice_get (joined from.old.items) 0) (λ e. n ≡ number_in e.0 rows.old.items) }
+    requires bound { n < length rows.old.items }
+    requires room { length (slice_index_or rows.old.items n []) < 128 }
+    requires from { AreRows from.old.items }
+    requires some { 0 < length from.old.items }
+    ensures rows { AreRows rows.new.items }
+    ensures from { AreRows from.new.items }
+    ensures moved { IfOk result (λ was. IsFirstMoved was (joined from.old.items) (joined rows.old.items) (joined from.new.items) (joined rows.new.items)) }
+    ensures err { OnErr result (joined rows.new.items ≡ joined rows.old.items) }
+    ensures kept { OnErr result (joined from.new.items ≡ joined from.old.items) }
+{
+    let row = &mut rows[n];
+    row.take_first(from)
 }
 
 /// Moves the rows' entries at the key and behind it into rows of their own. On want of memory the entries are as they were.
