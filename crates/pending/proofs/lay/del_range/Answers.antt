@@ -4,7 +4,7 @@ use Rattle.message.specs.Effects.{Takes}
 use Rattle.message.specs.declared.msg.Msg.TheVariants as msg
 use Rattle.pending.specs.Sorted.{sorted_msgs}
 use Rattle.pending.proofs.Coming.{lays_none, takes_range, takes_empty, takes_cleared}
-use Rattle.pending.proofs.sorted.del_range.Goals as goal
+use Rattle.pending.proofs.lay.del_range.Goals as goal
 
 pub returns-then-not-is_before_end-clause-takes : goal.returns-then-not-is_before_end-clause-takes
 returns-then-not-is_before_end-clause-takes g c =

@@ -5,7 +5,7 @@ use Rattle.message.specs.Effects.{Takes}
 use Rattle.message.specs.declared.msg.Msg.TheVariants as msg
 use Rattle.pending.specs.Sorted.{sorted_msgs}
 use Rattle.pending.proofs.Coming.{lays_none, lays_point}
-use Rattle.pending.proofs.sorted.lay.Goals as goal
+use Rattle.pending.proofs.lay.lay.Goals as goal
 
 pub returns-in-Put-clause-takes : goal.returns-in-Put-clause-takes
 returns-in-Put-clause-takes g c = lays_point g.U.Update.means c.put.result (msg.Put c.in-Put.key c.in-Put.value) c.args.msg c.args.ranges.now c.args.points.now c.put.new.points c.in-Put.is c.put.ensures.takes
