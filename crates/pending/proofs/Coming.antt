@@ -1,10 +1,9 @@
 -- What comes to a sorted list.
-use Rattle.std.proofs.Common.{◌≡◌, ℕ, ◌+◌, ◌<◌, ◌≤◌, ◌^◌, List, [], ◌∷◌, ◌++◌, length, drop, take, refl, sym, ap, ◌∙◌, subst, Option, Some, None, Bool, true, false, cond, not, ◌||◌, arith, length-append}
+use Rattle.std.proofs.Common.{◌≡◌, ℕ, ◌+◌, ◌<◌, ◌≤◌, List, [], ◌∷◌, ◌++◌, length, drop, take, refl, sym, ap, ◌∙◌, subst, Option, Some, None, Bool, true, false, cond, not, ◌||◌, arith, length-append}
 use Rattle.std.proofs.Math.Seq.{take-append_seam, drop-append_seam}
 use Rattle.std.specs.List.{All, filter, slice_get}
 use Rattle.std.specs.Prelude.{Result, Ok, Err, OnOk, OnErr}
 use Rattle.std.proofs.lemmas.Result.{on_ok_weaker}
-use Rattle.std.specs.Map.{keys_of}
 use Rattle.std.specs.BTreeMap.{is_at}
 use Rattle.std.proofs.lemmas.Bool.{or_parts}
 use Rattle.std.proofs.lemmas.List.Elements.{All-nil, All-cons}
@@ -17,7 +16,7 @@ use Rattle.rows.specs.Places.{Rises, at_key}
 use Rattle.message.specs.declared.msg.Msg.{Msg}
 use Rattle.message.specs.declared.msg.Msg.TheVariants as msg
 use Rattle.message.specs.Ranges.{within}
-use Rattle.message.specs.Effects.{touches, any_touches, point, effects, made_of, Takes}
+use Rattle.message.specs.Effects.{touches, point, effects, made_of, Takes}
 use Rattle.message.specs.Oldest.{first_point}
 use Rattle.message.proofs.Composing.{untouched_first, untouched_second}
 use Rattle.message.proofs.KeyOrder.{within-same, empty_by}
@@ -28,7 +27,7 @@ use Rattle.points.specs.Points.{point_msgs, point_count, found_effect, AreRuns, 
 use Rattle.ranges.specs.Apart.{Span, covered, range_msgs, CoversMore, TakesFirst as TakesRange}
 use Rattle.pending.specs.Sorted.{sorted_msgs}
 use Rattle.pending.proofs.Runs.{run_alike, run_first, length-run, effects-run_here, effects-run_apart, apart_from_untouched, none_from_untouched, untouched_from_none, length-points}
-use Rattle.pending.proofs.Meaning.{effects-points, effects-ranges, effects-sorted, length-ranges, length-sorted, touches-ranges}
+use Rattle.pending.proofs.Meaning.{effects-points, effects-sorted, length-sorted, touches-ranges}
 
 module _ {U V : Type 0} where
   -- the points that a range leaves

@@ -1,10 +1,9 @@
 -- What a sorted list means at a key.
-use Rattle.std.proofs.Common.{◌≡◌, ℕ, zero, suc, ◌+◌, ◌-◌, List, [], ◌∷◌, ◌++◌, length, drop, refl, sym, ap, ◌∙◌, subst, Option, Some, None, Bool, true, false, cond, ◌||◌, arith, append-nil, length-append}
+use Rattle.std.proofs.Common.{◌≡◌, ℕ, zero, suc, ◌+◌, ◌-◌, List, [], ◌∷◌, ◌++◌, length, drop, refl, sym, ap, ◌∙◌, subst, Option, Some, None, Bool, true, false, cond, ◌||◌, arith, length-append}
 use Rattle.std.specs.Ordering.{is_eq}
 use Rattle.std.specs.List.{slice_get}
 use Rattle.std.specs.Map.{keys_of}
 use Rattle.std.specs.BTreeMap.{is_at}
-use Rattle.std.proofs.lemmas.List.{length-map}
 use Rattle.std.proofs.lemmas.Map.{lookup-none}
 use Rattle.std.proofs.lemmas.Map.Keys.{IsDistinct-from_sorted, sorted_tail}
 use Rattle.std.proofs.lemmas.Map.Entries.{none_past_head, lookup_head, lookup_tail}
@@ -20,11 +19,11 @@ use Rattle.message.specs.Told.{IsTold}
 use Rattle.message.proofs.Lists.{effects-append, any_touches-append}
 use Rattle.message.proofs.NextKey.{by_bool}
 use Rattle.points.specs.Changes.{Change, Put, Del, Edit, msg_at, run_msgs, run_effect}
-use Rattle.points.specs.Points.{point_msgs, point_count, found_effect, left, IsLeft}
-use Rattle.points.specs.Runs.{lent_change, IsToldOf}
+use Rattle.points.specs.Points.{point_msgs, point_count, found_effect, left}
+use Rattle.points.specs.Runs.{IsToldOf}
 use Rattle.ranges.specs.Apart.{Span, covered, range_msgs}
 use Rattle.pending.specs.Sorted.{sorted_msgs}
-use Rattle.pending.proofs.Runs.{effects-run_here, effects-run_apart, untouched_from_none, length-points, points_count, run_count}
+use Rattle.pending.proofs.Runs.{effects-run_here, effects-run_apart, untouched_from_none, length-points, points_count}
 
 module _ (U V : Type 0) where
   pub touches-ranges : (rs : List Span) (q : List ℕ) → any_touches {U = U} {V = V} (range_msgs rs) q ≡ covered rs q

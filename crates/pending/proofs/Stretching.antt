@@ -1,6 +1,6 @@
 -- Where stretches of a sorted list end, and the keys with messages for them alone.
-use Rattle.std.proofs.Common.{◌≡◌, ℕ, suc, ◌+◌, ◌<◌, length, append-nil, ◌⊎◌, inl, inr, ⊎_elim, List, [], ◌∷◌, ◌++◌, refl, sym, ap, ◌∙◌, subst, Option, Some, None, Bool, true, false, cond, ◌||◌, arith}
-use Rattle.std.specs.Prelude.{◌&&◌, Contains, IfSome}
+use Rattle.std.proofs.Common.{◌≡◌, ℕ, ◌<◌, length, append-nil, ◌⊎◌, inl, inr, ⊎_elim, List, [], ◌∷◌, refl, sym, ap, ◌∙◌, subst, Option, Some, None, true, false, cond, ◌||◌}
+use Rattle.std.specs.Prelude.{◌&&◌, Contains}
 use Rattle.std.specs.List.{AllByRecursion, All}
 use Rattle.std.specs.Map.{keys_of}
 use Rattle.std.specs.Ordering.{is_lt}

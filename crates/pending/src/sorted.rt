@@ -11,7 +11,7 @@ ghost use Rattle.message.specs.Stretches.{EndsAhead, is_key};
 ghost use Rattle.message.specs.Told.{IsTold};
 ghost use Rattle.message.specs.declared.told.Told.TheVariants as told;
 ghost use Rattle.rows.specs.Places.{Rises, at_key};
-ghost use Rattle.points.specs.Points.{left, point_count, point_msgs, AreRuns, IsLeft};
+ghost use Rattle.points.specs.Points.{left, AreRuns, IsLeft};
 ghost use Rattle.pending.specs.Lent.{lent_msg};
 ghost use Rattle.pending.specs.Sorted.{sorted_msgs};
 

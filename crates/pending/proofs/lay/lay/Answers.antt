@@ -1,5 +1,4 @@
-use Rattle.std.proofs.Common.{◌≡◌, ap, sym, subst, [], ◌∷◌, ◌++◌}
-use Rattle.std.specs.Prelude.{OnErr}
+use Rattle.std.proofs.Common.{◌≡◌, ap, [], ◌∷◌, ◌++◌}
 use Rattle.std.proofs.lemmas.Result.{IfErr-weaker}
 use Rattle.message.specs.Effects.{Takes}
 use Rattle.message.specs.declared.msg.Msg.TheVariants as msg

@@ -1,4 +1,4 @@
-use Rattle.std.proofs.Common.{◌≡◌, [], ap, sym, ◌∙◌, Some, None, arith}
+use Rattle.std.proofs.Common.{[], ap, ◌∙◌, Some, None, arith}
 use Rattle.message.proofs.Cutting.{both_parts}
 use Rattle.points.specs.Points.{left, point_count, point_msgs}
 use Rattle.points.proofs.Counting.{none_gone, some_left}

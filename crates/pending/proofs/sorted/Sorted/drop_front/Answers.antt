@@ -2,7 +2,7 @@ use Rattle.std.proofs.Common.{◌≡◌, ◌+◌, ◌-◌, ◌<◌, ◌≤◌, �
 use Rattle.std.proofs.lemmas.List.{drop-map, drop-drop}
 use Rattle.message.specs.declared.msg.Msg.{Msg}
 use Rattle.message.specs.declared.msg.Msg.TheVariants.{DelRange}
-use Rattle.points.specs.Points.{left, point_count, point_msgs}
+use Rattle.points.specs.Points.{left, point_msgs}
 use Rattle.ranges.specs.Apart.{Span, range_msgs}
 use Rattle.message.proofs.Condensing.{drop_parts}
 use Rattle.pending.proofs.Meaning.{length-ranges, length-sorted}
