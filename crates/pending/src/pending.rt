@@ -400,14 +400,18 @@ impl<U: Update> Pending<U> {
     /// Moves all messages to another list, where they are newer than all that are there. On want of memory some may have moved,
     /// and both lists together mean the same.
     ///
-    /// Most move as they lie in memory. Copied are the messages of the other list's tail that further lists share; updates of a key
-    /// that has messages in the other list; and a range-delete that holds a key with messages there, or reaches over the end of a
-    /// range-delete there.
+    /// An empty list takes the other as it is. Else most messages move as they lie in memory. Copied are those of the other list's
+    /// tail that further lists share; those in rows that further lists share; updates of a key that has messages in the other list;
+    /// and a range-delete that holds a key with messages there.
     pub fn sink_all(&mut self, to: &mut Pending<U>) -> Result<(), NoMemory>
         ensures ok { OnOk result (Takes U.means to.old.0 self.old.0 to.new.0) }
         ensures moved { OnOk result (self.new.0 ≡ []) }
         ensures some { OnErr result (Takes U.means (to.old.0 ++ self.old.0) [] (to.new.0 ++ self.new.0)) }
     {
+        if to.len() == 0 {
+            std::mem::swap(self, to);
+            return Ok(());
+        }
         fold_all(&mut to.sorted, &mut to.fresh);
         while !self.sink_more(to)? {}
         Ok(())

@@ -1,10 +1,21 @@
-use Rattle.std.proofs.Common.{◌++◌, [], ap, ◌∙◌, subst}
-use Rattle.std.proofs.lemmas.List.{append-nil}
+use Rattle.std.proofs.Common.{◌≡◌, ◌++◌, [], ap, sym, ◌∙◌, subst, arith}
+use Rattle.std.proofs.lemmas.List.{append-nil, nil_from_length}
 use Rattle.message.specs.Effects.{Takes}
 use Rattle.message.proofs.Composing.{takes-then}
 use Rattle.message.proofs.Condensing.{takes_whole}
+use Rattle.message.proofs.Lists.{takes-append}
 use Rattle.message.proofs.SideBySide.{takes_before}
 use Rattle.pending.proofs.pending.Pending.sink_all.Goals as goal
+
+pub returns-then-len-eq0-clause-ok : goal.returns-then-len-eq0-clause-ok
+returns-then-len-eq0-clause-ok g c =
+    let means = g.U.Update.means in
+    let from = c.args.self.now.0 in
+    let none : c.args.to.now.0 ≡ [] = nil_from_length c.args.to.now.0 (omega (arith, c.len.ensures, c.if-len-eq0.true)) in
+    subst (λ t. Takes means t from c.swap.new.y.0) (sym none) (subst (λ t. Takes means [] from t) (sym (ap (λ (t : _). t.0) c.swap.ensures.y_after)) (takes-append means [] from))
+
+pub returns-then-len-eq0-clause-moved : goal.returns-then-len-eq0-clause-moved
+returns-then-len-eq0-clause-moved g c = ap (λ (t : _). t.0) c.swap.ensures.x_after ∙ nil_from_length c.args.to.now.0 (omega (arith, c.len.ensures, c.if-len-eq0.true))
 
 pub loop-init : goal.loop-init
 loop-init g c =
