@@ -1,0 +1,6 @@
+pub mod Runs
+pub mod Meaning
+pub mod Coming
+pub mod OneKey
+pub mod Stretching
+pub mod Cutting

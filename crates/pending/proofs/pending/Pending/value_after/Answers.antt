@@ -1,0 +1,15 @@
+use Rattle.std.proofs.Common.{◌≡◌, ap}
+use Rattle.std.proofs.lemmas.Result.{IfOk-weaker}
+use Rattle.message.specs.Effects.{effects}
+use Rattle.message.proofs.Condensing.{value_behind}
+use Rattle.pending.proofs.pending.Pending.value_after.Goals as goal
+
+pub returns : goal.returns
+returns g c =
+    let means = g.U.Update.means in
+    let k = c.args.key.now in
+    let s = c.self.inside.sorted in
+    let f = c.self.inside.fresh.0 in
+    IfOk-weaker c.lay_over.result (λ v. v ≡ effects means f k c.in_ok-value.value) (λ v. v ≡ effects means c.args.self.now.0 k c.args.old)
+    (λ v h. value_behind means s f c.args.self.now.0 k c.args.old c.in_ok-value.value v (ap (λ p. p.0) c.self.view_is) c.in_ok-value.ensures h)
+    c.lay_over.ensures

@@ -1,0 +1,4 @@
+pub mod Lent
+pub mod Parts
+pub mod Sorted
+pub mod Waiting

@@ -1,0 +1,633 @@
+//! The messages that wait in one slot, the oldest first.
+//!
+//! Contracts see a list of messages and for how many more there is room. What is added is promised by its
+//! meaning alone (`Takes`): the list is sorted and condenses, so that it holds fewer messages that mean the same, and
+//! callers that rely on the contract do not notice. No call lends a message or asks for one by its number.
+ghost use Rattle.std.specs.Prelude.{◌≡◌, ◌+◌, ◌≤◌, ◌<◌, ◌++◌, [], ◌∷◌, true, false, length, take, drop, Some, None, IfOk, IfNone, IfSome, OnOk, OnErr, MatchOption};
+ghost use Rattle.std.specs.Option.{option_copied, option_map};
+ghost use Rattle.std.specs.List.{All, slice_get};
+ghost use Rattle.message.specs.Cuts.{pieces, IsJoined, IsUpTo, LieIn};
+ghost use Rattle.message.specs.Effects.{effects, point, range_count, Takes};
+ghost use Rattle.pending.specs.Lent.{lent_msg};
+ghost use Rattle.message.specs.Oldest.{first_point, first_put, first_given, meets_first, covers_first};
+ghost use Rattle.message.specs.PointKeys.{is_cleared, IsNextPoint, IsClearStretch};
+ghost use Rattle.message.specs.Stretches.{IsStretch};
+ghost use Rattle.message.specs.Told.{IsTold};
+ghost use Rattle.pathkey.specs.Keys.{is_below};
+
+use crate::lent::Lent;
+use crate::sorted::Sorted;
+use crate::tail::Tail;
+use message::ends::is_before_end;
+use message::{Changes, Msg, Taken, Told, Update};
+use pathkey::{Key, NoMemory};
+use std::alloc::Global;
+use std::marker::Model;
+
+/// So many messages of a tail are folded at once: as many as a node may hold.
+const FOLDS: usize = 1024;
+
+/// A pending list: a sorted part, and a tail of newer messages as they came.
+///
+/// A message comes into the tail where the slot has a mark, or where it found no memory for its place. The next message that
+/// comes without a mark first folds the tail into the sorted part, so a list whose mark is gone condenses again.
+pub struct Pending<U: Changes> {
+    sorted: Sorted<U>,
+    fresh: Tail<U>,
+}
+
+// Written out, as that of `pathkey::Key`.
+impl<U: Changes + Drop> Drop for Pending<U> {
+    fn drop(self) {
+        let Pending {
+            sorted: _,
+            fresh: _,
+        } = self;
+    }
+}
+
+impl<U: Changes> Model for Pending<U> {
+    ghost use Rattle.std.specs.Prelude.{List, ℕ, ◌++◌};
+    ghost use Rattle.message.specs.declared.msg.Msg.{Msg};
+
+    ghost Value = { List (Msg U U.Value) × ℕ };
+
+    ghost view = { λ p. (p.sorted ++ p.fresh.0, p.fresh.1) };
+}
+
+// ---- what comes in
+
+impl<U: Update> Pending<U> {
+    /// A list without messages. It takes no memory.
+    pub fn new(alloc: Global) -> Pending<U>
+        ensures { result.0 ≡ [] }
+    {
+        Pending {
+            sorted: Sorted::new(alloc),
+            fresh: Tail::new(alloc),
+        }
+    }
+
+    /// Makes room for so many messages more. The messages and the room that was there stay, whatever it
+    /// answers, and it is refused only where it needed more room.
+    pub fn reserve(&mut self, more: usize) -> Result<(), NoMemory>
+        ensures messages { self.new.0 ≡ self.old.0 }
+        ensures kept { self.old.1 ≤ self.new.1 }
+        ensures room { OnOk result (more ≤ self.new.1) }
+        ensures refused { OnErr result (self.old.1 < more) }
+    {
+        self.fresh.reserve(more)
+    }
+
+    /// Adds a message, newer than all others, into reserved room. What it makes idle goes, and an update joins those of its key
+    /// where it can.
+    #[inline(always)]
+    pub fn push_reserved(&mut self, msg: Msg<U>)
+        requires { 0 < self.old.1 }
+        ensures takes { Takes U.means self.old.0 (msg ∷ []) self.new.0 }
+        ensures room { self.old.1 ≤ self.new.1 + 1 }
+    {
+        lay(&mut self.sorted, &mut self.fresh, msg);
+    }
+
+    /// Adds all messages of `newer`, in their order and newer than all others, into reserved room, and
+    /// leaves `newer` empty.
+    pub fn append_reserved(&mut self, newer: &mut Vec<Msg<U>>)
+        requires { length newer.old.items ≤ self.old.1 }
+        ensures takes { Takes U.means self.old.0 newer.old.items self.new.0 }
+        ensures moved { newer.new.items ≡ [] }
+        ensures room { self.old.1 ≤ self.new.1 + length newer.old.items }
+    {
+        let empty = Vec::new(*newer.allocator());
+        let mut taken = Taken::of(std::mem::replace(newer, empty));
+        while let Some(msg) = taken.next() {
+            self.push_reserved(msg);
+        }
+    }
+
+    /// The same, with the messages that were there and the new ones left as they are, for a slot with a mark.
+    pub fn append_kept(&mut self, newer: &mut Vec<Msg<U>>)
+        requires { length newer.old.items ≤ self.old.1 }
+        ensures messages { self.new.0 ≡ self.old.0 ++ newer.old.items }
+        ensures moved { newer.new.items ≡ [] }
+        ensures room { self.old.1 ≤ self.new.1 + length newer.old.items }
+    {
+        self.fresh.append(newer);
+    }
+
+    /// The same for one message.
+    pub fn push_kept(&mut self, msg: Msg<U>)
+        requires { 0 < self.old.1 }
+        ensures messages { self.new.0 ≡ self.old.0 ++ msg ∷ [] }
+        ensures room { self.old.1 ≤ self.new.1 + 1 }
+    {
+        self.fresh.push_reserved(msg);
+    }
+
+    // ---- what is counted
+
+    /// How many messages the list holds.
+    #[inline(always)]
+    pub fn len(&self) -> usize
+        ensures { result ≡ length self.now.0 }
+    {
+        self.sorted.len() + self.fresh.len()
+    }
+
+    /// How many of the messages are range-deletes, without the `gone` oldest.
+    pub fn range_deletes(&self, gone: usize) -> usize
+        requires { gone ≤ length self.now.0 }
+        ensures { result ≡ range_count (drop gone self.now.0) }
+    {
+        let sorted = gone.min(self.sorted.len());
+        self.sorted.range_deletes(sorted) + self.fresh.count_ranges(gone - sorted)
+    }
+
+    // ---- the oldest message
+
+    /// The oldest message, if there is one.
+    #[inline(always)]
+    fn oldest(&self) -> Option<Lent<'_, U>>
+        ensures { option_map lent_msg result ≡ slice_get self.now.0 0 }
+    {
+        match self.sorted.oldest() {
+            Some(lent) => Some(lent),
+            None => self.fresh.oldest(),
+        }
+    }
+
+    /// The key of the oldest message, if it is for one key.
+    pub fn oldest_point(&self) -> Option<&Key>
+        ensures { option_copied result ≡ first_point self.now.0 }
+    {
+        match self.oldest() {
+            None => None,
+            Some(lent) => lent.point(),
+        }
+    }
+
+    /// The key to which the oldest message gives a value, if it is a put.
+    pub fn oldest_put(&self) -> Option<&Key>
+        ensures { option_copied result ≡ first_put self.now.0 }
+    {
+        match self.oldest() {
+            None => None,
+            Some(lent) => lent.put(),
+        }
+    }
+
+    /// The key to which the oldest message may give a value, if it is a put or an edit.
+    pub fn oldest_given(&self) -> Option<&Key>
+        ensures { option_copied result ≡ first_given self.now.0 }
+    {
+        match self.oldest() {
+            None => None,
+            Some(lent) => lent.given(),
+        }
+    }
+
+    /// Whether there is an oldest message and it has a part from `lo` up to and without `hi`.
+    pub fn oldest_meets(&self, lo: &Key, hi: Option<&Key>) -> bool
+        ensures { result ≡ meets_first lo.now (option_copied hi.entry) self.now.0 }
+    {
+        match self.oldest() {
+            None => false,
+            Some(lent) => lent.meets(lo, hi),
+        }
+    }
+
+    /// Whether there is an oldest message and it is a range-delete of every key from `lo` up to and without `hi`.
+    pub fn oldest_covers(&self, lo: &Key, hi: Option<&Key>) -> bool
+        ensures { result ≡ covers_first lo.now (option_copied hi.entry) self.now.0 }
+    {
+        match self.oldest() {
+            None => false,
+            Some(lent) => lent.covers(lo, hi),
+        }
+    }
+
+    // ---- what goes out
+
+    /// Copies of the `count` oldest messages.
+    pub fn copy_front(&self, alloc: Global, count: usize) -> Result<Vec<Msg<U>>, NoMemory>
+        requires { count ≤ length self.now.0 }
+        ensures { IfOk result (λ front. front.items ≡ take count self.now.0) }
+    {
+        let mut front = self.sorted.copy_front(alloc, count)?;
+        let sorted = count.min(self.sorted.len());
+        self.fresh.copy_oldest(alloc, count - sorted, &mut front)?;
+        Ok(front)
+    }
+
+    /// A list of the same messages.
+    pub fn copy(&self, alloc: Global) -> Result<Pending<U>, NoMemory>
+        ensures { IfOk result (λ p. p.0 ≡ self.now.0) }
+    {
+        let sorted = self.sorted.copy()?;
+        let fresh = self.fresh.copy(alloc)?;
+        Ok(Pending { sorted, fresh })
+    }
+
+    /// A list of the messages but the `gone` oldest, cut from `lo` up to and without `hi`.
+    pub fn copy_between(
+        &self,
+        alloc: Global,
+        gone: usize,
+        lo: &Key,
+        hi: Option<&Key>,
+    ) -> Result<Pending<U>, NoMemory>
+        requires { gone ≤ length self.now.0 }
+        ensures { IfOk result (λ p. Takes U.means [] (pieces lo.now (option_copied hi.entry) (drop gone self.now.0)) p.0) }
+    {
+        let mut rest = self.copy(alloc)?;
+        rest.drop_front(gone);
+        rest.keep_before(alloc, hi)?;
+        let (_, list) = rest.cut_at(alloc, lo)?;
+        Ok(list)
+    }
+
+    /// Leaves the parts of the messages before the end alone, if there is one. On want of memory any may be gone.
+    fn keep_before(&mut self, alloc: Global, end: Option<&Key>) -> Result<(), NoMemory>
+        ensures { OnOk result (IsUpTo (option_copied end.entry) self.old.0 self.new.0) }
+    {
+        let Some(end) = end else {
+            return Ok(());
+        };
+        let all = std::mem::replace(self, Pending::new(alloc));
+        let (front, _) = all.cut_at(alloc, end)?;
+        *self = front;
+        Ok(())
+    }
+
+    /// The parts of the messages before the pivot, and those from it on. No message is copied but a range-delete over the pivot.
+    fn cut_at(self, alloc: Global, pivot: &Key) -> Result<(Pending<U>, Pending<U>), NoMemory>
+        ensures front { IfOk result (λ r. r.0.0 ≡ pieces [] (Some pivot.now) self.0) }
+        ensures back { IfOk result (λ r. r.1.0 ≡ pieces pivot.now None self.0) }
+    {
+        let Pending { sorted, fresh } = self;
+        let (front, back) = sorted.cut_at(alloc, pivot)?;
+        let (before, behind) = fresh.cut_at(alloc, pivot)?;
+        let front = Pending {
+            sorted: front,
+            fresh: before,
+        };
+        let back = Pending {
+            sorted: back,
+            fresh: behind,
+        };
+        Ok((front, back))
+    }
+
+    /// Cuts the list at the pivot, without its `gone` oldest messages: it keeps what lies from `lo` up to the pivot, and answers
+    /// what lies from the pivot on. A range-delete over the pivot is cut too. On want of memory the list is as it was.
+    pub fn split_off(
+        &mut self,
+        alloc: Global,
+        gone: usize,
+        lo: &Key,
+        pivot: &Key,
+    ) -> Result<Pending<U>, NoMemory>
+        requires { gone ≤ length self.old.0 }
+        ensures front { OnOk result (Takes U.means [] (pieces lo.now (Some pivot.now) (drop gone self.old.0)) self.new.0) }
+        ensures back { IfOk result (λ p. Takes U.means [] (pieces pivot.now None (drop gone self.old.0)) p.0) }
+        ensures err { OnErr result (self.new ≡ self.old) }
+    {
+        if let Some(back) = self.move_off(alloc, gone, lo, pivot)? {
+            return Ok(back);
+        }
+        let mut rest = self.copy(alloc)?;
+        rest.drop_front(gone);
+        let (front, back) = rest.cut_at(alloc, pivot)?;
+        let (_, front) = front.cut_at(alloc, lo)?;
+        *self = front;
+        Ok(back)
+    }
+
+    /// The same by moves, where that can be: where the list has no tail and no range-delete, and no message lies before `lo`.
+    fn move_off(
+        &mut self,
+        alloc: Global,
+        gone: usize,
+        lo: &Key,
+        pivot: &Key,
+    ) -> Result<Option<Pending<U>>, NoMemory>
+        requires { gone ≤ length self.old.0 }
+        ensures front { IfOk result (λ o. MatchOption o (self.new ≡ self.old) (λ _. self.new.0 ≡ pieces lo.now (Some pivot.now) (drop gone self.old.0))) }
+        ensures back { IfOk result (λ o. IfSome o (λ p. p.0 ≡ pieces pivot.now None (drop gone self.old.0))) }
+        ensures err { OnErr result (self.new ≡ self.old) }
+    {
+        if self.fresh.len() > 0 {
+            return Ok(None);
+        }
+        let Some(sorted) = self.sorted.split_off(alloc, lo, pivot)? else {
+            return Ok(None);
+        };
+        let fresh = Tail::new(alloc);
+        let mut back = Pending { sorted, fresh };
+        let first = gone.min(self.len());
+        self.drop_front(first);
+        back.drop_front(gone - first);
+        Ok(Some(back))
+    }
+
+    /// Moves the oldest messages to another list, where they are newer than all others, and counts them: all of one key as they
+    /// lie in memory, where there are at most `most` and that can be, else the first. On want of memory both lists are as they
+    /// were.
+    pub fn sink_oldest(&mut self, to: &mut Pending<U>, most: usize) -> Result<usize, NoMemory>
+        ensures takes { IfOk result (λ n. Takes U.means to.old.0 (take n self.old.0) to.new.0) }
+        ensures left { IfOk result (λ n. self.new.0 ≡ drop n self.old.0) }
+        ensures within { IfOk result (λ n. (n ≤ most) × (n ≤ length self.old.0)) }
+        ensures some { IfOk result (λ n. 0 < most → 0 < length self.old.0 → 0 < n) }
+        ensures still { IfOk result (λ n. n ≡ 0 → to.new.0 ≡ to.old.0) }
+        ensures alike { IfOk result (λ n. All (λ m. point m ≡ first_point self.old.0) (take n self.old.0)) }
+        ensures err { OnErr result ((self.new.0 ≡ self.old.0) × (to.new.0 ≡ to.old.0)) }
+    {
+        if most == 0 {
+            return Ok(0);
+        }
+        match self.sink_run(to, most) {
+            Some(count) => Ok(count),
+            None => self.sink_one(to),
+        }
+    }
+
+    /// Moves the oldest messages, those of one key and at most `most`, as they lie in memory, and counts them. None move where
+    /// the other list has a tail, or where its sorted part takes none.
+    fn sink_run(&mut self, to: &mut Pending<U>, most: usize) -> Option<usize>
+        ensures takes { IfSome result (λ n. Takes U.means to.old.0 (take n self.old.0) to.new.0) }
+        ensures left { IfSome result (λ n. self.new.0 ≡ drop n self.old.0) }
+        ensures within { IfSome result (λ n. (0 < n) × (n ≤ most) × (n ≤ length self.old.0)) }
+        ensures alike { IfSome result (λ n. All (λ m. point m ≡ first_point self.old.0) (take n self.old.0)) }
+        ensures none { IfNone result ((self.new.0 ≡ self.old.0) × (to.new.0 ≡ to.old.0)) }
+    {
+        if to.fresh.len() > 0 {
+            return None;
+        }
+        let alloc = to.fresh.allocator();
+        let count = to.sorted.take_first(alloc, &mut self.sorted, most)?;
+        Some(count)
+    }
+
+    /// Moves the oldest message, if there is one, and answers how many moved.
+    fn sink_one(&mut self, to: &mut Pending<U>) -> Result<usize, NoMemory>
+        ensures takes { IfOk result (λ n. Takes U.means to.old.0 (take n self.old.0) to.new.0) }
+        ensures left { IfOk result (λ n. self.new.0 ≡ drop n self.old.0) }
+        ensures within { IfOk result (λ n. (n ≤ 1) × (n ≤ length self.old.0)) }
+        ensures some { IfOk result (λ n. 0 < length self.old.0 → 0 < n) }
+        ensures still { IfOk result (λ n. n ≡ 0 → to.new.0 ≡ to.old.0) }
+        ensures alike { IfOk result (λ n. All (λ m. point m ≡ first_point self.old.0) (take n self.old.0)) }
+        ensures err { OnErr result ((self.new.0 ≡ self.old.0) × (to.new.0 ≡ to.old.0)) }
+    {
+        to.reserve(1)?;
+        let Some(msg) = self.first_copy()? else {
+            return Ok(0);
+        };
+        self.drop_front(1);
+        to.push_reserved(msg);
+        Ok(1)
+    }
+
+    /// A copy of the oldest message, if there is one.
+    fn first_copy(&self) -> Result<Option<Msg<U>>, NoMemory>
+        ensures { IfOk result (λ o. o ≡ slice_get self.now.0 0) }
+    {
+        match self.oldest() {
+            None => Ok(None),
+            Some(lent) => Ok(Some(lent.copy(self.fresh.allocator())?)),
+        }
+    }
+
+    /// Moves all messages to another list, where they are newer than all that are there. On want of memory some may have moved,
+    /// and both lists together mean the same.
+    ///
+    /// An empty list takes the other as it is. Else most messages move as they lie in memory. Copied are those of the other list's
+    /// tail that further lists share; those in rows that further lists share; updates of a key that has messages in the other list;
+    /// and a range-delete that holds a key with messages there.
+    pub fn sink_all(&mut self, to: &mut Pending<U>) -> Result<(), NoMemory>
+        ensures ok { OnOk result (Takes U.means to.old.0 self.old.0 to.new.0) }
+        ensures moved { OnOk result (self.new.0 ≡ []) }
+        ensures some { OnErr result (Takes U.means (to.old.0 ++ self.old.0) [] (to.new.0 ++ self.new.0)) }
+    {
+        if to.len() == 0 {
+            std::mem::swap(self, to);
+            return Ok(());
+        }
+        fold_all(&mut to.sorted, &mut to.fresh);
+        while !self.sink_more(to)? {}
+        Ok(())
+    }
+
+    /// Moves the oldest messages of the sorted part, or where it has none the tail, and says whether that was all. On want of
+    /// memory both lists are as they were.
+    fn sink_more(&mut self, to: &mut Pending<U>) -> Result<bool, NoMemory>
+        ensures same { OnOk result (Takes U.means (to.old.0 ++ self.old.0) [] (to.new.0 ++ self.new.0)) }
+        ensures all { IfOk result (λ all. all ≡ true → self.new.0 ≡ []) }
+        ensures fewer { IfOk result (λ all. all ≡ false → length self.new.0 < length self.old.0) }
+        ensures err { OnErr result ((self.new.0 ≡ self.old.0) × (to.new.0 ≡ to.old.0)) }
+    {
+        let most = self.sorted.len();
+        if most > 0 {
+            self.sink_oldest(to, most)?;
+            return Ok(false);
+        }
+        to.fresh.join(&mut self.fresh)?;
+        Ok(true)
+    }
+
+    /// A list of the messages of both lists, those of `newer` newer than all others. Where one list lies before the pivot and the
+    /// newer one from it on, the messages are moved as they lie in memory; else they sink as [`Pending::sink_all`] lets them.
+    pub fn joined(
+        self,
+        alloc: Global,
+        newer: Pending<U>,
+        pivot: &Key,
+    ) -> Result<Pending<U>, NoMemory>
+        ensures { IfOk result (λ p. Takes U.means self.0 newer.0 p.0) }
+    {
+        if self.lies_before(alloc, pivot) && newer.lies_from(pivot) {
+            return self.joined_at(alloc, newer, pivot);
+        }
+        let mut all = self;
+        let mut rest = newer;
+        rest.sink_all(&mut all)?;
+        Ok(all)
+    }
+
+    /// Whether each message lies whole before the pivot.
+    fn lies_before(&self, alloc: Global, pivot: &Key) -> bool
+        ensures { result ≡ true → LieIn [] (Some pivot.now) self.now.0 }
+    {
+        self.sorted.lies_before(pivot) && self.fresh.lies_before(alloc, pivot)
+    }
+
+    /// Whether each message lies whole from the pivot on.
+    fn lies_from(&self, pivot: &Key) -> bool
+        ensures { result ≡ true → LieIn pivot.now None self.now.0 }
+    {
+        self.sorted.lies_from(pivot) && self.fresh.lies_from(pivot)
+    }
+
+    /// A list of the messages of both lists, as they lie in memory.
+    fn joined_at(
+        self,
+        alloc: Global,
+        newer: Pending<U>,
+        pivot: &Key,
+    ) -> Result<Pending<U>, NoMemory>
+        requires before { LieIn [] (Some pivot.now) self.0 }
+        requires from { LieIn pivot.now None newer.0 }
+        ensures { IfOk result (λ p. IsJoined pivot.now self.0 newer.0 p.0) }
+    {
+        let Pending { sorted, mut fresh } = self;
+        let Pending {
+            sorted: later,
+            fresh: mut behind,
+        } = newer;
+        fresh.join(&mut behind)?;
+        let sorted = sorted.joined(alloc, later, pivot)?;
+        Ok(Pending { sorted, fresh })
+    }
+
+    /// Takes the `count` oldest messages away.
+    pub fn drop_front(&mut self, count: usize)
+        requires { count ≤ length self.old.0 }
+        ensures messages { self.new.0 ≡ drop count self.old.0 }
+        ensures room { self.old.1 ≤ self.new.1 }
+    {
+        let sorted = count.min(self.sorted.len());
+        self.sorted.drop_front(sorted);
+        self.fresh.drop_oldest(count - sorted);
+    }
+
+    // ---- what is asked
+
+    /// What the list says of the value at the key. It copies nothing but a value that it settles. Where a message of
+    /// the tail touches the key, it settles none.
+    pub fn told(&self, alloc: Global, key: &Key) -> Result<Told<U::Value>, NoMemory>
+        ensures { IfOk result (IsTold U.means self.now.0 key.now) }
+    {
+        if self.fresh.is_touched(key) {
+            return Ok(Told::Change);
+        }
+        self.sorted.told(alloc, key)
+    }
+
+    /// The value at `key` after the messages, where `old` was there.
+    pub fn value_after(
+        &self,
+        alloc: Global,
+        key: &Key,
+        old: Option<U::Value>,
+    ) -> Result<Option<U::Value>, NoMemory>
+        ensures { IfOk result (λ v. v ≡ effects U.means self.now.0 key.now old) }
+    {
+        let value = self.sorted.value_after(alloc, key, old)?;
+        self.fresh.lay_over(alloc, key, value)
+    }
+
+    /// Where the stretch of keys that begins at `from` ends: up to there, at `end` or before it, each message touches all
+    /// keys or none.
+    pub fn stretch_end(
+        &self,
+        alloc: Global,
+        from: &Key,
+        end: Option<&Key>,
+    ) -> Result<Option<Key>, NoMemory>
+        requires { is_below from.now (option_copied end) ≡ true }
+        ensures { IfOk result (λ stop. IsStretch self.now.0 from.now (option_copied end.entry) stop) }
+    {
+        match self.sorted.stretch_end(from, end) {
+            None => Ok(Some(from.next(alloc)?)),
+            Some(stop) => self.fresh.stretch_stop(alloc, from, stop),
+        }
+    }
+
+    /// The first key from `from` up to and without `end` that has a message for it alone, if there is one.
+    pub fn next_point<'a>(&'a self, from: &'a Key, end: Option<&'a Key>) -> Option<&'a Key>
+        ensures { IsNextPoint self.now.0 from.now (option_copied end.entry) (option_copied result) }
+    {
+        let stop = self.sorted.next_point(from, end);
+        let Some(key) = self.fresh.next_point(from, stop) else {
+            return None;
+        };
+        if !is_before_end(key, end) {
+            return None;
+        }
+        Some(key)
+    }
+
+    /// Whether a range-delete holds the key: then no older value is left there.
+    pub fn is_cleared(&self, key: &Key) -> bool
+        ensures { result ≡ is_cleared self.now.0 key.now }
+    {
+        self.sorted.is_cleared(key) || self.fresh.is_cleared(key)
+    }
+
+    /// Up to where the range-deletes hold all keys from `from` on, or none: at `end` or before it.
+    pub fn cleared_end(
+        &self,
+        alloc: Global,
+        from: &Key,
+        end: Option<&Key>,
+    ) -> Result<Option<Key>, NoMemory>
+        requires { is_below from.now (option_copied end) ≡ true }
+        ensures { IfOk result (λ stop. IsClearStretch self.now.0 from.now (option_copied end.entry) stop) }
+    {
+        let first = self.sorted.cleared_end(from, end);
+        self.fresh.stretch_stop(alloc, from, first)
+    }
+}
+
+/// Lays a message over the sorted part, or puts it behind the others where it finds no place there.
+#[inline(always)]
+fn lay<U: Update>(sorted: &mut Sorted<U>, fresh: &mut Tail<U>, msg: Msg<U>)
+    requires { 0 < fresh.old.1 }
+    ensures takes { Takes U.means (sorted.old ++ fresh.old.0) (msg ∷ []) (sorted.new ++ fresh.new.0) }
+    ensures room { fresh.old.1 ≤ fresh.new.1 + 1 }
+{
+    fold(sorted, fresh);
+    if fresh.len() > 0 {
+        fresh.push_reserved(msg);
+        return;
+    }
+    if let Err(msg) = sorted.push(fresh.allocator(), msg) {
+        fresh.push_reserved(msg);
+    }
+}
+
+/// Folds the tail into the sorted part, the oldest message first, up to one that finds no place there, and at most [`FOLDS`]
+/// messages.
+fn fold<U: Update>(sorted: &mut Sorted<U>, fresh: &mut Tail<U>)
+    ensures same { Takes U.means (sorted.old ++ fresh.old.0) [] (sorted.new ++ fresh.new.0) }
+    ensures room { fresh.old.1 ≤ fresh.new.1 }
+{
+    let mut more = FOLDS;
+    while more > 0 && fold_oldest(sorted, fresh) {
+        more -= 1;
+    }
+}
+
+/// Folds the tail into the sorted part, the oldest message first, up to one that finds no place there.
+fn fold_all<U: Update>(sorted: &mut Sorted<U>, fresh: &mut Tail<U>)
+    ensures same { Takes U.means (sorted.old ++ fresh.old.0) [] (sorted.new ++ fresh.new.0) }
+{
+    while fold_oldest(sorted, fresh) {}
+}
+
+/// Lays the oldest message of the tail over the sorted part, and says whether it did; else both stay.
+fn fold_oldest<U: Update>(sorted: &mut Sorted<U>, fresh: &mut Tail<U>) -> bool
+    ensures same { Takes U.means (sorted.old ++ fresh.old.0) [] (sorted.new ++ fresh.new.0) }
+    ensures room { fresh.old.1 ≤ fresh.new.1 }
+    ensures fewer { result ≡ true → length fresh.new.0 < length fresh.old.0 }
+{
+    let Some(msg) = fresh.pop() else {
+        return false;
+    };
+    match sorted.push(fresh.allocator(), msg) {
+        Ok(()) => true,
+        Err(msg) => {
+            fresh.push_front_reserved(msg);
+            false
+        }
+    }
+}

@@ -1,0 +1,326 @@
+//! Messages as they came, the oldest first, which leave at the front.
+//!
+//! A queue holds them, so that the oldest one leaves without moving the others. Several tails may share a message.
+ghost use Rattle.std.specs.Prelude.{◌≡◌, ◌+◌, ◌^◌, ◌≤◌, ◌<◌, ◌++◌, [], ◌∷◌, true, length, take, drop, Some, None, IfOk, IfNone, IfSome, OnOk, OnErr};
+ghost use Rattle.std.specs.Option.{option_copied, option_map, option_to_list};
+ghost use Rattle.std.specs.List.{slice_get};
+ghost use Rattle.message.specs.Cuts.{pieces, LieIn};
+ghost use Rattle.message.specs.Effects.{any_touches, effects, range_count};
+ghost use Rattle.pending.specs.Lent.{lent_msg};
+ghost use Rattle.message.specs.PointKeys.{is_cleared, IsPointStop};
+ghost use Rattle.message.specs.Stretches.{IsStretch};
+ghost use Rattle.pathkey.specs.Keys.{is_below};
+
+use crate::lent::Lent;
+use crate::list::{copy_behind, is_cleared, is_touched, lay_all, lie_in, ranges_in, share_behind};
+use crate::stretch::{next_point, stretch_end};
+use crate::waiting::Waiting;
+use message::{Changes, Msg, Taken, Update};
+use pathkey::{Key, NoMemory};
+use std::alloc::Global;
+use std::collections::VecDeque;
+use std::marker::Model;
+use std::sync::Arc;
+
+/// Messages as they came, and room for more.
+#[derive(Drop)]
+pub struct Tail<U: Changes> {
+    msgs: VecDeque<Waiting<U>>,
+}
+
+impl<U: Changes> Model for Tail<U> {
+    ghost use Rattle.std.specs.Prelude.{List, ℕ, ◌-◌};
+    ghost use Rattle.std.specs.VecDeque.{deque_len, deque_capacity};
+    ghost use Rattle.message.specs.declared.msg.Msg.{Msg};
+
+    ghost Value = { List (Msg U U.Value) × ℕ };
+
+    ghost view = { λ t. (t.msgs.items, deque_capacity t.msgs - deque_len t.msgs) };
+}
+
+impl<U: Update> Tail<U> {
+    /// A tail without messages. It takes no memory.
+    pub(crate) fn new(alloc: Global) -> Tail<U>
+        ensures { result.0 ≡ [] }
+    {
+        Tail {
+            msgs: VecDeque::new(alloc),
+        }
+    }
+
+    /// The allocator of its room.
+    pub(crate) fn allocator(&self) -> Global {
+        *self.msgs.allocator()
+    }
+
+    /// How many messages it holds.
+    #[inline(always)]
+    pub(crate) fn len(&self) -> usize
+        ensures len { result ≡ length self.now.0 }
+        ensures small { result < 2 ^ 63 }
+    {
+        self.msgs.len()
+    }
+
+    /// Makes room for so many messages more, where memory is not refused.
+    pub(crate) fn reserve(&mut self, more: usize) -> Result<(), NoMemory>
+        ensures messages { self.new.0 ≡ self.old.0 }
+        ensures kept { self.old.1 ≤ self.new.1 }
+        ensures room { OnOk result (more ≤ self.new.1) }
+        ensures refused { OnErr result (self.old.1 < more) }
+    {
+        self.msgs.reserve(more)?;
+        Ok(())
+    }
+
+    /// Puts a message behind the others into reserved room.
+    pub(crate) fn push_reserved(&mut self, msg: Msg<U>)
+        requires { 0 < self.old.1 }
+        ensures messages { self.new.0 ≡ self.old.0 ++ msg ∷ [] }
+        ensures room { self.old.1 ≤ self.new.1 + 1 }
+    {
+        self.push_waiting(Waiting::new(self.allocator(), msg));
+    }
+
+    /// Puts a message as it lies in memory behind the others into reserved room.
+    fn push_waiting(&mut self, waiting: Waiting<U>)
+        requires { 0 < self.old.1 }
+        ensures messages { self.new.0 ≡ self.old.0 ++ waiting ∷ [] }
+        ensures room { self.old.1 ≤ self.new.1 + 1 }
+    {
+        self.msgs.push_back_reserved(waiting);
+    }
+
+    /// Puts a message before the others into reserved room.
+    pub(crate) fn push_front_reserved(&mut self, msg: Msg<U>)
+        requires { 0 < self.old.1 }
+        ensures messages { self.new.0 ≡ msg ∷ self.old.0 }
+        ensures room { self.old.1 ≤ self.new.1 + 1 }
+    {
+        let waiting = Waiting::new(self.allocator(), msg);
+        self.msgs.push_front_reserved(waiting);
+    }
+
+    /// Puts all messages of `newer` behind the others into reserved room.
+    pub(crate) fn append(&mut self, newer: &mut Vec<Msg<U>>)
+        requires { length newer.old.items ≤ self.old.1 }
+        ensures messages { self.new.0 ≡ self.old.0 ++ newer.old.items }
+        ensures moved { newer.new.items ≡ [] }
+        ensures room { self.old.1 ≤ self.new.1 + length newer.old.items }
+    {
+        let empty = Vec::new(*newer.allocator());
+        let mut come = Taken::of(std::mem::replace(newer, empty));
+        while let Some(msg) = come.next() {
+            self.push_reserved(msg);
+        }
+    }
+
+    /// Takes the oldest message out as it lies in memory.
+    fn take(&mut self) -> Option<Waiting<U>>
+        ensures moved { self.old.0 ≡ option_to_list result ++ self.new.0 }
+        ensures end { IfNone result (self.old.0 ≡ []) }
+        ensures room { self.old.1 ≤ self.new.1 }
+        ensures more { IfSome result (λ _. self.old.1 < self.new.1) }
+    {
+        self.msgs.pop_front()
+    }
+
+    /// Takes the oldest message out. None comes where there is none, and where other lists share it and memory for a copy is
+    /// refused.
+    pub(crate) fn pop(&mut self) -> Option<Msg<U>>
+        ensures moved { self.old.0 ≡ option_to_list result ++ self.new.0 }
+        ensures room { self.old.1 ≤ self.new.1 }
+        ensures more { IfSome result (λ _. self.old.1 < self.new.1) }
+    {
+        let waiting = self.take()?;
+        match waiting.into_msg(self.allocator()) {
+            Ok(msg) => Some(msg),
+            Err(waiting) => {
+                self.msgs.push_front_reserved(waiting);
+                None
+            }
+        }
+    }
+
+    /// Takes the `count` oldest messages away.
+    pub(crate) fn drop_oldest(&mut self, count: usize)
+        requires { count ≤ length self.old.0 }
+        ensures messages { self.new.0 ≡ drop count self.old.0 }
+        ensures room { self.old.1 ≤ self.new.1 }
+    {
+        for _ in 0..count {
+            self.take();
+        }
+    }
+
+    /// The oldest message, if there is one.
+    pub(crate) fn oldest(&self) -> Option<Lent<'_, U>>
+        ensures { option_map lent_msg result ≡ slice_get self.now.0 0 }
+    {
+        match self.msgs.front() {
+            Some(waiting) => Some(waiting.lent()),
+            None => None,
+        }
+    }
+
+    /// How many of the messages are range-deletes, without the `gone` oldest.
+    pub(crate) fn count_ranges(&self, gone: usize) -> usize
+        requires { gone ≤ length self.now.0 }
+        ensures count { result ≡ range_count (drop gone self.now.0) }
+        ensures small { result < 2 ^ 63 }
+    {
+        let (near, far) = self.msgs.as_slices();
+        let first = gone.min(near.len());
+        ranges_in(&near[first..]) + ranges_in(&far[gone - first..])
+    }
+
+    /// Puts copies of the `count` oldest messages behind those in `front`.
+    pub(crate) fn copy_oldest(
+        &self,
+        alloc: Global,
+        count: usize,
+        front: &mut Vec<Msg<U>>,
+    ) -> Result<(), NoMemory>
+        requires { count ≤ length self.now.0 }
+        ensures { OnOk result (front.new.items ≡ front.old.items ++ take count self.now.0) }
+    {
+        let (near, far) = self.msgs.as_slices();
+        let first = count.min(near.len());
+        copy_behind(alloc, &near[..first], front)?;
+        copy_behind(alloc, &far[..count - first], front)?;
+        Ok(())
+    }
+
+    /// A tail of the same messages, which both share.
+    pub(crate) fn copy(&self, alloc: Global) -> Result<Tail<U>, NoMemory>
+        ensures { IfOk result (λ t. t.0 ≡ self.now.0) }
+    {
+        let (near, far) = self.msgs.as_slices();
+        let mut msgs = Vec::new(alloc);
+        share_behind(alloc, near, &mut msgs)?;
+        share_behind(alloc, far, &mut msgs)?;
+        Ok(Tail {
+            msgs: VecDeque::from_vec(msgs),
+        })
+    }
+
+    /// The parts of the messages before the pivot, and those from it on, as [`Waiting::cut_at`] makes them.
+    pub(crate) fn cut_at(self, alloc: Global, pivot: &Key) -> Result<(Tail<U>, Tail<U>), NoMemory>
+        ensures front { IfOk result (λ r. r.0.0 ≡ pieces [] (Some pivot.now) self.0) }
+        ensures back { IfOk result (λ r. r.1.0 ≡ pieces pivot.now None self.0) }
+    {
+        let pivot = Arc::new(alloc, pivot.copy(alloc)?)?;
+        let mut front = Vec::new(alloc);
+        let mut back = Vec::new(alloc);
+        let mut rest = self;
+        while let Some(waiting) = rest.take() {
+            let (before, behind) = waiting.cut_at(alloc, &pivot)?;
+            push_some(&mut front, before)?;
+            push_some(&mut back, behind)?;
+        }
+        Ok((Tail::of(front), Tail::of(back)))
+    }
+
+    /// A tail of these messages.
+    fn of(msgs: Vec<Waiting<U>>) -> Tail<U>
+        ensures { result.0 ≡ msgs.items }
+    {
+        Tail {
+            msgs: VecDeque::from_vec(msgs),
+        }
+    }
+
+    /// Moves the messages of a newer tail behind these. On want of memory both stay.
+    pub(crate) fn join(&mut self, newer: &mut Tail<U>) -> Result<(), NoMemory>
+        ensures ok { OnOk result (self.new.0 ≡ self.old.0 ++ newer.old.0) }
+        ensures moved { OnOk result (newer.new.0 ≡ []) }
+        ensures err { OnErr result ((self.new.0 ≡ self.old.0) × (newer.new.0 ≡ newer.old.0)) }
+    {
+        self.reserve(newer.len())?;
+        while let Some(waiting) = newer.take() {
+            self.push_waiting(waiting);
+        }
+        Ok(())
+    }
+
+    /// Whether each message lies whole before the pivot.
+    pub(crate) fn lies_before(&self, alloc: Global, pivot: &Key) -> bool
+        ensures { result ≡ true → LieIn [] (Some pivot.now) self.now.0 }
+    {
+        let (near, far) = self.msgs.as_slices();
+        let first = Key::new(alloc);
+        lie_in(near, &first, Some(pivot)) && lie_in(far, &first, Some(pivot))
+    }
+
+    /// Whether each message lies whole from the pivot on.
+    pub(crate) fn lies_from(&self, pivot: &Key) -> bool
+        ensures { result ≡ true → LieIn pivot.now None self.now.0 }
+    {
+        let (near, far) = self.msgs.as_slices();
+        lie_in(near, pivot, None) && lie_in(far, pivot, None)
+    }
+
+    /// Whether a message touches the key.
+    pub(crate) fn is_touched(&self, key: &Key) -> bool
+        ensures { result ≡ any_touches self.now.0 key.now }
+    {
+        let (near, far) = self.msgs.as_slices();
+        is_touched(near, key) || is_touched(far, key)
+    }
+
+    /// The value at `key` after the messages, where `old` was there.
+    pub(crate) fn lay_over(
+        &self,
+        alloc: Global,
+        key: &Key,
+        old: Option<U::Value>,
+    ) -> Result<Option<U::Value>, NoMemory>
+        ensures { IfOk result (λ v. v ≡ effects U.means self.now.0 key.now old) }
+    {
+        let (near, far) = self.msgs.as_slices();
+        let value = lay_all(alloc, near, key, old)?;
+        lay_all(alloc, far, key, value)
+    }
+
+    /// Where the stretch that begins at `from` ends: at `end` or before it.
+    pub(crate) fn stretch_stop(
+        &self,
+        alloc: Global,
+        from: &Key,
+        end: Option<&Key>,
+    ) -> Result<Option<Key>, NoMemory>
+        requires { is_below from.now (option_copied end) ≡ true }
+        ensures { IfOk result (λ stop. IsStretch self.now.0 from.now (option_copied end.entry) stop) }
+    {
+        let (near, far) = self.msgs.as_slices();
+        let stop = stretch_end(alloc, near, from, end)?;
+        stretch_end(alloc, far, from, stop.as_ref())
+    }
+
+    /// The first key from `from` on that has a message for it alone, if it stands before `end`; else `end`.
+    pub(crate) fn next_point<'a>(&'a self, from: &Key, end: Option<&'a Key>) -> Option<&'a Key>
+        ensures { IsPointStop self.now.0 from.now (option_copied end.entry) (option_copied result) }
+    {
+        let (near, far) = self.msgs.as_slices();
+        let stop = next_point(near, from, end);
+        next_point(far, from, stop)
+    }
+
+    /// Whether a range-delete holds the key.
+    pub(crate) fn is_cleared(&self, key: &Key) -> bool
+        ensures { result ≡ is_cleared self.now.0 key.now }
+    {
+        let (near, far) = self.msgs.as_slices();
+        is_cleared(near, key) || is_cleared(far, key)
+    }
+}
+
+/// Puts a message behind others, if there is one.
+fn push_some<U: Update>(msgs: &mut Vec<Waiting<U>>, msg: Option<Waiting<U>>) -> Result<(), NoMemory>
+    ensures { OnOk result (msgs.new.items ≡ msgs.old.items ++ option_to_list msg) }
+{
+    if let Some(msg) = msg {
+        msgs.push(msg)?;
+    }
+    Ok(())
+}
