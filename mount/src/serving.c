@@ -43,7 +43,8 @@ static void serve_one(struct fuse_session *session, struct fuse_buf *buffer) {
     else usleep(1000);
 }
 
-// Serves until a signal or an unmount, which is a good end.
+// Serves until a signal or an unmount, which are good ends. On a busy machine the kernel answers the last read before an
+// unmount by ECONNABORTED, too.
 static int serve_all(struct fuse_session *session, struct mount *mount, struct fuse_buf *buffer) {
     int got = -EINTR;
     while (!fuse_session_exited(session) && (got > 0 || got == -EINTR)) {
@@ -52,7 +53,7 @@ static int serve_all(struct fuse_session *session, struct mount *mount, struct f
         if (got > 0) requests_rest(mount);
     }
     fuse_session_reset(session);
-    return got < 0 && got != -EINTR;
+    return got < 0 && got != -EINTR && got != -ECONNABORTED;
 }
 
 // A thread that tells the kernel to forget may wait for requests that are under way: so these are served until it is
