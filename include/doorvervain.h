@@ -7,8 +7,10 @@
 // a snapshot is bytes with a length too. No call keeps a pointer of its caller.
 //
 // Most calls answer a number. DOORVERVAIN_DONE (0) says that the call was done. Any other number is a refusal: the
-// call changed nothing, and wrote nothing into a buffer. A call that looks and is refused gives 0 as its other
-// results; where the buffer is too short it gives the size, so that the caller can ask again.
+// call changed no volume, and wrote nothing into a buffer. Two calls of many changes, doorvervain_log_run and
+// doorvervain_log_replay, keep those before the one that is refused, and tell how many they are. A call that closes what
+// it was given, also where it is refused, says so. A call that looks and is refused gives 0 as its other results; where
+// the buffer is too short it gives the size, so that the caller can ask again.
 //
 // A call that gives a text of any size (a listing, an image, the name of a snapshot) takes a buffer with its room.
 // `*size` is how many bytes the text has. They are written where the room is enough for all of them. A room of 0
