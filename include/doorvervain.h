@@ -867,7 +867,7 @@ static inline uint8_t doorvervain_log_lines(
 }
 
 // Does the changes of a body, up to the first that is refused: the answer is why, and `*done` how many were done before it. `*done`
-// is 0 where none is refused. EINVAL: the bytes are no body. ENOMEM. With both `*done` is 0 and nothing was done.
+// is 0 where none is refused, and where the body could not be read, so that nothing was done: EINVAL, the bytes are no body; ENOMEM.
 static inline uint8_t doorvervain_log_run(
     struct doorvervain *fs, const uint8_t *body, size_t length, size_t *done) {
     if (!done) return DOORVERVAIN_NULL;
