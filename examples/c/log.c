@@ -1,5 +1,6 @@
-// Writes the log of three requests, and runs it whole, cut at each byte, and with each byte changed. It prints what it finds;
-// examples/run compares that with log.expected, whose numbers are reckoned by hand, and the digest by another program.
+// Writes the log of three requests, and runs it whole, cut at each byte, and with each byte changed; asks for the lines of its bodies.
+// It prints what it finds; examples/run compares that with log.expected, whose numbers are reckoned by hand, and the digest by another
+// program.
 //
 // Built with -DREFUSE (examples/run does so), it also has each request for memory of a run refused in turn.
 #include "doorvervain.h"
@@ -103,6 +104,36 @@ static void say_bodies(const struct log *log) {
     printf("; then %d, size %zu\n", number, size);
 }
 
+// Says how many bytes the lines of a body have, and the lines where they fit into a buffer with this room.
+static void say_lines(const char *what, const uint8_t *body, size_t length, size_t room) {
+    uint8_t text[ROOM] = {OLD};
+    size_t size = OLD;
+    int number = doorvervain_log_lines(body, length, text, room, &size);
+    printf("%s: answer %d, size %zu", what, number, size);
+    if (number || size > room) {
+        printf(", first byte %d\n", text[0]);
+    } else {
+        printf("\n%.*s", (int)size, (const char *)text);
+    }
+}
+
+// Says the lines of each body of a log, and of bodies that are not told.
+static void say_all_lines(const struct log *log) {
+    uint8_t body[ROOM];
+    size_t at = 0, size;
+    for (uint64_t number = FIRST; !doorvervain_log_next(log->at + at, log->length - at, number, &size); number++) {
+        say_lines("lines", log->at + at + DOORVERVAIN_LOG_FRONT, size, ROOM);
+        at += DOORVERVAIN_LOG_FRONT + size + DOORVERVAIN_LOG_BACK;
+    }
+    doorvervain_log_punch(bytes_of("/a b"), 4, 3, 4, 5, body, sizeof body, &size);
+    say_lines("a hole", body, size, ROOM);
+    say_lines("one byte too few", body, size, 18);
+    say_lines("no room", body, size, 0);
+    say_lines("no body", body, size - 1, ROOM);
+    doorvervain_log_write(bytes_of("/a"), 2, UINT64_MAX, bytes_of("x"), 1, 5, body, sizeof body, &size);
+    say_lines("too far", body, size, ROOM);
+}
+
 static void say_digest(const struct log *log, size_t end) {
     printf("digest:");
     for (size_t i = end - DOORVERVAIN_LOG_BACK; i < end; i++)
@@ -198,6 +229,7 @@ int main(void) {
     say_runs("cut", &log, log.length + 1, 0);
     say_runs("changed", &log, log.length, 1);
     say_refusals();
+    say_all_lines(&log);
     try_refusals(&log);
     return 0;
 }
