@@ -856,9 +856,9 @@ static inline uint8_t doorvervain_log_next(const uint8_t *log, size_t length, ui
     return lacks ? lacks : doorvervain_raw_log_next(doorvervain_from(log), length, number, size);
 }
 
-// The lines of a script that ask for the changes of a body, in their order and each at its moment. A hole is told by a note, since
-// scripts have no line for it: "# punch PATH OFFSET COUNT". EINVAL: the bytes are no body. EFBIG: a write of it reaches past
-// 2^64. ENOMEM.
+// The lines of a script that ask for the changes of a body, in their order and each at its moment. A hole is told by a note without
+// its moment, since scripts have no line for it: "# punch PATH OFFSET COUNT". EINVAL: the bytes are no body. EFBIG: a write of it
+// reaches past 2^64. ENOMEM.
 static inline uint8_t doorvervain_log_lines(
     const uint8_t *body, size_t length, uint8_t *out, size_t room, size_t *size) {
     uint8_t lacks = doorvervain_log_lacks(body, length, out, room, size);
