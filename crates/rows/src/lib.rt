@@ -18,6 +18,7 @@
 pub(crate) mod change;
 pub(crate) mod cut;
 pub mod edit;
+pub(crate) mod item;
 pub mod list;
 pub(crate) mod near;
 pub(crate) mod row;
