@@ -249,6 +249,10 @@ module _ {X : Type 0} where
     pub item_replaced : (w : X) → slice_set es i (k, w) ≡ insert_entry by_bytes es k w
     item_replaced w = ap (λ q. slice_set es i (q, w)) key_held ∙ replaced w
 
+  pub rises_none : (es : List (List ℕ × X)) → es ≡ [] → Rises es
+  unfolding IsStrictlySortedBy
+  rises_none es e = subst (λ (t : List (List ℕ × X)). Rises t) (sym e) tt
+
   -- an entry that comes back to its place
   pub set_back : (es : List (List ℕ × X)) (i : ℕ) (new old : List ℕ × X) → i < length es → old ≡ get_or es i old → slice_set (slice_set es i new) i old ≡ es
   set_back [] i new old l a = absurd (omega arith)

@@ -68,14 +68,9 @@ pub(crate) fn begin<T: Stored>(rows: &mut Vec<Row<T>>, key: Key, value: T) -> Re
     if rows.reserve(1).is_err() {
         return Err((key, value));
     }
-    match row_of(*rows.allocator(), Put { key, value }) {
-        Ok((row, Ok(_))) => {
-            rows.push_reserved(row);
-            Ok(())
-        }
-        Ok((_, Err(pair))) => Err(pair),
-        Err(Put { key, value }) => Err((key, value)),
-    }
+    let row = row_with(*rows.allocator(), key, value)?;
+    rows.push_reserved(row);
+    Ok(())
 }
 
 /// Makes a first row of one item. On want of memory it comes back.
@@ -89,28 +84,41 @@ pub(crate) fn begin_item<T: Stored>(rows: &mut Vec<Row<T>>, item: Item<T>) -> Re
     if rows.reserve(1).is_err() {
         return Err(item);
     }
-    match row_of(*rows.allocator(), PutItem { item }) {
-        Ok((row, Ok(_))) => {
-            rows.push_reserved(row);
-            Ok(())
-        }
-        Ok((_, Err(item))) => Err(item),
-        Err(PutItem { item }) => Err(item),
+    let row = row_of(*rows.allocator(), item)?;
+    rows.push_reserved(row);
+    Ok(())
+}
+
+/// A row of one entry. On want of memory it comes back.
+fn row_with<T: Stored>(alloc: Global, key: Key, value: T) -> Result<Row<T>, (Key, T)>
+    ensures row { IfOk result (λ r. r ≡ (key, value) ∷ []) }
+    ensures back { IfErr result (λ p. p ≡ (key, value)) }
+{
+    let Ok(row) = Row::new(alloc) else {
+        return Err((key, value));
+    };
+    let mut row = row;
+    match row.change(Put { key, value }) {
+        Ok(Ok(_)) => Ok(row),
+        Ok(Err(refused)) => Err(refused),
+        Err(Put { key, value }) => Err((key, value)),
     }
 }
 
-/// A row that a change makes of none. On want of memory the change comes back.
-fn row_of<T: Stored, C: Change<T>>(alloc: Global, change: C) -> Result<(Row<T>, C::Answer), C>
-    requires { C.fits change [] }
-    ensures row { IfOk result (λ p. C.does change [] p.0 p.1) }
-    ensures back { IfErr result (λ c. c ≡ change) }
+/// A row of one item. On want of memory it comes back.
+fn row_of<T: Stored>(alloc: Global, item: Item<T>) -> Result<Row<T>, Item<T>>
+    ensures row { IfOk result (λ r. r ≡ item ∷ []) }
+    ensures back { IfErr result (λ i. i ≡ item) }
 {
     let Ok(row) = Row::new(alloc) else {
-        return Err(change);
+        return Err(item);
     };
     let mut row = row;
-    let answer = row.change(change)?;
-    Ok((row, answer))
+    match row.change(PutItem { item }) {
+        Ok(Ok(_)) => Ok(row),
+        Ok(Err(refused)) => Err(refused),
+        Err(PutItem { item }) => Err(item),
+    }
 }
 
 /// Makes two rows of the one in which the key stands or would, where it is full. Answers the number of the row in which it then
