@@ -5,4 +5,5 @@ mod Lifts
 mod Nearest
 mod Order
 mod Parts
+mod Spans
 mod TableFacts

@@ -2,3 +2,4 @@ pub mod Changes
 pub mod Moves
 pub mod Places
 pub mod Rows
+pub mod Spans

@@ -2,11 +2,11 @@
 ghost use Rattle.std.specs.Prelude.{◌≡◌, ◌<◌, ◌≤◌, ◌+◌, ◌++◌, ℕ, List, Result, length, take, drop, OnOk, OnErr, IfOk, IfErr, vec_len, vec_capacity, ⊤};
 ghost use Rattle.std.specs.List.{insert};
 ghost use Rattle.rows.specs.Places.{Rises, IsHolder};
-ghost use Rattle.rows.specs.Changes.{IsPut, IsCutOff, IsEdited, IsJoined, AreTaken, ChangesValue};
+ghost use Rattle.rows.specs.Changes.{IsPut, IsCutBetween, IsCutOff, IsEdited, IsJoined, AreTaken, ChangesValue};
 
 use crate::edit::{Edit, Edited};
 use crate::item::Item;
-use crate::row::Row;
+use crate::row::{Row, share_items};
 use crate::search::find;
 use crate::stored::Stored;
 use pathkey::{Key, NoMemory};
@@ -101,6 +101,25 @@ impl<T: Stored> Change<T> for CutOff {
 
     fn change(self, entries: &mut Vec<Item<T>>) -> Result<Row<T>, NoMemory> {
         cut_off(entries, self.at)
+    }
+}
+
+/// The entries from one number up to another leave for a row of their own.
+#[derive(Drop)]
+pub(crate) struct CutBetween {
+    pub(crate) from: usize,
+    pub(crate) to: usize,
+}
+
+impl<T: Stored> Change<T> for CutBetween {
+    type Answer = Result<Row<T>, NoMemory>;
+
+    ghost fits = { λ s es. (s.from ≤ s.to) × (s.to ≤ length es) };
+
+    ghost does = { λ s es fs r. IsCutBetween s.from s.to es fs r };
+
+    fn change(self, entries: &mut Vec<Item<T>>) -> Result<Row<T>, NoMemory> {
+        cut_between(entries, self.from, self.to)
     }
 }
 
@@ -275,6 +294,23 @@ fn cut_off<T: Stored>(entries: &mut Vec<Item<T>>, at: usize) -> Result<Row<T>, N
             Err(NoMemory)
         }
     }
+}
+
+/// Moves the entries from one number up to another into a row of their own.
+fn cut_between<T: Stored>(
+    entries: &mut Vec<Item<T>>,
+    from: usize,
+    to: usize,
+) -> Result<Row<T>, NoMemory>
+    requires order { from ≤ to }
+    requires bound { to ≤ length entries.old.items }
+    ensures { IsCutBetween from to entries.old.items entries.new.items result }
+{
+    let alloc = *entries.allocator();
+    let out = share_items(alloc, &entries.as_slice()[from..to])?;
+    let out = Arc::new(alloc, out)?;
+    entries.drain(from..to);
+    Ok(Row::of(out))
 }
 
 /// Puts entries behind others, for which there is room.

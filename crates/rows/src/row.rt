@@ -169,7 +169,10 @@ fn drop_first<T: Stored>(entries: &mut Vec<Item<T>>, count: usize)
 }
 
 /// The same entries, which both lists of them then share.
-fn share_items<T: Stored>(alloc: Global, items: &[Item<T>]) -> Result<Vec<Item<T>>, NoMemory>
+pub(crate) fn share_items<T: Stored>(
+    alloc: Global,
+    items: &[Item<T>],
+) -> Result<Vec<Item<T>>, NoMemory>
     ensures { IfOk result (λ shared. shared.items ≡ items.now) }
 {
     let mut shared = Vec::with_capacity(alloc, items.len())?;

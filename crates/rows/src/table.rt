@@ -1,11 +1,11 @@
 //! Rows one behind the other: which of them has a key, the walk to it, and rows that are made two or joined.
 ghost use Rattle.std.specs.Prelude.{◌≡◌, ◌+◌, ◌-◌, ◌<◌, ◌≤◌, ◌^◌, ◌++◌, ◌∷◌, [], length, take, drop, None, Some, OnOk, OnErr, IfOk, IfErr, IfNone, IfSome, true, false, vec_len, vec_capacity};
-ghost use Rattle.std.specs.List.{insert, slice_get, slice_index_or, slice_set};
+ghost use Rattle.std.specs.List.{insert, remove_range, slice_get, slice_index_or, slice_set};
 ghost use Rattle.rows.specs.Places.{AreBefore, AreFrom};
 ghost use Rattle.rows.specs.Rows.{joined, row_number, number_in, AreRows, AreSized};
 ghost use Rattle.rows.specs.Changes.{IsPut, IsRowChanged, IsEdited};
 
-use crate::change::{Change, CutOff, EditAt, Join, Put, PutItem, Take};
+use crate::change::{Change, CutBetween, CutOff, EditAt, Join, Put, PutItem, Take};
 use crate::edit::{Edit, Edited};
 use crate::item::Item;
 use crate::row::Row;
@@ -223,6 +223,26 @@ fn cut<T: Stored>(rows: &mut Vec<Row<T>>, n: usize, at: usize) -> Result<Row<T>,
     ensures room { vec_capacity rows.new ≡ vec_capacity rows.old }
 {
     match change_row(rows, n, CutOff { at }) {
+        Ok(answer) => answer,
+        Err(_) => Err(NoMemory),
+    }
+}
+
+/// Moves the entries of a row from one number up to another out of it.
+pub(crate) fn cut_between<T: Stored>(
+    rows: &mut Vec<Row<T>>,
+    n: usize,
+    from: usize,
+    to: usize,
+) -> Result<Row<T>, NoMemory>
+    requires row { n < length rows.old.items }
+    requires order { from ≤ to }
+    requires bound { to ≤ length (slice_index_or rows.old.items n []) }
+    ensures kept { OnOk result (rows.new.items ≡ slice_set rows.old.items n (remove_range (slice_index_or rows.old.items n []) from to)) }
+    ensures taken { IfOk result (λ r. r ≡ take (to - from) (drop from (slice_index_or rows.old.items n []))) }
+    ensures err { OnErr result (rows.new.items ≡ rows.old.items) }
+{
+    match change_row(rows, n, CutBetween { from, to }) {
         Ok(answer) => answer,
         Err(_) => Err(NoMemory),
     }
