@@ -1,5 +1,5 @@
 -- Where a key stands among entries that rise, and what is made of them there.
-use Rattle.std.proofs.Common.{◌≡◌, ℕ, zero, suc, ◌<◌, ◌≤◌, true, false, List, [], ◌∷◌, ◌++◌, length, take, drop, get_or, refl, ap, sym, ◌∙◌, subst, Option, Some, None, cond, arith, Ordering}
+use Rattle.std.proofs.Common.{◌≡◌, ℕ, zero, suc, ◌-◌, ◌<◌, ◌≤◌, true, false, List, [], ◌∷◌, ◌++◌, length, take, drop, get_or, refl, ap, sym, ◌∙◌, subst, Option, Some, None, cond, arith, Ordering}
 use Rattle.std.specs.declared.cmp.Ordering.TheVariants.{Less, Equal, Greater}
 use Rattle.std.specs.Ordering.{nat_cmp, is_gt, is_le, is_eq, match_ordering, ordering_reverse}
 use Rattle.std.specs.List.{AllByRecursion, slice_get, slice_set, insert}
@@ -17,6 +17,7 @@ use Rattle.pathkey.proofs.HeadFacts.{order_of_heads}
 use Rattle.pathkey.proofs.OrderFacts.{same_true}
 use Rattle.rows.specs.Places.{Rises, BeginsHeaded, at_key, place, reaches, is_there, IsHolder, IsGap}
 use Rattle.rows.specs.Rows.{begins_by}
+use Rattle.rows.proofs.Lasts.{all_pass}
 use Rattle.rows.proofs.Order.{behind}
 
 -- ---- heads
@@ -82,6 +83,10 @@ module _ {X : Type 0} where
   place_by_search k (x ∷ bs) (suc i) b p =
       let rest = place_by_search k bs i (omega arith) ((λ j d a h. p.0 (suc j) d (omega arith) (omega arith)), (λ j d a h. p.1 (suc j) d (omega arith) (omega arith))) in
       ap (λ n. suc n) rest ∙ sym (stands_before (by_bytes k x.0) (suc (place k bs)) (p.0 0 x (omega arith) (omega arith)))
+
+  -- the last entry stands before the key
+  pub all_before : (k : List ℕ) (es : List (List ℕ × X)) (e : List ℕ × X) → Rises es → Some e ≡ slice_get es (length es - 1) → is_gt (by_bytes k e.0) ≡ true → length es ≡ place k es
+  all_before k es e r h t = place_by_search k es (length es) (omega arith) (all_pass (λ (x : List ℕ × X). is_gt (by_bytes k x.0)) es e (partitioned k es r) h t)
 
   -- ---- whether the key is there
 

@@ -1,6 +1,7 @@
 mod Cuts
 mod Entries
 mod Joins
+mod Lasts
 mod Lifts
 mod Nearest
 mod Order

@@ -1,8 +1,8 @@
 -- Rows one behind the other: which of them has a key, and what a change of that one makes of all.
-use Rattle.std.proofs.Common.{◌≡◌, ℕ, zero, suc, ◌+◌, ◌<◌, ◌≤◌, true, false, List, [], ◌∷◌, ◌++◌, length, take, drop, get_or, refl, ap, sym, ◌∙◌, subst, cond, arith, append_assoc, append-nil}
+use Rattle.std.proofs.Common.{◌≡◌, ℕ, zero, suc, ◌+◌, ◌-◌, ◌<◌, ◌≤◌, true, false, List, [], ◌∷◌, ◌++◌, length, take, drop, get_or, refl, ap, sym, ◌∙◌, subst, cond, arith, append_assoc, append-nil, Some}
 use Rattle.std.specs.declared.cmp.Ordering.TheVariants.{Less, Greater}
 use Rattle.std.specs.Ordering.{is_lt, is_le}
-use Rattle.std.specs.List.{AllByRecursion, slice_set, insert}
+use Rattle.std.specs.List.{AllByRecursion, slice_get, slice_set, insert}
 use Rattle.std.specs.List.Sorted.{IsStrictlySortedBy, IsPartitionedBy, IsPartitionPoint}
 use Rattle.std.specs.Map.{keys_of}
 use Rattle.std.proofs.lemmas.List.{length-take, length-drop, take-append-drop, take_more, drop_more, take_all, drop_all}
@@ -10,6 +10,7 @@ use Rattle.std.proofs.lemmas.Map.Keys.{sorted_head}
 use Rattle.pathkey.specs.Order.{by_bytes}
 use Rattle.rows.specs.Places.{Rises, place, reaches, before, AreBefore, AreFrom}
 use Rattle.rows.specs.Rows.{joined, AreSized, AreRows, begins_by, row_number, number_in}
+use Rattle.rows.proofs.Lasts.{all_pass}
 use Rattle.rows.proofs.Order.{lt_le, reaches-from_before}
 use Rattle.rows.proofs.Parts.{AllBefore, AllBehind, AllFrom, weaker, all_append, are_before, are_from, before_row, behind_row, dropped_from, right_all, rises_left, rises_right, taken_before}
 
@@ -135,6 +136,10 @@ module _ {X : Type 0} where
   number_by_search k (r ∷ rs) (suc i) b p =
       let rest = number_by_search k rs i (omega arith) ((λ j d a h. p.0 (suc j) d (omega arith) (omega arith)), (λ j d a h. p.1 (suc j) d (omega arith) (omega arith))) in
       ap (λ n. suc n) rest ∙ sym (ap (λ c. cond c (suc (row_number k rs)) 0) (p.0 0 r (omega arith) (omega arith)))
+
+  -- the last row begins at the key or before it
+  pub all_begin : (k : List ℕ) (rs : List (List (List ℕ × X))) (r : List (List ℕ × X)) → Rises (joined rs) → AreSized rs → Some r ≡ slice_get rs (length rs - 1) → begins_by k r ≡ true → length rs ≡ row_number k rs
+  all_begin k rs r q f h t = number_by_search k rs (length rs) (omega arith) (all_pass (λ (x : List (List ℕ × X)). begins_by k x) rs r (rows_partitioned k rs q f) h t)
 
   pub get_drop : (n : ℕ) (rs : List (List (List ℕ × X))) → get_or (drop n rs) 0 [] ≡ get_or rs n []
   get_drop zero rs = refl

@@ -165,7 +165,9 @@ fn drop_first<T: Stored>(entries: &mut Vec<Item<T>>, count: usize)
     requires { count ≤ length entries.old.items }
     ensures { entries.new.items ≡ drop count entries.old.items }
 {
-    entries.drain(..count);
+    if count > 0 {
+        entries.drain(..count);
+    }
 }
 
 /// The same entries, which both lists of them then share.

@@ -7,8 +7,23 @@ use crate::item::Item;
 use crate::stored::Stored;
 use pathkey::Key;
 
-/// How many entries stand before the key.
+/// How many entries stand before the key. The last one is asked first: keys often come in their order.
 pub(crate) fn count_before<T: Stored>(entries: &[Item<T>], key: &Key) -> usize
+    requires { Rises entries.now }
+    ensures place { result ≡ place key.now entries.now }
+    ensures bound { result ≤ length entries.now }
+{
+    let Some(last) = entries.last() else {
+        return 0;
+    };
+    if last.is_before(key) {
+        return entries.len();
+    }
+    bisect(entries, key)
+}
+
+/// The same, found by bisecting.
+fn bisect<T: Stored>(entries: &[Item<T>], key: &Key) -> usize
     requires { Rises entries.now }
     ensures place { result ≡ place key.now entries.now }
     ensures bound { result ≤ length entries.now }

@@ -17,8 +17,24 @@ use std::alloc::Global;
 /// The most entries of a row.
 const FULL: usize = 128;
 
-/// How many of the rows begin at the key or before it, up to the first that does not.
+/// How many of the rows begin at the key or before it, up to the first that does not. The last one is asked first: keys often
+/// come in their order.
 fn number_of<T: Stored>(rows: &[Row<T>], key: &Key) -> usize
+    requires { AreRows rows.now }
+    ensures number { result ≡ row_number key.now rows.now }
+    ensures bound { result ≤ length rows.now }
+{
+    let Some(last) = rows.last() else {
+        return 0;
+    };
+    if last.begins_by(key) {
+        return rows.len();
+    }
+    bisect(rows, key)
+}
+
+/// The same, found by bisecting.
+fn bisect<T: Stored>(rows: &[Row<T>], key: &Key) -> usize
     requires { AreRows rows.now }
     ensures number { result ≡ row_number key.now rows.now }
     ensures bound { result ≤ length rows.now }
