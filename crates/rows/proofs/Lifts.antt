@@ -1,13 +1,13 @@
 -- What is done to one row, said of all entries.
 use Rattle.std.proofs.Common.{◌≡◌, ℕ, zero, suc, ◌+◌, ◌-◌, ◌<◌, ◌≤◌, List, [], ◌∷◌, ◌++◌, length, take, drop, get_or, refl, ap, sym, ◌∙◌, subst, Option, Some, None, cond, arith}
-use Rattle.std.specs.Prelude.{Result, Ok, Err, IfOk, IfSome, OnErr, ◌==◌, false}
+use Rattle.std.specs.Prelude.{Result, Ok, Err}
 use Rattle.std.specs.declared.cmp.Ordering.TheVariants.{Less, Equal, Greater}
 use Rattle.std.specs.Ordering.{is_eq, match_ordering}
-use Rattle.std.specs.List.{remove, slice_get, slice_set}
+use Rattle.std.specs.List.{slice_set}
 use Rattle.std.specs.Map.{keys_of}
 use Rattle.std.specs.BTreeMap.{insert_entry}
 use Rattle.std.proofs.Math.Seq.{drop-append-add}
-use Rattle.std.proofs.lemmas.List.{drop-append-le, length-drop, length-append, set-get_or}
+use Rattle.std.proofs.lemmas.List.{drop-append-le, length-drop, length-append}
 use Rattle.std.proofs.lemmas.Map.Keys.{sorted_head, sorted_tail}
 use Rattle.pathkey.specs.Order.{by_bytes}
 use Rattle.rows.specs.Changes.{IsPut, IsRowChanged, IsEdited}
@@ -17,7 +17,7 @@ use Rattle.rows.specs.Places.{Rises, at_key, place, place_past}
 use Rattle.rows.specs.Rows.{joined, AreSized, AreRows, number_in}
 use Rattle.rows.proofs.Entries.{all_ahead, none_ahead, rises_put}
 use Rattle.rows.proofs.Parts.{at_between, drop_between, past_between, place_between, put_between, rises_drop, take_between}
-use Rattle.rows.proofs.TableFacts.{around, joined_cut, rows_tail, sized_at, sized_set}
+use Rattle.rows.proofs.TableFacts.{around, joined_cut, sized_at, sized_set}
 
 module _ {X : Type 0} where
   -- ---- how many entries there are after a value was put

@@ -1,4 +1,4 @@
-use Rattle.std.proofs.Common.{◌≡◌, ◌<◌, ◌∙◌, ◌++◌, ◌∷◌, [], ◌-◌, ap, append-nil, arith, drop, get_or, subst, sym, take}
+use Rattle.std.proofs.Common.{◌<◌, ◌∙◌, ◌++◌, ◌∷◌, [], ◌-◌, ap, append-nil, arith, drop, get_or, subst, sym, take}
 use Rattle.rows.specs.Rows.{joined}
 use Rattle.rows.specs.Spans.{IsSpan}
 use Rattle.rows.proofs.Spans.{span_kept, span_none, span_out, span_rows, span_same, span_taken}

@@ -1,4 +1,4 @@
-use Rattle.std.proofs.Common.{◌≡◌, [], ◌∷◌, ◌++◌, ap, sym, ◌∙◌, Some, drop}
+use Rattle.std.proofs.Common.{◌≡◌, ◌∷◌, ap, sym, ◌∙◌, Some}
 use Rattle.std.specs.List.{slice_get}
 use Rattle.rows.specs.Rows.{joined}
 use Rattle.rows.proofs.Entries.{first_parts}

@@ -1,4 +1,4 @@
-use Rattle.std.proofs.Common.{◌≡◌, ap, arith, drop, sym}
+use Rattle.std.proofs.Common.{◌≡◌, ap, arith, drop}
 use Rattle.rows.proofs.row.drop_first.Goals as goal
 
 pub returns-else-count-gt0 : goal.returns-else-count-gt0
