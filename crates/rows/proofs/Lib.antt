@@ -8,3 +8,4 @@ mod Order
 mod Parts
 mod Spans
 mod TableFacts
+mod Striding

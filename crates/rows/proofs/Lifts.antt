@@ -91,7 +91,7 @@ module _ {X : Type 0} where
         let c = around k rs n w e l in
         ap (λ (t : List (List (List ℕ × X))). joined t) s ∙ c.set row ∙ ap (λ (t : List (List ℕ × X)). c.front ++ (t ++ c.back)) h ∙ sym c.is
 
-    changed_rows : (ss : List (List (List ℕ × X))) (row : List (List ℕ × X)) → ss ≡ slice_set rs n row → 0 < length row → length row ≤ 128 → Rises (joined ss) → AreRows ss
+    changed_rows : (ss : List (List (List ℕ × X))) (row : List (List ℕ × X)) → ss ≡ slice_set rs n row → 0 < length row → length row ≤ 64 → Rises (joined ss) → AreRows ss
     changed_rows ss row s p q r = record { rises = r; sized = subst (λ (t : List (List (List ℕ × X))). AreSized t) (sym s) (sized_set n rs row p q w.sized) }
 
     same_rows : (ss : List (List (List ℕ × X))) (row : List (List ℕ × X)) → ss ≡ slice_set rs n row → row ≡ get_or rs n [] → AreRows ss
@@ -108,7 +108,7 @@ module _ {X : Type 0} where
     put_whole v ss (Ok was) h = (row_put v ss h.row h.is h.done.0, h.done.1 ∙ row_value)
     put_whole v ss (Err p) h = (row_same ss h.row h.is h.done.0, h.done.1)
 
-    pub put_rows : (v : X) (ss : List (List (List ℕ × X))) (r : Result (Option X) (List ℕ × X)) → length (get_or rs n []) < 128 → IsRowChanged (IsPut k v) n rs ss r → AreRows ss
+    pub put_rows : (v : X) (ss : List (List (List ℕ × X))) (r : Result (Option X) (List ℕ × X)) → length (get_or rs n []) < 64 → IsRowChanged (IsPut k v) n rs ss r → AreRows ss
     put_rows v ss (Ok was) b h =
         let long : length h.row ≡ length (insert_entry by_bytes (get_or rs n []) k v) = ap (λ (t : List (List ℕ × X)). length t) h.done.0 in
         changed_rows ss h.row h.is (omega (arith, long, put_some k v (get_or rs n []))) (omega (arith, long, b, put_most k v (get_or rs n []))) (put_rises v ss (row_put v ss h.row h.is h.done.0))

@@ -3,3 +3,4 @@ pub mod Moves
 pub mod Places
 pub mod Rows
 pub mod Spans
+pub mod Striding

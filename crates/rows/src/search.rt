@@ -5,6 +5,7 @@ ghost use Rattle.rows.specs.Places.{Rises, at_key, place, place_past, IsFound};
 
 use crate::item::Item;
 use crate::stored::Stored;
+use crate::strides::count_passing;
 use pathkey::Key;
 
 /// How many entries stand before the key. The last one is asked first: keys often come in their order.
@@ -19,16 +20,16 @@ pub(crate) fn count_before<T: Stored>(entries: &[Item<T>], key: &Key) -> usize
     if last.is_before(key) {
         return entries.len();
     }
-    bisect(entries, key)
+    find_among(entries, key)
 }
 
-/// The same, found by bisecting.
-fn bisect<T: Stored>(entries: &[Item<T>], key: &Key) -> usize
+/// The same, found by a search in strides.
+fn find_among<T: Stored>(entries: &[Item<T>], key: &Key) -> usize
     requires { Rises entries.now }
     ensures place { result ≡ place key.now entries.now }
     ensures bound { result ≤ length entries.now }
 {
-    entries.partition_point(|item| item.is_before(key))
+    count_passing(entries, |item| item.is_before(key))
 }
 
 /// Where the key stands among entries, or where it would.

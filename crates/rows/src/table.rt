@@ -15,7 +15,7 @@ use pathkey::{Key, NoMemory};
 use std::alloc::Global;
 
 /// The most entries of a row.
-const FULL: usize = 128;
+const FULL: usize = 64;
 
 /// How many of the rows begin at the key or before it, up to the first that does not. The last one is asked first: keys often
 /// come in their order.
@@ -146,7 +146,7 @@ pub(crate) fn make_room<T: Stored>(rows: &mut Vec<Row<T>>, key: &Key) -> Option<
     ensures rows { AreRows rows.new.items }
     ensures number { IfSome result (λ n. n ≡ number_in key.now rows.new.items) }
     ensures bound { IfSome result (λ n. n < length rows.new.items) }
-    ensures room { IfSome result (λ n. length (slice_index_or rows.new.items n []) < 128) }
+    ensures room { IfSome result (λ n. length (slice_index_or rows.new.items n []) < 64) }
 {
     let found = room_in(rows.as_slice(), key);
     if found.is_some() {
@@ -162,7 +162,7 @@ fn room_in<T: Stored>(rows: &[Row<T>], key: &Key) -> Option<usize>
     requires some { 0 < length rows.now }
     ensures number { IfSome result (λ n. n ≡ number_in key.now rows.now) }
     ensures bound { IfSome result (λ n. n < length rows.now) }
-    ensures room { IfSome result (λ n. length (slice_index_or rows.now n []) < 128) }
+    ensures room { IfSome result (λ n. length (slice_index_or rows.now n []) < 64) }
 {
     let n = number_in(rows, key);
     if rows[n].entries().len() < FULL {
@@ -192,7 +192,7 @@ fn widen<T: Stored>(rows: &mut Vec<Row<T>>, key: &Key)
 /// Where a full row is made two: behind most of its entries where the key comes behind all, so that keys that come in
 /// their order leave rows that are nearly full.
 fn middle<T: Stored>(row: &Row<T>, key: &Key) -> usize
-    requires { 128 ≤ length row.now }
+    requires { 64 ≤ length row.now }
     ensures some { 0 < result }
     ensures others { result < length row.now }
 {
@@ -274,7 +274,7 @@ pub(crate) fn put_in<T: Stored>(
     requires rows { AreRows rows.old.items }
     requires number { n ≡ number_in key rows.old.items }
     requires bound { n < length rows.old.items }
-    requires room { length (slice_index_or rows.old.items n []) < 128 }
+    requires room { length (slice_index_or rows.old.items n []) < 64 }
     ensures rows { AreRows rows.new.items }
     ensures put { IsPut key value (joined rows.old.items) (joined rows.new.items) result }
 {
@@ -312,7 +312,7 @@ pub(crate) fn put_item_in<T: Stored>(
     requires rows { AreRows rows.old.items }
     requires number { n ≡ number_in item.0 rows.old.items }
     requires bound { n < length rows.old.items }
-    requires room { length (slice_index_or rows.old.items n []) < 128 }
+    requires room { length (slice_index_or rows.old.items n []) < 64 }
     ensures rows { AreRows rows.new.items }
     ensures put { IsPut item.0 item.1 (joined rows.old.items) (joined rows.new.items) result }
 {
@@ -387,7 +387,7 @@ fn join_rows<T: Stored>(rows: &mut Vec<Row<T>>, m: usize)
     requires rows { AreRows rows.old.items }
     requires first { 0 < m }
     requires bound { m < length rows.old.items }
-    requires few { length (slice_index_or rows.old.items (m - 1) []) + length (slice_index_or rows.old.items m []) ≤ 128 }
+    requires few { length (slice_index_or rows.old.items (m - 1) []) + length (slice_index_or rows.old.items m []) ≤ 64 }
     ensures rows { AreRows rows.new.items }
     ensures same { joined rows.new.items ≡ joined rows.old.items }
 {
