@@ -94,33 +94,18 @@ impl<T: Stored> Row<T> {
         ensures err { OnErr result (self.new ≡ self.old) }
         ensures back { IfErr result (λ c. c ≡ change) }
     {
-        if self.gone > 0 {
-            return self.change_own(change);
-        }
-        match change_alone(&mut self.entries, change) {
-            Ok(answer) => {
-                self.gone = 0;
-                self.head = first_head(self.entries.as_slice());
-                Ok(answer)
-            }
-            Err(change) => self.change_own(change),
-        }
-    }
-
-    /// The same where others may share the entries, or the first ones are gone.
-    fn change_own<C: Change<T>>(&mut self, change: C) -> Result<C::Answer, C>
-        requires { C.fits change self.old }
-        ensures done { IfOk result (λ a. C.does change self.old self.new a) }
-        ensures err { OnErr result (self.new ≡ self.old) }
-        ensures back { IfErr result (λ c. c ≡ change) }
-    {
         if own(&mut self.entries, self.gone).is_err() {
             return Err(change);
         }
         self.gone = 0;
-        let answer = change_alone(&mut self.entries, change)?;
-        self.head = first_head(self.entries.as_slice());
-        Ok(answer)
+        match Arc::get_mut(&mut self.entries) {
+            None => Err(change),
+            Some(entries) => {
+                let answer = change.change(entries);
+                self.head = first_head(self.entries.as_slice());
+                Ok(answer)
+            }
+        }
     }
 
     /// Takes the first entries away. It takes no memory.
@@ -130,23 +115,6 @@ impl<T: Stored> Row<T> {
     {
         self.gone = shorten(&mut self.entries, self.gone + count);
         self.head = first_head(&self.entries.as_slice()[self.gone..]);
-    }
-}
-
-/// Changes entries that nobody else holds. Where others share them the change comes back.
-#[inline(always)]
-fn change_alone<T: Stored, C: Change<T>>(
-    entries: &mut Arc<Vec<Item<T>>>,
-    change: C,
-) -> Result<C::Answer, C>
-    requires { C.fits change entries.old.value.items }
-    ensures done { IfOk result (λ a. C.does change entries.old.value.items entries.new.value.items a) }
-    ensures err { OnErr result (entries.new.value.items ≡ entries.old.value.items) }
-    ensures back { IfErr result (λ c. c ≡ change) }
-{
-    match Arc::get_mut(entries) {
-        None => Err(change),
-        Some(entries) => Ok(change.change(entries)),
     }
 }
 
