@@ -3,7 +3,7 @@ use Rattle.std.proofs.Common.{◌≡◌, ℕ, zero, suc, ◌+◌, ◌<◌, ◌�
 use Rattle.std.specs.List.{filter, list_any}
 use Rattle.std.proofs.Math.Seq.{drop-append-add, drop-append_seam, take-append_seam}
 use Rattle.std.proofs.lemmas.List.{drop-map, length-map, drop-append-le}
-use Rattle.std.proofs.lemmas.List.Elements.{All-cons, All-drop, All-filter, All-tail, All-take}
+use Rattle.std.proofs.lemmas.List.Elements.{All-append, All-cons, All-drop, All-filter, All-tail, All-take}
 use Rattle.std.proofs.lemmas.List.Filters.{sum_by-filter_both}
 use Rattle.std.proofs.lemmas.List.Sums.{sum_by-append, sum_by-take-drop}
 use Rattle.points.specs.Changes.{Change, msg_at, run_msgs}
@@ -52,6 +52,9 @@ module _ {U V : Type 0} where
 
   pub runs_back : (es front back : List (List ℕ × List (Change U V))) → es ≡ front ++ back → AreRuns es → AreRuns back
   runs_back es front back e h = subst (λ t. AreRuns t) (ap (λ t. drop (length front) t) e ∙ drop-append_seam front back) (All-drop (λ (x : List ℕ × List (Change U V)). 0 < length x.1) (length front) es h)
+
+  pub runs_joined : (es front back : List (List ℕ × List (Change U V))) → es ≡ front ++ back → AreRuns front → AreRuns back → AreRuns es
+  runs_joined es front back e f b = subst (λ t. AreRuns t) (sym e) (All-append (λ (x : List ℕ × List (Change U V)). 0 < length x.1) front back f b)
 
   pub runs_drop : (n : ℕ) (es fs : List (List ℕ × List (Change U V))) → fs ≡ drop n es → AreRuns es → AreRuns fs
   runs_drop n es fs e h = subst (λ t. AreRuns t) (sym e) (All-drop (λ (x : List ℕ × List (Change U V)). 0 < length x.1) n es h)

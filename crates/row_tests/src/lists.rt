@@ -97,17 +97,18 @@ fn neighbours_are_found(rt: HostRuntime) {
     assert_eq!(rt; neighbours(rt.alloc()).ok(), Some((there, absent)));
 }
 
-/// Whether a row leaves a list without its first numbers, and the numbers behind it stay.
-fn first_row(alloc: Global) -> Result<bool, NoMemory> {
+/// Whether numbers leave a list from the front, one by one and many at once, and those behind them stay.
+fn front(alloc: Global) -> Result<bool, NoMemory> {
     let mut list = numbers(alloc, 1000)?;
     let dropped = drop_some(&mut list, 150);
-    let row = list.pop_row()?;
-    let count = row.map_or(0, |row| row.len());
-    let next = 150u64.saturating_add(count as u64);
-    Ok(dropped && 0 < count && count <= 128 && has(&list, next, 1000))
+    if list.is_empty() {
+        return Ok(false);
+    }
+    let back = list.split_off(&key(alloc, 600)?)?;
+    Ok(dropped && has(&list, 150, 600) && has(&back, 600, 1000))
 }
 
 #[test]
-fn rows_leave_from_the_front(rt: HostRuntime) {
-    assert_eq!(rt; first_row(rt.alloc()).ok(), Some(true));
+fn numbers_leave_from_the_front(rt: HostRuntime) {
+    assert_eq!(rt; front(rt.alloc()).ok(), Some(true));
 }

@@ -4,17 +4,18 @@ use pathkey::NoMemory;
 use rows::{Edited, Rows};
 use std::alloc::Global;
 
-/// Whether a list is copied without a copy of an entry, and one change under the share copies the entries of its row alone.
-fn one_row_is_copied(alloc: Global) -> Result<bool, NoMemory> {
+/// Whether a list is copied without a copy of a number, and a change under the share copies the one that it changes alone.
+fn one_number_is_copied(alloc: Global) -> Result<bool, NoMemory> {
     let mut list = numbers(alloc, 1000)?;
     let other = list.share()?;
-    let changed = matches!(list.put(key(alloc, 500)?, Number(5)), Ok(Some(_)));
-    Ok(changed && at(alloc, &list, 500)? == Some(5) && has(&other, 0, 1000))
+    let changed = matches!(list.put(key(alloc, 400)?, Number(5)), Ok(Some(_)));
+    let next = matches!(list.put(key(alloc, 1000)?, Number(1000)), Ok(None));
+    Ok(changed && next && at(alloc, &list, 400)? == Some(5) && has(&other, 0, 1000))
 }
 
 #[test]
-fn a_change_under_a_share_copies_one_row(rt: HostRuntime) {
-    assert_eq!(rt; one_row_is_copied(rt.alloc()).ok(), Some(true));
+fn a_change_under_a_share_copies_one_number(rt: HostRuntime) {
+    assert_eq!(rt; one_number_is_copied(rt.alloc()).ok(), Some(true));
 }
 
 /// Whether what cannot be copied is refused, and comes back, and all is as it was.
@@ -26,9 +27,7 @@ fn refusals_keep_all(alloc: Global) -> Result<bool, NoMemory> {
         list.edit(&key(alloc, 100)?, Replace(5)),
         Edited::Refused(Replace(5))
     );
-    let cut = list.split_off(&key(alloc, 100)?).is_err();
-    let row = list.pop_row().is_err();
-    Ok(put && edit && cut && row && has(&list, 0, 1000) && has(&other, 0, 1000))
+    Ok(put && edit && has(&list, 0, 1000) && has(&other, 0, 1000))
 }
 
 #[test]
@@ -50,16 +49,22 @@ fn the_front_leaves_without_a_copy(rt: HostRuntime) {
     assert_eq!(rt; front_leaves(rt.alloc()).ok(), Some(true));
 }
 
-/// Whether the first entry of a list goes to another without a copy, and stays where it is shared and cannot be copied.
+/// Whether the first entry of a list goes to another without a copy, also where it is shared, and stays where one stands in its place
+/// that is shared and cannot be copied.
 fn first_goes(alloc: Global) -> Result<bool, NoMemory> {
     let mut list = numbers(alloc, 10)?;
     let mut later = numbers(alloc, 1000)?;
     let dropped = drop_some(&mut later, 10);
     let moved = moves_first(&mut list, &mut later);
     let other = later.share()?;
-    let refused = !moves_first(&mut list, &mut later);
-    let kept = has(&list, 0, 11) && has(&later, 11, 1000) && has(&other, 11, 1000);
-    Ok(dropped && moved && refused && kept)
+    let again = moves_first(&mut list, &mut later);
+    let mut more = list.share()?;
+    let refused = !moves_first(&mut list, &mut more);
+    let kept = has(&list, 0, 12)
+        && has(&more, 0, 12)
+        && has(&later, 12, 1000)
+        && has(&other, 11, 1000);
+    Ok(dropped && moved && again && refused && kept)
 }
 
 /// Moves the first number of a list to another, and says whether it went and found no other there.
@@ -86,6 +91,6 @@ fn joins(alloc: Global) -> Result<bool, NoMemory> {
 }
 
 #[test]
-fn a_cut_copies_one_row(rt: HostRuntime) {
+fn a_cut_copies_no_number(rt: HostRuntime) {
     assert_eq!(rt; joins(rt.alloc()).ok(), Some(true));
 }

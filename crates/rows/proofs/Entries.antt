@@ -1,5 +1,5 @@
 -- Where a key stands among entries that rise, and what is made of them there.
-use Rattle.std.proofs.Common.{◌≡◌, ℕ, zero, suc, ◌<◌, ◌≤◌, true, false, List, [], ◌∷◌, ◌++◌, length, take, drop, get_or, refl, ap, sym, ◌∙◌, subst, Option, Some, None, cond, arith, Ordering}
+use Rattle.std.proofs.Common.{◌≡◌, ℕ, zero, suc, ◌-◌, ◌<◌, ◌≤◌, true, false, List, [], ◌∷◌, ◌++◌, length, take, drop, get_or, refl, ap, sym, ◌∙◌, subst, Option, Some, None, cond, arith, Ordering}
 use Rattle.std.specs.declared.cmp.Ordering.TheVariants.{Less, Equal, Greater}
 use Rattle.std.specs.Ordering.{nat_cmp, is_gt, is_le, is_eq, match_ordering, ordering_reverse}
 use Rattle.std.specs.List.{AllByRecursion, slice_get, slice_set, insert}
@@ -14,14 +14,25 @@ use Rattle.std.proofs.lemmas.Map.Keys.{sorted_head, sorted_tail}
 use Rattle.pathkey.specs.Heads.{IsHeaded}
 use Rattle.pathkey.specs.Order.{by_bytes, by_bytes_total, same}
 use Rattle.pathkey.proofs.HeadFacts.{order_of_heads}
+use Rattle.pathkey.proofs.OrderFacts.{same_true}
 use Rattle.rows.specs.Places.{Rises, BeginsHeaded, at_key, place, reaches, is_there, IsHolder, IsGap}
 use Rattle.rows.specs.Rows.{begins_by}
+use Rattle.rows.proofs.Lasts.{all_pass}
 use Rattle.rows.proofs.Order.{behind}
 
 -- ---- heads
 
 head_test_le : (h i : ℕ) → i ≢ h → nat_lt i h ≡ is_le (nat_cmp i h)
 head_test_le h i d = grind (arith, nat_tests)
+
+head_test : (h i : ℕ) → nat_lt i h ≡ is_gt (nat_cmp h i)
+head_test h i = grind (arith, nat_tests)
+
+-- of two keys whose heads differ the heads tell the order
+pub before_by_heads : (h i : ℕ) (k x : List ℕ) → IsHeaded h k → IsHeaded i x → i ≢ h → nat_lt i h ≡ is_gt (by_bytes k x)
+before_by_heads h i k x a b d =
+    let order : nat_cmp h i ≡ by_bytes k x = rw (a.is_head, b.is_head) (order_of_heads 8 k x a.are_bytes b.are_bytes (λ e. d (b.is_head ∙ sym e ∙ sym a.is_head))) in
+    head_test h i ∙ ap is_gt order
 
 -- likewise where one stands at the other or before it
 pub reaches_by_heads : (h i : ℕ) (k x : List ℕ) → IsHeaded h k → IsHeaded i x → i ≢ h → nat_lt i h ≡ is_le (by_bytes x k)
@@ -72,6 +83,10 @@ module _ {X : Type 0} where
   place_by_search k (x ∷ bs) (suc i) b p =
       let rest = place_by_search k bs i (omega arith) ((λ j d a h. p.0 (suc j) d (omega arith) (omega arith)), (λ j d a h. p.1 (suc j) d (omega arith) (omega arith))) in
       ap (λ n. suc n) rest ∙ sym (stands_before (by_bytes k x.0) (suc (place k bs)) (p.0 0 x (omega arith) (omega arith)))
+
+  -- the last entry stands before the key
+  pub all_before : (k : List ℕ) (es : List (List ℕ × X)) (e : List ℕ × X) → Rises es → Some e ≡ slice_get es (length es - 1) → is_gt (by_bytes k e.0) ≡ true → length es ≡ place k es
+  all_before k es e r h t = place_by_search k es (length es) (omega arith) (all_pass (λ (x : List ℕ × X). is_gt (by_bytes k x.0)) es e (partitioned k es r) h t)
 
   -- ---- whether the key is there
 
@@ -231,6 +246,33 @@ module _ {X : Type 0} where
         ∙ ap (λ m. take m es ++ (old.0, w) ∷ drop (suc m) es) h.number
         ∙ swap_is k w es old h.there held
         ∙ sym (put-set k w es h.there)
+
+    -- the entry that is there has the key
+    key_held : k ≡ old.0
+    key_held = same_true k old.0 (sym (ap (has_key k) held) ∙ sym (there_is k es) ∙ h.there)
+
+    pub item_replaced : (w : X) → slice_set es i (k, w) ≡ insert_entry by_bytes es k w
+    item_replaced w = ap (λ q. slice_set es i (q, w)) key_held ∙ replaced w
+
+  pub rises_none : (es : List (List ℕ × X)) → es ≡ [] → Rises es
+  unfolding IsStrictlySortedBy
+  rises_none es e = subst (λ (t : List (List ℕ × X)). Rises t) (sym e) tt
+
+  -- an entry that comes back to its place
+  pub set_back : (es : List (List ℕ × X)) (i : ℕ) (new old : List ℕ × X) → i < length es → old ≡ get_or es i old → slice_set (slice_set es i new) i old ≡ es
+  set_back [] i new old l a = absurd (omega arith)
+  set_back (x ∷ es) zero new old l a = ap (λ y. y ∷ es) a
+  set_back (x ∷ es) (suc i) new old l a = ap (λ t. x ∷ t) (set_back es i new old (omega arith) a)
+
+  pub set_same : (es : List (List ℕ × X)) (i : ℕ) (old : List ℕ × X) → i < length es → old ≡ get_or es i old → slice_set es i old ≡ es
+  set_same [] i old l a = absurd (omega arith)
+  set_same (x ∷ es) zero old l a = ap (λ y. y ∷ es) a
+  set_same (x ∷ es) (suc i) old l a = ap (λ t. x ∷ t) (set_same es i old (omega arith) a)
+
+  -- the first entry, and those behind it
+  pub first_parts : (es : List (List ℕ × X)) (e : List ℕ × X) → Some e ≡ slice_get es 0 → es ≡ e ∷ drop 1 es
+  first_parts [] e h = absurd (cc)
+  first_parts (x ∷ es) e h = (let is : e ≡ x = (cc) in ap (λ (y : List ℕ × X). y ∷ es) (sym is))
 
   -- the same, where the entry is read by another default
   pub value_held : (k : List ℕ) (es : List (List ℕ × X)) (i : ℕ) (d : List ℕ × X) → IsHolder k es i → Some (get_or es i d).1 ≡ at_key k es

@@ -1,8 +1,11 @@
 mod Cuts
 mod Entries
 mod Joins
+mod Lasts
 mod Lifts
 mod Nearest
 mod Order
 mod Parts
+mod Spans
 mod TableFacts
+mod Striding

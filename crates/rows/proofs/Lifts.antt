@@ -1,26 +1,23 @@
 -- What is done to one row, said of all entries.
 use Rattle.std.proofs.Common.{◌≡◌, ℕ, zero, suc, ◌+◌, ◌-◌, ◌<◌, ◌≤◌, List, [], ◌∷◌, ◌++◌, length, take, drop, get_or, refl, ap, sym, ◌∙◌, subst, Option, Some, None, cond, arith}
-use Rattle.std.specs.Prelude.{Result, Ok, Err, IfOk, IfSome, OnErr, ◌==◌, false}
+use Rattle.std.specs.Prelude.{Result, Ok, Err}
 use Rattle.std.specs.declared.cmp.Ordering.TheVariants.{Less, Equal, Greater}
 use Rattle.std.specs.Ordering.{is_eq, match_ordering}
-use Rattle.std.specs.List.{remove, slice_get, slice_set}
+use Rattle.std.specs.List.{slice_set}
 use Rattle.std.specs.Map.{keys_of}
 use Rattle.std.specs.BTreeMap.{insert_entry}
 use Rattle.std.proofs.Math.Seq.{drop-append-add}
-use Rattle.std.proofs.lemmas.List.{drop-append-le, length-drop, length-append, set-get_or}
+use Rattle.std.proofs.lemmas.List.{drop-append-le, length-drop, length-append}
 use Rattle.std.proofs.lemmas.Map.Keys.{sorted_head, sorted_tail}
 use Rattle.pathkey.specs.Order.{by_bytes}
-use Rattle.rows.specs.Changes.{IsPut, IsRowChanged, ChangesValue}
-use Rattle.rows.specs.Moves.{IsFirstMoved}
+use Rattle.rows.specs.Changes.{IsPut, IsRowChanged, IsEdited}
+use Rattle.rows.specs.declared.edit.Edited.{Edited}
+use Rattle.rows.specs.declared.edit.Edited.TheVariants.{Done, Absent, Refused}
 use Rattle.rows.specs.Places.{Rises, at_key, place, place_past}
 use Rattle.rows.specs.Rows.{joined, AreSized, AreRows, number_in}
 use Rattle.rows.proofs.Entries.{all_ahead, none_ahead, rises_put}
 use Rattle.rows.proofs.Parts.{at_between, drop_between, past_between, place_between, put_between, rises_drop, take_between}
-use Rattle.rows.proofs.TableFacts.{around, joined_cut, rows_tail, sized_at, sized_set}
-
-pub some_of : (n : ℕ) → false ≡ (n == 0) → 0 < n
-some_of zero e = absurd (cc)
-some_of (suc n) e = omega arith
+use Rattle.rows.proofs.TableFacts.{around, joined_cut, sized_at, sized_set}
 
 module _ {X : Type 0} where
   -- ---- how many entries there are after a value was put
@@ -94,7 +91,7 @@ module _ {X : Type 0} where
         let c = around k rs n w e l in
         ap (λ (t : List (List (List ℕ × X))). joined t) s ∙ c.set row ∙ ap (λ (t : List (List ℕ × X)). c.front ++ (t ++ c.back)) h ∙ sym c.is
 
-    changed_rows : (ss : List (List (List ℕ × X))) (row : List (List ℕ × X)) → ss ≡ slice_set rs n row → 0 < length row → length row ≤ 128 → Rises (joined ss) → AreRows ss
+    changed_rows : (ss : List (List (List ℕ × X))) (row : List (List ℕ × X)) → ss ≡ slice_set rs n row → 0 < length row → length row ≤ 64 → Rises (joined ss) → AreRows ss
     changed_rows ss row s p q r = record { rises = r; sized = subst (λ (t : List (List (List ℕ × X))). AreSized t) (sym s) (sized_set n rs row p q w.sized) }
 
     same_rows : (ss : List (List (List ℕ × X))) (row : List (List ℕ × X)) → ss ≡ slice_set rs n row → row ≡ get_or rs n [] → AreRows ss
@@ -111,28 +108,26 @@ module _ {X : Type 0} where
     put_whole v ss (Ok was) h = (row_put v ss h.row h.is h.done.0, h.done.1 ∙ row_value)
     put_whole v ss (Err p) h = (row_same ss h.row h.is h.done.0, h.done.1)
 
-    pub put_rows : (v : X) (ss : List (List (List ℕ × X))) (r : Result (Option X) (List ℕ × X)) → length (get_or rs n []) < 128 → IsRowChanged (IsPut k v) n rs ss r → AreRows ss
+    pub put_rows : (v : X) (ss : List (List (List ℕ × X))) (r : Result (Option X) (List ℕ × X)) → length (get_or rs n []) < 64 → IsRowChanged (IsPut k v) n rs ss r → AreRows ss
     put_rows v ss (Ok was) b h =
         let long : length h.row ≡ length (insert_entry by_bytes (get_or rs n []) k v) = ap (λ (t : List (List ℕ × X)). length t) h.done.0 in
         changed_rows ss h.row h.is (omega (arith, long, put_some k v (get_or rs n []))) (omega (arith, long, b, put_most k v (get_or rs n []))) (put_rises v ss (row_put v ss h.row h.is h.done.0))
     put_rows v ss (Err p) b h = same_rows ss h.row h.is h.done.0
 
     -- the value there was changed
-    module _ {A : Type 0} (does : X → X → A → Type 0) (ss : List (List (List ℕ × X))) where
-      pub edit_whole : (a : A) (row : List (List ℕ × X)) → ss ≡ slice_set rs n row → ChangesValue does k (get_or rs n []) row a → ChangesValue does k (joined rs) (joined ss) a
-      edit_whole a row s h = record { old = h.old; new = h.new; there = sym row_value ∙ h.there; done = h.done; is = row_put h.new ss row s h.is }
+    module _ {A E : Type 0} (does : X → X → A → Type 0) (edit : E) (ss : List (List (List ℕ × X))) where
+      pub edit_whole : (r : Edited A E) → IsRowChanged (IsEdited does k edit) n rs ss r → IsEdited does k edit (joined rs) (joined ss) r
+      edit_whole (Done a) h = record { old = h.done.old; new = h.done.new; there = sym row_value ∙ h.done.there; done = h.done.done; is = row_put h.done.new ss h.row h.is h.done.is }
+      edit_whole (Absent back) h = (sym row_value ∙ h.done.0, row_same ss h.row h.is h.done.1, h.done.2)
+      edit_whole (Refused back) h = (row_same ss h.row h.is h.done.0, h.done.1)
 
-      pub edit_rows : (a : A) (row : List (List ℕ × X)) → Rises (get_or rs n []) → ss ≡ slice_set rs n row → ChangesValue does k (get_or rs n []) row a → AreRows ss
-      edit_rows a row r s h =
+      pub edit_rows : (r : Edited A E) → Rises (get_or rs n []) → IsRowChanged (IsEdited does k edit) n rs ss r → AreRows ss
+      edit_rows (Done a) r h =
           let size = sized_at rs n w.sized l in
-          let long : length row ≡ length (get_or rs n []) = ap (λ (t : List (List ℕ × X)). length t) h.is ∙ put_as_many k h.new h.old (get_or rs n []) r h.there in
-          changed_rows ss row s (omega (arith, long, size.0)) (omega (arith, long, size.1)) (put_rises h.new ss (row_put h.new ss row s h.is))
-
-      pub absent_whole : {E : Type 0} (row : List (List ℕ × X)) (edit back : E) → ss ≡ slice_set rs n row → (at_key k (get_or rs n []) ≡ None) × (row ≡ get_or rs n []) × (back ≡ edit) → (at_key k (joined rs) ≡ None) × (joined ss ≡ joined rs) × (back ≡ edit)
-      absent_whole row edit back s h = (sym row_value ∙ h.0, row_same ss row s h.1, h.2)
-
-      pub absent_rows : (row : List (List ℕ × X)) → ss ≡ slice_set rs n row → row ≡ get_or rs n [] → AreRows ss
-      absent_rows row s h = same_rows ss row s h
+          let long : length h.row ≡ length (get_or rs n []) = ap (λ (t : List (List ℕ × X)). length t) h.done.is ∙ put_as_many k h.done.new h.done.old (get_or rs n []) r h.done.there in
+          changed_rows ss h.row h.is (omega (arith, long, size.0)) (omega (arith, long, size.1)) (put_rises h.done.new ss (row_put h.done.new ss h.row h.is h.done.is))
+      edit_rows (Absent back) r h = same_rows ss h.row h.is h.done.1
+      edit_rows (Refused back) r h = same_rows ss h.row h.is h.done.0
 
   -- ---- the first entries leave
 
@@ -163,32 +158,3 @@ module _ {X : Type 0} where
         rises = subst (λ (t : List (List ℕ × X)). Rises t) (sym (shortened rs ss count row l (omega (arith, h)) s d)) (rises_drop count (joined rs) w.rises);
         sized = subst (λ (t : List (List (List ℕ × X))). AreSized t) (sym s) (sized_set 0 rs row (omega (arith, long, h, length-drop count (get_or rs 0 []))) (omega (arith, long, size.1, length-drop count (get_or rs 0 []))) w.sized);
       }
-
-  -- the first of more leaves
-  pub popped_rows : (rs ss : List (List (List ℕ × X))) (e : List ℕ × X) (row : List (List ℕ × X)) → 0 < length rs → get_or rs 0 [] ≡ e ∷ row → ss ≡ slice_set rs 0 row → 0 < length row → AreRows rs → AreRows ss
-  popped_rows rs ss e row l h s some w = shortened_rows rs ss 1 row l (omega (arith, some, ap (λ (t : List (List ℕ × X)). length t) h)) s (sym (ap (λ (t : List (List ℕ × X)). drop 1 t) h)) w
-
-  -- it goes to its place in a row of another list
-  module _ (from rest : List (List ℕ × X)) (rs ss : List (List (List ℕ × X))) (n : ℕ) (row : List (List ℕ × X)) (w : AreRows rs) (l : n < length rs) (s : ss ≡ slice_set rs n row) (number : IfSome (slice_get from 0) (λ e. n ≡ number_in e.0 rs)) where
-    moved_at : (was : Option X) (m : IsFirstMoved was from (get_or rs n []) rest row) → n ≡ number_in m.key rs
-    moved_at was m = subst (λ (t : List (List ℕ × X)). IfSome (slice_get t 0) (λ e. n ≡ number_in e.0 rs)) m.parts number
-
-    moved_row : (was : Option X) (m : IsFirstMoved was from (get_or rs n []) rest row) → IsRowChanged (IsPut m.key m.value) n rs ss (Ok was)
-    moved_row was m = record { row = row; is = s; done = (m.is, m.found) }
-
-    pub moved_whole : (was : Option X) → IsFirstMoved was from (get_or rs n []) rest row → IsFirstMoved was from (joined rs) rest (joined ss)
-    moved_whole was m =
-        let put = put_whole m.key rs n w (moved_at was m) l m.value ss (Ok was) (moved_row was m) in
-        record { key = m.key; value = m.value; parts = m.parts; is = put.0; found = put.1 }
-
-    -- or none went
-    pub moved_rows : {E : Type 0} (r : Result (Option X) E) → length (get_or rs n []) < 128 → IfOk r (λ was. IsFirstMoved was from (get_or rs n []) rest row) → OnErr r (row ≡ get_or rs n []) → AreRows ss
-    moved_rows (Ok was) room m same = put_rows m.key rs n w (moved_at was m) l m.value ss (Ok was) room (moved_row was m)
-    moved_rows (Err e) room m same = subst (λ (t : List (List (List ℕ × X))). AreRows t) (sym (s ∙ ap (λ t. slice_set rs n t) same ∙ set-get_or rs n [])) w
-
-  -- a whole row leaves from the front
-  pub taken_rows : (rs ss ts : List (List (List ℕ × X))) (new : List (List ℕ × X)) → 0 < length rs → ss ≡ slice_set rs 0 new → ts ≡ remove ss 0 → AreRows rs → AreRows ts
-  taken_rows [] ss ts new l s t w = absurd (omega arith)
-  taken_rows (r ∷ rs) ss ts new l s t w =
-      let is : ts ≡ rs = t ∙ ap (λ (x : List (List (List ℕ × X))). remove x 0) s in
-      subst (λ (x : List (List (List ℕ × X))). AreRows x) (sym is) (rows_tail (r ∷ rs) r rs refl w)

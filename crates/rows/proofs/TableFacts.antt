@@ -1,8 +1,8 @@
 -- Rows one behind the other: which of them has a key, and what a change of that one makes of all.
-use Rattle.std.proofs.Common.{◌≡◌, ℕ, zero, suc, ◌+◌, ◌<◌, ◌≤◌, true, false, List, [], ◌∷◌, ◌++◌, length, take, drop, get_or, refl, ap, sym, ◌∙◌, subst, cond, arith, append_assoc, append-nil}
+use Rattle.std.proofs.Common.{◌≡◌, ℕ, zero, suc, ◌+◌, ◌-◌, ◌<◌, ◌≤◌, true, false, List, [], ◌∷◌, ◌++◌, length, take, drop, get_or, refl, ap, sym, ◌∙◌, subst, cond, arith, append_assoc, append-nil, Some}
 use Rattle.std.specs.declared.cmp.Ordering.TheVariants.{Less, Greater}
 use Rattle.std.specs.Ordering.{is_lt, is_le}
-use Rattle.std.specs.List.{AllByRecursion, slice_set, insert}
+use Rattle.std.specs.List.{AllByRecursion, slice_get, slice_set, insert}
 use Rattle.std.specs.List.Sorted.{IsStrictlySortedBy, IsPartitionedBy, IsPartitionPoint}
 use Rattle.std.specs.Map.{keys_of}
 use Rattle.std.proofs.lemmas.List.{length-take, length-drop, take-append-drop, take_more, drop_more, take_all, drop_all}
@@ -10,6 +10,7 @@ use Rattle.std.proofs.lemmas.Map.Keys.{sorted_head}
 use Rattle.pathkey.specs.Order.{by_bytes}
 use Rattle.rows.specs.Places.{Rises, place, reaches, before, AreBefore, AreFrom}
 use Rattle.rows.specs.Rows.{joined, AreSized, AreRows, begins_by, row_number, number_in}
+use Rattle.rows.proofs.Lasts.{all_pass}
 use Rattle.rows.proofs.Order.{lt_le, reaches-from_before}
 use Rattle.rows.proofs.Parts.{AllBefore, AllBehind, AllFrom, weaker, all_append, are_before, are_from, before_row, behind_row, dropped_from, right_all, rises_left, rises_right, taken_before}
 
@@ -37,7 +38,7 @@ module _ {X : Type 0} where
   sized-append [] ss f g = g
   sized-append (r ∷ rs) ss f g = (f.0, f.1, sized-append rs ss f.2 g)
 
-  pub sized_at : (rs : List (List (List ℕ × X))) (m : ℕ) → AreSized rs → m < length rs → (0 < length (get_or rs m [])) × (length (get_or rs m []) ≤ 128)
+  pub sized_at : (rs : List (List (List ℕ × X))) (m : ℕ) → AreSized rs → m < length rs → (0 < length (get_or rs m [])) × (length (get_or rs m []) ≤ 64)
   sized_at [] m f h = absurd (omega arith)
   sized_at (r ∷ rs) zero f h = (f.0, f.1)
   sized_at (r ∷ rs) (suc m) f h = sized_at rs m f.2 (omega arith)
@@ -52,12 +53,12 @@ module _ {X : Type 0} where
   sized_drop (suc m) [] f = tt
   sized_drop (suc m) (r ∷ rs) f = sized_drop m rs f.2
 
-  pub sized_set : (m : ℕ) (rs : List (List (List ℕ × X))) (r : List (List ℕ × X)) → 0 < length r → length r ≤ 128 → AreSized rs → AreSized (slice_set rs m r)
+  pub sized_set : (m : ℕ) (rs : List (List (List ℕ × X))) (r : List (List ℕ × X)) → 0 < length r → length r ≤ 64 → AreSized rs → AreSized (slice_set rs m r)
   sized_set m [] r h l f = f
   sized_set zero (x ∷ rs) r h l f = (h, l, f.2)
   sized_set (suc m) (x ∷ rs) r h l f = (f.0, f.1, sized_set m rs r h l f.2)
 
-  sized_insert : (n : ℕ) (rs : List (List (List ℕ × X))) (r : List (List ℕ × X)) → 0 < length r → length r ≤ 128 → AreSized rs → AreSized (insert rs n r)
+  sized_insert : (n : ℕ) (rs : List (List (List ℕ × X))) (r : List (List ℕ × X)) → 0 < length r → length r ≤ 64 → AreSized rs → AreSized (insert rs n r)
   sized_insert zero rs r h l f = (h, l, f)
   sized_insert (suc n) [] r h l f = (h, l, f)
   sized_insert (suc n) (x ∷ rs) r h l f = (f.0, f.1, sized_insert n rs r h l f.2)
@@ -136,6 +137,10 @@ module _ {X : Type 0} where
       let rest = number_by_search k rs i (omega arith) ((λ j d a h. p.0 (suc j) d (omega arith) (omega arith)), (λ j d a h. p.1 (suc j) d (omega arith) (omega arith))) in
       ap (λ n. suc n) rest ∙ sym (ap (λ c. cond c (suc (row_number k rs)) 0) (p.0 0 r (omega arith) (omega arith)))
 
+  -- the last row begins at the key or before it
+  pub all_begin : (k : List ℕ) (rs : List (List (List ℕ × X))) (r : List (List ℕ × X)) → Rises (joined rs) → AreSized rs → Some r ≡ slice_get rs (length rs - 1) → begins_by k r ≡ true → length rs ≡ row_number k rs
+  all_begin k rs r q f h t = number_by_search k rs (length rs) (omega arith) (all_pass (λ (x : List (List ℕ × X)). begins_by k x) rs r (rows_partitioned k rs q f) h t)
+
   pub get_drop : (n : ℕ) (rs : List (List (List ℕ × X))) → get_or (drop n rs) 0 [] ≡ get_or rs n []
   get_drop zero rs = refl
   get_drop (suc n) [] = refl
@@ -197,7 +202,7 @@ module _ {X : Type 0} where
   joined_split zero (r ∷ rs) x y h = sym (append_assoc x y (joined rs))
   joined_split (suc m) (r ∷ rs) x y h = ap (λ t. r ++ t) (joined_split m rs x y (omega arith)) ∙ sym (append_assoc r (joined (take m rs)) ((x ++ y) ++ joined (drop (suc m) rs)))
 
-  sized_split : (m : ℕ) (rs : List (List (List ℕ × X))) (x y : List (List ℕ × X)) → 0 < length x → length x ≤ 128 → 0 < length y → length y ≤ 128 → AreSized rs → AreSized (insert (slice_set rs m x) (suc m) y)
+  sized_split : (m : ℕ) (rs : List (List (List ℕ × X))) (x y : List (List ℕ × X)) → 0 < length x → length x ≤ 64 → 0 < length y → length y ≤ 64 → AreSized rs → AreSized (insert (slice_set rs m x) (suc m) y)
   sized_split m rs x y p q s t f = sized_insert (suc m) (slice_set rs m x) y s t (sized_set m rs x p q f)
 
   front_split : (m : ℕ) (rs : List (List (List ℕ × X))) (x y : List (List ℕ × X)) → m < length rs → joined (take (suc m) (insert (slice_set rs m x) (suc m) y)) ≡ joined (take m rs) ++ x

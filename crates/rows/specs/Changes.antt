@@ -1,6 +1,6 @@
 -- What a change makes of entries, and of the value at a key.
-use Rattle.std.specs.Prelude.{◌≡◌, ℕ, List, [], ◌++◌, take, drop, Option, None, Some, Result, MatchResult}
-use Rattle.std.specs.List.{slice_set, slice_index_or}
+use Rattle.std.specs.Prelude.{◌≡◌, ℕ, ◌-◌, List, [], ◌++◌, take, drop, Option, None, Some, Result, MatchResult}
+use Rattle.std.specs.List.{slice_set, slice_index_or, remove_range}
 use Rattle.std.specs.BTreeMap.{insert_entry}
 use Rattle.pathkey.specs.Order.{by_bytes}
 use Rattle.rows.specs.Places.{at_key}
@@ -15,6 +15,10 @@ module _ {X : Type 0} where
   -- the entries from number i on left the entries es, which gave fs; none did where memory was refused
   abbrev pub IsCutOff : {E : Type 0} → ℕ → List (List ℕ × X) → List (List ℕ × X) → Result (List (List ℕ × X)) E → Type 0
   IsCutOff i es fs r = MatchResult r (λ back. (fs ≡ take i es) × (back ≡ drop i es)) (λ _. fs ≡ es)
+
+  -- those from number i up to j did
+  abbrev pub IsCutBetween : {E : Type 0} → ℕ → ℕ → List (List ℕ × X) → List (List ℕ × X) → Result (List (List ℕ × X)) E → Type 0
+  IsCutBetween i j es fs r = MatchResult r (λ out. (fs ≡ remove_range es i j) × (out ≡ take (j - i) (drop i es))) (λ _. fs ≡ es)
 
   -- the entries of a row came behind the entries es, which gave fs; the row came back where memory was refused
   abbrev pub IsJoined : {A : Type 0} → List (List ℕ × X) → List (List ℕ × X) → List (List ℕ × X) → Result A (List (List ℕ × X)) → Type 0
@@ -31,10 +35,6 @@ module _ {X : Type 0} where
     pub there : at_key k es ≡ Some old
     pub done : does old new a
     pub is : fs ≡ insert_entry by_bytes es k new
-
-  -- likewise, or no value stood there, all is as it was and the edit e came back
-  abbrev pub IsEditedAt : {A E : Type 0} → (X → X → A → Type 0) → List ℕ → E → List (List ℕ × X) → List (List ℕ × X) → Result A E → Type 0
-  IsEditedAt does k e es fs r = MatchResult r (ChangesValue does k es fs) (λ back. (at_key k es ≡ None) × (fs ≡ es) × (back ≡ e))
 
   -- the row with number n was changed as `does` says
   pub record IsRowChanged {A : Type 0} (does : List (List ℕ × X) → List (List ℕ × X) → A → Type 0) (n : ℕ) (rs ss : List (List (List ℕ × X))) (answer : A) : Type 0 where

@@ -1,17 +1,14 @@
 //! What is done to the entries of one row, once nobody else holds it.
-ghost use Rattle.std.specs.Prelude.{◌≡◌, ◌<◌, ◌≤◌, ◌+◌, ◌++◌, ℕ, List, Option, Some, None, Result, length, take, drop, IfOk, OnErr, vec_len, vec_capacity, MatchResult, ⊤, []};
-ghost use Rattle.std.specs.BTreeMap.{insert_entry};
-ghost use Rattle.pathkey.specs.Order.{by_bytes};
-ghost use Rattle.rows.specs.Places.{Rises, at_key};
-ghost use Rattle.rows.specs.Rows.{joined, AreRows};
-ghost use Rattle.rows.specs.Moves.{IsFirstMoved};
-ghost use Rattle.rows.specs.Changes.{IsPut, IsCutOff, IsEditedAt, IsJoined, AreTaken, ChangesValue};
+ghost use Rattle.std.specs.Prelude.{◌≡◌, ◌<◌, ◌≤◌, ◌+◌, ◌++◌, ℕ, List, Result, length, take, drop, OnOk, OnErr, IfOk, IfErr, vec_len, vec_capacity, ⊤};
+ghost use Rattle.std.specs.List.{insert};
+ghost use Rattle.rows.specs.Places.{Rises, IsHolder};
+ghost use Rattle.rows.specs.Changes.{IsPut, IsCutBetween, IsCutOff, IsEdited, IsJoined, AreTaken, ChangesValue};
 
-use crate::edit::Edit;
-use crate::row::Row;
+use crate::edit::{Edit, Edited};
+use crate::item::Item;
+use crate::row::{Row, share_items};
 use crate::search::find;
 use crate::stored::Stored;
-use crate::table::pop_entry;
 use pathkey::{Key, NoMemory};
 use std::alloc::Global;
 use std::sync::Arc;
@@ -28,7 +25,7 @@ pub(crate) trait Change<T> {
     ghost does: { Self → List (List ℕ × T) → List (List ℕ × T) → Self.Answer → Type 0 };
 
     /// Does it.
-    fn change(self, entries: &mut Vec<(Key, T)>) -> Self::Answer
+    fn change(self, entries: &mut Vec<Item<T>>) -> Self::Answer
         requires { fits self entries.old.items }
         ensures { does self entries.old.items entries.new.items result };
 }
@@ -47,12 +44,30 @@ impl<T: Stored> Change<T> for Put<T> {
 
     ghost does = { λ p es fs r. IsPut p.key p.value es fs r };
 
-    fn change(self, entries: &mut Vec<(Key, T)>) -> Result<Option<T>, (Key, T)> {
+    fn change(self, entries: &mut Vec<Item<T>>) -> Result<Option<T>, (Key, T)> {
         put_entry(entries, self.key, self.value)
     }
 }
 
-/// The value at a key is changed. Where none stands there the edit comes back.
+/// An entry of another list is put at its key. It answers what stood there, or the item where memory is refused.
+#[derive(Drop)]
+pub(crate) struct PutItem<T> {
+    pub(crate) item: Item<T>,
+}
+
+impl<T: Stored> Change<T> for PutItem<T> {
+    type Answer = Result<Option<T>, Item<T>>;
+
+    ghost fits = { λ p es. Rises es };
+
+    ghost does = { λ p es fs r. IsPut p.item.0 p.item.1 es fs r };
+
+    fn change(self, entries: &mut Vec<Item<T>>) -> Result<Option<T>, Item<T>> {
+        put_item(entries, self.item)
+    }
+}
+
+/// The value at a key is changed. Where none stands there, or memory is refused, the edit comes back.
 #[derive(Drop)]
 pub(crate) struct EditAt<'a, E> {
     pub(crate) key: &'a Key,
@@ -60,13 +75,13 @@ pub(crate) struct EditAt<'a, E> {
 }
 
 impl<'a, T: Stored, E: Edit<T>> Change<T> for EditAt<'a, E> {
-    type Answer = Result<E::Answer, E>;
+    type Answer = Edited<E::Answer, E>;
 
     ghost fits = { λ s es. Rises es };
 
-    ghost does = { λ s es fs r. IsEditedAt (E.does s.edit) s.key.now s.edit es fs r };
+    ghost does = { λ s es fs r. IsEdited (E.does s.edit) s.key.now s.edit es fs r };
 
-    fn change(self, entries: &mut Vec<(Key, T)>) -> Result<E::Answer, E> {
+    fn change(self, entries: &mut Vec<Item<T>>) -> Edited<E::Answer, E> {
         edit_entry(entries, self.key, self.edit)
     }
 }
@@ -84,8 +99,27 @@ impl<T: Stored> Change<T> for CutOff {
 
     ghost does = { λ s es fs r. IsCutOff s.at es fs r };
 
-    fn change(self, entries: &mut Vec<(Key, T)>) -> Result<Row<T>, NoMemory> {
+    fn change(self, entries: &mut Vec<Item<T>>) -> Result<Row<T>, NoMemory> {
         cut_off(entries, self.at)
+    }
+}
+
+/// The entries from one number up to another leave for a row of their own.
+#[derive(Drop)]
+pub(crate) struct CutBetween {
+    pub(crate) from: usize,
+    pub(crate) to: usize,
+}
+
+impl<T: Stored> Change<T> for CutBetween {
+    type Answer = Result<Row<T>, NoMemory>;
+
+    ghost fits = { λ s es. (s.from ≤ s.to) × (s.to ≤ length es) };
+
+    ghost does = { λ s es fs r. IsCutBetween s.from s.to es fs r };
+
+    fn change(self, entries: &mut Vec<Item<T>>) -> Result<Row<T>, NoMemory> {
+        cut_between(entries, self.from, self.to)
     }
 }
 
@@ -94,13 +128,13 @@ impl<T: Stored> Change<T> for CutOff {
 pub(crate) struct Take;
 
 impl<T: Stored> Change<T> for Take {
-    type Answer = Vec<(Key, T)>;
+    type Answer = Vec<Item<T>>;
 
     ghost fits = { λ s es. ⊤ };
 
     ghost does = { λ s es fs r. AreTaken es fs r.items };
 
-    fn change(self, entries: &mut Vec<(Key, T)>) -> Vec<(Key, T)> {
+    fn change(self, entries: &mut Vec<Item<T>>) -> Vec<Item<T>> {
         let empty = Vec::new(*entries.allocator());
         std::mem::replace(entries, empty)
     }
@@ -119,14 +153,14 @@ impl<T: Stored> Change<T> for Join<T> {
 
     ghost does = { λ s es fs r. IsJoined s.row es fs r };
 
-    fn change(self, entries: &mut Vec<(Key, T)>) -> Result<(), Row<T>> {
+    fn change(self, entries: &mut Vec<Item<T>>) -> Result<(), Row<T>> {
         join_row(entries, self.row)
     }
 }
 
 /// Puts a value at the key of entries, and answers what stood there. On want of memory key and value come back.
 fn put_entry<T: Stored>(
-    entries: &mut Vec<(Key, T)>,
+    entries: &mut Vec<Item<T>>,
     key: Key,
     value: T,
 ) -> Result<Option<T>, (Key, T)>
@@ -134,77 +168,121 @@ fn put_entry<T: Stored>(
     ensures { IsPut key value entries.old.items entries.new.items result }
 {
     match find(entries.as_slice(), &key) {
-        Ok(i) => {
-            let entry = &mut entries[i];
-            let old = std::mem::replace(&mut entry.1, value);
-            Ok(Some(old))
-        }
-        Err(i) => match entries.insert(i, (key, value)) {
+        Ok(i) => replace_value(entries, i, key, value),
+        Err(i) => match insert_entry(entries, i, key, value) {
+            Ok(()) => Ok(None),
+            Err(refused) => Err(refused),
+        },
+    }
+}
+
+/// Puts a value in the place of the one at its key, which it answers. On want of memory key and value come back.
+fn replace_value<T: Stored>(
+    entries: &mut Vec<Item<T>>,
+    i: usize,
+    key: Key,
+    value: T,
+) -> Result<Option<T>, (Key, T)>
+    requires { IsHolder key entries.old.items i }
+    ensures { IsPut key value entries.old.items entries.new.items result }
+{
+    let alloc = *entries.allocator();
+    let item = &mut entries[i];
+    match item.replace(alloc, value) {
+        Ok(old) => Ok(Some(old)),
+        Err(value) => Err((key, value)),
+    }
+}
+
+/// Puts a new entry to its place. On want of memory it comes back.
+fn insert_entry<T: Stored>(
+    entries: &mut Vec<Item<T>>,
+    i: usize,
+    key: Key,
+    value: T,
+) -> Result<(), (Key, T)>
+    requires { i ≤ length entries.old.items }
+    ensures is { OnOk result (entries.new.items ≡ insert entries.old.items i (key, value)) }
+    ensures same { OnErr result (entries.new.items ≡ entries.old.items) }
+    ensures back { IfErr result (λ p. p ≡ (key, value)) }
+{
+    if entries.reserve(1).is_err() {
+        return Err((key, value));
+    }
+    let item = Item::new(*entries.allocator(), key, value)?;
+    let Ok(()) = entries.insert(i, item) else {
+        unreachable!()
+    };
+    Ok(())
+}
+
+/// Puts an item at its key, and answers what stood there. On want of memory it comes back.
+fn put_item<T: Stored>(entries: &mut Vec<Item<T>>, item: Item<T>) -> Result<Option<T>, Item<T>>
+    requires { Rises entries.old.items }
+    ensures { IsPut item.0 item.1 entries.old.items entries.new.items result }
+{
+    match find(entries.as_slice(), item.key()) {
+        Ok(i) => swap_item(entries, i, item),
+        Err(i) => match entries.insert(i, item) {
             Ok(()) => Ok(None),
             Err(refused) => Err(refused.value),
         },
     }
 }
 
-/// Moves the first entry of rows to its place among entries, and answers what stood there. On want of memory all is as it was.
-pub(crate) fn take_first<T: Stored>(
-    entries: &mut Vec<(Key, T)>,
-    from: &mut Vec<Row<T>>,
-) -> Result<Option<T>, NoMemory>
-    requires rises { Rises entries.old.items }
-    requires rows { AreRows from.old.items }
-    requires some { 0 < length from.old.items }
-    ensures rows { AreRows from.new.items }
-    ensures moved { IfOk result (λ was. IsFirstMoved was (joined from.old.items) entries.old.items (joined from.new.items) entries.new.items) }
-    ensures err { OnErr result (entries.new.items ≡ entries.old.items) }
-    ensures kept { OnErr result (joined from.new.items ≡ joined from.old.items) }
+/// Puts an item in the place of the one at its key, and answers the value of that one. On want of memory it comes back.
+fn swap_item<T: Stored>(
+    entries: &mut Vec<Item<T>>,
+    i: usize,
+    item: Item<T>,
+) -> Result<Option<T>, Item<T>>
+    requires { IsHolder item.0 entries.old.items i }
+    ensures { IsPut item.0 item.1 entries.old.items entries.new.items result }
 {
-    entries.reserve(1)?;
-    let (key, value) = pop_entry(from)?;
-    Ok(put_reserved(entries, key, value))
-}
-
-/// Puts a value at the key of entries, which have room for it, and answers what stood there.
-fn put_reserved<T: Stored>(entries: &mut Vec<(Key, T)>, key: Key, value: T) -> Option<T>
-    requires rises { Rises entries.old.items }
-    requires room { vec_len entries.old < vec_capacity entries.old }
-    ensures entries { entries.new.items ≡ insert_entry by_bytes entries.old.items key value }
-    ensures was { result ≡ at_key key entries.old.items }
-{
-    match find(entries.as_slice(), &key) {
-        Ok(i) => {
-            let entry = &mut entries[i];
-            Some(std::mem::replace(&mut entry.1, value))
-        }
-        Err(i) => {
-            let Ok(()) = entries.insert(i, (key, value)) else {
-                unreachable!()
-            };
-            None
-        }
+    let alloc = *entries.allocator();
+    let old = std::mem::replace(&mut entries[i], item);
+    match old.into_value(alloc) {
+        Ok(value) => Ok(Some(value)),
+        Err(old) => Err(std::mem::replace(&mut entries[i], old)),
     }
 }
 
-/// Changes the value at the key of entries. Where none stands there the edit comes back.
+/// Changes the value at the key of entries.
 fn edit_entry<T: Stored, E: Edit<T>>(
-    entries: &mut Vec<(Key, T)>,
+    entries: &mut Vec<Item<T>>,
     key: &Key,
     edit: E,
-) -> Result<E::Answer, E>
+) -> Edited<E::Answer, E>
     requires { Rises entries.old.items }
-    ensures { IsEditedAt (E.does edit) key.now edit entries.old.items entries.new.items result }
+    ensures { IsEdited (E.does edit) key.now edit entries.old.items entries.new.items result }
 {
     match find(entries.as_slice(), key) {
-        Ok(i) => {
-            let entry = &mut entries[i];
-            Ok(edit.edit(&mut entry.1))
-        }
-        Err(_) => Err(edit),
+        Ok(i) => match edit_item(entries, i, edit) {
+            Ok(answer) => Edited::Done(answer),
+            Err(edit) => Edited::Refused(edit),
+        },
+        Err(_) => Edited::Absent(edit),
     }
+}
+
+/// Changes the value of the entry with this number. On want of memory the edit comes back.
+fn edit_item<T: Stored, E: Edit<T>>(
+    entries: &mut Vec<Item<T>>,
+    i: usize,
+    edit: E,
+) -> Result<E::Answer, E>
+    requires { i < length entries.old.items }
+    ensures done { (k : List ℕ) → IsHolder k entries.old.items i → IfOk result (ChangesValue (E.does edit) k entries.old.items entries.new.items) }
+    ensures err { OnErr result (entries.new.items ≡ entries.old.items) }
+    ensures back { IfErr result (λ e. e ≡ edit) }
+{
+    let alloc = *entries.allocator();
+    let item = &mut entries[i];
+    item.edit(alloc, edit)
 }
 
 /// Moves the entries from this number on into a row of their own.
-fn cut_off<T: Stored>(entries: &mut Vec<(Key, T)>, at: usize) -> Result<Row<T>, NoMemory>
+fn cut_off<T: Stored>(entries: &mut Vec<Item<T>>, at: usize) -> Result<Row<T>, NoMemory>
     requires { at ≤ length entries.old.items }
     ensures { IsCutOff at entries.old.items entries.new.items result }
 {
@@ -218,8 +296,25 @@ fn cut_off<T: Stored>(entries: &mut Vec<(Key, T)>, at: usize) -> Result<Row<T>, 
     }
 }
 
+/// Moves the entries from one number up to another into a row of their own.
+fn cut_between<T: Stored>(
+    entries: &mut Vec<Item<T>>,
+    from: usize,
+    to: usize,
+) -> Result<Row<T>, NoMemory>
+    requires order { from ≤ to }
+    requires bound { to ≤ length entries.old.items }
+    ensures { IsCutBetween from to entries.old.items entries.new.items result }
+{
+    let alloc = *entries.allocator();
+    let out = share_items(alloc, &entries.as_slice()[from..to])?;
+    let out = Arc::new(alloc, out)?;
+    entries.drain(from..to);
+    Ok(Row::of(out))
+}
+
 /// Puts entries behind others, for which there is room.
-fn put_back<T: Stored>(entries: &mut Vec<(Key, T)>, back: Vec<(Key, T)>)
+fn put_back<T: Stored>(entries: &mut Vec<Item<T>>, back: Vec<Item<T>>)
     requires { vec_len entries.old + vec_len back ≤ vec_capacity entries.old }
     ensures { entries.new.items ≡ entries.old.items ++ back.items }
 {
@@ -230,7 +325,7 @@ fn put_back<T: Stored>(entries: &mut Vec<(Key, T)>, back: Vec<(Key, T)>)
 }
 
 /// Moves the entries of a row behind others. On want of memory the row comes back.
-fn join_row<T: Stored>(entries: &mut Vec<(Key, T)>, row: Row<T>) -> Result<(), Row<T>>
+fn join_row<T: Stored>(entries: &mut Vec<Item<T>>, row: Row<T>) -> Result<(), Row<T>>
     ensures { IsJoined row entries.old.items entries.new.items result }
 {
     let mut row = row;

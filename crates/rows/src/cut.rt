@@ -1,14 +1,16 @@
 //! The entries of a range, out of rows.
-ghost use Rattle.std.specs.Prelude.{◌≡◌, ◌+◌, ◌≤◌, ◌++◌, not, length, OnOk, OnErr, IfOk, vec_len, vec_capacity};
+ghost use Rattle.std.specs.Prelude.{◌≡◌, ◌+◌, ◌≤◌, ◌++◌, not, length, OnOk, OnErr, IfOk, IfSome, vec_len, vec_capacity};
 ghost use Rattle.std.specs.List.{filter};
 ghost use Rattle.std.specs.Option.{option_copied};
 ghost use Rattle.pathkey.specs.Keys.{is_in};
 ghost use Rattle.rows.specs.Places.{AreBelow, AreBeyond};
 ghost use Rattle.rows.specs.Rows.{joined, AreRows};
+ghost use Rattle.rows.specs.Spans.{IsSpan};
 
 use crate::row::Row;
+use crate::search::count_before;
 use crate::stored::Stored;
-use crate::table::{mend, part};
+use crate::table::{cut_between, mend, number_in, part};
 use pathkey::{Key, KeyRange, NoMemory};
 
 /// Moves the entries inside the range out. On want of memory the entries are as they were.
@@ -16,6 +18,55 @@ pub(crate) fn cut_out<T: Stored>(
     rows: &mut Vec<Row<T>>,
     range: &KeyRange,
 ) -> Result<Vec<Row<T>>, NoMemory>
+    requires { AreRows rows.old.items }
+    ensures rows { AreRows rows.new.items }
+    ensures out_rows { IfOk result (λ out. AreRows out.items) }
+    ensures kept { OnOk result (joined rows.new.items ≡ filter (λ e. not (is_in range.now e.0)) (joined rows.old.items)) }
+    ensures taken { IfOk result (λ out. joined out.items ≡ filter (λ e. is_in range.now e.0) (joined rows.old.items)) }
+    ensures err { OnErr result (joined rows.new.items ≡ joined rows.old.items) }
+{
+    let Some((n, from, to)) = span_of(rows.as_slice(), range) else {
+        return cut_apart(rows, range);
+    };
+    if from == to {
+        return Ok(Vec::new(*rows.allocator()));
+    }
+    let mut out = Vec::with_capacity(*rows.allocator(), 1)?;
+    out.push_reserved(cut_between(rows, n, from, to)?);
+    Ok(out)
+}
+
+/// Where the range begins and ends within one row that has other entries too: the number of the row, and the numbers of its
+/// entries from which on and up to which they stand in the range.
+fn span_of<T: Stored>(rows: &[Row<T>], range: &KeyRange) -> Option<(usize, usize, usize)>
+    requires { AreRows rows.now }
+    ensures { IfSome result (λ s. IsSpan range.now s.0 s.1 s.2 rows.now) }
+{
+    let Some(end) = &range.hi else {
+        return None;
+    };
+    let n = number_in(rows, &range.lo);
+    let Some(row) = rows.get(n) else {
+        return None;
+    };
+    if number_in(rows, end) != n {
+        return None;
+    }
+    let entries = row.entries();
+    let from = count_before(entries, &range.lo);
+    let to = count_before(entries, end);
+    if to < from {
+        return None;
+    }
+    let count = to - from;
+    if count >= entries.len() {
+        return None;
+    }
+    Some((n, from, to))
+}
+
+/// Likewise as [`cut_out`], by rows of their own for the entries on both sides.
+fn cut_apart<T: Stored>(rows: &mut Vec<Row<T>>, range: &KeyRange) -> Result<Vec<Row<T>>, NoMemory>
     requires { AreRows rows.old.items }
     ensures rows { AreRows rows.new.items }
     ensures out_rows { IfOk result (λ out. AreRows out.items) }

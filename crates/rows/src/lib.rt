@@ -6,11 +6,12 @@
 //! What it relies on:
 //!
 //! - the entries of all rows, one row behind the other, are that list;
-//! - no row is empty, and none has more than 128 entries;
+//! - no row is empty, and none has more than 64 entries;
 //! - who changes a row holds it alone: a row that others share is copied first. Only the first entries of a row can leave it
 //!   without that: the row then begins behind them.
 //!
-//! `row` is one row, `change` what is done to its entries, `search` where a key stands among them. `table` has the rows:
+//! `row` is one row, `change` what is done to its entries, `search` where a key stands among them, found in
+//! `strides`. `table` has the rows:
 //! which of them has a key, the one way to change it, and rows that are made two or joined. `cut` takes a range out, `near`
 //! finds what stands next to a key. `list` is what callers see, and `walk` goes through it.
 #![tactic(auto)]
@@ -18,11 +19,13 @@
 pub(crate) mod change;
 pub(crate) mod cut;
 pub mod edit;
+pub(crate) mod item;
 pub mod list;
 pub(crate) mod near;
 pub(crate) mod row;
 pub(crate) mod search;
 pub mod stored;
+pub(crate) mod strides;
 pub(crate) mod table;
 pub mod walk;
 

@@ -10,13 +10,14 @@ ghost use Rattle.rows.specs.Moves.{IsFirstMoved};
 
 use crate::cut::cut_out;
 use crate::edit::{Edit, Edited};
+use crate::item::Item;
 use crate::near::{last_before_among, last_by_among, last_in, walk_from_among, walk_past_among};
 use crate::row::Row;
 use crate::search::value_at;
 use crate::stored::Stored;
 use crate::table::{
-    begin, edit_in, entries_in, has_none, make_room, number_in, part, put_in, share_rows,
-    shorten_first, take_in, take_row, whole_rows,
+    begin, begin_item, edit_in, entries_in, has_none, make_room, number_in, part, put_in,
+    put_item_in, share_rows, shorten_first, whole_rows,
 };
 use crate::walk::Walk;
 use pathkey::{Key, KeyRange, NoMemory};
@@ -181,22 +182,8 @@ impl<T: Stored> Rows<T> {
         drop_among(&mut self.rows, count);
     }
 
-    /// Takes entries out from the front, one row of them, where there is any. They are moved, or copied where others share the
-    /// row. On want of memory all is as it was.
-    pub fn pop_row(&mut self) -> Result<Option<Vec<(Key, T)>>, NoMemory>
-        ensures none { IfOk result (λ row. IfNone row ((self.old ≡ []) × (self.new ≡ []))) }
-        ensures taken { IfOk result (λ row. IfSome row (λ r. self.old ≡ r.items ++ self.new)) }
-        ensures some { IfOk result (λ row. IfSome row (λ r. 0 < length r.items)) }
-        ensures err { OnErr result (self.new ≡ self.old) }
-    {
-        if self.rows.is_empty() {
-            return Ok(None);
-        }
-        Ok(Some(take_row(&mut self.rows)?))
-    }
-
-    /// Moves the first entry of another list to its place here, and answers what stood there. It is copied where others share its
-    /// row, or where none stands here. On want of memory both lists are as they were.
+    /// Moves the first entry of another list to its place here, and answers what stood there, which is copied where others share it.
+    /// On want of memory both lists are as they were.
     pub fn take_first(&mut self, from: &mut Rows<T>) -> Result<Option<T>, NoMemory>
         requires { 0 < length from.old }
         ensures moved { IfOk result (λ was. IsFirstMoved was from.old self.old from.new self.new) }
@@ -276,34 +263,33 @@ fn take_among<T: Stored>(
     ensures err { OnErr result (joined rows.new.items ≡ joined rows.old.items) }
     ensures kept { OnErr result (joined from.new.items ≡ joined from.old.items) }
 {
-    let Some((key, value)) = Walk::of(&[], from.as_slice()).peek() else {
+    let Some(item) = Walk::of(&[], from.as_slice()).first() else {
         unreachable!()
     };
-    if rows.is_empty() {
-        begin_with(rows, key, value)?;
-        drop_among(from, 1);
-        return Ok(None);
-    }
-    let Some(n) = make_room(rows, key) else {
-        return Err(NoMemory);
-    };
-    take_in(rows, n, from)
-}
-
-/// Makes a first row of a copy of an entry.
-fn begin_with<T: Stored>(rows: &mut Vec<Row<T>>, key: &Key, value: &T) -> Result<(), NoMemory>
-    requires { rows.old.items ≡ [] }
-    ensures rows { AreRows rows.new.items }
-    ensures entries { OnOk result (joined rows.new.items ≡ (key.now, value.now) ∷ []) }
-    ensures err { OnErr result (rows.new.items ≡ rows.old.items) }
-{
-    let alloc = *rows.allocator();
-    let key = key.copy(alloc)?;
-    let value = value.copy(alloc)?;
-    match begin(rows, key, value) {
-        Ok(()) => Ok(()),
+    let item = item.share()?;
+    match put_item_among(rows, item) {
+        Ok(was) => {
+            drop_among(from, 1);
+            Ok(was)
+        }
         Err(_) => Err(NoMemory),
     }
+}
+
+/// Puts an item at its key in rows, and answers what stood there. On want of memory it comes back.
+fn put_item_among<T: Stored>(rows: &mut Vec<Row<T>>, item: Item<T>) -> Result<Option<T>, Item<T>>
+    requires { AreRows rows.old.items }
+    ensures rows { AreRows rows.new.items }
+    ensures put { IsPut item.0 item.1 (joined rows.old.items) (joined rows.new.items) result }
+{
+    if rows.is_empty() {
+        begin_item(rows, item)?;
+        return Ok(None);
+    }
+    let Some(n) = make_room(rows, item.key()) else {
+        return Err(item);
+    };
+    put_item_in(rows, n, item)
 }
 
 /// Takes the first entries of rows away.

@@ -4,6 +4,7 @@ ghost use Rattle.std.specs.Option.{option_map};
 ghost use Rattle.rows.specs.Places.{last_of, place, place_past};
 ghost use Rattle.rows.specs.Rows.{joined, AreRows, AreSized};
 
+use crate::item::Item;
 use crate::row::Row;
 use crate::search::{count_before, count_past};
 use crate::stored::Stored;
@@ -76,7 +77,7 @@ pub(crate) fn last_by_among<'a, T: Stored>(
 /// The last of entries, or of the rows before them.
 fn last_behind<'a, T: Stored>(
     rows: &'a [Row<T>],
-    entries: &'a [(Key, T)],
+    entries: &'a [Item<T>],
 ) -> Option<(&'a Key, &'a T)>
     requires { AreSized rows.now }
     ensures { option_map (λ p. (p.0.now, p.1.now)) result ≡ last_of (joined rows.now ++ entries.now) }
@@ -99,11 +100,11 @@ pub(crate) fn last_in<T: Stored>(rows: &[Row<T>]) -> Option<(&Key, &T)>
 }
 
 /// The last of entries.
-fn last_entry<T>(entries: &[(Key, T)]) -> Option<(&Key, &T)>
+fn last_entry<T: Stored>(entries: &[Item<T>]) -> Option<(&Key, &T)>
     ensures { option_map (λ p. (p.0.now, p.1.now)) result ≡ last_of entries.now }
 {
     match entries.last() {
         None => None,
-        Some(entry) => Some((&entry.0, &entry.1)),
+        Some(item) => Some((item.key(), item.value())),
     }
 }

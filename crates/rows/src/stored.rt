@@ -4,7 +4,7 @@ ghost use Rattle.std.specs.Prelude.{◌≡◌, IfOk};
 use pathkey::{Key, NoMemory};
 use std::alloc::Global;
 
-/// A value that can stand at a key. A row that is shared is copied before it changes, with all values in it.
+/// A value that can stand at a key. Where lists share it, a list takes a copy before it changes it.
 pub trait Stored: Drop {
     /// An equal value.
     fn copy(&self, alloc: Global) -> Result<Self, NoMemory>

@@ -1,25 +1,40 @@
 //! Rows one behind the other: which of them has a key, the walk to it, and rows that are made two or joined.
 ghost use Rattle.std.specs.Prelude.{◌≡◌, ◌+◌, ◌-◌, ◌<◌, ◌≤◌, ◌^◌, ◌++◌, ◌∷◌, [], length, take, drop, None, Some, OnOk, OnErr, IfOk, IfErr, IfNone, IfSome, true, false, vec_len, vec_capacity};
-ghost use Rattle.std.specs.List.{insert, slice_get, slice_index_or, slice_set};
+ghost use Rattle.std.specs.List.{insert, remove_range, slice_get, slice_index_or, slice_set};
 ghost use Rattle.rows.specs.Places.{AreBefore, AreFrom};
 ghost use Rattle.rows.specs.Rows.{joined, row_number, number_in, AreRows, AreSized};
 ghost use Rattle.rows.specs.Changes.{IsPut, IsRowChanged, IsEdited};
-ghost use Rattle.rows.specs.Moves.{IsFirstMoved};
 
-use crate::change::{Change, CutOff, EditAt, Join, Put, Take};
+use crate::change::{Change, CutBetween, CutOff, EditAt, Join, Put, PutItem, Take};
 use crate::edit::{Edit, Edited};
+use crate::item::Item;
 use crate::row::Row;
 use crate::search::count_before;
 use crate::stored::Stored;
 use pathkey::{Key, NoMemory};
 use std::alloc::Global;
-use std::sync::Arc;
 
 /// The most entries of a row.
-const FULL: usize = 128;
+const FULL: usize = 64;
 
-/// How many of the rows begin at the key or before it, up to the first that does not.
+/// How many of the rows begin at the key or before it, up to the first that does not. The last one is asked first: keys often
+/// come in their order.
 fn number_of<T: Stored>(rows: &[Row<T>], key: &Key) -> usize
+    requires { AreRows rows.now }
+    ensures number { result ≡ row_number key.now rows.now }
+    ensures bound { result ≤ length rows.now }
+{
+    let Some(last) = rows.last() else {
+        return 0;
+    };
+    if last.begins_by(key) {
+        return rows.len();
+    }
+    bisect(rows, key)
+}
+
+/// The same, found by bisecting.
+fn bisect<T: Stored>(rows: &[Row<T>], key: &Key) -> usize
     requires { AreRows rows.now }
     ensures number { result ≡ row_number key.now rows.now }
     ensures bound { result ≤ length rows.now }
@@ -69,33 +84,57 @@ pub(crate) fn begin<T: Stored>(rows: &mut Vec<Row<T>>, key: Key, value: T) -> Re
     if rows.reserve(1).is_err() {
         return Err((key, value));
     }
-    let row = row_of(*rows.allocator(), key, value)?;
+    let row = row_with(*rows.allocator(), key, value)?;
+    rows.push_reserved(row);
+    Ok(())
+}
+
+/// Makes a first row of one item. On want of memory it comes back.
+pub(crate) fn begin_item<T: Stored>(rows: &mut Vec<Row<T>>, item: Item<T>) -> Result<(), Item<T>>
+    requires { rows.old.items ≡ [] }
+    ensures rows { AreRows rows.new.items }
+    ensures entries { OnOk result (joined rows.new.items ≡ item ∷ []) }
+    ensures err { OnErr result (rows.new.items ≡ rows.old.items) }
+    ensures back { IfErr result (λ i. i ≡ item) }
+{
+    if rows.reserve(1).is_err() {
+        return Err(item);
+    }
+    let row = row_of(*rows.allocator(), item)?;
     rows.push_reserved(row);
     Ok(())
 }
 
 /// A row of one entry. On want of memory it comes back.
-fn row_of<T: Stored>(alloc: Global, key: Key, value: T) -> Result<Row<T>, (Key, T)>
+fn row_with<T: Stored>(alloc: Global, key: Key, value: T) -> Result<Row<T>, (Key, T)>
     ensures row { IfOk result (λ r. r ≡ (key, value) ∷ []) }
     ensures back { IfErr result (λ p. p ≡ (key, value)) }
 {
-    let mut entries = Vec::new(alloc);
-    if let Err(refused) = entries.push((key, value)) {
-        return Err(refused.value);
-    }
-    match Arc::new(alloc, entries) {
-        Ok(entries) => Ok(Row::of(entries)),
-        Err(refused) => Err(only(refused.value)),
+    let Ok(row) = Row::new(alloc) else {
+        return Err((key, value));
+    };
+    let mut row = row;
+    match row.change(Put { key, value }) {
+        Ok(Ok(_)) => Ok(row),
+        Ok(Err(refused)) => Err(refused),
+        Err(Put { key, value }) => Err((key, value)),
     }
 }
 
-/// The only entry.
-fn only<T: Stored>(entries: Vec<(Key, T)>) -> (Key, T)
-    requires { length entries.items ≡ 1 }
-    ensures { entries.items ≡ result ∷ [] }
+/// A row of one item. On want of memory it comes back.
+fn row_of<T: Stored>(alloc: Global, item: Item<T>) -> Result<Row<T>, Item<T>>
+    ensures row { IfOk result (λ r. r ≡ item ∷ []) }
+    ensures back { IfErr result (λ i. i ≡ item) }
 {
-    let mut entries = entries;
-    entries.remove(0)
+    let Ok(row) = Row::new(alloc) else {
+        return Err(item);
+    };
+    let mut row = row;
+    match row.change(PutItem { item }) {
+        Ok(Ok(_)) => Ok(row),
+        Ok(Err(refused)) => Err(refused),
+        Err(PutItem { item }) => Err(item),
+    }
 }
 
 /// Makes two rows of the one in which the key stands or would, where it is full. Answers the number of the row in which it then
@@ -107,10 +146,25 @@ pub(crate) fn make_room<T: Stored>(rows: &mut Vec<Row<T>>, key: &Key) -> Option<
     ensures rows { AreRows rows.new.items }
     ensures number { IfSome result (λ n. n ≡ number_in key.now rows.new.items) }
     ensures bound { IfSome result (λ n. n < length rows.new.items) }
-    ensures room { IfSome result (λ n. length (slice_index_or rows.new.items n []) < 128) }
+    ensures room { IfSome result (λ n. length (slice_index_or rows.new.items n []) < 64) }
 {
+    let found = room_in(rows.as_slice(), key);
+    if found.is_some() {
+        return found;
+    }
     widen(rows, key);
-    let n = number_in(rows.as_slice(), key);
+    room_in(rows.as_slice(), key)
+}
+
+/// The number of the row in which the key stands or would, where that has room.
+fn room_in<T: Stored>(rows: &[Row<T>], key: &Key) -> Option<usize>
+    requires rows { AreRows rows.now }
+    requires some { 0 < length rows.now }
+    ensures number { IfSome result (λ n. n ≡ number_in key.now rows.now) }
+    ensures bound { IfSome result (λ n. n < length rows.now) }
+    ensures room { IfSome result (λ n. length (slice_index_or rows.now n []) < 64) }
+{
+    let n = number_in(rows, key);
     if rows[n].entries().len() < FULL {
         Some(n)
     } else {
@@ -138,13 +192,13 @@ fn widen<T: Stored>(rows: &mut Vec<Row<T>>, key: &Key)
 /// Where a full row is made two: behind most of its entries where the key comes behind all, so that keys that come in
 /// their order leave rows that are nearly full.
 fn middle<T: Stored>(row: &Row<T>, key: &Key) -> usize
-    requires { 128 ≤ length row.now }
+    requires { 64 ≤ length row.now }
     ensures some { 0 < result }
     ensures others { result < length row.now }
 {
     let entries = row.entries();
     let len = entries.len();
-    if entries[len - 1].0.cmp(key).is_lt() {
+    if entries[len - 1].is_before(key) {
         return len - FULL / 8;
     }
     len / 2
@@ -190,6 +244,26 @@ fn cut<T: Stored>(rows: &mut Vec<Row<T>>, n: usize, at: usize) -> Result<Row<T>,
     }
 }
 
+/// Moves the entries of a row from one number up to another out of it.
+pub(crate) fn cut_between<T: Stored>(
+    rows: &mut Vec<Row<T>>,
+    n: usize,
+    from: usize,
+    to: usize,
+) -> Result<Row<T>, NoMemory>
+    requires row { n < length rows.old.items }
+    requires order { from ≤ to }
+    requires bound { to ≤ length (slice_index_or rows.old.items n []) }
+    ensures kept { OnOk result (rows.new.items ≡ slice_set rows.old.items n (remove_range (slice_index_or rows.old.items n []) from to)) }
+    ensures taken { IfOk result (λ r. r ≡ take (to - from) (drop from (slice_index_or rows.old.items n []))) }
+    ensures err { OnErr result (rows.new.items ≡ rows.old.items) }
+{
+    match change_row(rows, n, CutBetween { from, to }) {
+        Ok(answer) => answer,
+        Err(_) => Err(NoMemory),
+    }
+}
+
 /// Puts a value at the key in the row in which it stands or would, which has room. On want of memory key and value come back.
 pub(crate) fn put_in<T: Stored>(
     rows: &mut Vec<Row<T>>,
@@ -200,7 +274,7 @@ pub(crate) fn put_in<T: Stored>(
     requires rows { AreRows rows.old.items }
     requires number { n ≡ number_in key rows.old.items }
     requires bound { n < length rows.old.items }
-    requires room { length (slice_index_or rows.old.items n []) < 128 }
+    requires room { length (slice_index_or rows.old.items n []) < 64 }
     ensures rows { AreRows rows.new.items }
     ensures put { IsPut key value (joined rows.old.items) (joined rows.new.items) result }
 {
@@ -224,68 +298,28 @@ pub(crate) fn edit_in<T: Stored, E: Edit<T>>(
     ensures edited { IsEdited (E.does edit) key.now edit (joined rows.old.items) (joined rows.new.items) result }
 {
     match change_row(rows, n, EditAt { key, edit }) {
-        Ok(Ok(answer)) => Edited::Done(answer),
-        Ok(Err(edit)) => Edited::Absent(edit),
+        Ok(answer) => answer,
         Err(EditAt { key: _, edit }) => Edited::Refused(edit),
     }
 }
 
-/// Takes all entries of the first row out, and the row with them. On want of memory all is as it was.
-pub(crate) fn take_row<T: Stored>(rows: &mut Vec<Row<T>>) -> Result<Vec<(Key, T)>, NoMemory>
-    requires rows { AreRows rows.old.items }
-    requires some { 0 < length rows.old.items }
-    ensures rows { AreRows rows.new.items }
-    ensures taken { IfOk result (λ row. joined rows.old.items ≡ row.items ++ joined rows.new.items) }
-    ensures some { IfOk result (λ row. 0 < length row.items) }
-    ensures err { OnErr result (joined rows.new.items ≡ joined rows.old.items) }
-{
-    match change_row(rows, 0, Take) {
-        Ok(row) => {
-            rows.remove(0);
-            Ok(row)
-        }
-        Err(_) => Err(NoMemory),
-    }
-}
-
-/// Takes the first entry out. It is moved, or copied where others share its row. On want of memory all is as it was.
-pub(crate) fn pop_entry<T: Stored>(rows: &mut Vec<Row<T>>) -> Result<(Key, T), NoMemory>
-    requires rows { AreRows rows.old.items }
-    requires some { 0 < length rows.old.items }
-    ensures rows { AreRows rows.new.items }
-    ensures taken { IfOk result (λ e. joined rows.old.items ≡ e ∷ joined rows.new.items) }
-    ensures err { OnErr result (joined rows.new.items ≡ joined rows.old.items) }
-{
-    let row = &mut rows[0];
-    let entry = row.pop()?;
-    if !rows[0].entries().is_empty() {
-        return Ok(entry);
-    }
-    rows.remove(0);
-    Ok(entry)
-}
-
-/// Moves the first entry of other rows into the row in which it stands or would, which has room, and answers what stood there. On
-/// want of memory all is as it was.
-pub(crate) fn take_in<T: Stored>(
+/// Puts an item at its key in the row in which it stands or would, which has room. On want of memory it comes back.
+pub(crate) fn put_item_in<T: Stored>(
     rows: &mut Vec<Row<T>>,
     n: usize,
-    from: &mut Vec<Row<T>>,
-) -> Result<Option<T>, NoMemory>
+    item: Item<T>,
+) -> Result<Option<T>, Item<T>>
     requires rows { AreRows rows.old.items }
-    requires number { IfSome (slice_get (joined from.old.items) 0) (λ e. n ≡ number_in e.0 rows.old.items) }
+    requires number { n ≡ number_in item.0 rows.old.items }
     requires bound { n < length rows.old.items }
-    requires room { length (slice_index_or rows.old.items n []) < 128 }
-    requires from { AreRows from.old.items }
-    requires some { 0 < length from.old.items }
+    requires room { length (slice_index_or rows.old.items n []) < 64 }
     ensures rows { AreRows rows.new.items }
-    ensures from { AreRows from.new.items }
-    ensures moved { IfOk result (λ was. IsFirstMoved was (joined from.old.items) (joined rows.old.items) (joined from.new.items) (joined rows.new.items)) }
-    ensures err { OnErr result (joined rows.new.items ≡ joined rows.old.items) }
-    ensures kept { OnErr result (joined from.new.items ≡ joined from.old.items) }
+    ensures put { IsPut item.0 item.1 (joined rows.old.items) (joined rows.new.items) result }
 {
-    let row = &mut rows[n];
-    row.take_first(from)
+    match change_row(rows, n, PutItem { item }) {
+        Ok(answer) => answer,
+        Err(PutItem { item }) => Err(item),
+    }
 }
 
 /// Moves the rows' entries at the key and behind it into rows of their own. On want of memory the entries are as they were.
@@ -353,7 +387,7 @@ fn join_rows<T: Stored>(rows: &mut Vec<Row<T>>, m: usize)
     requires rows { AreRows rows.old.items }
     requires first { 0 < m }
     requires bound { m < length rows.old.items }
-    requires few { length (slice_index_or rows.old.items (m - 1) []) + length (slice_index_or rows.old.items m []) ≤ 128 }
+    requires few { length (slice_index_or rows.old.items (m - 1) []) + length (slice_index_or rows.old.items m []) ≤ 64 }
     ensures rows { AreRows rows.new.items }
     ensures same { joined rows.new.items ≡ joined rows.old.items }
 {

@@ -4,6 +4,7 @@ ghost use Rattle.std.specs.Option.{option_map, option_to_list};
 ghost use Rattle.std.specs.List.{slice_get};
 ghost use Rattle.rows.specs.Rows.{joined, AreSized};
 
+use crate::item::Item;
 use crate::row::Row;
 use crate::stored::Stored;
 use pathkey::Key;
@@ -12,7 +13,7 @@ use std::marker::Model;
 /// The entries that a walk has still before it. Contracts see the list of them.
 #[derive(Drop)]
 pub struct Walk<'a, T> {
-    entries: &'a [(Key, T)],
+    entries: &'a [Item<T>],
     later: &'a [Row<T>],
 }
 
@@ -29,7 +30,7 @@ impl<'a, T> Model for Walk<'a, T> {
 
 impl<'a, T: Stored> Walk<'a, T> {
     /// A walk through entries, and then through rows.
-    pub(crate) fn of(entries: &'a [(Key, T)], later: &'a [Row<T>]) -> Walk<'a, T>
+    pub(crate) fn of(entries: &'a [Item<T>], later: &'a [Row<T>]) -> Walk<'a, T>
         requires { AreSized later.now }
         ensures { result ≡ entries.now ++ joined later.now }
     {
@@ -45,13 +46,20 @@ impl<'a, T: Stored> Walk<'a, T> {
         }
     }
 
+    /// The item of the first entry that is left.
+    pub(crate) fn first(&self) -> Option<&'a Item<T>>
+        ensures { option_map (λ i. i.now) result ≡ slice_get self.now 0 }
+    {
+        self.entries.first()
+    }
+
     /// The first entry that is left.
     pub fn peek(&self) -> Option<(&'a Key, &'a T)>
         ensures { option_map (λ p. (p.0.now, p.1.now)) result ≡ slice_get self.now 0 }
     {
         match self.entries.first() {
             None => None,
-            Some(entry) => Some((&entry.0, &entry.1)),
+            Some(item) => Some((item.key(), item.value())),
         }
     }
 
@@ -62,9 +70,9 @@ impl<'a, T: Stored> Walk<'a, T> {
     {
         match self.entries.split_first() {
             None => None,
-            Some((entry, entries)) => {
+            Some((item, entries)) => {
                 *self = Walk::of(entries, self.later);
-                Some((&entry.0, &entry.1))
+                Some((item.key(), item.value()))
             }
         }
     }

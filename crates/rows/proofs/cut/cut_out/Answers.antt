@@ -1,63 +1,72 @@
-use Rattle.std.proofs.Common.{◌≡◌, ◌∙◌, ◌++◌, ap, subst, sym}
-use Rattle.rows.specs.Places.{Rises, AreBelow, AreBeyond}
+use Rattle.std.proofs.Common.{◌<◌, ◌∙◌, ◌++◌, ◌∷◌, [], ◌-◌, ap, append-nil, arith, drop, get_or, subst, sym, take}
 use Rattle.rows.specs.Rows.{joined}
-use Rattle.rows.proofs.Cuts.{kept, kept_rises, kept_rows, taken}
-use Rattle.rows.proofs.TableFacts.{joined-append}
+use Rattle.rows.specs.Spans.{IsSpan}
+use Rattle.rows.proofs.Spans.{span_kept, span_none, span_out, span_rows, span_same, span_taken}
+use Rattle.rows.proofs.TableFacts.{rows_none}
 use Rattle.rows.proofs.cut.cut_out.Goals as goal
 
-pub mend-requires : goal.mend-requires
-mend-requires g c =
-    let all = joined c.args.rows.now.items in
-    let front = joined c.part.new.rows.items in
-    let rest = joined c.in_ok-out.out.items in
-    let mid = joined c.part_at_end.new.rows.items in
-    let back = joined c.in-Ok.later.items in
+pub returns-then-from-to-clause-out_rows : goal.returns-then-from-to-clause-out_rows
+returns-then-from-to-clause-out_rows g c = rows_none c.new.result.items c.new.ensures.items
+
+pub returns-then-from-to-clause-kept : goal.returns-then-from-to-clause-kept
+returns-then-from-to-clause-kept g c =
     let range = c.args.range.now in
-    let parts : all ≡ front ++ rest = ap (λ t. joined t) (sym c.reserve.ensures.items) ∙ c.in_ok-out.ensures.parts in
-    let below = subst (λ h. AreBelow h mid) c.as_ref.ensures.value c.in-Ok.ensures.front in
-    let beyond = subst (λ h. AreBeyond h back) c.as_ref.ensures.value c.in-Ok.ensures.back in
-    kept_rows c.part.new.rows.items c.in-Ok.later.items c.put_behind.new.rows.items c.put_behind.ensures (kept_rises range all front rest mid back parts c.in-Ok.ensures.parts c.in_ok-out.ensures.front c.in_ok-out.ensures.back below beyond c.requires.rises) c.part.ensures.rows c.in-Ok.ensures.back_rows
+    let rs = c.args.rows.now.items in
+    let n = c.in-Some.n in
+    let i = c.in-Some.from in
+    let j = c.in-Some.to in
+    let s = subst (λ t. IsSpan range n i j t) c.as_slice.ensures.value c.in-Some.ensures in
+    span_same range rs n i j s c.if-from-to.true
 
-pub returns-in-Ok-clause-kept : goal.returns-in-Ok-clause-kept
-returns-in-Ok-clause-kept g c =
-    let all = joined c.args.rows.now.items in
-    let front = joined c.part.new.rows.items in
-    let rest = joined c.in_ok-out.out.items in
-    let mid = joined c.part_at_end.new.rows.items in
-    let back = joined c.in-Ok.later.items in
+pub returns-then-from-to-clause-taken : goal.returns-then-from-to-clause-taken
+returns-then-from-to-clause-taken g c =
     let range = c.args.range.now in
-    let parts : all ≡ front ++ rest = ap (λ t. joined t) (sym c.reserve.ensures.items) ∙ c.in_ok-out.ensures.parts in
-    let below = subst (λ h. AreBelow h mid) c.as_ref.ensures.value c.in-Ok.ensures.front in
-    let beyond = subst (λ h. AreBeyond h back) c.as_ref.ensures.value c.in-Ok.ensures.back in
-    c.mend.ensures.same ∙ ap (λ t. joined t) c.put_behind.ensures ∙ joined-append c.part.new.rows.items c.in-Ok.later.items ∙ kept range all front rest mid back parts c.in-Ok.ensures.parts c.in_ok-out.ensures.front c.in_ok-out.ensures.back below beyond
+    let rs = c.args.rows.now.items in
+    let n = c.in-Some.n in
+    let i = c.in-Some.from in
+    let j = c.in-Some.to in
+    let s = subst (λ t. IsSpan range n i j t) c.as_slice.ensures.value c.in-Some.ensures in
+    ap (λ t. joined t) c.new.ensures.items ∙ sym (span_none range rs n i j s c.if-from-to.true) ∙ span_taken range rs n i j s
 
-pub returns-in-Ok-clause-taken : goal.returns-in-Ok-clause-taken
-returns-in-Ok-clause-taken g c =
-    let all = joined c.args.rows.now.items in
-    let front = joined c.part.new.rows.items in
-    let rest = joined c.in_ok-out.out.items in
-    let mid = joined c.part_at_end.new.rows.items in
-    let back = joined c.in-Ok.later.items in
+pub returns-clause-rows : goal.returns-clause-rows
+returns-clause-rows g c =
     let range = c.args.range.now in
-    let parts : all ≡ front ++ rest = ap (λ t. joined t) (sym c.reserve.ensures.items) ∙ c.in_ok-out.ensures.parts in
-    let below = subst (λ h. AreBelow h mid) c.as_ref.ensures.value c.in-Ok.ensures.front in
-    let beyond = subst (λ h. AreBeyond h back) c.as_ref.ensures.value c.in-Ok.ensures.back in
-    taken range all front rest mid back parts c.in-Ok.ensures.parts c.in_ok-out.ensures.front c.in_ok-out.ensures.back below beyond
+    let rs = c.args.rows.now.items in
+    let n = c.in-Some.n in
+    let i = c.in-Some.from in
+    let j = c.in-Some.to in
+    let s = subst (λ t. IsSpan range n i j t) c.as_slice.ensures.value c.in-Some.ensures in
+    span_rows range rs n i j s c.cut_between.new.rows.items c.in_ok-cut_between.ensures.kept c.requires
 
-pub returns-in-Err-clause-rows : goal.returns-in-Err-clause-rows
-returns-in-Err-clause-rows g c =
-    let all = joined c.args.rows.now.items in
-    let front = joined c.part.new.rows.items in
-    let out = joined c.part_at_end.new.rows.items in
-    let parts : all ≡ front ++ joined c.in_ok-out.out.items = ap (λ t. joined t) (sym c.reserve.ensures.items) ∙ c.in_ok-out.ensures.parts in
-    let same : front ++ out ≡ all = ap (λ t. front ++ t) c.in-Err.ensures.err ∙ sym parts in
-    kept_rows c.part.new.rows.items c.part_at_end.new.rows.items c.put_behind-in-Err.new.rows.items c.put_behind-in-Err.ensures (subst (λ t. Rises t) (sym same) c.requires.rises) c.part.ensures.rows c.part_at_end.ensures.rows
+pub returns-clause-out_rows : goal.returns-clause-out_rows
+returns-clause-out_rows g c =
+    let range = c.args.range.now in
+    let rs = c.args.rows.now.items in
+    let n = c.in-Some.n in
+    let i = c.in-Some.from in
+    let j = c.in-Some.to in
+    let s = subst (λ t. IsSpan range n i j t) c.as_slice.ensures.value c.in-Some.ensures in
+    let e = c.push_reserved.ensures.items ∙ ap (λ t. t ++ c.in_ok-cut_between.field-0 ∷ []) c.in_ok-out.ensures.items ∙ ap (λ r. r ∷ []) c.in_ok-cut_between.ensures.taken in
+    let some : i < j = omega (arith, s.order, c.if-from-to.false) in
+    span_out range rs n i j s c.push_reserved.new.self.items some e c.requires
 
-pub returns-in-Err-clause-err : goal.returns-in-Err-clause-err
-returns-in-Err-clause-err g c =
-    let all = joined c.args.rows.now.items in
-    let front = joined c.part.new.rows.items in
-    let out = joined c.part_at_end.new.rows.items in
-    let parts : all ≡ front ++ joined c.in_ok-out.out.items = ap (λ t. joined t) (sym c.reserve.ensures.items) ∙ c.in_ok-out.ensures.parts in
-    let same : front ++ out ≡ all = ap (λ t. front ++ t) c.in-Err.ensures.err ∙ sym parts in
-    ap (λ t. joined t) c.put_behind-in-Err.ensures ∙ joined-append c.part.new.rows.items c.part_at_end.new.rows.items ∙ same
+pub returns-clause-kept : goal.returns-clause-kept
+returns-clause-kept g c =
+    let range = c.args.range.now in
+    let rs = c.args.rows.now.items in
+    let n = c.in-Some.n in
+    let i = c.in-Some.from in
+    let j = c.in-Some.to in
+    let s = subst (λ t. IsSpan range n i j t) c.as_slice.ensures.value c.in-Some.ensures in
+    span_kept range rs n i j s c.cut_between.new.rows.items c.in_ok-cut_between.ensures.kept
+
+pub returns-clause-taken : goal.returns-clause-taken
+returns-clause-taken g c =
+    let range = c.args.range.now in
+    let rs = c.args.rows.now.items in
+    let n = c.in-Some.n in
+    let i = c.in-Some.from in
+    let j = c.in-Some.to in
+    let s = subst (λ t. IsSpan range n i j t) c.as_slice.ensures.value c.in-Some.ensures in
+    let e = c.push_reserved.ensures.items ∙ ap (λ t. t ++ c.in_ok-cut_between.field-0 ∷ []) c.in_ok-out.ensures.items ∙ ap (λ r. r ∷ []) c.in_ok-cut_between.ensures.taken in
+    ap (λ t. joined t) e ∙ append-nil (take (j - i) (drop i (get_or rs n []))) ∙ span_taken range rs n i j s

@@ -1,13 +1,10 @@
-use Rattle.std.proofs.Common.{rules}
+use Rattle.std.proofs.Common.{sym, ◌∙◌, ◌≡◌, true}
 use Rattle.std.specs.Ordering.{is_gt}
-use Rattle.std.proofs.lemmas.List.Sorted.{IsPartitionPoint-from_clause}
 use Rattle.pathkey.specs.Order.{by_bytes}
-use Rattle.rows.proofs.Entries.{partitioned, place_by_search}
+use Rattle.rows.proofs.Entries.{all_before}
 use Rattle.rows.proofs.search.count_before.Goals as goal
 
-pub returns-clause-place : goal.returns-clause-place
-returns-clause-place g c =
-    let es = c.args.entries.now in
-    let k = c.args.key.now in
-    let point = IsPartitionPoint-from_clause (λ e. is_gt (by_bytes k e.0)) es _ c.partition_point.ensures.partitioned (partitioned k es c.requires) (λ a r q h. search rules) in
-    place_by_search k es _ c.partition_point.ensures.bound point
+pub returns-then-is_before-clause-place : goal.returns-then-is_before-clause-place
+returns-then-is_before-clause-place g c =
+    let e : is_gt (by_bytes c.args.key.now c.in-Some.last.now.0) ≡ true = sym c.is_before.ensures ∙ c.if-is_before.true in
+    all_before c.args.key.now c.args.entries.now c.in-Some.last.now c.requires c.in-Some.ensures.value e

@@ -7,20 +7,20 @@ pub returns-in-Some : goal.returns-in-Some
 returns-in-Some g c =
     let es = c.args.entries.now in
     let i = c.count_before-i.result in
-    let e = c.in-Some.entry.now in
+    let e = c.in-Some.item.now in
     let low : i < length es = search rules in
     let at : e ≡ get_or es i e = search rules in
-    let s : same c.args.key.now e.0 ≡ true = sym c.eq.ensures ∙ c.if-eq.true in
+    let s : same c.args.key.now e.0 ≡ true = sym c.is_at.ensures ∙ c.if-is_at.true in
     found_holder c.args.key.now es i e c.count_before-i.ensures.place low at s
 
 pub returns-in_default : goal.returns-in_default
 returns-in_default g c =
     let es = c.args.entries.now in
     let i = c.count_before-i.result in
-    let e = c.in-Some.entry.now in
+    let e = c.in-Some.item.now in
     let low : i < length es = search rules in
     let at : e ≡ get_or es i e = search rules in
-    let s : same c.args.key.now e.0 ≡ false = sym c.eq.ensures ∙ c.if-eq.false in
+    let s : same c.args.key.now e.0 ≡ false = sym c.is_at.ensures ∙ c.if-is_at.false in
     found_gap c.args.key.now es i e c.count_before-i.ensures.place low at s
 
 pub returns-in_default-2 : goal.returns-in_default-2

@@ -1,12 +1,9 @@
-use Rattle.std.proofs.Common.{rules}
-use Rattle.std.proofs.lemmas.List.Sorted.{IsPartitionPoint-from_clause}
+use Rattle.std.proofs.Common.{sym, ◌∙◌, ◌≡◌, true}
 use Rattle.rows.specs.Rows.{begins_by}
-use Rattle.rows.proofs.TableFacts.{rows_partitioned, number_by_search}
+use Rattle.rows.proofs.TableFacts.{all_begin}
 use Rattle.rows.proofs.table.number_of.Goals as goal
 
-pub returns-clause-number : goal.returns-clause-number
-returns-clause-number g c =
-    let rs = c.args.rows.now in
-    let k = c.args.key.now in
-    let point = IsPartitionPoint-from_clause (begins_by k) rs _ c.partition_point.ensures.partitioned (rows_partitioned k rs c.requires.rises c.requires.sized) (λ a r q h. search rules) in
-    number_by_search k rs _ c.partition_point.ensures.bound point
+pub returns-then-begins_by-clause-number : goal.returns-then-begins_by-clause-number
+returns-then-begins_by-clause-number g c =
+    let e : begins_by c.args.key.now c.in-Some.last.now ≡ true = sym c.begins_by.ensures ∙ c.if-begins_by.true in
+    all_begin c.args.key.now c.args.rows.now c.in-Some.last.now c.requires.rises c.requires.sized c.in-Some.ensures.value e
