@@ -1,0 +1,4 @@
+pub mod TextFacts
+pub mod NumberFacts
+pub mod BadFacts
+pub mod CommandFacts
