@@ -4,3 +4,7 @@ pub mod BadFacts
 pub mod CommandFacts
 pub mod PatchFacts
 pub mod PatchingFacts
+pub mod WalkFacts
+pub mod PrintFacts
+pub mod LoaderFacts
+pub mod DigestFacts

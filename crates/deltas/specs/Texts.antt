@@ -45,6 +45,11 @@ pub record NoEnd (text : Text) (number bad : ℕ) : Type 0 where
   pub first : bad ≢ number → (bad ≡ number + 1) × ((behind : Text) × (text ≡ end_text ++ behind))
   pub second : bad ≡ number → (behind : Text) → text ≢ end_text ++ behind
 
+-- the text has these commands, and the end behind them
+pub record TellsAll (text : Text) (cs : List Command) : Type 0 where
+  pub commands : All IsCommand cs
+  pub is : text ≡ text_of (told cs)
+
 -- the text is a delta that tells this digest and these commands, and this is all behind its first line
 pub record ReadsDelta (text digest behind : Text) (cs : List Command) : Type 0 where
   pub is : IsDelta text digest cs
