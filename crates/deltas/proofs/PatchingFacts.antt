@@ -1,6 +1,7 @@
 -- Commands as they are done, one after the other.
 use Rattle.std.proofs.Common.{◌≡◌, ℕ, List, [], ◌∷◌, ◌++◌, length, codes, refl, sym, ap, subst, ◌∙◌, append_assoc, append-nil, Option, Some, None, option_map}
 use Rattle.std.specs.List.{All}
+use Rattle.std.proofs.Math.Seq.{take-append-add}
 use Rattle.std.proofs.lemmas.List.Elements.{All-head, All-tail}
 use Rattle.reference.specs.Image.{Text}
 use Rattle.reference.specs.ImageLines.{IsBadAt as IsBadImageAt}
@@ -48,6 +49,33 @@ spoilt_behind cs ds a b x y f none lines e =
         ap (λ t. t ++ text_of more) f.added ∙ append_assoc x (text_of f.front) (text_of more) ∙ ap (λ t. x ++ t) (sym (text_append f.front more) ∙ ap text_of (sym cut.2))
     in
     (bad.0, subst (IsBadImageAt bad.0) same bad.1)
+
+-- lines that stay begin with those that were kept, and the next
+stay_begins : (n : ℕ) (kept more lines : List Line) (l : Line) (ds : List Command) → length kept < n → patched (Stay n ∷ ds) (kept ++ l ∷ more) ≡ Some lines → (rest : List Line) × (lines ≡ (kept ++ l ∷ []) ++ rest)
+stay_begins n kept more lines l ds few = go (nat_lt (length (kept ++ l ∷ more)) n) refl
+  where
+    go : (b : Bool) → nat_lt (length (kept ++ l ∷ more)) n ≡ b
+        → cond b None (option_map (λ new. take n (kept ++ l ∷ more) ++ new) (patched ds (drop n (kept ++ l ∷ more)))) ≡ Some lines → (rest : List Line) × (lines ≡ (kept ++ l ∷ []) ++ rest)
+    go true short e = absurd (let clash : ◌≡◌ {A = Option (List Line)} None (Some lines) = e in cc)
+    go false short e =
+        let cut = mapped_some (λ new. take n (kept ++ l ∷ more) ++ new) (patched ds (drop n (kept ++ l ∷ more))) lines e in
+        let size : n ≡ length (kept ++ l ∷ []) + (n - length (kept ++ l ∷ [])) = omega (arith, length-append kept (l ∷ []), few) in
+        let front : take n (kept ++ l ∷ more) ≡ (kept ++ l ∷ []) ++ take (n - length (kept ++ l ∷ [])) more =
+            ap (λ (k : ℕ). take k (kept ++ l ∷ more)) size
+            ∙ ap (take (length (kept ++ l ∷ []) + (n - length (kept ++ l ∷ [])))) (sym (append_assoc kept (l ∷ []) more))
+            ∙ take-append-add (kept ++ l ∷ []) more (n - length (kept ++ l ∷ []))
+        in
+        (take (n - length (kept ++ l ∷ [])) more ++ cut.0, cut.2 ∙ ap (λ x. x ++ cut.0) front ∙ append_assoc (kept ++ l ∷ []) (take (n - length (kept ++ l ∷ [])) more) cut.0)
+
+pub spoilt_stay : (n : ℕ) (kept old more : List Line) (l : Line) (text : Text) (ds : List Command) → length kept < n → old ≡ kept ++ l ∷ more → IsSpoilt ((text ++ text_of kept) ++ (l ++ 10 ∷ [])) → MakesNoImage (Stay n ∷ ds) old text
+spoilt_stay n kept old more l text ds few is (m, bad) lines e =
+    let begins = stay_begins n kept more lines l ds few (ap (patched (Stay n ∷ ds)) (sym is) ∙ e) in
+    let same : ((text ++ text_of kept) ++ (l ++ 10 ∷ [])) ++ text_of begins.0 ≡ text ++ text_of lines =
+        ap (λ x. x ++ text_of begins.0) (append_assoc text (text_of kept) (l ++ 10 ∷ []) ∙ ap (λ x. text ++ x) (sym (text_append kept (l ∷ []))))
+        ∙ append_assoc text (text_of (kept ++ l ∷ [])) (text_of begins.0)
+        ∙ ap (λ x. text ++ x) (sym (text_append (kept ++ l ∷ []) begins.0) ∙ ap text_of (sym begins.1))
+    in
+    (m, subst (IsBadImageAt m) same (bad (text_of begins.0)))
 
 -- ---- which command is next
 

@@ -1,8 +1,9 @@
 -- A delta as it is written.
-use Rattle.std.proofs.Common.{◌≡◌, ℕ, List, [], ◌∷◌, ◌++◌, length, map, refl, sym, ap, subst, ◌∙◌, append_assoc, append-nil, Bool, true, false, Option, Some, None}
+use Rattle.std.proofs.Common.{◌≡◌, ℕ, ◌<◌, ◌^◌, ◌==◌, cond, arith, List, [], ◌∷◌, ◌++◌, length, map, refl, sym, ap, subst, ◌∙◌, append_assoc, append-nil, Bool, true, false, Option, Some, None}
 use Rattle.std.specs.Io.KnownBytes.{Appends}
 use Rattle.std.specs.List.{All}
 use Rattle.std.proofs.KnownBytes.{Appends-nil, Appends-trans}
+use Rattle.std.proofs.lemmas.Bool.{eqb-false}
 use Rattle.std.proofs.lemmas.List.Elements.{All-nil, All-cons, All-append}
 use Rattle.lines.specs.Lines.{lines_of}
 use Rattle.reference.specs.Image.{Second, Text, image}
@@ -67,6 +68,22 @@ puts_then cs ds h i j a b x y p q f g = record {
   text = subst (Appends h j) (sym (commands_append cs ds)) (Appends-trans h i j (commands_text cs) (commands_text ds) f.text g.text);
   patches = patches_then cs ds a b x y p q f.patches g.patches;
 }
+
+run_commands : (c : ℕ → Command) (n : ℕ) → (0 < n → IsCommand (c n)) → All IsCommand (run c n)
+run_commands c n is = go (n == 0) refl
+  where
+    go : (b : Bool) → (n == 0) ≡ b → All IsCommand (cond b [] (c n ∷ []))
+    go true e = All-nil IsCommand
+    go false e = All-cons IsCommand (c n) [] (is (let z = eqb-false n 0 e in omega (arith, z))) (All-nil IsCommand)
+
+pub puts_stay : (n : ℕ) (h i : Option (List ℕ)) (a b x y : LineWalk) → n < 2 ^ 64 → Appends h i (commands_text (run Stay n)) → Patches (run Stay n) a b x y → Puts (run Stay n) h i a b x y
+puts_stay n h i a b x y small text f = record { commands = run_commands Stay n (λ some. (some, small)); text = text; patches = f }
+
+pub puts_go : (n : ℕ) (h i : Option (List ℕ)) (a b x y : LineWalk) → n < 2 ^ 64 → Appends h i (commands_text (run Go n)) → Patches (run Go n) a b x y → Puts (run Go n) h i a b x y
+puts_go n h i a b x y small text f = record { commands = run_commands Go n (λ some. (some, small)); text = text; patches = f }
+
+pub puts_come : (l : Line) (h i : Option (List ℕ)) (a b y : LineWalk) → IsLine l → Appends h i (commands_text (Come l ∷ [])) → Walks (l ∷ []) b y → Puts (Come l ∷ []) h i a b a y
+puts_come l h i a b y whole text f = record { commands = All-cons IsCommand (Come l) [] whole (All-nil IsCommand); text = text; patches = patches_coming l a b y f }
 
 pub puts_all : (cs : List Command) (h i : Option (List ℕ)) (a b x y : LineWalk) → Puts cs h i a b x y → ((t : Tree) → lines_from t x ≡ []) → ((u : Tree) → lines_from u y ≡ []) → PutsAll cs h i a b
 puts_all cs h i a b x y f old new = record {

@@ -1,6 +1,7 @@
 -- The lines of an image, as they are read of what is printed.
-use Rattle.std.proofs.Common.{◌≡◌, ◌≢◌, ℕ, ◌+◌, ◌-◌, ◌<◌, ◌≤◌, List, [], ◌∷◌, ◌++◌, length, take, drop, refl, sym, ap, subst, ◌∙◌, append_assoc, append-nil, arith, Bool, true, false, cond, Option, Some, None, length-append}
+use Rattle.std.proofs.Common.{◌≡◌, ◌≢◌, ℕ, zero, suc, nat_lt, ◌+◌, ◌-◌, ◌<◌, ◌≤◌, ◌==◌, not, List, [], ◌∷◌, ◌++◌, length, take, drop, refl, sym, ap, subst, ◌∙◌, append_assoc, append-nil, arith, Bool, true, false, cond, Option, Some, None, length-append}
 use Rattle.std.specs.List.{All}
+use Rattle.std.proofs.lemmas.Bool.{eqb-false, eqb-true, false≢true, lt-ltb}
 use Rattle.std.proofs.Math.Seq.{drop-append_seam}
 use Rattle.std.proofs.lemmas.List.{drop-drop, drop-take, drop_all, length-take-le, with_items_is}
 use Rattle.images.specs.Printings.{HandsOver}
@@ -22,7 +23,7 @@ handed_on text done n old new h size =
     let from : drop done text ≡ take n new ++ h.back = ap (drop done) h.split ∙ subst (λ (k : ℕ). drop k (h.front ++ (take n new ++ h.back)) ≡ take n new ++ h.back) h.at (drop-append_seam h.front (take n new ++ h.back)) in
     let count : length (take n new) ≡ n = length-take-le n new (let f : n ≤ length old = h.fits in omega arith) in
     let behind : drop (done + n) text ≡ h.back =
-        sym (drop-drop done n text)
+        sym (drop-drop n done text)
         ∙ ap (drop n) from
         ∙ subst (λ (k : ℕ). drop k (take n new ++ h.back) ≡ h.back) count (drop-append_seam (take n new) h.back)
     in
@@ -34,26 +35,39 @@ handed_all text done n old new h none some =
     let from : drop done text ≡ take n new ++ h.back = ap (drop done) h.split ∙ subst (λ (k : ℕ). drop k (h.front ++ (take n new ++ h.back)) ≡ take n new ++ h.back) h.at (drop-append_seam h.front (take n new ++ h.back)) in
     from ∙ ap (λ (k : ℕ). take k new ++ h.back) none ∙ h.end none some
 
+pub is_none : (n : ℕ) → nat_lt 0 n ≡ false → n ≡ 0
+is_none zero e = refl
+is_none (suc n) e = absurd (false≢true (sym e ∙ lt-ltb 0 (suc n) (omega arith)))
+
+pub some_items : (n : ℕ) (items : List ℕ) (r : Bool) → r ≡ (n == 0) → n ≡ length items → not r ≡ true → items ≢ []
+some_items n items true e size h none = false≢true h
+some_items n items false e size h none = eqb-false n 0 (sym e) (size ∙ ap length none)
+
+pub no_items : (n : ℕ) (items : List ℕ) (r : Bool) → r ≡ (n == 0) → n ≡ length items → not r ≡ false → items ≡ []
+no_items n [] r e size h = refl
+no_items n (x ∷ items) true e size h = absurd (let z : n ≡ 0 = eqb-true n 0 (sym e) in omega arith)
+no_items n (x ∷ items) false e size h = absurd (false≢true (sym h))
+
 -- a piece was printed where all before was read
-pub refilled : (old w : LineWalk) (n k : ℕ) (new : List ℕ) (more : Bool) → ((t : Tree) → MeanRooted old.printing.tree t → HandsOver (image Second t) old.printing.done n old.piece.items new)
-    → w.printing ≡ record old.printing { done = old.printing.done + n } → length new ≡ length old.piece.items → w.piece.items ≡ new → w.used ≡ 0 → w.filled ≡ k → (n ≤ length new → k ≡ n)
-    → w.line.items ≡ old.line.items → 0 < length old.piece.items → (more ≡ false → n ≡ 0) → Refills more old w
-refilled old w n k new more hands on size items used filled whole line some end = record {
+pub refilled : (old w : LineWalk) (n k : ℕ) (had new : List ℕ) (more : Bool) → ((t : Tree) → MeanRooted old.printing.tree t → HandsOver (image Second t) old.printing.done n had new)
+    → w.printing ≡ record old.printing { done = old.printing.done + n } → length new ≡ length had → w.piece.items ≡ new → w.used ≡ 0 → w.filled ≡ k → (n ≤ length new → k ≡ n)
+    → w.line.items ≡ old.line.items → 0 < length had → (more ≡ false → n ≡ 0) → Refills more old w
+refilled old w n k had new more hands on size items used filled whole line some end = record {
   same = ap (λ p. p.tree) on;
   line = line;
   next = next;
-  end = λ t m none. next t m ∙ handed_all (image Second t) old.printing.done n old.piece.items new (hands t m) (end none) some;
+  end = λ t m none. next t m ∙ handed_all (image Second t) old.printing.done n had new (hands t m) (end none) some;
 }
   where
     next : (t : Tree) → MeanRooted old.printing.tree t → left t w ≡ drop old.printing.done (image Second t)
     next t m =
         let h = hands t m in
-        let fits : n ≤ length new = let f : n ≤ length old.piece.items = h.fits in omega arith in
+        let fits : n ≤ length new = let f : n ≤ length had = h.fits in omega arith in
         let count : w.filled ≡ n = filled ∙ whole fits in
         let rest : unread w ≡ take n new = ap (λ (u : ℕ). drop u (take w.filled w.piece.items)) used ∙ ap (λ (j : ℕ). take j w.piece.items) count ∙ ap (take n) items in
         ap (λ x. x ++ drop w.printing.done (image Second t)) rest
         ∙ ap (λ p. take n new ++ drop p.done (image Second t)) on
-        ∙ sym (handed_on (image Second t) old.printing.done n old.piece.items new h size)
+        ∙ sym (handed_on (image Second t) old.printing.done n had new h size)
 
 -- what stands between two places of a piece
 pub between : (items : List ℕ) (used filled : ℕ) → used ≤ filled → take (filled - used) (drop used items) ≡ drop used (take filled items)
@@ -191,3 +205,9 @@ read_noted start cleared mid w printing rest r lines same = record {
       let here : left t cleared ≡ left t start = ap (λ u. u ++ drop cleared.printing.done (image Second t)) rest ∙ ap (λ q. unread start ++ drop q.done (image Second t)) printing in
       ap lines_of (sym here) ∙ r.next t (subst (λ (x : Rooted). MeanRooted x t) (sym (ap (λ q. q.tree) printing)) m) ∙ sym (lines t);
 }
+
+-- fewer lines are left than so many
+pub ended_short : (gone : List Line) (t : Tree) (a b : LineWalk) (counter count : ℕ) → Walks gone a b → length gone ≡ counter → b.there ≡ false → MeanRooted a.printing.tree t → counter < count → length (lines_from t a) < count
+ended_short gone t a b counter count f size there m few =
+    let all : length (lines_from t a) ≡ length gone = ap length (f.over t m ∙ ap (λ x. gone ++ x) (none_left t b there) ∙ append-nil gone) in
+    omega arith

@@ -33,7 +33,7 @@ pub struct LineWalk {
 }
 
 impl LineWalk {
-    ghost use Rattle.std.specs.Prelude.{◌∷◌, [], IfOk, OnOk, true};
+    ghost use Rattle.std.specs.Prelude.{◌∷◌, [], IfOk, OnOk, false, true};
     ghost use Rattle.reference.specs.Tree.{Tree};
     ghost use Rattle.deltas.specs.Walks.{IsAtStart, ReadsLine, Refills, SameTree, TakesPart, Walks, lines_from, unread};
 
@@ -72,6 +72,14 @@ impl LineWalk {
             return Err(NoMemory);
         }
         Ok(walk)
+    }
+
+    /// Whether it stands behind the last line.
+    pub(crate) fn is_at_end(&self) -> bool
+        ensures end { result ≡ true → self.now.there ≡ false }
+        ensures line { result ≡ false → self.now.there ≡ true }
+    {
+        !self.there
     }
 
     /// To the next line.

@@ -1,6 +1,6 @@
 //! Which of two lines stands first, by the key of its entry and by the number of its block. A delta is right whatever is answered here:
 //! it is only short where lines of one place meet.
-ghost use Rattle.std.specs.Prelude.{◌≡◌, true};
+ghost use Rattle.std.specs.Prelude.{◌≡◌, false, true};
 
 use crate::line_walk::LineWalk;
 use lines::values::{read_number, read_path};
@@ -8,6 +8,17 @@ use lines::words::cut_space;
 use pathkey::Path;
 use std::alloc::Global;
 use std::cmp::Ordering;
+
+/// Whether both walks stand behind their last lines.
+pub(crate) fn are_at_end(old: &LineWalk, new: &LineWalk) -> bool
+    ensures old { result ≡ true → old.now.there ≡ false }
+    ensures new { result ≡ true → new.now.there ≡ false }
+{
+    if old.there {
+        return false;
+    }
+    !new.there
+}
 
 /// Whether both walks stand at one line.
 pub(crate) fn is_same(old: &LineWalk, new: &LineWalk) -> bool

@@ -124,7 +124,7 @@ fn do_commands(
         }
         rest = behind;
     }
-    if walk.there {
+    if !walk.is_at_end() {
         return Err(DeltaFault::NoImage);
     }
     Ok(())
@@ -164,7 +164,7 @@ fn keep_lines(
     ensures same { OnOk result (SameTree walk.old walk.new) }
 {
     for _ in 0..count {
-        if !walk.there {
+        if walk.is_at_end() {
             return Err(DeltaFault::NoImage);
         }
         if let Err(fault) = add_line(alloc, loader, walk.line.as_slice()) {
@@ -184,7 +184,7 @@ fn pass_lines(alloc: Global, count: u64, walk: &mut LineWalk) -> Result<(), Delt
     ensures kind { IfErr result (λ e. (e ≡ DeltaFault.Memory) ⊎ (e ≡ DeltaFault.NoImage)) }
 {
     for _ in 0..count {
-        if !walk.there {
+        if walk.is_at_end() {
             return Err(DeltaFault::NoImage);
         }
         if let Err(NoMemory) = walk.step(alloc) {

@@ -13,7 +13,7 @@ use crate::command::{put_come, put_go, put_stay};
 use crate::fault::PrintFault;
 use crate::heading::put_heading;
 use crate::line_walk::LineWalk;
-use crate::order::{comes, goes, is_same};
+use crate::order::{are_at_end, comes, goes, is_same};
 use lines::output::put;
 use pathkey::NoMemory;
 use std::alloc::Global;
@@ -71,7 +71,7 @@ fn put_commands<W: Write>(
 {
     // No image has more lines.
     for _ in 0..u64::MAX {
-        if !old.there && !new.there {
+        if are_at_end(old, new) {
             return Ok(());
         }
         put_round(alloc, old, new, writer)?;
