@@ -9,8 +9,8 @@ use Rattle.images.specs.declared.loader.Intake.TheVariants.{Open, Starved, Spoil
 use Rattle.images.specs.declared.loader.Loader.{Loader}
 use Rattle.lines.specs.Lines.{lines_of}
 use Rattle.node.specs.declared.shape.Shape.{Shape}
-use Rattle.reference.specs.Image.{Text, Version, First, Second, as_told, image}
-use Rattle.reference.specs.ImageLines.{IsBadAt as IsBadImageAt, IsImage, Lines, image_of_lines, root_line, spelled as spelled_line}
+use Rattle.reference.specs.Image.{Text, Version, First, Second, as_told, image, root_line}
+use Rattle.reference.specs.ImageLines.{IsBadAt as IsBadImageAt, IsImage, Lines, image_of_lines, spelled as spelled_line}
 use Rattle.reference.specs.Shape.{IsTree}
 use Rattle.reference.specs.Tree.{Tree}
 use Rattle.reference.specs.Worlds.{World}
@@ -18,7 +18,8 @@ use Rattle.reference.proofs.LinesRead.{one_version}
 use Rattle.reference.proofs.OneImage.{one_image, told_law}
 use Rattle.reference.proofs.TreeLines.{image_law}
 use Rattle.sha2.specs.Sha256.{sha256}
-use Rattle.volume.specs.Volumes.{Means, PVolume}
+use Rattle.volume.specs.Volumes.{MeanRooted, Means, PVolume}
+use Rattle.volume.specs.declared.rooted.Rooted.{Rooted}
 use Rattle.deltas.specs.Applies.{Applied, DoesAll, DoesCommand, IsDifference, IsOfOther, IsOfTree, LoadsPatched, PatchesNone, RoundTripLaw, SpoilsImage}
 use Rattle.deltas.specs.Deltas.{Command, Come, Go, IsDelta, Line, Makes, Stay, patched, text_of}
 use Rattle.deltas.specs.Patching.{Does, IsDoing, IsSpoilt, MakesNoImage}
@@ -110,3 +111,23 @@ round_trip text t u shape v is_t is_u difference made =
     let one : as_told Second got.tree ≡ as_told Second u = one_image Second got.tree u got.is_tree is_u images in
     let tree : got.tree ≡ u = sym (told_law got.tree) ∙ one ∙ told_law u in
     subst (λ x. Means v (alone x)) tree got.means
+
+-- ---- from the first line to the end
+
+pub mean_start : (a : Rooted) (w : LineWalk) (t : Tree) → IsAtStart a w → MeanRooted a t → MeanRooted w.printing.tree t
+mean_start a w t at m = subst (λ (r : Rooted). MeanRooted r t) (sym at.same) m
+
+pub into_ok : (commands : Text) (a : Rooted) (t : Tree) (s : Shape) (w : LineWalk) (l : Loader) (v : PVolume) → IsAtStart a w → MeanRooted a t → ((cs : List Command) → TellsAll commands cs → DoesAll cs (lines_from t w) s l)
+    → ((text : Text) → Took s text l → LoadedIn s text v) → LoadsPatched commands t s v
+into_ok commands a t s w l v at m does loads cs tells =
+    let did = does cs tells in
+    (did.0, ap (patched cs) (sym (at.all t m)) ∙ did.1, loads (text_of did.0) did.2)
+
+pub into_none : (commands : Text) (a : Rooted) (t : Tree) (w : LineWalk) → IsAtStart a w → MeanRooted a t → ((cs : List Command) → TellsAll commands cs → MakesNoImage cs (lines_from t w) []) → PatchesNone commands t
+into_none commands a t w at m none cs tells = subst (λ x. MakesNoImage cs x []) (at.all t m) (none cs tells)
+
+pub into_bad : (commands : Text) (a : Rooted) (t : Tree) (s : Shape) (w : LineWalk) (l : Loader) (n : ℕ) → IsAtStart a w → MeanRooted a t → ((cs : List Command) → TellsAll commands cs → DoesAll cs (lines_from t w) s l)
+    → ((text : Text) → Took s text l → IsBadImageAt n text) → PatchesNone commands t
+into_bad commands a t s w l n at m does bad cs tells =
+    let did = does cs tells in
+    spoilt_end cs (lines_of (image Second t)) did.0 n (ap (patched cs) (sym (at.all t m)) ∙ did.1) (bad (text_of did.0) did.2)

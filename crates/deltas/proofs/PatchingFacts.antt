@@ -1,5 +1,5 @@
 -- Commands as they are done, one after the other.
-use Rattle.std.proofs.Common.{◌≡◌, ℕ, List, [], ◌∷◌, ◌++◌, length, codes, refl, sym, ap, subst, ◌∙◌, append_assoc, append-nil, Option, Some, None, option_map}
+use Rattle.std.proofs.Common.{◌≡◌, ℕ, List, [], ◌∷◌, ◌++◌, length, codes, refl, sym, ap, subst, ◌∙◌, append_assoc, append-nil, Option, Some, None, option_map, ◌+◌, ◌-◌, ◌<◌, nat_lt, arith, Bool, true, false, cond, take, drop, length-append}
 use Rattle.std.specs.List.{All}
 use Rattle.std.proofs.Math.Seq.{take-append-add}
 use Rattle.std.proofs.lemmas.List.Elements.{All-head, All-tail}
@@ -141,3 +141,6 @@ makes_one text old a b m n =
     let same = one_reading text _ _ m.commands n.commands m.is n.is in
     let made : Some a ≡ Some b = sym m.lines ∙ ap (λ cs. patched cs _) same.1 ∙ n.lines in
     cc
+
+pub spoilt_come : (l : Line) (x : List Line) (text : Text) (ds : List Command) → IsSpoilt (text ++ (l ++ 10 ∷ [])) → MakesNoImage (Come l ∷ ds) x text
+spoilt_come l x text ds bad = spoilt_behind (Come l ∷ []) ds x x text (text ++ (l ++ 10 ∷ [])) (does_come l x text) (spoilt_now ds x (text ++ (l ++ 10 ∷ [])) bad)

@@ -98,7 +98,7 @@ pub record InLine (start now : LineWalk) : Type 0 where
 pub line_starts : (start : LineWalk) → start.line.items ≡ [] → InLine start start
 line_starts start none = record { same = refl; so_far = λ t m. ap (λ l. l ++ left t start) (sym none) }
 
-mean_now : (start now : LineWalk) (t : Tree) → SameTree start now → MeanRooted start.printing.tree t → MeanRooted now.printing.tree t
+pub mean_now : (start now : LineWalk) (t : Tree) → SameTree start now → MeanRooted start.printing.tree t → MeanRooted now.printing.tree t
 mean_now start now t same m = subst (λ (r : Rooted). MeanRooted r t) (sym same) m
 
 pub line_goes_on : (start now mid next : LineWalk) (more : Bool) → InLine start now → TakesPart false now mid → Refills more mid next → InLine start next
