@@ -1,5 +1,9 @@
 -- What a loader takes of the lines that commands make.
 use Rattle.std.proofs.Common.{◌≡◌, ◌≢◌, ℕ, ◌<◌, ◌+◌, List, [], ◌∷◌, ◌++◌, length, refl, sym, ap, subst, ◌∙◌, append_assoc, append-nil, arith, Bool, true, false, Option, Some, None, Result, Ok, Err}
+use Rattle.std.specs.Bool.{Decides}
+use Rattle.std.specs.Prelude.{bytes_eq}
+use Rattle.std.proofs.lemmas.Bool.{false≢true}
+use Rattle.std.proofs.lemmas.Slice.Eq.{bytes_eq-Decides}
 use Rattle.images.specs.Loads.{Loaded, alone}
 use Rattle.images.specs.Taken.{LoadedIn, Took, TookBy, answer_of}
 use Rattle.images.specs.declared.load.LoadFault.{LoadFault}
@@ -131,3 +135,14 @@ pub into_bad : (commands : Text) (a : Rooted) (t : Tree) (s : Shape) (w : LineWa
 into_bad commands a t s w l n at m does bad cs tells =
     let did = does cs tells in
     spoilt_end cs (lines_of (image Second t)) did.0 n (ap (patched cs) (sym (at.all t m)) ∙ did.1) (bad (text_of did.0) did.2)
+
+-- ---- the digest
+
+pub is_of_tree : (same : Bool) (digest found wanted : List ℕ) (t : Tree) → found ≡ sha256 (image Second t) → wanted ≡ digest → same ≡ bytes_eq found wanted → IsOfTree same digest t
+is_of_tree same digest found wanted t of is e = go same (bytes_eq found wanted) (bytes_eq-Decides found wanted) e
+  where
+    go : (s b : Bool) → Decides b (found ≡ wanted) → s ≡ b → IsOfTree s digest t
+    go true true h e = sym is ∙ sym (h.0 refl) ∙ of
+    go false false h e = λ k. false≢true (h.1 (of ∙ sym k ∙ sym is))
+    go true false h e = absurd (false≢true (sym e))
+    go false true h e = absurd (false≢true e)

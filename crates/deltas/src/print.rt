@@ -1,5 +1,5 @@
 //! Prints the difference of two trees that stand still, as a delta. Both images are printed side by side, and neither has to fit into memory.
-ghost use Rattle.std.specs.Prelude.{◌≡◌, List, IfOk, OnOk};
+ghost use Rattle.std.specs.Prelude.{◌≡◌, ◌<◌, ◌^◌, List, IfOk, OnOk};
 ghost use Rattle.reference.specs.Image.{Second, image};
 ghost use Rattle.reference.specs.Tree.{Tree};
 ghost use Rattle.sha2.specs.Sha256.{sha256};
@@ -52,7 +52,7 @@ fn put_delta<W: Write>(
     new: &mut LineWalk,
     writer: &mut W,
 ) -> Result<(), PrintFault>
-    ensures ok { (a b : Rooted) (t u : Tree) → IsAtStart a old.old → IsAtStart b new.old → MeanRooted a t → MeanRooted b u → digest.now ≡ sha256 (image Second t) → OnOk result (AppendsDelta (W.contents writer.old) (W.contents writer.new) t u) }
+    ensures { (a b : Rooted) (t u : Tree) → IsAtStart a old.old → IsAtStart b new.old → MeanRooted a t → MeanRooted b u → digest.now ≡ sha256 (image Second t) → OnOk result (AppendsDelta (W.contents writer.old) (W.contents writer.new) t u) }
 {
     put_heading(writer, digest)?;
     put_commands(alloc, old, new, writer)?;
@@ -67,7 +67,7 @@ fn put_commands<W: Write>(
     new: &mut LineWalk,
     writer: &mut W,
 ) -> Result<(), PrintFault>
-    ensures ok { OnOk result ((cs : List Command) × PutsAll cs (W.contents writer.old) (W.contents writer.new) old.old new.old) }
+    ensures { OnOk result ((cs : List Command) × PutsAll cs (W.contents writer.old) (W.contents writer.new) old.old new.old) }
 {
     // No image has more lines.
     for _ in 0..u64::MAX {
@@ -86,7 +86,7 @@ fn put_round<W: Write>(
     new: &mut LineWalk,
     writer: &mut W,
 ) -> Result<(), PrintFault>
-    ensures ok { OnOk result ((cs : List Command) × Puts cs (W.contents writer.old) (W.contents writer.new) old.old new.old old.new new.new) }
+    ensures { OnOk result ((cs : List Command) × Puts cs (W.contents writer.old) (W.contents writer.new) old.old new.old old.new new.new) }
 {
     let staying = pass_same(alloc, old, new)?;
     put_stay(writer, staying)?;
@@ -97,7 +97,8 @@ fn put_round<W: Write>(
 
 // Goes over the lines that both images have next: how many they are.
 fn pass_same(alloc: Global, old: &mut LineWalk, new: &mut LineWalk) -> Result<u64, NoMemory>
-    ensures { IfOk result (λ n. Patches (run Stay n) old.old new.old old.new new.new) }
+    ensures patches { IfOk result (λ n. Patches (run Stay n) old.old new.old old.new new.new) }
+    ensures fits { IfOk result (λ n. n < 2 ^ 64) }
 {
     for count in 0..u64::MAX {
         if !is_same(old, new) {
@@ -111,7 +112,8 @@ fn pass_same(alloc: Global, old: &mut LineWalk, new: &mut LineWalk) -> Result<u6
 
 // Goes over the lines of the old image that go: how many they are.
 fn pass_going(alloc: Global, old: &mut LineWalk, new: &LineWalk) -> Result<u64, NoMemory>
-    ensures { IfOk result (λ n. Patches (run Go n) old.old new.now old.new new.now) }
+    ensures patches { IfOk result (λ n. Patches (run Go n) old.old new.now old.new new.now) }
+    ensures fits { IfOk result (λ n. n < 2 ^ 64) }
 {
     for count in 0..u64::MAX {
         if !goes(alloc, old, new) {
@@ -129,7 +131,7 @@ fn put_coming<W: Write>(
     new: &mut LineWalk,
     writer: &mut W,
 ) -> Result<(), PrintFault>
-    ensures ok { OnOk result ((cs : List Command) × Puts cs (W.contents writer.old) (W.contents writer.new) old.now new.old old.now new.new) }
+    ensures { OnOk result ((cs : List Command) × Puts cs (W.contents writer.old) (W.contents writer.new) old.now new.old old.now new.new) }
 {
     // No image has more lines.
     for _ in 0..u64::MAX {

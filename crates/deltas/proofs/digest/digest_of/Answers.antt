@@ -14,4 +14,4 @@ returns-then-count-eq0 c = λ t m.
 
 pub pieces-preserved : goal.pieces-preserved
 pieces-preserved c =
-    (hashed_more _ c.pieces.printing c.next.new.self c.pieces.hasher c.update.new.self c.in_ok-count.count _ c.next.new.out c.pieces.invariant.0 c.in_ok-count.ensures.piece c.in_ok-count.ensures.on c.next.auto.out c.update.ensures, c.next.auto.out ∙ c.pieces.invariant.1)
+    (hashed_more _ c.pieces.printing c.next.new.self c.pieces.hasher c.update.new.self c.in_ok-count.count _ _ c.next.new.out c.pieces.invariant.0 c.in_ok-count.ensures.piece c.in_ok-count.ensures.on c.next.auto.out (λ fits. omega (arith, fits, c.min.ensures)) c.update.ensures, c.next.auto.out ∙ c.pieces.invariant.1)

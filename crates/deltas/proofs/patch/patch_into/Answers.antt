@@ -5,7 +5,8 @@ use Rattle.deltas.proofs.patch.patch_into.Goals as goal
 
 pub returns-in-Err-clause-no_image : goal.returns-in-Err-clause-no_image
 returns-in-Err-clause-no_image c = λ a t s at m fresh e.
-    into_none c.args.commands.now a t c.args.walk at m (λ cs tells. c.do_commands-done.ensures.no_image s t cs (mean_start a c.args.walk t at m) tells fresh.1 (c.in-Err.is ∙ e))
+    let same : c.in-Err.fault ≡ NoImage = cc in
+    into_none c.args.commands.now a t c.args.walk at m (λ cs tells. c.do_commands-done.ensures.no_image s t cs (mean_start a c.args.walk t at m) tells fresh.1 (c.in-Err.is ∙ ap Err same))
 
 pub returns-in-Ok-clause-ok : goal.returns-in-Ok-clause-ok
 returns-in-Ok-clause-ok c = λ a t s at m fresh.

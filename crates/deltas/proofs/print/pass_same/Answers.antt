@@ -7,8 +7,8 @@ use Rattle.deltas.proofs.print.pass_same.Goals as goal
 pub loop-count-init : goal.loop-count-init
 loop-count-init c = ([], refl, walks_none c.args.old.now, walks_none c.args.new.now)
 
-pub returns-then-not-is_same : goal.returns-then-not-is_same
-returns-then-not-is_same c =
+pub returns-then-not-is_same-clause-patches : goal.returns-then-not-is_same-clause-patches
+returns-then-not-is_same-clause-patches c =
     let (kept, size, olds, news) = c.loop-count.invariant in
     patches_same c.loop-count.count kept c.args.old.now c.args.new.now c.loop-count.old c.loop-count.new size olds news
 
@@ -21,10 +21,10 @@ loop-count-preserved c =
       kept ++ line ∷ [],
       omega (arith, size, length-append kept (line ∷ [])),
       walks_more kept line c.args.old.now c.loop-count.old c.step.new.self olds c.in_ok-step.ensures,
-      walks_more kept line c.args.new.now c.loop-count.new c.step-2.new.self news (subst (λ l. Walks (l ∷ []) c.loop-count.new c.step-2.new.self) same c.in_ok-step-2.ensures),
+      walks_more kept line c.args.new.now c.loop-count.new c.step-in-loop-count.new.self news (subst (λ l. Walks (l ∷ []) c.loop-count.new c.step-in-loop-count.new.self) same c.in_ok-step-2.ensures),
     )
 
-pub returns : goal.returns
-returns c =
+pub returns-clause-patches : goal.returns-clause-patches
+returns-clause-patches c =
     let (kept, size, olds, news) = c.loop-count.invariant in
-    patches_same _ kept c.args.old.now c.args.new.now c.loop-count.old c.loop-count.new (omega (arith, size, c.loop-count.auto.count-end, c.loop-count-test.false)) olds news
+    patches_same 18446744073709551615 kept c.args.old.now c.args.new.now c.loop-count.old c.loop-count.new (omega (arith, size, c.loop-count.auto.count-end, c.loop-count-test.false)) olds news
