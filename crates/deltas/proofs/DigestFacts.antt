@@ -4,7 +4,7 @@ use Rattle.images.specs.Printings.{HandsOver, PPrinting}
 use Rattle.reference.specs.Image.{Second, image}
 use Rattle.reference.specs.Tree.{Tree}
 use Rattle.sha2.specs.Hashers.{Holds256}
-use Rattle.sha2.specs.declared.sha256.Sha256.{Sha256}
+use Rattle.sha2.specs.declared.Sha256.{Sha256}
 use Rattle.volume.specs.Volumes.{MeanRooted}
 use Rattle.volume.specs.declared.rooted.Rooted.{Rooted}
 use Rattle.deltas.proofs.WalkFacts.{handed_all, handed_on}

@@ -4,7 +4,7 @@ use Rattle.deltas.proofs.DigestFacts.{hashed_all, hashed_more, hashed_none}
 use Rattle.deltas.proofs.digest.digest_of.Goals as goal
 
 pub pieces-init : goal.pieces-init
-pieces-init c = (hashed_none c.args.printing.now c.new.result c.requires.fresh c.new.ensures, refl)
+pieces-init c = (hashed_none c.args.printing.now c.new-hasher.result c.requires.fresh c.new-hasher.ensures, refl)
 
 pub returns-then-count-eq0 : goal.returns-then-count-eq0
 returns-then-count-eq0 c = λ t m.
