@@ -17,7 +17,7 @@ returns-in-Ok-true-clause-ok c = λ w text cs means reads.
 pub returns-in-Ok-true-clause-no_image : goal.returns-in-Ok-true-clause-no_image
 returns-in-Ok-true-clause-no_image c = λ w text cs means reads e.
     let digest = c.args.digest.now in
-    let of : digest ≡ sha256 (image Second w.live) = subst (λ (b : Bool). IsOfTree b digest w.live) c.in-Ok-true.field-0-test.true ((rw c.in-Ok-true.is at c.is_of.ensures) w means) in
+    let of : digest ≡ sha256 (image Second w.live) = subst (λ (b : Bool). IsOfTree b digest w.live) c.in-Ok-true.field-0-test ((rw c.in-Ok-true.is at c.is_of.ensures) w means) in
     spoils_image text digest c.args.commands.now cs w.live reads of (c.patch_volume.ensures.no_image w means e)
 
 pub returns-in-Ok-false-clause-other : goal.returns-in-Ok-false-clause-other
