@@ -1,0 +1,10 @@
+pub mod TextFacts
+pub mod NumberFacts
+pub mod BadFacts
+pub mod CommandFacts
+pub mod PatchFacts
+pub mod PatchingFacts
+pub mod WalkFacts
+pub mod PrintFacts
+pub mod LoaderFacts
+pub mod DigestFacts

@@ -1,0 +1,17 @@
+use Rattle.std.proofs.Common.{ℕ, List, [], length}
+use Rattle.images.specs.Taken.{Took}
+use Rattle.node.specs.declared.shape.Shape.{Shape}
+use Rattle.reference.specs.Image.{Text}
+use Rattle.reference.specs.Tree.{Tree}
+use Rattle.volume.specs.Volumes.{MeanRooted}
+use Rattle.deltas.specs.Deltas.{Command}
+use Rattle.deltas.specs.Patching.{IsDoing}
+use Rattle.deltas.specs.Texts.{TellsAll}
+use Rattle.deltas.specs.Walks.{SameTree, lines_from}
+use Rattle.deltas.proofs.patch.do_commands.Given as goal
+
+abbrev pub invariant-commands : goal.invariant-commands
+invariant-commands l = SameTree l.fn.walk l.walk × ((s : Shape) (t : Tree) (cs : List Command) → MeanRooted l.fn.walk.printing.tree t → TellsAll l.fn.commands cs → Took s [] l.fn.loader → (has : Text) × IsDoing cs (lines_from t l.fn.walk) l.rest (lines_from t l.walk) has × Took s has l.loader)
+
+abbrev pub decreases-commands : goal.decreases-commands
+decreases-commands l = length l.rest

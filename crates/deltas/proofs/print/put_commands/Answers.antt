@@ -1,0 +1,19 @@
+use Rattle.std.proofs.Common.{[], ◌++◌}
+use Rattle.deltas.proofs.PrintFacts.{puts_all, puts_none, puts_then}
+use Rattle.deltas.proofs.WalkFacts.{none_left}
+use Rattle.deltas.proofs.print.put_commands.Goals as goal
+
+pub loop-init : goal.loop-init
+loop-init g c = ([], puts_none _ c.args.old.now c.args.new.now)
+
+pub returns-then-are_at_end : goal.returns-then-are_at_end
+returns-then-are_at_end g c =
+    let (cs, puts) = c.loop.invariant in
+    let end = c.if-are_at_end.true in
+    (cs, puts_all cs _ _ _ _ _ _ puts (λ t. none_left t c.loop.old (c.are_at_end.ensures.old end)) (λ u. none_left u c.loop.new (c.are_at_end.ensures.new end)))
+
+pub loop-preserved : goal.loop-preserved
+loop-preserved g c =
+    let (cs, puts) = c.loop.invariant in
+    let (ds, more) = c.in_ok-put_round.ensures in
+    (cs ++ ds, puts_then cs ds _ _ _ _ _ _ _ _ _ puts more)

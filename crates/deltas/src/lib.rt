@@ -1,0 +1,20 @@
+//! The difference of two trees as text, and its application: what a text says of the lines of one image, so that they become those of
+//! another.
+#![tactic(auto)]
+
+pub mod apply;
+pub mod command;
+pub mod digest;
+pub mod fault;
+pub mod heading;
+pub mod laws;
+pub mod line_walk;
+mod order;
+mod patch;
+pub mod print;
+pub mod reading;
+
+pub use apply::apply_delta;
+pub use digest::image_digest;
+pub use fault::{DeltaFault, PrintFault};
+pub use print::print_delta;
