@@ -7,8 +7,7 @@ use std::alloc::Global;
 use volume::{Frozen, Volume};
 
 /// The image of a small tree.
-pub const TREE: &str =
-    "D / 5\nF /a 3 7\nb 0 616263\nD /d 8\nF /d/x 1 9\nb 0 31\nF /z 0 3\n";
+pub const TREE: &str = "D / 5\nF /a 3 7\nb 0 616263\nD /d 8\nF /d/x 1 9\nb 0 31\nF /z 0 3\n";
 
 /// The first line of its deltas.
 pub const FIRST: &str =

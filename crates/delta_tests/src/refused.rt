@@ -45,7 +45,10 @@ const BAD: [(&str, u64); 14] = [
 fn bad_lines_by_their_numbers(rt: HostRuntime) -> Result<(), Fail> {
     for number in 0..14usize {
         let (commands, bad) = BAD[number];
-        assert!(rt; answer_to(rt.alloc(), commands) == Some(DeltaFault::Bad(bad)), "{number}");
+        assert!(rt;
+            answer_to(rt.alloc(), commands) == Some(DeltaFault::Bad(bad)),
+            "{number}"
+        );
     }
     Ok(())
 }
@@ -56,14 +59,25 @@ fn bad_first_lines(rt: HostRuntime) -> Result<(), Fail> {
     assert!(rt; answer(rt.alloc(), b"") == bad);
     assert!(rt; answer(rt.alloc(), &FIRST.as_bytes()[..72]) == bad);
     assert!(rt; answer(rt.alloc(), b"delta 1 e004\nend\n") == bad);
-    assert!(rt; answer(rt.alloc(), b"delta 1 E00440C4873F9DACAF51B6B07E14B86DEC6351BA50CC8F6E10515DE683A2B4C1\n= 7\nend\n") == bad);
-    assert!(rt; answer(rt.alloc(), b"delta 2 e00440c4873f9dacaf51b6b07e14b86dec6351ba50cc8f6e10515de683a2b4c1\n= 7\nend\n") == bad);
+    assert!(rt;
+        answer(
+            rt.alloc(),
+            b"delta 1 E00440C4873F9DACAF51B6B07E14B86DEC6351BA50CC8F6E10515DE683A2B4C1\n= 7\nend\n"
+        ) == bad
+    );
+    assert!(rt;
+        answer(
+            rt.alloc(),
+            b"delta 2 e00440c4873f9dacaf51b6b07e14b86dec6351ba50cc8f6e10515de683a2b4c1\n= 7\nend\n"
+        ) == bad
+    );
     Ok(())
 }
 
 #[test]
 fn another_tree(rt: HostRuntime) -> Result<(), Fail> {
-    let text = b"delta 1 e00440c4873f9dacaf51b6b07e14b86dec6351ba50cc8f6e10515de683a2b4c2\n= 7\nend\n";
+    let text =
+        b"delta 1 e00440c4873f9dacaf51b6b07e14b86dec6351ba50cc8f6e10515de683a2b4c2\n= 7\nend\n";
     assert!(rt; answer(rt.alloc(), text) == Some(DeltaFault::OtherTree));
     Ok(())
 }
@@ -81,7 +95,10 @@ const SPOILT: [&str; 6] = [
 #[test]
 fn no_image_comes_of_it(rt: HostRuntime) -> Result<(), Fail> {
     for number in 0..6usize {
-        assert!(rt; answer_to(rt.alloc(), SPOILT[number]) == Some(DeltaFault::NoImage), "{number}");
+        assert!(rt;
+            answer_to(rt.alloc(), SPOILT[number]) == Some(DeltaFault::NoImage),
+            "{number}"
+        );
     }
     Ok(())
 }

@@ -4,7 +4,13 @@ use std::alloc::Global;
 use std::test::Fail;
 use volume::{Errno, Path, Volume};
 
-fn write(alloc: Global, volume: &mut Volume, path: &[u8], text: &[u8], at: u64) -> Result<(), Errno> {
+fn write(
+    alloc: Global,
+    volume: &mut Volume,
+    path: &[u8],
+    text: &[u8],
+    at: u64,
+) -> Result<(), Errno> {
     let path = Path::parse(alloc, path)?;
     volume.write(alloc, &path, 0, text, at)?;
     Ok(())
@@ -52,6 +58,6 @@ fn lines_of_one_change(alloc: Global) -> Option<usize> {
 
 #[test]
 fn one_change_of_300_files(rt: HostRuntime) -> Result<(), Fail> {
-    assert!(rt; lines_of_one_change(rt.alloc()) == Some(7));
+    assert!(rt; lines_of_one_change(rt.alloc()) == Some(8));
     Ok(())
 }

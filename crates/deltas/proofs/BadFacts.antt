@@ -114,11 +114,18 @@ bad_other digest cs text behind rest sum first p none no_end = record {
   whole = All-cons IsLine (heading digest) (map spelled cs) (heading_line digest sum) (spelled_lines cs p.commands);
   cut = first ∙ ap (λ b. heading digest ++ 10 ∷ b) p.cut ∙ sym (append_assoc (heading digest) (10 ∷ commands_text cs) rest);
   number = omega (arith, length-map cs spelled);
-  begins = (end_text, (digest, cs, record {
-    sum = sum;
-    commands = p.commands;
-    is = append_assoc (heading digest) (10 ∷ commands_text cs) end_text ∙ ap (λ b. heading digest ++ 10 ∷ b) (sym (told_text cs));
-  }));
+  begins = (
+    end_text,
+    (
+      digest,
+      cs,
+      record {
+        sum = sum;
+        commands = p.commands;
+        is = append_assoc (heading digest) (10 ∷ commands_text cs) end_text ∙ ap (λ b. heading digest ++ 10 ∷ b) (sym (told_text cs));
+      },
+    ),
+  );
   bad = next (first_line rest);
 }
   where
@@ -163,9 +170,9 @@ bad_behind_end digest cs text behind rest after sum first p end some = record {
     ends : (x : Text) → IsSomeDelta (text_of (heading digest ∷ told cs) ++ x) → x ≡ []
     ends x h =
         let back : text_of (heading digest ∷ told cs) ++ x ≡ text_of (heading digest ∷ map spelled cs) ++ (end_text ++ x) =
-            append_assoc (heading digest) (10 ∷ text_of (told cs)) x
-            ∙ ap (λ b. heading digest ++ 10 ∷ b) (ap (λ b. b ++ x) (told_text cs) ∙ append_assoc (commands_text cs) end_text x)
-            ∙ sym (append_assoc (heading digest) (10 ∷ commands_text cs) (end_text ++ x))
+        append_assoc (heading digest) (10 ∷ text_of (told cs)) x
+        ∙ ap (λ b. heading digest ++ 10 ∷ b) (ap (λ b. b ++ x) (told_text cs) ∙ append_assoc (commands_text cs) end_text x)
+        ∙ sym (append_assoc (heading digest) (10 ∷ commands_text cs) (end_text ++ x))
         in
         let (ds, are, e) = goes_on digest cs (end_text ++ x) sum p.commands (subst IsSomeDelta back h) in
         no_more x ds are e

@@ -1,38 +1,36 @@
 -- What a loader takes of the lines that commands make.
-use Rattle.std.proofs.Common.{◌≡◌, ◌≢◌, ℕ, ◌<◌, ◌+◌, List, [], ◌∷◌, ◌++◌, length, refl, sym, ap, subst, ◌∙◌, append_assoc, append-nil, arith, Bool, true, false, Option, Some, None, Result, Ok, Err}
+use Rattle.std.proofs.Common.{◌≡◌, ◌≢◌, ℕ, List, [], ◌∷◌, ◌++◌, length, refl, sym, ap, subst, ◌∙◌, append_assoc, Bool, true, false, Some, Err}
 use Rattle.std.specs.Bool.{Decides}
 use Rattle.std.specs.Prelude.{bytes_eq}
 use Rattle.std.proofs.lemmas.Bool.{false≢true}
 use Rattle.std.proofs.lemmas.Slice.Eq.{bytes_eq-Decides}
 use Rattle.images.specs.Loads.{Loaded, alone}
 use Rattle.images.specs.Taken.{LoadedIn, Took, TookBy, answer_of}
-use Rattle.images.specs.declared.load.LoadFault.{LoadFault}
 use Rattle.images.specs.declared.load.LoadFault.TheVariants.{Bad}
 use Rattle.images.specs.declared.loader.Intake.{Intake}
 use Rattle.images.specs.declared.loader.Intake.TheVariants.{Open, Starved, Spoiled}
 use Rattle.images.specs.declared.loader.Loader.{Loader}
 use Rattle.lines.specs.Lines.{lines_of}
 use Rattle.node.specs.declared.shape.Shape.{Shape}
-use Rattle.reference.specs.Image.{Text, Version, First, Second, as_told, image, root_line}
+use Rattle.reference.specs.Image.{Text, Version, Second, as_told, image, root_line}
 use Rattle.reference.specs.ImageLines.{IsBadAt as IsBadImageAt, IsImage, Lines, image_of_lines, spelled as spelled_line}
 use Rattle.reference.specs.Shape.{IsTree}
 use Rattle.reference.specs.Tree.{Tree}
-use Rattle.reference.specs.Worlds.{World}
 use Rattle.reference.proofs.LinesRead.{one_version}
 use Rattle.reference.proofs.OneImage.{one_image, told_law}
 use Rattle.reference.proofs.TreeLines.{image_law}
 use Rattle.sha2.specs.Sha256.{sha256}
 use Rattle.volume.specs.Volumes.{MeanRooted, Means, PVolume}
 use Rattle.volume.specs.declared.rooted.Rooted.{Rooted}
-use Rattle.deltas.specs.Applies.{Applied, DoesAll, DoesCommand, IsDifference, IsOfOther, IsOfTree, LoadsPatched, PatchesNone, RoundTripLaw, SpoilsImage}
-use Rattle.deltas.specs.Deltas.{Command, Come, Go, IsDelta, Line, Makes, Stay, patched, text_of}
-use Rattle.deltas.specs.Patching.{Does, IsDoing, IsSpoilt, MakesNoImage}
+use Rattle.deltas.specs.Applies.{Applied, DoesAll, DoesCommand, IsOfOther, IsOfTree, LoadsPatched, PatchesNone, RoundTripLaw, SpoilsImage}
+use Rattle.deltas.specs.Deltas.{Command, Go, IsDelta, Line, Stay, patched, text_of}
+use Rattle.deltas.specs.Patching.{Does, IsSpoilt, MakesNoImage}
 use Rattle.deltas.specs.Texts.{ReadsDelta, TellsAll}
-use Rattle.deltas.specs.Walks.{IsAtStart, Walks, lines_from}
+use Rattle.deltas.specs.Walks.{IsAtStart, lines_from}
 use Rattle.deltas.specs.declared.line_walk.LineWalk.{LineWalk}
-use Rattle.deltas.proofs.PatchFacts.{stay_short, go_short, text_of_lines}
-use Rattle.deltas.proofs.PatchingFacts.{does_come, does_go, does_stay, makes_one, short_now, spoilt_now}
-use Rattle.deltas.proofs.TextFacts.{one_reading, text_append}
+use Rattle.deltas.proofs.PatchFacts.{text_of_lines}
+use Rattle.deltas.proofs.PatchingFacts.{does_go, does_stay, makes_one}
+use Rattle.deltas.proofs.TextFacts.{text_append}
 
 -- ---- what is spoilt
 

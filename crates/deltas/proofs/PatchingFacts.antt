@@ -46,7 +46,7 @@ spoilt_behind cs ds a b x y f none lines e =
     let more = cut.0 in
     let bad = none more cut.1 in
     let same : y ++ text_of more ≡ x ++ text_of lines =
-        ap (λ t. t ++ text_of more) f.added ∙ append_assoc x (text_of f.front) (text_of more) ∙ ap (λ t. x ++ t) (sym (text_append f.front more) ∙ ap text_of (sym cut.2))
+    ap (λ t. t ++ text_of more) f.added ∙ append_assoc x (text_of f.front) (text_of more) ∙ ap (λ t. x ++ t) (sym (text_append f.front more) ∙ ap text_of (sym cut.2))
     in
     (bad.0, subst (IsBadImageAt bad.0) same bad.1)
 
@@ -61,9 +61,9 @@ stay_begins n kept more lines l ds few = go (nat_lt (length (kept ++ l ∷ more)
         let cut = mapped_some (λ new. take n (kept ++ l ∷ more) ++ new) (patched ds (drop n (kept ++ l ∷ more))) lines e in
         let size : n ≡ length (kept ++ l ∷ []) + (n - length (kept ++ l ∷ [])) = omega (arith, length-append kept (l ∷ []), few) in
         let front : take n (kept ++ l ∷ more) ≡ (kept ++ l ∷ []) ++ take (n - length (kept ++ l ∷ [])) more =
-            ap (λ (k : ℕ). take k (kept ++ l ∷ more)) size
-            ∙ ap (take (length (kept ++ l ∷ []) + (n - length (kept ++ l ∷ [])))) (sym (append_assoc kept (l ∷ []) more))
-            ∙ take-append-add (kept ++ l ∷ []) more (n - length (kept ++ l ∷ []))
+        ap (λ (k : ℕ). take k (kept ++ l ∷ more)) size
+        ∙ ap (take (length (kept ++ l ∷ []) + (n - length (kept ++ l ∷ [])))) (sym (append_assoc kept (l ∷ []) more))
+        ∙ take-append-add (kept ++ l ∷ []) more (n - length (kept ++ l ∷ []))
         in
         (take (n - length (kept ++ l ∷ [])) more ++ cut.0, cut.2 ∙ ap (λ x. x ++ cut.0) front ∙ append_assoc (kept ++ l ∷ []) (take (n - length (kept ++ l ∷ [])) more) cut.0)
 
@@ -71,9 +71,9 @@ pub spoilt_stay : (n : ℕ) (kept old more : List Line) (l : Line) (text : Text)
 spoilt_stay n kept old more l text ds few is (m, bad) lines e =
     let begins = stay_begins n kept more lines l ds few (ap (patched (Stay n ∷ ds)) (sym is) ∙ e) in
     let same : ((text ++ text_of kept) ++ (l ++ 10 ∷ [])) ++ text_of begins.0 ≡ text ++ text_of lines =
-        ap (λ x. x ++ text_of begins.0) (append_assoc text (text_of kept) (l ++ 10 ∷ []) ∙ ap (λ x. text ++ x) (sym (text_append kept (l ∷ []))))
-        ∙ append_assoc text (text_of (kept ++ l ∷ [])) (text_of begins.0)
-        ∙ ap (λ x. text ++ x) (sym (text_append (kept ++ l ∷ []) begins.0) ∙ ap text_of (sym begins.1))
+    ap (λ x. x ++ text_of begins.0) (append_assoc text (text_of kept) (l ++ 10 ∷ []) ∙ ap (λ x. text ++ x) (sym (text_append kept (l ∷ []))))
+    ∙ append_assoc text (text_of (kept ++ l ∷ [])) (text_of begins.0)
+    ∙ ap (λ x. text ++ x) (sym (text_append (kept ++ l ∷ []) begins.0) ∙ ap text_of (sym begins.1))
     in
     (m, subst (IsBadImageAt m) same (bad (text_of begins.0)))
 

@@ -1,11 +1,10 @@
 -- A delta as it is written.
-use Rattle.std.proofs.Common.{◌≡◌, ℕ, ◌<◌, ◌^◌, ◌==◌, cond, arith, List, [], ◌∷◌, ◌++◌, length, map, refl, sym, ap, subst, ◌∙◌, append_assoc, append-nil, Bool, true, false, Option, Some, None}
+use Rattle.std.proofs.Common.{◌≡◌, ℕ, ◌<◌, ◌^◌, ◌==◌, cond, arith, List, [], ◌∷◌, ◌++◌, length, refl, sym, ap, subst, ◌∙◌, append_assoc, append-nil, Bool, true, false, Option, Some}
 use Rattle.std.specs.Io.KnownBytes.{Appends}
 use Rattle.std.specs.List.{All}
 use Rattle.std.proofs.KnownBytes.{Appends-nil, Appends-trans}
 use Rattle.std.proofs.lemmas.Bool.{eqb-false}
 use Rattle.std.proofs.lemmas.List.Elements.{All-nil, All-cons, All-append}
-use Rattle.lines.specs.Lines.{lines_of}
 use Rattle.reference.specs.Image.{Second, Text, image}
 use Rattle.reference.specs.Tree.{Tree}
 use Rattle.sha2.specs.Sha256.{sha256}
@@ -103,8 +102,7 @@ delta_put h i j k digest cs a b r s t u at_a at_b m n sum is first puts last =
     let all : (heading digest ++ 10 ∷ []) ++ (commands_text cs ++ end_text) ≡ text = append_assoc (heading digest) (10 ∷ []) (commands_text cs ++ end_text) in
     let mean_a : MeanRooted a.printing.tree t = subst (λ (r : Rooted). MeanRooted r t) (sym at_a.same) m in
     let mean_b : MeanRooted b.printing.tree u = subst (λ (r : Rooted). MeanRooted r u) (sym at_b.same) n in
-    let sum_is : IsDigest (sha256 (image Second t)) = subst IsDigest is sum in
-    (
+    let sum_is : IsDigest (sha256 (image Second t)) = subst IsDigest is sum in (
       text,
       record {
         commands = cs;

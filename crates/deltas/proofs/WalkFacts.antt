@@ -1,9 +1,8 @@
 -- The lines of an image, as they are read of what is printed.
-use Rattle.std.proofs.Common.{◌≡◌, ◌≢◌, ℕ, zero, suc, nat_lt, ◌+◌, ◌-◌, ◌<◌, ◌≤◌, ◌==◌, not, List, [], ◌∷◌, ◌++◌, length, take, drop, refl, sym, ap, subst, ◌∙◌, append_assoc, append-nil, arith, Bool, true, false, cond, Option, Some, None, length-append}
-use Rattle.std.specs.List.{All}
+use Rattle.std.proofs.Common.{◌≡◌, ◌≢◌, ℕ, zero, suc, nat_lt, ◌+◌, ◌-◌, ◌<◌, ◌≤◌, ◌==◌, not, List, [], ◌∷◌, ◌++◌, length, take, drop, refl, sym, ap, subst, ◌∙◌, append_assoc, append-nil, arith, Bool, true, false, cond, length-append}
 use Rattle.std.proofs.lemmas.Bool.{eqb-false, eqb-true, false≢true, lt-ltb}
 use Rattle.std.proofs.Math.Seq.{drop-append_seam}
-use Rattle.std.proofs.lemmas.List.{drop-drop, drop-take, drop_all, length-take-le, with_items_is}
+use Rattle.std.proofs.lemmas.List.{drop-drop, drop-take, drop_all, length-take-le}
 use Rattle.images.specs.Printings.{HandsOver}
 use Rattle.lines.specs.Lines.{lines_of}
 use Rattle.reference.specs.Image.{Text, Second, image}
@@ -11,7 +10,7 @@ use Rattle.reference.specs.Tree.{Tree}
 use Rattle.volume.specs.Volumes.{MeanRooted}
 use Rattle.volume.specs.declared.rooted.Rooted.{Rooted}
 use Rattle.deltas.specs.Deltas.{IsLine, Line}
-use Rattle.deltas.specs.Walks.{Cuts, IsAtStart, ReadsLine, Refills, SameTree, TakesPart, Walks, left, lines_from, unread}
+use Rattle.deltas.specs.Walks.{IsAtStart, ReadsLine, Refills, SameTree, TakesPart, Walks, left, lines_from, unread}
 use Rattle.deltas.specs.declared.line_walk.LineWalk.{LineWalk}
 use Rattle.deltas.proofs.PatchFacts.{lines_cut, lines_whole}
 
@@ -23,9 +22,9 @@ handed_on text done n old new h size =
     let from : drop done text ≡ take n new ++ h.back = ap (drop done) h.split ∙ subst (λ (k : ℕ). drop k (h.front ++ (take n new ++ h.back)) ≡ take n new ++ h.back) h.at (drop-append_seam h.front (take n new ++ h.back)) in
     let count : length (take n new) ≡ n = length-take-le n new (let f : n ≤ length old = h.fits in omega arith) in
     let behind : drop (done + n) text ≡ h.back =
-        sym (drop-drop n done text)
-        ∙ ap (drop n) from
-        ∙ subst (λ (k : ℕ). drop k (take n new ++ h.back) ≡ h.back) count (drop-append_seam (take n new) h.back)
+    sym (drop-drop n done text)
+    ∙ ap (drop n) from
+    ∙ subst (λ (k : ℕ). drop k (take n new ++ h.back) ≡ h.back) count (drop-append_seam (take n new) h.back)
     in
     from ∙ ap (λ b. take n new ++ b) (sym behind)
 
@@ -126,11 +125,11 @@ line_ends start now mid w l p whole printing rest line there = record {
       let behind : Text = drop now.printing.done (image Second t) in
       let left_w : left t w ≡ unread mid ++ behind = ap (λ u. u ++ drop w.printing.done (image Second t)) rest ∙ ap (λ q. unread mid ++ drop q.done (image Second t)) (printing ∙ p.printing) in
       let all : left t start ≡ mid.line.items ++ 10 ∷ (unread mid ++ behind) =
-          l.so_far t m
-          ∙ ap (λ u. now.line.items ++ (u ++ behind)) p.cut
-          ∙ ap (λ x. now.line.items ++ x) (append_assoc p.part (10 ∷ unread mid) behind)
-          ∙ sym (append_assoc now.line.items p.part (10 ∷ (unread mid ++ behind)))
-          ∙ ap (λ x. x ++ 10 ∷ (unread mid ++ behind)) (sym p.line)
+      l.so_far t m
+      ∙ ap (λ u. now.line.items ++ (u ++ behind)) p.cut
+      ∙ ap (λ x. now.line.items ++ x) (append_assoc p.part (10 ∷ unread mid) behind)
+      ∙ sym (append_assoc now.line.items p.part (10 ∷ (unread mid ++ behind)))
+      ∙ ap (λ x. x ++ 10 ∷ (unread mid ++ behind)) (sym p.line)
       in
       let from : lines_from t w ≡ w.line.items ∷ lines_of (left t w) = ap (λ b. cond b (w.line.items ∷ lines_of (left t w)) []) there in
       ap lines_of all

@@ -33,11 +33,7 @@ pub fn image_digest(alloc: Global, frozen: Frozen) -> Result<[u8; 32], NoMemory>
 }
 
 // The digest of an image of which nothing was printed, printed in pieces into the buffer.
-fn digest_of(
-    alloc: Global,
-    printing: &mut Printing,
-    piece: &mut [u8],
-) -> Result<[u8; 32], NoMemory>
+fn digest_of(alloc: Global, printing: &mut Printing, piece: &mut [u8]) -> Result<[u8; 32], NoMemory>
     requires fresh { printing.old.done ≡ 0 }
     requires some { 0 < length piece.old }
     ensures { IfOk result (λ digest. (t : Tree) → MeanRooted printing.old.tree t → digest ≡ sha256 (image Second t)) }

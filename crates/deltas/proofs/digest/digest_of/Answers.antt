@@ -1,4 +1,4 @@
-use Rattle.std.proofs.Common.{◌≡◌, ◌∙◌, ap, arith, refl, sym}
+use Rattle.std.proofs.Common.{◌∙◌, ap, arith, refl, sym}
 use Rattle.sha2.specs.Sha256.{sha256}
 use Rattle.deltas.proofs.DigestFacts.{hashed_all, hashed_more, hashed_none}
 use Rattle.deltas.proofs.digest.digest_of.Goals as goal

@@ -1,10 +1,7 @@
-use Rattle.std.proofs.Common.{◌≡◌, [], ◌∷◌, ◌++◌, ◌∙◌, ap, refl, sym, subst, arith, length-append}
+use Rattle.std.proofs.Common.{[], ◌∙◌, refl, subst}
 use Rattle.images.specs.Taken.{Took}
 use Rattle.lines.specs.Lines.{lines_of}
-use Rattle.reference.specs.Image.{Text}
-use Rattle.deltas.specs.Deltas.{Line, text_of}
 use Rattle.deltas.specs.Patching.{IsDoing}
-use Rattle.deltas.specs.Texts.{command_of}
 use Rattle.deltas.specs.Walks.{left, lines_from}
 use Rattle.deltas.proofs.BadFacts.{shorter}
 use Rattle.deltas.proofs.PatchingFacts.{doing_end, doing_left, doing_next, doing_spoilt, doing_start}

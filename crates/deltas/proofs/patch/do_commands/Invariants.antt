@@ -1,4 +1,4 @@
-use Rattle.std.proofs.Common.{ℕ, List, [], length}
+use Rattle.std.proofs.Common.{List, [], length}
 use Rattle.images.specs.Taken.{Took}
 use Rattle.node.specs.declared.shape.Shape.{Shape}
 use Rattle.reference.specs.Image.{Text}

@@ -1,4 +1,4 @@
-use Rattle.std.proofs.Common.{◌≡◌, ◌∙◌, sym}
+use Rattle.std.proofs.Common.{◌∙◌}
 use Rattle.deltas.proofs.LoaderFacts.{is_of_tree}
 use Rattle.deltas.proofs.patch.is_of.Goals as goal
 

@@ -1,12 +1,12 @@
-use Rattle.std.proofs.Common.{◌≡◌, [], ◌∷◌, ◌++◌, ◌∙◌, ap, refl, sym, subst, arith, append-nil, append_assoc, length-append}
+use Rattle.std.proofs.Common.{[], ◌∷◌, ◌++◌, ◌∙◌, ap, refl, sym, subst, arith, append-nil, length-append}
 use Rattle.images.specs.Taken.{Took}
 use Rattle.lines.specs.Lines.{lines_of}
-use Rattle.deltas.specs.Deltas.{Line, Stay, text_of}
+use Rattle.deltas.specs.Deltas.{Stay, text_of}
 use Rattle.deltas.specs.Walks.{left}
 use Rattle.deltas.proofs.LoaderFacts.{does_lines, kept_line}
 use Rattle.deltas.proofs.PatchFacts.{stay_short}
 use Rattle.deltas.proofs.PatchingFacts.{short_now, spoilt_stay}
-use Rattle.deltas.proofs.WalkFacts.{ended_short, mean_now, some_left, walks_more, walks_none}
+use Rattle.deltas.proofs.WalkFacts.{ended_short, some_left, walks_more, walks_none}
 use Rattle.deltas.proofs.patch.keep_lines.Goals as goal
 
 pub loop-init : goal.loop-init
@@ -30,8 +30,7 @@ returns-in-Err-clause-no_image c = λ s t text ds m took e.
 pub loop-preserved : goal.loop-preserved
 loop-preserved c =
     let (kept, size, walks, takes) = c.loop.invariant in
-    let line = c.loop.walk.line.items in
-    (
+    let line = c.loop.walk.line.items in (
       kept ++ line ∷ [],
       omega (arith, size, length-append kept (line ∷ [])),
       walks_more kept line c.args.walk.now c.loop.walk c.step.new.self walks (rw c.in_default-step.is at c.step.ensures),

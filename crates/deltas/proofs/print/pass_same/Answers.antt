@@ -16,8 +16,7 @@ pub loop-count-preserved : goal.loop-count-preserved
 loop-count-preserved c =
     let (kept, size, olds, news) = c.loop-count.invariant in
     let line = c.loop-count.old.line.items in
-    let same = c.is_same.ensures.line c.if-not-is_same.false in
-    (
+    let same = c.is_same.ensures.line c.if-not-is_same.false in (
       kept ++ line ∷ [],
       omega (arith, size, length-append kept (line ∷ [])),
       walks_more kept line c.args.old.now c.loop-count.old c.step.new.self olds c.in_ok-step.ensures,

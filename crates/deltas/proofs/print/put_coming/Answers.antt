@@ -1,4 +1,4 @@
-use Rattle.std.proofs.Common.{[], ◌∷◌, ◌++◌, refl, subst}
+use Rattle.std.proofs.Common.{[], ◌∷◌, ◌++◌, subst}
 use Rattle.std.specs.Io.KnownBytes.{Appends}
 use Rattle.deltas.specs.Deltas.{Come, commands_text}
 use Rattle.deltas.proofs.PrintFacts.{puts_come, puts_none, puts_then}

@@ -1,4 +1,3 @@
-use Rattle.std.proofs.Common.{◌≡◌}
 use Rattle.deltas.proofs.PrintFacts.{delta_put}
 use Rattle.deltas.proofs.print.put_delta.Goals as goal
 

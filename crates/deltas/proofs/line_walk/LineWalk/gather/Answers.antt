@@ -1,4 +1,4 @@
-use Rattle.std.proofs.Common.{◌≡◌, ◌∙◌, refl, subst, sym, Bool}
+use Rattle.std.proofs.Common.{refl, subst, Bool}
 use Rattle.deltas.specs.Walks.{Refills, TakesPart}
 use Rattle.deltas.proofs.WalkFacts.{line_ends, line_goes_on, line_is_last, line_starts, no_items, some_items}
 use Rattle.deltas.proofs.line_walk.LineWalk.gather.Goals as goal
