@@ -2,12 +2,13 @@
 import errno
 import os
 import shutil
+import socket
 import subprocess
 import time
 from collections.abc import Callable
 from pathlib import Path
 
-from own_mount import Mount, case, run_cases
+from own_mount import MOUNT, Mount, case, run_cases
 from own_store import (KILLS, PROGRAMS, WORKS, end_well, find_state, kill, kill_at_chance, logs, names_after, on_small_disk,
                        store_mount, sync)
 
@@ -163,6 +164,28 @@ def a_sync_in_time_that_fails_is_told_at_the_next_fsync(folder: Path):
     os.close(held)
     end_well(mount)
     assert names_after(folder) == {"held"}
+
+
+@case
+def in_the_background_it_is_told_to_syslog(folder: Path):
+    if os.getuid() or os.path.lexists("/dev/log"):
+        return
+    disk, point = FailingDisk(folder), folder / "mnt"
+    point.mkdir()
+    with socket.socket(socket.AF_UNIX, socket.SOCK_DGRAM) as log:
+        log.bind("/dev/log")
+        try:
+            subprocess.run([MOUNT, "--store", folder / "store", point], check=True, env=os.environ | disk.environment)
+            (point / "file").write_text("abc")
+            disk.fail("sync")
+            refused(errno.EIO, sync, point)
+            disk.mend()
+            log.settimeout(20)
+            assert b"changes are refused" in log.recv(4096)
+            subprocess.run([MOUNT, "--unmount", point], check=True)
+        finally:
+            os.unlink("/dev/log")
+    assert names_after(folder) == {"file"}
 
 
 @case
