@@ -7,7 +7,7 @@ _doorvervain_mount() {
     *)
         if [[ $word == -* ]]; then
             mapfile -t COMPREPLY < <(compgen -W "--store --sync --log-size --pipe --load --image --size --record --steps --trust \
-                --allow-other --foreground --restore --unmount --version --help" -- "$word")
+                --allow-other --foreground --restore --unmount --lines --version --help" -- "$word")
             return
         fi
         mapfile -t COMPREPLY < <(compgen -d -- "$word")

@@ -27,6 +27,16 @@ needs_records() {
     refuses "what needs a record beside an entry"
 }
 
+# Ends a program that needs a store over the program, where there is none: the option is refused then.
+needs_store() {
+    is_over_program || return 0
+    local status=0
+    "$MOUNT" $OPTIONS --store store "$MNT" 2> said || status=$?
+    test "$status" = 2
+    grep -q -- --store said
+    refuses --store
+}
+
 # Of the lines of standard input those that stand in a file, with a reason behind each, are refused as documented over
 # the program; any other fails.
 only_refused() {

@@ -3,6 +3,7 @@ import os
 import threading
 import time
 from pathlib import Path
+from typing import NamedTuple
 
 BLOCK, SYNCED, MEBIBYTE, MEBIBYTES_BEFORE = bytes(range(256)) * 16, 200, 1 << 20, 40
 
@@ -99,15 +100,27 @@ class Filling:
             self.next += 1
 
 
-def measure_image(mount: Path, store: Path, process: int, mebibytes: int) -> None:
-    """Fills a mount whose store writes an image behind a little more, and says what the image held up, from before it
-    begins until behind its end."""
+class Held(NamedTuple):
+    """What an image held up: seconds but for the count and the memory, which is in GiB."""
+    image: float
+    longest: float  # of small writes from before the image begins until behind its end
+    count: int
+    quiet: float  # the longest of those in ten seconds before
+    before: float
+    most: float
+
+    def __str__(self) -> str:
+        return (f"the image took {self.image:.1f} s; of {self.count} small writes meanwhile the longest took"
+                f" {self.longest * 1e3:.1f} ms, and {self.quiet * 1e3:.1f} ms of those before; the most memory was"
+                f" {self.most:.2f} GiB, and {self.before:.2f} before")
+
+
+def measure_image(mount: Path, store: Path, process: int, mebibytes: int) -> Held:
+    """Fills a mount whose store writes an image behind a little more, and tells what the image held up."""
     fill(mount, mebibytes + MEBIBYTES_BEFORE)
     time.sleep(6)
     before, ends = memory_of(process), time.monotonic() + 10
     quiet, _ = probe_for(mount, lambda: time.monotonic() > ends)
     filling = Filling(mount, store, mebibytes + MEBIBYTES_BEFORE)
     longest, count = probe_for(mount, filling.is_over, filling.go_on)
-    print(f"an image of {mebibytes} MiB in files took {time.monotonic() - filling.began:.1f} s; of {count} small writes"
-          f" meanwhile the longest took {longest * 1e3:.1f} ms, and {quiet * 1e3:.1f} ms of those before; the most memory was"
-          f" {memory_of(process):.2f} GiB, and {before:.2f} before")
+    return Held(time.monotonic() - filling.began, longest, count, quiet, before, memory_of(process))

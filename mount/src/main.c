@@ -3,6 +3,7 @@
 #include "options.h"
 #include "requests.h"
 #include "serving.h"
+#include "store.h"
 #include <errno.h>
 #include <fcntl.h>
 #include <limits.h>
@@ -102,6 +103,7 @@ int main(int count, char **words) {
         else print_version();
         return 0;
     }
+    if (options.lines) return store_lines(options.mount_point);
     options.mount_point = full_path(options.mount_point);
     if (options.restore) return ask_to_restore(options.mount_point, options.restore);
     if (options.unmounts) return ending_await(options.mount_point);

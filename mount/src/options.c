@@ -12,6 +12,7 @@ static const char help[] =
     "  doorvervain-mount [OPTION..] MNT      mounts it on the folder MNT\n"
     "  doorvervain-mount --restore NAME MNT  makes the tree that is mounted on MNT that of its snapshot NAME\n"
     "  doorvervain-mount --unmount MNT       takes it away, and waits until what it keeps is whole; the status is the mount's\n"
+    "  doorvervain-mount --lines DIR         prints the logs of a store as lines of a script\n"
     "\n"
     "  --pipe BETR     speaks to the program BETR, in a process of its own, instead of the library\n"
     "  --load FILE     begins with the tree whose image is in FILE\n"
@@ -57,6 +58,7 @@ static const struct option known[] = {
     {"log-size", required_argument, 0, 'o'},
     {"size", required_argument, 0, 'z'},
     {"unmount", no_argument, 0, 'u'},
+    {"lines", no_argument, 0, 'n'},
     {"allow-other", no_argument, 0, 'a'},
     {"foreground", no_argument, 0, 'f'},
     {"trust", no_argument, 0, 't'},
@@ -114,6 +116,7 @@ static int read_option(int letter, struct options *out) {
     case 'r': out->restore = optarg; return 0;
     case 'z': return read_bytes(optarg, SMALLEST_SIZE, "--size takes 16M or more, not ", &out->size);
     case 'u': out->unmounts = true; return 0;
+    case 'n': out->lines = true; return 0;
     case 'a': out->allows_other = true; return 0;
     case 't': out->trusts = true; return 0;
     case 'f': out->stays = true; return 0;
@@ -128,7 +131,7 @@ int read_options(int count, char **words, struct options *out) {
     *out = (struct options){.making.steps = 4, .making.log_size = (uint64_t)64 << 20};
     while (!fault && (letter = getopt_long(count, words, "h", known, 0)) != -1) fault = read_option(letter, out);
     if (fault || out->helps || out->tells_version) return fault;
-    if (optind + 1 != count) return refuse("one folder to mount on is wanted", "");
+    if (optind + 1 != count) return refuse(out->lines ? "one folder of a store is wanted" : "one folder to mount on is wanted", "");
     if (out->making.store && (out->making.betr || out->making.image || out->image))
         return refuse("--store does not go with --pipe, --load or --image", "");
     if (out->making.syncs_each && !out->making.store) return refuse("--sync is for a --store", "");

@@ -25,12 +25,28 @@ static int form_path(uint8_t (*form)(const uint8_t *, size_t, uint8_t *, size_t,
     return doorvervain_errno(number);
 }
 
+// A request asks for the place of a path more than once: the last one is remembered.
+static int form_place(const struct mount *mount, const char *path, char out[LONGEST_PATH + 1]) {
+    static char last[LONGEST_PATH + 1], place[LONGEST_PATH + 1];
+    if (strcmp(path, last)) {
+        int fault = form_path(mount->volume.records->place, path, place);
+        strcpy(last, fault ? "" : path);
+        if (fault) return fault;
+    }
+    strcpy(out, place);
+    return 0;
+}
+
+// The path of a record names the folder that it lies in.
 static int find_place(const struct mount *mount, const char *path, struct place_of_record *out) {
-    const struct record_form *form = mount->volume.records;
     out->folder[0] = 0;
     if (!is_own(path)) {
-        int fault = form_path(form->mirror, path, out->folder);
-        return fault ? fault : form_path(form->place, path, out->file);
+        int fault = form_place(mount, path, out->file);
+        if (fault) return fault;
+        size_t length = (size_t)(strrchr(out->file, '/') - out->file);
+        memcpy(out->folder, out->file, length);
+        out->folder[length] = 0;
+        return 0;
     }
     if (strlen(path) + sizeof ".record" > sizeof out->file) return ENAMETOOLONG;
     strcpy(out->file, path);

@@ -118,9 +118,11 @@ static int keep_image(struct image *image, int fault) {
     return fault != 0;
 }
 
-// Nothing is open any more, so nothing that was unlinked goes into the image.
+// Nothing is open any more, so nothing that was unlinked goes into the image. What a store may not change any more its
+// next mount takes out.
 static int close_volume(struct mount *mount, struct image *image) {
     int fault = files_end(mount);
+    if (mount->store) fault = 0;
     if (fault) ending_say("unlinked files are kept", "", fault);
     int other = mount->volume.way->close(mount->volume.self, image);
     if (image) return keep_image(image, other) || fault;

@@ -12,6 +12,8 @@ struct store;
 // Opens the store of `making`: the volume stands as it was left, and all calls go by the store from then on. What
 // failed is said on standard error, and nothing was written then.
 int store_open(const struct making *making, struct volume *volume, struct store **out);
+// Prints the logs in the folder of a store as lines of a script; the status of its process. What failed is said.
+int store_lines(const char *folder);
 // The names of the snapshots that stand: each with a byte 0 behind it.
 int store_snapshots(struct store *store, struct bytes *out);
 // Begins to sync in time, and to write images, by a thread of its own, until the volume is closed.

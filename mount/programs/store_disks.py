@@ -1,0 +1,281 @@
+"""What a store keeps where the disk below it loses power, fails, or is full."""
+import errno
+import os
+import shutil
+import socket
+import subprocess
+import time
+from collections.abc import Callable
+from pathlib import Path
+
+from own_mount import MOUNT, Mount, case, run_cases
+from own_store import (KILLS, PROGRAMS, WORKS, end_well, find_state, kill, kill_at_chance, logs, names_after, on_small_disk,
+                       store_mount, sync)
+
+
+class FailingDisk:
+    """A disk below a store that fails when it is told to, and knows what was synced."""
+
+    def __init__(self, folder: Path):
+        library = folder / "failing_disk.so"
+        subprocess.run(["gcc", "-shared", "-fPIC", "-O1", PROGRAMS / "failing_disk.c", "-o", library, "-ldl"], check=True)
+        self.control, self.synced = folder / "fails", folder / "synced"
+        self.synced.mkdir()
+        self.environment = {"LD_PRELOAD": str(library), "FAILING_STORE": str(folder / "store"),
+                            "FAILING_DISK": str(self.control), "FAILING_SYNCED": str(self.synced),
+                            "ASAN_OPTIONS": os.environ.get("ASAN_OPTIONS", "") + ":verify_asan_link_order=0"}
+
+    def fail(self, what: str) -> None:
+        self.control.write_text(what)
+
+    def mend(self) -> None:
+        self.control.unlink()
+
+    def lose_power(self, folder: Path) -> None:
+        """Of what no sync came behind only a part is left, of each log another."""
+        for log in logs(folder):
+            least = int((self.synced / log.name).read_text()) if (self.synced / log.name).exists() else 0
+            whole = log.read_bytes()
+            left = WORKS.randint(min(least, len(whole)), len(whole))
+            torn = bytearray(whole[:left])
+            for at in WORKS.sample(range(least, left), min(2, max(0, left - least))):
+                torn[at] = 0
+            log.write_bytes(torn + bytes(WORKS.choice([0, len(whole) - left])))
+        for part in (folder / "store").glob("*.part"):
+            part.write_bytes(part.read_bytes()[:WORKS.randrange(1 << 16)])
+
+
+def refused(number: int, call: Callable, *words) -> None:
+    try:
+        call(*words)
+    except OSError as fault:
+        assert fault.errno == number, fault
+    else:
+        raise AssertionError(f"{call} was done")
+
+
+def cut_power_often(folder: Path, *options) -> None:
+    number, first = WORKS.randrange(1 << 30), 0
+    for _ in range(KILLS):
+        shutil.rmtree(folder / "synced", ignore_errors=True)
+        disk = FailingDisk(folder)
+        for log in logs(folder):
+            (disk.synced / log.name).write_text(str(len(log.read_bytes().rstrip(b"\0"))))
+        mount = store_mount(folder, *options, environment=disk.environment)
+        kill_at_chance(folder, mount, number, first, bool(options))
+        disk.lose_power(folder)
+        first = find_state(folder, number, first, *options)
+
+
+@case
+def a_loss_of_power_takes_nothing_that_was_synced(folder: Path):
+    cut_power_often(folder)
+
+
+@case
+def nor_one_while_images_are_written(folder: Path):
+    cut_power_often(folder, "--log-size", "20K")
+
+
+def write_when_it_may(path: Path) -> None:
+    """Changes are refused until an image is whole."""
+    for _ in range(300):
+        try:
+            path.write_text(path.name)
+            return
+        except OSError as fault:
+            assert fault.errno == errno.EIO, fault
+            time.sleep(0.1)
+    raise AssertionError("changes are refused still")
+
+
+def fail_and_mend(folder: Path, what: str) -> None:
+    disk = FailingDisk(folder)
+    mount = store_mount(folder, environment=disk.environment)
+    (mount.point / "kept").write_text("kept")
+    sync(mount.point)
+    held = os.open(mount.point / "held", os.O_CREAT | os.O_WRONLY)
+    other = os.open(mount.point / "other", os.O_CREAT | os.O_WRONLY)
+    os.write(held, b"held")
+    disk.fail(what)
+    refused(errno.EIO, os.fsync, held)
+    refused(errno.EIO, os.fsync, held)
+    refused(errno.EIO, (mount.point / "later").write_text, "later")
+    refused(errno.EIO, os.write, held, b"more")
+    assert (mount.point / "held").read_text() == "held"
+    disk.mend()
+    write_when_it_may(mount.point / "later")
+    sync(mount.point)
+    os.fsync(held)
+    refused(errno.EIO, os.fsync, other)
+    os.fsync(other)
+    kill(mount)
+    again = store_mount(folder)
+    assert {it.name: it.read_text() for it in again.point.iterdir()} == {
+        "kept": "kept", "held": "held", "other": "", "later": "later"}
+    end_well(again)
+
+
+@case
+def a_disk_whose_syncs_fail_is_told_until_an_image_is_whole(folder: Path):
+    fail_and_mend(folder, "sync")
+
+
+@case
+def a_disk_whose_writes_fail_is_told_until_an_image_is_whole(folder: Path):
+    fail_and_mend(folder, "write")
+
+
+@case
+def what_a_log_loses_while_an_image_is_written_takes_another_image(folder: Path):
+    disk = FailingDisk(folder)
+    mount = store_mount(folder, "--log-size", "40M", environment=disk.environment)
+    (mount.point / "large").write_bytes(os.urandom(48 << 20))
+    sync(mount.point)
+    while not list((folder / "store").glob("tree.*.part")):
+        time.sleep(0.001)
+    held = os.open(mount.point / "held", os.O_CREAT | os.O_WRONLY)
+    os.write(held, b"held")
+    disk.fail("log")
+    refused(errno.EIO, os.fsync, held)
+    disk.mend()
+    assert list((folder / "store").glob("tree.*.part")), "the image was whole before its log failed"
+    write_when_it_may(mount.point / "later")
+    sync(mount.point)
+    kill(mount)
+    again = store_mount(folder)
+    assert again.stands, again.said()
+    assert (again.point / "held").read_text() == "held" and (again.point / "later").read_text() == "later"
+    end_well(again)
+
+
+@case
+def a_sync_in_time_that_fails_is_told_at_the_next_fsync(folder: Path):
+    disk = FailingDisk(folder)
+    mount = store_mount(folder, environment=disk.environment)
+    held = os.open(mount.point / "held", os.O_CREAT | os.O_WRONLY)
+    os.write(held, b"held")
+    disk.fail("sync")
+    time.sleep(6)
+    disk.mend()
+    time.sleep(7)
+    refused(errno.EIO, os.fsync, held)
+    os.fsync(held)
+    os.close(held)
+    end_well(mount)
+    assert names_after(folder) == {"held"}
+
+
+@case
+def in_the_background_it_is_told_to_syslog(folder: Path):
+    if os.getuid() or os.path.lexists("/dev/log"):
+        return
+    disk, point = FailingDisk(folder), folder / "mnt"
+    point.mkdir()
+    with socket.socket(socket.AF_UNIX, socket.SOCK_DGRAM) as log:
+        log.bind("/dev/log")
+        try:
+            subprocess.run([MOUNT, "--store", folder / "store", point], check=True, env=os.environ | disk.environment)
+            (point / "file").write_text("abc")
+            disk.fail("sync")
+            refused(errno.EIO, sync, point)
+            disk.mend()
+            log.settimeout(20)
+            assert b"changes are refused" in log.recv(4096)
+            subprocess.run([MOUNT, "--unmount", point], check=True)
+        finally:
+            os.unlink("/dev/log")
+    assert names_after(folder) == {"file"}
+
+
+@case
+def a_disk_that_fails_at_the_end_is_told(folder: Path):
+    disk = FailingDisk(folder)
+    mount = store_mount(folder, environment=disk.environment)
+    (mount.point / "kept").write_text("kept")
+    sync(mount.point)
+    (mount.point / "lost").write_text("lost")
+    disk.fail("write")
+    assert mount.end() == 1
+    assert "may be lost" in mount.said()
+    again = store_mount(folder)
+    assert (again.point / "kept").read_text() == "kept"
+    assert set(os.listdir(again.point)) <= {"kept", "lost"}
+    end_well(again)
+
+
+def fill_disk(folder: Path, disk: Path) -> None:
+    mount, kept = Mount(folder, "--store", disk / "store"), []
+    for i in range(400):
+        try:
+            with (mount.point / f"file{i}").open("wb") as file:
+                file.write(bytes([i % 251]) * 200000)
+                file.flush()
+                os.fsync(file.fileno())
+            kept.append(i)
+        except OSError as fault:
+            assert fault.errno in (errno.EIO, errno.ENOSPC), fault
+    assert 30 < len(kept) < 200, len(kept)
+    for i in kept:
+        assert (mount.point / f"file{i}").read_bytes() == bytes([i % 251]) * 200000
+    assert mount.end() == 1 and "may be lost" in mount.said()
+    again = Mount(folder, "--store", disk / "store")
+    assert again.stands, again.said()
+    for i in kept:
+        assert (again.point / f"file{i}").read_bytes() == bytes([i % 251]) * 200000
+    again.end()
+
+
+@case
+def a_full_disk_is_told_and_keeps_what_was_synced(folder: Path):
+    on_small_disk(folder, lambda disk: fill_disk(folder, disk))
+
+
+@case
+def a_disk_that_has_room_again_is_used_again(folder: Path):
+    def work(disk: Path) -> None:
+        (disk / "other").write_bytes(bytes(24 << 20))
+        mount = Mount(folder, "--store", disk / "store")
+        refused(errno.EIO, lambda: [(mount.point / f"file{i}").write_bytes(bytes([i]) * 500000) and sync(mount.point)
+                                    for i in range(100)])
+        names = set(os.listdir(mount.point))
+        (disk / "other").unlink()
+        write_when_it_may(mount.point / "later")
+        sync(mount.point)
+        kill(mount)
+        again = Mount(folder, "--store", disk / "store")
+        assert set(os.listdir(again.point)) == names | {"later"}
+        end_well(again)
+
+    on_small_disk(folder, work)
+
+
+def take_all_room(file: Path) -> None:
+    with file.open("wb", buffering=0) as out:
+        for size in (1 << 20, 4096):
+            try:
+                while True:
+                    out.write(bytes(size))
+            except OSError as fault:
+                assert fault.errno == errno.ENOSPC, fault
+
+
+@case
+def a_disk_that_is_full_at_the_end_is_told(folder: Path):
+    def work(disk: Path) -> None:
+        mount = Mount(folder, "--store", disk / "store")
+        (mount.point / "kept").write_text("kept")
+        end_well(mount)
+        mount = Mount(folder, "--store", disk / "store")
+        take_all_room(disk / "other")
+        (mount.point / "lost").write_bytes(os.urandom(500_000))
+        assert mount.end() == 1 and "may be lost" in mount.said(), mount.said()
+        (disk / "other").unlink()
+        again = Mount(folder, "--store", disk / "store")
+        assert (again.point / "kept").read_text() == "kept" and set(os.listdir(again.point)) <= {"kept", "lost"}
+        end_well(again)
+
+    on_small_disk(folder, work)
+
+
+run_cases()
