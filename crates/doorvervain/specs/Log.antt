@@ -26,8 +26,8 @@ ended (Some s) = Err s
 abbrev pub stopped_told : ℕ → ℕ → Result (Unit {0}) Stopped
 stopped_told number done = ended (stopped_of (told number) done)
 
--- a log was replayed; or its numbers would pass 2^64 (EINVAL), and nothing was done
+-- a log was replayed; or its numbers would pass 2^64 (EINVAL), nothing was done, and nothing is counted
 abbrev pub ReplaysTold : ℕ → List ℕ → ℕ → ℕ → ℕ → ℕ → PVolume → PVolume → Type 0
 ReplaysTold n log number records done size old new =
     Replays n log (record { records = records; size = size; stopped = stopped_of (told number) done }) old new
-    ⊎ ((2 ^ 64 ≤ n + length log) × (told number ≡ Err EINVAL) × (new ≡ old))
+    ⊎ ((2 ^ 64 ≤ n + length log) × (told number ≡ Err EINVAL) × (records ≡ 0) × (done ≡ 0) × (size ≡ 0) × (new ≡ old))

@@ -1,6 +1,6 @@
 //! Exports of logs: the changes and records of a log take no volume, and a log is run on one. A refusal gives 0 as each other result,
 //! where nothing else is said.
-ghost use Rattle.std.specs.Prelude.{◌≡◌, ◌↔◌, ◌++◌, IfErr, length};
+ghost use Rattle.std.specs.Prelude.{◌≡◌, ◌↔◌, ◌++◌, IfErr, IfOk, length};
 ghost use Rattle.pathkey.specs.SnapNames.{snap_parsed};
 ghost use Rattle.pathkey.specs.Texts.{parsed};
 ghost use Rattle.pathkey.specs.declared.errno.Errno.TheVariants.{ENOMEM};
@@ -317,6 +317,7 @@ pub extern "C" fn doorvervain_raw_log_run(
     done: &mut usize,
 ) -> u8
     ensures run { RunsBody body.now (stopped_told result done.new) fs.old.volume fs.new.volume }
+    ensures all { IfOk (told result) (λ _. done.new ≡ 0) }
     ensures number { IsNumber result }
 {
     match run_body(alloc, fs.volume(), body) {
@@ -326,8 +327,8 @@ pub extern "C" fn doorvervain_raw_log_run(
 }
 
 /// Does the changes of a log's records, of which the first has this number, as far as they count: `records` tells how many were done, and `size`
-/// how many bytes they take. Where a change was refused, `done` tells how many of its record were done. EINVAL, with nothing
-/// done, where the number is so great that the log's would pass 2^64.
+/// how many bytes they take. Where a change was refused, `done` tells how many of its record were done, and else it is 0. EINVAL, with
+/// nothing done and each of these 0, where the number is so great that the log's would pass 2^64.
 #[unsafe(no_mangle)]
 pub extern "C" fn doorvervain_raw_log_replay(
     alloc: Global,
@@ -339,6 +340,7 @@ pub extern "C" fn doorvervain_raw_log_replay(
     size: &mut usize,
 ) -> u8
     ensures replayed { ReplaysTold number log.now result records.new done.new size.new fs.old.volume fs.new.volume }
+    ensures all { IfOk (told result) (λ _. done.new ≡ 0) }
     ensures number { IsNumber result }
 {
     if number > u64::MAX - log.len() as u64 {
@@ -356,6 +358,7 @@ pub extern "C" fn doorvervain_raw_log_replay(
 // The number of a run, and how many changes were done before the one that was refused.
 fn tell(stopped: Option<Stopped>, done: &mut usize) -> u8
     ensures told { stopped_of (told result) done.new ≡ stopped }
+    ensures all { IfOk (told result) (λ _. done.new ≡ 0) }
     ensures number { IsNumber result }
 {
     match stopped {
