@@ -6,7 +6,7 @@ use Rattle.node.proofs.node.Node.TheLaws.TheKnot.{both_send-Node, both_sync-Node
 use Rattle.pathkey.proofs.key.Key.TheSendSync as keys
 use Rattle.std.proofs.collections.BTreeMap.TheSendSync as maps
 use Rattle.pathkey.proofs.snap_name.SnapName.TheSendSync as names
-use Rattle.message.proofs.pending.Pending.TheSendSync as pendings
+use Rattle.pending.proofs.pending.Pending.TheSendSync as pendings
 use Rattle.meta_index.proofs.update.MetaUpdate.TheSendSync as meta_updates
 use Rattle.reference.proofs.reply.Meta.TheSendSync as metas_cross
 use Rattle.block_index.proofs.update.BlockUpdate.TheSendSync as block_updates

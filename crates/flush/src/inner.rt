@@ -15,12 +15,13 @@ ghost use Rattle.node.specs.declared.step.StepKind.TheVariants.{FlushInner};
 ghost use Rattle.node.specs.declared.step.StepReply.TheVariants.{Did};
 ghost use Rattle.flush.specs.Sunk.{Moved, MovedInto, Sunk, left, spare};
 
-use message::{Msg, Pending, Update};
+use message::{Msg, Update};
 use node::append::append_copies;
 use node::count::{held, pieces_in, pieces_of_oldest};
 use node::search::holder;
 use node::{Body, Change, Node, Place, Shape, Slot, StepReply, Tree};
 use pathkey::{Key, NoMemory};
+use pending::Pending;
 use std::alloc::Global;
 use std::sync::Arc;
 

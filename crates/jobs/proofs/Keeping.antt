@@ -2,7 +2,7 @@
 use Rattle.std.proofs.Common.{◌≡◌, ℕ, ◌+◌, ◌<◌, List, [], ◌∷◌, refl, ap, sym, ◌∙◌, subst, arith, Option, Some}
 use Rattle.std.specs.Prelude.{OnOk, OnErr, Result, Ok, Err}
 use Rattle.message.specs.declared.msg.Msg.{Msg}
-use Rattle.message.proofs.MovingRanges.{either_way}
+use Rattle.message.proofs.Results.{either_way}
 use Rattle.node.specs.Pure.{PNode, PTree}
 use Rattle.node.specs.Appended.{Appended}
 use Rattle.node.specs.Grafts.{KeepsLists, Grafted, AtRootSlot, CanReplace}

@@ -1,6 +1,7 @@
 //! Messages on numbers, at keys of one byte, beside the same messages told in plain numbers.
-use message::{Msg, Pending, cut, touches};
+use message::{Msg, cut, touches};
 use pathkey::{Key, KeyRange, NoMemory};
+use pending::Pending;
 use samples::{Digit, Holds, Plain, all_hold, are, batch, key, range, waits};
 use std::alloc::Global;
 

@@ -1,8 +1,9 @@
 //! Lists that share their messages. The updates here refuse to be copied, so what succeeds copies none.
 ghost use Rattle.std.specs.Prelude.{Some};
 
-use message::{Changes, Msg, Pending, Update};
+use message::{Changes, Msg, Update};
 use pathkey::{Key, NoMemory};
+use pending::Pending;
 use samples::{key, range};
 use std::alloc::Global;
 

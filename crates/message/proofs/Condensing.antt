@@ -5,8 +5,7 @@ use Rattle.message.specs.declared.told.Told.{Told}
 use Rattle.message.specs.declared.told.Told.TheVariants.{Nothing, Value, Change}
 use Rattle.message.specs.Effects.{touches, any_touches, effects, Takes}
 use Rattle.message.specs.Told.{IsTold}
-use Rattle.message.proofs.Lists.{effects-append, any_touches-append, takes-append}
-use Rattle.message.proofs.Telling.{untouched}
+use Rattle.message.proofs.Lists.{effects-append, any_touches-append, takes-append, untouched}
 use Rattle.message.proofs.Composing.{untouched_first, untouched_second}
 
 module _ {U V : Type 0} (means : U → Option V → Option V) where

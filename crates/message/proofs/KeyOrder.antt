@@ -11,6 +11,11 @@ use Rattle.pathkey.specs.Keys.{is_below}
 use Rattle.pathkey.proofs.OrderFacts.{tied, equal, same_true, same_false, apart}
 use Rattle.message.specs.Ranges.{reaches, before, within, later_key, earlier_end}
 
+-- one of two ways
+pub split_bool : {P : Type 0} (b : Bool) → (b ≡ true → P) → (b ≡ false → P) → P
+split_bool true f g = f refl
+split_bool false f g = g refl
+
 -- ---- two keys compared both ways
 
 -- what stands before stands at or before

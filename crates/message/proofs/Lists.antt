@@ -1,12 +1,13 @@
 -- Lists of messages end to end.
-use Rattle.std.proofs.Common.{ℕ, ◌+◌, ◌<◌, ◌≡◌, refl, sym, ap, ◌∙◌, List, [], ◌∷◌, ◌++◌, length, take, get_or, false, ◌||◌, Option, Some, arith, subst, length-append}
+use Rattle.std.proofs.Common.{ℕ, ◌+◌, ◌<◌, ◌≡◌, refl, sym, ap, ◌∙◌, List, [], ◌∷◌, ◌++◌, length, take, get_or, false, ◌||◌, Option, Some, arith, subst, length-append, cond}
 use Rattle.std.proofs.lemmas.Bool.{or_parts, or_from}
 use Rattle.std.proofs.lemmas.List.{take_more}
 use Rattle.std.specs.List.{list_any}
 use Rattle.message.specs.declared.msg.Msg.{Msg}
+use Rattle.message.specs.declared.msg.Msg.TheVariants.{Put as PutMsg, Del as DelMsg, DelRange, Edit as EditMsg}
 use Rattle.message.specs.Cuts.{cut_to, LieIn}
 use Rattle.message.specs.PointKeys.{clears, is_cleared}
-use Rattle.message.specs.Effects.{touches, any_touches, effect, effects, Takes}
+use Rattle.message.specs.Effects.{touches, any_touches, made_of, effect, effects, range_count, Takes}
 
 module _ {U V : Type 0} where
   -- what neither of two lists touches, both end to end do not touch
@@ -14,7 +15,20 @@ module _ {U V : Type 0} where
   any_touches-append [] ys k h g = g
   any_touches-append (x ∷ xs) ys k h g = (let p = or_parts (touches x k) (any_touches xs k) h in or_from (touches x k) (any_touches (xs ++ ys) k) p.0 (any_touches-append xs ys k p.1 g))
 
+  -- how many range-deletes there are in two lists end to end
+  pub count_append : (xs ys : List (Msg U V)) → range_count (xs ++ ys) ≡ range_count xs + range_count ys
+  count_append [] ys = omega (arith)
+  count_append (PutMsg q v ∷ xs) ys = count_append xs ys
+  count_append (DelMsg q ∷ xs) ys = count_append xs ys
+  count_append (DelRange r ∷ xs) ys = omega (arith, count_append xs ys)
+  count_append (EditMsg q u ∷ xs) ys = count_append xs ys
+
 module _ {U V : Type 0} (means : U → Option V → Option V) where
+  -- messages none of which touches a key leave its value as it is
+  pub untouched : (ms : List (Msg U V)) (k : List ℕ) (o : Option V) → any_touches ms k ≡ false → effects means ms k o ≡ o
+  untouched [] k o h = refl
+  untouched (m ∷ ms) k o h = (let p = or_parts (touches m k) (any_touches ms k) h in ap (λ c. effects means ms k (cond c (made_of means m o) o)) p.0 ∙ untouched ms k o p.1)
+
   -- two lists end to end mean the first and then the second
   pub effects-append : (xs ys : List (Msg U V)) (k : List ℕ) (o : Option V) → effects means (xs ++ ys) k o ≡ effects means ys k (effects means xs k o)
   effects-append [] ys k o = refl

@@ -1,33 +1,19 @@
 -- Keys with messages for them alone, and the range-deletes around them.
 use Rattle.std.proofs.Common.{◌≡◌, ℕ, suc, ◌+◌, ◌<◌, ◌≤◌, ◌⊎◌, inl, inr, ⊎_elim, Bool, true, false, List, [], ◌∷◌, ◌++◌, length, take, get_or, refl, ap, sym, ◌∙◌, subst, Option, Some, None, cond, arith, ◌||◌}
 use Rattle.std.specs.Prelude.{All, Contains, IfSome}
-use Rattle.std.specs.Prelude.{◌&&◌}
-use Rattle.std.specs.List.{AllByRecursion}
-use Rattle.std.specs.Map.{keys_of}
-use Rattle.std.specs.Ordering.{is_lt}
-use Rattle.std.specs.declared.cmp.Ordering.TheVariants.{Less}
-use Rattle.std.proofs.lemmas.Map.Keys.{sorted_head, sorted_tail}
-use Rattle.pathkey.specs.Order.{by_bytes}
 use Rattle.std.proofs.lemmas.Bool.{or_parts, or_from, or_left, or_right}
 use Rattle.std.proofs.lemmas.List.{take_more, take_all}
 use Rattle.std.proofs.lemmas.List.Elements.{Contains-append_left, Contains-append_right}
-use Rattle.pathkey.specs.Order.{same}
 use Rattle.pathkey.specs.Keys.{is_below, next_key}
 use Rattle.pathkey.proofs.OrderFacts.{same_itself}
 use Rattle.message.specs.declared.msg.Msg.{Msg}
 use Rattle.message.specs.declared.msg.Msg.TheVariants as msg
-use Rattle.message.specs.declared.run.Run.{Run}
-use Rattle.message.specs.declared.run.Run.TheVariants.{Put, Del, Edit, Edits}
-use Rattle.message.specs.Effects.{touches, any_touches, effect, effects, point}
+use Rattle.message.specs.Effects.{touches, effect, effects, point}
 use Rattle.message.specs.Ranges.{reaches, before, within}
-use Rattle.message.specs.Runs.{run_msgs, later_msgs}
-use Rattle.message.specs.Rows.{Rises}
-use Rattle.message.specs.Settled.{Span, covered, first_from, range_msgs, point_msgs, settled_msgs}
 use Rattle.message.specs.Stretches.{is_for, is_key, ends_of, all_ends, IsStretch}
 use Rattle.message.specs.PointKeys.{point_stop, has_point, clears, is_cleared, IsPointStop, IsNextPoint, IsClearStretch}
-use Rattle.message.proofs.KeyOrder.{both, lt_le, reaches-refl, reaches-from_before, reaches-from_not_before, not_before_from_reaches, unlike_later, below_next, begins_before_end}
+use Rattle.message.proofs.KeyOrder.{both, reaches-refl, reaches-from_not_before, not_before_from_reaches, unlike_later, below_next, begins_before_end}
 use Rattle.message.proofs.NextKey.{by_bool, in_range}
-use Rattle.message.proofs.SettledMeaning.{touches-ranges}
 use Rattle.message.proofs.SortedStretches.{outside_key}
 use Rattle.message.proofs.StretchEnds.{weaker, all_ends-append, next_is_end}
 
@@ -39,28 +25,6 @@ pub or_none : (b : Bool) → (b || false) ≡ b
 or_none true = refl
 or_none false = refl
 
--- ---- parts of a sorted list
-
-pub pointless-ranges : (U V : Type 0) (rs : List Span) (k : List ℕ) → has_point {U = U} {V = V} (range_msgs rs) k ≡ false
-pointless-ranges U V [] k = refl
-pointless-ranges U V (r ∷ rs) k = pointless-ranges U V rs k
-
-cleared-ranges : (U V : Type 0) (rs : List Span) (k : List ℕ) → is_cleared {U = U} {V = V} (range_msgs rs) k ≡ covered rs k
-cleared-ranges U V [] k = refl
-cleared-ranges U V (r ∷ rs) k = ap (λ b. within r.0 r.1 k || b) (cleared-ranges U V rs k)
-
-later_clears : {U : Type 0} (V : Type 0) (q : List ℕ) (us : List (List ℕ × U)) (k : List ℕ) → is_cleared {U = U} {V = V} (later_msgs q us) k ≡ false
-later_clears V q [] k = refl
-later_clears V q (u ∷ us) k = later_clears V q us k
-
-again : (a b : Bool) → (a || b) ≡ a → (a || (a || b)) ≡ a
-again true b h = refl
-again false b h = h
-
-later_points : {U : Type 0} (V : Type 0) (q : List ℕ) (us : List (List ℕ × U)) (k : List ℕ) → (same q k || has_point {U = U} {V = V} (later_msgs q us) k) ≡ same q k
-later_points V q [] k = or_none (same q k)
-later_points {U} V q (u ∷ us) k = again (same q k) (has_point {U = U} {V = V} (later_msgs q us) k) (later_points V q us k)
-
 -- ---- what is told of a key
 
 module _ {U V : Type 0} where
@@ -71,42 +35,6 @@ module _ {U V : Type 0} where
   pub is_cleared-append : (xs ys : List (Msg U V)) (k : List ℕ) → is_cleared (xs ++ ys) k ≡ (is_cleared xs k || is_cleared ys k)
   is_cleared-append [] ys k = refl
   is_cleared-append (x ∷ xs) ys k = ap (λ b. clears x k || b) (is_cleared-append xs ys k) ∙ or_assoc (clears x k) (is_cleared xs k) (is_cleared ys k)
-
-  -- ---- the parts of a sorted list
-
-  run_clears : (q : List ℕ) (r : Run U V) (k : List ℕ) → is_cleared (run_msgs q r) k ≡ false
-  run_clears q (Put v) k = refl
-  run_clears q Del k = refl
-  run_clears q (Edit u) k = refl
-  run_clears q (Edits s) k = later_clears V q s.value.more.items k
-
-  pub points_clear : (es : List (List ℕ × Run U V)) (k : List ℕ) → is_cleared (point_msgs es) k ≡ false
-  points_clear [] k = refl
-  points_clear (e ∷ es) k = is_cleared-append (run_msgs e.0 e.1) (point_msgs es) k ∙ or_from (is_cleared (run_msgs e.0 e.1) k) (is_cleared (point_msgs es) k) (run_clears e.0 e.1 k) (points_clear es k)
-
-  -- the range-deletes of a sorted list are all that clears
-  pub settled_clears : (rs : List Span) (es : List (List ℕ × Run U V)) (k : List ℕ) → is_cleared (settled_msgs rs es) k ≡ covered rs k
-  settled_clears rs es k = is_cleared-append (range_msgs rs) (point_msgs es) k ∙ ap (λ b. is_cleared (range_msgs {U = U} {V = V} rs) k || b) (points_clear es k) ∙ or_none (is_cleared (range_msgs {U = U} {V = V} rs) k) ∙ cleared-ranges U V rs k
-
-  -- a run's messages are for its key
-  pub run_points : (q : List ℕ) (r : Run U V) (k : List ℕ) → has_point (run_msgs q r) k ≡ same q k
-  run_points q (Put v) k = or_none (same q k)
-  run_points q Del k = or_none (same q k)
-  run_points q (Edit u) k = or_none (same q k)
-  run_points q (Edits s) k = later_points V q s.value.more.items k
-
--- ---- where the next key with a message stands
-
-below_end : (k q : List ℕ) (end : Option (List ℕ)) → is_below k end ≡ true → is_below q end ≡ false → before k q ≡ true
-below_end k q None u n = absurd (cc)
-below_end k q (Some h) u n = lt_le k h q u (reaches-from_not_before q h n)
-
--- a key up to the stop stands before the key that makes it
-before_stop : (from q k : List ℕ) (end : Option (List ℕ)) → reaches from q ≡ true → within from (point_stop (Some q) from end) k ≡ true → before k q ≡ true
-before_stop from q k end r w = (elim (within from end q) as (λ c. within from end q ≡ c → within from (cond c (Some q) end) k ≡ true → before k q ≡ true) [
-  | true ↦ λ e h. (both (reaches from k) (before k q) h).1
-  | false ↦ λ e h. below_end k q end (both (reaches from k) (is_below k end) h).1 (sym (ap (λ c. c && is_below q end) r) ∙ e)
-]) refl w
 
 module _ {U V : Type 0} where
   -- no message
@@ -158,45 +86,6 @@ module _ {U V : Type 0} where
   pub stop_all : (ms : List (Msg U V)) (i : ℕ) (from : List ℕ) (end stop : Option (List ℕ)) → length ms ≤ i → IsPointStop (take i ms) from end stop → IsPointStop ms from end stop
   stop_all ms i from end stop h x = subst (λ (xs : List (Msg U V)). IsPointStop xs from end stop) (take_all i ms h) x
 
-  -- ---- in a sorted list
-
-  touched_alike : (ms : List (Msg U V)) (k from : List ℕ) → All (λ m. touches m k ≡ touches m from) ms → any_touches ms k ≡ any_touches ms from
-  touched_alike [] k from a = refl
-  touched_alike (m ∷ ms) k from a = (λ i. a 0 m (omega arith) i || touched_alike ms k from (λ j d l. a (suc j) d (omega (arith, l))) i)
-
-  -- messages of later keys alone
-  none_ahead : (k x : List ℕ) (es : List (List ℕ × Run U V)) → before k x ≡ true → AllByRecursion (λ y. by_bytes x y ≡ Less) (keys_of es) → has_point (point_msgs es) k ≡ false
-  none_ahead k x [] b a = refl
-  none_ahead k x (e ∷ es) b a =
-      let later : before k e.0 ≡ true = lt_le k x e.0 b (reaches-from_before x e.0 (ap is_lt a.0)) in
-      has_point-append (run_msgs e.0 e.1) (point_msgs es) k ∙ or_from (has_point (run_msgs e.0 e.1) k) (has_point (point_msgs es) k) (run_points e.0 e.1 k ∙ unlike_later e.0 k later) (none_ahead k x es b a.1)
-
-  -- the stop is the first key from the first on
-  points_stop : (from : List ℕ) (end : Option (List ℕ)) (es : List (List ℕ × Run U V)) → Rises es → IsPointStop (point_msgs es) from end (point_stop (first_from from es) from end)
-  points_stop from end [] r = stop_none from end
-  points_stop from end (e ∷ es) r =
-      let here : IsPointStop (run_msgs e.0 e.1) from end (point_stop (Some e.0) from end) = stop_one (run_msgs e.0 e.1) (Some e.0) from end (λ k. run_points e.0 e.1 k) in
-      by_bool (reaches from e.0) (IsPointStop (point_msgs (e ∷ es)) from end (point_stop (first_from from (e ∷ es)) from end))
-      (λ t.
-      let stop = point_stop (Some e.0) from end in
-      let is : point_stop (first_from from (e ∷ es)) from end ≡ stop = ap (λ c. point_stop (cond c (Some e.0) (first_from from es)) from end) t in
-      let rest : IsPointStop (point_msgs es) from stop stop = record {
-        none = λ k h. none_ahead k e.0 es (before_stop from e.0 k end t h) (sorted_head by_bytes e.0 (keys_of es) r);
-        inside = λ k h. h;
-        one = inl refl;
-      } in
-      subst (IsPointStop (point_msgs (e ∷ es)) from end) (sym is) (stop_then (run_msgs e.0 e.1) (point_msgs es) from end stop stop here rest))
-      (λ t.
-      let stop = point_stop (first_from from es) from end in
-      let is : point_stop (first_from from (e ∷ es)) from end ≡ stop = ap (λ c. point_stop (cond c (Some e.0) (first_from from es)) from end) t in
-      let out : point_stop (Some e.0) from end ≡ end = ap (λ c. cond (c && is_below e.0 end) (Some e.0) end) t in
-      let skips : IsPointStop (run_msgs e.0 e.1) from end end = subst (IsPointStop (run_msgs e.0 e.1) from end) out here in
-      subst (IsPointStop (point_msgs (e ∷ es)) from end) (sym is) (stop_then (run_msgs e.0 e.1) (point_msgs es) from end end stop skips (points_stop from end es (sorted_tail by_bytes e.0 (keys_of es) r))))
-
-  pub settled_stop : (rs : List Span) (es : List (List ℕ × Run U V)) (from : List ℕ) (end stop : Option (List ℕ)) → Rises es → stop ≡ point_stop (first_from from es) from end → IsPointStop (settled_msgs rs es) from end stop
-  settled_stop rs es from end stop r is =
-      subst (IsPointStop (settled_msgs rs es) from end) (sym is) (stop_then (range_msgs rs) (point_msgs es) from end end (point_stop (first_from from es) from end) (stop_one (range_msgs rs) None from end (λ k. pointless-ranges U V rs k)) (points_stop from end es r))
-
   -- ---- the next key
 
   pub next_some : (ms : List (Msg U V)) (from : List ℕ) (end stop : Option (List ℕ)) (q : List ℕ) → IsPointStop ms from end stop → stop ≡ Some q → is_below q end ≡ true → IsNextPoint ms from end (Some q)
@@ -223,29 +112,6 @@ module _ {U V : Type 0} where
 
   ends_before : (xs ys : List (Msg U V)) (end stop : Option (List ℕ)) → IfSome stop (λ d. (end ≡ Some d) ⊎ Contains (all_ends xs) d) → IfSome stop (λ d. (end ≡ Some d) ⊎ Contains (all_ends (xs ++ ys)) d)
   ends_before xs ys end stop h = weaker (λ d. (end ≡ Some d) ⊎ Contains (all_ends xs) d) (λ d. (end ≡ Some d) ⊎ Contains (all_ends (xs ++ ys)) d) stop (λ d t. ⊎_elim (λ (e : end ≡ Some d). inl e) (λ (c : Contains (all_ends xs) d). inr (subst (λ zs. Contains zs d) (sym (all_ends-append xs ys)) (Contains-append_left (all_ends xs) (all_ends ys) d c))) t) h
-
-  ends_behind : (xs ys : List (Msg U V)) (end stop : Option (List ℕ)) → IfSome stop (λ d. (end ≡ Some d) ⊎ Contains (all_ends ys) d) → IfSome stop (λ d. (end ≡ Some d) ⊎ Contains (all_ends (xs ++ ys)) d)
-  ends_behind xs ys end stop h = weaker (λ d. (end ≡ Some d) ⊎ Contains (all_ends ys) d) (λ d. (end ≡ Some d) ⊎ Contains (all_ends (xs ++ ys)) d) stop (λ d t. ⊎_elim (λ (e : end ≡ Some d). inl e) (λ (c : Contains (all_ends ys) d). inr (subst (λ zs. Contains zs d) (sym (all_ends-append xs ys)) (Contains-append_right (all_ends xs) (all_ends ys) d c))) t) h
-
-  pub settled_stretch : (rs : List Span) (es : List (List ℕ × Run U V)) (from : List ℕ) (end stop : Option (List ℕ)) → IsStretch (range_msgs {U = U} {V = V} rs) from end stop → IsClearStretch (settled_msgs rs es) from end stop
-  settled_stretch rs es from end stop s = record {
-    alike = λ k h. settled_clears rs es k ∙ sym (touches-ranges U V rs k) ∙ touched_alike (range_msgs rs) k from (s.alike k h) ∙ touches-ranges U V rs from ∙ sym (settled_clears rs es from);
-    after = s.after;
-    inside = s.inside;
-    an_end = ends_before (range_msgs rs) (point_msgs es) end stop s.an_end;
-  }
-
-  -- messages for one key in front
-  pub front_stretch : (xs ms : List (Msg U V)) (from : List ℕ) (end stop : Option (List ℕ)) → ((k : List ℕ) → is_cleared xs k ≡ false) → IsClearStretch ms from end stop → IsClearStretch (xs ++ ms) from end stop
-  front_stretch xs ms from end stop n s = record {
-    alike = λ k h. front_clears xs ms k n ∙ s.alike k h ∙ sym (front_clears xs ms from n);
-    after = s.after;
-    inside = s.inside;
-    an_end = ends_behind xs ms end stop s.an_end;
-  }
-    where
-      front_clears : (xs ms : List (Msg U V)) (k : List ℕ) → ((k : List ℕ) → is_cleared xs k ≡ false) → is_cleared (xs ++ ms) k ≡ is_cleared ms k
-      front_clears xs ms k n = is_cleared-append xs ms k ∙ ap (λ b. b || is_cleared ms k) (n k)
 
   -- and others behind
   pub tail_stretch : (xs ys : List (Msg U V)) (from : List ℕ) (end a b : Option (List ℕ)) → IsClearStretch xs from end a → IsStretch ys from a b → IsClearStretch (xs ++ ys) from end b

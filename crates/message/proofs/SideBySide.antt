@@ -2,9 +2,6 @@
 use Rattle.std.proofs.Common.{◌≡◌, ℕ, Bool, true, false, List, [], ◌∷◌, ◌++◌, refl, ap, sym, ◌∙◌, subst, Option, Some, None, cond, arith, append-nil, length-append}
 use Rattle.std.specs.Prelude.{◌&&◌, ◌||◌}
 use Rattle.std.specs.Option.{option_to_list}
-use Rattle.std.specs.Ordering.{is_lt, is_ge}
-use Rattle.std.specs.declared.cmp.Ordering.{Ordering}
-use Rattle.std.specs.declared.cmp.Ordering.TheVariants.{Less, Equal, Greater}
 use Rattle.pathkey.specs.Order.{same}
 use Rattle.pathkey.specs.Keys.{is_below}
 use Rattle.pathkey.specs.declared.range.KeyRange.{KeyRange}
@@ -16,13 +13,11 @@ use Rattle.message.specs.Ranges.{within, reaches, before, later_key, earlier_end
 use Rattle.message.proofs.Condensing.{touches_append, takes_folded}
 use Rattle.message.proofs.CutFacts.{cut_outside, effects-pieces}
 use Rattle.message.proofs.Cutting.{cut_twice}
-use Rattle.message.proofs.CuttingRanges.{later_start}
-use Rattle.message.proofs.KeyOrder.{both, from_start, reaches-refl, reaches-later, reaches-from_not_before, not_before_from_reaches, not_reaches_from_before, within-cut, cut_within, empty_by, apart_by}
-use Rattle.message.proofs.Lists.{any_touches-append}
+use Rattle.message.proofs.RangeEnds.{later_start}
+use Rattle.message.proofs.KeyOrder.{both, from_start, reaches-refl, reaches-later, reaches-from_not_before, not_before_from_reaches, not_reaches_from_before, within-cut, cut_within, empty_by, apart_by, split_bool}
+use Rattle.message.proofs.Lists.{any_touches-append, untouched}
 use Rattle.message.proofs.Parting.{pieces-append, pieces-in, pieces-out, second_false}
 use Rattle.message.proofs.PointKeys.{or_none}
-use Rattle.message.proofs.SettledMeaning.{split_bool}
-use Rattle.message.proofs.Telling.{untouched}
 
 -- ---- keys on the two sides
 
@@ -44,12 +39,6 @@ behind p k n = ap (λ c. c && true) (reaches-from_not_before k p n)
 
 not_in_front : (p k : List ℕ) → before k p ≡ false → within [] (Some p) k ≡ false
 not_in_front p k n = second_false (reaches [] k) (before k p) n
-
--- what is not less
-pub not_lt : (o : Ordering) → is_ge o ≡ true → is_lt o ≡ false
-not_lt Less h = absurd (cc)
-not_lt Equal h = refl
-not_lt Greater h = refl
 
 no_key : (p q : List ℕ) → within p (Some p) q ≡ false
 no_key p q = split_bool (before q p)
@@ -176,14 +165,6 @@ module _ {U V : Type 0} where
   -- messages before the pivot, and behind them those from it on
   pub joined_ends : (p : List ℕ) (xs ys : List (Msg U V)) → LieIn [] (Some p) xs → LieIn p None ys → IsJoined p xs ys (xs ++ ys)
   joined_ends p xs ys a b = subst (λ t. IsJoined p t ys (xs ++ ys)) (append-nil xs) (joined_both p xs [] [] ys xs ys (joined_front p xs a) (joined_back p ys b))
-
-  -- lists of two parts each, the first of which are put end to end
-  pub joined_parts : (p : List ℕ) (e f s t j k xs ys : List (Msg U V)) → e ++ f ≡ xs → s ++ t ≡ ys → LieIn [] (Some p) xs → LieIn p None ys → j ≡ e ++ s → IsJoined p f t k → IsJoined p xs ys (j ++ k)
-  joined_parts p e f s t j k xs ys x y a b h i =
-      let front : LieIn [] (Some p) e = lie_first [] (Some p) e f (subst (λ ms. LieIn [] (Some p) ms) (sym x) a) in
-      let back : LieIn p None s = lie_first p None s t (subst (λ ms. LieIn p None ms) (sym y) b) in
-      let first : IsJoined p e s j = subst (λ ms. IsJoined p e s ms) (sym h) (joined_ends p e s front back) in
-      subst (λ ms. IsJoined p xs ms (j ++ k)) y (subst (λ ms. IsJoined p ms (s ++ t) (j ++ k)) x (joined_both p e f s t j k first i))
 
   -- likewise where the second ones are
   pub joined_tails : (p : List ℕ) (e f s t j k xs ys : List (Msg U V)) → e ++ f ≡ xs → s ++ t ≡ ys → LieIn [] (Some p) xs → LieIn p None ys → IsJoined p e s j → k ≡ f ++ t → IsJoined p xs ys (j ++ k)

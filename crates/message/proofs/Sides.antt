@@ -7,9 +7,8 @@ use Rattle.message.specs.declared.msg.Msg.{Msg}
 use Rattle.message.specs.declared.msg.Msg.TheVariants.{Put, Del, DelRange, Edit}
 use Rattle.message.specs.Cuts.{cut_range, cut_to}
 use Rattle.message.specs.Ranges.{within, before, later_key, earlier_end}
-use Rattle.message.proofs.CuttingRanges.{later_start, later_same}
-use Rattle.message.proofs.KeyOrder.{reaches-later, reaches-from_before, reaches-from_not_before, not_before_from_reaches, begins_before_end, lt_le}
-use Rattle.message.proofs.SettledMeaning.{split_bool}
+use Rattle.message.proofs.RangeEnds.{later_start, later_same, later_pivot}
+use Rattle.message.proofs.KeyOrder.{reaches-later, reaches-from_before, reaches-from_not_before, not_before_from_reaches, begins_before_end, lt_le, split_bool}
 
 -- ---- the earlier of a pivot and an end
 
@@ -29,9 +28,6 @@ below_pivot p lo None b = b
 below_pivot p lo (Some h) b = split_bool (before p h)
     (λ y. subst (λ c. before lo (cond c p h) ≡ true) y b)
     (λ n. lt_le lo h p (subst (λ c. before lo (cond c p h) ≡ true) n b) (reaches-from_not_before p h n))
-
-later_pivot : (p lo : List ℕ) → before lo p ≡ true → later_key p lo ≡ p
-later_pivot p lo b = ap (λ c. cond c lo p) (not_before_from_reaches lo p (reaches-from_before lo p b))
 
 -- ---- a message that has a part on one side only
 

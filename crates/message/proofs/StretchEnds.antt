@@ -1,10 +1,10 @@
 -- Where stretches end.
-use Rattle.std.proofs.Common.{◌≡◌, ℕ, zero, suc, ◌+◌, ◌<◌, ◌≤◌, ◌⊎◌, inl, inr, Bool, true, false, List, [], ◌∷◌, ◌++◌, length, take, get_or, refl, ap, sym, ◌∙◌, subst, Option, Some, None, cond, arith}
+use Rattle.std.proofs.Common.{◌≡◌, ℕ, zero, suc, ◌+◌, ◌<◌, ◌⊎◌, inl, inr, Bool, true, false, List, [], ◌∷◌, ◌++◌, length, take, get_or, refl, ap, sym, ◌∙◌, subst, Option, Some, None, cond, arith}
 use Rattle.std.specs.Option.{option_to_list}
 use Rattle.std.specs.Prelude.{◌&&◌, Contains, IfSome}
 use Rattle.std.proofs.lemmas.Bool.{false_from_ne_true}
-use Rattle.std.proofs.lemmas.List.{append_assoc, take_more, take_all}
-use Rattle.std.proofs.lemmas.List.Elements.{All-nil, All-push, Contains-append_left, Contains-append_right}
+use Rattle.std.proofs.lemmas.List.{append_assoc, take_more}
+use Rattle.std.proofs.lemmas.List.Elements.{All-push, Contains-append_left, Contains-append_right}
 use Rattle.pathkey.specs.Order.{same}
 use Rattle.pathkey.specs.Keys.{is_below, next_key}
 use Rattle.pathkey.specs.declared.range.KeyRange.{KeyRange}
@@ -143,19 +143,6 @@ module _ {U V : Type 0} where
   all_ends-append [] ys = refl
   all_ends-append (x ∷ xs) ys = ap (λ z. ends_of x ++ z) (all_ends-append xs ys) ∙ sym (append_assoc (ends_of x) (all_ends xs) (all_ends ys))
 
-  -- no message
-  pub stretch_start : (ms : List (Msg U V)) (from : List ℕ) (end : Option (List ℕ)) → ms ≡ [] → is_below from end ≡ true → IsStretch ms from end end
-  stretch_start ms from end e h = subst (λ (xs : List (Msg U V)). IsStretch xs from end end) (sym e) (record {
-    alike = λ k w. All-nil (λ (m : Msg U V). touches m k ≡ touches m from);
-    after = h;
-    inside = λ k b. b;
-    an_end = itself end;
-  })
-    where
-      itself : (o : Option (List ℕ)) → IfSome o (λ d. (o ≡ Some d) ⊎ Contains (all_ends {U = U} {V = V} []) d)
-      itself None = tt
-      itself (Some d) = inl refl
-
   -- one message more, which is none for the first key alone
   stretch_push : (ms : List (Msg U V)) (m : Msg U V) (from : List ℕ) (end stop e : Option (List ℕ)) → IsStretch ms from end stop → IsNextEnd from m e → is_for m from ≡ false → IsStretch (ms ++ m ∷ []) from end (earlier_end stop e)
   stretch_push ms m from end stop e x y n = record {
@@ -185,10 +172,6 @@ module _ {U V : Type 0} where
   stretch_more ms i m from end stop e new h at x y n is =
       let one : take (i + 1) ms ≡ take i ms ++ m ∷ [] = take_more ms i m h ∙ ap (λ (z : Msg U V). take i ms ++ z ∷ []) (sym at) in
       subst (λ (xs : List (Msg U V)). IsStretch xs from end new) (sym one) (subst (IsStretch (take i ms ++ m ∷ []) from end) (sym is) (stretch_push (take i ms) m from end stop e x y n))
-
-  -- all messages
-  pub stretch_all : (ms : List (Msg U V)) (i : ℕ) (from : List ℕ) (end stop new : Option (List ℕ)) → length ms ≤ i → IsStretch (take i ms) from end stop → new ≡ stop → IsStretch ms from end new
-  stretch_all ms i from end stop new h x is = subst (IsStretch ms from end) (sym is) (subst (λ (xs : List (Msg U V)). IsStretch xs from end stop) (take_all i ms h) x)
 
   -- the key behind one that a message is for alone is an end
   pub next_is_end : (m : Msg U V) (k : List ℕ) → is_for m k ≡ true → Contains (ends_of m) (next_key k)

@@ -1,15 +1,7 @@
 pub mod Ranges
 pub mod Effects
 pub mod Cuts
-pub mod Runs
-pub mod Settled
 pub mod Oldest
 pub mod Told
 pub mod Stretches
 pub mod PointKeys
-pub mod Search
-pub mod Oldests
-pub mod Eldest
-pub mod Rows
-pub mod Parts
-pub mod Waiting

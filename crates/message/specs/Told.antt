@@ -12,9 +12,3 @@ module _ {U V : Type 0} (means : U → Option V → Option V) where
   IsTold ms k Nothing = (any_touches ms k ≡ false) × ((o : Option V) → effects means ms k o ≡ o)
   IsTold ms k (Value v) = (o : Option V) → effects means ms k o ≡ v
   IsTold ms k Change = ⊤
-
--- what is left of it where more may have been there before
-abbrev pub or_change : {V : Type 0} → Told V → Told V
-or_change Nothing = Change
-or_change (Value v) = Value v
-or_change Change = Change

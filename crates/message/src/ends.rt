@@ -2,7 +2,7 @@
 ghost use Rattle.std.specs.Prelude.{◌≡◌, IfOk};
 ghost use Rattle.std.specs.Option.{option_copied};
 ghost use Rattle.pathkey.specs.Keys.{is_below};
-ghost use Rattle.message.specs.Ranges.{within, later_key, earlier_end};
+ghost use Rattle.message.specs.Ranges.{ends_within, within, later_key, earlier_end};
 
 use pathkey::{Key, NoMemory};
 use std::alloc::Global;
@@ -39,6 +39,17 @@ pub fn copy_end(alloc: Global, end: Option<&Key>) -> Result<Option<Key>, NoMemor
     match end {
         None => Ok(None),
         Some(end) => Ok(Some(end.copy(alloc)?)),
+    }
+}
+
+/// Whether the end stands at or before the end `most`; `None` is no end.
+pub fn ends_by(end: Option<&Key>, most: Option<&Key>) -> bool
+    ensures { result ≡ ends_within (option_copied end.entry) (option_copied most.entry) }
+{
+    match (end, most) {
+        (_, None) => true,
+        (None, Some(_)) => false,
+        (Some(end), Some(most)) => end.cmp(most).is_le(),
     }
 }
 

@@ -1,18 +1,18 @@
-//! Whether a message has a part in a range, and whether it is a range-delete of all of it.
-ghost use Rattle.std.specs.Prelude.{◌≡◌, ◌&&◌, ◌∷◌, [], true, Some, is_some};
+//! Two ranges of keys, each from a key up to and without an end: whether they share a key, and whether one holds the other; and
+//! whether a message has a part in a range.
+ghost use Rattle.std.specs.Prelude.{◌≡◌, ◌&&◌, true, is_some};
 ghost use Rattle.std.specs.Option.{option_copied};
 ghost use Rattle.message.specs.Cuts.{cut_to};
-ghost use Rattle.message.specs.Oldest.{covers_first};
 ghost use Rattle.message.specs.Ranges.{ends_within, reaches, later_key, earlier_end};
 ghost use Rattle.pathkey.specs.Keys.{is_below};
 
-use crate::ends::{earlier, is_before_end, is_within};
+use crate::ends::{earlier, ends_by, is_before_end, is_within};
 use crate::msg::Msg;
 use crate::update::Update;
 use pathkey::Key;
 
 /// Whether a key can lie both from `low` up to and without `high` and from `lo` up to and without `hi`; `None` is no end.
-pub(crate) fn overlaps(low: &Key, high: Option<&Key>, lo: &Key, hi: Option<&Key>) -> bool
+pub fn overlaps(low: &Key, high: Option<&Key>, lo: &Key, hi: Option<&Key>) -> bool
     ensures { result ≡ is_below (later_key lo.now low.now) (earlier_end (option_copied hi.entry) (option_copied high.entry)) }
 {
     let from = if lo.cmp(low).is_lt() { low } else { lo };
@@ -29,18 +29,8 @@ pub fn meets<U: Update>(msg: &Msg<U>, lo: &Key, hi: Option<&Key>) -> bool
     }
 }
 
-/// Whether the message lies whole from `lo` up to and without `hi`; `None` is no end.
-pub(crate) fn lies_in<U: Update>(msg: &Msg<U>, lo: &Key, hi: Option<&Key>) -> bool
-    ensures { result ≡ true → cut_to lo.now (option_copied hi.entry) msg.now ≡ Some msg.now }
-{
-    match msg {
-        Msg::DelRange(range) => holds_part(lo, hi, &range.lo, range.hi.as_ref()),
-        Msg::Put(key, _) | Msg::Del(key) | Msg::Edit(key, _) => is_within(key, lo, hi),
-    }
-}
-
 /// Whether a range has keys and all of them lie from `lo` up to and without `hi`; `None` is no end.
-pub(crate) fn holds_part(lo: &Key, hi: Option<&Key>, low: &Key, high: Option<&Key>) -> bool
+pub fn holds_part(lo: &Key, hi: Option<&Key>, low: &Key, high: Option<&Key>) -> bool
     ensures some { result ≡ true → is_below low.now (option_copied high.entry) ≡ true }
     ensures low { result ≡ true → later_key lo.now low.now ≡ low.now }
     ensures high { result ≡ true → earlier_end (option_copied hi.entry) (option_copied high.entry) ≡ option_copied high.entry }
@@ -48,30 +38,9 @@ pub(crate) fn holds_part(lo: &Key, hi: Option<&Key>, low: &Key, high: Option<&Ke
     is_before_end(low, high) && reaches_over(lo, hi, low, high)
 }
 
-/// Whether the end stands at or before the end `most`; `None` is no end.
-pub(crate) fn ends_by(end: Option<&Key>, most: Option<&Key>) -> bool
-    ensures { result ≡ ends_within (option_copied end.entry) (option_copied most.entry) }
-{
-    match (end, most) {
-        (_, None) => true,
-        (None, Some(_)) => false,
-        (Some(end), Some(most)) => end.cmp(most).is_le(),
-    }
-}
-
 /// Whether every key from `lo` up to and without `hi` lies from `low` up to and without `high`; `None` is no end.
-pub(crate) fn reaches_over(low: &Key, high: Option<&Key>, lo: &Key, hi: Option<&Key>) -> bool
+pub fn reaches_over(low: &Key, high: Option<&Key>, lo: &Key, hi: Option<&Key>) -> bool
     ensures { result ≡ (reaches low.now lo.now && ends_within (option_copied hi.entry) (option_copied high.entry)) }
 {
     low.cmp(lo).is_le() && ends_by(hi, high)
-}
-
-/// Whether the message is a range-delete of every key from `lo` up to and without `hi`; `None` is no end.
-pub fn covers<U: Update>(msg: &Msg<U>, lo: &Key, hi: Option<&Key>) -> bool
-    ensures { result ≡ covers_first lo.now (option_copied hi.entry) (msg.now ∷ []) }
-{
-    let Msg::DelRange(range) = msg else {
-        return false;
-    };
-    reaches_over(&range.lo, range.hi.as_ref(), lo, hi)
 }

@@ -4,7 +4,6 @@ ghost use Rattle.std.specs.Option.{option_copied};
 ghost use Rattle.message.specs.Effects.{touches as is_touched, effect, point as point_of};
 ghost use Rattle.message.specs.Cuts.{cut_range, cut_to, IsCut};
 ghost use Rattle.message.specs.Oldest.{given_at};
-ghost use Rattle.message.specs.PointKeys.{clears};
 ghost use Rattle.message.specs.Ranges.{earlier_end, later_key};
 
 use crate::ends::{earlier_end, is_within, later_key};
@@ -101,7 +100,7 @@ impl<U: Update> Msg<U> {
 }
 
 /// The value after the update, where `old` was there. It is changed in its place where the update can.
-pub(crate) fn edited<U: Update>(
+pub fn edited<U: Update>(
     alloc: Global,
     update: &U,
     old: Option<U::Value>,
@@ -143,16 +142,6 @@ pub fn touches<U: Update>(msg: &Msg<U>, key: &Key) -> bool
         Msg::Put(at, _) | Msg::Del(at) | Msg::Edit(at, _) => at == key,
         Msg::DelRange(range) => range.contains(key),
     }
-}
-
-/// Whether the message is a range-delete that holds the key.
-pub(crate) fn clears<U: Update>(msg: &Msg<U>, key: &Key) -> bool
-    ensures { result ≡ clears msg.now key.now }
-{
-    let Msg::DelRange(range) = msg else {
-        return false;
-    };
-    range.contains(key)
 }
 
 /// The part of the message inside the range: it has the message's effect at each key of the range, and none

@@ -13,7 +13,7 @@ use Rattle.message.specs.Ranges.{within}
 use Rattle.message.specs.Effects.{touches, any_touches, made_of, effects}
 use Rattle.message.proofs.KeyOrder.{from_start}
 use Rattle.message.proofs.Lists.{effects-append}
-use Rattle.message.proofs.MovingRanges.{either_way}
+use Rattle.message.proofs.Results.{either_way}
 use Rattle.node.specs.Lawful.{Rises, TouchOnly}
 use Rattle.node.specs.Meaning.{lookup}
 use Rattle.node.specs.Leaves.{IsChanged, Applied}

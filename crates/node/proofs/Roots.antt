@@ -6,7 +6,7 @@ use Rattle.std.proofs.lemmas.Bool.{leb-true}
 use Rattle.std.proofs.lemmas.Result.{on_ok_weaker}
 use Rattle.message.proofs.KeyOrder.{both}
 use Rattle.message.specs.declared.msg.Msg.{Msg}
-use Rattle.message.proofs.MovingRanges.{either_way}
+use Rattle.message.proofs.Results.{either_way}
 use Rattle.node.specs.declared.shape.Shape.{Shape}
 use Rattle.node.specs.Shapes.{is_between, is_shape}
 use Rattle.node.specs.Pure.{PNode, PTree, empty_root}

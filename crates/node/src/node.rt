@@ -2,8 +2,9 @@
 //!
 //! Contracts see a node as a pure tree (`PNode`): no pointer, no capacity and no sharing stands in it.
 
-use message::{Changes, Pending};
+use message::Changes;
 use pathkey::Key;
+use pending::Pending;
 use std::marker::Model;
 use std::sync::Arc;
 use weight::Weight;

@@ -1,24 +1,61 @@
 -- A sorted list that is cut at a pivot, and lists with a pivot between them.
-use Rattle.std.proofs.Common.{◌≡◌, ℕ, zero, suc, ◌+◌, ◌<◌, ◌≤◌, List, [], ◌∷◌, ◌++◌, length, get_or, refl, sym, ap, ◌∙◌, subst, Option, Some, None, Bool, true, false, cond, arith, append_assoc}
+use Rattle.std.proofs.Common.{◌≡◌, ℕ, zero, suc, ◌+◌, ◌<◌, ◌≤◌, List, [], ◌∷◌, ◌++◌, length, get_or, refl, sym, ap, ◌∙◌, subst, Option, Some, None, Bool, true, false, cond, arith, append_assoc, Ordering}
 use Rattle.std.specs.Prelude.{◌&&◌}
 use Rattle.std.specs.List.{All, AllByRecursion}
+use Rattle.std.specs.List.Sorted.{IsStrictlySortedBy}
+use Rattle.std.specs.Ordering.{is_lt}
+use Rattle.std.specs.declared.cmp.Ordering.TheVariants.{Less, Equal, Greater}
 use Rattle.std.specs.Map.{keys_of}
 use Rattle.std.proofs.lemmas.List.{map-append}
 use Rattle.std.proofs.lemmas.List.Elements.{All-append, All-head, All-tail}
+use Rattle.pathkey.specs.Order.{by_bytes}
 use Rattle.rows.specs.Places.{Rises, AreBefore, AreFrom}
 use Rattle.message.specs.declared.msg.Msg.{Msg}
 use Rattle.message.specs.Cuts.{cut_to, pieces, LieIn, LieOut, IsJoined, IsParted}
 use Rattle.message.specs.Ranges.{within, reaches, before}
 use Rattle.message.proofs.Cutting.{pieces_few}
-use Rattle.message.proofs.Joining.{in_left, in_right, rise_both}
-use Rattle.message.proofs.KeyOrder.{both, from_start, not_reaches_from_before, not_before_from_reaches}
-use Rattle.message.proofs.Parting.{front_part, back_part, in_both, second_false}
+use Rattle.message.proofs.KeyOrder.{both, from_start, lt_le, not_reaches_from_before, not_before_from_reaches}
+use Rattle.message.proofs.Parting.{front_part, back_part, in_both, in_left, in_right, second_false}
 use Rattle.message.proofs.SideBySide.{joined_both, joined_ends}
 use Rattle.points.specs.Changes.{Change, Put, Del, Edit, msg_at, run_msgs}
 use Rattle.points.specs.Points.{point_msgs, point_count, AreRuns}
 use Rattle.ranges.specs.Apart.{Span, range_msgs}
 use Rattle.pending.specs.Sorted.{sorted_msgs}
 use Rattle.pending.proofs.Meaning.{length-ranges, length-sorted}
+
+-- ---- keys before the pivot, and keys from it on
+
+less_from_lt : (o : Ordering) → is_lt o ≡ true → o ≡ Less
+less_from_lt Less h = refl
+less_from_lt Equal h = (cc)
+less_from_lt Greater h = (cc)
+
+weaker : (P Q : List ℕ → Type 0) (ks : List (List ℕ)) → ((k : List ℕ) → P k → Q k) → AllByRecursion P ks → AllByRecursion Q ks
+weaker P Q [] f a = tt
+weaker P Q (k ∷ ks) f a = (f k a.0, weaker P Q ks f a.1)
+
+abbrev Before : List ℕ → List (List ℕ) → Type 0
+Before p ks = AllByRecursion (λ k. before k p ≡ true) ks
+
+abbrev From : List ℕ → List (List ℕ) → Type 0
+From p ks = AllByRecursion (λ k. reaches p k ≡ true) ks
+
+all_both : (P : List ℕ → Type 0) (ks ls : List (List ℕ)) → AllByRecursion P ks → AllByRecursion P ls → AllByRecursion P (ks ++ ls)
+all_both P [] ls a b = b
+all_both P (k ∷ ks) ls a b = (a.0, all_both P ks ls a.1 b)
+
+keys_rise : (p : List ℕ) (ks ls : List (List ℕ)) → Before p ks → From p ls → IsStrictlySortedBy by_bytes ks → IsStrictlySortedBy by_bytes ls → IsStrictlySortedBy by_bytes (ks ++ ls)
+unfolding IsStrictlySortedBy
+keys_rise p [] ls b f r s = s
+keys_rise p (k ∷ ks) ls b f r s =
+    let behind = weaker (λ y. reaches p y ≡ true) (λ y. by_bytes k y ≡ Less) ls (λ y h. less_from_lt (by_bytes k y) (lt_le k p y b.0 h)) f in
+    (all_both (λ y. by_bytes k y ≡ Less) ks ls r.0 behind, keys_rise p ks ls b.1 f r.1 s)
+
+module _ {X : Type 0} where
+  rise_both : (p : List ℕ) (es fs : List (List ℕ × X)) → Before p (keys_of es) → From p (keys_of fs) → Rises es → Rises fs → Rises (es ++ fs)
+  rise_both p es fs b f r s = subst (λ ks. IsStrictlySortedBy by_bytes ks) (sym (map-append (λ (e : List ℕ × X). e.0) es fs)) (keys_rise p (keys_of es) (keys_of fs) b f r s)
+
+-- ---- a list that is cut
 
 all_left : (P : List ℕ → Type 0) (ks ls : List (List ℕ)) → All P (ks ++ ls) → All P ks
 all_left P [] ls a i d h = absurd (omega arith)

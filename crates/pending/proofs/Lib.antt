@@ -4,3 +4,4 @@ pub mod Coming
 pub mod OneKey
 pub mod Stretching
 pub mod Cutting
+pub mod Leaving

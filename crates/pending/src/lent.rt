@@ -10,9 +10,9 @@ ghost use Rattle.points.specs.Changes.{msg_at};
 ghost use Rattle.points.specs.Runs.{lent_change};
 ghost use Rattle.pending.specs.Lent.{lent_msg};
 
-use crate::spans::{holds_part, overlaps, reaches_over};
 use message::ends::{copy_end, is_within};
-use message::{Changes, Msg, Update};
+use message::meets::{holds_part, overlaps, reaches_over};
+use message::{Changes, Msg, Update, edited};
 use pathkey::{Key, KeyRange, NoMemory};
 use std::alloc::Global;
 
@@ -195,23 +195,5 @@ impl<'a, U: Update> Lent<'a, U> {
             })),
             Lent::Edit(key, update) => Ok(Msg::Edit(key.copy(alloc)?, update.copy(alloc)?)),
         }
-    }
-}
-
-/// The value after the update, where `old` was there. It is changed in its place where the update can.
-fn edited<U: Update>(
-    alloc: Global,
-    update: &U,
-    old: Option<U::Value>,
-) -> Result<Option<U::Value>, NoMemory>
-    ensures { IfOk result (λ v. v ≡ U.means update.now old) }
-{
-    let Some(mut value) = old else {
-        return update.apply(alloc, old.as_ref());
-    };
-    if update.change(alloc, &mut value)? {
-        Ok(Some(value))
-    } else {
-        Ok(None)
     }
 }

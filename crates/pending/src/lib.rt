@@ -12,7 +12,7 @@
 //!
 //! `pending` is what callers see. `sorted` is the sorted part, and `lay` what is laid over it. `tail` has messages as they came,
 //! and `list` goes through them; `waiting` is one of them, and `part` a range-delete of which a part is left. `lent` is a message
-//! where it stands, `spans` compares two spans of keys, and `stretch` says where messages begin and end to touch keys.
+//! where it stands, and `stretch` says where messages begin and end to touch keys.
 #![tactic(auto)]
 
 pub(crate) mod lay;
@@ -21,7 +21,6 @@ pub(crate) mod list;
 pub mod part;
 pub mod pending;
 pub mod sorted;
-pub(crate) mod spans;
 pub(crate) mod stretch;
 pub(crate) mod tail;
 pub mod waiting;

@@ -18,10 +18,7 @@ use Rattle.rows.specs.Places.{Rises, at_key}
 use Rattle.points.specs.Changes.{Change, run_effect}
 use Rattle.points.specs.Points.{found_effect, left, point_count, AreRuns, IsLeft, Lays}
 use Rattle.points.proofs.Counting.{point_count-cons}
-
-pub split_bool : {P : Type 0} (b : Bool) → (b ≡ true → P) → (b ≡ false → P) → P
-split_bool true f g = f refl
-split_bool false f g = g refl
+use Rattle.message.proofs.KeyOrder.{split_bool}
 
 same_back : (k q : List ℕ) → same q k ≡ same k q
 same_back k q = by_bytes_equiv.symm q k

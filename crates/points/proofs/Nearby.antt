@@ -10,10 +10,9 @@ use Rattle.std.proofs.lemmas.Map.Keys.{sorted_head, sorted_tail}
 use Rattle.pathkey.specs.Keys.{is_below, is_in}
 use Rattle.pathkey.specs.Order.{by_bytes}
 use Rattle.pathkey.specs.declared.range.KeyRange.{KeyRange}
-use Rattle.message.proofs.KeyOrder.{le_le, le_lt, lt_le, not_before_from_reaches, reaches-from_before, reaches-from_not_before}
+use Rattle.message.proofs.KeyOrder.{le_le, le_lt, lt_le, not_before_from_reaches, reaches-from_before, reaches-from_not_before, split_bool}
 use Rattle.rows.specs.Places.{Rises, before, last_of, place, reaches, AreBefore, AreFrom}
 use Rattle.points.specs.Points.{first_from}
-use Rattle.points.proofs.Laying.{split_bool}
 
 -- the key, if there is one, stands below the end
 abbrev pub next_below : Option (List ℕ) → Option (List ℕ) → Bool

@@ -9,7 +9,7 @@ use Rattle.std.proofs.lemmas.List.Sums.{sum_by-append, sum_by-take-drop}
 use Rattle.points.specs.Changes.{Change, msg_at, run_msgs}
 use Rattle.points.specs.Points.{left, point_count, point_msgs, AreRuns, IsLeft}
 use Rattle.points.proofs.Counting.{point_count-cons}
-use Rattle.points.proofs.Laying.{split_bool}
+use Rattle.message.proofs.KeyOrder.{split_bool}
 
 module _ {X : Type 0} where
   -- a filter that lets the first pass, or not

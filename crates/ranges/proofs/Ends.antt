@@ -17,10 +17,6 @@ use Rattle.ranges.specs.Apart.{Span, covered, ends_before, BeginBehind, AreApart
 
 -- ---- booleans
 
-pub split_bool : {P : Type 0} (b : Bool) → (b ≡ true → P) → (b ≡ false → P) → P
-split_bool true f g = f refl
-split_bool false f g = g refl
-
 pub not_true : (b : Bool) → not b ≡ true → b ≡ false
 not_true true h = absurd (cc)
 not_true false h = refl
@@ -28,10 +24,6 @@ not_true false h = refl
 pub not_false : (b : Bool) → not b ≡ false → b ≡ true
 not_false true h = refl
 not_false false h = absurd (cc)
-
-pub second_false : (a b : Bool) → b ≡ false → (a && b) ≡ false
-second_false true b h = h
-second_false false b h = refl
 
 -- what follows from either outcome
 pub either_way : {T E P Q R : Type 0} (r : Result T E) → OnOk r P → OnErr r Q → (P → R) → (Q → R) → R
@@ -65,11 +57,6 @@ end_passed (Some h) k e = not_before_from_reaches h k e
 pub end_reached : (h : Option (List ℕ)) (k : List ℕ) → is_below k h ≡ false → ends_within h (Some k) ≡ true
 end_reached None k e = absurd (cc)
 end_reached (Some h) k e = reaches-from_not_before k h e
-
-pub below_later : (k : List ℕ) (hi end : Option (List ℕ)) → ends_within hi end ≡ true → is_below k hi ≡ true → is_below k end ≡ true
-below_later k hi None e b = refl
-below_later k None (Some d) e b = absurd (cc)
-below_later k (Some h) (Some d) e b = lt_le k h d b e
 
 less_from_lt : (o : Ordering) → is_lt o ≡ true → o ≡ Less
 less_from_lt Less h = refl

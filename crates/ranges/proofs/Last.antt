@@ -10,11 +10,13 @@ use Rattle.std.specs.Map.{keys_of}
 use Rattle.pathkey.specs.Order.{by_bytes, by_bytes_total}
 use Rattle.pathkey.specs.Keys.{is_below}
 use Rattle.message.specs.Ranges.{reaches, before, within, ends_within}
-use Rattle.message.proofs.KeyOrder.{both, reaches-from_before, reaches-from_not_before, before_from_not_reaches, not_reaches_from_before, le_le}
+use Rattle.message.proofs.KeyOrder.{both, reaches-from_before, reaches-from_not_before, before_from_not_reaches, not_reaches_from_before, le_le, split_bool}
+use Rattle.message.proofs.RangeEnds.{below_later}
+use Rattle.message.proofs.PointKeys.{or_none}
 use Rattle.rows.specs.Places.{Rises, last_of, place, place_past}
 use Rattle.ranges.specs.Apart.{Span, covered, ends_before, BeginBehind, AreApart, CoversMore}
 use Rattle.ranges.specs.Ends.{EndBefore, AreHeld}
-use Rattle.ranges.proofs.Ends.{split_bool, not_true, ends_on, past_end, below_later, apart_rises}
+use Rattle.ranges.proofs.Ends.{not_true, ends_on, past_end, apart_rises}
 
 -- the last range whose low end passes
 abbrev pub last_or : Bool → Span → Option Span → Option Span
@@ -121,10 +123,6 @@ found_covers p (r ∷ rs) x k e =
           (λ y. (let no : None ≡ Some x = sym (ap (λ c. cond c (Some r) None) y) ∙ f in absurd (cc)))
       | Some z ↦ λ s f. (let g = found_covers p rs x k (s ∙ f) in (g.0, λ w. or_right (within r.0 r.1 k) (covered rs k) (g.1 w)))
     ] refl e
-
-or_none : (b : Bool) → (b || false) ≡ b
-or_none true = refl
-or_none false = refl
 
 and_none : (a c : Bool) → ((a && false) || c) ≡ c
 and_none true c = refl

@@ -19,12 +19,13 @@ use Rattle.message.specs.declared.msg.Msg.TheVariants.{DelRange}
 use Rattle.message.specs.Cuts.{cut_range, cut_to, pieces, IsJoined, LieIn, LieOut}
 use Rattle.message.specs.Ranges.{reaches, before, later_key, earlier_end}
 use Rattle.message.specs.Stretches.{is_key}
-use Rattle.message.proofs.KeyOrder.{reaches-refl, reaches-later, reaches-from_before, reaches-from_not_before, not_before_from_reaches, begins_before_end, le_le}
+use Rattle.message.proofs.KeyOrder.{reaches-refl, reaches-later, reaches-from_before, reaches-from_not_before, not_before_from_reaches, begins_before_end, le_le, split_bool}
 use Rattle.message.proofs.Parting.{pieces-in, pieces-out, pieces-append}
+use Rattle.message.proofs.RangeEnds.{later_start, later_same, later_pivot}
 use Rattle.rows.specs.Places.{last_of, AreBefore, AreFrom}
 use Rattle.ranges.specs.Apart.{Span, range_msgs, ends_before, BeginBehind, AreApart}
 use Rattle.ranges.specs.Ends.{AreDivided, AreMeeting, AreWelded, IsOver}
-use Rattle.ranges.proofs.Ends.{split_bool, ends_on, past_end, ahead_of_end, greater_from_before, apart_rises, apart_left, apart_right}
+use Rattle.ranges.proofs.Ends.{ends_on, past_end, ahead_of_end, greater_from_before, apart_rises, apart_left, apart_right}
 use Rattle.ranges.proofs.Last.{last_one, last_rest, last_keys}
 use Rattle.ranges.proofs.Splicing.{AllFrom, behind_past, from_later, insert_first, tie}
 
@@ -43,20 +44,6 @@ all_end p (e ∷ s ∷ rs) a h =
     (past_end e.1 p (ends_on e.1 s.0 p a.1.0 (reaches-from_before s.0 p (ahead_of_end s.1 s.0 p a.2.0 rest.0))), rest)
 
 -- ---- ends at a pivot
-
-later_start : (k : List ℕ) → later_key [] k ≡ k
-later_start [] = refl
-later_start (x ∷ k) = refl
-
-later_same : (p a : List ℕ) → reaches p a ≡ true → later_key p a ≡ a
-later_same p a h = elim (by_bytes p a) as (λ o. by_bytes p a ≡ o → cond (is_lt o) a p ≡ a) [
-  | Less ↦ λ e. refl
-  | Equal ↦ λ e. equal p a e
-  | Greater ↦ λ e. absurd (let no : false ≡ true = sym (ap is_le e) ∙ h in cc)
-] refl
-
-later_pivot : (p a : List ℕ) → before a p ≡ true → later_key p a ≡ p
-later_pivot p a h = ap (λ b. cond b a p) (not_before_from_reaches a p (reaches-from_before a p h))
 
 earlier_own : (p : List ℕ) (h : Option (List ℕ)) → is_below p h ≡ false → earlier_end (Some p) h ≡ h
 earlier_own p None b = absurd (cc)

@@ -17,11 +17,12 @@ use Rattle.pathkey.specs.Keys.{is_below, is_in}
 use Rattle.pathkey.specs.declared.range.KeyRange.{KeyRange}
 use Rattle.pathkey.proofs.OrderFacts.{equal}
 use Rattle.message.specs.Ranges.{reaches, before, within}
-use Rattle.message.proofs.KeyOrder.{both, reaches-from_before, reaches-from_not_before, not_before_from_reaches, not_reaches_from_before, le_le, le_lt}
+use Rattle.message.proofs.KeyOrder.{both, reaches-from_before, reaches-from_not_before, not_before_from_reaches, not_reaches_from_before, le_le, le_lt, split_bool}
+use Rattle.message.proofs.Parting.{second_false}
 use Rattle.rows.specs.Places.{Rises, at_key, place_past}
 use Rattle.ranges.specs.Apart.{Span, covered, ends_before, BeginBehind, AreApart, CoversMore}
 use Rattle.ranges.specs.Ends.{EndBefore, IsFree, Widens, spliced}
-use Rattle.ranges.proofs.Ends.{split_bool, not_true, not_false, second_false, past_on, past_end, ahead_of_end, less_from_before, greater_from_before, apart_rises}
+use Rattle.ranges.proofs.Ends.{not_true, not_false, past_on, past_end, ahead_of_end, less_from_before, greater_from_before, apart_rises}
 
 -- ---- what stays and what goes
 

@@ -15,12 +15,12 @@ use Rattle.message.specs.declared.msg.Msg.TheVariants.{DelRange}
 use Rattle.message.specs.Effects.{touches}
 use Rattle.message.specs.Ranges.{reaches, before, within, earlier_end}
 use Rattle.message.specs.Stretches.{ahead_of, ends_of, all_ends, IsStretch}
-use Rattle.message.proofs.KeyOrder.{both, le_le, lt_le, reaches-from_before, reaches-from_not_before, not_reaches_from_before}
+use Rattle.message.proofs.KeyOrder.{both, le_le, lt_le, reaches-from_before, reaches-from_not_before, not_reaches_from_before, split_bool}
 use Rattle.message.proofs.StretchEnds.{ahead_after, below_alike, below_both, below_earlier, some_earlier, weaker}
 use Rattle.rows.specs.Places.{Rises, place_past}
 use Rattle.ranges.specs.Apart.{Span, range_msgs, AreApart}
 use Rattle.ranges.specs.Ends.{next_begin, next_end}
-use Rattle.ranges.proofs.Ends.{split_bool, not_true, ends_on, past_end, apart_rises}
+use Rattle.ranges.proofs.Ends.{not_true, ends_on, past_end, apart_rises}
 use Rattle.ranges.proofs.Last.{last_or, last_where, by_key, by_key_is, found_begins}
 
 -- the first range that begins behind the key

@@ -4,10 +4,12 @@ use Rattle.std.specs.Prelude.{◌&&◌, ◌||◌}
 use Rattle.std.proofs.lemmas.Bool.{and_from}
 use Rattle.pathkey.specs.Keys.{is_below}
 use Rattle.message.specs.Ranges.{reaches, before, within, ends_within}
-use Rattle.message.proofs.KeyOrder.{both, reaches-refl, reaches-from_before, reaches-from_not_before, not_before_from_reaches, before_from_not_reaches, not_reaches_from_before, le_le, le_lt, begins_before_end}
+use Rattle.message.proofs.KeyOrder.{both, reaches-refl, reaches-from_before, reaches-from_not_before, not_before_from_reaches, before_from_not_reaches, not_reaches_from_before, le_le, le_lt, begins_before_end, split_bool}
+use Rattle.message.proofs.Parting.{second_false}
+use Rattle.message.proofs.RangeEnds.{below_later}
 use Rattle.ranges.specs.Apart.{Span, covered, BeginBehind, AreApart}
 use Rattle.ranges.specs.Ends.{EndBefore, IsFree, IsLowEnd, IsHighEnd, Widens}
-use Rattle.ranges.proofs.Ends.{split_bool, not_true, second_false, ends_on, past_end, ahead_of_end, below_later}
+use Rattle.ranges.proofs.Ends.{not_true, ends_on, past_end, ahead_of_end}
 use Rattle.ranges.proofs.Last.{last_or, last_where, by_key, before_key, ends_after, ends_from, found_begins, found_covers, covered_by_last, end_by_last}
 
 -- ---- beside a range that was found

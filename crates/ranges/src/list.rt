@@ -8,11 +8,11 @@ ghost use Rattle.message.specs.Stretches.{IsStretch};
 ghost use Rattle.ranges.specs.Apart.{covered, range_msgs, AreApart, CoversMore, TakesFirst};
 ghost use Rattle.ranges.specs.Ends.{spliced, EndBefore, IsFree};
 
-use crate::near::{ends_by, is_covered, is_held, widened};
+use crate::near::{is_covered, is_held, widened};
 use crate::pivot::{join, part};
 use crate::splice::splice;
 use crate::stretch::stretch_end;
-use message::ends::{copy_end, is_before_end};
+use message::ends::{copy_end, ends_by, is_before_end};
 use message::{Msg, Update};
 use pathkey::{Key, KeyRange, NoMemory};
 use rows::Rows;

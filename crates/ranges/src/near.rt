@@ -2,25 +2,13 @@
 ghost use Rattle.std.specs.Prelude.{◌≡◌, true, false, Some, List, ℕ, IfOk};
 ghost use Rattle.std.specs.Option.{option_copied};
 ghost use Rattle.pathkey.specs.Keys.{is_below};
-ghost use Rattle.message.specs.Ranges.{ends_within};
 ghost use Rattle.ranges.specs.Apart.{covered, AreApart};
 ghost use Rattle.ranges.specs.Ends.{AreHeld, IsLowEnd, IsHighEnd, Widens};
 
-use message::ends::{copy_end, is_before_end};
+use message::ends::{copy_end, ends_by, is_before_end};
 use pathkey::{Key, KeyRange, NoMemory};
 use rows::Rows;
 use std::alloc::Global;
-
-/// Whether the end stands at or before the end `most`; `None` is no end.
-pub(crate) fn ends_by(end: Option<&Key>, most: Option<&Key>) -> bool
-    ensures { result ≡ ends_within (option_copied end.entry) (option_copied most.entry) }
-{
-    match (end, most) {
-        (_, None) => true,
-        (None, Some(_)) => false,
-        (Some(end), Some(most)) => end.cmp(most).is_le(),
-    }
-}
 
 /// Whether one of the ranges holds the key.
 pub(crate) fn is_covered(ranges: &Rows<Option<Key>>, key: &Key) -> bool

@@ -1,8 +1,9 @@
 //! The lists on which the deeds are done.
 ghost use Rattle.std.specs.Prelude.{◌≡◌, ◌++◌, [], ◌∷◌, OnOk};
 
-use message::{Msg, Pending};
+use message::Msg;
 use pathkey::{Key, KeyRange, NoMemory};
+use pending::Pending;
 use samples::Digit;
 use std::alloc::Global;
 

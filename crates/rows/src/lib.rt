@@ -11,9 +11,9 @@
 //!   without that: the row then begins behind them.
 //!
 //! `row` is one row, `change` what is done to its entries, `search` where a key stands among them, found in
-//! `strides`. `table` has the rows:
-//! which of them has a key, the one way to change it, and rows that are made two or joined. `cut` takes a range out, `near`
-//! finds what stands next to a key. `list` is what callers see, and `walk` goes through it.
+//! `strides`, which serves any sorted slice. `table` has the rows: which of them has a key, the one way to change it, and
+//! rows that are made two or joined. `cut` takes a range out, `near` finds what stands next to a key. `list` is what callers
+//! see, and `walk` goes through it.
 #![tactic(auto)]
 
 pub(crate) mod change;
@@ -25,7 +25,7 @@ pub(crate) mod near;
 pub(crate) mod row;
 pub(crate) mod search;
 pub mod stored;
-pub(crate) mod strides;
+pub mod strides;
 pub(crate) mod table;
 pub mod walk;
 

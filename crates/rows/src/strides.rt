@@ -9,7 +9,7 @@ ghost use Rattle.rows.specs.Striding.{IsBetween, IsWithin};
 
 /// The places in question: all elements before `low` pass, and none from `high` on.
 #[derive(Clone, Copy)]
-pub(crate) struct Stretch {
+pub struct Stretch {
     low: usize,
     high: usize,
 }
@@ -45,7 +45,7 @@ fn narrow<T, P: FnMut(&T) -> bool>(
 
 /// How many elements pass the test, where no element that passes comes after one that fails.
 #[inline]
-pub(crate) fn count_passing<T, P: FnMut(&T) -> bool>(xs: &[T], pred: P) -> usize
+pub fn count_passing<T, P: FnMut(&T) -> bool>(xs: &[T], pred: P) -> usize
     requires { P.IsAlwaysCallable pred }
     ensures bound { result ≤ length xs.now }
     ensures partitioned { (p : T → Bool) → ComputesKey P.FnMut p pred → IsPartitionedBy p xs.now → IsPartitionPoint (λ y. p y ≡ true) (λ y. p y ≡ false) xs.now result }
@@ -54,7 +54,8 @@ pub(crate) fn count_passing<T, P: FnMut(&T) -> bool>(xs: &[T], pred: P) -> usize
         low: 0,
         high: xs.len(),
     };
-    let (few, pred) = narrow(xs, pred, all, 16);
+    let (some, pred) = narrow(xs, pred, all, 256);
+    let (few, pred) = narrow(xs, pred, some, 16);
     let (fewer, pred) = narrow(xs, pred, few, 4);
     let (place, _) = narrow(xs, pred, fewer, 1);
     place.low

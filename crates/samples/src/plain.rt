@@ -1,8 +1,9 @@
 //! Messages, keys and ranges in plain numbers: a number stands for the key of that one byte.
 use crate::digit::{Digit, written_behind};
 use crate::random::Random;
-use message::{Msg, Pending};
+use message::Msg;
 use pathkey::{Key, KeyRange, NoMemory};
+use pending::Pending;
 use std::alloc::Global;
 
 /// A message in plain numbers.

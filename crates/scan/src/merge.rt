@@ -10,8 +10,9 @@ ghost use Rattle.scan.specs.Merging.{AreAll, StartsFrom, IsMoved, LeavesGaps, Is
 ghost use Rattle.scan.specs.Stretches.{pair_of};
 
 use message::ends::is_before_end;
-use message::{Pending, Update};
+use message::Update;
 use pathkey::{Key, NoMemory};
+use pending::Pending;
 use std::alloc::Global;
 use std::collections::VecDeque;
 

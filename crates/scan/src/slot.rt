@@ -7,10 +7,11 @@ ghost use Rattle.node.specs.Site.{end_of};
 ghost use Rattle.scan.specs.Stretches.{changed, pair_of};
 
 use message::ends::earlier;
-use message::{Pending, Update};
+use message::Update;
 use node::Slot;
 use node::search::end_of;
 use pathkey::{Key, NoMemory};
+use pending::Pending;
 use std::alloc::Global;
 
 /// Where the slot with this number ends, or `hi` where that is earlier.

@@ -10,7 +10,7 @@ use Rattle.message.specs.declared.msg.Msg.{Msg}
 use Rattle.message.specs.declared.msg.Msg.TheVariants.{Put, Del, DelRange, Edit}
 use Rattle.message.specs.Ranges.{reaches, within, ends_within}
 use Rattle.message.proofs.KeyOrder.{both, le_le}
-use Rattle.message.proofs.RangesApart.{below_later}
+use Rattle.message.proofs.RangeEnds.{below_later}
 use Rattle.node.specs.declared.node.Slot.{Slot}
 use Rattle.node.specs.declared.shape.Shape.{Shape}
 use Rattle.node.specs.declared.step.StepReply.{StepReply}

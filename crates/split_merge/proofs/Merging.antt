@@ -11,7 +11,7 @@ use Rattle.message.specs.declared.msg.Msg.{Msg}
 use Rattle.message.specs.Ranges.{reaches, before, within}
 use Rattle.message.specs.Effects.{effects, Takes}
 use Rattle.message.proofs.KeyOrder.{reaches-from_before, not_before_from_reaches, before_from_not_reaches, le_le, both as both_of, below_next}
-use Rattle.message.proofs.Telling.{untouched}
+use Rattle.message.proofs.Lists.{untouched}
 use Rattle.node.specs.declared.node.Slot.{Slot}
 use Rattle.node.specs.declared.shape.Shape.{Shape}
 use Rattle.node.specs.declared.step.StepReply.TheVariants.{Did, NotThere}

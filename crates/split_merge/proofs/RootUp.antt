@@ -7,8 +7,7 @@ use Rattle.message.specs.declared.msg.Msg.{Msg}
 use Rattle.message.specs.Ranges.{reaches, before, within}
 use Rattle.message.specs.Effects.{effects}
 use Rattle.message.proofs.KeyOrder.{reaches-from_before, not_before_from_reaches, from_start, le_le}
-use Rattle.message.proofs.Lists.{effects-append}
-use Rattle.message.proofs.Telling.{untouched}
+use Rattle.message.proofs.Lists.{effects-append, untouched}
 use Rattle.node.specs.declared.node.Slot.{Slot}
 use Rattle.node.specs.declared.shape.Shape.{Shape}
 use Rattle.node.specs.declared.step.StepReply.{StepReply}

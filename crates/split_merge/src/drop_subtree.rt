@@ -10,10 +10,11 @@ ghost use Rattle.node.specs.Steps.{Answers};
 ghost use Rattle.node.specs.declared.step.StepKind.TheVariants.{DropCovered};
 ghost use Rattle.split_merge.specs.Swept.{bare, Swept};
 
-use message::{Pending, Update};
+use message::Update;
 use node::search::next_pivot;
 use node::{Body, Change, Node, Place, Shape, Slot, StepReply, Tree};
 use pathkey::{Key, NoMemory};
+use pending::Pending;
 use std::alloc::Global;
 use std::sync::Arc;
 

@@ -7,10 +7,11 @@ ghost use Rattle.node.specs.RootSteps.{AnswersDown};
 ghost use Rattle.node.specs.See.{seen_slots};
 ghost use Rattle.split_merge.specs.Lowered.{Lowered, Stays};
 
-use message::{Pending, Update};
+use message::Update;
 use node::search::next_pivot;
 use node::{Body, Node, Slot, StepReply, Tree};
 use pathkey::{Key, NoMemory};
+use pending::Pending;
 use std::alloc::Global;
 use std::sync::Arc;
 

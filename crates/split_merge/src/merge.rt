@@ -14,10 +14,11 @@ ghost use Rattle.node.specs.Steps.{Answers};
 ghost use Rattle.node.specs.declared.step.StepKind.TheVariants.{MergeLeaves, MergeInner};
 ghost use Rattle.split_merge.specs.Merged.{are_alike, both, IsJoined, MergeReplies};
 
-use message::{Pending, Update};
+use message::Update;
 use node::count::held;
 use node::{Body, Change, Node, Place, Shape, Slot, StepReply, Tree};
 use pathkey::{Key, NoMemory};
+use pending::Pending;
 use std::alloc::Global;
 use std::sync::Arc;
 

@@ -5,9 +5,10 @@ ghost use Rattle.node.specs.RootSteps.{levels, AnswersUp};
 ghost use Rattle.node.specs.See.{see_slot, seen_slots};
 ghost use Rattle.split_merge.specs.Raised.{hollow, all_msgs, IsAbove, Raised, Refused};
 
-use message::{Pending, Update};
+use message::Update;
 use node::{Body, Node, Slot, StepReply, Tree};
 use pathkey::{Key, NoMemory};
+use pending::Pending;
 use std::alloc::Global;
 use std::sync::Arc;
 

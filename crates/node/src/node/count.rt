@@ -12,7 +12,8 @@ use super::{Body, Node, Slot};
 use crate::report::Quantity;
 use crate::shape::Shape;
 use message::meets::meets;
-use message::{Msg, Pending, Update};
+use message::{Msg, Update};
+use pending::Pending;
 
 /// How many messages wait in the slots.
 pub fn held<U: Update>(slots: &[Slot<U>]) -> u128

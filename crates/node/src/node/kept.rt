@@ -11,8 +11,9 @@ ghost use Rattle.node.specs.See.{see_slot, seen_slots};
 use super::append::{Batch, prepare};
 use super::search::home_of;
 use super::{Body, Node, Slot};
-use message::{Msg, Pending, Taken, Update};
+use message::{Msg, Taken, Update};
 use pathkey::NoMemory;
+use pending::Pending;
 use std::alloc::Global;
 
 /// Puts a part behind a list that has room for it; where `plain`, the list stays as it was.

@@ -8,7 +8,7 @@ ghost use Rattle.node.specs.Leaves.{IsCount, IsEntry, IsGap, IsPlace, IsChanged,
 ghost use Rattle.node.specs.Meaning.{lookup};
 
 use super::copy::copy_entries;
-use message::search::count_passing;
+use rows::strides::count_passing;
 use message::{Msg, Update};
 use pathkey::{Key, KeyRange, NoMemory};
 use std::alloc::Global;

@@ -5,8 +5,9 @@ ghost use Rattle.node.specs.Searchable.{IsRoot};
 ghost use Rattle.node.specs.See.{see_slot};
 
 use super::{Body, Node, Slot};
-use message::{Pending, Update};
+use message::Update;
 use pathkey::{Key, NoMemory};
+use pending::Pending;
 use std::alloc::Global;
 use std::sync::Arc;
 

@@ -12,8 +12,8 @@ ghost use Rattle.node.specs.See.{see, seen_slots};
 ghost use Rattle.node.specs.Site.{end_of};
 
 use super::{Body, Node, Slot};
-use message::ends::is_before_end;
-use message::search::count_passing;
+use message::ends::{ends_by, is_before_end};
+use rows::strides::count_passing;
 use message::{Changes, Msg, Update};
 use pathkey::{Key, KeyRange};
 
@@ -59,17 +59,6 @@ pub fn end_of<'a, U: Update>(slots: &'a [Slot<U>], i: usize, hi: Option<&'a Key>
     ensures { option_copied result ≡ end_of (option_copied hi.entry) (seen_slots slots.now) i }
 {
     next_pivot(&slots[i + 1..], hi)
-}
-
-/// Whether the end stands at or before the end `most`; `None` is no end.
-fn ends_by(end: Option<&Key>, most: Option<&Key>) -> bool
-    ensures { result ≡ ends_within (option_copied end.entry) (option_copied most.entry) }
-{
-    match (end, most) {
-        (_, None) => true,
-        (None, Some(_)) => false,
-        (Some(end), Some(most)) => end.cmp(most).is_le(),
-    }
 }
 
 /// Whether the range has a key, and ends where the slot with number `i` does or before that; the last slot has no end.

@@ -1,6 +1,6 @@
 use Rattle.std.proofs.Common.{sym, ◌∙◌, subst, length, ◌<◌}
 use Rattle.std.specs.Prelude.{◌⊎◌}
-use Rattle.message.proofs.MovingRanges.{done}
+use Rattle.message.proofs.Results.{done}
 use Rattle.flush.specs.Leaf.{AddsNone}
 use Rattle.node.proofs.Roots.{when_err}
 use Rattle.flush.proofs.LeafFlush.{stays_within}

@@ -1,9 +1,8 @@
 use Rattle.std.proofs.Common.{◌∙◌, sym}
 use Rattle.std.specs.Option.{option_copied}
 use Rattle.message.specs.Ranges.{ends_within, reaches}
-use Rattle.message.proofs.CuttingRanges.{later_same}
+use Rattle.message.proofs.RangeEnds.{later_same, first_end}
 use Rattle.message.proofs.KeyOrder.{both}
-use Rattle.message.proofs.EarlierEnds.{first_end}
 use Rattle.message.proofs.meets.holds_part.Goals as goal
 
 pub returns-then-is_before_end-clause-low : goal.returns-then-is_before_end-clause-low

@@ -1,6 +1,6 @@
 use Rattle.std.proofs.Common.{arith, ap, sym, ◌∙◌, ◌≤◌, ◌<◌, length, suc, add-one}
 use Rattle.node.specs.See.{seen_slots}
-use Rattle.message.proofs.MovingRanges.{done}
+use Rattle.message.proofs.Results.{done}
 use Rattle.split_merge.specs.Merged.{are_alike}
 use Rattle.split_merge.proofs.Mergeable.{when_err}
 use Rattle.split_merge.proofs.Merging.{without_next, unlike, alike_left, merged_left, put_back}

@@ -1,7 +1,7 @@
 use Rattle.std.proofs.Common.{◌≡◌, ◌≤◌, ◌<◌, ◌-◌, ◌+◌, ap, sym, ◌∙◌, arith, drop, length}
 use Rattle.message.specs.Effects.{range_count}
 use Rattle.message.proofs.Condensing.{drop_parts}
-use Rattle.message.proofs.CountingRanges.{count_append}
+use Rattle.message.proofs.Lists.{count_append}
 use Rattle.pending.proofs.pending.Pending.range_deletes.Goals as goal
 
 pub returns : goal.returns

@@ -2,7 +2,7 @@ use Rattle.std.proofs.Common.{◌≡◌, ◌≤◌, ◌<◌, ◌-◌, ◌+◌, �
 use Rattle.std.proofs.lemmas.List.{take_rest}
 use Rattle.message.specs.Effects.{range_count}
 use Rattle.message.proofs.Condensing.{drop_parts}
-use Rattle.message.proofs.CountingRanges.{count_append}
+use Rattle.message.proofs.Lists.{count_append}
 use Rattle.pending.proofs.tail.Tail.count_ranges.Goals as goal
 
 pub returns-clause-count : goal.returns-clause-count

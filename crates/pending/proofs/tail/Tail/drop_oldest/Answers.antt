@@ -1,5 +1,5 @@
 use Rattle.std.proofs.Common.{arith}
-use Rattle.message.proofs.Copying.{left_any}
+use Rattle.pending.proofs.Leaving.{left_any}
 use Rattle.pending.proofs.tail.Tail.drop_oldest.Goals as goal
 
 pub loop-preserved : goal.loop-preserved

@@ -1,5 +1,0 @@
-use Rattle.std.proofs.Common.{◌≡◌, ◌++◌, take}
-use Rattle.message.proofs.list.share_behind.Given as goal
-
-abbrev pub invariant-loop-waiting : goal.invariant-loop-waiting
-invariant-loop-waiting g l = l.back.items ≡ l.fn.back.items ++ take l.waiting-index l.msgs

@@ -1,5 +1,0 @@
-use Rattle.message.proofs.PointRows.{row_copied}
-use Rattle.message.proofs.points.copy_rows_into.Goals as goal
-
-pub loop-row-preserved : goal.loop-row-preserved
-loop-row-preserved g c = row_copied c.args.count c.args.rows.now c.loop-row.row-index c.row-item.result c.entries.result.now c.loop-row.front.items c.copy_runs.new.front.items _ c.loop-row-test.true c.row-item.is c.entries.ensures.entries c.loop-row.invariant c.in_ok-copy_runs.ensures

@@ -1,7 +1,0 @@
--- proofs/rows/entries_in/Invariants.antt
-use Rattle.std.proofs.Common.{◌≡◌, ◌+◌, drop, length}
-use Rattle.message.specs.Rows.{joined}
-use Rattle.message.proofs.rows.entries_in.Given as goal
-
-abbrev pub invariant-loop-row : goal.invariant-loop-row
-invariant-loop-row g l = l.count + length (joined (drop l.row-index l.rows)) ≡ length (joined l.rows)
