@@ -52,6 +52,7 @@ fn below(at: Place, i: usize) -> Place
     ensures { way result ≡ way at ++ i ∷ [] }
 {
     let Some(under) = at.under(i as u8) else {
+        // The way has fewer than 15 numbers, so there is a place for one more.
         unreachable!()
     };
     under
@@ -81,6 +82,7 @@ fn slot_above<U: Update>(slots: &[Slot<U>], least: usize) -> usize
     ensures first { IsFirst (λ ms n. longest n) least (seen_slots slots.now) result }
 {
     let Some((slot, later)) = slots.split_first() else {
+        // Not met: below one of the slots so many messages wait in one list.
         unreachable!()
     };
     if slot.child.weight().longest >= least {
@@ -100,6 +102,7 @@ fn first_heavy<U: Update>(node: &Node<U>, levels: usize, at: Place, least: usize
     ensures { IsFirstOf least result (loads (way at) node.now) }
 {
     let Body::Inner(slots) = node.body() else {
+        // In a leaf nothing waits, and here something does.
         unreachable!()
     };
     let slots = slots.as_slice();

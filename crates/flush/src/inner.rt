@@ -35,12 +35,14 @@ pub fn fitting<U: Update>(slots: &[Slot<U>], msgs: &[Msg<U>], room: usize) -> us
 {
     let waiting = held(slots);
     if waiting > room as u128 {
+        // Not met in a lawful tree: no node below the root holds more than it has room for.
         return 0;
     }
     let mut total = waiting as usize;
     let mut count = 0;
     for msg in msgs {
         let more = pieces_in(slots, msg);
+        // No flush brings so many messages: that bound stands for the checker.
         if count == 65535 || more > room - total {
             return count;
         }
@@ -72,21 +74,25 @@ fn sink<U: Update>(alloc: Global, room: u16, msgs: &[Msg<U>], child: &mut Arc<No
     ensures small { (n : ℕ) → result ≡ Did n → n < 65536 }
 {
     if msgs.is_empty() {
+        // Not met: `can` has found a message, and an inner node below.
         return StepReply::NotThere;
     }
     let Ok(own) = Arc::make_mut(child) else {
         return StepReply::NoMemory;
     };
     let Body::Inner(below) = own.body_mut() else {
+        // Not met, as above.
         return StepReply::NotThere;
     };
     let count = fitting(below.as_slice(), msgs, room as usize);
     if count == 0 {
+        // Not met: `has_room` has counted the pieces of the first message.
         own.weigh();
         return StepReply::NoRoom;
     }
     let few = &msgs[..count];
     let taken = append_within(alloc, below.as_mut_slice(), few, room as usize);
+    // Also where memory was refused, since `body_mut` has forgotten the weight.
     own.weigh();
     let Ok(()) = taken else {
         return StepReply::NoMemory;
@@ -148,6 +154,7 @@ fn move_oldest<U: Update>(
         return Ok(0);
     };
     let Some(i) = holder(below, key) else {
+        // Not met in a lawful tree, where the first slot begins at or before each key of the list.
         return Ok(0);
     };
     let slot = &mut below[i];
@@ -177,7 +184,8 @@ fn move_points<U: Update>(
     Ok(count)
 }
 
-/// Likewise into the slots of a child.
+/// Moves a list's oldest messages into the slots of a child, at most `room`, as `move_points` does, and
+/// counts them; a leaf takes none.
 fn sink_points<U: Update>(
     child: &mut Arc<Node<U>>,
     list: &mut Pending<U>,
@@ -193,9 +201,11 @@ fn sink_points<U: Update>(
     }
     let own = Arc::make_mut(child)?;
     let Body::Inner(below) = own.body_mut() else {
+        // Not met: callers give a leaf no room.
         return Ok(0);
     };
     let moved = move_points(below.as_mut_slice(), list, room);
+    // Also where memory was refused, since `body_mut` has forgotten the weight.
     own.weigh();
     moved
 }
@@ -215,6 +225,7 @@ fn sink_front<U: Update>(alloc: Global, room: u16, slot: &mut Slot<U>) -> StepRe
     let most = spare(&slot.child, room) as usize;
     match sink_points(&mut slot.child, &mut slot.pending, most) {
         Ok(count) => StepReply::Did(first + count as u32),
+        // The first few have gone down already: the others wait.
         Err(_) => reply,
     }
 }
@@ -270,6 +281,7 @@ impl<U: Update> Change<U> for InnerFlush {
 
     fn has_room(&self, shape: Shape, _root: bool, slots: &[Slot<U>], i: usize) -> bool {
         if i >= slots.len() {
+            // Not met, as the next two: `can` has found a message, and an inner node below.
             return true;
         }
         let slot = &slots[i];
@@ -291,6 +303,7 @@ impl<U: Update> Change<U> for InnerFlush {
         i: usize,
     ) -> StepReply {
         if i >= slots.len() {
+            // Not met: `can` has found the slot.
             return StepReply::NotThere;
         }
         let slot = &mut slots[i];

@@ -119,6 +119,7 @@ fn fill<U: Update>(
     ensures few { length entries.old.items ≤ most → length entries.new.items ≤ most }
     ensures none { result ≡ 0 → entries.new.items ≡ entries.old.items }
 {
+    // No flush brings so many messages: that bound makes the count a `u32`.
     let few = msgs.len().min(4294967295);
     fill_all(alloc, entries, &msgs[..few], most)
 }
@@ -129,6 +130,7 @@ fn takes_oldest<U: Update>(slot: &Slot<U>, most: u16) -> bool
     ensures { result ≡ true → HasPlace U.means most slot.now.pending.0 slot.now.child.value }
 {
     if slot.pending.len() == 0 {
+        // Not met, nor is an inner node: `can` has found a message, and a leaf.
         return false;
     }
     match slot.child.body() {
@@ -151,6 +153,7 @@ fn absorb<U: Update>(
     ensures { Filled U.means most result msgs.now child.old.value child.new.value }
 {
     if msgs.is_empty() {
+        // Not met, nor is an inner node: the slot's leaf has room for its oldest message.
         return StepReply::NotThere;
     }
     let Ok(own) = Arc::make_mut(child) else {
@@ -162,12 +165,14 @@ fn absorb<U: Update>(
     let count = fill(alloc, entries, msgs, most as usize);
     own.weigh();
     if count == 0 {
+        // There is room for the first message, so it was refused memory.
         return StepReply::NoMemory;
     }
     StepReply::Did(count as u32)
 }
 
-/// Likewise for a slot whose leaf has room for the oldest message: it loses the messages that its leaf has.
+/// Applies as many of a slot's oldest messages to its leaf as the leaf's room takes, in its place,
+/// where there is room for the oldest. The slot loses the messages that its leaf has.
 fn absorb_oldest<U: Update>(alloc: Global, most: u16, slot: &mut Slot<U>) -> StepReply
     requires searchable { IsSearchable slot.old.child.value }
     requires place { HasPlace U.means most slot.old.pending.0 slot.old.child.value }
@@ -209,6 +214,7 @@ fn oldest_to_cut<U: Update>(alloc: Global, slot: &Slot<U>, most: u16) -> u8
     ensures few { result ≤ most }
 {
     let Body::Leaf(entries) = slot.child.body() else {
+        // Not met: `can` has found a leaf.
         return 0;
     };
     if entries.len() < most as usize {
@@ -216,6 +222,7 @@ fn oldest_to_cut<U: Update>(alloc: Global, slot: &Slot<U>, most: u16) -> u8
     }
     let few = slot.pending.len().min(most as usize).min(255);
     let Ok(msgs) = slot.pending.copy_front(alloc, few) else {
+        // Refused memory puts the cut off: only what there is room for is tried.
         return 0;
     };
     up_to_overfull(entries.as_slice(), msgs.as_slice(), most) as u8
@@ -256,6 +263,7 @@ fn after_oldest<U: Update>(
     ensures rising { IfOk result (λ r. MatchOption r ⊤ (λ v. Rises [] None v.items)) }
 {
     if slot.pending.len() == 0 {
+        // Not met, nor is an inner node: `can` has found a message, and a leaf.
         return Ok(None);
     }
     let oldest = slot.pending.copy_front(alloc, count as usize)?;
@@ -325,6 +333,7 @@ fn part<U: Update>(
 {
     let slot = &slots[i];
     if !can_part(shape, root, slots.as_slice(), count, &slot.pending) {
+        // Met for an update of an absent key alone: only applying it told that it gives a value.
         return StepReply::NoRoom;
     }
     if slots.reserve(1).is_err() {
@@ -335,6 +344,7 @@ fn part<U: Update>(
         return StepReply::NoMemory;
     };
     let Ok(()) = slots.insert(i + 1, back) else {
+        // Room for it was reserved before the cut.
         unreachable!()
     };
     StepReply::Did(count as u32)
@@ -359,9 +369,11 @@ fn apply_oldest<U: Update>(
         return StepReply::NoMemory;
     };
     let Some(entries) = after else {
+        // Not met: `can` has found a message, and a leaf.
         return StepReply::NotThere;
     };
     if entries.len() <= shape.leaf as usize {
+        // The messages gave the leaf no entry too many after all.
         return keep(alloc, &mut slots[i], count, entries);
     }
     part(alloc, shape, root, slots, i, count, entries)
@@ -386,6 +398,7 @@ impl<U: Update> Change<U> for LeafFlush {
 
     fn has_room(&self, shape: Shape, root: bool, slots: &[Slot<U>], i: usize) -> bool {
         if i >= slots.len() {
+            // Not met, as the next two: `can` has found a message, and a leaf below.
             return true;
         }
         let slot = &slots[i];
@@ -411,6 +424,7 @@ impl<U: Update> Change<U> for LeafFlush {
         i: usize,
     ) -> StepReply {
         if i >= slots.len() {
+            // Not met: `can` has found the slot.
             return StepReply::NotThere;
         }
         if !takes_oldest(&slots[i], shape.leaf) {

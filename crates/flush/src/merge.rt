@@ -107,6 +107,7 @@ fn hold<V: Drop>(done: &mut Vec<(Key, V)>, held: &mut Vec<(Key, V)>, key: &Key) 
         return false;
     }
     if held.reserve(1).is_err() {
+        // Refused memory ends the pass; what is left over is tried one by one.
         return false;
     }
     held.push_reserved(done.take_last());
@@ -132,6 +133,7 @@ fn lay_behind<U: Update>(
 {
     let did = apply_within(alloc, held, msg, places);
     let Ok(()) = done.append(held) else {
+        // The places for all that is held were made before the pass.
         unreachable!()
     };
     did
@@ -157,6 +159,7 @@ fn step<U: Update>(
     ensures empty { held.new.items ≡ [] }
 {
     let Some(key) = msg.point() else {
+        // A range-delete behind other messages ends the pass.
         return false;
     };
     advance(done, left, key);

@@ -29,6 +29,7 @@ fn grown<U: Update>(
     let mut copy = Arc::try_clone(node)?;
     let own = Arc::make_mut(&mut copy)?;
     let Body::Inner(slots) = own.body_mut() else {
+        // Not met: the messages fit below an inner node.
         return Ok(copy);
     };
     append_within(alloc, slots.as_mut_slice(), msgs, most as usize)?;

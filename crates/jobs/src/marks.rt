@@ -100,6 +100,7 @@ pub(crate) fn number_in<U: Update>(root: &Node<U>, key: &Key) -> usize
     ensures { result ≡ number_in root.now key.now }
 {
     let Body::Inner(slots) = root.body() else {
+        // Not met: a root is an inner node.
         return 0;
     };
     slot_of(slots.as_slice(), key)
@@ -145,6 +146,7 @@ impl Marks {
     {
         let mut kept = Vec::new(alloc);
         let Body::Inner(slots) = root.body() else {
+            // Not met for the root of a tree, which is an inner node.
             return Ok(kept);
         };
         push_kept(self.list.as_slice(), slots.as_slice(), &mut kept)?;

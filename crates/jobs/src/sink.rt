@@ -31,6 +31,7 @@ fn flush_slot<U: Update>(
 {
     match step_subtree(alloc, &InnerFlush, shape, top, hi, at, slot) {
         StepReply::NotThere => {
+            // A leaf may be below. Where nothing waits, or no such slot is, this is not there either.
             step_subtree(alloc, &LeafFlush, shape, top, hi, at, slot);
             false
         }
@@ -57,6 +58,7 @@ pub fn sink_below<U: Update>(
         if !flush_slot(alloc, shape, top, hi, at, slot) || levels == 0 {
             continue;
         }
+        // There always is one: a build begins at the root with 15 levels.
         if let Some(under) = at.under(slot) {
             sink_below(alloc, shape, top, hi, under, levels - 1);
         }

@@ -100,6 +100,7 @@ impl<U: Update> Tree<U> {
         let before = other.owners();
         let shared = self.share()?;
         let after = other.owners();
+        // Let go only now: it had to be an owner while `after` was counted.
         drop(shared);
         Ok(before != after)
     }

@@ -23,6 +23,7 @@ fn is_first_covered<U: Update>(slots: &[Slot<U>], hi: Option<&Key>) -> bool
     ensures { result ≡ can_drop_covered (option_copied hi.entry) (seen_slots slots.now) }
 {
     let Some((slot, later)) = slots.split_first() else {
+        // Not met: the slot is among these.
         return false;
     };
     slot.pending.oldest_covers(&slot.lo, next_pivot(later, hi))
@@ -57,6 +58,7 @@ fn bare_like<U: Update>(alloc: Global, lo: &Key, node: &Node<U>) -> Result<Arc<N
         return Ok(Arc::new(alloc, Node::empty_leaf(alloc))?);
     };
     let child = match slots.first() {
+        // Not met in a lawful tree, whose inner nodes have slots.
         None => Arc::new(alloc, Node::empty_leaf(alloc))?,
         Some(first) => bare_like(alloc, lo, &first.child)?,
     };
@@ -74,6 +76,7 @@ fn sweep<U: Update>(
     ensures { Swept result lo.now pending.old.0 pending.new.0 child.old.value child.new.value }
 {
     if pending.len() == 0 {
+        // Not met: `can` has found the message.
         return StepReply::NotThere;
     }
     let Ok(empty) = bare_like(alloc, lo, child) else {
@@ -110,6 +113,7 @@ impl<U: Update> Change<U> for CoveredDrop {
         i: usize,
     ) -> StepReply {
         if i >= slots.len() {
+            // Not met: `can` has found the slot.
             return StepReply::NotThere;
         }
         let slot = &mut slots[i];

@@ -33,7 +33,8 @@ fn slot_over<U: Update>(
     Ok(Slot { lo, pending, child })
 }
 
-/// The same for all slots of a node; the last one has no end.
+/// The slots of a node over the same children, where the list's part for each slot's range stands
+/// behind the messages that waited there; the last one has no end.
 fn slots_over<U: Update>(
     alloc: Global,
     slots: &[Slot<U>],
@@ -70,6 +71,7 @@ fn lowered<U: Update>(alloc: Global, root: &Node<U>) -> Result<Arc<Node<U>>, Ste
     ensures err { IfErr result (λ e. Stays e root.now) }
 {
     let Body::Inner(slots) = root.body() else {
+        // Not met: a tree's root is an inner node.
         return Err(StepReply::NotThere);
     };
     if slots.len() != 1 {

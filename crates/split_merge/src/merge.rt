@@ -27,6 +27,7 @@ fn has_next<U: Update>(slots: &[Slot<U>], i: usize) -> bool
     ensures yes { result ≡ true → i + 1 < length slots.now }
     ensures no { result ≡ false → length slots.now ≤ i + 1 }
 {
+    // Not `i + 1 < slots.len()`: that sum may be no number.
     slots.len().saturating_sub(i) > 1
 }
 
@@ -35,6 +36,7 @@ fn fit(left: u128, right: u128, most: u16) -> bool
     ensures yes { result ≡ true → left + right ≤ most }
     ensures no { result ≡ false → most < left + right }
 {
+    // No two nodes of a tree hold so much that the sum is cut off.
     left.saturating_add(right) <= most as u128
 }
 
@@ -62,17 +64,20 @@ fn fit_in_one<U: Update>(shape: Shape, left: &Node<U>, right: &Node<U>) -> bool
         (Body::Inner(slots), Body::Inner(later)) => {
             slots_fit(shape, slots.as_slice(), later.as_slice())
         }
+        // Not met, as the next: a tree's leaves are equally deep.
         (Body::Leaf(_), Body::Inner(_)) => true,
         (Body::Inner(_), Body::Leaf(_)) => true,
     }
 }
 
-/// Likewise for the children of the slot with number `i` and of the next, if there is one.
+/// Whether one node has room for what the children of the slot with number `i` and of the next hold, or
+/// they are of two kinds, or there is no next one.
 fn pair_fits<U: Update>(shape: Shape, slots: &[Slot<U>], i: usize) -> bool
     ensures yes { result ≡ true → AreTooMany shape (slots_from i (seen_slots slots.now)) → ⊥ }
     ensures no { result ≡ false → AreTooMany shape (slots_from i (seen_slots slots.now)) }
 {
     if !has_next(slots, i) {
+        // Not met: `can` has found the next slot.
         return true;
     }
     let first = &slots[i];
@@ -101,8 +106,10 @@ fn join_nodes<U: Update>(left: &mut Arc<Node<U>>, right: &mut Arc<Node<U>>) -> R
     let left = Arc::make_mut(left)?;
     let right = Arc::make_mut(right)?;
     match (left.body_mut(), right.body_mut()) {
+        // Where memory is refused, both hold what they held, but keep no weight.
         (Body::Leaf(entries), Body::Leaf(later)) => entries.append(later)?,
         (Body::Inner(slots), Body::Inner(later)) => slots.append(later)?,
+        // Callers have two of one kind.
         (Body::Leaf(_), Body::Inner(_)) => unreachable!(),
         (Body::Inner(_), Body::Leaf(_)) => unreachable!(),
     }
@@ -128,6 +135,7 @@ fn join<U: Update>(alloc: Global, left: &mut Slot<U>, right: &mut Slot<U>) -> Re
     ensures ok { OnOk result (IsJoined U.means left.old right.old left.new) }
     ensures err { OnErr result ((see_slot left.new ≡ see_slot left.old) × (see_slot right.new ≡ see_slot right.old)) }
 {
+    // First, since nothing may be refused once the nodes are joined.
     let list = both_lists(alloc, left, right)?;
     join_nodes(&mut left.child, &mut right.child)?;
     left.pending = list;
@@ -141,6 +149,7 @@ fn merge_slots<U: Update>(alloc: Global, slots: &mut Vec<Slot<U>>, i: usize) -> 
     ensures { (shape : Shape) (root : Bool) → MergeReplies U.means shape root i result (seen_slots slots.old.items) (seen_slots slots.new.items) }
 {
     if !has_next(slots.as_slice(), i) {
+        // Not met, nor are two kinds: `can` has found two nodes of one kind.
         return StepReply::NotThere;
     }
     if !are_of_one_kind(&slots[i].child, &slots[i + 1].child) {
@@ -150,6 +159,7 @@ fn merge_slots<U: Update>(alloc: Global, slots: &mut Vec<Slot<U>>, i: usize) -> 
     if join(alloc, &mut slots[i], &mut right).is_ok() {
         return StepReply::Did(0);
     }
+    // Refused memory: the slot goes back to the place that it has just left.
     let Ok(()) = slots.insert(i + 1, right) else {
         unreachable!()
     };

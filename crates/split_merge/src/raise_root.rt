@@ -24,6 +24,7 @@ fn has_levels<U: Update>(node: &Node<U>, n: u8) -> bool
         return false;
     };
     match slots.first() {
+        // Not met in a lawful tree, whose inner nodes have slots.
         None => n == 1,
         Some(first) => has_levels(&first.child, n - 1),
     }
@@ -80,6 +81,7 @@ fn raised<U: Update>(alloc: Global, root: &Node<U>) -> Result<Arc<Node<U>>, Step
     ensures err { IfErr result (λ e. Refused U.means e root.now) }
 {
     let Body::Inner(slots) = root.body() else {
+        // Not met: a tree's root is an inner node.
         return Err(StepReply::NotThere);
     };
     if slots.len() == 1 {

@@ -78,6 +78,7 @@ impl<U: Update> Change<U> for InnerSplit {
 
     fn has_room(&self, shape: Shape, root: bool, slots: &[Slot<U>], i: usize) -> bool {
         if i >= slots.len() {
+            // Not met: `can` has found the slot.
             return true;
         }
         let slot = &slots[i];
@@ -93,12 +94,14 @@ impl<U: Update> Change<U> for InnerSplit {
         i: usize,
     ) -> StepReply {
         if i >= slots.len() {
+            // Not met: `can` has found the slot.
             return StepReply::NotThere;
         }
         let Ok(halves) = halve(alloc, &slots[i].child) else {
             return StepReply::NoMemory;
         };
         let Some(Halves { pivot, left, right }) = halves else {
+            // Not met: `can` has found an inner node with two slots or more.
             return StepReply::NotThere;
         };
         if slots.reserve(1).is_err() {
@@ -108,6 +111,7 @@ impl<U: Update> Change<U> for InnerSplit {
             return StepReply::NoMemory;
         };
         let Ok(()) = slots.insert(i + 1, back) else {
+            // Room for it was reserved before the cut.
             unreachable!()
         };
         StepReply::Did(0)

@@ -42,6 +42,7 @@ fn flush_of<U: Update>(slots: &[Slot<U>], at: Place, number: usize) -> Option<Tr
     } else {
         StepKind::FlushInner
     };
+    // Always a number: a node of a tree has at most 64 slots.
     let slot = u8::try_from(number).ok()?;
     Some(TreeStep { kind, at, slot })
 }
@@ -68,6 +69,7 @@ fn part(at: Place) -> Option<TreeStep> {
     };
     Some(TreeStep {
         kind: StepKind::SplitInner,
+        // Always a place: these are the numbers of one without the last.
         at: place_of(above)?,
         slot: *last,
     })
@@ -102,6 +104,7 @@ fn widen<U: Update>(tree: &Tree<U>, step: TreeStep) -> Option<TreeStep> {
     if other.slot != step.slot || other.kind != step.kind {
         return Some(other);
     }
+    // The step's own slot is the fullest, and its flush has no room: the node is parted.
     part(step.at)
 }
 
@@ -115,6 +118,7 @@ pub fn make_room<U: Update>(tree: &Tree<U>, step: TreeStep) -> Option<TreeStep> 
     match step.kind {
         StepKind::FlushInner => flush_fullest(tree, step.at.under(step.slot)?),
         StepKind::FlushLeaf | StepKind::SplitInner => widen(tree, step),
+        // For a merge and for a new root none is known; a drop and a root down always have room.
         _ => None,
     }
 }

@@ -30,6 +30,7 @@ impl Marks {
     /// The slot of the tree's root of which a job would move the most messages, the first of equals; none where no job would
     /// move any. It takes no memory, and looks below those slots alone that hold more than the best one before them.
     pub fn heaviest<U: Update>(&self, tree: &Tree<U>) -> Option<Load> {
+        // Never none: a tree's root is an inner node.
         let slots = tree.root().slots()?;
         let room = tree.shape().pending;
         let mut best = None;
@@ -44,6 +45,7 @@ impl Marks {
                 best = Some(i);
             }
         }
+        // Always a number: a root has at most 64 slots.
         let slot = u8::try_from(best?).ok()?;
         Some(Load {
             slot,

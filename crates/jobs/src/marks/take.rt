@@ -36,11 +36,13 @@ fn is_free<U: Update>(marks: &[Mark], slots: &[Slot<U>], i: usize) -> bool
     is_flushable(slots, i) && kept_at(marks, &slots[i].lo) == 0
 }
 
-/// Likewise of a root.
+/// Whether the root's slot with number `i` has a message, an inner node below it and no mark. It takes
+/// no memory.
 fn can_take<U: Update>(marks: &[Mark], root: &Node<U>, i: usize) -> bool
     ensures { result ≡ can_take_at i marks.now root.now }
 {
     let Body::Inner(slots) = root.body() else {
+        // Not met for the root of a tree, which is an inner node.
         return false;
     };
     is_free(marks, slots.as_slice(), i)
@@ -59,6 +61,7 @@ fn fitting_front<U: Update>(
     let few = few_oldest(&slot.pending, spare(&slot.child, most));
     let mut front = slot.pending.copy_front(alloc, few)?;
     let Body::Inner(below) = slot.child.body() else {
+        // Not met: `can_take` has found an inner node.
         return Ok(Vec::new(alloc));
     };
     let count = fitting(below.as_slice(), front.as_slice(), most as usize);
@@ -82,6 +85,7 @@ fn slot_job<U: Update>(
     ensures slot { IfOk result (λ job. AtSlot (IsOf job) i None (seen_slots slots.now)) }
 {
     if i >= slots.len() {
+        // Not met: there is a slot with this number.
         return Err(NoMemory);
     }
     let slot = &slots[i];
@@ -110,6 +114,7 @@ fn job_at<U: Update>(
     ensures { IfOk result (λ o. MatchOption o (IsFullBelow shape.pending (slots_from i (seen_slots slots.now))) (λ job. (job.ticket ≡ ticket) × (job.shape ≡ shape) × AtSlot (IsOf job) i None (seen_slots slots.now))) }
 {
     if i >= slots.len() {
+        // Not met: `can_take` has found the slot.
         return Ok(None);
     }
     let msgs = fitting_front(alloc, &slots[i], shape.pending)?;
@@ -120,7 +125,8 @@ fn job_at<U: Update>(
     Ok(Some(job))
 }
 
-/// Likewise of a tree's root.
+/// The job of the slot with number `i` of a tree's root, where the pieces of its first message have
+/// room below.
 fn job_of<U: Update>(
     alloc: Global,
     ticket: u64,
@@ -133,6 +139,7 @@ fn job_of<U: Update>(
     let shape = tree.shape();
     let root = tree.root();
     let Body::Inner(slots) = root.body() else {
+        // Not met: a root is an inner node.
         return Err(NoMemory);
     };
     job_at(alloc, ticket, shape, slots.as_slice(), i)
@@ -199,6 +206,7 @@ impl Marks {
             Ok(None) => TakeReply::NoRoom,
             Ok(Some(job)) => {
                 let Ok(()) = push_mark(alloc, &mut self.list, &job) else {
+                    // The job is let go: nothing has changed yet.
                     return TakeReply::NoMemory;
                 };
                 TakeReply::Taken(job)

@@ -43,6 +43,7 @@ fn place_in_all<U: Update>(
         return Ok(());
     };
     let Some((part, parts)) = parts.split_first_mut() else {
+        // No caller has fewer parts than slots.
         return Ok(());
     };
     let piece = msg.cut_between(alloc, &slot.lo, next_pivot(slots, hi))?;
@@ -50,7 +51,8 @@ fn place_in_all<U: Update>(
     place_in_all(alloc, slots, hi, parts, msg)
 }
 
-/// Likewise, but a message for one key is moved to its slot's part and not cut.
+/// Puts the pieces of the message at the end of the parts of the slots that take them; a message for
+/// one key is moved and not cut.
 fn place<U: Update>(
     alloc: Global,
     slots: &[Slot<U>],
@@ -126,6 +128,7 @@ fn reserve_each<U: Update>(slots: &mut [Slot<U>], parts: &[Vec<Msg<U>>]) -> Resu
         return Ok(());
     };
     let Some((part, parts)) = parts.split_first() else {
+        // No caller has fewer parts than slots.
         return Ok(());
     };
     slot.pending.reserve(part.len())?;
@@ -162,6 +165,7 @@ fn reserve_homes<U: Update>(
         return Ok(true);
     };
     let Some((home, homes)) = homes.split_first_mut() else {
+        // Not met: `prepare` has a place for each message.
         return Ok(false);
     };
     let Some(i) = home_of(slots, msg) else {
@@ -188,7 +192,8 @@ fn prepare_parts<U: Update>(
     Ok(parts)
 }
 
-/// Likewise, but a few messages that have all their keys in one slot each go to their slots as they are.
+/// Cuts the messages for a root's slots and reserves room in them, but a few messages that have all
+/// their keys in one slot each go to their slots as they are.
 pub fn prepare<U: Update>(
     alloc: Global,
     slots: &mut [Slot<U>],

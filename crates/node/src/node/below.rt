@@ -37,7 +37,8 @@ pub fn step_subtree<U: Update, C: Change<U>>(
     step_below(alloc, change, shape, top, hi, at.numbers(), slot as usize)
 }
 
-/// Likewise at the node that these slot numbers lead to.
+/// Does a change at the slot with number `slot` of the node that these slot numbers lead to, in a
+/// subtree that ends at `hi`.
 fn step_below<U: Update, C: Change<U>>(
     alloc: Global,
     change: &C,

@@ -24,6 +24,7 @@ pub fn held<U: Update>(slots: &[Slot<U>]) -> u128
         return 0;
     }
     let Some((slot, later)) = slots.split_first() else {
+        // Not met: there is a first slot.
         return 0;
     };
     slot.pending.len() as u128 + held(later)
@@ -114,6 +115,7 @@ pub fn height<U: Update>(node: &Node<U>) -> u128
         return 0;
     };
     match slots.first() {
+        // Not met in a lawful tree, whose inner nodes have slots.
         None => 1,
         Some(slot) => height(&slot.child).saturating_add(1),
     }

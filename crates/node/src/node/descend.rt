@@ -41,7 +41,8 @@ fn refusal_here<U: Update, C: Change<U>>(
     None
 }
 
-/// Likewise for the node that `place` leads to, below or at `node`, whose range ends at `hi`.
+/// Why the change is not done at the slot with number `slot` of the node that `place` leads to, below
+/// or at `node`, whose range ends at `hi`, as far as reading tells.
 pub fn refusal<U: Update, C: Change<U>>(
     change: &C,
     shape: Shape,
@@ -87,6 +88,7 @@ pub fn descend<U: Update, C: Change<U>>(
         return StepReply::NoMemory;
     };
     let Body::Inner(slots) = own.body_mut() else {
+        // Not met: `refusal` has gone the same way before.
         return StepReply::NotThere;
     };
     let Some((first, rest)) = place.split_first() else {
@@ -96,6 +98,7 @@ pub fn descend<U: Update, C: Change<U>>(
     };
     let i = *first as usize;
     if i >= slots.len() {
+        // Not met: `refusal` has gone the same way before.
         return StepReply::NotThere;
     }
     let reply = descend(alloc, change, shape, root, &mut slots[i].child, rest, slot);

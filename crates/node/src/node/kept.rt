@@ -50,6 +50,7 @@ pub fn put_kept<U: Update>(slots: &mut [Slot<U>], parts: &mut [Vec<Msg<U>>], kep
         return;
     };
     let Some((part, parts)) = parts.split_first_mut() else {
+        // No caller has fewer parts than slots.
         return;
     };
     let (plain, kept) = first_kept(kept);
@@ -92,9 +93,11 @@ fn put_whole<U: Update>(slots: &mut [Slot<U>], msgs: &mut Taken<U>, homes: &[usi
         return;
     };
     let Some((home, homes)) = homes.split_first() else {
+        // Each message has the number of its slot.
         unreachable!()
     };
     let i = *home;
+    // The number was noted for one of these slots: said for the checker.
     let is_there = i < slots.len();
     prove!(is_there);
     let plain = is_kept(kept, i);
@@ -182,6 +185,7 @@ fn append_both_slots<A: Update, B: Update>(
     ensures second_err { OnErr result (map see_slot second.new ≡ map see_slot second.old) }
 {
     let first_batch = prepare(alloc, first, first_msgs)?;
+    // Where this is refused, the first root has gained room and nothing else.
     let second_batch = prepare(alloc, second, second_msgs)?;
     put_batch(first, first_batch, first_kept);
     put_batch(second, second_batch, second_kept);
@@ -196,6 +200,7 @@ impl<U: Update> Node<U> {
         ensures err { OnErr result (self.new ≡ self.old) }
     {
         let Body::Inner(slots) = self.body_mut() else {
+            // A root is an inner node.
             unreachable!()
         };
         append_one(alloc, slots.as_mut_slice(), msg)
@@ -214,13 +219,14 @@ impl<U: Update> Node<U> {
         ensures err { OnErr result (self.new ≡ self.old) }
     {
         let Body::Inner(slots) = self.body_mut() else {
+            // A root is an inner node.
             unreachable!()
         };
         append_slots(alloc, slots.as_mut_slice(), msgs, kept)
     }
 }
 
-/// Likewise for two roots: both or neither.
+/// Puts messages into the slots of two roots, as `append_kept` does for each: both or neither.
 pub fn append_both_kept<A: Update, B: Update>(
     alloc: Global,
     first: &mut Node<A>,
@@ -240,9 +246,11 @@ pub fn append_both_kept<A: Update, B: Update>(
     ensures second_err { OnErr result (second.new ≡ second.old) }
 {
     let Body::Inner(one) = first.body_mut() else {
+        // A root is an inner node.
         unreachable!()
     };
     let Body::Inner(two) = second.body_mut() else {
+        // A root is an inner node.
         unreachable!()
     };
     append_both_slots(

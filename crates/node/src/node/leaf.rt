@@ -8,9 +8,9 @@ ghost use Rattle.node.specs.Leaves.{IsCount, IsEntry, IsGap, IsPlace, IsChanged,
 ghost use Rattle.node.specs.Meaning.{lookup};
 
 use super::copy::copy_entries;
-use rows::strides::count_passing;
 use message::{Msg, Update};
 use pathkey::{Key, KeyRange, NoMemory};
+use rows::strides::count_passing;
 use std::alloc::Global;
 
 /// How many entries stand before the key, found by a search in strides.
@@ -141,6 +141,7 @@ fn clear<V: Drop>(entries: &mut Vec<(Key, V)>, range: &KeyRange)
     ensures { IsChanged (is_in range.now) None entries.old.items entries.new.items }
 {
     let first = count_before(entries.as_slice(), &range.lo);
+    // A range without keys may end before it begins.
     let end = count_below(entries.as_slice(), &range.hi).max(first);
     entries.drain(first..end);
 }

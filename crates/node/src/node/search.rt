@@ -13,9 +13,9 @@ ghost use Rattle.node.specs.Site.{end_of};
 
 use super::{Body, Node, Slot};
 use message::ends::{ends_by, is_before_end};
-use rows::strides::count_passing;
 use message::{Changes, Msg, Update};
 use pathkey::{Key, KeyRange};
+use rows::strides::count_passing;
 
 /// The number of the slot whose range holds the key, found by a search in strides.
 pub fn slot_of<U: Update>(slots: &[Slot<U>], key: &Key) -> usize
@@ -25,6 +25,7 @@ pub fn slot_of<U: Update>(slots: &[Slot<U>], key: &Key) -> usize
     ensures number { result ≡ slot_number (seen_slots slots.now) key.now }
 {
     let Some((_, later)) = slots.split_first() else {
+        // Not met: there is a first slot.
         return 0;
     };
     count_passing(later, |slot| slot.lo.cmp(key).is_le())

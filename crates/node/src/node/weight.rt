@@ -57,6 +57,7 @@ fn weight_of<U: Update>(body: &Body<U>) -> Weight
             let child: &Node<U> = &slot.child;
             let below = match child.weight {
                 Some(below) => below,
+                // Rare: a merge that was refused memory half way leaves a child so.
                 None => weight_of(&child.body),
             };
             weight = weight.with_slot(slot.pending.len(), below);
@@ -80,6 +81,7 @@ impl<U: Update> Node<U> {
     {
         match self.weight {
             Some(weight) => weight,
+            // So a root stands after an append, which forgets its weight.
             None => weight_of(&self.body),
         }
     }

@@ -20,24 +20,28 @@ fn replace_child<U: Update>(slot: &mut Slot<U>, count: usize, subtree: Arc<Node<
     slot.child = subtree;
 }
 
-/// Likewise for the slot with number `i`.
+/// Puts the subtree in the place of the child of the slot with number `i`, and takes that slot's oldest
+/// `count` messages away.
 fn graft_slot<U: Update>(slots: &mut [Slot<U>], i: usize, count: usize, subtree: Arc<Node<U>>)
     requires { AtSlot (λ lo hi msgs child. count ≤ length msgs) i None (seen_slots slots.old) }
     ensures { IsGrafted i count subtree.value (inner (seen_slots slots.old)) (inner (seen_slots slots.new)) }
 {
     if i >= slots.len() {
+        // Not met: there is a slot with this number.
         return;
     }
     replace_child(&mut slots[i], count, subtree)
 }
 
 impl<U: Update> Node<U> {
-    /// Likewise for a slot of a root.
+    /// Puts the subtree in the place of the child of a root's slot, and takes that slot's oldest
+    /// `count` messages away.
     fn graft(&mut self, i: usize, count: usize, subtree: Arc<Node<U>>)
         requires { AtRootSlot (λ lo hi msgs child. count ≤ length msgs) i self.old }
         ensures { IsGrafted i count subtree.value self.old self.new }
     {
         let Body::Inner(slots) = self.body_mut() else {
+            // A root is an inner node.
             unreachable!()
         };
         graft_slot(slots.as_mut_slice(), i, count, subtree)

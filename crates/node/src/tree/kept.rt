@@ -28,6 +28,7 @@ impl<U: Update> Tree<U> {
     {
         let root = &mut self.root;
         if msgs.is_empty() {
+            // No root is copied for nothing, so this is never refused.
             return Ok(());
         }
         Arc::make_mut(root)?.append_kept(alloc, msgs, kept)
@@ -65,10 +66,12 @@ pub fn append_both_kept<A: Update, B: Update>(
     ensures nothing { first_msgs.items ≡ [] → second_msgs.items ≡ [] → IsOk result }
 {
     if first_msgs.is_empty() || second_msgs.is_empty() {
+        // One of the two calls does nothing and is never refused: so these too are both or neither.
         first.append_kept(alloc, first_msgs, first_kept)?;
         return second.append_kept(alloc, second_msgs, second_kept);
     }
     let one = Arc::make_mut(&mut first.root)?;
+    // Where this is refused, the first tree may have got a root of its own, and is the same.
     let two = Arc::make_mut(&mut second.root)?;
     kept::append_both_kept(
         alloc,

@@ -27,7 +27,7 @@ impl<U: Update> Tree<U> {
         self.step_below(alloc, change, at.numbers(), slot)
     }
 
-    /// Likewise for the node that these slot numbers lead to.
+    /// Does a change at the slot with number `slot` of the node that these slot numbers lead to.
     fn step_below<C: Change<U>>(
         &mut self,
         alloc: Global,
