@@ -1,12 +1,12 @@
 //! Updates of single blocks, and a file's bytes through an index, in tables with the values written out.
 
-use crate::rows::{Holds, all_hold};
 use block_index::{Block, BlockIndex, BlockUpdate, Patch};
 use bytes::Bytes;
 use message::{Msg, Update};
 use node::Shape;
 use pathkey::{Key, NoMemory, Path, block_key, subtree};
 use samples::ask::path;
+use samples::{Holds, all_hold};
 use scan::scan;
 use std::alloc::Global;
 

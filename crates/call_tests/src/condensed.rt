@@ -2,11 +2,11 @@
 
 use crate::blocks::Laid;
 use crate::metadata::key_of;
-use crate::rows::{Holds, all_hold};
 use block_index::BlockUpdate;
 use message::Msg;
 use pathkey::Key;
 use pending::Pending;
+use samples::{Holds, all_hold};
 use std::alloc::Global;
 
 /// A patch of one block, and how many messages wait for the block then.

@@ -15,5 +15,3 @@ mod counts;
 mod metadata;
 #[cfg(test)]
 mod plain;
-#[cfg(test)]
-mod rows;

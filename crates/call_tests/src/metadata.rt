@@ -1,11 +1,11 @@
 //! What an index answers, by rows of paths, beside the directory tree that the rows name.
 
-use crate::rows::{Holds, all_hold};
 use message::Msg;
 use meta_index::{At, Kind, Meta, MetaIndex, MetaUpdate};
 use node::{Shape, Tree};
 use pathkey::{Errno, Key, NoMemory, Path, subtree};
 use samples::ask::path;
+use samples::{Holds, all_hold};
 use scan::scan;
 use std::alloc::Global;
 

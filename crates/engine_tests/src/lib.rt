@@ -16,7 +16,7 @@ mod ends;
 #[cfg(test)]
 mod meeting;
 #[cfg(test)]
-mod rows;
+mod pairs;
 #[cfg(test)]
 mod scene;
 #[cfg(test)]

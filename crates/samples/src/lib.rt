@@ -8,7 +8,7 @@ pub mod files;
 pub mod plain;
 pub mod random;
 pub mod row;
-pub mod rows;
+pub mod table_rows;
 
 pub use ask::{Ask, Told};
 pub use digit::Digit;
@@ -16,4 +16,4 @@ pub use files::file_name;
 pub use plain::{Plain, are, are_numbered, batch, key, number, range, waits};
 pub use random::Random;
 pub use row::Row;
-pub use rows::{Holds, all_hold};
+pub use table_rows::{Holds, all_hold};
