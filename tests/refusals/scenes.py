@@ -1,7 +1,7 @@
 """The scenes: what each one is called, what stands before it, what is asked, and how it is judged.
 
 A scene runs `refusals` with its words and its opening on standard input, or the whole of `betr`. `free` ones must do as ever with every
-request refused; of the others each request is refused once. Of those of `list_costs` nothing is refused: their requests are counted.
+request refused; of the others each request is refused once. Of those of lists nothing is refused: their requests are counted.
 """
 import dataclasses
 from collections.abc import Callable
@@ -14,7 +14,7 @@ class Scene:
     group: str
     words: tuple[str, ...]
     opening: tuple[str, ...]
-    # How it is judged: `call`, `script`, `run`, `text` or `count`.
+    # How it is judged: `call`, `script`, `run`, `text`, `count` or `more`.
     judged: str = "call"
     # Whether it takes no memory, so that it does as ever with every request refused.
     free: bool = False
@@ -22,6 +22,11 @@ class Scene:
     wanted: str = ""
     # What is printed behind a deed on lists of so many messages of a kind.
     left: Callable[[int], tuple[str, ...]] = lambda _: ()
+    # How many messages of a kind the deed's long lists have, and how many requests are then too many.
+    many: int = 2_048
+    too_many: int = 512
+    # The lines behind a script whose requests are counted.
+    lines: tuple[str, ...] = ()
 
     @property
     def name(self) -> str:
@@ -310,6 +315,12 @@ def engines():
 def lists():
     for deed, left in DEEDS:
         yield Scene("lists", ("list_costs", deed), (), judged="count", left=left)
+    # A copy is a pointer for each row, and a row has 64 messages.
+    copied = Scene("lists", ("list_costs", "copy"), (), judged="count", left=lambda count: (f"copy {count} 0",))
+    yield dataclasses.replace(copied, many=65_536, too_many=1_024)
+    # The first change behind a snapshot copies no message that waits in the root.
+    waiting = ("mkdir /d", *(f"create /d/f{number:05}" for number in range(65_536)))
+    yield Scene("lists", ("betr",), waiting, judged="more", lines=("snapshot s", "write /d/f00000 0 61"), too_many=2_000)
 
 
 def all_scenes():

@@ -1,6 +1,6 @@
-//! Pending lists that are cut, joined or sunk, or of which some messages are taken, each between the two lines. Each key is so long that
+//! Pending lists that are cut, joined, sunk or copied, or of which some messages are taken, each between the two lines. Each key is so long that
 //! a copy of it takes memory, so a copy of a message shows among the requests.
-use crate::lists::{List, apart, eight, middle_of_apart, middle_of_nested, nested, updates};
+use crate::lists::{List, apart, eight, middle_of_apart, middle_of_nested, nested, puts, updates};
 use crate::window;
 use crate::words::word_at;
 use pathkey::{Key, NoMemory};
@@ -18,6 +18,7 @@ pub fn scene<R: Print>(rt: &R, alloc: Global, words: &[&str], out: &mut Vec<u8>)
         "join_tails" => Some(join_nested(rt, alloc, count, out).is_ok()),
         "sink" => Some(sink_apart(rt, alloc, count, out).is_ok()),
         "take" => Some(take_updates(rt, alloc, count, out).is_ok()),
+        "copy" => Some(copy_puts(rt, alloc, count, out).is_ok()),
         _ => None,
     }
 }
@@ -162,4 +163,19 @@ fn take_updates<R: Print>(
 ) -> Result<(), NoMemory> {
     let to = updates(alloc, count)?;
     take(rt, alloc, updates(alloc, count)?, to, out)
+}
+
+/// Copies a list of puts.
+fn copy_puts<R: Print>(
+    rt: &R,
+    alloc: Global,
+    count: u32,
+    out: &mut Vec<u8>,
+) -> Result<(), NoMemory> {
+    let list = puts(alloc, count)?;
+    window::open(rt);
+    let copy = list.copy(alloc);
+    window::close(rt);
+    tell(out, "copy", &copy?);
+    Ok(())
 }

@@ -106,3 +106,12 @@ pub fn updates(alloc: Global, count: u32) -> Result<List, NoMemory> {
     add(&mut list, put(alloc, 1)?)?;
     Ok(list)
 }
+
+/// A list with so many puts, of rising numbers.
+pub fn puts(alloc: Global, count: u32) -> Result<List, NoMemory> {
+    let mut list = Pending::new(alloc);
+    for i in 0..u64::from(count) {
+        add(&mut list, put(alloc, i)?)?;
+    }
+    Ok(list)
+}
