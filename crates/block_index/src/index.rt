@@ -60,8 +60,9 @@ impl BlockIndex {
         self.read_counted(alloc, path, off, n, len, &mut searches)
     }
 
-    /// Likewise, and leaves in `searches` how many look-ups it made: one for each block that holds bytes of the answer, so at most 257
-    /// where `n` is at most 1,048,576.
+    /// The bytes of the file from `off` on, as `read` gives them. It leaves in `searches` how many
+    /// look-ups it made: one for each block that holds bytes of the answer, so at most 257 where `n` is
+    /// at most 1,048,576.
     pub fn read_counted(
         &self,
         alloc: Global,
@@ -80,6 +81,7 @@ impl BlockIndex {
         // What `key` promises says that the path is one.
         let _key = path.key();
         *searches = 0;
+        // A sum that is cut off lies past the file's end all the same.
         let end = off.saturating_add(n).min(len);
         if end <= off {
             return Ok(Vec::new(alloc));

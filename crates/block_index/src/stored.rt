@@ -52,6 +52,7 @@ impl Stored {
                     own.truncate(n);
                     true
                 }
+                // They have other owners.
                 None => false,
             },
         }
@@ -71,6 +72,7 @@ impl Stored {
                     overlay(own, patch)?;
                     Ok(true)
                 }
+                // They have other owners.
                 None => Ok(false),
             },
         }

@@ -103,6 +103,7 @@ fn read_at(
     if count > GREATEST_READ {
         return Err(Errno::EINVAL);
     }
+    // A sum that is cut off lies past the file's end all the same.
     let end = offset.saturating_add(count).min(len);
     if end <= offset {
         return Ok(0);

@@ -71,6 +71,7 @@ fn file_of(at: At, directory: Errno) -> Result<FoundFile, Errno>
 {
     match at {
         At::Found(Meta::File { len, modified }) => Ok(FoundFile {
+            // The bound is not met in a tree: it stands for the checker.
             len: len.min(GREATEST_FILE),
             modified,
         }),

@@ -101,6 +101,7 @@ fn fault_of_replacing(from: At, to: At, empty: bool) -> Option<Errno>
         (At::Found(Meta::Dir { .. }), At::Found(Meta::Dir { .. })) if !empty => Some(
             Errno::ENOTEMPTY,
         ),
+        // Nothing stands there, a file takes a file's place, or a directory an empty one's.
         _ => None,
     }
 }

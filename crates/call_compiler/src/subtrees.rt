@@ -32,6 +32,7 @@ pub(crate) fn put_moved<U: Update>(
     let mut pieces = Pieces::new(alloc);
     'pairs: while let Some((key, value)) = pieces.first(alloc, tree, &rest)? {
         let Some(moved) = rekey(alloc, &key, old, new)? else {
+            // Not met: each key of the range begins with the old path's.
             return Ok(msgs);
         };
         msgs.push(Msg::Put(moved, value))?;

@@ -107,6 +107,7 @@ pub fn stands_in_root(path: &Path) -> bool
     ensures { result ≡ list_any is_root (parent path.now ∷ []) }
 {
     let Some((_, rest)) = path.names().split_first() else {
+        // The root is its own directory.
         return true;
     };
     rest.split_first().is_none()

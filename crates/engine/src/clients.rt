@@ -83,6 +83,7 @@ impl<J: Naming> Clients<J> {
         }
         match self.list.push(client) {
             Ok(()) => Ok(()),
+            // Not met: there is room for as many clients as the engine has.
             Err(refused) => Err(refused.value),
         }
     }

@@ -47,6 +47,7 @@ impl<J: Naming> Hub<J> {
         match &mut *guard {
             Some(desk) => desk.make(self.words(), client, act),
             None => {
+                // Not met: an engine ends with all its clients, so none is left to ask.
                 for _ in rt.forever() {}
                 unreachable!()
             }
@@ -69,6 +70,7 @@ impl<J: Naming> Hub<J> {
                 (one, other)
             }
             None => {
+                // Not met: an engine ends with all its clients, so none is left to ask.
                 for _ in rt.forever() {}
                 unreachable!()
             }
@@ -90,6 +92,7 @@ impl<J: Naming> Hub<J> {
                 (client, desk.freeze())
             }
             None => {
+                // Not met: an engine ends with all its clients, so none is left to ask.
                 for _ in rt.forever() {}
                 unreachable!()
             }
@@ -116,6 +119,7 @@ impl<J: Naming> Hub<J> {
                 (client, desk.frozen(name))
             }
             None => {
+                // Not met: an engine ends with all its clients, so none is left to ask.
                 for _ in rt.forever() {}
                 unreachable!()
             }
@@ -185,6 +189,7 @@ impl<J: Naming> Hub<J> {
         let mut guard = self.desk.lock(rt);
         match &mut *guard {
             Some(desk) => desk.take(alloc, self.words(), flusher),
+            // The engine has ended.
             None => (flusher, TakeReply::NotThere),
         }
     }

@@ -63,7 +63,7 @@ impl Room {
     }
 }
 
-/// The same under a name.
+/// Opens an engine that has a name, lets its clients work beside flushers, and closes it.
 fn serve_in<J: Naming + Send + Sync, W: Work + Sync, R: Threads + Wait + Sync>(
     rt: &R,
     alloc: Global,
@@ -101,6 +101,7 @@ fn work_and_end<J: Naming + Send + Sync, W: Work + Sync, R: Threads + Wait + Syn
     let worked = work_beside(rt, alloc, clients, staff, work);
     match engine.close(rt, worked) {
         Ok(report) => Ok(report),
+        // Memory was refused: no client is missing.
         Err(_) => Err(ServeFault::NotClosed),
     }
 }
@@ -180,6 +181,7 @@ fn start<'s, E, J: Naming + Send + Sync + 's, R: Wait + Sync>(
 
 /// Turns until the clients are done.
 fn flush<J: Naming, R: Wait>(rt: &R, alloc: Global, mut flusher: Flusher<J>, is_done: &AtomicBool) {
+    // No work lasts for so many turns.
     for _ in 0..u64::MAX {
         if is_done.load(Ordering::SeqCst) {
             return;
@@ -198,6 +200,7 @@ fn work_all<J: Naming + Send + Sync, W: Work + Sync, R: Threads + Wait + Sync>(
     requires { clients.old ≡ fresh J.clients }
     ensures { Worked (W.does work.now J.opening) J.clients clients.new }
 {
+    // There is one client at least: the bound stands for the checker.
     let count = clients.len().max(1);
     for_each_mut(
         rt,

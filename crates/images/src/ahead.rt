@@ -68,6 +68,7 @@ impl Ahead {
         let piece = frozen.entries(alloc, last, PIECE)?;
         self.all = piece.len() < PIECE;
         self.entries = VecDeque::from_vec(piece);
+        // The first is the one at this path.
         drop(self.entries.pop_front());
         Ok(())
     }

@@ -64,6 +64,7 @@ pub fn print_image<W: Write>(
     let mut spot = Spot::behind_root(alloc);
     let mut ahead = Ahead::new(alloc);
     let told = print_all(alloc, frozen, &mut spot, &mut ahead, &mut text, writer);
+    // Let go by calls, so that the proof costs less.
     drop(ahead);
     drop(spot);
     drop(text);

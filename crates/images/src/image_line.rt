@@ -46,6 +46,7 @@ pub fn read_image_line(
         return Ok(None);
     };
     let written = write_line(alloc, version, &line, text.len())?;
+    // What is not handed on is let go by calls, so that the proof costs less.
     if written.as_slice() == text {
         drop(written);
         Ok(Some(line))
@@ -66,12 +67,14 @@ fn write_line(
     requires { IsLine (version_of version) (line_of line.now) }
     ensures { IfOk result (λ text. text.items ≡ spelled (version_of version) (line_of line.now)) }
 {
+    // No line is so long that the sum is cut off.
     let mut text = Vec::with_capacity(alloc, bytes.saturating_add(1))?;
     match put_line(&mut text, version, line) {
         Ok(()) => {
             text.pop();
             Ok(text)
         }
+        // Writing into a text fails only for want of memory.
         Err(WriteFailed) => Err(NoMemory),
     }
 }

@@ -69,7 +69,8 @@ pub fn load_image<R: Read>(alloc: Global, shape: Shape, reader: &mut R) -> Resul
     }
 }
 
-/// The same of a text that is at hand. Nothing is read, so it never answers `Read`, and no line is copied but one that has no end.
+/// The volume whose tree has the image that the text is, as `load_image` loads it. Nothing is read, so
+/// it never answers `Read`, and no line is copied but one that has no end.
 pub fn load_text(alloc: Global, shape: Shape, text: &[u8]) -> Result<Volume, LoadFault>
     ensures loaded { IfOk result (Loaded text.now) }
     ensures form { IfOk result (λ v. form_of v ≡ new_form shape) }
@@ -91,6 +92,7 @@ fn load_whole(alloc: Global, mut loader: Loader, text: &[u8]) -> Result<Volume, 
     ensures read { result ≢ Err LoadFault.Read }
 {
     if let Err(fault) = loader.take(alloc, text) {
+        // Let go by a call, so that the proof costs less.
         drop(loader);
         return Err(fault);
     }
@@ -108,6 +110,7 @@ fn load_pieces<R: Read>(
     ensures shape { result ≢ Err LoadFault.Shape }
     ensures read { (s : TreeShape) → IsFresh s loader → result ≡ Err LoadFault.Read → HasBegun (R.remaining reader.old) (R.remaining reader.new) }
 {
+    // What is not handed on is let go by calls, so that the proof costs less.
     let Ok(mut piece) = Vec::from_elem(alloc, 0u8, PIECE) else {
         drop(loader);
         return Err(LoadFault::Memory);
@@ -372,11 +375,13 @@ impl Loading {
         ensures read { result ≢ Err LoadFault.Read }
     {
         if self.last.key().cmp(path.key()) != Ordering::Less {
+            // Let go by a call, so that the proof costs less.
             drop(path);
             return Err(LoadFault::Bad(number));
         }
         if let Err(fault) = self.volume.plant_entry(alloc, &path, meta) {
             let refused = entry_fault(fault, number);
+            // Let go by a call, so that the proof costs less.
             drop(path);
             return Err(refused);
         }
@@ -468,10 +473,12 @@ fn write_bytes(
         Ok(path) => {
             let call = Call::Write(path, offset, bytes);
             let counted = counts(alloc, volume, &call, at);
+            // Let go by a call, so that the proof costs less.
             drop(call);
             counted
         }
         Err(NoMemory) => {
+            // Let go by a call, so that the proof costs less.
             drop(bytes);
             false
         }
@@ -485,6 +492,7 @@ fn counts(alloc: Global, volume: &mut Volume, call: &Call, at: u64) -> bool
     let reply = volume.call(alloc, call, at);
     match &reply {
         Reply::Count(_) => true,
+        // Memory was refused: nothing else keeps a write off a file that is long enough.
         _ => false,
     }
 }

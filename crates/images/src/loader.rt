@@ -51,17 +51,19 @@ impl Loader {
         }
         match Volume::new(alloc, shape) {
             Ok(volume) => Loader::over(alloc, volume),
+            // The shape is ok, so memory was refused.
             Err(_refused) => Err(LoadFault::Memory),
         }
     }
 
-    // The same for a volume that is new.
+    // A loader that took nothing yet, for a volume that is new.
     fn over(alloc: Global, volume: Volume) -> Result<Loader, LoadFault>
         requires { Means volume (alone (Dir 0 nothing)) }
         ensures fresh { (shape : TreeShape) → form_of volume ≡ new_form shape → IfOk result (IsFresh shape) }
         ensures refused { IfErr result (λ e. e ≡ LoadFault.Memory) }
     {
         let Ok(held) = Vec::with_capacity(alloc, LONGEST_LINE + 1) else {
+            // Let go by a call, so that the proof costs less.
             drop(volume);
             return Err(LoadFault::Memory);
         };
@@ -102,6 +104,7 @@ impl Loader {
             held,
             intake: _,
         } = self;
+        // What is not handed on is let go by calls, so that the proof costs less.
         drop(held);
         match told {
             Ok(()) => Ok(loading.volume),
@@ -146,6 +149,7 @@ impl Loader {
         match taken {
             Ok(()) => Intake::Open,
             Err(LoadFault::Bad(number)) => Intake::Spoiled(*number),
+            // `Memory`: a piece is never answered `Shape` or `Read`.
             Err(_) => Intake::Starved,
         }
     }

@@ -40,6 +40,7 @@ impl Printing {
         match Ready::new(alloc, &frozen) {
             Ok(ready) => Ok(Printing { frozen, ready }),
             Err(NoMemory) => {
+                // Let go by a call, so that the proof costs less.
                 drop(frozen);
                 Err(NoMemory)
             }

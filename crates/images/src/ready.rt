@@ -34,6 +34,7 @@ impl Ready {
     {
         let mut text = Vec::new(alloc);
         let Ok(()) = put_number_line(&mut text, b"D / ", frozen.modified()) else {
+            // Writing into a text fails only for want of memory.
             return Err(NoMemory);
         };
         Ok(Ready {
@@ -66,8 +67,10 @@ impl Ready {
             &mut blocks,
             &mut self.text,
         ) {
+            // The place stays, and what was taken ahead may no longer follow it.
             self.ahead.clear();
             self.text.clear();
+            // Let go by a call, so that the proof costs less.
             drop(spot);
             return Err(NoMemory);
         }

@@ -39,7 +39,7 @@ impl Spot {
         }
     }
 
-    /// The same place.
+    /// A copy of the place.
     pub(crate) fn copy(&self, alloc: Global) -> Result<Spot, NoMemory>
         ensures { IfOk result (λ s. s ≡ self.now) }
     {
@@ -123,6 +123,7 @@ impl Spot {
                 return Ok(());
             };
             let Ok(()) = put_block(text, number, block.as_slice()) else {
+                // Writing into a text fails only for want of memory.
                 return Err(NoMemory);
             };
             self.from = number + 1;
@@ -151,6 +152,7 @@ fn put_entry(text: &mut Vec<u8>, path: &Path, meta: Meta) -> Result<(), NoMemory
     };
     match put {
         Ok(()) => Ok(()),
+        // Writing into a text fails only for want of memory.
         Err(WriteFailed) => Err(NoMemory),
     }
 }

@@ -34,6 +34,7 @@ fn find<U: Update>(alloc: Global, node: &Node<U>, key: &Key) -> Result<Option<U:
         Body::Leaf(entries) => find_entry::<U>(alloc, entries.as_slice(), key),
         Body::Inner(slots) => {
             if slots.is_empty() {
+                // Not met in a lawful tree, whose inner nodes have slots.
                 return Ok(None);
             }
             let slot = &slots[slot_of(slots.as_slice(), key)];

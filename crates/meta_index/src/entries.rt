@@ -22,8 +22,10 @@ pub(crate) fn keys_below(alloc: Global, path: &Path) -> Result<KeyRange, NoMemor
 pub(crate) fn name_behind<'a>(directory: &Key, key: &'a Key) -> &'a [u8]
     ensures { (n : List ℕ) → key.now ≡ directory.now ++ (n ++ 0 ∷ []) → result.now ≡ n }
 {
+    // A directory's key is never the longer one: the bound stands for the checker.
     let front = directory.as_bytes().len().min(key.as_bytes().len());
     match key.as_bytes()[front..].split_last() {
+        // Not met: a byte 0 stands at the end.
         None => &[],
         Some((_, name)) => name,
     }

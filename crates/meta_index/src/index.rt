@@ -78,6 +78,7 @@ impl MetaIndex {
             }
             ancestor = above.parent(alloc)?;
         }
+        // Not met where the index means a tree: something stands at the root.
         Ok(At::Missing)
     }
 
@@ -93,7 +94,8 @@ impl MetaIndex {
         }
     }
 
-    /// Likewise, with the parent's moment of last change. It fails only for want of memory.
+    /// The parent of the path with its moment of last change, where a directory stands there, or why no
+    /// entry can be made at the path; the root is its own parent. It fails only for want of memory.
     pub fn find_dated_parent(
         &self,
         alloc: Global,
@@ -129,7 +131,8 @@ impl MetaIndex {
         self.is_empty_dir_counted(alloc, path, &mut searches)
     }
 
-    /// Likewise, and leaves in `searches` how often it asked the tree for a first pair: once.
+    /// Whether nothing stands below the path, as `is_empty_dir` tells it. It leaves in `searches` how
+    /// often it asked the tree for a first pair: once.
     pub fn is_empty_dir_counted(
         &self,
         alloc: Global,
@@ -155,8 +158,9 @@ impl MetaIndex {
         self.children_counted(alloc, path, &mut searches)
     }
 
-    /// Likewise, and leaves in `searches` how often it walked the tree: for each entry once at most, and once more. No walk asks for
-    /// more than 256 pairs.
+    /// The entries of the directory at the path, as `children` lists them. It leaves in `searches` how
+    /// often it walked the tree: for each entry once at most, and once more. No walk asks for more than
+    /// 256 pairs.
     pub fn children_counted(
         &self,
         alloc: Global,
@@ -170,8 +174,10 @@ impl MetaIndex {
         self.children_measured(alloc, path, searches, &mut pairs)
     }
 
-    /// Likewise, and leaves in `pairs` for how many pairs these walks asked, all together: for each entry two at most, and 32 more,
-    /// whatever lies below the entries.
+    /// The entries of the directory at the path, as `children` lists them. It leaves in `walks` how
+    /// often it walked the tree, as `children_counted` does, and in `pairs` for how many pairs these
+    /// walks asked, all together: for each entry two at most, and 32 more, whatever lies below the
+    /// entries.
     pub fn children_measured(
         &self,
         alloc: Global,

@@ -9,8 +9,8 @@ ghost use Rattle.message.specs.Ranges.{before};
 ghost use Rattle.scan.specs.Merging.{AreAll, StartsFrom, IsMoved, LeavesGaps, IsMerged};
 ghost use Rattle.scan.specs.Stretches.{pair_of};
 
-use message::ends::is_before_end;
 use message::Update;
+use message::ends::is_before_end;
 use pathkey::{Key, NoMemory};
 use pending::Pending;
 use std::alloc::Global;

@@ -93,10 +93,12 @@ impl<U: Update> Pieces<U> {
         ensures asked { self.new.asked ≡ min (self.old.asked + max self.old.most 1) (2 ^ 64 - 1) }
         ensures most { self.new.most ≡ min (2 * max self.old.most 1) 256 }
     {
+        // Never 0, but no type keeps that.
         let most = self.most.max(1);
         self.most = most.saturating_add(most).min(MOST);
         self.walks = self.walks.saturating_add(1);
         self.asked = self.asked.saturating_add(most as u64);
+        // It is counted already, also where it is refused memory.
         let piece = scan(alloc, tree, range, most)?;
         self.all = piece.len() < most;
         self.pairs = VecDeque::from_vec(piece);

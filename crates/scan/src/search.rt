@@ -35,6 +35,7 @@ pub fn first<U: Update>(
         Body::Inner(slots) => slots,
     };
     if slots.is_empty() {
+        // Not met in a lawful tree, whose inner nodes have slots.
         return Ok(None);
     }
     let mut from = lo.copy(alloc)?;

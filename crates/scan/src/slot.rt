@@ -6,8 +6,8 @@ ghost use Rattle.node.specs.See.{seen_slots};
 ghost use Rattle.node.specs.Site.{end_of};
 ghost use Rattle.scan.specs.Stretches.{changed, pair_of};
 
-use message::ends::earlier;
 use message::Update;
+use message::ends::earlier;
 use node::Slot;
 use node::search::end_of;
 use pathkey::{Key, NoMemory};

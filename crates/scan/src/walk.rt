@@ -45,6 +45,7 @@ pub fn walk<U: Update>(
         Body::Inner(slots) => slots,
     };
     if slots.is_empty() {
+        // Not met in a lawful tree, whose inner nodes have slots.
         return Ok(());
     }
     let mut from = lo.copy(alloc)?;
@@ -92,8 +93,8 @@ fn walk_slot<U: Update>(
     walk_rounds(alloc, slot, from, stop, limit, pairs)
 }
 
-/// The same where no range-delete holds a key, in rounds: messages may take pairs away, so that more of the child's are asked
-/// for.
+/// Pushes the pairs of a slot where no range-delete holds a key, until there are `limit` pairs, in
+/// rounds: messages may take pairs away, so that more of the child's are asked for.
 #[cycle(walk)]
 fn walk_rounds<U: Update>(
     alloc: Global,

@@ -43,6 +43,7 @@ impl<'a, J: Naming, H: Wait> Session for Served<'a, J, H> {
         match self.client.frozen(self.rt, name) {
             Ok(frozen) => {
                 let reply = look_into(alloc, &frozen, look);
+                // Let go by a call, so that the proof costs less.
                 drop(frozen);
                 reply
             }

@@ -300,6 +300,7 @@ fn read_write(alloc: Global, path: &[u8], offset: &[u8], hex: &[u8]) -> Request
     match read_path(alloc, path) {
         Ok(path) => Request::Wanted(Call::Write(path, offset, bytes)),
         Err(fault) => {
+            // Let go by a call, so that the proof costs less.
             drop(bytes);
             Request::Refused(fault)
         }

@@ -62,6 +62,7 @@ pub fn read_words<'a>(alloc: Global, words: &'a [&'a str]) -> Result<Options<'a>
         trees: matches.get_str("trees"),
         script: matches.get_str("SCRIPT"),
     };
+    // Let go by a call, so that the proof costs less.
     drop(matches);
     Ok(options)
 }

@@ -30,13 +30,14 @@ pub fn run_beside_flushers<H: Threads + Wait + Sync, R: Read, W: Write>(
     match Room::new(alloc, volume) {
         Ok(room) => run_in::<Brand, H, R, W>(rt, alloc, room, flushers, reader, writer),
         Err(volume) => {
+            // Let go by a call, so that the proof costs less.
             drop(volume);
             Err(ScriptFault::Memory)
         }
     }
 }
 
-/// The same over the volume of a room.
+/// Runs the lines, beside flushers, by the one client of an engine over the volume of the room.
 fn run_in<J: Naming + Send + Sync, H: Threads + Wait + Sync, R: Read, W: Write>(
     rt: &H,
     alloc: Global,
@@ -50,13 +51,14 @@ fn run_in<J: Naming + Send + Sync, H: Threads + Wait + Sync, R: Read, W: Write>(
     match Engine::<J>::open(alloc, room, 1) {
         Ok((engine, clients)) => { run_first(rt, alloc, engine, clients, flushers, reader, writer) }
         Err(volume) => {
+            // Let go by a call, so that the proof costs less.
             drop(volume);
             Err(ScriptFault::Memory)
         }
     }
 }
 
-/// The same by the client of an engine that has one.
+/// Runs the lines, beside flushers, by the client of an engine that has one.
 fn run_first<J: Naming + Send + Sync, H: Threads + Wait + Sync, R: Read, W: Write>(
     rt: &H,
     alloc: Global,
@@ -68,14 +70,16 @@ fn run_first<J: Naming + Send + Sync, H: Threads + Wait + Sync, R: Read, W: Writ
 ) -> Result<Frozen, ScriptFault> {
     let tree = match clients.pop() {
         Some(client) => run_by(rt, alloc, &mut engine, client, flushers, reader, writer),
+        // Not met: the engine was opened with one client.
         None => Err(ScriptFault::Memory),
     };
+    // Let go by calls, so that the proof costs less.
     drop(clients);
     drop(engine);
     tree
 }
 
-/// The same by this client.
+/// Runs the lines, beside flushers, by this client. Answers the tree that is live then.
 fn run_by<J: Naming + Send + Sync, H: Threads + Wait + Sync, R: Read, W: Write>(
     rt: &H,
     alloc: Global,
@@ -89,6 +93,7 @@ fn run_by<J: Naming + Send + Sync, H: Threads + Wait + Sync, R: Read, W: Write>(
         Ok(()) => live_tree(rt, &mut client),
         Err(fault) => Err(fault),
     };
+    // Let go by a call, so that the proof costs less.
     drop(client);
     tree
 }

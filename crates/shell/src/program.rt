@@ -77,6 +77,7 @@ pub fn run_words<H: Files + Threads + Wait + Sync, R: Read, W: Write + Drop, E: 
         Ok(()) => DONE,
         Err(failure) => tell(failure, errors),
     };
+    // Let go by a call, so that the proof costs less.
     drop(ended);
     status
 }
@@ -98,6 +99,7 @@ fn tell<E: Write>(failure: &Failure, errors: &mut E) -> u8 {
 /// Prints help, where that was asked for.
 fn end_unread<W: Write>(error: clap::Error, output: &mut W) -> Result<(), Failure> {
     if error.kind() == ErrorKind::OutOfMemory {
+        // Let go by a call, so that the proof costs less.
         drop(error);
         return Err(Failure::Memory);
     }
@@ -105,6 +107,7 @@ fn end_unread<W: Write>(error: clap::Error, output: &mut W) -> Result<(), Failur
         return Err(Failure::Words(error));
     }
     let ended = print_help(&error, output);
+    // Let go by a call, so that the proof costs less.
     drop(error);
     ended
 }
@@ -144,6 +147,7 @@ fn run_file<H: Files + Threads + Wait + Sync, W: Write>(
     match open(rt, path) {
         Ok(mut file) => print(rt, alloc, volume, options, &mut file, output),
         Err(failure) => {
+            // Let go by a call, so that the proof costs less.
             drop(volume);
             Err(failure)
         }
@@ -173,6 +177,7 @@ fn first_volume<F: Files>(rt: &F, alloc: Global, options: &Options<'_>) -> Resul
 fn new_volume(alloc: Global, shape: Shape) -> Result<Volume, Failure> {
     match Volume::new(alloc, shape) {
         Ok(volume) => Ok(volume),
+        // Not met: the shape was found to be ok before.
         Err(Errno::EINVAL) => Err(Failure::Shape),
         Err(_) => Err(Failure::Memory),
     }
@@ -199,6 +204,7 @@ fn print<H: Files + Threads + Wait + Sync, R: Read, W: Write>(
     match BufWriter::with_capacity(alloc, OUTPUT_BUFFER, output) {
         Ok(mut buffer) => print_all(rt, alloc, volume, options, script, &mut buffer),
         Err(_) => {
+            // Let go by a call, so that the proof costs less.
             drop(volume);
             Err(Failure::Memory)
         }
@@ -219,6 +225,7 @@ fn print_all<H: Files + Threads + Wait + Sync, R: Read, W: Write>(
     }
     let mut volume = volume;
     let ended = print_lines(rt, alloc, &mut volume, options, script, writer);
+    // Let go by a call, so that the proof costs less.
     drop(volume);
     ended
 }
@@ -235,6 +242,7 @@ fn print_beside<H: Files + Threads + Wait + Sync, R: Read, W: Write>(
     match run_beside_flushers(rt, alloc, volume, options.flushers, script, writer) {
         Ok(tree) => {
             let ended = print_tree(rt, alloc, &tree, options, writer);
+            // Let go by a call, so that the proof costs less.
             drop(tree);
             ended
         }
@@ -279,6 +287,7 @@ fn save<F: Files>(rt: &F, path: &str, drawing: Result<Vec<u8>, NoMemory>) -> Res
     match drawing {
         Ok(text) => {
             let saved = fs::write(rt, path, text.as_slice());
+            // Let go by a call, so that the proof costs less.
             drop(text);
             saved.map_err(|_| Failure::Write)
         }
@@ -321,6 +330,7 @@ fn print_live<W: Write>(
     match volume.freeze() {
         Ok(tree) => {
             let ended = print_end(alloc, &tree, image, writer);
+            // Let go by a call, so that the proof costs less.
             drop(tree);
             ended
         }

@@ -66,7 +66,8 @@ pub fn run_script<R: Read, W: Write, P: Pace>(
     run_lines(alloc, volume, &mut at, reader, writer, pace)
 }
 
-// The same on a session: one that others share means no world that a contract could name, and then nothing is said.
+// Runs all the lines of the reader on a session, as `run_script` does on a volume. A session that
+// others share means no world that a contract could name, and then nothing is said.
 pub(crate) fn run_lines<S: Session, R: Read, W: Write, P: Pace>(
     alloc: Global,
     session: &mut S,
@@ -310,6 +311,7 @@ fn put_reply<W: Write>(writer: &mut W, reply: Reply) -> Result<(), WriteFailed>
     ensures err { OnErr result (AppendsPart (W.contents writer.old) (W.contents writer.new) (reply_text reply)) }
 {
     let told = write_reply(writer, &reply);
+    // Let go by a call, so that the proof costs less.
     drop(reply);
     told
 }

@@ -24,6 +24,7 @@ pub fn draw_volume(alloc: Global, volume: &Volume) -> Result<Vec<u8>, NoMemory>
     match put_volume(&mut sketch, volume) {
         Ok(()) => sketch.end(),
         Err(NoMemory) => {
+            // Let go by a call, so that the proof costs less.
             drop(sketch);
             Err(NoMemory)
         }
@@ -38,6 +39,7 @@ pub fn draw_alone(alloc: Global, indexes: &Indexes) -> Result<Vec<u8>, NoMemory>
     match put_indexes(&mut sketch, indexes) {
         Ok(_) => sketch.end(),
         Err(NoMemory) => {
+            // Let go by a call, so that the proof costs less.
             drop(sketch);
             Err(NoMemory)
         }
@@ -47,6 +49,7 @@ pub fn draw_alone(alloc: Global, indexes: &Indexes) -> Result<Vec<u8>, NoMemory>
 /// Draws both live trees, and each snapshot.
 fn put_volume(sketch: &mut Sketch, volume: &Volume) -> Result<(), NoMemory> {
     let roots = put_indexes(sketch, volume.indexes())?;
+    // There are at most 64 snapshots.
     for number in 0..64 {
         if let Some(name) = volume.snapshot_name(number) {
             put_named(sketch, volume, name, roots)?;
@@ -70,6 +73,7 @@ fn put_named(
     roots: Roots,
 ) -> Result<(), NoMemory> {
     let Some(kept) = volume.kept(name) else {
+        // Not met: the name is that of a snapshot.
         return Ok(());
     };
     let live = volume.indexes();

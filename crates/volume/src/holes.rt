@@ -87,6 +87,7 @@ fn next_run(
     };
     let from = offset.max(number as u64 * BLOCK);
     if from >= size {
+        // A block past the file's end holds no bytes.
         return Ok((size, size));
     }
     let last = ((size - 1) / BLOCK) as u32;

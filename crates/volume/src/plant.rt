@@ -30,6 +30,7 @@ pub(crate) fn plant(alloc: Global, live: &mut Live, path: &Path, meta: Meta) -> 
     if let Some(fault) = fault_of_plant(alloc, &live.indexes().meta, path, meta)? {
         return Err(fault);
     }
+    // What `moment_of` promises says that it is a moment.
     let _early = moment_of(meta);
     let batch = one_put(alloc, path, meta)?;
     live.append(alloc, batch)?;

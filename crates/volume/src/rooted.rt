@@ -20,7 +20,8 @@ pub struct Rooted {
 }
 
 impl Rooted {
-    /// The same, as one more owner of both trees. It fails only where a further owner of their nodes is refused.
+    /// These indexes and the moment, as one more owner of both trees. It fails only where a further owner
+    /// of their nodes is refused.
     pub fn share(&self) -> Result<Rooted, NoMemory>
         ensures { IfOk result (λ r. r ≡ self.now) }
     {

@@ -94,6 +94,7 @@ impl Volume {
         match self.finish(alloc, job) {
             Ok(answer) => answer,
             Err(job) => {
+                // It was just taken out, so there is a place for it.
                 held.push_reserved(job);
                 FinishAnswer::NoMemory
             }

@@ -194,6 +194,7 @@ fn settled(reply: Reply) -> Result<(), Errno>
 {
     match reply {
         Reply::Fault(fault) => Err(fault),
+        // `Done`: no other reply comes here.
         _ => Ok(()),
     }
 }
@@ -206,6 +207,7 @@ pub(crate) fn counted(reply: Reply) -> Result<u64, Errno>
     match reply {
         Reply::Count(count) => Ok(count),
         Reply::Fault(fault) => Err(fault),
+        // Not met: callers bring a count or a refusal.
         _ => Err(Errno::EINVAL),
     }
 }
@@ -218,6 +220,7 @@ fn data(reply: Reply) -> Result<Vec<u8>, Errno>
     match reply {
         Reply::Data(bytes) => Ok(bytes.into_vec()),
         Reply::Fault(fault) => Err(fault),
+        // Not met: callers bring bytes or a refusal.
         _ => Err(Errno::EINVAL),
     }
 }
@@ -230,6 +233,7 @@ fn status(reply: Reply) -> Result<(Kind, u64, u64), Errno>
     match reply {
         Reply::Stat(kind, length, modified) => Ok((kind, length, modified)),
         Reply::Fault(fault) => Err(fault),
+        // Not met: callers bring what stands there or a refusal.
         _ => Err(Errno::EINVAL),
     }
 }
@@ -242,6 +246,7 @@ fn names(reply: Reply) -> Result<Vec<(Kind, Vec<u8>)>, Errno>
     match reply {
         Reply::Names(entries) => Ok(entries.into_vec()),
         Reply::Fault(fault) => Err(fault),
+        // Not met: callers bring entries or a refusal.
         _ => Err(Errno::EINVAL),
     }
 }

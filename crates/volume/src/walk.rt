@@ -163,6 +163,7 @@ fn with_paths(alloc: Global, pairs: Vec<(Key, Meta)>) -> Result<Vec<(Path, Meta)
     let mut entries = Vec::with_capacity(alloc, pairs.len())?;
     for (key, meta) in pairs {
         let Some(path) = dec(alloc, &key)? else {
+            // Each key of the metadata is a path's.
             unreachable!();
         };
         entries.push((path, meta))?;
@@ -188,6 +189,7 @@ pub fn block_number(key: &Key) -> u32
 {
     match key.as_bytes() {
         [.., a, b, c, d] => u32::from_be_bytes([*a, *b, *c, *d]),
+        // Not met for a block's key, which ends with the four bytes of its number.
         _ => 0,
     }
 }
