@@ -207,8 +207,7 @@ pub(crate) fn counted(reply: Reply) -> Result<u64, Errno>
     match reply {
         Reply::Count(count) => Ok(count),
         Reply::Fault(fault) => Err(fault),
-        // Not met: callers bring a count or a refusal.
-        _ => Err(Errno::EINVAL),
+        _ => unreachable!(),
     }
 }
 
@@ -220,8 +219,7 @@ fn data(reply: Reply) -> Result<Vec<u8>, Errno>
     match reply {
         Reply::Data(bytes) => Ok(bytes.into_vec()),
         Reply::Fault(fault) => Err(fault),
-        // Not met: callers bring bytes or a refusal.
-        _ => Err(Errno::EINVAL),
+        _ => unreachable!(),
     }
 }
 
@@ -233,8 +231,7 @@ fn status(reply: Reply) -> Result<(Kind, u64, u64), Errno>
     match reply {
         Reply::Stat(kind, length, modified) => Ok((kind, length, modified)),
         Reply::Fault(fault) => Err(fault),
-        // Not met: callers bring what stands there or a refusal.
-        _ => Err(Errno::EINVAL),
+        _ => unreachable!(),
     }
 }
 
@@ -246,7 +243,6 @@ fn names(reply: Reply) -> Result<Vec<(Kind, Vec<u8>)>, Errno>
     match reply {
         Reply::Names(entries) => Ok(entries.into_vec()),
         Reply::Fault(fault) => Err(fault),
-        // Not met: callers bring entries or a refusal.
-        _ => Err(Errno::EINVAL),
+        _ => unreachable!(),
     }
 }
