@@ -11,3 +11,4 @@ pub mod LeafFirst
 pub mod LeafWalk
 pub mod Merging
 pub mod Sizes
+mod Asking
