@@ -128,8 +128,9 @@ def verdict_of(said: str, bodies: Bodies, touched: frozenset[Function]) -> Verdi
         if note:
             at = bodies.at_line(note[1], int(note[2]))
         elif answer and not WEAK.search(line):
-            at = bodies.of_proof(answer[1]) if answer[2] else []
-            if not touched.isdisjoint(at or bodies.in_group(answer[1])) and len(at) != 1:
+            at = bodies.of_proof(answer[1])
+            # Without a goal's name it tells nothing of a function whose proof it may be.
+            if not touched.isdisjoint(at or bodies.in_group(answer[1])) and (len(at) != 1 or not answer[2]):
                 continue
         elif ANSWER_ELSEWHERE.match(line) and not WEAK.search(line):
             at = []
