@@ -82,4 +82,31 @@ def df_tells_what_is_available(folder: Path):
     assert mount.end() == 0, mount.said()
 
 
+def processor_time(process: int) -> float:
+    """What a process took of the processors, in seconds."""
+    parts = Path(f"/proc/{process}/stat").read_text().rpartition(")")[2].split()
+    return (int(parts[11]) + int(parts[12])) / os.sysconf("SC_CLK_TCK")
+
+
+@case
+def a_mount_that_is_asked_little_sleeps(folder: Path):
+    for options in (["--awake", "0"], [], ["--awake", "1000"]):
+        mount = Mount(folder, *options)
+        for i in range(1000):
+            (mount.point / f"file{i}").touch()
+        began = processor_time(mount.process.pid)
+        for i in range(100):
+            time.sleep(0.01)
+            assert not os.path.exists(mount.point / f"none{i}")
+        assert processor_time(mount.process.pid) - began < 0.05
+        assert mount.end() == 0, mount.said()
+
+
+@case
+def an_awake_that_is_none_is_refused(folder: Path):
+    for word in ("1001", "-1", "x", ""):
+        refusal = subprocess.run([MOUNT, "--awake", word, folder], capture_output=True, text=True)
+        assert refusal.returncode == 2 and "--awake takes 0 to 1000, not" in refusal.stderr
+
+
 run_cases()

@@ -41,8 +41,9 @@ struct entry {
     uint64_t lookups; // what the kernel holds
     uint64_t opens;
     // Caches of what the volume has. A number is that of a state of the mount in which it was right.
-    uint64_t read_in; // when the attributes were read
-    uint64_t bare_in; // when nothing below this directory had a record
+    uint64_t read_in;   // when the attributes were read
+    uint64_t looked_in; // when records below this directory were looked for
+    bool is_bare;       // there were none
     struct attributes attributes;
     uint64_t stored_in; // when the bytes that take room were counted
     uint64_t stored, length;

@@ -7,6 +7,8 @@ void journal_begin(struct journal *journal, struct mount *mount, uint64_t at) {
     journal->mount = mount;
     journal->at = at;
     journal->count = 0;
+    journal->read = (struct bytes){0};
+    strcpy(journal->read_path, "");
 }
 
 static struct undo *note(struct journal *journal, enum undoing how, const char *path, uint64_t at) {
@@ -57,6 +59,22 @@ static int read_whole(const struct volume *volume, const char *path, struct byte
     return fault ? fault : volume->way->read(volume->self, place, 0, out->at, standing.length, &out->length);
 }
 
+int journal_read(struct journal *journal, const char *path, const struct bytes **out) {
+    int fault = read_whole(&journal->mount->volume, path, &journal->read);
+    *out = &journal->read;
+    strcpy(journal->read_path, fault ? "" : path);
+    return fault;
+}
+
+// What a file has, where it was read before by that.
+static int take_text(struct journal *journal, const char *path, struct bytes *out) {
+    if (strcmp(path, journal->read_path)) return read_whole(&journal->mount->volume, path, out);
+    *out = journal->read;
+    journal->read = (struct bytes){0};
+    strcpy(journal->read_path, "");
+    return 0;
+}
+
 // Writes over what is there, and cuts what is longer.
 static int replace(const struct volume *volume, const char *path, const char *text, size_t length, size_t before,
                    uint64_t at) {
@@ -68,7 +86,7 @@ static int replace(const struct volume *volume, const char *path, const char *te
 int journal_write(struct journal *journal, const char *path, const char *text, size_t length) {
     const struct volume *volume = &journal->mount->volume;
     struct undo *undo = note(journal, BY_TEXT, path, journal->at);
-    int fault = undo ? read_whole(volume, path, &undo->text) : ENOMEM;
+    int fault = undo ? take_text(journal, path, &undo->text) : ENOMEM;
     if (fault) {
         if (undo) bytes_free(&undo->text);
         return fault;
@@ -115,19 +133,22 @@ static void undo_one(const struct volume *volume, const struct undo *undo) {
 }
 
 // Takes the folders out that stood above a path below `tree`, and are empty now.
-static void prune(const struct volume *volume, char *path, uint64_t at) {
+static void prune(const struct journal *journal, char *path) {
     static const char tree[] = OWN_PATH "/tree";
+    const struct volume *volume = &journal->mount->volume;
     if (strncmp(path, tree, sizeof tree - 1)) return;
     for (;;) {
         *strrchr(path, '/') = 0;
         if (strlen(path) < sizeof tree - 1) return;
-        if (volume->way->change(volume->self, REMOVE_DIRECTORY, path, at)) return;
+        if (volume->way->change(volume->self, REMOVE_DIRECTORY, path, journal->at)) return;
+        journal->mount->mirrors++;
     }
 }
 
-static void finish_one(const struct volume *volume, struct undo *undo, uint64_t at) {
-    if (undo->is_parked) volume->way->change(volume->self, REMOVE_TREE, undo->path, at);
-    if (undo->how == BY_RENAME || undo->how == BY_REMAKING) prune(volume, undo->back, at);
+static void finish_one(const struct journal *journal, struct undo *undo) {
+    const struct volume *volume = &journal->mount->volume;
+    if (undo->is_parked) volume->way->change(volume->self, REMOVE_TREE, undo->path, journal->at);
+    if (undo->how == BY_RENAME || undo->how == BY_REMAKING) prune(journal, undo->back);
 }
 
 int journal_end(struct journal *journal, int fault) {
@@ -135,8 +156,9 @@ int journal_end(struct journal *journal, int fault) {
     room_lift();
     for (size_t i = journal->count; i-- > 0;) {
         if (fault) undo_one(volume, &journal->undone[i]);
-        else finish_one(volume, &journal->undone[i], journal->at);
+        else finish_one(journal, &journal->undone[i]);
         bytes_free(&journal->undone[i].text);
     }
+    bytes_free(&journal->read);
     return fault;
 }

@@ -21,6 +21,8 @@ struct journal {
     struct mount *mount;
     uint64_t at; // the moment of the request
     size_t count;
+    char read_path[LONGEST_PATH + 1]; // of the file that was read last; empty: none was
+    struct bytes read;                // its text
     struct undo undone[MOST_UNDONE];
 };
 
@@ -29,6 +31,8 @@ void journal_begin(struct journal *journal, struct mount *mount, uint64_t at);
 int journal_make(struct journal *journal, enum change what, const char *path, uint64_t at, uint64_t back_at);
 // Moves what stands at a path to where nothing stands.
 int journal_rename(struct journal *journal, const char *from, const char *to, uint64_t at, uint64_t back_at);
+// The text of a file of the mount's own, until the next change of that file.
+int journal_read(struct journal *journal, const char *path, const struct bytes **out);
 // Gives a file of the mount's own another text.
 int journal_write(struct journal *journal, const char *path, const char *text, size_t length);
 // Takes what stands at a path of the mount's own away, and nothing where nothing stands.

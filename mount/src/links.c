@@ -77,44 +77,52 @@ static int lead(struct journal *journal, struct entry *entry, const char *path, 
 static int place_record(struct journal *journal, struct entry *entry, const struct spot *spot, const char *path,
                         struct attributes *attributes) {
     struct bytes extended = {0};
-    struct attributes old;
     int fault = 0;
-    if (entry->attributes.has_extended) fault = records_read(journal->mount, spot, false, &old, &extended);
+    if (entry->attributes.has_extended) fault = records_read_extended(journal, spot->path, &extended);
     if (!fault) fault = records_make(journal, entry->parent, path, attributes, &extended);
     bytes_free(&extended);
     return fault;
 }
 
+// Another name that a file gets.
+struct naming {
+    struct entry *entry, *parent;
+    struct spot spot;             // where the name will be
+    uint64_t number;              // of the file as one of several names
+    struct standing file;         // as it was, and will be
+    struct attributes attributes; // that the file will have
+};
+
 // The file's bytes in its place, and an empty file where they were. The folder of its name keeps its moment.
-static int place_bytes(struct journal *journal, struct entry *entry, const struct spot *spot, const char *path) {
-    struct standing file, parent;
-    int fault = stand_at(journal->mount, spot, &file);
-    if (fault || !file.length) return fault ? fault : journal_make(journal, CREATE, path, file.modified, 0);
-    fault = files_stand(journal->mount, entry->parent, &parent);
+static int place_bytes(struct journal *journal, const struct naming *naming, const struct spot *spot,
+                       const char *path) {
+    struct standing parent;
+    if (!naming->file.length) return journal_make(journal, CREATE, path, naming->file.modified, 0);
+    int fault = files_stand(journal->mount, naming->entry->parent, &parent);
     if (!fault) fault = journal_rename(journal, spot->path, path, parent.modified, parent.modified);
     return fault ? fault : journal_make(journal, CREATE, spot->path, parent.modified, parent.modified);
 }
 
 // The file goes to a place of its own.
-static int give_place(struct journal *journal, struct entry *entry, uint64_t number, struct attributes *attributes) {
-    struct own_path path = own_link(number);
+static int give_place(struct journal *journal, struct naming *naming) {
+    struct own_path path = own_link(naming->number);
     struct spot spot;
     int fault = own_make(journal->mount, OWN_LINKS);
-    if (!fault) fault = entry_spot(entry, 0, &spot);
-    if (!fault) fault = place_record(journal, entry, &spot, path.text, attributes);
-    if (!fault) fault = place_bytes(journal, entry, &spot, path.text);
-    return fault ? fault : lead(journal, entry, spot.path, number);
+    if (!fault) fault = entry_spot(naming->entry, 0, &spot);
+    if (!fault) fault = place_record(journal, naming->entry, &spot, path.text, &naming->attributes);
+    if (!fault) fault = place_bytes(journal, naming, &spot, path.text);
+    return fault ? fault : lead(journal, naming->entry, spot.path, naming->number);
 }
 
-static int make_once(struct journal *journal, struct entry *entry, struct entry *parent, const struct spot *spot,
-                     uint64_t number, struct attributes *attributes) {
+static int make_once(struct journal *journal, struct naming *naming) {
     struct standing before;
-    int fault = files_stand(journal->mount, parent, &before);
-    attributes->told.names++;
-    if (!fault) fault = journal_make(journal, CREATE, spot->path, journal->at, before.modified);
-    if (!fault) fault = make_name_of(journal, parent, spot->path, number);
+    const char *path = naming->spot.path;
+    int fault = files_stand(journal->mount, naming->parent, &before);
+    if (!fault) fault = journal_make(journal, CREATE, path, journal->at, before.modified);
+    if (!fault) fault = make_name_of(journal, naming->parent, path, naming->number);
     if (fault) return fault;
-    return entry->link ? records_rewrite(journal, entry, attributes) : give_place(journal, entry, number, attributes);
+    return naming->entry->link ? records_rewrite(journal, naming->entry, &naming->attributes)
+                               : give_place(journal, naming);
 }
 
 // The entry is that of the file in its place from now on.
@@ -127,23 +135,23 @@ static void settle(struct entry *entry, struct entry *folder, char *name, uint64
     entry->link = number;
 }
 
-static int make_name(struct mount *mount, struct entry *entry, struct entry *parent, const struct spot *spot,
-                     uint64_t at) {
+static int make_name(struct mount *mount, struct naming *naming, uint64_t at) {
     struct journal journal;
-    struct attributes attributes = entry->attributes;
-    uint64_t number = entry->link ? entry->link : entry->number;
-    struct own_path path = own_link(number);
+    struct entry *entry = naming->entry;
+    struct own_path path = own_link(naming->number);
     struct entry *folder = entry_own_folder(mount->root, LINKS);
     char *name = folder ? strdup(own_name(&path)) : 0;
     if (!name) return ENOMEM;
+    naming->attributes = entry->attributes;
+    naming->attributes.told.names++;
     journal_begin(&journal, mount, at);
-    int fault = journal_end(&journal, make_once(&journal, entry, parent, spot, number, &attributes));
+    int fault = journal_end(&journal, make_once(&journal, naming));
     if (fault) {
         free(name);
         return fault;
     }
-    settle(entry, folder, name, number);
-    records_remember(mount, entry, &attributes);
+    settle(entry, folder, name, naming->number);
+    records_remember(mount, entry, &naming->attributes);
     entry->change = time_of(at);
     return 0;
 }
@@ -162,15 +170,17 @@ static int may_link(struct mount *mount, struct entry *entry, struct entry *pare
 
 int links_make(struct mount *mount, struct entry *entry, struct entry *parent, const char *name, struct found *out) {
     uint64_t at = moment_now();
-    struct spot spot;
-    int fault = parent->role == SNAPSHOT_FOLDER ? EPERM : may_link(mount, entry, parent, name, &spot);
+    struct naming naming = {.entry = entry, .parent = parent, .number = entry->link ? entry->link : entry->number};
+    int fault = parent->role == SNAPSHOT_FOLDER ? EPERM : may_link(mount, entry, parent, name, &naming.spot);
+    if (!fault) fault = files_stand(mount, entry, &naming.file);
     if (fault) return fault;
     do {
         room_begin();
-        fault = make_name(mount, entry, parent, &spot, at);
+        fault = make_name(mount, &naming, at);
     } while (room_again(&mount->volume, &fault));
     out->entry = entry;
-    return fault ? fault : files_stat(mount, entry, &out->stat);
+    if (!fault) files_tell(mount, entry, naming.file, &out->stat);
+    return fault;
 }
 
 int links_count_down(struct journal *journal, struct entry *entry, struct attributes *out) {

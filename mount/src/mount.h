@@ -15,7 +15,7 @@ struct mount {
     bool has_told;         // that a record cannot be read
     unsigned own_folders;  // those of own.h that are known to stand, as bits
     uint64_t state;        // grows where the tree becomes another one
-    uint64_t mirrors;      // grows where a folder for records comes to stand
+    uint64_t mirrors;      // grows where a folder for records comes or goes
     uint64_t aside;        // how many were set aside
     struct entry *leaving; // an unlinked file that the kernel still knows, before it is set aside; null: none
     uint64_t leaving_at;   // the moment at which it was unlinked

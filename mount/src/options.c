@@ -25,6 +25,8 @@ static const char help[] =
     "                  for removals. Not with --pipe\n"
     "  --record NAME   puts every call in NAME.in, as a script, and every reply in NAME.out, new files, for tests\n"
     "  --steps N       does N tree steps behind every 16 changes, 0 to 1000 (4)\n"
+    "  --awake N       looks for the next request for N microseconds before it sleeps, where the last ones came as soon,\n"
+    "                  0 to 1000 (30); 0 sleeps at once\n"
     "  --trust         lets owners, set-user bits and devices of the tree hold, also those of a FILE that is loaded; for\n"
     "                  root alone\n"
     "  --allow-other   lets other users in, by the modes of files\n"
@@ -57,6 +59,7 @@ static const struct option known[] = {
     {"sync", no_argument, 0, 'y'},
     {"log-size", required_argument, 0, 'o'},
     {"size", required_argument, 0, 'z'},
+    {"awake", required_argument, 0, 'w'},
     {"unmount", no_argument, 0, 'u'},
     {"lines", no_argument, 0, 'n'},
     {"allow-other", no_argument, 0, 'a'},
@@ -72,11 +75,12 @@ static int refuse(const char *text, const char *word) {
     return 2;
 }
 
-static int read_steps(const char *word, unsigned *out) {
+// A number of up to 1000.
+static int read_number(const char *word, const char *refusal, unsigned *out) {
     char *end;
-    unsigned long steps = strtoul(word, &end, 10);
-    if (!*word || *end || *word == '-' || steps > 1000) return refuse("--steps takes 0 to 1000, not ", word);
-    *out = (unsigned)steps;
+    unsigned long number = strtoul(word, &end, 10);
+    if (!*word || *end || *word == '-' || number > 1000) return refuse(refusal, word);
+    *out = (unsigned)number;
     return 0;
 }
 
@@ -112,7 +116,8 @@ static int read_option(int letter, struct options *out) {
     case 'o': return read_bytes(optarg, 1, "--log-size takes 1 or more, not ", &out->making.log_size);
     case 'y': out->making.syncs_each = true; return 0;
     case 'g': out->making.log = optarg; return 0;
-    case 's': return read_steps(optarg, &out->making.steps);
+    case 's': return read_number(optarg, "--steps takes 0 to 1000, not ", &out->making.steps);
+    case 'w': return read_number(optarg, "--awake takes 0 to 1000, not ", &out->awake);
     case 'r': out->restore = optarg; return 0;
     case 'z': return read_bytes(optarg, SMALLEST_SIZE, "--size takes 16M or more, not ", &out->size);
     case 'u': out->unmounts = true; return 0;
@@ -128,7 +133,7 @@ static int read_option(int letter, struct options *out) {
 
 int read_options(int count, char **words, struct options *out) {
     int letter, fault = 0;
-    *out = (struct options){.making.steps = 4, .making.log_size = (uint64_t)64 << 20};
+    *out = (struct options){.awake = 30, .making.steps = 4, .making.log_size = (uint64_t)64 << 20};
     while (!fault && (letter = getopt_long(count, words, "h", known, 0)) != -1) fault = read_option(letter, out);
     if (fault || out->helps || out->tells_version) return fault;
     if (optind + 1 != count) return refuse(out->lines ? "one folder of a store is wanted" : "one folder to mount on is wanted", "");

@@ -9,6 +9,7 @@ struct options {
     const char *image;   // where the image goes at the end
     const char *restore; // the snapshot to restore in a mount that stands
     uint64_t size;       // bytes of memory that the tree may take; 0: as many as there are
+    unsigned awake;      // microseconds for which the next request is looked for
     bool lines;          // prints the logs of a store, which `mount_point` names
     bool unmounts;       // takes a mount away, and waits for its end
     bool stays;          // in the foreground

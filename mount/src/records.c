@@ -141,18 +141,22 @@ int records_read(struct mount *mount, const struct spot *spot, bool is_directory
     return fault;
 }
 
-// Whether nothing below a directory has a record. That is remembered until a folder for records comes to stand.
-static bool is_bare(struct mount *mount, struct entry *directory) {
+// Whether a directory has records below it, by a look. Where that cannot be told, it may have some.
+static bool look_for_records(struct mount *mount, const struct entry *directory) {
     struct spot spot;
     struct standing standing;
     char folder[LONGEST_PATH + 1];
-    if (!mount_keeps_records(mount) || directory->bare_in == mount->mirrors) return true;
+    if (entry_spot(directory, 0, &spot) || form_path(mount->volume.records->mirror, spot.path, folder)) return true;
+    return mount->volume.way->stat(mount->volume.self, (struct place){spot.snapshot, folder}, &standing) != ENOENT;
+}
+
+// Whether nothing below a directory has a record. That is remembered until a folder for records comes or goes.
+static bool is_bare(struct mount *mount, struct entry *directory) {
+    if (!mount_keeps_records(mount)) return true;
     if (directory->role == OWN_FOLDER) return false;
-    if (entry_spot(directory, 0, &spot) || form_path(mount->volume.records->mirror, spot.path, folder)) return false;
-    int fault = mount->volume.way->stat(mount->volume.self, (struct place){spot.snapshot, folder}, &standing);
-    if (fault != ENOENT) return false;
-    directory->bare_in = mount->mirrors;
-    return true;
+    if (directory->looked_in != mount->mirrors) directory->is_bare = !look_for_records(mount, directory);
+    directory->looked_in = mount->mirrors;
+    return directory->is_bare;
 }
 
 int records_read_name(struct mount *mount, struct entry *parent, const struct spot *spot, bool is_directory,
@@ -160,6 +164,15 @@ int records_read_name(struct mount *mount, struct entry *parent, const struct sp
     if (!is_bare(mount, parent)) return records_read(mount, spot, is_directory, out, 0);
     *out = records_usual(mount, is_directory);
     return 0;
+}
+
+int records_read_extended(struct journal *journal, const char *path, struct bytes *out) {
+    struct place_of_record place;
+    struct attributes read;
+    const struct bytes *text;
+    int fault = find_place(journal->mount, path, &place);
+    if (!fault) fault = journal_read(journal, place.file, &text);
+    return fault ? fault : parse(journal->mount, text, &read, out);
 }
 
 void records_remember(struct mount *mount, struct entry *entry, const struct attributes *attributes) {
@@ -334,12 +347,10 @@ int records_make(struct journal *journal, struct entry *parent, const char *path
 
 int records_rewrite(struct journal *journal, struct entry *entry, struct attributes *attributes) {
     struct spot spot;
-    struct attributes before;
     struct bytes extended = {0};
     int fault = entry_spot(entry, 0, &spot);
     if (fault) return fault == ENOENT ? 0 : fault; // A folder that is gone.
-    if (attributes->has_extended)
-        fault = records_read(journal->mount, &spot, entry->is_directory, &before, &extended);
+    if (attributes->has_extended) fault = records_read_extended(journal, spot.path, &extended);
     if (!fault) fault = records_write(journal, spot.path, attributes, &extended);
     bytes_free(&extended);
     return fault;
@@ -364,25 +375,25 @@ int records_erase(struct journal *journal, struct entry *parent, const char *pat
 }
 
 static int move_folder(struct journal *journal, const char *from, const char *to) {
-    const struct volume *volume = &journal->mount->volume;
-    struct standing standing;
     char above[LONGEST_PATH + 1];
-    int fault = volume->way->stat(volume->self, (struct place){0, from}, &standing);
-    if (fault) return fault == ENOENT ? 0 : fault;
     strcpy(above, to);
     *strrchr(above, '/') = 0;
-    fault = make_folders(journal, above);
+    int fault = make_folders(journal, above);
     return fault ? fault : journal_rename(journal, from, to, journal->at, journal->at);
 }
 
 int records_move(struct journal *journal, struct entry *parent, const char *from, struct entry *new_parent,
                  const char *to) {
+    const struct volume *volume = &journal->mount->volume;
+    struct standing standing;
     char old_folder[LONGEST_PATH + 1], new_folder[LONGEST_PATH + 1];
     int fault = records_drop(journal, new_parent, to);
     if (fault || is_bare(journal->mount, parent)) return fault;
-    fault = form_path(journal->mount->volume.records->mirror, from, old_folder);
+    fault = form_path(volume->records->mirror, from, old_folder);
     if (fault) return fault == ENAMETOOLONG ? 0 : fault;
-    fault = form_path(journal->mount->volume.records->mirror, to, new_folder);
+    fault = volume->way->stat(volume->self, (struct place){0, old_folder}, &standing);
+    if (fault) return fault == ENOENT ? 0 : fault;
+    fault = form_path(volume->records->mirror, to, new_folder);
     return fault ? fault : move_folder(journal, old_folder, new_folder);
 }
 

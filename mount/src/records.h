@@ -20,7 +20,9 @@ void records_limit(const struct mount *mount, struct doorvervain_attributes *tol
 // is given, the extended attributes go there, as the archive packs them.
 int records_read(struct mount *mount, const struct spot *spot, bool is_directory, struct attributes *out,
                  struct bytes *extended);
-// The same for a name in a directory; nothing is asked for where the directory is known to have no records below it.
+// The extended attributes that an entry has, for a request that changes its record.
+int records_read_extended(struct journal *journal, const char *path, struct bytes *out);
+// The attributes of a name in a directory; nothing is asked for where the directory is known to have no records below it.
 int records_read_name(struct mount *mount, struct entry *parent, const struct spot *spot, bool is_directory,
                       struct attributes *out);
 // The names in a directory that have records at or below them, each behind a byte as `struct way` tells names.

@@ -6,6 +6,7 @@
 // opened.
 #include "requests.h"
 #include "aside.h"
+#include "awake.h"
 #include "ending.h"
 #include "extended.h"
 #include "holes.h"
@@ -17,7 +18,6 @@
 #include <errno.h>
 #include <fcntl.h>
 #include <linux/capability.h>
-#include <poll.h>
 #include <pthread.h>
 #include <stdio.h>
 #include <stdlib.h>
@@ -46,17 +46,20 @@ void requests_pause(void) { pthread_mutex_lock(&lock); }
 
 void requests_go_on(void) { pthread_mutex_unlock(&lock); }
 
-static bool one_waits(void) {
-    struct pollfd comes = {.fd = fuse_session_fd(session), .events = POLLIN};
-    return poll(&comes, 1, 0) > 0;
+static bool owes_much(struct mount *mount) {
+    const struct volume *volume = &mount->volume;
+    pthread_mutex_lock(&lock);
+    bool does = volume->way->owes(volume->self) > MOST_WAITING_STEPS;
+    pthread_mutex_unlock(&lock);
+    return does;
 }
 
-// Whether steps were left to be done. No size of the mount lets them take more than a call.
+// Whether a step was left to be done. No size of the mount lets it take more than a call.
 static bool rest_once(struct mount *mount) {
     const struct volume *volume = &mount->volume;
     pthread_mutex_lock(&lock);
     unsigned owed = volume->way->owes(volume->self);
-    bool is_due = owed > MOST_WAITING_STEPS || (owed && !one_waits());
+    bool is_due = owed > MOST_WAITING_STEPS || (owed && !awake_sees(fuse_session_fd(session)));
     room_begin();
     if (is_due) volume->way->relieve(volume->self, 1);
     room_lift();
@@ -70,8 +73,12 @@ static void rest_store(struct mount *mount) {
     pthread_mutex_unlock(&lock);
 }
 
+// One step is done while whoever was answered wakes up. The next request may come before there is time for others.
 void requests_rest(struct mount *mount) {
     if (mount->store) rest_store(mount);
+    rest_once(mount);
+    while (owes_much(mount)) rest_once(mount);
+    if (awake_finds(fuse_session_fd(session))) return;
     while (rest_once(mount)) continue;
 }
 

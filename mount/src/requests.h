@@ -17,7 +17,8 @@ extern const struct fuse_lowlevel_ops requests;
 void requests_use(struct fuse_session *session);
 // Whether a thread is at work on one still. The session and the volume have to stand until then.
 bool requests_are_under_way(void);
-// Does the steps of the tree that are due, between two requests: while one waits, only those that have waited for long.
+// Between two requests: does one step of the tree that is due, and those that have waited for long; then looks for the
+// next request, and does the others where none comes.
 void requests_rest(struct mount *mount);
 // Keeps requests out, until they go on.
 void requests_pause(void);

@@ -1,4 +1,5 @@
 #include "serving.h"
+#include "awake.h"
 #include "ending.h"
 #include "image.h"
 #include "readahead.h"
@@ -49,6 +50,7 @@ static int serve_all(struct fuse_session *session, struct mount *mount, struct f
     int got = -EINTR;
     while (!fuse_session_exited(session) && (got > 0 || got == -EINTR)) {
         got = fuse_session_receive_buf(session, buffer);
+        if (got > 0) awake_notes();
         if (got > 0) fuse_session_process_buf(session, buffer);
         if (got > 0) requests_rest(mount);
     }
@@ -156,5 +158,6 @@ int serve_mount(const struct options *options, void (*stands)(void)) {
     if (fault || ending_open()) return 1;
     keep_memory();
     room_set_size(options->size);
+    awake_set(options->awake);
     return ending_tell(serve_volume(options, options->image ? &image : 0, stands));
 }
