@@ -1,5 +1,5 @@
 -- Differences of two trees of a volume.
-use Rattle.std.specs.Prelude.{◌≡◌, ◌⊎◌, ℕ, List, [], ◌∷◌, Result, Ok, Err, Option, Some, None}
+use Rattle.std.specs.Prelude.{◌≡◌, ◌⊎◌, ℕ, List, [], ◌∷◌, Result, Ok, Err, Some, None}
 use Rattle.std.specs.FinMap as finite
 use Rattle.pathkey.specs.SnapNames.{snap_parsed}
 use Rattle.pathkey.specs.declared.errno.Errno.{Errno}

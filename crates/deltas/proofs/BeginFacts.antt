@@ -1,5 +1,5 @@
 -- A beginning of a delta: whatever was written of one, the rest of it can be had.
-use Rattle.std.proofs.Common.{◌≡◌, ℕ, List, [], ◌∷◌, ◌++◌, map, refl, sym, ap, subst, ◌∙◌, append_assoc, arith, Bool, true, false, Option, Some, option_map}
+use Rattle.std.proofs.Common.{◌≡◌, ℕ, List, [], ◌∷◌, ◌++◌, map, refl, sym, ap, subst, ◌∙◌, arith, Bool, true, false, Option, Some, option_map}
 use Rattle.std.specs.Io.KnownBytes.{Appends}
 use Rattle.std.specs.List.{All}
 use Rattle.std.proofs.KnownBytes.{Appends-nil}
@@ -13,13 +13,13 @@ use Rattle.lines.proofs.Known.{all_is_part, part_after, part_before}
 use Rattle.volume.specs.Volumes.{MeanRooted}
 use Rattle.volume.specs.declared.rooted.Rooted.{Rooted}
 use Rattle.deltas.specs.Applies.{BeginsDelta, IsDifference}
-use Rattle.deltas.specs.Deltas.{Command, Come, Go, IsCommand, IsDigest, IsLine, Line, commands_text, heading, patched, text_of, told}
+use Rattle.deltas.specs.Deltas.{Command, Come, Go, IsCommand, IsDigest, IsLine, Line, commands_text, heading, patched, text_of}
 use Rattle.deltas.specs.Texts.{end_text}
-use Rattle.deltas.specs.Walks.{Begins, BeginsAll, IsAtStart, Patches, Puts, PutsAll, left, lines_from}
+use Rattle.deltas.specs.Walks.{BeginsAll, IsAtStart, Patches, Puts, PutsAll, left, lines_from}
 use Rattle.deltas.specs.declared.line_walk.LineWalk.{LineWalk}
 use Rattle.deltas.proofs.PatchFacts.{come_made, go_made, lines_free}
 use Rattle.deltas.proofs.PrintFacts.{difference, heading_cut, mean_at, patches_none}
-use Rattle.deltas.proofs.TextFacts.{commands_append, told_text}
+use Rattle.deltas.proofs.TextFacts.{commands_append}
 use Rattle.deltas.proofs.WalkFacts.{none_left, some_left}
 
 -- ---- commands that make any lines of any others
