@@ -2,4 +2,4 @@ mod Steps
 mod Boxes
 mod Pointers
 mod Handed
-pub mod Applying
+mod Applying
