@@ -67,19 +67,15 @@ fn with_command<'a>(
 /// The command that prints a difference.
 fn between<'a>(alloc: Global) -> Result<Command<'a>, AllocError> {
     let command = Command::new(alloc, "between").about("Print what makes the image NEW of OLD");
-    let first = with_file(
-        alloc,
-        command,
-        "OLD",
-        "File with the image that there is",
-    )?;
+    let first = with_file(alloc, command, "OLD", "File with the image that there is")?;
     with_file(alloc, first, "NEW", "File with the image that is made")
 }
 
 /// The command that applies one.
 fn apply<'a>(alloc: Global) -> Result<Command<'a>, AllocError> {
-    let command =
-        Command::new(alloc, "apply").about("Print the image that DELTA makes of the image TREE");
+    let command = Command::new(alloc, "apply").about(
+        "Print the image that DELTA makes of the image TREE",
+    );
     let first = with_file(alloc, command, "TREE", "File with the image that there is")?;
     with_file(
         alloc,
