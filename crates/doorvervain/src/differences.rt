@@ -1,5 +1,5 @@
 //! Exports of differences: what makes one tree of another, printed and applied.
-ghost use Rattle.std.specs.Prelude.{◌≡◌, ◌↔◌, IfErr, IfOk};
+ghost use Rattle.std.specs.Prelude.{◌≡◌, ◌↔◌, IfErr, IfOk, Ok};
 ghost use Rattle.reference.specs.Worlds.{World};
 ghost use Rattle.volume.specs.Volumes.{Means};
 ghost use Rattle.byte_calls.specs.Differences.{LacksOne, PrintsDifference};
@@ -24,7 +24,7 @@ pub extern "C" fn doorvervain_raw_delta(
     out: &mut [u8],
     size: &mut usize,
 ) -> u8
-    ensures printed { (w : World) → Means fs.old.volume w → IfOk (sized_by result size.new) (λ _. PrintsDifference old.now new.now w (sized_by result size.new) out.old out.new) }
+    ensures printed { (w : World) → Means fs.old.volume w → IfOk (sized_by result size.new) (λ n. PrintsDifference old.now new.now w (Ok n) out.old out.new) }
     ensures lacking { (w : World) → Means fs.old.volume w → IfErr (sized_by result size.new) (LacksOne old.now new.now w) }
     ensures short { (result ≡ short) ↔ IsShort size.new out.old }
     ensures number { IsSizeNumber result }
