@@ -1,5 +1,6 @@
 -- Trees of a volume that texts name, and what they differ in.
-use Rattle.std.proofs.Common.{◌≡◌, ◌≢◌, ◌⊎◌, inl, inr, ℕ, List, [], ◌∷◌, ◌++◌, length, false, refl, sym, ap, subst, ◌∙◌, Some, Result, Ok, Err, IfOk, IfErr, OnOk, MatchResult}
+use Rattle.std.proofs.Common.{◌≡◌, ◌≢◌, ◌⊎◌, inl, inr, ℕ, List, [], ◌∷◌, ◌++◌, length, ◌==◌, false, refl, sym, ap, subst, ◌∙◌, Some, Result, Ok, Err, IfOk, IfErr, OnOk, MatchResult}
+use Rattle.std.proofs.lemmas.Bool.{eqb-false}
 use Rattle.std.specs.Result.{is_err}
 use Rattle.pathkey.specs.SnapNames.{snap_parsed}
 use Rattle.pathkey.specs.declared.errno.Errno.{Errno}
@@ -32,6 +33,9 @@ live_lacks name v w (Ok i) none is = tt
 live_lacks name v w (Err e) none is = subst (λ (n : List ℕ). LacksTree n w e) (sym none) is
 
 -- ---- a snapshot's
+
+pub not_none : (name : List ℕ) → (length name == 0) ≡ false → name ≢ []
+not_none name h e = eqb-false (length name) 0 h (ap length e)
 
 kept_found_of : (p name : Result (List ℕ) Errno) (v : PVolume) (w : World) (r : Result Rooted Errno) → name ≡ p → Means v w → FindsNamed p v r → IfOk r (λ i. (t : Tree) × IsKept name w t × MeanRooted i t)
 kept_found_of (Err f) name v w r is m finds = subst (λ (q : Result Rooted Errno). IfOk q (λ i. (t : Tree) × IsKept name w t × MeanRooted i t)) (sym finds) tt
