@@ -1,5 +1,5 @@
 -- What is told of a difference that was applied, or was not.
-use Rattle.std.proofs.Common.{◌≡◌, ℕ, zero, suc, List, length, Result, Ok, Err, IfOk, IfErr, OnOk, OnErr, refl, sym, ap, subst, subst₂, arith}
+use Rattle.std.proofs.Common.{◌≡◌, ℕ, zero, suc, ◌+◌, List, length, Result, Ok, Err, IfOk, IfErr, OnOk, OnErr, refl, sym, ap, subst, subst₂, arith}
 use Rattle.deltas.specs.Applies.{IsOfOther, SpoilsImage}
 use Rattle.deltas.specs.Texts.{IsBadAt}
 use Rattle.deltas.specs.declared.fault.DeltaFault.{DeltaFault}
