@@ -155,6 +155,9 @@ uint8_t doorvervain_raw_frozen_stat(
 uint8_t doorvervain_raw_load(uint16_t fanout, uint16_t pending, uint16_t leaf, const uint8_t *text, size_t length,
     uint64_t *line, struct doorvervain *out);
 uint8_t doorvervain_raw_image(struct doorvervain_frozen *tree, uint8_t *out, size_t room, size_t *size);
+uint8_t doorvervain_raw_delta(struct doorvervain *fs, const uint8_t *from, size_t from_length, const uint8_t *to,
+    size_t to_length, uint8_t *out, size_t room, size_t *size);
+uint8_t doorvervain_raw_apply(struct doorvervain *fs, const uint8_t *text, size_t length, uint64_t *line);
 uint8_t doorvervain_raw_print_begin(struct doorvervain_frozen tree, struct doorvervain_printing *out);
 uint8_t doorvervain_raw_print_piece(
     struct doorvervain_printing *printing, uint8_t *out, size_t room, size_t *size);
@@ -620,6 +623,33 @@ static inline uint8_t doorvervain_load_from(struct doorvervain *fs, uint16_t fan
     if (!number && !*failed) return doorvervain_load_end(fs, &loading, line);
     doorvervain_load_drop(&loading);
     return number;
+}
+
+// ---- differences of two trees, as text (docs/FORMATS.md has its lines)
+
+// Writes what makes one tree of the volume of another: each is the snapshot of that name, or the live tree where the length is 0. `*size`
+// is how many bytes it has, also with ERANGE: the buffer is too short. To ask for the size alone prints it too, and drops it. ENOENT: no
+// such snapshot; EINVAL, ENAMETOOLONG: no name. ENOMEM.
+static inline uint8_t doorvervain_delta(struct doorvervain *fs, const uint8_t *from, size_t from_length,
+    const uint8_t *to, size_t to_length, uint8_t *out, size_t room, size_t *size) {
+    if (!size) return DOORVERVAIN_NULL;
+    *size = 0;
+    uint8_t lacks = doorvervain_lacks(fs, from, from_length);
+    if (!lacks) lacks = doorvervain_lacks(fs, to, to_length);
+    if (!lacks) lacks = doorvervain_lacks(fs, out, room);
+    return lacks ? lacks
+                 : doorvervain_raw_delta(fs, doorvervain_from(from), from_length, doorvervain_from(to), to_length,
+                       doorvervain_into(out), room, size);
+}
+
+// Makes the live tree the one that such a text makes of it. The volume is as one that was loaded then: **its snapshots are gone**.
+// ENOENT: the live tree is not the one that the text was printed of. EINVAL: the text is no difference, and `line` is its first bad line;
+// or `line` is 0, and what it makes is no tree. ENOMEM. `line` is 0 with any other answer.
+static inline uint8_t doorvervain_apply(struct doorvervain *fs, const uint8_t *text, size_t length, uint64_t *line) {
+    if (!line) return DOORVERVAIN_NULL;
+    *line = 0;
+    uint8_t lacks = doorvervain_lacks(fs, text, length);
+    return lacks ? lacks : doorvervain_raw_apply(fs, doorvervain_from(text), length, line);
 }
 
 // ---- upkeep

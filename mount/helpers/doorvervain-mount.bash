@@ -2,12 +2,12 @@
 _doorvervain_mount() {
     local word=${COMP_WORDS[COMP_CWORD]} before=${COMP_WORDS[COMP_CWORD - 1]}
     case $before in
-    --size | --log-size | --steps | --awake | --restore) return ;;
+    --size | --log-size | --steps | --awake | --restore | --changes) return ;;
     --load | --image | --record | --pipe) mapfile -t COMPREPLY < <(compgen -f -- "$word") ;;
     *)
         if [[ $word == -* ]]; then
             mapfile -t COMPREPLY < <(compgen -W "--store --sync --log-size --pipe --load --image --size --record --steps --awake \
-                --trust --allow-other --foreground --restore --unmount --lines --version --help" -- "$word")
+                --trust --allow-other --foreground --restore --changes --unmount --lines --version --help" -- "$word")
             return
         fi
         mapfile -t COMPREPLY < <(compgen -d -- "$word")

@@ -30,7 +30,7 @@ enum { MORE = Py_TPFLAGS_DEFAULT | Py_TPFLAGS_BASETYPE, COMMON = MORE | Py_TPFLA
 // The types of `_types.py` that results and faults have, `time.time_ns`, and the types of the module. They stay as long as
 // the module, which is never unloaded.
 struct known {
-    PyObject *stat, *entry, *bad_image, *time_ns;
+    PyObject *stat, *entry, *bad_image, *bad_delta, *time_ns;
     PyTypeObject *lock, *volume;
 };
 extern struct known known;
@@ -107,6 +107,23 @@ PyObject *refuse(uint8_t number, PyObject *path, PyObject *other);
 
 // None for a call that was done, and the exception of a refusal.
 PyObject *answer(uint8_t number, PyObject *path);
+
+// ---- texts of any size
+
+// A listing, an image or a difference, in `few` or in memory of its own.
+struct listing {
+    uint8_t few[FEW];
+    uint8_t *at;
+    size_t size;
+};
+
+void listing_free(struct listing *it);
+
+// A call that fills a listing; it gets the words that it was asked with.
+typedef uint8_t (*fill)(Tree *tree, const struct text *words, uint8_t *out, size_t room, size_t *size);
+
+// Fills a listing by a call that tells how much room it wants. The number of the call; ENOMEM where there is no such room.
+uint8_t filled(Tree *tree, const struct text *words, fill call, struct listing *it);
 
 extern PyType_Spec lock_spec, tree_spec, frozen_spec, volume_spec;
 

@@ -25,8 +25,9 @@ static int add_all(PyObject *module) {
     known.stat = imported("doorvervain._types", "Stat");
     known.entry = imported("doorvervain._types", "Entry");
     known.bad_image = imported("doorvervain._types", "BadImage");
+    known.bad_delta = imported("doorvervain._types", "BadDelta");
     known.time_ns = imported("time", "time_ns");
-    if (!known.stat || !known.entry || !known.bad_image || !known.time_ns) return -1;
+    if (!known.stat || !known.entry || !known.bad_image || !known.bad_delta || !known.time_ns) return -1;
     known.lock = (PyTypeObject *)add_type(module, "Lock", &lock_spec, NULL);
     PyObject *tree = known.lock ? add_type(module, "Tree", &tree_spec, NULL) : NULL;
     if (!tree) return -1;

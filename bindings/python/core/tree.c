@@ -183,25 +183,15 @@ static PyObject *tree_is_file(PyObject *self, PyObject *given) {
 
 // ---- listings
 
-// A listing or an image, in `few` or in memory of its own.
-struct listing {
-    uint8_t few[FEW];
-    uint8_t *at;
-    size_t size;
-};
-
-static void listing_free(struct listing *it) {
+void listing_free(struct listing *it) {
     if (it->at != it->few) free(it->at);
 }
 
-typedef uint8_t (*fill)(Tree *tree, const struct text *path, uint8_t *out, size_t room, size_t *size);
-
-// Fills a listing by a call that tells how much room it wants. The number of the call; ENOMEM where there is no such room.
-static uint8_t filled(Tree *tree, const struct text *path, fill call, struct listing *it) {
+uint8_t filled(Tree *tree, const struct text *words, fill call, struct listing *it) {
     size_t room = FEW;
     it->at = it->few;
     for (;;) {
-        uint8_t number = call(tree, path, it->at, room, &it->size);
+        uint8_t number = call(tree, words, it->at, room, &it->size);
         if (number != DOORVERVAIN_ERANGE) return number;
         room = it->size;
         listing_free(it);

@@ -53,9 +53,10 @@ static int volume_init(PyObject *self, PyObject *words, PyObject *named) {
     return 0;
 }
 
-static void refuse_image(uint64_t line) {
-    PyObject *told = PyObject_CallFunction(known.bad_image, "K", (unsigned long long)line);
-    if (told) PyErr_SetObject(known.bad_image, told);
+// Raises the exception of a text that is bad from a line on.
+static void refuse_text(PyObject *kind, uint64_t line) {
+    PyObject *told = PyObject_CallFunction(kind, "K", (unsigned long long)line);
+    if (told) PyErr_SetObject(kind, told);
     Py_XDECREF(told);
 }
 
@@ -73,7 +74,7 @@ static PyObject *volume_load(PyObject *self, PyObject *words) {
     number = doorvervain_load(
         &opened, numbers[0], numbers[1], numbers[2], (const uint8_t *)text, (size_t)length, &line);
     Py_END_ALLOW_THREADS
-    if (number && line) refuse_image(line);
+    if (number && line) refuse_text(known.bad_image, line);
     else if (number) refuse_shape(number, shape);
     if (number) return NULL;
     volume_begins((Tree *)self, opened, clock);
@@ -308,6 +309,59 @@ static PyObject *volume_snapshots(PyObject *self, PyObject *unused) {
     return names;
 }
 
+// ---- differences
+
+// Two names are the words.
+static uint8_t look_delta(Tree *tree, const struct text *names, uint8_t *out, size_t room, size_t *size) {
+    return doorvervain_delta(
+        &tree->volume, names[0].at, names[0].length, names[1].at, names[1].length, out, room, size);
+}
+
+// What two names differ in, as bytes.
+static PyObject *delta_of(Tree *tree, const struct text *names) {
+    struct listing it;
+    uint8_t number;
+    PyObject *text = NULL;
+    it.at = it.few;
+    if (enter(tree)) return NULL;
+    Py_BEGIN_ALLOW_THREADS
+    number = filled(tree, names, look_delta, &it);
+    Py_END_ALLOW_THREADS
+    leave(tree);
+    if (number) refuse(number, names[0].owner, names[1].owner);
+    else text = PyBytes_FromStringAndSize((const char *)it.at, (Py_ssize_t)it.size);
+    listing_free(&it);
+    return text;
+}
+
+static const struct signature delta_signature = {"delta", 1, 2, {"old", "new"}};
+
+static PyObject *volume_delta(PyObject *self, PyObject *const *words, Py_ssize_t count, PyObject *named) {
+    PyObject *told[4], *text = NULL;
+    struct text names[2] = {{NULL, NULL, 0}, {NULL, NULL, 0}};
+    if (words_of(&delta_signature, words, count, named, told) || text_of(told[0], &names[0])) return NULL;
+    if (!told[1] || !text_of(told[1], &names[1])) text = delta_of((Tree *)self, names);
+    Py_DECREF(names[0].owner);
+    Py_XDECREF(names[1].owner);
+    return text;
+}
+
+static PyObject *volume_apply(PyObject *self, PyObject *given) {
+    Tree *tree = (Tree *)self;
+    char *text;
+    Py_ssize_t length;
+    uint64_t line = 0;
+    uint8_t number;
+    if (PyBytes_AsStringAndSize(given, &text, &length) || enter(tree)) return NULL;
+    Py_BEGIN_ALLOW_THREADS
+    number = doorvervain_apply(&tree->volume, (const uint8_t *)text, (size_t)length, &line);
+    Py_END_ALLOW_THREADS
+    leave(tree);
+    if (number != DOORVERVAIN_EINVAL) return answer(number, NULL);
+    refuse_text(known.bad_delta, line);
+    return NULL;
+}
+
 static const struct signature relieve_signature = {"relieve", 0, 1, {"steps"}};
 
 static PyObject *volume_relieve(PyObject *self, PyObject *const *words, Py_ssize_t count, PyObject *named) {
@@ -370,6 +424,20 @@ static PyMethodDef volume_methods[] = {
     {"restore", volume_restore, METH_O,
         "restore($self, name, /)\n--\n\nMakes the volume's tree that of a snapshot, which stays."},
     {"snapshots", volume_snapshots, METH_NOARGS, "snapshots($self, /)\n--\n\nThe names of the snapshots, in order."},
+    {"delta", FAST(volume_delta),
+        "delta($self, /, old, new='')\n--\n\n"
+        "What makes one tree of another, as text that `apply` takes. Each is named as its snapshot; an empty name is the\n"
+        "tree as it stands.\n\n"
+        ">>> near, far = Volume(), Volume()\n"
+        ">>> near.snapshot(\"sent\")\n"
+        ">>> near.create(\"/x\")\n"
+        ">>> far.apply(near.delta(\"sent\"))\n"
+        ">>> far.listdir()\n"
+        "['x']\n"},
+    {"apply", volume_apply, METH_O,
+        "apply($self, text, /)\n--\n\n"
+        "Makes the tree the one that a difference makes of it. The volume is as one that was loaded then: its snapshots are\n"
+        "gone. The difference of another tree is a FileNotFoundError, and a text that is none a `BadDelta`."},
     {"relieve", FAST(volume_relieve),
         "relieve($self, /, steps=None)\n--\n\n"
         "Moves waiting changes down the trees, by at most so many steps, or all of them: how many steps it tried. No\n"

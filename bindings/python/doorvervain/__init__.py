@@ -14,8 +14,8 @@ b'rain'
 The package stands over the C library `doorvervain`. `docs/PYTHON.md` says more.
 """
 from ._file import File
-from ._types import BadImage, Entry, Stat
+from ._types import BadDelta, BadImage, Entry, Stat
 from ._volume import LARGE, USUAL, Frozen, Shape, Volume
 
 __version__ = "0.1.0"
-__all__ = ["BadImage", "Entry", "File", "Frozen", "LARGE", "Shape", "Stat", "USUAL", "Volume"]
+__all__ = ["BadDelta", "BadImage", "Entry", "File", "Frozen", "LARGE", "Shape", "Stat", "USUAL", "Volume"]

@@ -35,6 +35,14 @@ class BadImage(OSError):
         self.line = line
 
 
+class BadDelta(OSError):
+    """A text that is no difference. `line` is the first line with which it is none, or 0 where what it makes is no tree."""
+
+    def __init__(self, line: int) -> None:
+        super().__init__(errno.EINVAL, f"no difference, from line {line} on" if line else "difference that makes no tree")
+        self.line = line
+
+
 def fault(number: int, path: Union[str, bytes, "os.PathLike[str]", "os.PathLike[bytes]"]) -> OSError:
     """The exception of one of the system's numbers, with a path."""
     return OSError(number, os.strerror(number), os.fspath(path))

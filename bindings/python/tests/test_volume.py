@@ -10,7 +10,7 @@ import unittest
 import weakref
 
 import doorvervain
-from doorvervain import BadImage, Volume
+from doorvervain import BadDelta, BadImage, Volume
 
 HERE = pathlib.Path(__file__).resolve()
 # In the repository, and in a prefix.
@@ -283,6 +283,39 @@ class Snapshots(unittest.TestCase):
         self.assertEqual((caught.exception.line, caught.exception.errno), (3, errno.EINVAL))
         told = refused(self, OSError, errno.EINVAL, Volume.load, "D / 5\n", shape=(0, 0, 0))
         self.assertNotIsInstance(told, BadImage)
+
+    def test_difference(self):
+        volume = Volume(clock=lambda: 9)
+        volume.snapshot("empty")
+        for number in range(300):
+            volume.write_bytes(f"/f{number}", b"x" * 5_000)
+        whole = volume.delta("empty")
+        self.assertGreater(len(whole), 1 << 20)
+        far = Volume(clock=lambda: 0)
+        far.snapshot("gone")
+        far.apply(whole)
+        self.assertEqual((far.image(), far.snapshots()), (volume.image(), []))
+        volume.snapshot("full")
+        self.assertEqual(volume.delta("empty", "full"), volume.delta("empty", ""))
+        far.apply(volume.delta(new="empty", old="full"))
+        self.assertEqual(far.listdir(), [])
+
+    def test_difference_that_is_refused(self):
+        volume = Volume.load("D / 5\n")
+        volume.snapshot("kept")
+        first, other = volume.delta("kept"), Volume(clock=lambda: 0).delta("")
+        for text, line in [(b"", 1), (first.replace(b"=", b"*"), 2), (first.replace(b"=", b"-"), 0)]:
+            with self.assertRaises(BadDelta) as caught:
+                volume.apply(text)
+            self.assertEqual((caught.exception.line, caught.exception.errno), (line, errno.EINVAL))
+        refused(self, FileNotFoundError, errno.ENOENT, volume.apply, other)
+        refused(self, FileNotFoundError, errno.ENOENT, volume.delta, "none")
+        refused(self, OSError, errno.EINVAL, volume.delta, "kept", "a/b")
+        self.assertRaises(TypeError, volume.apply, "text")
+        self.assertEqual((volume.image(), volume.snapshots()), (b"D / 5\n", ["kept"]))
+        volume.close()
+        refused(self, OSError, errno.EBADF, volume.apply, first)
+        refused(self, OSError, errno.EBADF, volume.delta, "kept")
 
     def test_relief_changes_no_answer(self):
         volume = Volume(shape=(4, 4, 4), clock=lambda: 0)

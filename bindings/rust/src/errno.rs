@@ -144,6 +144,48 @@ impl From<LoadError> for io::Error {
     }
 }
 
+/// Why a difference was not applied.
+#[derive(Clone, Copy, Debug, PartialEq, Eq)]
+pub enum DeltaError {
+    /// The text is no difference; this is the first line with which it is none.
+    BadLine(u64),
+    /// It is the difference of another tree.
+    OtherTree,
+    /// What it makes of the tree is none.
+    NoTree,
+    /// Memory was refused.
+    Refused(Errno),
+}
+
+impl fmt::Display for DeltaError {
+    fn fmt(&self, f: &mut fmt::Formatter<'_>) -> fmt::Result {
+        match self {
+            DeltaError::BadLine(line) => write!(f, "bad difference at line {line}"),
+            DeltaError::OtherTree => f.write_str("difference of another tree"),
+            DeltaError::NoTree => f.write_str("difference makes no tree"),
+            DeltaError::Refused(refused) => refused.fmt(f),
+        }
+    }
+}
+
+impl Error for DeltaError {
+    fn source(&self) -> Option<&(dyn Error + 'static)> {
+        match self {
+            DeltaError::Refused(refused) => Some(refused),
+            _ => None,
+        }
+    }
+}
+
+impl From<DeltaError> for io::Error {
+    fn from(error: DeltaError) -> io::Error {
+        match error {
+            DeltaError::Refused(refused) => refused.into(),
+            _ => io::Error::new(io::ErrorKind::InvalidData, error),
+        }
+    }
+}
+
 #[cfg(test)]
 mod tests {
     use super::{Errno, SHORT, TABLE};

@@ -7,7 +7,7 @@ mod path;
 mod raw;
 mod volume;
 
-pub use errno::{Errno, LoadError};
+pub use errno::{DeltaError, Errno, LoadError};
 pub use listing::{Entries, Entry, Kind, Listing, Stat, Walk, Walked};
 pub use path::AsPath;
 pub use volume::{Frozen, Shape, Volume};

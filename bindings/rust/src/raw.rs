@@ -78,6 +78,11 @@ extern "C" {
         tree: *mut Place, path: *const u8, length: usize, out: *mut u8, room: usize, size: *mut usize,
     ) -> u8;
     fn doorvervain_raw_image(tree: *mut Place, out: *mut u8, room: usize, size: *mut usize) -> u8;
+    fn doorvervain_raw_delta(
+        fs: *mut Place, from: *const u8, from_length: usize, to: *const u8, to_length: usize, out: *mut u8, room: usize,
+        size: *mut usize,
+    ) -> u8;
+    fn doorvervain_raw_apply(fs: *mut Place, text: *const u8, length: usize, line: *mut u64) -> u8;
     fn doorvervain_raw_thaw(tree: Place);
     fn doorvervain_raw_relieve(fs: *mut Place, steps: u32) -> u32;
 }
@@ -334,7 +339,8 @@ impl VolumeHandle {
         let held = &self.0;
         let _lock = held.locked();
         let (mut place, mut size, mut name) = (held.place(), 0, vec![0; LONGEST_NAME]);
-        let number = unsafe { doorvervain_raw_snapshot_name(&mut place, index, name.as_mut_ptr(), name.len(), &mut size) };
+        let number =
+            unsafe { doorvervain_raw_snapshot_name(&mut place, index, name.as_mut_ptr(), name.len(), &mut size) };
         done(number).ok()?;
         name.truncate(size);
         String::from_utf8(name).ok()
@@ -354,6 +360,34 @@ impl VolumeHandle {
         let mut out = NOTHING;
         done(unsafe { doorvervain_raw_frozen(&mut held.place(), name.as_ptr(), name.len(), &mut out) })?;
         Ok(FrozenHandle(Held::new(&out, Arc::clone(&held.lock))?))
+    }
+
+    pub(crate) fn delta(&self, from: &[u8], to: &[u8]) -> Result<Vec<u8>, Errno> {
+        let held = &self.0;
+        let _lock = held.locked();
+        let mut place = held.place();
+        let (from_at, to_at) = (from.as_ptr(), to.as_ptr());
+        filled(1024, |out, size| unsafe {
+            doorvervain_raw_delta(
+                &mut place,
+                from_at,
+                from.len(),
+                to_at,
+                to.len(),
+                out.as_mut_ptr(),
+                out.len(),
+                size,
+            )
+        })
+    }
+
+    /// The refusal of a difference, with the first line with which the text is none.
+    pub(crate) fn apply(&mut self, text: &[u8]) -> Result<(), (Errno, u64)> {
+        let held = &self.0;
+        let _lock = held.locked();
+        let mut line = 0;
+        let number = unsafe { doorvervain_raw_apply(&mut held.place(), text.as_ptr(), text.len(), &mut line) };
+        done(number).map_err(|refused| (refused, line))
     }
 
     pub(crate) fn relieve(&mut self, steps: u32) -> u32 {

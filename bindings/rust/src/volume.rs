@@ -1,5 +1,5 @@
 //! Volumes and frozen trees.
-use crate::errno::{Errno, LoadError};
+use crate::errno::{DeltaError, Errno, LoadError};
 use crate::listing::{Kind, Listing, Lists, Stat, Walk};
 use crate::path::AsPath;
 use crate::raw::{Change, FrozenHandle, Keep, Looks, VolumeHandle};
@@ -336,6 +336,38 @@ impl Volume {
     /// `ENOMEM`.
     pub fn image(&self) -> Result<Vec<u8>, Errno> {
         self.freeze()?.image()
+    }
+
+    /// What makes one tree of another, as text: each is the snapshot of that name, or the tree as it stands where the name is
+    /// empty. [`Volume::apply`] takes it.
+    ///
+    /// # Errors
+    /// `ENOENT`: no such snapshot; `EINVAL`: no name; `ENOMEM`.
+    pub fn delta(&self, from: &str, to: &str) -> Result<Vec<u8>, Errno> {
+        self.handle.delta(from.as_bytes(), to.as_bytes())
+    }
+
+    /// Makes the tree the one that a difference makes of it. The volume is as one that was loaded then: its snapshots are gone.
+    ///
+    /// ```
+    /// # use doorvervain::{Shape, Volume};
+    /// let mut near = Volume::load(b"D / 5\nF /x 3 7\nb 0 616263\n", Shape::USUAL).unwrap();
+    /// let mut far = Volume::load(&near.image().unwrap(), Shape::USUAL).unwrap();
+    /// near.snapshot("sent").unwrap();
+    /// near.write("/x", 1, b"-", 9).unwrap();
+    /// far.apply(&near.delta("sent", "").unwrap()).unwrap();
+    /// assert_eq!(far.image(), near.image());
+    /// ```
+    ///
+    /// # Errors
+    /// [`DeltaError`]. The volume is as it was then.
+    pub fn apply(&mut self, text: &[u8]) -> Result<(), DeltaError> {
+        self.handle.apply(text).map_err(|refused| match refused {
+            (Errno::ENOENT, _) => DeltaError::OtherTree,
+            (Errno::EINVAL, 0) => DeltaError::NoTree,
+            (Errno::EINVAL, line) => DeltaError::BadLine(line),
+            (refused, _) => DeltaError::Refused(refused),
+        })
     }
 
     /// Does at most `steps` steps that move waiting changes down the trees: how many it tried, fewer only where nothing

@@ -1,5 +1,5 @@
 //! Each call: what it gives, what it refuses, and what stands still.
-use doorvervain::{Errno, Frozen, Kind, LoadError, Shape, Stat, Volume};
+use doorvervain::{DeltaError, Errno, Frozen, Kind, LoadError, Shape, Stat, Volume};
 use std::io;
 use std::path::Path;
 use std::thread;
@@ -260,5 +260,26 @@ fn what_debug_shows() -> Outcome {
     let mut volume = Volume::new()?;
     volume.mkdir("/a", 0)?;
     assert_eq!(format!("{volume:?}"), "Volume { entries: Ok(1), .. }");
+    Ok(())
+}
+
+/// The first line of a difference of `D / 5`.
+const OF_ROOT: &str = "delta 1 8bafcef92f133b33d780e9f333a263fd826f3cf6a3de0ba28afc8b346e70d8b9\n";
+
+#[test]
+fn a_difference_that_is_refused_changes_nothing() -> Result<(), Errno> {
+    let mut volume = Volume::load(b"D / 5\n", Shape::USUAL).expect("an image");
+    volume.snapshot("kept")?;
+    let mut refused = |text: &str| volume.apply(text.as_bytes()).err();
+    assert_eq!(refused(""), Some(DeltaError::BadLine(1)));
+    assert_eq!(refused(&format!("{OF_ROOT}* 1\nend\n")), Some(DeltaError::BadLine(2)));
+    assert_eq!(refused(&format!("{OF_ROOT}- 1\nend\n")), Some(DeltaError::NoTree));
+    assert_eq!(
+        refused(&format!("{}= 1\nend\n", OF_ROOT.replace("1 8", "1 0"))),
+        Some(DeltaError::OtherTree)
+    );
+    assert_eq!(volume.image()?, b"D / 5\n");
+    assert_eq!(volume.snapshots().count(), 1);
+    assert_eq!(volume.delta("none", ""), Err(Errno::ENOENT));
     Ok(())
 }

@@ -5,3 +5,4 @@ pub mod Fronts
 pub mod Laying
 pub mod OfFiles
 pub mod Punching
+pub mod Differing

@@ -5,6 +5,7 @@
 #![tactic(auto)]
 
 pub mod changes;
+pub mod differences;
 mod filling;
 pub mod holes;
 pub mod image_texts;
@@ -14,6 +15,7 @@ pub mod snapshots;
 pub mod upkeep;
 
 pub use changes::{PathCall, on_path, rename, truncate, write};
+pub use differences::delta;
 pub use holes::{frozen_stored, punch, stored};
 pub use image_texts::{load, print, print_begin, print_piece};
 pub use looks::{frozen_read, frozen_readdir, frozen_stat, read, readdir, stat};

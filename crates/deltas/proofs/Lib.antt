@@ -6,5 +6,6 @@ pub mod PatchFacts
 pub mod PatchingFacts
 pub mod WalkFacts
 pub mod PrintFacts
+pub mod BeginFacts
 pub mod LoaderFacts
 pub mod DigestFacts

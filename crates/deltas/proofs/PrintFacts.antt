@@ -8,9 +8,10 @@ use Rattle.std.proofs.lemmas.List.Elements.{All-nil, All-cons, All-append}
 use Rattle.reference.specs.Image.{Second, Text, image}
 use Rattle.reference.specs.Tree.{Tree}
 use Rattle.sha2.specs.Sha256.{sha256}
+use Rattle.lines.specs.Lines.{lines_of}
 use Rattle.volume.specs.Volumes.{MeanRooted}
 use Rattle.volume.specs.declared.rooted.Rooted.{Rooted}
-use Rattle.deltas.specs.Applies.{AppendsDelta}
+use Rattle.deltas.specs.Applies.{AppendsDelta, IsDifference}
 use Rattle.deltas.specs.Deltas.{Command, Come, Go, IsCommand, IsDigest, IsLine, Line, Stay, commands_text, heading, patched, run, text_of, told}
 use Rattle.deltas.specs.Texts.{end_text}
 use Rattle.deltas.specs.Walks.{IsAtStart, Patches, Puts, PutsAll, SameTree, Walks, lines_from}
@@ -18,7 +19,7 @@ use Rattle.deltas.specs.declared.line_walk.LineWalk.{LineWalk}
 use Rattle.deltas.proofs.PatchFacts.{come_made, run_go, run_stay}
 use Rattle.deltas.proofs.TextFacts.{commands_append, told_text}
 
-mean_at : (a b : LineWalk) (t : Tree) → SameTree a b → MeanRooted a.printing.tree t → MeanRooted b.printing.tree t
+pub mean_at : (a b : LineWalk) (t : Tree) → SameTree a b → MeanRooted a.printing.tree t → MeanRooted b.printing.tree t
 mean_at a b t same m = subst (λ (r : Rooted). MeanRooted r t) (sym same) m
 
 -- ---- one kind of command
@@ -68,7 +69,7 @@ puts_then cs ds h i j a b x y p q f g = record {
   patches = patches_then cs ds a b x y p q f.patches g.patches;
 }
 
-run_commands : (c : ℕ → Command) (n : ℕ) → (0 < n → IsCommand (c n)) → All IsCommand (run c n)
+pub run_commands : (c : ℕ → Command) (n : ℕ) → (0 < n → IsCommand (c n)) → All IsCommand (run c n)
 run_commands c n is = go (n == 0) refl
   where
     go : (b : Bool) → (n == 0) ≡ b → All IsCommand (cond b [] (c n ∷ []))
@@ -95,23 +96,29 @@ puts_all cs h i a b x y f old new = record {
 
 -- ---- a delta
 
+-- commands that make the one image of the other, as a delta
+pub difference : (digest : List ℕ) (cs : List Command) (t u : Tree) → IsDigest digest → digest ≡ sha256 (image Second t) → All IsCommand cs → patched cs (lines_of (image Second t)) ≡ Some (lines_of (image Second u))
+    → IsDifference (heading digest ++ 10 ∷ (commands_text cs ++ end_text)) t u
+difference digest cs t u sum is commands makes = record {
+  commands = cs;
+  is = record {
+    sum = subst IsDigest is sum;
+    commands = commands;
+    is = ap (λ b. heading digest ++ 10 ∷ b) (sym (told_text cs)) ∙ ap (λ d. heading d ++ 10 ∷ text_of (told cs)) is;
+  };
+  lines = makes;
+}
+
+pub heading_cut : (digest : List ℕ) (rest : Text) → text_of (heading digest ∷ []) ++ rest ≡ heading digest ++ 10 ∷ rest
+heading_cut digest rest = append_assoc (heading digest) (10 ∷ []) rest
+
 pub delta_put : (h i j k : Option (List ℕ)) (digest : List ℕ) (cs : List Command) (a b : LineWalk) (r s : Rooted) (t u : Tree) → IsAtStart r a → IsAtStart s b → MeanRooted r t → MeanRooted s u
     → IsDigest digest → digest ≡ sha256 (image Second t) → Appends h i (text_of (heading digest ∷ [])) → PutsAll cs i j a b → Appends j k end_text → AppendsDelta h k t u
 delta_put h i j k digest cs a b r s t u at_a at_b m n sum is first puts last =
-    let text : Text = heading digest ++ 10 ∷ (commands_text cs ++ end_text) in
-    let all : (heading digest ++ 10 ∷ []) ++ (commands_text cs ++ end_text) ≡ text = append_assoc (heading digest) (10 ∷ []) (commands_text cs ++ end_text) in
+    let rest : Text = commands_text cs ++ end_text in
     let mean_a : MeanRooted a.printing.tree t = subst (λ (r : Rooted). MeanRooted r t) (sym at_a.same) m in
-    let mean_b : MeanRooted b.printing.tree u = subst (λ (r : Rooted). MeanRooted r u) (sym at_b.same) n in
-    let sum_is : IsDigest (sha256 (image Second t)) = subst IsDigest is sum in (
-      text,
-      record {
-        commands = cs;
-        is = record {
-          sum = sum_is;
-          commands = puts.commands;
-          is = ap (λ b. heading digest ++ 10 ∷ b) (sym (told_text cs)) ∙ ap (λ d. heading d ++ 10 ∷ text_of (told cs)) is;
-        };
-        lines = ap (patched cs) (sym (at_a.all t m)) ∙ puts.all t u mean_a mean_b ∙ ap Some (at_b.all u n);
-      },
-      subst (Appends h k) all (Appends-trans h i k (heading digest ++ 10 ∷ []) (commands_text cs ++ end_text) first (Appends-trans i j k (commands_text cs) end_text puts.text last)),
+    let mean_b : MeanRooted b.printing.tree u = subst (λ (r : Rooted). MeanRooted r u) (sym at_b.same) n in (
+      heading digest ++ 10 ∷ rest,
+      difference digest cs t u sum is puts.commands (ap (patched cs) (sym (at_a.all t m)) ∙ puts.all t u mean_a mean_b ∙ ap Some (at_b.all u n)),
+      subst (Appends h k) (heading_cut digest rest) (Appends-trans h i k (text_of (heading digest ∷ [])) rest first (Appends-trans i j k (commands_text cs) end_text puts.text last)),
     )

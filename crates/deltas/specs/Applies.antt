@@ -5,6 +5,7 @@ use Rattle.images.specs.Loads.{alone}
 use Rattle.images.specs.Taken.{LoadedIn, Took}
 use Rattle.images.specs.declared.loader.Loader.{Loader}
 use Rattle.lines.specs.Lines.{lines_of}
+use Rattle.lines.specs.Parts.{AppendsPart}
 use Rattle.reference.specs.Image.{Text, Second, image}
 use Rattle.reference.specs.Shape.{IsTree}
 use Rattle.reference.specs.Tree.{Tree}
@@ -19,9 +20,13 @@ use Rattle.deltas.specs.Texts.{TellsAll}
 abbrev pub IsDifference : Text → Tree → Tree → Type 0
 IsDifference text t u = Makes text (image Second t) (lines_of (image Second u))
 
--- such a delta was appended, or a beginning of one
+-- such a delta was appended
 abbrev pub AppendsDelta : Option (List ℕ) → Option (List ℕ) → Tree → Tree → Type 0
 AppendsDelta old new t u = (text : Text) × IsDifference text t u × Appends old new text
+
+-- a beginning of such a delta was appended
+abbrev pub BeginsDelta : Option (List ℕ) → Option (List ℕ) → Tree → Tree → Type 0
+BeginsDelta old new t u = (text : Text) × IsDifference text t u × AppendsPart old new text
 
 -- the volume means the one tree whose image has the lines that the delta makes of those of a tree's image, without snapshots and
 -- marks, in trees of the shape

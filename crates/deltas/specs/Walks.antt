@@ -2,6 +2,7 @@
 use Rattle.std.specs.Prelude.{◌≡◌, ℕ, List, [], ◌∷◌, ◌++◌, take, drop, All, Option, Some, cond, Bool, true, false}
 use Rattle.std.specs.Io.KnownBytes.{Appends}
 use Rattle.lines.specs.Lines.{lines_of}
+use Rattle.lines.specs.Parts.{AppendsPart}
 use Rattle.reference.specs.Image.{Text, Second, image}
 use Rattle.reference.specs.Tree.{Tree}
 use Rattle.volume.specs.Volumes.{MeanRooted}
@@ -80,3 +81,14 @@ pub record PutsAll (cs : List Command) (had has : Option (List ℕ)) (old new : 
   pub commands : All IsCommand cs
   pub text : Appends had has (commands_text cs)
   pub all : (t u : Tree) → MeanRooted old.printing.tree t → MeanRooted new.printing.tree u → patched cs (lines_from t old) ≡ Some (lines_from u new)
+
+-- a beginning of the text of commands was written that make these lines of the one tree's image of those of the other's
+pub record Begins (had has : Option (List ℕ)) (old new : LineWalk) (t u : Tree) : Type 0 where
+  pub list : List Command
+  pub commands : All IsCommand list
+  pub text : AppendsPart had has (commands_text list)
+  pub all : patched list (lines_from t old) ≡ Some (lines_from u new)
+
+-- whichever trees the walks go through
+abbrev pub BeginsAll : Option (List ℕ) → Option (List ℕ) → LineWalk → LineWalk → Type 0
+BeginsAll had has old new = (t u : Tree) → MeanRooted old.printing.tree t → MeanRooted new.printing.tree u → Begins had has old new t u

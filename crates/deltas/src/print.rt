@@ -1,13 +1,13 @@
 //! Prints the difference of two trees that stand still, as a delta. Both images are printed side by side, and neither has to fit into memory.
-ghost use Rattle.std.specs.Prelude.{◌≡◌, ◌<◌, ◌^◌, List, IfOk, OnOk};
+ghost use Rattle.std.specs.Prelude.{◌≡◌, ◌<◌, ◌^◌, List, IfOk, OnErr, OnOk};
 ghost use Rattle.reference.specs.Image.{Second, image};
 ghost use Rattle.reference.specs.Tree.{Tree};
 ghost use Rattle.sha2.specs.Sha256.{sha256};
 ghost use Rattle.volume.specs.Volumes.{MeanRooted};
 ghost use Rattle.volume.specs.declared.rooted.Rooted.{Rooted};
-ghost use Rattle.deltas.specs.Applies.{AppendsDelta};
+ghost use Rattle.deltas.specs.Applies.{AppendsDelta, BeginsDelta};
 ghost use Rattle.deltas.specs.Deltas.{Command, Go, Stay, run};
-ghost use Rattle.deltas.specs.Walks.{IsAtStart, Patches, Puts, PutsAll};
+ghost use Rattle.deltas.specs.Walks.{BeginsAll, IsAtStart, Patches, Puts, PutsAll};
 
 use crate::command::{put_come, put_go, put_stay};
 use crate::fault::PrintFault;
@@ -20,7 +20,8 @@ use std::alloc::Global;
 use std::io::Write;
 use volume::Frozen;
 
-/// Prints the delta that makes the image of one tree of that of another, whose digest is given (`image_digest`).
+/// Prints the delta that makes the image of one tree of that of another, whose digest is given (`image_digest`). Where it fails, what was
+/// printed is a beginning of one.
 pub fn print_delta<W: Write>(
     alloc: Global,
     digest: &[u8; 32],
@@ -29,6 +30,7 @@ pub fn print_delta<W: Write>(
     writer: &mut W,
 ) -> Result<(), PrintFault>
     ensures ok { (t u : Tree) → MeanRooted old t → MeanRooted new u → digest.now ≡ sha256 (image Second t) → OnOk result (AppendsDelta (W.contents writer.old) (W.contents writer.new) t u) }
+    ensures err { (t u : Tree) → MeanRooted old t → MeanRooted new u → digest.now ≡ sha256 (image Second t) → OnErr result (BeginsDelta (W.contents writer.old) (W.contents writer.new) t u) }
 {
     let Ok(mut old) = LineWalk::new(alloc, old) else {
         drop(new);
@@ -52,7 +54,8 @@ fn put_delta<W: Write>(
     new: &mut LineWalk,
     writer: &mut W,
 ) -> Result<(), PrintFault>
-    ensures { (a b : Rooted) (t u : Tree) → IsAtStart a old.old → IsAtStart b new.old → MeanRooted a t → MeanRooted b u → digest.now ≡ sha256 (image Second t) → OnOk result (AppendsDelta (W.contents writer.old) (W.contents writer.new) t u) }
+    ensures ok { (a b : Rooted) (t u : Tree) → IsAtStart a old.old → IsAtStart b new.old → MeanRooted a t → MeanRooted b u → digest.now ≡ sha256 (image Second t) → OnOk result (AppendsDelta (W.contents writer.old) (W.contents writer.new) t u) }
+    ensures err { (a b : Rooted) (t u : Tree) → IsAtStart a old.old → IsAtStart b new.old → MeanRooted a t → MeanRooted b u → digest.now ≡ sha256 (image Second t) → OnErr result (BeginsDelta (W.contents writer.old) (W.contents writer.new) t u) }
 {
     put_heading(writer, digest)?;
     put_commands(alloc, old, new, writer)?;
@@ -67,7 +70,8 @@ fn put_commands<W: Write>(
     new: &mut LineWalk,
     writer: &mut W,
 ) -> Result<(), PrintFault>
-    ensures { OnOk result ((cs : List Command) × PutsAll cs (W.contents writer.old) (W.contents writer.new) old.old new.old) }
+    ensures ok { OnOk result ((cs : List Command) × PutsAll cs (W.contents writer.old) (W.contents writer.new) old.old new.old) }
+    ensures err { OnErr result (BeginsAll (W.contents writer.old) (W.contents writer.new) old.old new.old) }
 {
     // No image has more lines.
     for _ in 0..u64::MAX {
@@ -86,7 +90,8 @@ fn put_round<W: Write>(
     new: &mut LineWalk,
     writer: &mut W,
 ) -> Result<(), PrintFault>
-    ensures { OnOk result ((cs : List Command) × Puts cs (W.contents writer.old) (W.contents writer.new) old.old new.old old.new new.new) }
+    ensures ok { OnOk result ((cs : List Command) × Puts cs (W.contents writer.old) (W.contents writer.new) old.old new.old old.new new.new) }
+    ensures err { OnErr result (BeginsAll (W.contents writer.old) (W.contents writer.new) old.old new.old) }
 {
     let staying = pass_same(alloc, old, new)?;
     put_stay(writer, staying)?;
@@ -131,7 +136,8 @@ fn put_coming<W: Write>(
     new: &mut LineWalk,
     writer: &mut W,
 ) -> Result<(), PrintFault>
-    ensures { OnOk result ((cs : List Command) × Puts cs (W.contents writer.old) (W.contents writer.new) old.now new.old old.now new.new) }
+    ensures ok { OnOk result ((cs : List Command) × Puts cs (W.contents writer.old) (W.contents writer.new) old.now new.old old.now new.new) }
+    ensures err { OnErr result (BeginsAll (W.contents writer.old) (W.contents writer.new) old.now new.old) }
 {
     // No image has more lines.
     for _ in 0..u64::MAX {

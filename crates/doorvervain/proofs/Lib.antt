@@ -2,3 +2,4 @@ mod Steps
 mod Boxes
 mod Pointers
 mod Handed
+mod Applying

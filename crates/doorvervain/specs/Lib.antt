@@ -7,3 +7,4 @@ pub mod Changes
 pub mod Holes
 pub mod Log
 pub mod Handed
+pub mod Differences

@@ -6,6 +6,7 @@
 #![tactic(auto)]
 
 mod changes;
+mod differences;
 mod frozen;
 mod frozen_place;
 mod handle;

@@ -1,0 +1,30 @@
+-- What the exports of differences tell.
+use Rattle.std.specs.Prelude.{◌≡◌, ℕ, zero, suc, ⊤, List, Result, Ok, Err}
+use Rattle.deltas.specs.Applies.{IsOfOther, SpoilsImage}
+use Rattle.deltas.specs.Texts.{IsBadAt}
+use Rattle.deltas.specs.declared.fault.DeltaFault.{DeltaFault}
+use Rattle.deltas.specs.declared.fault.DeltaFault.TheVariants.{Memory, Bad, OtherTree, NoImage}
+use Rattle.pathkey.specs.declared.errno.Errno.{Errno}
+use Rattle.pathkey.specs.declared.errno.Errno.TheVariants.{EINVAL, ENOENT, ENOMEM}
+use Rattle.reference.specs.Tree.{Tree}
+
+-- the refusal and the line that tell why a difference was not applied
+abbrev pub DeltaFaultTold : DeltaFault → Errno → ℕ → Type 0
+DeltaFaultTold Memory e line = (e ≡ ENOMEM) × (line ≡ 0)
+DeltaFaultTold (Bad n) e line = (e ≡ EINVAL) × (line ≡ n)
+DeltaFaultTold OtherTree e line = (e ≡ ENOENT) × (line ≡ 0)
+DeltaFaultTold NoImage e line = (e ≡ EINVAL) × (line ≡ 0)
+
+-- the answer to a difference, as it is told: done and line 0, or why not
+abbrev pub DeltaTold : Result (Unit {0}) DeltaFault → Result (Unit {0}) Errno → ℕ → Type 0
+DeltaTold (Ok x) told line = (told ≡ Ok x) × (line ≡ 0)
+DeltaTold (Err f) told line = (e : Errno) × (told ≡ Err e) × DeltaFaultTold f e line
+
+-- why a text was not applied to a tree: ENOENT, it is the difference of another; EINVAL and line 0, it makes no image of this one's; EINVAL
+-- and another line, it is the first with which the text is no difference; or ENOMEM and line 0
+abbrev pub NotApplied : List ℕ → Tree → Errno → ℕ → Type 0
+NotApplied text t EINVAL zero = SpoilsImage text t
+NotApplied text t EINVAL (suc n) = IsBadAt (suc n) text
+NotApplied text t ENOENT zero = IsOfOther text t
+NotApplied text t ENOMEM zero = ⊤
+NotApplied text t _ _ = ⊥

@@ -1,0 +1,8 @@
+// What changed behind a snapshot, for people.
+#ifndef CHANGES_H
+#define CHANGES_H
+
+// Prints what differs between a snapshot of a mount that stands and another one, or the live tree where `to` is null: a line for each
+// entry, in the order of names. The status.
+int print_changes(const char *mount_point, const char *from, const char *to);
+#endif
