@@ -8,7 +8,7 @@
 PREFIX ?= /usr/local
 DESTDIR ?=
 BETR ?= crates/betr/out/betr
-IMAGEDELTA ?= crates/imagedelta/out/imagedelta
+DELTAS ?= crates/deltas/out/deltas
 ARCHIVE ?= crates/doorvervain/out/libdoorvervain.a
 # malloc, realloc and free for the library: the toolchain has them.
 HEAP ?= $(dir $(shell rt doc 2> /dev/null))c/liblibc_c.a
@@ -76,7 +76,7 @@ install: all
 	install -d $(TO)/bin $(TO)/lib/pkgconfig $(TO)/include $(TO)/share/man/man1 $(TO)/share/man/man3
 	install -d $(TO)/share/bash-completion/completions $(TO)/share/doc/doorvervain $(SHARE)/bindings $(SHARE)/examples
 	install -m 755 $(BETR) $(TO)/bin/betr
-	[ ! -x '$(IMAGEDELTA)' ] || install -m 755 $(IMAGEDELTA) $(TO)/bin/imagedelta
+	[ ! -x '$(DELTAS)' ] || install -m 755 $(DELTAS) $(TO)/bin/deltas
 	install -m 644 out/lib/libdoorvervain.a $(TO)/lib/libdoorvervain.a
 	install -m 755 out/lib/$(SHARED) $(TO)/lib/$(SHARED)
 	ln -sf $(SHARED) $(TO)/lib/$(SONAME)
@@ -96,7 +96,7 @@ install: all
 	    $(MAKE) -C mount install PREFIX='$(PREFIX)' DESTDIR='$(DESTDIR)'; fi
 
 uninstall:
-	rm -f $(TO)/bin/betr $(TO)/bin/imagedelta $(TO)/lib/libdoorvervain.a $(TO)/lib/$(SHARED) $(TO)/lib/$(SONAME) $(TO)/lib/libdoorvervain.so
+	rm -f $(TO)/bin/betr $(TO)/bin/deltas $(TO)/lib/libdoorvervain.a $(TO)/lib/$(SHARED) $(TO)/lib/$(SONAME) $(TO)/lib/libdoorvervain.so
 	rm -f $(TO)/include/doorvervain.h $(TO)/lib/pkgconfig/doorvervain.pc $(TO)/share/bash-completion/completions/betr
 	rm -f $(TO)/share/man/man1/betr.1 $(TO)/share/man/man3/doorvervain.3
 	packaging/manual names include/doorvervain.h | while read -r name; do rm -f "$(TO)/share/man/man3/$$name.3"; done

@@ -12,7 +12,7 @@ use Rattle.sha2.specs.Sha256.{sha256}
 use Rattle.volume.specs.Told.{Finds}
 use Rattle.volume.specs.Volumes.{MeanRooted, Means, PVolume}
 use Rattle.volume.specs.declared.rooted.Rooted.{Rooted}
-use Rattle.deltas.specs.Applies.{AppendsDelta, IsDifference}
+use Rattle.delta.specs.Applies.{AppendsDelta, IsDifference}
 use Rattle.byte_calls.specs.Differences.{DiffersSo, IsKept, IsNotKept, LacksTree, NamesTree, PrintsDifference}
 use Rattle.byte_calls.specs.Looks.{laid}
 use Rattle.byte_calls.specs.Snapshots.{FindsNamed}

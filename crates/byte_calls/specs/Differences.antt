@@ -6,7 +6,7 @@ use Rattle.pathkey.specs.declared.errno.Errno.{Errno}
 use Rattle.pathkey.specs.declared.errno.Errno.TheVariants.{ENOENT, ENOMEM}
 use Rattle.reference.specs.Tree.{Tree}
 use Rattle.reference.specs.Worlds.{World}
-use Rattle.deltas.specs.Applies.{IsDifference}
+use Rattle.delta.specs.Applies.{IsDifference}
 use Rattle.byte_calls.specs.Images.{Prints}
 
 -- the tree of the snapshot of that name

@@ -6,12 +6,12 @@ ghost use Rattle.reference.specs.Tree.{Tree};
 ghost use Rattle.reference.specs.Worlds.{World};
 ghost use Rattle.sha2.specs.Sha256.{sha256};
 ghost use Rattle.volume.specs.Volumes.{MeanRooted, Means};
-ghost use Rattle.deltas.specs.Applies.{IsDifference};
+ghost use Rattle.delta.specs.Applies.{IsDifference};
 ghost use Rattle.byte_calls.specs.Differences.{DiffersSo, LacksOne, LacksTree, NamesTree, PrintsDifference};
 
 use crate::looks::lay_where_it_fits;
 use crate::snapshots::{freeze, frozen};
-use deltas::{image_digest, print_delta};
+use delta::{image_digest, print_delta};
 use pathkey::Errno;
 use std::alloc::Global;
 use volume::{Frozen, Volume};

@@ -1,6 +1,6 @@
 //! Images, deltas between them, and what asks for one. No function that asks ensures anything, so that no proof of a test reads what a
 //! delta is.
-use deltas::{DeltaFault, apply_delta, image_digest, print_delta};
+use delta::{DeltaFault, apply_delta, image_digest, print_delta};
 use images::{load_text, print_image};
 use node::Shape;
 use std::alloc::Global;

@@ -1,6 +1,6 @@
 //! Texts that are no deltas, deltas of other trees, and deltas that make no image.
 use crate::by_hand::{FIRST, TREE, apply, delta, image_of, load};
-use deltas::DeltaFault;
+use delta::DeltaFault;
 use std::alloc::Global;
 use std::test::Fail;
 

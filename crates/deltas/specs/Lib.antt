@@ -1,5 +1,0 @@
-pub mod Deltas
-pub mod Texts
-pub mod Patching
-pub mod Walks
-pub mod Applies

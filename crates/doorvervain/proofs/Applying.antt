@@ -1,9 +1,9 @@
 -- What is told of a difference that was applied, or was not.
 use Rattle.std.proofs.Common.{◌≡◌, ℕ, zero, suc, ◌+◌, List, length, Result, Ok, Err, IfOk, IfErr, OnOk, OnErr, refl, sym, ap, subst, subst₂, arith}
-use Rattle.deltas.specs.Applies.{IsOfOther, SpoilsImage}
-use Rattle.deltas.specs.Texts.{IsBadAt}
-use Rattle.deltas.specs.declared.fault.DeltaFault.{DeltaFault}
-use Rattle.deltas.specs.declared.fault.DeltaFault.TheVariants.{Memory, Bad, OtherTree, NoImage}
+use Rattle.delta.specs.Applies.{IsOfOther, SpoilsImage}
+use Rattle.delta.specs.Texts.{IsBadAt}
+use Rattle.delta.specs.declared.fault.DeltaFault.{DeltaFault}
+use Rattle.delta.specs.declared.fault.DeltaFault.TheVariants.{Memory, Bad, OtherTree, NoImage}
 use Rattle.pathkey.specs.declared.errno.Errno.{Errno}
 use Rattle.pathkey.specs.declared.errno.Errno.TheVariants.{EINVAL}
 use Rattle.reference.specs.Tree.{Tree}

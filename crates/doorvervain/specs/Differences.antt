@@ -1,9 +1,9 @@
 -- What the exports of differences tell.
 use Rattle.std.specs.Prelude.{◌≡◌, ℕ, zero, suc, ⊤, List, Result, Ok, Err}
-use Rattle.deltas.specs.Applies.{IsOfOther, SpoilsImage}
-use Rattle.deltas.specs.Texts.{IsBadAt}
-use Rattle.deltas.specs.declared.fault.DeltaFault.{DeltaFault}
-use Rattle.deltas.specs.declared.fault.DeltaFault.TheVariants.{Memory, Bad, OtherTree, NoImage}
+use Rattle.delta.specs.Applies.{IsOfOther, SpoilsImage}
+use Rattle.delta.specs.Texts.{IsBadAt}
+use Rattle.delta.specs.declared.fault.DeltaFault.{DeltaFault}
+use Rattle.delta.specs.declared.fault.DeltaFault.TheVariants.{Memory, Bad, OtherTree, NoImage}
 use Rattle.pathkey.specs.declared.errno.Errno.{Errno}
 use Rattle.pathkey.specs.declared.errno.Errno.TheVariants.{EINVAL, ENOENT, ENOMEM}
 use Rattle.reference.specs.Tree.{Tree}

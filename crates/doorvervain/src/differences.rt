@@ -3,13 +3,13 @@ ghost use Rattle.std.specs.Prelude.{◌≡◌, ◌↔◌, IfErr, IfOk, Ok};
 ghost use Rattle.reference.specs.Worlds.{World};
 ghost use Rattle.volume.specs.Volumes.{Means};
 ghost use Rattle.byte_calls.specs.Differences.{LacksOne, PrintsDifference};
-ghost use Rattle.deltas.specs.Applies.{Applied};
+ghost use Rattle.delta.specs.Applies.{Applied};
 ghost use Rattle.doorvervain.specs.Differences.{DeltaFaultTold, DeltaTold, NotApplied};
 ghost use Rattle.doorvervain.specs.Numbers.{IsNumber, IsShort, IsSizeNumber, short, sized_by, told};
 
 use crate::handle::Handle;
 use crate::numbers::{number, sized};
-use deltas::{DeltaFault, apply_delta};
+use delta::{DeltaFault, apply_delta};
 use pathkey::Errno;
 use std::alloc::Global;
 

@@ -1,0 +1,148 @@
+-- Lines of a text, and the lines of commands.
+use Rattle.std.proofs.Common.{◌≡◌, ◌≢◌, ◌⊎◌, inl, inr, ℕ, ◌+◌, ◌%◌, ◌^◌, ◌<◌, ◌==◌, List, [], ◌∷◌, ◌++◌, get_or, codes, decimal, refl, sym, ap, subst, ◌∙◌, append_assoc, arith, rules, Bool, true, false}
+use Rattle.std.specs.List.{All}
+use Rattle.std.proofs.lemmas.Bool.{eqb-true, eqb-false, false≢true}
+use Rattle.std.proofs.lemmas.Fmt.{decimal_by_steps, decimal_injective}
+use Rattle.std.proofs.lemmas.List.{append_cancel_left}
+use Rattle.std.proofs.lemmas.List.Elements.{All-nil, All-cons, All-head, All-tail, All-append, All-from_recursion}
+use Rattle.hex.specs.Hex.{encode_lower, decode_of, is_hex_digit}
+use Rattle.hex.proofs.HexLemmas.{decode_of-encode_lower, decode_of-ok, decode_of-same}
+use Rattle.reference.specs.Image.{Text}
+use Rattle.delta.specs.Deltas.{Line, IsLine, text_of, Command, Stay, Go, Come, IsCommand, IsDigest, IsDelta, commands_text, heading, spelled, told}
+use Rattle.delta.specs.Texts.{end_text}
+
+-- ---- lines
+
+-- a text is cut at its first line feed in one way
+pub same_line : (l m x y : List ℕ) → IsLine l → IsLine m → l ++ 10 ∷ x ≡ m ++ 10 ∷ y → (l ≡ m) × (x ≡ y)
+same_line [] [] x y a b e = (refl, cc)
+same_line [] (c ∷ m) x y a b e = absurd (All-head (λ b. b ≢ 10) c m b (let h : c ≡ 10 = cc in h))
+same_line (c ∷ l) [] x y a b e = absurd (All-head (λ b. b ≢ 10) c l a (let h : c ≡ 10 = cc in h))
+same_line (c ∷ l) (d ∷ m) x y a b e =
+    let rest : l ++ 10 ∷ x ≡ m ++ 10 ∷ y = cc in
+    let head : c ≡ d = cc in
+    let more = same_line l m x y (All-tail (λ b. b ≢ 10) c l a) (All-tail (λ b. b ≢ 10) d m b) rest in
+    (let front : l ≡ m = more.0 in cc, more.1)
+
+-- a byte before a line, or before a text with a line in it
+pub first_line : (text : Text) → ((line after : Text) × IsLine line × (text ≡ line ++ 10 ∷ after)) ⊎ IsLine text
+first_line [] = inr (All-nil (λ b. b ≢ 10))
+first_line (b ∷ text) = go (b == 10) refl (first_line text)
+  where
+    go : (t : Bool) → (b == 10) ≡ t → ((line after : Text) × IsLine line × (text ≡ line ++ 10 ∷ after)) ⊎ IsLine text
+        → ((line after : Text) × IsLine line × (b ∷ text ≡ line ++ 10 ∷ after)) ⊎ IsLine (b ∷ text)
+    go true e h = inl ([], text, All-nil (λ b. b ≢ 10), ap (λ c. c ∷ text) (eqb-true b 10 e))
+    go false e (inl (line, after, whole, cut)) = inl (b ∷ line, after, All-cons (λ b. b ≢ 10) b line (eqb-false b 10 e) whole, ap (λ t. b ∷ t) cut)
+    go false e (inr whole) = inr (All-cons (λ b. b ≢ 10) b text (eqb-false b 10 e) whole)
+
+pub text_append : (ls ms : List Line) → text_of (ls ++ ms) ≡ text_of ls ++ text_of ms
+text_append [] ms = refl
+text_append (l ∷ ls) ms = ap (λ t. l ++ 10 ∷ t) (text_append ls ms) ∙ sym (append_assoc l (10 ∷ text_of ls) (text_of ms))
+
+pub commands_append : (cs ds : List Command) → commands_text (cs ++ ds) ≡ commands_text cs ++ commands_text ds
+commands_append [] ds = refl
+commands_append (c ∷ cs) ds = ap (λ t. spelled c ++ 10 ∷ t) (commands_append cs ds) ∙ sym (append_assoc (spelled c) (10 ∷ commands_text cs) (commands_text ds))
+
+pub told_text : (cs : List Command) → text_of (told cs) ≡ commands_text cs ++ end_text
+told_text [] = refl
+told_text (c ∷ cs) = ap (λ t. spelled c ++ 10 ∷ t) (told_text cs) ∙ sym (append_assoc (spelled c) (10 ∷ commands_text cs) end_text)
+
+-- ---- spellings
+
+decimal_line : (n : ℕ) → n < 2 ^ 64 → IsLine (decimal n)
+decimal_line n small =
+    decimal_by_steps
+    (λ (k : ℕ) (ds : List ℕ). IsLine ds)
+    (λ k few. All-cons (λ b. b ≢ 10) (48 + k) [] (omega arith) (All-nil (λ b. b ≢ 10)))
+    (λ k ds many all. All-append (λ b. b ≢ 10) ds ((48 + k % 10) ∷ []) all (All-cons (λ b. b ≢ 10) (48 + k % 10) [] (omega arith) (All-nil (λ b. b ≢ 10))))
+    n
+    small
+
+behind_word : (a : ℕ) (l : Line) → a ≢ 10 → IsLine l → IsLine (a ∷ 32 ∷ l)
+behind_word a l h whole = All-cons (λ b. b ≢ 10) a (32 ∷ l) h (All-cons (λ b. b ≢ 10) 32 l (omega arith) whole)
+
+pub spelled_line : (c : Command) → IsCommand c → IsLine (spelled c)
+spelled_line (Stay n) h = behind_word 61 (decimal n) (omega arith) (decimal_line n h.1)
+spelled_line (Go n) h = behind_word 45 (decimal n) (omega arith) (decimal_line n h.1)
+spelled_line (Come l) h = behind_word 43 l (omega arith) h
+
+pub end_line : IsLine (codes "end")
+end_line = All-cons (λ b. b ≢ 10) 101 (110 ∷ 100 ∷ []) (omega arith) (All-cons (λ b. b ≢ 10) 110 (100 ∷ []) (omega arith) (All-cons (λ b. b ≢ 10) 100 [] (omega arith) (All-nil (λ b. b ≢ 10))))
+
+pub heads : (a b : ℕ) (x y : List ℕ) → a ∷ x ≡ b ∷ y → a ≡ b
+heads a b x y e = cc
+
+pub tails : (a b : ℕ) (x y : List ℕ) → a ∷ x ≡ b ∷ y → x ≡ y
+tails a b x y e = cc
+
+pub end_is_no_command : (c : Command) → codes "end" ≢ spelled c
+end_is_no_command (Stay n) e = let h = heads 101 61 (110 ∷ 100 ∷ []) (32 ∷ decimal n) e in omega arith
+end_is_no_command (Go n) e = let h = heads 101 45 (110 ∷ 100 ∷ []) (32 ∷ decimal n) e in omega arith
+end_is_no_command (Come l) e = let h = heads 101 43 (110 ∷ 100 ∷ []) (32 ∷ l) e in omega arith
+
+same_words : (a : ℕ) (x y : List ℕ) → a ∷ 32 ∷ x ≡ a ∷ 32 ∷ y → x ≡ y
+same_words a x y e = cc
+
+pub same_spelled : (c d : Command) → IsCommand c → IsCommand d → spelled c ≡ spelled d → c ≡ d
+same_spelled (Stay m) (Stay n) h k e = ap Stay (decimal_injective m n h.1 k.1 (same_words 61 (decimal m) (decimal n) e))
+same_spelled (Stay m) (Go n) h k e = absurd (let h = heads 61 45 (32 ∷ decimal m) (32 ∷ decimal n) e in omega arith)
+same_spelled (Stay m) (Come l) h k e = absurd (let h = heads 61 43 (32 ∷ decimal m) (32 ∷ l) e in omega arith)
+same_spelled (Go m) (Stay n) h k e = absurd (let h = heads 45 61 (32 ∷ decimal m) (32 ∷ decimal n) e in omega arith)
+same_spelled (Go m) (Go n) h k e = ap Go (decimal_injective m n h.1 k.1 (same_words 45 (decimal m) (decimal n) e))
+same_spelled (Go m) (Come l) h k e = absurd (let h = heads 45 43 (32 ∷ decimal m) (32 ∷ l) e in omega arith)
+same_spelled (Come l) (Stay n) h k e = absurd (let h = heads 43 61 (32 ∷ l) (32 ∷ decimal n) e in omega arith)
+same_spelled (Come l) (Go n) h k e = absurd (let h = heads 43 45 (32 ∷ l) (32 ∷ decimal n) e in omega arith)
+same_spelled (Come l) (Come m) h k e = ap Come (same_words 43 l m e)
+
+ten_is_no_digit : (c : ℕ) → is_hex_digit c ≡ true → c ≢ 10
+ten_is_no_digit c h e = false≢true (subst (λ (k : ℕ). is_hex_digit k ≡ true) e h)
+
+pub digits_line : (digest : List ℕ) → IsDigest digest → IsLine (encode_lower digest)
+digits_line digest is =
+    let ok = decode_of-ok (encode_lower digest) digest (decode_of-encode_lower digest is.bytes) in
+    λ k d lt. ten_is_no_digit (get_or (encode_lower digest) k d) (ok.1 k d lt)
+
+word_line : IsLine (codes "delta 1 ")
+word_line = All-from_recursion (λ b. b ≢ 10) (codes "delta 1 ") (search rules)
+
+pub heading_line : (digest : List ℕ) → IsDigest digest → IsLine (heading digest)
+heading_line digest is = All-append (λ b. b ≢ 10) (codes "delta 1 ") (encode_lower digest) word_line (digits_line digest is)
+
+pub same_digits : (d e : List ℕ) → IsDigest d → IsDigest e → encode_lower d ≡ encode_lower e → d ≡ e
+same_digits d e a b same = decode_of-same (encode_lower d) d e (decode_of-encode_lower d a.bytes) (ap decode_of same ∙ decode_of-encode_lower e b.bytes)
+
+pub same_heading : (d e : List ℕ) → IsDigest d → IsDigest e → heading d ≡ heading e → d ≡ e
+same_heading d e a b same = same_digits d e a b (append_cancel_left (codes "delta 1 ") (encode_lower d) (encode_lower e) same)
+
+-- ---- what stands behind commands
+
+-- a text that begins with commands, and is all that a delta has behind its first line, goes on with commands and the end
+pub behind_commands : (cs es : List Command) (rest : Text) → All IsCommand cs → All IsCommand es → text_of (told es) ≡ commands_text cs ++ rest
+    → (ds : List Command) × All IsCommand ds × (rest ≡ text_of (told ds))
+behind_commands [] es rest a b e = (es, b, sym e)
+behind_commands (c ∷ cs) [] rest a b e =
+    let cut : codes "end" ++ 10 ∷ [] ≡ spelled c ++ 10 ∷ (commands_text cs ++ rest) = e ∙ append_assoc (spelled c) (10 ∷ commands_text cs) rest in
+    absurd (end_is_no_command c (same_line (codes "end") (spelled c) [] (commands_text cs ++ rest) end_line (spelled_line c (All-head IsCommand c cs a)) cut).0)
+behind_commands (c ∷ cs) (d ∷ es) rest a b e =
+    let cut : spelled d ++ 10 ∷ text_of (told es) ≡ spelled c ++ 10 ∷ (commands_text cs ++ rest) = e ∙ append_assoc (spelled c) (10 ∷ commands_text cs) rest in
+    let both = same_line (spelled d) (spelled c) (text_of (told es)) (commands_text cs ++ rest) (spelled_line d (All-head IsCommand d es b)) (spelled_line c (All-head IsCommand c cs a)) cut in
+    behind_commands cs es rest (All-tail IsCommand c cs a) (All-tail IsCommand d es b) both.1
+
+-- commands are known from their text
+pub same_commands : (cs es : List Command) → All IsCommand cs → All IsCommand es → text_of (told cs) ≡ text_of (told es) → cs ≡ es
+same_commands [] [] a b e = refl
+same_commands [] (d ∷ es) a b e = absurd (end_is_no_command d (same_line (codes "end") (spelled d) [] (text_of (told es)) end_line (spelled_line d (All-head IsCommand d es b)) e).0)
+same_commands (c ∷ cs) [] a b e = absurd (end_is_no_command c (same_line (codes "end") (spelled c) [] (text_of (told cs)) end_line (spelled_line c (All-head IsCommand c cs a)) (sym e)).0)
+same_commands (c ∷ cs) (d ∷ es) a b e =
+    let is_c = All-head IsCommand c cs a in
+    let is_d = All-head IsCommand d es b in
+    let both = same_line (spelled c) (spelled d) (text_of (told cs)) (text_of (told es)) (spelled_line c is_c) (spelled_line d is_d) e in
+    let first : c ≡ d = same_spelled c d is_c is_d both.0 in
+    let more : cs ≡ es = same_commands cs es (All-tail IsCommand c cs a) (All-tail IsCommand d es b) both.1 in
+    cc
+
+-- a delta tells one digest and one list of commands
+pub one_reading : (text : Text) (d e : List ℕ) (cs es : List Command) → IsDelta text d cs → IsDelta text e es → (d ≡ e) × (cs ≡ es)
+one_reading text d e cs es a b =
+    let both = same_line (heading d) (heading e) (text_of (told cs)) (text_of (told es)) (heading_line d a.sum) (heading_line e b.sum) (sym a.is ∙ b.is) in
+    (same_heading d e a.sum b.sum both.0, same_commands cs es a.commands b.commands both.1)

@@ -1,0 +1,8 @@
+use Rattle.delta.proofs.BeginFacts.{delta_none}
+use Rattle.delta.proofs.print.print_delta.Goals as goal
+
+pub returns-in_default-clause-err : goal.returns-in_default-clause-err
+returns-in_default-clause-err g c = λ t u m n is. delta_none _ c.args.digest.now t u (record { size = c.told-digest; bytes = c.fits-digest }) is
+
+pub returns-in_default-new-clause-err : goal.returns-in_default-new-clause-err
+returns-in_default-new-clause-err g c = λ t u m n is. delta_none _ c.args.digest.now t u (record { size = c.told-digest; bytes = c.fits-digest }) is

@@ -1,0 +1,5 @@
+pub mod Deltas
+pub mod Texts
+pub mod Patching
+pub mod Walks
+pub mod Applies

@@ -1,0 +1,72 @@
+-- Which texts are no deltas, and from which line on.
+use Rattle.std.specs.Prelude.{◌≡◌, ◌≢◌, ◌⊎◌, ℕ, ◌+◌, List, [], ◌∷◌, ◌++◌, length, drop, codes, All}
+use Rattle.reference.specs.Image.{Text}
+use Rattle.delta.specs.Deltas.{Line, IsLine, text_of, Command, Stay, Go, Come, IsCommand, IsDelta, IsSomeDelta, commands_text, spelled, told}
+use Rattle.delta.specs.declared.command.Told.{Told}
+use Rattle.delta.specs.declared.command.Told.TheVariants.{Stay as StayTold, Go as GoTold, Come as ComeTold}
+
+-- the command that was read of a line
+abbrev pub command_of : Told → Line → Command
+command_of (StayTold n) line = Stay n
+command_of (GoTold n) line = Go n
+command_of ComeTold line = Come (drop 2 line)
+
+-- the line tells no command
+abbrev pub TellsNone : Line → Type 0
+TellsNone line = (c : Command) → IsCommand c → line ≢ spelled c
+
+-- it tells this one
+pub record Tells (line : Line) (c : Command) : Type 0 where
+  pub command : IsCommand c
+  pub is : line ≡ spelled c
+
+-- the text goes on with the line of a command, and with this text behind it
+pub record IsNext (text line : Text) (t : Told) (behind : Text) : Type 0 where
+  pub cut : text ≡ line ++ 10 ∷ behind
+  pub whole : IsLine line
+  pub tells : Tells line (command_of t line)
+
+-- it does not go on with a command
+abbrev pub HasNoCommand : Text → Type 0
+HasNoCommand text = (c : Command) (behind : Text) → IsCommand c → text ≢ spelled c ++ 10 ∷ behind
+
+-- it goes on with these commands, and with this text behind them
+pub record Passes (cs : List Command) (text rest : Text) : Type 0 where
+  pub commands : All IsCommand cs
+  pub cut : text ≡ commands_text cs ++ rest
+
+-- what stands behind the commands
+abbrev pub end_text : Text
+end_text = text_of (codes "end" ∷ [])
+
+-- the text is not the end: its first line is another, which is bad, or the second is
+pub record NoEnd (text : Text) (number bad : ℕ) : Type 0 where
+  pub other : text ≢ end_text
+  pub first : bad ≢ number → (bad ≡ number + 1) × ((behind : Text) × (text ≡ end_text ++ behind))
+  pub second : bad ≡ number → (behind : Text) → text ≢ end_text ++ behind
+
+-- the text has these commands, and the end behind them
+pub record TellsAll (text : Text) (cs : List Command) : Type 0 where
+  pub commands : All IsCommand cs
+  pub is : text ≡ text_of (told cs)
+
+-- the text is a delta that tells this digest and these commands, and this is all behind its first line
+pub record ReadsDelta (text digest behind : Text) (cs : List Command) : Type 0 where
+  pub is : IsDelta text digest cs
+  pub rest : behind ≡ text_of (told cs)
+
+-- behind these lines of the text stands one with which no delta begins; or none stands there, and the text is no delta
+abbrev pub IsBadBehind : List Line → Text → Type 0
+IsBadBehind front rest =
+    ((line after : Text) × IsLine line × (rest ≡ line ++ 10 ∷ after) × ((more : Text) → IsSomeDelta (text_of front ++ (line ++ 10 ∷ more)) → ⊥))
+    ⊎ (IsLine rest × (IsSomeDelta (text_of front ++ rest) → ⊥))
+
+-- the line n is the first bad one of the text: with those before it a delta may begin, and with it none does
+pub record IsBadAt (n : ℕ) (text : Text) : Type 0 where
+  pub front : List Line
+  pub rest : Text
+  pub whole : All IsLine front
+  pub cut : text ≡ text_of front ++ rest
+  pub number : n ≡ length front + 1
+  pub begins : (more : Text) × IsSomeDelta (text_of front ++ more)
+  pub bad : IsBadBehind front rest

@@ -1,0 +1,51 @@
+//! Why a delta was not printed, or not applied.
+ghost use Rattle.std.specs.Prelude.{◌≡◌};
+ghost use Rattle.delta.specs.declared.fault.PrintFault.TheVariants as fault;
+
+use lines::output::WriteFailed;
+use pathkey::NoMemory;
+use thiserror::Error;
+
+/// Why a delta was not printed to its end.
+#[derive(Debug, Drop, PartialEq, Eq, Error)]
+pub enum PrintFault {
+    /// Memory was refused.
+    #[error("deltas: no memory")]
+    Memory,
+    /// The writer failed.
+    #[error("deltas: write failed")]
+    Write,
+}
+
+impl From<NoMemory> for PrintFault {
+    ghost from_gives = { λ _ e. e ≡ fault.Memory };
+
+    fn from(_refused: NoMemory) -> PrintFault {
+        PrintFault::Memory
+    }
+}
+
+impl From<WriteFailed> for PrintFault {
+    ghost from_gives = { λ _ e. e ≡ fault.Write };
+
+    fn from(_failed: WriteFailed) -> PrintFault {
+        PrintFault::Write
+    }
+}
+
+/// Why a delta was not applied.
+#[derive(Debug, Drop, PartialEq, Eq, Error)]
+pub enum DeltaFault {
+    /// Memory was refused.
+    #[error("deltas: no memory")]
+    Memory,
+    /// The text is no delta; the number is that of its first bad line, counted from 1.
+    #[error("deltas: bad delta at line {0}")]
+    Bad(u64),
+    /// It is the delta of a tree with another image.
+    #[error("deltas: delta of another tree")]
+    OtherTree,
+    /// What it makes of the lines of the image is no image.
+    #[error("deltas: delta makes no image")]
+    NoImage,
+}
