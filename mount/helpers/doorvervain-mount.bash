@@ -2,11 +2,12 @@
 _doorvervain_mount() {
     local word=${COMP_WORDS[COMP_CWORD]} before=${COMP_WORDS[COMP_CWORD - 1]}
     case $before in
-    --size | --log-size | --steps | --restore) return ;;
-    --load | --image | --record | --pipe) mapfile -t COMPREPLY < <(compgen -f -- "$word") ;;
+    --size | --log-size | --steps | --restore | --replica | --prefix | --user) return ;;
+    --load | --image | --record | --pipe | --authority | --certificate | --key | --password) mapfile -t COMPREPLY < <(compgen -f -- "$word") ;;
     *)
         if [[ $word == -* ]]; then
-            mapfile -t COMPREPLY < <(compgen -W "--store --sync --log-size --pipe --load --image --size --record --steps --trust \
+            mapfile -t COMPREPLY < <(compgen -W "--store --sync --log-size --replica --prefix --authority --certificate \
+                --key --user --password --pipe --load --image --size --record --steps --trust \
                 --allow-other --foreground --restore --unmount --lines --version --help" -- "$word")
             return
         fi

@@ -98,7 +98,8 @@ int aside_remove_now(struct mount *mount, struct entry *entry, uint64_t at) {
 }
 
 int aside_remove(struct mount *mount, struct entry *entry, uint64_t at) {
-    if (!entry_is_held(entry) || entry->opens) return aside_remove_now(mount, entry, at);
+    // In the log of several mounts a request's change is its own.
+    if (!entry_is_held(entry) || entry->opens || mount->replica) return aside_remove_now(mount, entry, at);
     mount->leaving = entry;
     mount->leaving_at = at;
     return 0;

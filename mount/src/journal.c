@@ -1,4 +1,5 @@
 #include "journal.h"
+#include "replica.h"
 #include "room.h"
 #include <errno.h>
 #include <string.h>
@@ -7,6 +8,7 @@ void journal_begin(struct journal *journal, struct mount *mount, uint64_t at) {
     journal->mount = mount;
     journal->at = at;
     journal->count = 0;
+    replica_change_begins(mount);
 }
 
 static struct undo *note(struct journal *journal, enum undoing how, const char *path, uint64_t at) {
@@ -138,5 +140,5 @@ int journal_end(struct journal *journal, int fault) {
         else finish_one(volume, &journal->undone[i], journal->at);
         bytes_free(&journal->undone[i].text);
     }
-    return fault;
+    return replica_change_ends(journal->mount, fault);
 }
