@@ -50,7 +50,8 @@ static int set_aside(struct mount *mount, struct entry *entry, uint64_t at) {
     struct aside aside;
     journal_begin(&journal, mount, at);
     int fault = journal_end(&journal, aside_move(&journal, entry, &aside));
-    if (!fault) aside_follow(mount, entry, &aside, at);
+    if (fault) aside_drop(&aside);
+    else aside_follow(mount, entry, &aside, at);
     return fault;
 }
 

@@ -7,6 +7,8 @@
 #include <stdio.h>
 #include <stdlib.h>
 #include <string.h>
+#include <sys/stat.h>
+#include <unistd.h>
 
 // The snapshot of the library by which the tree is kept that is taken back. No user's has it.
 static const uint8_t KEPT[] = "kept";
@@ -206,8 +208,8 @@ static int replica_close(void *self, struct image *image) {
     struct replica *replica = self;
     shared_log_close(replica->log);
     int fault = replica->over.way->close(replica->over.self, image);
+    replica_put_ends(replica);
     bytes_free(&replica->calls);
-    bytes_free(&replica->parts);
     bytes_free(&replica->stale);
     free(replica);
     return fault;
@@ -218,28 +220,49 @@ static const struct way replica_way = {
     replica_keep,   replica_punch,  replica_data,     replica_relieve, replica_owes, replica_close,
 };
 
-static int open_log_of(struct replica *replica, const struct making *making, uint64_t *newest) {
-    int fault = shared_log_open(&making->replica, &replica->log, &replica->number, newest);
+// The library begins with the image of the checkpoint, which lies in a file without a name.
+static int open_tree(struct replica *replica, const struct making *making, const struct beginning *beginning) {
+    char name[64];
+    struct stat stat;
+    struct making inner = *making;
+    snprintf(name, sizeof name, "/proc/self/fd/%d", beginning->image);
+    if (beginning->image < 0) return open_library(making, &replica->over);
+    inner.image = name;
+    if (!fstat(beginning->image, &stat)) replica->image_size = (uint64_t)stat.st_size;
+    return open_library(&inner, &replica->over);
+}
+
+static int open_log_of(struct replica *replica, const struct making *making, struct beginning *beginning) {
+    int fault = shared_log_open(&making->replica, &replica->log, beginning);
     if (fault) return fault;
-    fault = open_library(making, &replica->over);
+    fault = open_tree(replica, making, beginning);
+    if (beginning->image >= 0) close(beginning->image);
     if (fault) shared_log_close(replica->log);
     return fault;
 }
 
-int replica_open(const struct making *making, struct mount *mount) {
-    struct replica *replica = calloc(1, sizeof *replica);
-    uint64_t newest = 0;
-    if (!replica) return ENOMEM;
-    replica->mount = mount;
-    int fault = open_log_of(replica, making, &newest);
-    if (fault) {
-        free(replica);
-        return fault;
-    }
+static void begin_at(struct replica *replica, struct mount *mount, const struct beginning *beginning) {
     replica->volume = library_volume(replica->over.self);
+    replica->number = beginning->number;
+    replica->done = replica->kept_at = beginning->checkpoint.version;
+    replica->revision = beginning->checkpoint.revision;
     mount->volume = (struct volume){&replica_way, replica, replica->over.records};
     mount->replica = replica;
     mount->aside = replica->number << NUMBERS_OF_A_MOUNT;
     entries_number_above(mount->aside);
-    return replica_catch_up(replica, newest);
+}
+
+int replica_open(const struct making *making, struct mount *mount) {
+    struct replica *replica = calloc(1, sizeof *replica);
+    struct beginning beginning;
+    if (!replica) return ENOMEM;
+    replica->mount = mount;
+    replica->log_size = making->log_size;
+    int fault = open_log_of(replica, making, &beginning);
+    if (fault) {
+        free(replica);
+        return fault;
+    }
+    begin_at(replica, mount, &beginning);
+    return replica_catch_up(replica, beginning.newest);
 }

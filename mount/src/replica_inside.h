@@ -51,7 +51,8 @@ struct replica {
     struct mount *mount;
     struct shared_log *log;
     uint64_t number; // of this mount
-    uint64_t done;   // the log's version up to which all is done
+    uint64_t done;     // the log's version up to which all is done
+    uint64_t revision; // and what etcd has for it
     int fault;       // why the log cannot be followed any more
 
     // A pass.
@@ -70,6 +71,13 @@ struct replica {
     struct put put;
     struct bytes parts; // of a value whose last part has not come, and its front
     struct value_front front;
+
+    // Checkpoints.
+    struct checkpointing *keeping; // the one that is being made; null: none is
+    uint64_t log_size;       // bytes of the log that make one worth its while
+    uint64_t since;          // bytes of it behind the last one
+    uint64_t kept_at;        // the version of the last one that is known here
+    uint64_t image_size;     // its size
 
     // What the kernel is told to forget, by a thread of its own.
     pthread_mutex_t lock;
@@ -106,6 +114,7 @@ void replica_give_up(struct replica *replica);
 int replica_catch_up(struct replica *replica, uint64_t newest);
 // Does what came from the log.
 void replica_take(struct replica *replica);
+void replica_put_ends(struct replica *replica);
 
 // ---- replica_serve.c
 

@@ -48,7 +48,7 @@ static char *name_key(const struct replica_place *place, const char *name) {
     return key;
 }
 
-static void raise_event(struct shared_log *log) {
+void shared_log_wake(struct shared_log *log) {
     if (eventfd_write(log->event, 1)) return;
 }
 
@@ -105,7 +105,7 @@ static void fail(struct shared_log *log, int fault) {
     pthread_mutex_lock(&log->lock);
     log->fault = fault;
     pthread_mutex_unlock(&log->lock);
-    raise_event(log);
+    shared_log_wake(log);
 }
 
 // Who does the values is behind: the member waits.
@@ -117,7 +117,7 @@ static void put_came(struct shared_log *log, struct came *came) {
     log->last = came;
     log->waiting += came->value.bytes.length;
     pthread_mutex_unlock(&log->lock);
-    raise_event(log);
+    shared_log_wake(log);
 }
 
 static int read_pair(struct shared_log *log, const json_t *pair) {
@@ -128,6 +128,7 @@ static int read_pair(struct shared_log *log, const json_t *pair) {
     struct came *came = calloc(1, sizeof *came);
     if (!came) return ENOMEM;
     came->value.version = version;
+    came->value.revision = wire_number(pair, "mod_revision");
     int fault = text ? wire_decode(text, &came->value.bytes) : EBADMSG;
     if (fault) {
         bytes_free(&came->value.bytes);
@@ -135,7 +136,7 @@ static int read_pair(struct shared_log *log, const json_t *pair) {
         return fault;
     }
     log->seen = version;
-    log->revision = wire_number(pair, "mod_revision") + 1;
+    log->revision = came->value.revision + 1;
     put_came(log, came);
     return 0;
 }
@@ -271,19 +272,32 @@ static int begin_threads(struct shared_log *log) {
     return fault;
 }
 
-static int open_all(struct shared_log *log, const struct replica_place *place, uint64_t *number, uint64_t *newest) {
+// The log is watched behind a checkpoint, or from its first version on.
+static int begin_behind(struct shared_log *log, struct beginning *beginning) {
+    int fault = ask_newest(log, &beginning->newest);
+    if (!fault) fault = checkpoint_fetch(&log->puts, &beginning->checkpoint, &beginning->image);
+    if (fault || !beginning->checkpoint.version) return fault;
+    log->seen = beginning->checkpoint.version;
+    log->revision = beginning->checkpoint.revision + 1;
+    return 0;
+}
+
+const struct members *shared_log_members(const struct shared_log *log) { return &log->members; }
+
+static int open_all(struct shared_log *log, const struct replica_place *place, struct beginning *beginning) {
     int fault = members_read(place, &log->members);
     log->key = fault ? 0 : name_key(place, "log");
     if (!fault && !log->key) fault = ENOMEM;
     if (!fault) fault = wire_open(&log->puts, &log->members, (size_t)getpid());
     if (!fault) fault = wire_open(&log->watches, &log->members, (size_t)getpid());
-    if (!fault) fault = ask_number(log, number);
-    if (!fault) fault = ask_newest(log, newest);
+    if (!fault) fault = ask_number(log, &beginning->number);
+    if (!fault) fault = begin_behind(log, beginning);
     return fault ? fault : begin_threads(log);
 }
 
-int shared_log_open(const struct replica_place *place, struct shared_log **out, uint64_t *number, uint64_t *newest) {
+int shared_log_open(const struct replica_place *place, struct shared_log **out, struct beginning *beginning) {
     struct shared_log *log = calloc(1, sizeof *log);
+    *beginning = (struct beginning){.image = -1};
     if (!log) return ENOMEM;
     json_set_alloc_funcs(malloc, free);
     curl_global_init(CURL_GLOBAL_DEFAULT);
@@ -291,7 +305,7 @@ int shared_log_open(const struct replica_place *place, struct shared_log **out, 
     pthread_cond_init(&log->wakes, 0);
     pthread_cond_init(&log->has_room, 0);
     log->event = eventfd(0, EFD_CLOEXEC | EFD_NONBLOCK);
-    int fault = log->event < 0 ? errno : open_all(log, place, number, newest);
+    int fault = log->event < 0 ? errno : open_all(log, place, beginning);
     if (fault) shared_log_close(log);
     *out = fault ? 0 : log;
     return fault;

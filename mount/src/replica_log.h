@@ -1,7 +1,7 @@
 // The log in etcd, by the JSON interface of its members: two threads, one of which puts, while the other one watches.
 #ifndef REPLICA_LOG_H
 #define REPLICA_LOG_H
-#include "way.h"
+#include "replica_image.h"
 
 enum { LARGEST_VALUE = 1000000 };
 
@@ -11,18 +11,29 @@ struct value_front {
     uint64_t mount, serial, part, parts;
 };
 #define VALUE_MARK "dvput 1\n"
+_Static_assert(__BYTE_ORDER__ == __ORDER_LITTLE_ENDIAN__, "numbers in the log have their least byte first");
 
-// A value that came from the log.
+// A value that came from the log, and the revision of etcd that it has.
 struct value {
-    uint64_t version;
+    uint64_t version, revision;
     struct bytes bytes;
 };
 
 struct shared_log;
 
-// Refuses members that may not be spoken to, with a word on standard error; asks for a number that no other mount has,
-// and for the log's newest version; begins to watch from the first on.
-int shared_log_open(const struct replica_place *place, struct shared_log **out, uint64_t *number, uint64_t *newest);
+// What a mount begins with.
+struct beginning {
+    uint64_t number; // that no other mount has
+    uint64_t newest; // version of the log
+    struct checkpoint checkpoint;
+    int image; // the file of its image; -1: there is none
+};
+
+// Refuses members that may not be spoken to, with a word on standard error; begins to watch behind the checkpoint.
+int shared_log_open(const struct replica_place *place, struct shared_log **out, struct beginning *beginning);
+const struct members *shared_log_members(const struct shared_log *log);
+// Lets the file that is polled for be read.
+void shared_log_wake(struct shared_log *log);
 void shared_log_close(struct shared_log *log);
 // A file to poll for: it can be read where a value has come.
 int shared_log_event(const struct shared_log *log);

@@ -240,6 +240,7 @@ static void do_put(struct replica *replica) {
     }
     for (struct rest *rest = put->rests; rest; rest = rest->next) run(replica, &rest->calls);
     free_rests(&put->rests);
+    if (!replica->fault) checkpoint_begin(replica);
 }
 
 // The calls of each record that was done.
@@ -302,6 +303,8 @@ static void take_value(struct replica *replica, const struct value *value) {
     bool is_own_one = is_own(replica, &value->bytes);
     bool is_whole = assemble(replica, &value->bytes);
     replica->done = value->version;
+    replica->revision = value->revision;
+    replica->since += value->bytes.length;
     if (is_own_one) {
         take_own(replica);
         return;
@@ -319,6 +322,14 @@ void replica_take(struct replica *replica) {
         bytes_free(&value.bytes);
     }
     if (fault) replica_fail(replica, "it was cut, or its key is gone", fault);
+}
+
+void replica_put_ends(struct replica *replica) {
+    free_rests(&replica->rests);
+    free_rests(&replica->put.rests);
+    bytes_free(&replica->put.records);
+    bytes_free(&replica->put.value);
+    bytes_free(&replica->parts);
 }
 
 int replica_catch_up(struct replica *replica, uint64_t newest) {

@@ -182,6 +182,7 @@ static int serve_all(struct replica *replica, struct fuse_buf *buffer) {
         replica_take(replica);
         refuse_old(replica);
         replica_put(replica);
+        checkpoint_step(replica);
     }
     fuse_session_reset(session);
     return got < 0 && got != -EINTR && got != -EAGAIN && got != -ECONNABORTED;
@@ -222,6 +223,7 @@ void replica_end(struct mount *mount) {
     struct replica *replica = mount->replica;
     struct pollfd comes = {.fd = shared_log_event(replica->log), .events = POLLIN};
     uint64_t end = replica_clock() + (uint64_t)SECONDS_TO_END * NANOSECONDS;
+    checkpoint_end(replica);
     while (replica->first) replica_remove_first(replica);
     if (replica->put.is_under_way) replica_give_up(replica);
     note_aside(replica);
