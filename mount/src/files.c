@@ -274,12 +274,16 @@ static int drop_set_user(struct mount *mount, struct entry *entry, uint64_t at) 
     return files_set(mount, entry, &(struct setting){.mode = &mode, .at = at});
 }
 
+// Both are one change. Where that only waits, the entry has the attributes that it had.
 static int cut_open(struct mount *mount, struct entry *entry, bool drops) {
     uint64_t at = moment_now();
+    struct attributes before = entry->attributes;
     replica_change_begins(mount);
     int fault = drops ? drop_set_user(mount, entry, at) : 0;
     if (!fault) fault = cut_file(mount, entry, &(struct cut){.is_wanted = true, .at = at});
-    return replica_change_ends(mount, fault);
+    fault = replica_change_ends(mount, fault);
+    if (fault && mount->replica) entry->attributes = before;
+    return fault;
 }
 
 int files_open(struct mount *mount, struct entry *entry, int flags, bool drops) {

@@ -120,8 +120,6 @@ static int add_requests(struct replica *replica) {
     if (!fault && one) fault = add_record(replica, put->requests++, &one->calls);
     while (!fault && one && !moves(one) && (one = one->next) && may_follow(one)) {
         if (put->records.length + one->size >= LARGEST_PART) break;
-        // What the entries know of the tree is asked anew.
-        replica_forget(replica);
         put->is_torn = try_one(replica, one, false);
         if (put->is_torn) break;
         fault = add_record(replica, put->requests++, &one->calls);

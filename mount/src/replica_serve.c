@@ -61,11 +61,29 @@ static bool is_only_noted(uint32_t what) {
     return what == FUSE_FORGET || what == FUSE_BATCH_FORGET || what == FUSE_RELEASE;
 }
 
+// What asks alone. All others are tried and done by what the tree tells, and by nothing that is remembered: so they make
+// the same calls each time.
+static bool only_asks(uint32_t what) {
+    switch (what) {
+    case FUSE_LOOKUP:
+    case FUSE_GETATTR:
+    case FUSE_READLINK:
+    case FUSE_READ:
+    case FUSE_OPENDIR:
+    case FUSE_READDIR:
+    case FUSE_READDIRPLUS:
+    case FUSE_GETXATTR:
+    case FUSE_LISTXATTR: return true;
+    default: return false;
+    }
+}
+
 static uint32_t kind_of(const char *bytes) { return ((const struct fuse_in_header *)bytes)->opcode; }
 
 void replica_request(struct replica *replica, enum pass pass, const char *bytes, size_t size,
                      const struct bytes *wanted) {
     struct fuse_buf buffer = {.mem = (void *)(uintptr_t)bytes, .size = size};
+    if (!only_asks(kind_of(bytes))) replica_forget(replica);
     replica_pass(replica, pass, wanted);
     replica->names_number = names_number(kind_of(bytes));
     fuse_session_process_buf(session, &buffer);
