@@ -7,12 +7,11 @@
 #include <stdlib.h>
 #include <string.h>
 #include <sys/mman.h>
-#include <time.h>
 #include <unistd.h>
 
 // The key of a part: by the version and its number.
 #define PARTS "image/%020llu/%llu"
-enum { LONGEST_KEY = 512, TIMES = 200, NANOSECONDS_BETWEEN = 100000000 };
+enum { LONGEST_KEY = 512, TIMES = 200 };
 
 static _Atomic bool gives_up; // the mount is at its end
 
@@ -36,10 +35,6 @@ struct checkpointing {
 
 // ---- questions
 
-static void rest_a_little(void) { nanosleep(&(struct timespec){.tv_nsec = NANOSECONDS_BETWEEN}, 0); }
-
-static json_t *coded_key(const char *key) { return wire_coded(key, strlen(key)); }
-
 static const char *name_key(const struct wire *wire, char out[LONGEST_KEY], const char *form, uint64_t version,
                             uint64_t part) {
     char rest[96];
@@ -53,7 +48,7 @@ static json_t *ask(struct wire *wire, const char *path, json_t *question) {
     json_t *answer = 0;
     for (int i = 0; i < TIMES && question && !answer && !gives_up; i++) {
         answer = wire_ask(wire, path, json_incref(question));
-        if (!answer) rest_a_little();
+        if (!answer) wire_rest();
     }
     json_decref(question);
     return answer;
@@ -61,7 +56,7 @@ static json_t *ask(struct wire *wire, const char *path, json_t *question) {
 
 // What a key has: 0, ENOENT, or EIO.
 static int get(struct wire *wire, const char *key, struct bytes *out) {
-    json_t *answer = ask(wire, "/v3/kv/range", json_pack("{s:o}", "key", coded_key(key)));
+    json_t *answer = ask(wire, "/v3/kv/range", json_pack("{s:o}", "key", wire_key(key)));
     json_t *pair = json_array_get(json_object_get(answer, "kvs"), 0);
     const char *text = json_string_value(json_object_get(pair, "value"));
     int fault = !answer ? EIO : !text ? ENOENT : wire_decode(text, out);
@@ -71,7 +66,7 @@ static int get(struct wire *wire, const char *key, struct bytes *out) {
 
 static int put(struct wire *wire, const char *key, const void *bytes, size_t length) {
     json_t *answer =
-        ask(wire, "/v3/kv/put", json_pack("{s:o, s:o}", "key", coded_key(key), "value", wire_coded(bytes, length)));
+        ask(wire, "/v3/kv/put", json_pack("{s:o, s:o}", "key", wire_key(key), "value", wire_coded(bytes, length)));
     json_decref(answer);
     return answer ? 0 : EIO;
 }
@@ -82,7 +77,7 @@ static void drop_before(struct wire *wire, uint64_t version) {
     name_key(wire, first, PARTS, 0, 0);
     name_key(wire, end, PARTS, version, 0);
     json_decref(
-        ask(wire, "/v3/kv/deleterange", json_pack("{s:o, s:o}", "key", coded_key(first), "range_end", coded_key(end))));
+        ask(wire, "/v3/kv/deleterange", json_pack("{s:o, s:o}", "key", wire_key(first), "range_end", wire_key(end))));
 }
 
 static int read_checkpoint(struct wire *wire, struct checkpoint *out) {

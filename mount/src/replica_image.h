@@ -17,8 +17,8 @@ struct checkpoint {
 // The newest checkpoint, and its image as a file without a name (-1: there is none). What failed is said.
 int checkpoint_fetch(struct wire *wire, struct checkpoint *out, int *file);
 
-// Keeps the tree as it stands, where the log behind the last checkpoint is long enough. The thread that serves calls the second function now and then, by which a piece of the
-// image is printed where one is wanted.
+// Keeps the tree as it stands, where the log behind the last checkpoint is long enough. The thread that serves calls the
+// second function now and then, by which a piece of the image is printed where one is wanted.
 void checkpoint_begin(struct replica *replica);
 void checkpoint_step(struct replica *replica);
 void checkpoint_end(struct replica *replica);

@@ -10,7 +10,7 @@
 #include <time.h>
 #include <unistd.h>
 
-enum { SECONDS_TO_BEGIN = 30, MOST_TAKEN = 64 << 20, NANOSECONDS_BETWEEN = 100000000 };
+enum { SECONDS_TO_BEGIN = 30, MOST_TAKEN = 64 << 20 };
 
 struct came {
     struct came *next;
@@ -38,10 +38,6 @@ struct shared_log {
     struct bytes value; // none: nothing is to be put
 };
 
-static void rest_a_little(void) { nanosleep(&(struct timespec){.tv_nsec = NANOSECONDS_BETWEEN}, 0); }
-
-static json_t *coded_key(const char *key) { return wire_coded(key, strlen(key)); }
-
 static char *name_key(const struct replica_place *place, const char *name) {
     char *key = malloc(strlen(place->prefix) + strlen(name) + 2);
     if (key) sprintf(key, "%s/%s", place->prefix, name);
@@ -58,8 +54,8 @@ void shared_log_wake(struct shared_log *log) {
 static json_t *question_of_put(struct shared_log *log, uint64_t version, const struct bytes *value) {
     char before[32];
     snprintf(before, sizeof before, "%llu", (unsigned long long)(version - 1));
-    return json_pack("{s:[{s:o, s:s, s:s}], s:[{s:{s:o, s:o}}]}", "compare", "key", coded_key(log->key), "target",
-                     "VERSION", "version", before, "success", "request_put", "key", coded_key(log->key), "value",
+    return json_pack("{s:[{s:o, s:s, s:s}], s:[{s:{s:o, s:o}}]}", "compare", "key", wire_key(log->key), "target",
+                     "VERSION", "version", before, "success", "request_put", "key", wire_key(log->key), "value",
                      wire_coded(value->at, value->length));
 }
 
@@ -82,7 +78,7 @@ static void *serve_puts(void *self) {
     while ((wish = next_wish(log, done, &version, &value)) || !log->ends) {
         json_t *answer = wish ? wire_ask(&log->puts, "/v3/kv/txn", question_of_put(log, version, &value)) : 0;
         if (answer) done = wish;
-        else rest_a_little();
+        else wire_rest();
         json_decref(answer);
     }
     bytes_free(&value);
@@ -191,10 +187,10 @@ static void *watch(void *self) {
         snprintf(from, sizeof from, "%llu", (unsigned long long)log->revision);
         log->line.length = 0;
         wire_listen(&log->watches, "/v3/watch",
-                    json_pack("{s:{s:o, s:s, s:b}}", "create_request", "key", coded_key(log->key), "start_revision",
+                    json_pack("{s:{s:o, s:s, s:b}}", "create_request", "key", wire_key(log->key), "start_revision",
                               from, "fragment", 1),
                     take_bytes, ends, log);
-        if (!log->ends) rest_a_little();
+        if (!log->ends) wire_rest();
     }
     return 0;
 }
@@ -232,7 +228,7 @@ static json_t *ask_all(struct shared_log *log, const char *path, json_t *questio
     json_t *answer = 0;
     for (uint64_t end = seconds() + SECONDS_TO_BEGIN; !answer && seconds() < end;) {
         answer = wire_ask(&log->puts, path, json_incref(question));
-        if (!answer) rest_a_little();
+        if (!answer) wire_rest();
     }
     if (!answer) fprintf(stderr, "doorvervain-mount: --replica: no member answers %s\n", path);
     return answer;
@@ -242,7 +238,7 @@ static json_t *ask_all(struct shared_log *log, const char *path, json_t *questio
 static int ask_number(struct shared_log *log, uint64_t *out) {
     char *key = name_key(log->members.place, "mounts");
     json_t *question = key ? json_pack("{s:[{s:{s:o, s:s}}, {s:{s:o}}]}", "success", "request_put", "key",
-                                       coded_key(key), "value", "", "request_range", "key", coded_key(key))
+                                       wire_key(key), "value", "", "request_range", "key", wire_key(key))
                            : 0;
     json_t *answer = question ? ask_all(log, "/v3/kv/txn", question) : 0;
     json_t *range = json_object_get(json_array_get(json_object_get(answer, "responses"), 1), "response_range");
@@ -254,7 +250,7 @@ static int ask_number(struct shared_log *log, uint64_t *out) {
 }
 
 static int ask_newest(struct shared_log *log, uint64_t *newest) {
-    json_t *question = json_pack("{s:o}", "key", coded_key(log->key));
+    json_t *question = json_pack("{s:o}", "key", wire_key(log->key));
     json_t *answer = question ? ask_all(log, "/v3/kv/range", question) : 0;
     json_t *pair = json_array_get(json_object_get(answer, "kvs"), 0);
     *newest = wire_number(pair, "version");

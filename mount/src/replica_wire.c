@@ -4,8 +4,10 @@
 #include <stdio.h>
 #include <stdlib.h>
 #include <string.h>
+#include <time.h>
 
 enum { SECONDS_TO_CONNECT = 2, SECONDS_OF_A_QUESTION = 3, SECONDS_OF_SILENCE = 3, LARGEST_PASSWORD = 4096 };
+enum { NANOSECONDS_BETWEEN = 100000000 };
 
 static int refuse(const char *what, const char *which) {
     fprintf(stderr, "doorvervain-mount: --replica: %s%s\n", what, which);
@@ -67,6 +69,8 @@ json_t *wire_coded(const void *bytes, size_t length) {
     return coded;
 }
 
+json_t *wire_key(const char *key) { return wire_coded(key, strlen(key)); }
+
 int wire_decode(const char *text, struct bytes *out) {
     size_t length = strlen(text), less = 0;
     if (bytes_reserve(out, length / 4 * 3 + 4)) return ENOMEM;
@@ -83,6 +87,8 @@ uint64_t wire_number(const json_t *from, const char *key) {
 }
 
 // ---- a question
+
+void wire_rest(void) { nanosleep(&(struct timespec){.tv_nsec = NANOSECONDS_BETWEEN}, 0); }
 
 int wire_open(struct wire *wire, const struct members *members, size_t first) {
     *wire = (struct wire){.members = members, .at = first % members->count, .curl = curl_easy_init()};

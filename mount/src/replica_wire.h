@@ -35,8 +35,12 @@ void wire_listen(struct wire *wire, const char *path, json_t *question,
                  size_t (*put)(char *bytes, size_t size, size_t count, void *context),
                  int (*ends)(void *context, curl_off_t, curl_off_t, curl_off_t, curl_off_t), void *context);
 
+// A moment in which a member that failed may come back.
+void wire_rest(void);
+
 // Bytes as etcd has them in JSON, and back: null, or a number of <errno.h>, where that failed.
 json_t *wire_coded(const void *bytes, size_t length);
+json_t *wire_key(const char *key);
 int wire_decode(const char *text, struct bytes *out);
 // A number as etcd has it in JSON, at a key; 0 where there is none.
 uint64_t wire_number(const json_t *from, const char *key);
