@@ -28,10 +28,10 @@ def members() -> list[str]:
 
 
 class Cluster:
-    """The members, by their numbers."""
+    """The members, by their numbers. With other words than none they are asked by https."""
 
-    def __init__(self, folder: Path):
-        self.folder = folder
+    def __init__(self, folder: Path, *words: str):
+        self.folder, self.words = folder, words
         self.processes: list[subprocess.Popen | None] = [None] * COUNT
 
     def remove_network(self) -> None:
@@ -56,11 +56,12 @@ class Cluster:
 
     def start(self, number: int) -> None:
         here = address(number)
+        clients = f"{'https' if self.words else 'http'}://{here}:{CLIENTS}"
         cluster = ",".join(f"m{it}=http://{address(it)}:{PEERS}" for it in range(COUNT))
         said = open(self.folder / f"m{number}.log", "ab")
         self.processes[number] = subprocess.Popen(
             ["ip", "netns", "exec", f"{NAME}{number}", "etcd", "--name", f"m{number}", "--data-dir", self.folder / f"m{number}",
-             "--listen-client-urls", f"http://{here}:{CLIENTS}", "--advertise-client-urls", f"http://{here}:{CLIENTS}",
+             "--listen-client-urls", clients, "--advertise-client-urls", clients, *self.words,
              "--listen-peer-urls", f"http://{here}:{PEERS}", "--initial-advertise-peer-urls", f"http://{here}:{PEERS}",
              "--initial-cluster", cluster, "--initial-cluster-state", "new", "--heartbeat-interval", "300",
              "--election-timeout", "3000", "--snapshot-count", "1000", "--logger", "zap"],

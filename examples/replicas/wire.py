@@ -1,4 +1,5 @@
 """A way to a member on which transactions go wrong by chance: they are lost, their answers are, or they come late, behind others."""
+import contextlib
 import http.client
 import random
 import threading
@@ -28,8 +29,24 @@ class Passing(BaseHTTPRequestHandler):
         time.sleep(LATE)
         self.forward(body)
 
+    def pass_on(self, body: bytes) -> None:
+        """An answer without end, until one of both ends goes away."""
+        self.close_connection = True
+        link = http.client.HTTPConnection(self.server.member)
+        link.request("POST", self.path, body)
+        answer = link.getresponse()
+        self.send_response(answer.status)
+        self.end_headers()
+        with contextlib.suppress(OSError, http.client.HTTPException):
+            while part := answer.read1(1 << 16):
+                self.wfile.write(part)
+        link.close()
+
     def do_POST(self) -> None:
         body = self.rfile.read(int(self.headers["Content-Length"]))
+        if self.path == "/v3/watch":
+            self.pass_on(body)
+            return
         kind = self.server.kind() if self.path == "/v3/kv/txn" else "well"
         self.close_connection = kind != "well"
         if kind == "late":

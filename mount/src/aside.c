@@ -50,7 +50,8 @@ static int set_aside(struct mount *mount, struct entry *entry, uint64_t at) {
     struct aside aside;
     journal_begin(&journal, mount, at);
     int fault = journal_end(&journal, aside_move(&journal, entry, &aside));
-    if (!fault) aside_follow(mount, entry, &aside, at);
+    if (fault) aside_drop(&aside);
+    else aside_follow(mount, entry, &aside, at);
     return fault;
 }
 
@@ -98,7 +99,8 @@ int aside_remove_now(struct mount *mount, struct entry *entry, uint64_t at) {
 }
 
 int aside_remove(struct mount *mount, struct entry *entry, uint64_t at) {
-    if (!entry_is_held(entry) || entry->opens) return aside_remove_now(mount, entry, at);
+    // In the log of several mounts a request's change is its own.
+    if (!entry_is_held(entry) || entry->opens || mount->replica) return aside_remove_now(mount, entry, at);
     mount->leaving = entry;
     mount->leaving_at = at;
     return 0;

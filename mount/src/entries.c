@@ -9,6 +9,7 @@ static size_t slot_count, entry_count;
 static uint64_t numbers; // of entries that there ever were
 static struct entry *gone; // out of the tree, and held: at the end of a mount the kernel does not forget all of them
 static struct timespec began;
+static uint64_t fixed; // the moment that is told as now; 0: it is that of the clock
 
 enum { NANOSECONDS = 1000000000 };
 
@@ -18,7 +19,10 @@ struct timespec now(void) {
     return time;
 }
 
+void moment_fix(uint64_t moment) { fixed = moment; }
+
 uint64_t moment_now(void) {
+    if (fixed) return fixed;
     struct timespec time = now();
     return (uint64_t)time.tv_sec * NANOSECONDS + (uint64_t)time.tv_nsec;
 }

@@ -87,6 +87,8 @@ bool entry_is_live(const struct entry *entry);
 
 // The moment that is now, and a moment as a time. Moment 0, which was never handed in, is the time of the mount.
 uint64_t moment_now(void);
+// Until it is 0 the moment that is now is this one.
+void moment_fix(uint64_t moment);
 struct timespec time_of(uint64_t moment);
 struct timespec now(void);
 // A time as a moment; one before 1970 is 0, and one that is too late the latest.

@@ -4,6 +4,7 @@
 #include "holes.h"
 #include "links.h"
 #include "records.h"
+#include "replica.h"
 #include "room.h"
 #include <errno.h>
 #include <fcntl.h>
@@ -273,13 +274,23 @@ static int drop_set_user(struct mount *mount, struct entry *entry, uint64_t at) 
     return files_set(mount, entry, &(struct setting){.mode = &mode, .at = at});
 }
 
+// Both are one change. Where that only waits, the entry has the attributes that it had.
+static int cut_open(struct mount *mount, struct entry *entry, bool drops) {
+    uint64_t at = moment_now();
+    struct attributes before = entry->attributes;
+    replica_change_begins(mount);
+    int fault = drops ? drop_set_user(mount, entry, at) : 0;
+    if (!fault) fault = cut_file(mount, entry, &(struct cut){.is_wanted = true, .at = at});
+    fault = replica_change_ends(mount, fault);
+    if (fault && mount->replica) entry->attributes = before;
+    return fault;
+}
+
 int files_open(struct mount *mount, struct entry *entry, int flags, bool drops) {
     bool cuts = flags & O_TRUNC;
     bool changes = cuts || (flags & O_ACCMODE) != O_RDONLY;
-    uint64_t at = moment_now();
     int fault = changes ? files_may_change(entry) : 0;
-    if (!fault && cuts && drops) fault = drop_set_user(mount, entry, at);
-    if (!fault && cuts) fault = cut_file(mount, entry, &(struct cut){.is_wanted = true, .at = at});
+    if (!fault && cuts) fault = cut_open(mount, entry, drops);
     if (!fault) entry->opens++;
     return fault;
 }

@@ -1,6 +1,7 @@
 #define _GNU_SOURCE
 #include "holes.h"
 #include "files.h"
+#include "replica.h"
 #include "room.h"
 #include <errno.h>
 #include <fcntl.h>
@@ -106,7 +107,8 @@ static int make_hole(struct mount *mount, struct entry *entry, const struct spot
 }
 
 // The longer file first: where a hole cannot be made, the file has the length again that it had.
-static int allocate(struct mount *mount, struct entry *entry, const struct spot *spot, int mode, struct run range) {
+static int allocate_once(struct mount *mount, struct entry *entry, const struct spot *spot, int mode,
+                         struct run range) {
     uint64_t at = moment_now();
     struct standing before;
     int fault = files_stand(mount, entry, &before);
@@ -118,6 +120,11 @@ static int allocate(struct mount *mount, struct entry *entry, const struct spot 
     room_lift();
     set_length(mount, entry, spot, before.length, before.modified);
     return fault;
+}
+
+static int allocate(struct mount *mount, struct entry *entry, const struct spot *spot, int mode, struct run range) {
+    replica_change_begins(mount);
+    return replica_change_ends(mount, allocate_once(mount, entry, spot, mode, range));
 }
 
 int holes_allocate(struct mount *mount, struct entry *entry, int mode, uint64_t offset, uint64_t count) {

@@ -1,4 +1,5 @@
 #include "journal.h"
+#include "replica.h"
 #include "room.h"
 #include <errno.h>
 #include <string.h>
@@ -9,6 +10,7 @@ void journal_begin(struct journal *journal, struct mount *mount, uint64_t at) {
     journal->count = 0;
     journal->read = (struct bytes){0};
     strcpy(journal->read_path, "");
+    replica_change_begins(mount);
 }
 
 static struct undo *note(struct journal *journal, enum undoing how, const char *path, uint64_t at) {
@@ -160,5 +162,5 @@ int journal_end(struct journal *journal, int fault) {
         bytes_free(&journal->undone[i].text);
     }
     bytes_free(&journal->read);
-    return fault;
+    return replica_change_ends(journal->mount, fault);
 }

@@ -190,7 +190,9 @@ int links_count_down(struct journal *journal, struct entry *entry, struct attrib
 
 // The last name is gone: so goes the file, or it is set aside.
 void links_follow(struct mount *mount, struct entry *entry, const struct attributes *attributes, uint64_t at) {
-    if (!attributes->told.names) {
+    // In the log of several mounts a request's change is whole here: what is held stays in its place.
+    entry->is_unlinked = !attributes->told.names && mount->replica && entry_is_held(entry);
+    if (!attributes->told.names && !entry->is_unlinked) {
         aside_remove_now(mount, entry, at);
         return;
     }

@@ -92,6 +92,9 @@ static int serve_options(struct options *options) {
     options->making.store = full_name(options->making.store);
     options->making.log = full_name(options->making.log);
     options->making.betr = full_name(options->making.betr);
+    struct replica_place *place = &options->making.replica;
+    const char **files[] = {&place->authority, &place->certificate, &place->key, &place->password};
+    for (size_t i = 0; i < sizeof files / sizeof *files; i++) *files[i] = full_name(*files[i]);
     return options->stays ? serve_mount(options, say_it_stands) : serve_in_background(options);
 }
 

@@ -3,12 +3,14 @@
 #define MOUNT_H
 #include "entries.h"
 
-struct store; // of store.h
+struct store;   // of store.h
+struct replica; // of replica.h
 
 struct mount {
     struct volume volume;
     struct entry *root;
     struct store *store; // null: nothing is kept but what an image has
+    struct replica *replica; // null: no other mount has this tree
     uid_t user;          // the owner of the mount
     gid_t group;
     bool trusts;           // owners and set-user bits of records hold

@@ -22,8 +22,20 @@ static const char help[] =
     "  --image FILE    writes the image of the tree to FILE when the mount is taken away, and its checksum to FILE.sum\n"
     "  --store DIR     keeps the tree in the folder DIR: what was synced is lost neither with the mount nor the machine\n"
     "  --sync          syncs the store at each change\n"
-    "  --log-size N    lets the log of the store take N bytes, and twice those of its image, before another image is\n"
-    "                  written (64M)\n"
+    "  --log-size N    lets the log of the store, or of the replica, take N bytes, and twice those of its image, before\n"
+    "                  another image is written (64M)\n"
+    "  --replica LIST  is one of several mounts of a file system whose log is in etcd; LIST has its members, as\n"
+    "                  127.0.0.1:2379,127.0.0.1:2479. Those of other machines take https, --authority, and\n"
+    "                  --certificate or --user\n"
+    "  --prefix P      lets the keys of that log begin with P (doorvervain)\n"
+    "  --authority FILE\n"
+    "                  believes members that have a certificate of this authority\n"
+    "  --certificate FILE\n"
+    "                  tells members by a certificate who this is\n"
+    "  --key FILE      has the key of that certificate\n"
+    "  --user NAME     tells members by a name who this is\n"
+    "  --password FILE\n"
+    "                  has that user's password in its first line\n"
     "  --size N        lets the tree take N bytes of memory, with K, M or G behind N, and at least 16M; an eighth is kept\n"
     "                  for removals. Not with --pipe\n"
     "  --record NAME   puts every call in NAME.in, as a script, and every reply in NAME.out, new files, for tests\n"
@@ -60,6 +72,13 @@ static const struct option known[] = {
     {"restore", required_argument, 0, 'r'},
     {"changes", required_argument, 0, 'c'},
     {"store", required_argument, 0, 'd'},
+    {"replica", required_argument, 0, 'R'},
+    {"prefix", required_argument, 0, 'P'},
+    {"authority", required_argument, 0, 'A'},
+    {"certificate", required_argument, 0, 'C'},
+    {"key", required_argument, 0, 'K'},
+    {"user", required_argument, 0, 'U'},
+    {"password", required_argument, 0, 'W'},
     {"sync", no_argument, 0, 'y'},
     {"log-size", required_argument, 0, 'o'},
     {"size", required_argument, 0, 'z'},
@@ -108,7 +127,26 @@ static int read_bytes(const char *word, uint64_t least, const char *refusal, uin
     return 0;
 }
 
+// Where an option of a replica goes; null: it is none.
+static const char **replica_option(int letter, struct replica_place *out) {
+    switch (letter) {
+    case 'R': return &out->members;
+    case 'P': return &out->prefix;
+    case 'A': return &out->authority;
+    case 'C': return &out->certificate;
+    case 'K': return &out->key;
+    case 'U': return &out->user;
+    case 'W': return &out->password;
+    default: return 0;
+    }
+}
+
 static int read_option(int letter, struct options *out) {
+    const char **of_replica = replica_option(letter, &out->making.replica);
+    if (of_replica) {
+        *of_replica = optarg;
+        return 0;
+    }
     switch (letter) {
     case 'p': out->making.betr = optarg; return 0;
     case 'l': out->making.image = optarg; return 0;
@@ -136,6 +174,18 @@ static int read_option(int letter, struct options *out) {
     }
 }
 
+// What does not go together.
+static int try_replica(const struct options *options) {
+    const struct making *making = &options->making;
+    const struct replica_place *place = &making->replica;
+    bool is_told = place->authority || place->certificate || place->key || place->user || place->password;
+    if (!place->members) return place->prefix || is_told ? refuse("that option is for --replica", "") : 0;
+    if (making->store || making->betr || making->image || making->log)
+        return refuse("--replica does not go with --store, --pipe, --load or --record", "");
+    if (!place->certificate != !place->key) return refuse("--certificate goes with --key", "");
+    return !place->user != !place->password ? refuse("--user goes with --password", "") : 0;
+}
+
 int read_options(int count, char **words, struct options *out) {
     int letter, fault = 0;
     *out = (struct options){.awake = 30, .making.steps = 4, .making.log_size = (uint64_t)64 << 20};
@@ -148,6 +198,8 @@ int read_options(int count, char **words, struct options *out) {
     if (out->making.syncs_each && !out->making.store) return refuse("--sync is for a --store", "");
     if (out->size && out->making.betr) return refuse("--size does not go with --pipe", "");
     if (out->trusts && geteuid()) return refuse("--trust is for root", "");
+    if (try_replica(out)) return 2;
+    if (!out->making.replica.prefix) out->making.replica.prefix = "doorvervain";
     out->mount_point = words[optind];
     return 0;
 }

@@ -49,7 +49,9 @@ struct own_path own_link(uint64_t number) {
 
 const char *own_name(const struct own_path *path) { return strrchr(path->text, '/') + 1; }
 
+// What other mounts of a log have set aside is theirs.
 int own_clear(struct mount *mount) {
+    if (mount->replica) return 0;
     int fault = change(mount, REMOVE_TREE, UNLINKED_PATH, 0);
     if (fault && fault != ENOENT && fault != ENOTDIR) return fault;
     mount->own_folders = 0;
@@ -58,6 +60,7 @@ int own_clear(struct mount *mount) {
 
 int own_end(struct mount *mount) {
     uint64_t at = 0;
+    if (mount->replica) return 0;
     int fault = own_clear(mount);
     if (!fault) fault = root_moment(mount, &at);
     if (fault) return fault;
@@ -107,7 +110,7 @@ int own_start(struct mount *mount) {
     if (!fault) fault = leave_out_file(mount, TREE_PATH);
     if (!fault) fault = leave_out_file(mount, LINKS_PATH);
     if (fault) return fault;
-    if (!mount->store && stands(mount, UNLINKED_PATH))
+    if (!mount->store && !mount->replica && stands(mount, UNLINKED_PATH))
         fputs("doorvervain-mount: the image has " UNLINKED_PATH ", which is left out\n", stderr);
     fault = own_clear(mount);
     return fault ? fault : find_links(mount);

@@ -26,14 +26,19 @@
 
 enum { MOST_WAITING_STEPS = 64 };
 #define SECONDS_KNOWN 86400.0
+#define SECONDS_SHARED 1.0
 // The number of an entry that is not known, as libfuse has it.
 #define NO_NUMBER 0xffffffff
 
 static pthread_mutex_t lock = PTHREAD_MUTEX_INITIALIZER;
 static struct fuse_session *session;
+static double seconds_known = SECONDS_KNOWN;
 static unsigned threads; // that restore a snapshot, under the lock
 
-void requests_use(struct fuse_session *used) { session = used; }
+void requests_use(struct fuse_session *used, bool is_shared) {
+    session = used;
+    seconds_known = is_shared ? SECONDS_SHARED : SECONDS_KNOWN;
+}
 
 bool requests_are_under_way(void) {
     pthread_mutex_lock(&lock);
@@ -91,8 +96,8 @@ static struct entry *entry_of(fuse_req_t req, fuse_ino_t number) {
 static struct fuse_entry_param told(const struct found *found) {
     return (struct fuse_entry_param){.ino = (fuse_ino_t)(uintptr_t)found->entry,
                                      .attr = found->stat,
-                                     .attr_timeout = SECONDS_KNOWN,
-                                     .entry_timeout = SECONDS_KNOWN};
+                                     .attr_timeout = seconds_known,
+                                     .entry_timeout = seconds_known};
 }
 
 // Takes the lock. An unlinked file that the kernel knows still goes out of the way.
@@ -125,7 +130,7 @@ static int hold(int fault, const struct found *found) {
 }
 
 static void answer_entry(fuse_req_t req, int fault, const struct found *found) {
-    struct fuse_entry_param param = {.entry_timeout = SECONDS_KNOWN};
+    struct fuse_entry_param param = {.entry_timeout = seconds_known};
     if (!fault) param = told(found);
     if (fault && fault != ENOENT) fuse_reply_err(req, fault);
     else fuse_reply_entry(req, &param);
@@ -162,7 +167,7 @@ static void on_forget_many(fuse_req_t req, size_t count, struct fuse_forget_data
 
 static void answer_stat(fuse_req_t req, int fault, const struct stat *stat) {
     if (fault) fuse_reply_err(req, fault);
-    else fuse_reply_attr(req, stat, SECONDS_KNOWN);
+    else fuse_reply_attr(req, stat, seconds_known);
 }
 
 static void on_getattr(fuse_req_t req, fuse_ino_t number, struct fuse_file_info *info) {

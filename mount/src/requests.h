@@ -13,8 +13,8 @@ struct restore_request {
 #define RESTORE_REQUEST _IOW('D', 1, struct restore_request)
 
 extern const struct fuse_lowlevel_ops requests;
-// The session that requests come by.
-void requests_use(struct fuse_session *session);
+// The session that requests come by. What others change too the kernel knows for a second.
+void requests_use(struct fuse_session *session, bool is_shared);
 // Whether a thread is at work on one still. The session and the volume have to stand until then.
 bool requests_are_under_way(void);
 // Between two requests: does one step of the tree that is due, and those that have waited for long; then looks for the

@@ -3,6 +3,7 @@
 #include "ending.h"
 #include "image.h"
 #include "readahead.h"
+#include "replica.h"
 #include "requests.h"
 #include "room.h"
 #include "snapshots.h"
@@ -15,6 +16,7 @@
 #include <unistd.h>
 
 static int open_way(const struct making *making, struct mount *mount) {
+    if (making->replica.members) return replica_open(making, mount);
     if (making->store) return store_open(making, &mount->volume, &mount->store);
     return making->betr ? open_pipe(making, &mount->volume) : open_library(making, &mount->volume);
 }
@@ -62,7 +64,7 @@ static int serve_all(struct fuse_session *session, struct mount *mount, struct f
 // done.
 static int serve(struct fuse_session *session, struct mount *mount) {
     static struct fuse_buf buffer; // its memory is libfuse's
-    int status = serve_all(session, mount, &buffer);
+    int status = mount->replica ? replica_serve(session, mount) : serve_all(session, mount, &buffer);
     ignore_signals();
     while (requests_are_under_way()) serve_one(session, &buffer);
     return status;
@@ -95,7 +97,7 @@ static struct fuse_session *open_session(const struct options *options, struct m
 static int mount_and_serve(const struct options *options, struct mount *mount, void (*stands)(void), bool *stood) {
     struct fuse_session *session = open_session(options, mount);
     if (!session) return 1;
-    requests_use(session);
+    requests_use(session, mount->replica);
     int status = fuse_set_signal_handlers(session) || fuse_session_mount(session, options->mount_point);
     if (!status) {
         raise_readahead(options->mount_point);
@@ -124,6 +126,7 @@ static int keep_image(struct image *image, int fault) {
 // next mount takes out.
 static int close_volume(struct mount *mount, struct image *image) {
     int fault = files_end(mount);
+    if (mount->replica) replica_end(mount);
     if (mount->store) fault = 0;
     if (fault) ending_say("unlinked files are kept", "", fault);
     int other = mount->volume.way->close(mount->volume.self, image);

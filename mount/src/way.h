@@ -86,6 +86,14 @@ struct volume {
     const struct record_form *records; // null: attributes stand beside the tree, and there are no links
 };
 
+// Where the log of a replica is, and what its members are told and believed by.
+struct replica_place {
+    const char *members; // null: there is none
+    const char *prefix;
+    const char *authority, *certificate, *key; // files; null: none
+    const char *user, *password;               // the second a file; null: none
+};
+
 // What a file system is made with.
 struct making {
     const char *betr;  // the program to speak to; null: the library
@@ -96,6 +104,7 @@ struct making {
     uint64_t log_size; // bytes of its log that make another image worth its while
     const char *log;   // the name in front of `.in` and `.out`, where all calls and replies go; null: nowhere
     unsigned steps;    // tree steps after each call that changes something
+    struct replica_place replica;
 };
 
 // Each says on standard error what failed.
