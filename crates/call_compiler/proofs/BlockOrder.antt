@@ -2,11 +2,11 @@
 use Rattle.std.proofs.Common.{◌≡◌, ℕ, ◌^◌, ◌<◌, ◌≤◌, ◌++◌, ◌∷◌, [], true, refl, sym, subst, arith, Some}
 use Rattle.std.proofs.lemmas.Bool.{and_from, and_parts, false_from_ne_true}
 use Rattle.message.specs.Ranges.{before, reaches}
-use Rattle.message.proofs.KeyOrder.{before_from_not_reaches}
 use Rattle.pathkey.specs.Keys.{block_key, blocks_from, enc, is_below, is_in}
 use Rattle.pathkey.specs.Names.{Path, IsPath}
 use Rattle.pathkey.specs.declared.range.KeyRange.{KeyRange}
 use Rattle.pathkey.proofs.KeyFacts.{block_in_blocks, block_in_blocks_from}
+use Rattle.pathkey.proofs.KeyOrder.{before_from_not_reaches}
 
 pub blocks_range : (p : Path) (a : ℕ) → blocks_from p a ≡ record { lo = block_key p a; hi = Some (enc p ++ 1 ∷ []) }
 unfolding blocks_from

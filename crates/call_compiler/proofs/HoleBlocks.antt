@@ -8,11 +8,11 @@ use Rattle.block_index.specs.Updates.{means}
 use Rattle.block_index.proofs.Writing.{write_starts, write_goes_on, write_ends}
 use Rattle.message.specs.declared.msg.Msg.TheVariants.{DelRange}
 use Rattle.message.specs.Ranges.{before, reaches}
-use Rattle.message.proofs.KeyOrder.{lt_le, not_before_from_reaches, reaches-from_before}
 use Rattle.message.proofs.Lists.{effects-append}
 use Rattle.pathkey.specs.Keys.{Key, block_key, blocks_from, enc, is_below, is_in}
 use Rattle.pathkey.specs.Names.{Path, IsPath}
 use Rattle.pathkey.specs.declared.range.KeyRange.{KeyRange}
+use Rattle.pathkey.proofs.KeyOrder.{lt_le, not_before_from_reaches, reaches-from_before}
 use Rattle.reference.specs.Tree.{over}
 use Rattle.reference.specs.Indexes.{Blocks, BlocksChange, Hold, held, most_blocks, patched, piece, touches}
 use Rattle.reference.proofs.BlockRanges.{cleared_some}

@@ -4,11 +4,12 @@ use Rattle.std.proofs.lemmas.List.{append-nil, append_assoc, drop_at, map-append
 use Rattle.message.specs.declared.msg.Msg.{Msg}
 use Rattle.message.specs.declared.msg.Msg.TheVariants.{Put}
 use Rattle.message.specs.Ranges.{reaches}
-use Rattle.message.proofs.KeyOrder.{both, le_le}
+use Rattle.message.proofs.KeyOrder.{both}
 use Rattle.pathkey.specs.Keys.{Key, enc, subtree, next_key, is_below, IsRekeyed}
 use Rattle.pathkey.specs.Names.{Path}
 use Rattle.pathkey.specs.declared.range.KeyRange.{KeyRange}
 use Rattle.pathkey.proofs.KeyFacts.{in_subtree}
+use Rattle.pathkey.proofs.KeyOrder.{le_le}
 use Rattle.scan.specs.Pairs.{HasNone, IsFirst, IsScan}
 use Rattle.message.proofs.NextKey.{in_range}
 use Rattle.scan.proofs.Parts.{IsPart, part_start, part_more, scan_all}

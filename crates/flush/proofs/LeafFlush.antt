@@ -12,7 +12,7 @@ use Rattle.message.specs.declared.msg.Msg.TheVariants.{Put, Del, DelRange, Edit}
 use Rattle.message.specs.Cuts.{pieces}
 use Rattle.message.specs.Effects.{touches, made_of, effect, Takes, range_count}
 use Rattle.std.proofs.lemmas.Bool.{leb-true}
-use Rattle.message.proofs.KeyOrder.{both, not_before_from_reaches, before_from_not_reaches}
+use Rattle.message.proofs.KeyOrder.{both}
 use Rattle.node.specs.declared.node.Slot.{Slot}
 use Rattle.node.specs.declared.shape.Shape.{Shape}
 use Rattle.node.specs.declared.step.StepReply.{StepReply}
@@ -32,6 +32,7 @@ use Rattle.node.specs.Steps.{Formed, HasNoRoom, LawfulSlots, MayHaveRoom, Replie
 use Rattle.node.proofs.Applying.{applied_put, rising_applied}
 use Rattle.node.proofs.LeafChanges.{is_inserted}
 use Rattle.std.proofs.lemmas.List.Edits.{length-insert}
+use Rattle.pathkey.proofs.KeyOrder.{not_before_from_reaches, before_from_not_reaches}
 use Rattle.flush.proofs.Growth.{grows_by_one}
 use Rattle.node.proofs.StepDone.{replies_did, slots-cut}
 use Rattle.node.proofs.Fewer.{no_more}

@@ -8,11 +8,12 @@ use Rattle.std.proofs.lemmas.Bool.{or_parts, false_from_ne_true}
 use Rattle.pathkey.specs.Order.{same}
 use Rattle.pathkey.specs.Keys.{is_below}
 use Rattle.pathkey.proofs.OrderFacts.{same_true, same_itself}
+use Rattle.pathkey.proofs.KeyOrder.{reaches-refl, from_start, not_reaches_from_before, not_before_from_reaches, reaches-from_before, before_from_not_reaches}
 use Rattle.message.specs.declared.msg.Msg.{Msg}
 use Rattle.message.specs.Ranges.{reaches, before, within}
 use Rattle.message.specs.Effects.{touches, made_of, effect, point}
 use Rattle.message.specs.declared.msg.Msg.TheVariants.{Put, Del, DelRange, Edit}
-use Rattle.message.proofs.KeyOrder.{both, reaches-refl, from_start, within-same, not_reaches_from_before, not_before_from_reaches, reaches-from_before, before_from_not_reaches}
+use Rattle.message.proofs.KeyOrder.{both, within-same}
 use Rattle.node.specs.Lawful.{first_key, Rises, TouchOnly}
 use Rattle.node.specs.Meaning.{lookup}
 use Rattle.node.specs.Leaves.{Applied}

@@ -7,8 +7,8 @@ use Rattle.pathkey.specs.Order.{by_bytes, same}
 use Rattle.pathkey.specs.Names.{Name, Path, EachName}
 use Rattle.pathkey.specs.Keys.{Key, enc, next_key}
 use Rattle.pathkey.proofs.OrderFacts.{same_true}
+use Rattle.pathkey.proofs.KeyOrder.{before_from_not_reaches, from_start, le_le, not_before_from_reaches, reaches-from_before, reaches-refl}
 use Rattle.message.specs.Ranges.{before, reaches, within}
-use Rattle.message.proofs.KeyOrder.{before_from_not_reaches, from_start, le_le, not_before_from_reaches, reaches-from_before, reaches-refl}
 use Rattle.message.proofs.NextKey.{by_bool, in_range, not_reaches, reaches-next}
 use Rattle.reference.specs.Tree.{Tree, Dir, File, Entries, nothing, entry, entry_at, named, found, onward, At, Found, Missing, Blocked, moment}
 use Rattle.reference.specs.Image.{Text, Second, block_lines, directory_line, file_line, image, lines, lines_of, path_text}

@@ -1,9 +1,9 @@
 -- Slots by their numbers, where others give way.
 use Rattle.std.proofs.Common.{◌≡◌, ℕ, zero, suc, ◌+◌, ◌<◌, ◌≤◌, ◌⊎◌, inl, inr, true, List, [], ◌∷◌, refl, ap, sym, ◌∙◌, subst, arith, cond, Option, Some, None, pred}
 use Rattle.std.proofs.lemmas.Bool.Decides.{nat_tests}
+use Rattle.pathkey.proofs.KeyOrder.{reaches-refl, reaches-from_before, not_reaches_from_before, le_le}
 use Rattle.message.specs.declared.msg.Msg.{Msg}
 use Rattle.message.specs.Ranges.{reaches}
-use Rattle.message.proofs.KeyOrder.{reaches-refl, reaches-from_before, not_reaches_from_before, le_le}
 use Rattle.node.specs.declared.shape.Shape.{Shape}
 use Rattle.node.specs.declared.step.StepKind.{StepKind}
 use Rattle.node.specs.declared.step.StepKind.TheVariants.{FlushInner, FlushLeaf, SplitInner, MergeLeaves, MergeInner, RootUp, RootDown, DropCovered}

@@ -1,5 +1,6 @@
 -- A sorted part with a tail.
-use Rattle.std.proofs.Common.{Option, ◌≡◌, ℕ, zero, suc, ◌-◌, ◌<◌, ◌≤◌, refl, sym, ap, ◌∙◌, List, [], ◌∷◌, ◌++◌, length, take, drop, arith, subst, append_assoc, length-append, Bool, true, false, ◌||◌}
+use Rattle.std.proofs.Common.{Option, ◌≡◌, ℕ, zero, suc, ◌-◌, ◌<◌, ◌≤◌, refl, sym, ap, ◌∙◌, List, [], ◌∷◌, ◌++◌, length, take, drop, arith, subst, append_assoc, length-append, false, ◌||◌}
+use Rattle.std.proofs.Math.Bool.{or_assoc}
 use Rattle.message.specs.declared.msg.Msg.{Msg}
 use Rattle.message.specs.declared.told.Told.{Told}
 use Rattle.message.specs.declared.told.Told.TheVariants.{Nothing, Value, Change}
@@ -46,14 +47,10 @@ module _ {U V : Type 0} (means : U → Option V → Option V) where
   told_before s f k (Value v) h g = λ o. effects-append means s f k o ∙ untouched means f k (effects means s k o) h ∙ g o
   told_before s f k Change h g = tt
 
-or_assoc : (a b c : Bool) → (a || (b || c)) ≡ ((a || b) || c)
-or_assoc true b c = refl
-or_assoc false b c = refl
-
 -- what touches a key in two lists end to end
 pub touches_append : {U V : Type 0} (xs ys : List (Msg U V)) (k : List ℕ) → any_touches (xs ++ ys) k ≡ (any_touches xs k || any_touches ys k)
 touches_append [] ys k = refl
-touches_append (x ∷ xs) ys k = ap (λ b. touches x k || b) (touches_append xs ys k) ∙ or_assoc (touches x k) (any_touches xs k) (any_touches ys k)
+touches_append (x ∷ xs) ys k = ap (λ b. touches x k || b) (touches_append xs ys k) ∙ sym (or_assoc (touches x k) (any_touches xs k) (any_touches ys k))
 
 -- so many of the first part, and then of the second
 pub drop_parts : {X : Type 0} (n k : ℕ) (xs ys : List X) → k ≤ n → k ≤ length xs → (k < n → length xs ≤ k) → drop k xs ++ drop (n - k) ys ≡ drop n (xs ++ ys)

@@ -4,12 +4,13 @@ use Rattle.std.specs.Prelude.{◌&&◌}
 use Rattle.std.specs.Option.{option_to_list}
 use Rattle.std.proofs.lemmas.Bool.{false_from_ne_true}
 use Rattle.pathkey.specs.Keys.{is_below}
+use Rattle.pathkey.proofs.KeyOrder.{from_start, reaches-from_not_before}
 use Rattle.message.specs.declared.msg.Msg.{Msg}
 use Rattle.message.specs.declared.msg.Msg.TheVariants.{Put, Del, DelRange, Edit}
 use Rattle.message.specs.Cuts.{cut_range, cut_to, pieces, IsUpTo}
 use Rattle.message.specs.Ranges.{within, reaches, before, later_key, earlier_end}
 use Rattle.message.proofs.RangeEnds.{later_start}
-use Rattle.message.proofs.KeyOrder.{from_start, reaches-from_not_before, begins_before_end, split_bool}
+use Rattle.message.proofs.KeyOrder.{begins_before_end, split_bool}
 use Rattle.message.proofs.Parting.{pieces-append, second_false}
 
 -- a key behind which an end stands

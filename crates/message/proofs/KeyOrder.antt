@@ -1,105 +1,21 @@
 -- The order of keys, and where a key lies between two ends.
-use Rattle.std.proofs.Common.{◌≡◌, ℕ, Bool, true, false, List, [], ◌∷◌, refl, ap, sym, ◌∙◌, Option, Some, None, cond}
+use Rattle.std.proofs.Common.{◌≡◌, ℕ, Bool, true, false, List, refl, ap, sym, ◌∙◌, Option, Some, None, cond}
 use Rattle.std.specs.Prelude.{◌&&◌}
 use Rattle.std.specs.declared.cmp.Ordering.{Ordering}
 use Rattle.std.specs.declared.cmp.Ordering.TheVariants.{Less, Equal, Greater}
-use Rattle.std.specs.Ordering.{is_lt, is_le, is_eq, ordering_reverse}
+use Rattle.std.specs.Ordering.{is_lt, is_eq, ordering_reverse}
 use Rattle.std.proofs.lemmas.Bool.{false_from_ne_true}
 use Rattle.std.proofs.lemmas.Cmp.{nat_list_cmp_total}
 use Rattle.pathkey.specs.Order.{by_bytes, same}
 use Rattle.pathkey.specs.Keys.{is_below}
-use Rattle.pathkey.proofs.OrderFacts.{tied, equal, same_true, same_false, apart}
+use Rattle.pathkey.proofs.OrderFacts.{same_true, same_false, apart}
+use Rattle.pathkey.proofs.KeyOrder.{reaches-refl, reaches-from_before, reaches-from_not_before, le_le, le_lt, lt_le}
 use Rattle.message.specs.Ranges.{reaches, before, within, later_key, earlier_end}
 
 -- one of two ways
 pub split_bool : {P : Type 0} (b : Bool) → (b ≡ true → P) → (b ≡ false → P) → P
 split_bool true f g = f refl
 split_bool false f g = g refl
-
--- ---- two keys compared both ways
-
--- what stands before stands at or before
-le_from_lt : (o : Ordering) → is_lt o ≡ true → is_le o ≡ true
-le_from_lt Less e = refl
-le_from_lt Equal e = (cc)
-le_from_lt Greater e = (cc)
-
--- not before, so the other way round at or before
-le_back : (o p : Ordering) → p ≡ ordering_reverse o → is_lt o ≡ false → is_le p ≡ true
-le_back Less p e h = (cc)
-le_back Equal p e h = ap is_le e
-le_back Greater p e h = ap is_le e
-
--- not at or before, so the other way round before
-lt_back : (o p : Ordering) → p ≡ ordering_reverse o → is_le o ≡ false → is_lt p ≡ true
-lt_back Less p e f = (cc)
-lt_back Equal p e f = (cc)
-lt_back Greater p e f = ap is_lt e
-
--- at or before, so the other way round not before
-not_lt_back : (o p : Ordering) → p ≡ ordering_reverse o → is_le o ≡ true → is_lt p ≡ false
-not_lt_back Less p e f = ap is_lt e
-not_lt_back Equal p e f = ap is_lt e
-not_lt_back Greater p e f = (cc)
-
--- a key stands at itself
-pub reaches-refl : (a : List ℕ) → reaches a a ≡ true
-reaches-refl a = ap is_le (tied a)
-
-pub reaches-from_before : (a b : List ℕ) → before a b ≡ true → reaches a b ≡ true
-reaches-from_before a b h = le_from_lt (by_bytes a b) h
-
-pub reaches-from_not_before : (a b : List ℕ) → before a b ≡ false → reaches b a ≡ true
-reaches-from_not_before a b h = le_back (by_bytes a b) (by_bytes b a) (nat_list_cmp_total.antisymm b a) h
-
-pub not_before_from_reaches : (a k : List ℕ) → reaches a k ≡ true → before k a ≡ false
-not_before_from_reaches a k f = not_lt_back (by_bytes a k) (by_bytes k a) (nat_list_cmp_total.antisymm k a) f
-
-pub before_from_not_reaches : (a k : List ℕ) → reaches a k ≡ false → before k a ≡ true
-before_from_not_reaches a k f = lt_back (by_bytes a k) (by_bytes k a) (nat_list_cmp_total.antisymm k a) f
-
--- a key before another is not reached by it
-pub not_reaches_from_before : (q p : List ℕ) → before q p ≡ true → reaches p q ≡ false
-not_reaches_from_before q p h = elim (reaches p q) as (λ c. reaches p q ≡ c → reaches p q ≡ false) [
-  | true ↦ λ e. absurd (let f : before q p ≡ false = not_before_from_reaches p q e in (cc))
-  | false ↦ λ e. e
-] refl
-
--- the empty key stands at or before every key
-pub from_start : (k : List ℕ) → reaches [] k ≡ true
-from_start [] = refl
-from_start (x ∷ k) = refl
-
--- ---- three keys in a row
-
-le_le_by : (a b c : List ℕ) (o p : Ordering) → by_bytes a b ≡ o → by_bytes b c ≡ p → is_le o ≡ true → is_le p ≡ true → reaches a c ≡ true
-le_le_by a b c Less Less x y h k = ap is_le (nat_list_cmp_total.trans a b c x y)
-le_le_by a b c Less Equal x y h k = ap (λ t. reaches a t) (sym (equal b c y)) ∙ ap is_le x
-le_le_by a b c Less Greater x y h k = (cc)
-le_le_by a b c Equal p x y h k = ap is_le (nat_list_cmp_total.congr a b c x ∙ y) ∙ k
-le_le_by a b c Greater p x y h k = (cc)
-
-le_lt_by : (a b c : List ℕ) (o p : Ordering) → by_bytes a b ≡ o → by_bytes b c ≡ p → is_le o ≡ true → is_lt p ≡ true → before a c ≡ true
-le_lt_by a b c Less Less x y h k = ap is_lt (nat_list_cmp_total.trans a b c x y)
-le_lt_by a b c Less Equal x y h k = (cc)
-le_lt_by a b c Less Greater x y h k = (cc)
-le_lt_by a b c Equal p x y h k = ap is_lt (nat_list_cmp_total.congr a b c x ∙ y) ∙ k
-le_lt_by a b c Greater p x y h k = (cc)
-
--- at or before, twice
-pub le_le : (a b c : List ℕ) → reaches a b ≡ true → reaches b c ≡ true → reaches a c ≡ true
-le_le a b c h k = le_le_by a b c (by_bytes a b) (by_bytes b c) refl refl h k
-
--- at or before, and then before
-pub le_lt : (a b c : List ℕ) → reaches a b ≡ true → before b c ≡ true → before a c ≡ true
-le_lt a b c h k = le_lt_by a b c (by_bytes a b) (by_bytes b c) refl refl h k
-
--- before, and then at or before
-pub lt_le : (a b c : List ℕ) → before a b ≡ true → reaches b c ≡ true → before a c ≡ true
-lt_le a b c h k = elim (reaches c a) as (λ r. reaches c a ≡ r → before a c ≡ true) [
-  | true ↦ λ e. (let back : before b b ≡ true = le_lt b c b k (le_lt c a b e h) in let never : before b b ≡ false = not_before_from_reaches b b (reaches-refl b) in cc)
-  | false ↦ λ e. before_from_not_reaches c a e
-] refl
 
 -- both of two tests that hold together
 pub both : (a b : Bool) → (a && b) ≡ true → (a ≡ true) × (b ≡ true)

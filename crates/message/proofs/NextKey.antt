@@ -9,8 +9,9 @@ use Rattle.std.proofs.lemmas.Cmp.{ranked}
 use Rattle.pathkey.specs.Order.{by_bytes, same}
 use Rattle.pathkey.specs.Keys.{is_below, next_key}
 use Rattle.pathkey.proofs.OrderFacts.{same_true}
+use Rattle.pathkey.proofs.KeyOrder.{from_start, reaches-refl, reaches-from_not_before, not_before_from_reaches}
 use Rattle.message.specs.Ranges.{reaches, before, within}
-use Rattle.message.proofs.KeyOrder.{from_start, both, reaches-refl, reaches-from_not_before, not_before_from_reaches, beyond}
+use Rattle.message.proofs.KeyOrder.{both, beyond}
 
 -- both cases of a test
 pub by_bool : (b : Bool) (P : Type 0) → (b ≡ true → P) → (b ≡ false → P) → P

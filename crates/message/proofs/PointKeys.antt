@@ -1,25 +1,23 @@
 -- Keys with messages for them alone, and the range-deletes around them.
 use Rattle.std.proofs.Common.{◌≡◌, ℕ, suc, ◌+◌, ◌<◌, ◌≤◌, ◌⊎◌, inl, inr, ⊎_elim, Bool, true, false, List, [], ◌∷◌, ◌++◌, length, take, get_or, refl, ap, sym, ◌∙◌, subst, Option, Some, None, cond, arith, ◌||◌}
 use Rattle.std.specs.Prelude.{All, Contains, IfSome}
+use Rattle.std.proofs.Math.Bool.{or_assoc}
 use Rattle.std.proofs.lemmas.Bool.{or_parts, or_from, or_left, or_right}
 use Rattle.std.proofs.lemmas.List.{take_more, take_all}
 use Rattle.std.proofs.lemmas.List.Elements.{Contains-append_left, Contains-append_right}
 use Rattle.pathkey.specs.Keys.{is_below, next_key}
 use Rattle.pathkey.proofs.OrderFacts.{same_itself}
+use Rattle.pathkey.proofs.KeyOrder.{reaches-refl, reaches-from_not_before, not_before_from_reaches}
 use Rattle.message.specs.declared.msg.Msg.{Msg}
 use Rattle.message.specs.declared.msg.Msg.TheVariants as msg
 use Rattle.message.specs.Effects.{touches, effect, effects, point}
 use Rattle.message.specs.Ranges.{reaches, before, within}
 use Rattle.message.specs.Stretches.{is_for, is_key, ends_of, all_ends, IsStretch}
 use Rattle.message.specs.PointKeys.{point_stop, has_point, clears, is_cleared, IsPointStop, IsNextPoint, IsClearStretch}
-use Rattle.message.proofs.KeyOrder.{both, reaches-refl, reaches-from_not_before, not_before_from_reaches, unlike_later, below_next, begins_before_end}
+use Rattle.message.proofs.KeyOrder.{both, unlike_later, below_next, begins_before_end}
 use Rattle.message.proofs.NextKey.{by_bool, in_range}
 use Rattle.message.proofs.SortedStretches.{outside_key}
 use Rattle.message.proofs.StretchEnds.{weaker, all_ends-append, next_is_end}
-
-or_assoc : (a b c : Bool) → (a || (b || c)) ≡ ((a || b) || c)
-or_assoc true b c = refl
-or_assoc false b c = refl
 
 pub or_none : (b : Bool) → (b || false) ≡ b
 or_none true = refl
@@ -30,11 +28,11 @@ or_none false = refl
 module _ {U V : Type 0} where
   pub has_point-append : (xs ys : List (Msg U V)) (k : List ℕ) → has_point (xs ++ ys) k ≡ (has_point xs k || has_point ys k)
   has_point-append [] ys k = refl
-  has_point-append (x ∷ xs) ys k = ap (λ b. is_for x k || b) (has_point-append xs ys k) ∙ or_assoc (is_for x k) (has_point xs k) (has_point ys k)
+  has_point-append (x ∷ xs) ys k = ap (λ b. is_for x k || b) (has_point-append xs ys k) ∙ sym (or_assoc (is_for x k) (has_point xs k) (has_point ys k))
 
   pub is_cleared-append : (xs ys : List (Msg U V)) (k : List ℕ) → is_cleared (xs ++ ys) k ≡ (is_cleared xs k || is_cleared ys k)
   is_cleared-append [] ys k = refl
-  is_cleared-append (x ∷ xs) ys k = ap (λ b. clears x k || b) (is_cleared-append xs ys k) ∙ or_assoc (clears x k) (is_cleared xs k) (is_cleared ys k)
+  is_cleared-append (x ∷ xs) ys k = ap (λ b. clears x k || b) (is_cleared-append xs ys k) ∙ sym (or_assoc (clears x k) (is_cleared xs k) (is_cleared ys k))
 
 module _ {U V : Type 0} where
   -- no message

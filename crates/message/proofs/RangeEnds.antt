@@ -5,8 +5,8 @@ use Rattle.std.specs.Ordering.{is_lt, is_le}
 use Rattle.pathkey.specs.Keys.{is_below}
 use Rattle.pathkey.specs.Order.{by_bytes}
 use Rattle.pathkey.proofs.OrderFacts.{equal}
+use Rattle.pathkey.proofs.KeyOrder.{reaches-from_before, not_before_from_reaches, lt_le}
 use Rattle.message.specs.Ranges.{reaches, before, later_key, earlier_end, ends_within}
-use Rattle.message.proofs.KeyOrder.{reaches-from_before, not_before_from_reaches, lt_le}
 
 -- ---- beginnings
 

@@ -5,6 +5,7 @@ use Rattle.std.specs.Option.{option_to_list}
 use Rattle.pathkey.specs.Order.{same}
 use Rattle.pathkey.specs.Keys.{is_below}
 use Rattle.pathkey.specs.declared.range.KeyRange.{KeyRange}
+use Rattle.pathkey.proofs.KeyOrder.{from_start, reaches-refl, reaches-from_not_before, not_before_from_reaches, not_reaches_from_before}
 use Rattle.message.specs.declared.msg.Msg.{Msg}
 use Rattle.message.specs.declared.msg.Msg.TheVariants.{Put, Del, DelRange, Edit}
 use Rattle.message.specs.Cuts.{cut_to, pieces, LieIn, LieOut, IsJoined}
@@ -14,7 +15,7 @@ use Rattle.message.proofs.Condensing.{touches_append, takes_folded}
 use Rattle.message.proofs.CutFacts.{cut_outside, effects-pieces}
 use Rattle.message.proofs.Cutting.{cut_twice}
 use Rattle.message.proofs.RangeEnds.{later_start}
-use Rattle.message.proofs.KeyOrder.{both, from_start, reaches-refl, reaches-later, reaches-from_not_before, not_before_from_reaches, not_reaches_from_before, within-cut, cut_within, empty_by, apart_by, split_bool}
+use Rattle.message.proofs.KeyOrder.{both, reaches-later, within-cut, cut_within, empty_by, apart_by, split_bool}
 use Rattle.message.proofs.Lists.{any_touches-append, untouched}
 use Rattle.message.proofs.Parting.{pieces-append, pieces-in, pieces-out, second_false}
 use Rattle.message.proofs.PointKeys.{or_none}

@@ -3,12 +3,13 @@ use Rattle.std.proofs.Common.{◌≡◌, ℕ, Bool, true, false, List, [], refl,
 use Rattle.std.specs.Prelude.{is_some}
 use Rattle.pathkey.specs.Keys.{is_below}
 use Rattle.pathkey.specs.declared.range.KeyRange.{KeyRange}
+use Rattle.pathkey.proofs.KeyOrder.{reaches-from_not_before, lt_le}
 use Rattle.message.specs.declared.msg.Msg.{Msg}
 use Rattle.message.specs.declared.msg.Msg.TheVariants.{Put, Del, DelRange, Edit}
 use Rattle.message.specs.Cuts.{cut_range, cut_to}
 use Rattle.message.specs.Ranges.{within, before, later_key, earlier_end}
 use Rattle.message.proofs.RangeEnds.{later_start, later_same, later_pivot}
-use Rattle.message.proofs.KeyOrder.{reaches-later, reaches-from_before, reaches-from_not_before, not_before_from_reaches, begins_before_end, lt_le, split_bool}
+use Rattle.message.proofs.KeyOrder.{reaches-later, begins_before_end, split_bool}
 
 -- ---- the earlier of a pivot and an end
 

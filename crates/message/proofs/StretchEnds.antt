@@ -9,11 +9,12 @@ use Rattle.pathkey.specs.Order.{same}
 use Rattle.pathkey.specs.Keys.{is_below, next_key}
 use Rattle.pathkey.specs.declared.range.KeyRange.{KeyRange}
 use Rattle.pathkey.proofs.OrderFacts.{same_true, same_false, apart}
+use Rattle.pathkey.proofs.KeyOrder.{le_le, le_lt, lt_le, reaches-from_before, reaches-from_not_before}
 use Rattle.message.specs.declared.msg.Msg.{Msg}
 use Rattle.message.specs.declared.msg.Msg.TheVariants.{Put, Del, DelRange, Edit}
 use Rattle.message.specs.Ranges.{reaches, before, within, earlier_end}
 use Rattle.message.specs.Effects.{touches}
-use Rattle.message.proofs.KeyOrder.{both, le_le, le_lt, lt_le, reaches-from_before, reaches-from_not_before, begins_before_end, beyond, unlike_earlier, unlike_later}
+use Rattle.message.proofs.KeyOrder.{both, begins_before_end, beyond, unlike_earlier, unlike_later}
 use Rattle.message.specs.Stretches.{ahead_of, range_end, is_for, ends_of, all_ends, IsNextEnd, IsStretch}
 use Rattle.message.proofs.NextKey.{in_range, not_reaches, before-next, reaches-from_before_next, one_before_next}
 

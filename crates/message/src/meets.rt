@@ -31,6 +31,7 @@ pub fn meets<U: Update>(msg: &Msg<U>, lo: &Key, hi: Option<&Key>) -> bool
 
 /// Whether a range has keys and all of them lie from `lo` up to and without `hi`; `None` is no end.
 pub fn holds_part(lo: &Key, hi: Option<&Key>, low: &Key, high: Option<&Key>) -> bool
+    ensures is { result ≡ (is_below low.now (option_copied high.entry) && (reaches lo.now low.now && ends_within (option_copied high.entry) (option_copied hi.entry))) }
     ensures some { result ≡ true → is_below low.now (option_copied high.entry) ≡ true }
     ensures low { result ≡ true → later_key lo.now low.now ≡ low.now }
     ensures high { result ≡ true → earlier_end (option_copied hi.entry) (option_copied high.entry) ≡ option_copied high.entry }

@@ -9,8 +9,8 @@ use Rattle.pathkey.specs.Names.{Name, Path, EachName, IsPath}
 use Rattle.pathkey.specs.Keys.{Key, enc, is_in, is_below, next_key, subtree}
 use Rattle.pathkey.proofs.OrderFacts.{same_itself}
 use Rattle.pathkey.proofs.KeyFacts.{enc-append, path_in_subtree, path_in_subtree_from, same_beginning}
+use Rattle.pathkey.proofs.KeyOrder.{le_le, not_reaches_from_before, reaches-from_before}
 use Rattle.message.specs.Ranges.{reaches, within}
-use Rattle.message.proofs.KeyOrder.{le_le, not_reaches_from_before, reaches-from_before}
 use Rattle.scan.specs.Pairs.{IsFirst}
 use Rattle.message.proofs.NextKey.{before-next, reaches-next}
 use Rattle.reference.specs.Tree.{Tree, Dir, File, nothing, entry, entry_at, named, found, onward, At, Found, Missing, Blocked}

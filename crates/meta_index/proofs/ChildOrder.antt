@@ -14,8 +14,8 @@ use Rattle.pathkey.specs.Keys.{Key, enc}
 use Rattle.pathkey.proofs.OrderFacts.{cmp_less, cmp_equal, cmp_greater}
 use Rattle.reference.proofs.PathOrder.{behind_beginning}
 use Rattle.pathkey.proofs.KeyFacts.{between, enc-append, from_between_high, from_between_low}
+use Rattle.pathkey.proofs.KeyOrder.{from_start}
 use Rattle.message.specs.Ranges.{before, reaches}
-use Rattle.message.proofs.KeyOrder.{from_start}
 use Rattle.scan.specs.Pairs.{IsEndOf}
 
 -- ---- bytes

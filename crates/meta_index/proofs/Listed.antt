@@ -8,8 +8,8 @@ use Rattle.pathkey.specs.Order.{by_bytes, same}
 use Rattle.pathkey.specs.Names.{Name, Path, IsPath, HasNameBytes}
 use Rattle.pathkey.specs.Keys.{Key, enc, is_below}
 use Rattle.pathkey.proofs.OrderFacts.{same_itself, same_true}
+use Rattle.pathkey.proofs.KeyOrder.{le_le, reaches-from_before, reaches-from_not_before}
 use Rattle.message.specs.Ranges.{before, reaches, within}
-use Rattle.message.proofs.KeyOrder.{le_le, reaches-from_before, reaches-from_not_before}
 use Rattle.scan.specs.Pairs.{HasNone, IsFirst}
 use Rattle.message.proofs.NextKey.{by_bool, in_range, not_reaches, one_key}
 use Rattle.reference.specs.Tree.{Tree, Dir, File, Entries, nothing, entry, entry_at, named, found, onward, At, Found, Missing, Blocked}

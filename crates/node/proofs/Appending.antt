@@ -3,11 +3,11 @@ use Rattle.std.proofs.Common.{◌≡◌, ℕ, ◌+◌, ◌≤◌, Bool, true, fa
 use Rattle.std.specs.Prelude.{◌&&◌}
 use Rattle.std.specs.Option.{option_to_list}
 use Rattle.pathkey.specs.Keys.{is_below}
+use Rattle.pathkey.proofs.KeyOrder.{from_start, before_from_not_reaches}
 use Rattle.message.specs.declared.msg.Msg.{Msg}
 use Rattle.message.specs.Ranges.{reaches, within}
 use Rattle.message.specs.Effects.{effects, Takes}
 use Rattle.message.specs.Cuts.{cut_to, pieces}
-use Rattle.message.proofs.KeyOrder.{from_start, before_from_not_reaches}
 use Rattle.message.proofs.Lists.{any_touches-append}
 use Rattle.message.proofs.CutFacts.{cut_outside, effects-pieces}
 use Rattle.node.specs.declared.shape.Shape.{Shape}

@@ -7,11 +7,11 @@ use Rattle.pathkey.specs.Order.{same}
 use Rattle.pathkey.specs.Keys.{is_in}
 use Rattle.pathkey.specs.declared.range.KeyRange.{KeyRange}
 use Rattle.pathkey.proofs.OrderFacts.{same_true}
+use Rattle.pathkey.proofs.KeyOrder.{from_start}
 use Rattle.message.specs.declared.msg.Msg.{Msg}
 use Rattle.message.specs.declared.msg.Msg.TheVariants.{Put, Del, DelRange, Edit}
 use Rattle.message.specs.Ranges.{within}
 use Rattle.message.specs.Effects.{touches, any_touches, made_of, effects}
-use Rattle.message.proofs.KeyOrder.{from_start}
 use Rattle.message.proofs.Lists.{effects-append}
 use Rattle.message.proofs.Results.{either_way}
 use Rattle.node.specs.Lawful.{Rises, TouchOnly}

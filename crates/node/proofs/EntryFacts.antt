@@ -6,8 +6,9 @@ use Rattle.std.proofs.lemmas.Bool.{false_from_ne_true}
 use Rattle.pathkey.specs.Order.{same}
 use Rattle.pathkey.specs.Keys.{is_below}
 use Rattle.pathkey.proofs.OrderFacts.{same_true}
+use Rattle.pathkey.proofs.KeyOrder.{le_le, lt_le, reaches-from_before, reaches-from_not_before, not_before_from_reaches, from_start}
 use Rattle.message.specs.Ranges.{reaches, before, within}
-use Rattle.message.proofs.KeyOrder.{le_le, lt_le, both, reaches-from_before, reaches-from_not_before, not_before_from_reaches, from_start, below_next}
+use Rattle.message.proofs.KeyOrder.{both, below_next}
 use Rattle.node.specs.Lawful.{first_key, Rises}
 use Rattle.node.specs.Meaning.{lookup}
 

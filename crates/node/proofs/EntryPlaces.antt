@@ -4,8 +4,9 @@ use Rattle.std.specs.List.Sorted.{IsPartitionedBy, IsPartitionPoint}
 use Rattle.std.proofs.lemmas.List.{get_or_default}
 use Rattle.pathkey.specs.Order.{same}
 use Rattle.pathkey.proofs.OrderFacts.{same_true, same_from_eq}
+use Rattle.pathkey.proofs.KeyOrder.{le_lt, lt_le}
 use Rattle.message.specs.Ranges.{before}
-use Rattle.message.proofs.KeyOrder.{le_lt, lt_le, unlike_earlier, unlike_later, beyond}
+use Rattle.message.proofs.KeyOrder.{unlike_earlier, unlike_later, beyond}
 use Rattle.node.specs.Lawful.{Rises}
 use Rattle.node.specs.Meaning.{lookup}
 use Rattle.node.specs.Leaves.{IsCount, IsEntry, IsGap}

@@ -4,8 +4,9 @@ use Rattle.std.specs.Prelude.{◌&&◌}
 use Rattle.pathkey.specs.Order.{same}
 use Rattle.pathkey.specs.Keys.{is_below}
 use Rattle.pathkey.proofs.OrderFacts.{same_true, same_itself}
+use Rattle.pathkey.proofs.KeyOrder.{not_reaches_from_before, reaches-refl}
 use Rattle.message.specs.Ranges.{before}
-use Rattle.message.proofs.KeyOrder.{not_reaches_from_before, reaches-refl, beyond}
+use Rattle.message.proofs.KeyOrder.{beyond}
 use Rattle.node.specs.Lawful.{Rises}
 use Rattle.node.specs.Meaning.{lookup}
 use Rattle.node.proofs.EntryFacts.{lookup_outside}

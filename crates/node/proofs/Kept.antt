@@ -4,6 +4,7 @@ use Rattle.std.specs.Prelude.{◌&&◌}
 use Rattle.node.specs.declared.shape.Shape.{Shape}
 use Rattle.node.specs.Pure.{PNode, leaf, inner, PSlots, none, more}
 use Rattle.pathkey.specs.Keys.{is_below}
+use Rattle.pathkey.proofs.KeyOrder.{from_start}
 use Rattle.message.specs.Ranges.{reaches, within}
 use Rattle.message.specs.Effects.{effects}
 use Rattle.node.specs.Meaning.{value, slots_value, begins_by}
@@ -11,7 +12,7 @@ use Rattle.node.specs.Lawful.{IsLawfulNode, IsLawfulRoot, AreLawfulSlots, TouchO
 use Rattle.node.specs.Site.{slots_at, with_slots, end_at, end_of, of_child, child_changed}
 use Rattle.node.specs.Sinks.{first_lo}
 use Rattle.node.specs.Steps.{LawfulSlots, is_top}
-use Rattle.message.proofs.KeyOrder.{both, from_start}
+use Rattle.message.proofs.KeyOrder.{both}
 use Rattle.node.proofs.Splice.{ends_before, first_reached, starts-first}
 
 module _ {U V : Type 0} where

@@ -6,8 +6,9 @@ use Rattle.std.proofs.lemmas.List.{set_split, take-set, drop-set-lt}
 use Rattle.pathkey.specs.Order.{same}
 use Rattle.pathkey.specs.Keys.{is_below}
 use Rattle.pathkey.proofs.OrderFacts.{same_true, same_false, same_itself}
+use Rattle.pathkey.proofs.KeyOrder.{lt_le, reaches-refl, not_before_from_reaches, reaches-from_before, reaches-from_not_before}
 use Rattle.message.specs.Ranges.{reaches, before, within}
-use Rattle.message.proofs.KeyOrder.{both, lt_le, reaches-refl, not_before_from_reaches, reaches-from_before, reaches-from_not_before, unlike_earlier, unlike_later}
+use Rattle.message.proofs.KeyOrder.{both, unlike_earlier, unlike_later}
 use Rattle.node.specs.Lawful.{first_key, Rises}
 use Rattle.node.specs.Meaning.{lookup}
 use Rattle.node.specs.Leaves.{IsCount, IsEntry, IsGap, IsChanged}

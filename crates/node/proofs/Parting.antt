@@ -3,13 +3,14 @@ use Rattle.std.proofs.Common.{◌≡◌, ℕ, ◌+◌, ◌≤◌, Bool, true, fa
 use Rattle.std.specs.Prelude.{◌&&◌}
 use Rattle.std.specs.Option.{option_to_list}
 use Rattle.pathkey.specs.Keys.{is_below}
+use Rattle.pathkey.proofs.KeyOrder.{not_reaches_from_before, before_from_not_reaches}
 use Rattle.message.specs.declared.msg.Msg.{Msg}
 use Rattle.message.specs.declared.msg.Msg.TheVariants.{Put, Del, DelRange, Edit}
 use Rattle.message.specs.Ranges.{reaches, before, later_key, earlier_end}
 use Rattle.message.specs.Cuts.{cut_to, pieces}
 use Rattle.message.specs.Effects.{effects, Takes, range_count}
 use Rattle.message.proofs.CutFacts.{effects-pieces}
-use Rattle.message.proofs.KeyOrder.{not_reaches_from_before, before_from_not_reaches, both}
+use Rattle.message.proofs.KeyOrder.{both}
 use Rattle.node.specs.declared.shape.Shape.{Shape}
 use Rattle.node.specs.Pure.{PNode, PSlots, none, more}
 use Rattle.node.specs.Meaning.{value}

@@ -9,13 +9,14 @@ use Rattle.std.proofs.lemmas.Bool.{and_right}
 use Rattle.pathkey.specs.Order.{same}
 use Rattle.pathkey.specs.Keys.{is_below}
 use Rattle.pathkey.proofs.OrderFacts.{same_itself}
+use Rattle.pathkey.proofs.KeyOrder.{le_le, from_start, before_from_not_reaches, not_before_from_reaches, reaches-from_before}
 use Rattle.message.specs.declared.msg.Msg.{Msg}
 use Rattle.message.specs.declared.msg.Msg.TheVariants.{Put, Del, DelRange, Edit}
 use Rattle.message.specs.Ranges.{reaches, before, within}
 use Rattle.message.specs.Effects.{touches, point}
 use Rattle.message.specs.Cuts.{cut_to, pieces}
 use Rattle.message.proofs.Parting.{pieces-append}
-use Rattle.message.proofs.KeyOrder.{le_le, both, from_start, before_from_not_reaches, not_before_from_reaches, reaches-from_before}
+use Rattle.message.proofs.KeyOrder.{both}
 use Rattle.node.specs.declared.node.Slot.{Slot}
 use Rattle.node.specs.declared.shape.Shape.{Shape}
 use Rattle.node.specs.Meaning.{begins_by, slot_number}

@@ -5,12 +5,13 @@ use Rattle.std.specs.Option.{option_to_list}
 use Rattle.std.proofs.lemmas.Bool.{and_right, false_from_ne_true}
 use Rattle.pathkey.specs.Keys.{is_below}
 use Rattle.pathkey.specs.declared.range.KeyRange.{KeyRange}
+use Rattle.pathkey.proofs.KeyOrder.{reaches-refl, reaches-from_before, reaches-from_not_before, not_before_from_reaches, before_from_not_reaches, le_le, le_lt}
 use Rattle.message.specs.declared.msg.Msg.{Msg}
 use Rattle.message.specs.declared.msg.Msg.TheVariants.{DelRange}
 use Rattle.message.specs.Cuts.{cut_range, cut_to}
 use Rattle.message.specs.Ranges.{reaches, before, later_key, earlier_end, ends_within}
 use Rattle.message.proofs.RangeEnds.{later_same, later_pivot, first_end}
-use Rattle.message.proofs.KeyOrder.{reaches-refl, reaches-from_before, reaches-from_not_before, not_before_from_reaches, before_from_not_reaches, le_le, le_lt, cut_within, below_next}
+use Rattle.message.proofs.KeyOrder.{cut_within, below_next}
 use Rattle.node.specs.declared.node.Slot.{Slot}
 use Rattle.node.specs.Appended.{parts, all_at}
 use Rattle.node.specs.Homes.{IsHome}

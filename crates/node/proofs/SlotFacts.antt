@@ -7,7 +7,7 @@ use Rattle.node.specs.declared.node.Slot.{Slot}
 use Rattle.node.specs.See.{seen_slots}
 use Rattle.node.specs.Searchable.{AreRising}
 use Rattle.std.specs.List.Sorted.{IsPartitionedBy, IsPartitionPoint}
-use Rattle.message.proofs.KeyOrder.{reaches-from_before, le_le}
+use Rattle.pathkey.proofs.KeyOrder.{reaches-from_before, le_le}
 
 module _ {U V : Type 0} where
   -- the slot whose successor is the first that begins above k

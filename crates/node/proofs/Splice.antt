@@ -7,6 +7,7 @@ use Rattle.node.specs.declared.node.Slot.{Slot}
 use Rattle.node.specs.See.{seen_slots}
 use Rattle.node.specs.Pure.{PNode, PSlots, none, more}
 use Rattle.pathkey.specs.Keys.{is_below}
+use Rattle.pathkey.proofs.KeyOrder.{reaches-from_before, before_from_not_reaches, le_le}
 use Rattle.message.specs.Ranges.{reaches, within}
 use Rattle.message.specs.Effects.{effects}
 use Rattle.node.specs.declared.shape.Shape.{Shape}
@@ -14,7 +15,6 @@ use Rattle.node.specs.Meaning.{value, slots_value, begins_by}
 use Rattle.node.specs.Lawful.{IsLawfulNode, AreLawfulSlots, TouchOnly, slot_count, pending, starts_at, next_lo}
 use Rattle.node.specs.Site.{joined, slots_from}
 use Rattle.node.specs.Sinks.{msgs_at, child_value, first_lo, Sinks}
-use Rattle.message.proofs.KeyOrder.{reaches-from_before, before_from_not_reaches, le_le}
 
 module _ {U V : Type 0} where
   -- there is a slot

@@ -3,11 +3,11 @@ use Rattle.std.proofs.Common.{◌≡◌, ℕ, zero, suc, ◌++◌, ◌<◌, ◌�
 use Rattle.std.proofs.Math.ListN.{set}
 use Rattle.std.proofs.lemmas.List.{append-nil}
 use Rattle.std.proofs.lemmas.Option.{same_Some}
+use Rattle.pathkey.proofs.KeyOrder.{from_start}
 use Rattle.message.specs.declared.msg.Msg.{Msg}
 use Rattle.message.specs.Effects.{point, Takes}
 use Rattle.message.specs.Ranges.{reaches}
 use Rattle.message.proofs.Composing.{takes-none}
-use Rattle.message.proofs.KeyOrder.{from_start}
 use Rattle.node.specs.declared.node.Slot.{Slot}
 use Rattle.node.specs.Appended.{parts, all_at, HaveTaken}
 use Rattle.node.specs.Grafts.{KeepLists}

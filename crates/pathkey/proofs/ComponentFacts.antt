@@ -1,6 +1,7 @@
 -- Which components are file names, and the components of a text or a key piece by piece.
 use Rattle.std.proofs.Common.{◌≡◌, ◌≢◌, ℕ, ◌≤◌, List, [], ◌∷◌, ◌++◌, length, Bool, true, false, ◌||◌, arith, sym, ap, refl, ◌∙◌, subst, append_assoc, Ok, Err, Result}
 use Rattle.std.specs.List.{All, list_any}
+use Rattle.std.proofs.Math.Bool.{or_assoc}
 use Rattle.std.proofs.lemmas.Bool.{or_from, or_left}
 use Rattle.pathkey.specs.Names.{Name}
 use Rattle.pathkey.specs.declared.errno.Errno.{Errno}
@@ -57,11 +58,6 @@ pub malformed_decides : (s : ℕ) (bytes rest front back : List ℕ) (has_long :
 malformed_decides s bytes rest front back has_long d e h m =
     d.malformed ∙ any_cut is_malformed s rest front back e h ∙ or_left (is_malformed front) _ m
 
--- three tests, of which one holds
-or_assoc : (a b c : Bool) → (a || (b || c)) ≡ ((a || b) || c)
-or_assoc true b c = refl
-or_assoc false b c = refl
-
 -- a component that is well formed leaves it to those after it
 pub after_component : (s : ℕ) (bytes rest front back : List ℕ) (has_long : Bool) → Decides s bytes rest has_long → rest ≡ front ++ s ∷ back → All (λ b. b ≢ s) front
     → is_malformed front ≡ false → Decides s bytes back (has_long || is_long front)
@@ -71,7 +67,7 @@ after_component s bytes rest front back has_long d e h m = record {
       ∙ ap (λ (b : Bool). b || list_any is_malformed (pieces s (back ++ s ∷ []))) m;
   long =
       d.long ∙ ap (λ (b : Bool). has_long || b) (any_cut is_long s rest front back e h)
-      ∙ or_assoc has_long (is_long front) (list_any is_long (pieces s (back ++ s ∷ [])));
+      ∙ sym (or_assoc has_long (is_long front) (list_any is_long (pieces s (back ++ s ∷ []))));
 }
 
 -- the last component decides

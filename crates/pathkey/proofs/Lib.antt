@@ -1,4 +1,5 @@
 pub mod OrderFacts
+pub mod KeyOrder
 pub mod HeadFacts
 pub mod KeyFacts
 pub mod Pieces

@@ -1,20 +1,21 @@
 -- A sorted list that is cut at a pivot, and lists with a pivot between them.
-use Rattle.std.proofs.Common.{◌≡◌, ℕ, zero, suc, ◌+◌, ◌<◌, ◌≤◌, List, [], ◌∷◌, ◌++◌, length, get_or, refl, sym, ap, ◌∙◌, subst, Option, Some, None, Bool, true, false, cond, arith, append_assoc, Ordering}
+use Rattle.std.proofs.Common.{◌≡◌, ℕ, zero, suc, ◌+◌, ◌<◌, ◌≤◌, List, [], ◌∷◌, ◌++◌, length, get_or, refl, sym, ap, ◌∙◌, subst, Option, Some, None, Bool, true, false, cond, arith, append_assoc}
 use Rattle.std.specs.Prelude.{◌&&◌}
 use Rattle.std.specs.List.{All, AllByRecursion}
 use Rattle.std.specs.List.Sorted.{IsStrictlySortedBy}
-use Rattle.std.specs.Ordering.{is_lt}
 use Rattle.std.specs.declared.cmp.Ordering.TheVariants.{Less, Equal, Greater}
 use Rattle.std.specs.Map.{keys_of}
 use Rattle.std.proofs.lemmas.List.{map-append}
 use Rattle.std.proofs.lemmas.List.Elements.{All-append, All-head, All-tail}
 use Rattle.pathkey.specs.Order.{by_bytes}
+use Rattle.pathkey.proofs.KeyOrder.{from_start, less_from_lt, lt_le, not_reaches_from_before, not_before_from_reaches}
 use Rattle.rows.specs.Places.{Rises, AreBefore, AreFrom}
+use Rattle.rows.proofs.Parts.{weaker}
 use Rattle.message.specs.declared.msg.Msg.{Msg}
 use Rattle.message.specs.Cuts.{cut_to, pieces, LieIn, LieOut, IsJoined, IsParted}
 use Rattle.message.specs.Ranges.{within, reaches, before}
 use Rattle.message.proofs.Cutting.{pieces_few}
-use Rattle.message.proofs.KeyOrder.{both, from_start, lt_le, not_reaches_from_before, not_before_from_reaches}
+use Rattle.message.proofs.KeyOrder.{both}
 use Rattle.message.proofs.Parting.{front_part, back_part, in_both, in_left, in_right, second_false}
 use Rattle.message.proofs.SideBySide.{joined_both, joined_ends}
 use Rattle.points.specs.Changes.{Change, Put, Del, Edit, msg_at, run_msgs}
@@ -24,15 +25,6 @@ use Rattle.pending.specs.Sorted.{sorted_msgs}
 use Rattle.pending.proofs.Meaning.{length-ranges, length-sorted}
 
 -- ---- keys before the pivot, and keys from it on
-
-less_from_lt : (o : Ordering) → is_lt o ≡ true → o ≡ Less
-less_from_lt Less h = refl
-less_from_lt Equal h = (cc)
-less_from_lt Greater h = (cc)
-
-weaker : (P Q : List ℕ → Type 0) (ks : List (List ℕ)) → ((k : List ℕ) → P k → Q k) → AllByRecursion P ks → AllByRecursion Q ks
-weaker P Q [] f a = tt
-weaker P Q (k ∷ ks) f a = (f k a.0, weaker P Q ks f a.1)
 
 abbrev Before : List ℕ → List (List ℕ) → Type 0
 Before p ks = AllByRecursion (λ k. before k p ≡ true) ks

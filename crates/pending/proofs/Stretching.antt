@@ -10,6 +10,7 @@ use Rattle.std.proofs.lemmas.List.Elements.{All-head, All-tail, Contains-append_
 use Rattle.std.proofs.lemmas.Map.Keys.{sorted_head, sorted_tail}
 use Rattle.pathkey.specs.Order.{by_bytes, by_bytes_equiv, same}
 use Rattle.pathkey.specs.Keys.{is_below, next_key}
+use Rattle.pathkey.proofs.KeyOrder.{le_le, le_lt, lt_le, reaches-from_before, reaches-from_not_before, not_reaches_from_before, not_before_from_reaches, before_from_not_reaches}
 use Rattle.rows.specs.Places.{Rises}
 use Rattle.message.specs.declared.msg.Msg.{Msg}
 use Rattle.message.specs.Effects.{touches, any_touches}
@@ -17,7 +18,7 @@ use Rattle.message.specs.Ranges.{reaches, before, within, earlier_end}
 use Rattle.message.specs.Oldest.{first_point}
 use Rattle.message.specs.PointKeys.{point_stop, has_point, is_cleared, IsPointStop, IsClearStretch}
 use Rattle.message.specs.Stretches.{is_key, ahead_of, all_ends, IsStretch}
-use Rattle.message.proofs.KeyOrder.{both, le_le, le_lt, lt_le, reaches-from_before, reaches-from_not_before, not_reaches_from_before, not_before_from_reaches, before_from_not_reaches, unlike_earlier, unlike_later, beyond}
+use Rattle.message.proofs.KeyOrder.{both, unlike_earlier, unlike_later, beyond}
 use Rattle.message.proofs.NextKey.{by_bool}
 use Rattle.message.proofs.PointKeys.{has_point-append, is_cleared-append, or_none, point_end, stop_none, stop_one, stop_then}
 use Rattle.message.proofs.SortedStretches.{no_stretch, stretch_then}

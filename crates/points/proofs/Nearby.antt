@@ -10,18 +10,16 @@ use Rattle.std.proofs.lemmas.Map.Keys.{sorted_head, sorted_tail}
 use Rattle.pathkey.specs.Keys.{is_below, is_in}
 use Rattle.pathkey.specs.Order.{by_bytes}
 use Rattle.pathkey.specs.declared.range.KeyRange.{KeyRange}
-use Rattle.message.proofs.KeyOrder.{le_le, le_lt, lt_le, not_before_from_reaches, reaches-from_before, reaches-from_not_before, split_bool}
+use Rattle.pathkey.proofs.KeyOrder.{le_le, le_lt, lt_le, not_before_from_reaches, reaches-from_before, reaches-from_not_before}
+use Rattle.message.proofs.KeyOrder.{split_bool}
 use Rattle.rows.specs.Places.{Rises, before, last_of, place, reaches, AreBefore, AreFrom}
+use Rattle.rows.proofs.Parts.{reach_rest}
 use Rattle.points.specs.Points.{first_from}
 
 -- the key, if there is one, stands below the end
 abbrev pub next_below : Option (List ℕ) → Option (List ℕ) → Bool
 next_below None hi = false
 next_below (Some q) hi = is_below q hi
-
-reach_rest : (lo x : List ℕ) (ks : List (List ℕ)) → reaches lo x ≡ true → AllByRecursion (λ y. by_bytes x y ≡ Less) ks → AllByRecursion (λ y. reaches lo y ≡ true) ks
-reach_rest lo x [] h a = tt
-reach_rest lo x (y ∷ ks) h a = (reaches-from_before lo y (le_lt lo x y h (ap is_lt a.0)), reach_rest lo x ks h a.1)
 
 module _ {X : Type 0} where
   -- ---- the first key from one on

@@ -1,17 +1,16 @@
 -- Ends of ranges and keys, and what the ranges of a list have in common.
 use Rattle.std.proofs.Common.{◌≡◌, ℕ, Bool, true, false, not, List, [], ◌∷◌, ◌++◌, take, drop, Option, Some, None, refl, ap, sym, ◌∙◌, subst}
-use Rattle.std.specs.Prelude.{◌&&◌, ◌||◌, Result, Ok, Err, OnOk, OnErr}
-use Rattle.std.specs.declared.cmp.Ordering.{Ordering}
-use Rattle.std.specs.declared.cmp.Ordering.TheVariants.{Less, Equal, Greater}
-use Rattle.std.specs.Ordering.{is_lt, ordering_reverse}
+use Rattle.std.specs.Prelude.{◌||◌, Result, Ok, Err, OnOk, OnErr}
+use Rattle.std.specs.declared.cmp.Ordering.TheVariants.{Less}
 use Rattle.std.specs.List.{AllByRecursion}
 use Rattle.std.specs.List.Sorted.{IsStrictlySortedBy}
 use Rattle.std.specs.Map.{keys_of}
 use Rattle.std.proofs.lemmas.List.{take-append-drop}
-use Rattle.pathkey.specs.Order.{by_bytes, by_bytes_total}
+use Rattle.pathkey.specs.Order.{by_bytes}
 use Rattle.pathkey.specs.Keys.{is_below}
+use Rattle.pathkey.proofs.KeyOrder.{less_from_lt, reaches-from_before, reaches-from_not_before, not_before_from_reaches, le_le, lt_le}
 use Rattle.message.specs.Ranges.{reaches, before, within, ends_within}
-use Rattle.message.proofs.KeyOrder.{both, reaches-from_before, reaches-from_not_before, not_before_from_reaches, begins_before_end, le_le, lt_le}
+use Rattle.message.proofs.KeyOrder.{both, begins_before_end}
 use Rattle.rows.specs.Places.{Rises}
 use Rattle.ranges.specs.Apart.{Span, covered, ends_before, BeginBehind, AreApart, CoversMore}
 
@@ -58,16 +57,8 @@ pub end_reached : (h : Option (List ℕ)) (k : List ℕ) → is_below k h ≡ fa
 end_reached None k e = absurd (cc)
 end_reached (Some h) k e = reaches-from_not_before k h e
 
-less_from_lt : (o : Ordering) → is_lt o ≡ true → o ≡ Less
-less_from_lt Less h = refl
-less_from_lt Equal h = (cc)
-less_from_lt Greater h = (cc)
-
 pub less_from_before : (a b : List ℕ) → before a b ≡ true → by_bytes a b ≡ Less
 less_from_before a b h = less_from_lt (by_bytes a b) h
-
-pub greater_from_before : (a b : List ℕ) → before a b ≡ true → by_bytes b a ≡ Greater
-greater_from_before a b h = by_bytes_total.antisymm b a ∙ ap ordering_reverse (less_from_before a b h)
 
 -- no key lies in a range that ends where it begins, or before
 pub none_within : (lo : List ℕ) (hi : Option (List ℕ)) (k : List ℕ) → is_below lo hi ≡ false → within lo hi k ≡ false

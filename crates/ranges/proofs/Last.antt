@@ -9,8 +9,9 @@ use Rattle.std.specs.List.{AllByRecursion, slice_get}
 use Rattle.std.specs.Map.{keys_of}
 use Rattle.pathkey.specs.Order.{by_bytes, by_bytes_total}
 use Rattle.pathkey.specs.Keys.{is_below}
+use Rattle.pathkey.proofs.KeyOrder.{reaches-from_before, reaches-from_not_before, before_from_not_reaches, not_reaches_from_before, le_le}
 use Rattle.message.specs.Ranges.{reaches, before, within, ends_within}
-use Rattle.message.proofs.KeyOrder.{both, reaches-from_before, reaches-from_not_before, before_from_not_reaches, not_reaches_from_before, le_le, split_bool}
+use Rattle.message.proofs.KeyOrder.{both, split_bool}
 use Rattle.message.proofs.RangeEnds.{below_later}
 use Rattle.message.proofs.PointKeys.{or_none}
 use Rattle.rows.specs.Places.{Rises, last_of, place, place_past}

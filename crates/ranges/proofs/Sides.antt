@@ -14,18 +14,19 @@ use Rattle.pathkey.specs.Order.{by_bytes, same}
 use Rattle.pathkey.specs.Keys.{is_below}
 use Rattle.pathkey.specs.declared.range.KeyRange.{KeyRange}
 use Rattle.pathkey.proofs.OrderFacts.{equal, tied}
+use Rattle.pathkey.proofs.KeyOrder.{greater_from, reaches-refl, reaches-from_before, reaches-from_not_before, not_before_from_reaches, le_le}
 use Rattle.message.specs.declared.msg.Msg.{Msg}
 use Rattle.message.specs.declared.msg.Msg.TheVariants.{DelRange}
 use Rattle.message.specs.Cuts.{cut_range, cut_to, pieces, IsJoined, LieIn, LieOut}
 use Rattle.message.specs.Ranges.{reaches, before, later_key, earlier_end}
 use Rattle.message.specs.Stretches.{is_key}
-use Rattle.message.proofs.KeyOrder.{reaches-refl, reaches-later, reaches-from_before, reaches-from_not_before, not_before_from_reaches, begins_before_end, le_le, split_bool}
+use Rattle.message.proofs.KeyOrder.{reaches-later, begins_before_end, split_bool}
 use Rattle.message.proofs.Parting.{pieces-in, pieces-out, pieces-append}
 use Rattle.message.proofs.RangeEnds.{later_start, later_same, later_pivot}
 use Rattle.rows.specs.Places.{last_of, AreBefore, AreFrom}
 use Rattle.ranges.specs.Apart.{Span, range_msgs, ends_before, BeginBehind, AreApart}
 use Rattle.ranges.specs.Ends.{AreDivided, AreMeeting, AreWelded, IsOver}
-use Rattle.ranges.proofs.Ends.{ends_on, past_end, ahead_of_end, greater_from_before, apart_rises, apart_left, apart_right}
+use Rattle.ranges.proofs.Ends.{ends_on, past_end, ahead_of_end, apart_rises, apart_left, apart_right}
 use Rattle.ranges.proofs.Last.{last_one, last_rest, last_keys}
 use Rattle.ranges.proofs.Splicing.{AllFrom, behind_past, from_later, insert_first, tie}
 
@@ -151,7 +152,7 @@ insert_last [] low h other a = ap (λ o. match_ordering o ((low, other) ∷ (low
 insert_last (e ∷ init) low h other a =
     let es = init ++ (low, h) ∷ [] in
     let first : before e.0 low ≡ true = ahead_of_end e.1 e.0 low a.0 (past_end e.1 low (begin_at e.1 init (low, h) [] a.1)) in
-    ap (λ o. match_ordering o ((low, other) ∷ e ∷ es) ((e.0, other) ∷ es) (e ∷ insert_entry by_bytes es low other)) (greater_from_before e.0 low first) ∙ ap (λ t. e ∷ t) (insert_last init low h other a.2)
+    ap (λ o. match_ordering o ((low, other) ∷ e ∷ es) ((e.0, other) ∷ es) (e ∷ insert_entry by_bytes es low other)) (greater_from low e.0 first) ∙ ap (λ t. e ∷ t) (insert_last init low h other a.2)
 
 -- ---- ranges that lie apart, with another last range and others behind it
 

@@ -1,12 +1,13 @@
 -- A range in the place of those that begin in it.
 use Rattle.std.proofs.Common.{◌≡◌, ℕ, suc, ◌+◌, Bool, true, false, not, List, [], ◌∷◌, length, drop, Option, Some, None, refl, ap, sym, ◌∙◌, subst, cond, arith}
-use Rattle.std.specs.Prelude.{◌&&◌, ◌||◌, IfSome}
+use Rattle.std.specs.Prelude.{◌&&◌, ◌||◌, is_some, IfSome}
 use Rattle.std.specs.declared.cmp.Ordering.TheVariants.{Less, Equal, Greater}
 use Rattle.std.specs.Ordering.{is_lt, is_le, match_ordering, ordering_reverse}
 use Rattle.std.specs.List.{AllByRecursion, filter, slice_get, sum_by}
 use Rattle.std.specs.Option.{option_map, unwrap_or}
 use Rattle.std.specs.Map.{keys_of, values_of}
 use Rattle.std.specs.BTreeMap.{insert_entry}
+use mir.Val.{bool_byte}
 use Rattle.std.proofs.lemmas.Bool.{or_parts}
 use Rattle.std.proofs.lemmas.List.Filters.{length-filter_both}
 use Rattle.std.proofs.lemmas.List.Sums.{sum_by-cons}
@@ -16,13 +17,15 @@ use Rattle.pathkey.specs.Order.{by_bytes, by_bytes_total}
 use Rattle.pathkey.specs.Keys.{is_below, is_in}
 use Rattle.pathkey.specs.declared.range.KeyRange.{KeyRange}
 use Rattle.pathkey.proofs.OrderFacts.{equal}
+use Rattle.pathkey.proofs.KeyOrder.{greater_from, reaches-from_before, reaches-from_not_before, not_before_from_reaches, not_reaches_from_before, le_le, le_lt}
 use Rattle.message.specs.Ranges.{reaches, before, within}
-use Rattle.message.proofs.KeyOrder.{both, reaches-from_before, reaches-from_not_before, not_before_from_reaches, not_reaches_from_before, le_le, le_lt, split_bool}
+use Rattle.message.proofs.KeyOrder.{both, split_bool}
 use Rattle.message.proofs.Parting.{second_false}
 use Rattle.rows.specs.Places.{Rises, at_key, place_past}
-use Rattle.ranges.specs.Apart.{Span, covered, ends_before, BeginBehind, AreApart, CoversMore}
-use Rattle.ranges.specs.Ends.{EndBefore, IsFree, Widens, spliced}
-use Rattle.ranges.proofs.Ends.{not_true, not_false, past_on, past_end, ahead_of_end, less_from_before, greater_from_before, apart_rises}
+use Rattle.rows.specs.Moves.{IsFirstMoved}
+use Rattle.ranges.specs.Apart.{Span, covered, ends_before, BeginBehind, AreApart, CoversMore, TakesFirst}
+use Rattle.ranges.specs.Ends.{EndBefore, Fits, FitsFirst, IsFree, Widens, spliced}
+use Rattle.ranges.proofs.Ends.{not_true, not_false, past_on, past_end, ahead_of_end, less_from_before, apart_rises}
 
 -- ---- what stays and what goes
 
@@ -163,7 +166,7 @@ past_one : (r : KeyRange) (e : Span) (es : List Span) → before e.0 r.lo ≡ tr
 past_one r e es h =
     let rest = filter (λ x. stays r x) es in
     ap (λ t. insert_entry by_bytes t r.lo r.hi) (filter_in (λ x. stays r x) e es (stays_before r e h))
-    ∙ ap (λ o. match_ordering o ((r.lo, r.hi) ∷ e ∷ rest) ((e.0, r.hi) ∷ rest) (e ∷ insert_entry by_bytes rest r.lo r.hi)) (greater_from_before e.0 r.lo h)
+    ∙ ap (λ o. match_ordering o ((r.lo, r.hi) ∷ e ∷ rest) ((e.0, r.hi) ∷ rest) (e ∷ insert_entry by_bytes rest r.lo r.hi)) (greater_from r.lo e.0 h)
 
 -- or before all others
 at_first : (r : KeyRange) (es : List Span) → is_below r.lo r.hi ≡ true → AllFrom r.lo es → spliced r es ≡ (r.lo, r.hi) ∷ filter (λ e. stays r e) es
@@ -258,3 +261,37 @@ gone_counted r rs = length-filter_both (λ e. is_in r e.0) (λ e. stays r e) (λ
 -- behind a range that was widened
 pub wide_covers : (lo : List ℕ) (hi : Option (List ℕ)) (rs : List Span) (wide : KeyRange) → AreApart rs → Widens rs lo hi wide → CoversMore lo hi rs (spliced wide rs)
 wide_covers lo hi rs wide a w k = spliced_covers wide rs k w.some a w.high ∙ w.same k
+
+-- a range that need not be made wider, and in which no other begins
+pub fits_alone : (lo : List ℕ) (hi : Option (List ℕ)) (rs : List Span) → AreApart rs → Widens rs lo hi (record { lo = lo; hi = hi }) → spliced (record { lo = lo; hi = hi }) rs ≡ insert_entry by_bytes rs lo hi → Fits rs lo hi
+fits_alone lo hi rs a w alone =
+    let range : KeyRange = record { lo = lo; hi = hi } in
+    record {
+      apart = subst (λ t. AreApart t) alone (spliced_apart range rs w.some a w.low w.high);
+      covers = subst (λ t. CoversMore lo hi rs t) alone (wide_covers lo hi rs range a w);
+    }
+
+-- ---- the first range is handed on
+
+moved_length : (was : Option (Option (List ℕ))) (lo : List ℕ) (hi : Option (List ℕ)) (rs : List Span) → Rises rs → was ≡ at_key lo rs → length (insert_entry by_bytes rs lo hi) + bool_byte (is_some was) ≡ length rs + 1
+moved_length None lo hi rs s n = omega (arith, put_new lo hi rs s n)
+moved_length (Some old) lo hi rs s n = omega (arith, put_over lo hi old rs s n)
+
+fits_moved : (from left old new : List Span) (was : Option (Option (List ℕ))) (m : IsFirstMoved was from old left new) → FitsFirst from old → Fits old m.key m.value
+fits_moved from left old new was m f = subst (λ t. FitsFirst t old) m.parts f
+
+pub moved_apart : (from left old new : List Span) (was : Option (Option (List ℕ))) → IsFirstMoved was from old left new → FitsFirst from old → AreApart new
+moved_apart from left old new was m f = subst (λ t. AreApart t) (sym m.is) (fits_moved from left old new was m f).apart
+
+pub moved_counted : (from left old new : List Span) (was : Option (Option (List ℕ))) → IsFirstMoved was from old left new → AreApart old → length new + bool_byte (is_some was) ≡ length old + 1
+moved_counted from left old new was m a = ap (λ t. length t + bool_byte (is_some was)) m.is ∙ moved_length was m.key m.value old (apart_rises old a) m.found
+
+pub moved_first : (from left old new : List Span) (was : Option (Option (List ℕ))) → IsFirstMoved was from old left new → AreApart old → FitsFirst from old → TakesFirst from left old new
+moved_first from left old new was m a f =
+    let fits = fits_moved from left old new was m f in
+    record {
+      first = (m.key, m.value);
+      parts = m.parts;
+      covers = subst (λ t. CoversMore m.key m.value old t) (sym m.is) fits.covers;
+      bound = omega (arith, moved_counted from left old new was m a);
+    }

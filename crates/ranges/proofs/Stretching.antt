@@ -10,12 +10,13 @@ use Rattle.std.proofs.lemmas.Map.Keys.{sorted_head, sorted_tail}
 use Rattle.std.proofs.lemmas.List.Elements.{All-nil, All-push, All-append, Contains-append_left, Contains-append_right}
 use Rattle.pathkey.specs.Order.{by_bytes}
 use Rattle.pathkey.specs.Keys.{is_below}
+use Rattle.pathkey.proofs.KeyOrder.{le_le, lt_le, reaches-from_before, reaches-from_not_before, not_reaches_from_before}
 use Rattle.message.specs.declared.msg.Msg.{Msg}
 use Rattle.message.specs.declared.msg.Msg.TheVariants.{DelRange}
 use Rattle.message.specs.Effects.{touches}
 use Rattle.message.specs.Ranges.{reaches, before, within, earlier_end}
 use Rattle.message.specs.Stretches.{ahead_of, ends_of, all_ends, IsStretch}
-use Rattle.message.proofs.KeyOrder.{both, le_le, lt_le, reaches-from_before, reaches-from_not_before, not_reaches_from_before, split_bool}
+use Rattle.message.proofs.KeyOrder.{both, split_bool}
 use Rattle.message.proofs.StretchEnds.{ahead_after, below_alike, below_both, below_earlier, some_earlier, weaker}
 use Rattle.rows.specs.Places.{Rises, place_past}
 use Rattle.ranges.specs.Apart.{Span, range_msgs, AreApart}

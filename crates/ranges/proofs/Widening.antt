@@ -3,13 +3,16 @@ use Rattle.std.proofs.Common.{◌≡◌, ℕ, Bool, true, false, not, List, [], 
 use Rattle.std.specs.Prelude.{◌&&◌, ◌||◌}
 use Rattle.std.proofs.lemmas.Bool.{and_from}
 use Rattle.pathkey.specs.Keys.{is_below}
+use Rattle.pathkey.proofs.OrderFacts.{equal}
+use Rattle.pathkey.proofs.KeyOrder.{reaches-refl, reaches-from_before, reaches-from_not_before, not_before_from_reaches, before_from_not_reaches, not_reaches_from_before, le_le, le_lt}
 use Rattle.message.specs.Ranges.{reaches, before, within, ends_within}
-use Rattle.message.proofs.KeyOrder.{both, reaches-refl, reaches-from_before, reaches-from_not_before, not_before_from_reaches, before_from_not_reaches, not_reaches_from_before, le_le, le_lt, begins_before_end, split_bool}
+use Rattle.message.proofs.KeyOrder.{both, begins_before_end, split_bool}
 use Rattle.message.proofs.Parting.{second_false}
 use Rattle.message.proofs.RangeEnds.{below_later}
 use Rattle.ranges.specs.Apart.{Span, covered, BeginBehind, AreApart}
 use Rattle.ranges.specs.Ends.{EndBefore, IsFree, IsLowEnd, IsHighEnd, Widens}
 use Rattle.ranges.proofs.Ends.{not_true, ends_on, past_end, ahead_of_end}
+use Rattle.ranges.proofs.Splicing.{tie}
 use Rattle.ranges.proofs.Last.{last_or, last_where, by_key, before_key, ends_after, ends_from, found_begins, found_covers, covered_by_last, end_by_last}
 
 -- ---- beside a range that was found
@@ -111,6 +114,16 @@ pub high_before : (rs : List Span) (h : List ℕ) (x : Span) → Some x ≡ by_k
 high_before rs h x f a e = high_here rs h a (ap (λ t. ends_after t h) (sym f) ∙ e)
 
 -- ---- both
+
+-- an end that was widened and lies no farther is the end
+pub same_low : (rs : List Span) (lo low : List ℕ) → IsLowEnd rs lo low → reaches lo low ≡ true → low ≡ lo
+same_low rs lo low l h = equal low lo (tie low lo l.begins h)
+
+pub same_high : (rs : List Span) (hi high : Option (List ℕ)) → IsHighEnd rs hi high → ends_within high hi ≡ true → high ≡ hi
+same_high rs None None l h = refl
+same_high rs None (Some e) l h = absurd (let no : false ≡ true = l.ends in cc)
+same_high rs (Some k) None l h = absurd (let no : false ≡ true = h in cc)
+same_high rs (Some k) (Some e) l h = ap (λ t. Some t) (equal e k (tie e k h l.ends))
 
 or_alike : (w n c : Bool) → (n ≡ true → w ≡ true) → (w ≡ true → n ≡ false → c ≡ true) → (w || c) ≡ (n || c)
 or_alike w true c h g = ap (λ t. t || c) (h refl)

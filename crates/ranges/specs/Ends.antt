@@ -9,7 +9,7 @@ use Rattle.pathkey.specs.declared.range.KeyRange.{KeyRange}
 use Rattle.message.specs.Ranges.{reaches, before, within, ends_within}
 use Rattle.message.specs.Stretches.{ahead_of, is_key}
 use Rattle.rows.specs.Places.{last_of, place_past}
-use Rattle.ranges.specs.Apart.{Span, covered, ends_before}
+use Rattle.ranges.specs.Apart.{Span, covered, ends_before, AreApart, CoversMore}
 
 -- each range that begins before the key ends before it
 abbrev pub EndBefore : List ℕ → List Span → Type 0
@@ -46,6 +46,16 @@ pub record Widens (rs : List Span) (lo : List ℕ) (hi : Option (List ℕ)) (wid
 -- the ranges with this one in the place of those that begin in it
 abbrev pub spliced : KeyRange → List Span → List Span
 spliced r rs = insert_entry by_bytes (filter (λ e. not (is_in r e.0)) rs) r.lo r.hi
+
+-- a range fits among others: put in as it stands it lies apart from them, and they hold its keys besides their own
+pub record Fits (rs : List Span) (lo : List ℕ) (hi : Option (List ℕ)) : Type 0 where
+  pub apart : AreApart (insert_entry by_bytes rs lo hi)
+  pub covers : CoversMore lo hi rs (insert_entry by_bytes rs lo hi)
+
+-- there is a first range, which fits among others
+abbrev pub FitsFirst : List Span → List Span → Type 0
+FitsFirst [] rs = ⊥
+FitsFirst (e ∷ es) rs = Fits rs e.0 e.1
 
 -- the last of the ranges, where it ends behind the key
 abbrev pub IsOver : List ℕ → List Span → Option KeyRange → Type 0

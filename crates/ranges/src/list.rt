@@ -6,11 +6,11 @@ ghost use Rattle.pathkey.specs.Keys.{is_below};
 ghost use Rattle.message.specs.Cuts.{pieces, IsJoined, LieIn};
 ghost use Rattle.message.specs.Stretches.{IsStretch};
 ghost use Rattle.ranges.specs.Apart.{covered, range_msgs, AreApart, CoversMore, TakesFirst};
-ghost use Rattle.ranges.specs.Ends.{spliced, EndBefore, IsFree};
+ghost use Rattle.ranges.specs.Ends.{spliced, EndBefore, FitsFirst, IsFree};
 
 use crate::near::{is_covered, is_held, widened};
 use crate::pivot::{join, part};
-use crate::splice::splice;
+use crate::splice::{fits, splice};
 use crate::stretch::stretch_end;
 use message::ends::{copy_end, ends_by, is_before_end};
 use message::{Msg, Update};
@@ -107,7 +107,8 @@ impl Ranges {
         self.lay_between(alloc, &range.lo, range.hi.as_ref())
     }
 
-    /// Lays the first range of another list over these. On want of memory both lists are as they were.
+    /// Lays the first range of another list over these. Where it meets none of them it is handed on as it lies in memory. On want of
+    /// memory both lists are as they were.
     pub fn take_first(&mut self, alloc: Global, from: &mut Ranges) -> Result<(), NoMemory>
         requires some { from.old ≢ [] }
         requires few { length self.old < 2 ^ 63 }
@@ -116,10 +117,29 @@ impl Ranges {
         ensures kept { OnErr result (from.new ≡ from.old) }
     {
         from.lie_apart();
-        if let Some((lo, hi)) = from.first() {
-            self.lay_between(alloc, lo, hi.as_ref())?;
-            from.drop_front(1);
+        let Some((lo, hi)) = from.first() else {
+            unreachable!()
+        };
+        let hi = hi.as_ref();
+        if fits(&self.rows, lo, hi) {
+            return self.move_first(from);
         }
+        self.lay_between(alloc, lo, hi)?;
+        from.drop_front(1);
+        Ok(())
+    }
+
+    /// The same, where the first range fits among these.
+    fn move_first(&mut self, from: &mut Ranges) -> Result<(), NoMemory>
+        requires few { length self.old < 2 ^ 63 }
+        requires fits { FitsFirst from.old self.old }
+        ensures taken { OnOk result (TakesFirst from.old from.new self.old self.new) }
+        ensures err { OnErr result (self.new ≡ self.old) }
+        ensures kept { OnErr result (from.new ≡ from.old) }
+    {
+        let replaced = self.rows.take_first(&mut from.rows)?;
+        from.count -= 1;
+        self.count = self.count + 1 - replaced.is_some() as usize;
         Ok(())
     }
 

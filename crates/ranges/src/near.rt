@@ -63,6 +63,15 @@ pub(crate) fn high_end<'a>(ranges: &'a Rows<Option<Key>>, end: Option<&'a Key>) 
     }
 }
 
+/// Whether no range begins before `lo` and reaches there, and none holds `hi` or begins there; `None` is no end.
+pub(crate) fn is_apart(ranges: &Rows<Option<Key>>, lo: &Key, hi: Option<&Key>) -> bool
+    requires some { is_below lo.now (option_copied hi) ≡ true }
+    requires apart { AreApart ranges.now }
+    ensures { result ≡ true → Widens ranges.now lo.now (option_copied hi.entry) (record { lo = lo.now; hi = option_copied hi.entry }) }
+{
+    lo.cmp(low_end(ranges, lo)).is_le() && ends_by(high_end(ranges, hi), hi)
+}
+
 /// The range from `lo` up to and without `hi` and those that reach over its ends or meet them, as one range.
 pub(crate) fn widened(
     ranges: &Rows<Option<Key>>,

@@ -1,10 +1,13 @@
 //! A range in the place of those that begin in it.
 ghost use Rattle.std.specs.Prelude.{◌≡◌, ◌+◌, ◌<◌, ◌^◌, true, false, length, OnOk, OnErr, IfOk};
 ghost use Rattle.std.specs.BTreeMap.{insert_entry};
+ghost use Rattle.std.specs.Option.{option_copied};
 ghost use Rattle.pathkey.specs.Keys.{is_below};
 ghost use Rattle.pathkey.specs.Order.{by_bytes};
-ghost use Rattle.ranges.specs.Ends.{spliced};
+ghost use Rattle.ranges.specs.Apart.{AreApart};
+ghost use Rattle.ranges.specs.Ends.{spliced, Fits};
 
+use crate::near::is_apart;
 use message::ends::is_before_end;
 use pathkey::{Key, KeyRange, NoMemory};
 use rows::Rows;
@@ -18,7 +21,7 @@ pub(crate) fn splice(rows: &mut Rows<Option<Key>>, range: KeyRange) -> Result<us
     ensures counted { IfOk result (λ gone. length rows.new + gone ≡ length rows.old + 1) }
     ensures err { OnErr result (rows.new ≡ rows.old) }
 {
-    if has_inside(rows, &range) {
+    if has_inside(rows, &range.lo, range.hi.as_ref()) {
         replace(rows, range)
     } else {
         put(rows, range)
@@ -26,15 +29,24 @@ pub(crate) fn splice(rows: &mut Rows<Option<Key>>, range: KeyRange) -> Result<us
 }
 
 /// Whether a range begins behind the low end of another and before its high end.
-fn has_inside(rows: &Rows<Option<Key>>, range: &KeyRange) -> bool
-    requires { is_below range.now.lo range.now.hi ≡ true }
-    ensures { result ≡ false → spliced range.now rows.now ≡ insert_entry by_bytes rows.now range.now.lo range.now.hi }
+pub(crate) fn has_inside(rows: &Rows<Option<Key>>, lo: &Key, hi: Option<&Key>) -> bool
+    requires { is_below lo.now (option_copied hi) ≡ true }
+    ensures { result ≡ false → spliced (record { lo = lo.now; hi = option_copied hi.entry }) rows.now ≡ insert_entry by_bytes rows.now lo.now (option_copied hi.entry) }
 {
     rows.rise();
-    match rows.walk_past(&range.lo).peek() {
+    match rows.walk_past(lo).peek() {
         None => false,
-        Some((next, _)) => is_before_end(next, range.hi.as_ref()),
+        Some((next, _)) => is_before_end(next, hi),
     }
+}
+
+/// Whether a range can be put in as it stands: no other reaches over its ends, meets it, or begins in it behind its low end.
+pub(crate) fn fits(rows: &Rows<Option<Key>>, lo: &Key, hi: Option<&Key>) -> bool
+    requires some { is_below lo.now (option_copied hi) ≡ true }
+    requires apart { AreApart rows.now }
+    ensures { result ≡ true → Fits rows.now lo.now (option_copied hi.entry) }
+{
+    is_apart(rows, lo, hi) && !has_inside(rows, lo, hi)
 }
 
 /// Puts a range in, in the place of one that begins where it does, and answers how many such there were.

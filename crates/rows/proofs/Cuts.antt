@@ -9,10 +9,10 @@ use Rattle.std.proofs.lemmas.Map.Keys.{sorted_head, sorted_tail}
 use Rattle.pathkey.specs.Keys.{is_below, is_in}
 use Rattle.pathkey.specs.Order.{by_bytes}
 use Rattle.pathkey.specs.declared.range.KeyRange.{KeyRange}
+use Rattle.pathkey.proofs.KeyOrder.{not_before_from_reaches, not_reaches_from_before}
 use Rattle.rows.specs.Places.{Rises, reaches, before, AreBefore, AreFrom, AreBelow, AreBeyond}
 use Rattle.rows.specs.Rows.{joined, AreRows}
 use Rattle.rows.proofs.Entries.{rises_cons}
-use Rattle.rows.proofs.Order.{not_before_from_reaches, not_reaches_from_before}
 use Rattle.rows.proofs.TableFacts.{rows_both}
 
 false_left : (b c : Bool) → b ≡ false → (b && c) ≡ false

@@ -15,10 +15,10 @@ use Rattle.pathkey.specs.Heads.{IsHeaded}
 use Rattle.pathkey.specs.Order.{by_bytes, by_bytes_total, same}
 use Rattle.pathkey.proofs.HeadFacts.{order_of_heads}
 use Rattle.pathkey.proofs.OrderFacts.{same_true}
+use Rattle.pathkey.proofs.KeyOrder.{behind}
 use Rattle.rows.specs.Places.{Rises, BeginsHeaded, at_key, place, reaches, is_there, IsHolder, IsGap}
 use Rattle.rows.specs.Rows.{begins_by}
 use Rattle.rows.proofs.Lasts.{all_pass}
-use Rattle.rows.proofs.Order.{behind}
 
 -- ---- heads
 

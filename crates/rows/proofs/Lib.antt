@@ -4,8 +4,7 @@ mod Joins
 mod Lasts
 mod Lifts
 mod Nearest
-mod Order
-mod Parts
+pub mod Parts
 mod Spans
 mod TableFacts
-mod Striding
+pub mod Striding

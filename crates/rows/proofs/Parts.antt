@@ -11,9 +11,9 @@ use Rattle.std.proofs.lemmas.List.{length-drop, map-append, take_all, take-appen
 use Rattle.std.proofs.lemmas.List.Elements.{All-from_recursion}
 use Rattle.std.proofs.lemmas.Map.Keys.{sorted_head, sorted_tail}
 use Rattle.pathkey.specs.Order.{by_bytes}
+use Rattle.pathkey.proofs.KeyOrder.{before_from, before_from_not_reaches, greater_from, le_lt, less_from_lt, lt_le, reaches-from_before}
 use Rattle.rows.specs.Places.{Rises, at_key, place, place_past, reaches, before, AreBefore, AreFrom}
 use Rattle.rows.proofs.Entries.{all_ahead, none_ahead}
-use Rattle.rows.proofs.Order.{before_from, before_from_not_reaches, greater_from, le_lt, less_from_lt, lt_le, reaches-from_before}
 
 pub weaker : (P Q : List ℕ → Type 0) (ks : List (List ℕ)) → ((k : List ℕ) → P k → Q k) → AllByRecursion P ks → AllByRecursion Q ks
 weaker P Q [] f a = tt

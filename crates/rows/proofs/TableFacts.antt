@@ -8,10 +8,10 @@ use Rattle.std.specs.Map.{keys_of}
 use Rattle.std.proofs.lemmas.List.{length-take, length-drop, take-append-drop, take_more, drop_more, take_all, drop_all}
 use Rattle.std.proofs.lemmas.Map.Keys.{sorted_head}
 use Rattle.pathkey.specs.Order.{by_bytes}
+use Rattle.pathkey.proofs.KeyOrder.{lt_le, reaches-from_before}
 use Rattle.rows.specs.Places.{Rises, place, reaches, before, AreBefore, AreFrom}
 use Rattle.rows.specs.Rows.{joined, AreSized, AreRows, begins_by, row_number, number_in}
 use Rattle.rows.proofs.Lasts.{all_pass}
-use Rattle.rows.proofs.Order.{lt_le, reaches-from_before}
 use Rattle.rows.proofs.Parts.{AllBefore, AllBehind, AllFrom, weaker, all_append, are_before, are_from, before_row, behind_row, dropped_from, right_all, rises_left, rises_right, taken_before}
 
 module _ {X : Type 0} where

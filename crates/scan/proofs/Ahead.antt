@@ -4,8 +4,8 @@ use Rattle.std.specs.Prelude.{Contains}
 use Rattle.std.specs.Option.{option_to_list}
 use Rattle.std.proofs.lemmas.Option.{same_Some}
 use Rattle.std.proofs.lemmas.List.Elements.{Contains-append_left, Contains-append_right}
+use Rattle.pathkey.proofs.KeyOrder.{lt_le, reaches-refl, reaches-from_before, not_before_from_reaches}
 use Rattle.message.specs.Ranges.{before, earlier_end}
-use Rattle.message.proofs.KeyOrder.{lt_le, reaches-refl, reaches-from_before, not_before_from_reaches}
 use Rattle.node.specs.declared.node.Slot.{Slot}
 use Rattle.node.specs.See.{seen_slots}
 use Rattle.node.specs.Site.{end_of}

@@ -13,8 +13,9 @@ use Rattle.std.proofs.lemmas.Fn.{always_returns_same}
 use Rattle.std.proofs.lemmas.List.Elements.{All-weaker}
 use Rattle.std.proofs.lemmas.Slice.Eq.{starts_is}
 use Rattle.pathkey.specs.Keys.{is_below, next_key}
+use Rattle.pathkey.proofs.KeyOrder.{le_le, reaches-refl, reaches-from_before, reaches-from_not_before, not_before_from_reaches}
 use Rattle.message.specs.Ranges.{reaches, before, within}
-use Rattle.message.proofs.KeyOrder.{both, le_le, reaches-refl, reaches-from_before, reaches-from_not_before, not_before_from_reaches, below_next}
+use Rattle.message.proofs.KeyOrder.{both, below_next}
 use Rattle.message.proofs.NextKey.{by_bool, in_range, reaches-next}
 use Rattle.scan.specs.Pairs.{HasNone, IsFirst, IsScan, AreFrom, AreAhead, IsGiven, from_unpassed, IsTaken, IsEndOf}
 use Rattle.scan.proofs.Joins.{scan_zero}

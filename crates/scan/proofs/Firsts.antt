@@ -1,8 +1,9 @@
 -- First pairs of parts of a range, and that of the range.
 use Rattle.std.proofs.Common.{◌≡◌, ℕ, true, false, List, ◌∙◌, subst, Option, Some, None}
 use Rattle.pathkey.specs.Keys.{is_below}
+use Rattle.pathkey.proofs.KeyOrder.{le_le, reaches-from_not_before, not_before_from_reaches}
 use Rattle.message.specs.Ranges.{reaches, before, within}
-use Rattle.message.proofs.KeyOrder.{both, le_le, reaches-from_not_before, not_before_from_reaches, below_next}
+use Rattle.message.proofs.KeyOrder.{both, below_next}
 use Rattle.scan.specs.Pairs.{HasNone, IsFirst}
 use Rattle.message.proofs.NextKey.{by_bool, in_range}
 use Rattle.message.proofs.PointKeys.{below_past}

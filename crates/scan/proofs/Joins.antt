@@ -4,8 +4,9 @@ use Rattle.std.specs.Prelude.{All, Contains}
 use Rattle.std.proofs.lemmas.Option.{none-some, same_Some}
 use Rattle.std.proofs.lemmas.List.Elements.{All-append, All-push, All-weaker, All-nil, Contains-append_left, Contains-append_right, Contains-push}
 use Rattle.pathkey.specs.Keys.{is_below, next_key}
+use Rattle.pathkey.proofs.KeyOrder.{le_le, lt_le, reaches-refl, reaches-from_before, reaches-from_not_before, not_before_from_reaches}
 use Rattle.message.specs.Ranges.{reaches, before, within}
-use Rattle.message.proofs.KeyOrder.{both, le_le, lt_le, reaches-refl, reaches-from_before, reaches-from_not_before, not_before_from_reaches, begins_before_end}
+use Rattle.message.proofs.KeyOrder.{both, begins_before_end}
 use Rattle.message.proofs.NextKey.{by_bool, in_range, one_key, before-next, reaches-from_before_next}
 use Rattle.scan.specs.Pairs.{HasNone, IsFirst, IsScan, AddsScan}
 use Rattle.scan.proofs.Firsts.{none_start}

@@ -4,8 +4,9 @@ use Rattle.std.proofs.lemmas.Bool.{cases_order}
 use Rattle.std.proofs.lemmas.List.{get_or_default}
 use Rattle.pathkey.specs.Keys.{is_below}
 use Rattle.pathkey.proofs.OrderFacts.{same_itself}
+use Rattle.pathkey.proofs.KeyOrder.{lt_le, reaches-refl, reaches-from_before, reaches-from_not_before, not_before_from_reaches}
 use Rattle.message.specs.Ranges.{reaches, before}
-use Rattle.message.proofs.KeyOrder.{both, lt_le, reaches-refl, reaches-from_before, reaches-from_not_before, not_before_from_reaches, unlike_earlier, unlike_later}
+use Rattle.message.proofs.KeyOrder.{both, unlike_earlier, unlike_later}
 use Rattle.node.specs.Lawful.{Rises}
 use Rattle.node.specs.Leaves.{IsCount}
 use Rattle.node.specs.Meaning.{lookup}

@@ -2,8 +2,8 @@
 use Rattle.std.proofs.Common.{◌≡◌, ℕ, ◌+◌, ◌<◌, ◌≤◌, ◌++◌, true, false, List, [], ◌∷◌, length, get_or, refl, ap, ◌∙◌, Option, Some, None, arith, ⊎_elim}
 use Rattle.std.proofs.lemmas.Bool.{cases_order}
 use Rattle.pathkey.specs.Keys.{is_below, next_key}
+use Rattle.pathkey.proofs.KeyOrder.{lt_le, reaches-from_before, not_before_from_reaches}
 use Rattle.message.specs.Ranges.{before}
-use Rattle.message.proofs.KeyOrder.{lt_le, reaches-from_before, not_before_from_reaches}
 use Rattle.message.proofs.NextKey.{before-next, reaches-next}
 use Rattle.node.specs.Lawful.{Rises}
 use Rattle.node.specs.Leaves.{IsCount}

@@ -11,4 +11,3 @@ pub mod LeafFirst
 pub mod LeafWalk
 pub mod Merging
 pub mod Sizes
-mod Asking

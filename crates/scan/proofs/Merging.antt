@@ -5,11 +5,12 @@ use Rattle.std.specs.Option.{option_to_list, option_copied, is_some}
 use Rattle.std.proofs.lemmas.Bool.{cases_order}
 use Rattle.std.proofs.lemmas.List.{get_or_default}
 use Rattle.pathkey.specs.Keys.{is_below, next_key}
+use Rattle.pathkey.proofs.KeyOrder.{le_le, lt_le, le_lt, reaches-refl, reaches-from_before, reaches-from_not_before, not_before_from_reaches}
 use Rattle.message.specs.declared.msg.Msg.{Msg}
 use Rattle.message.specs.PointKeys.{has_point, is_cleared, IsNextPoint}
 use Rattle.message.specs.Ranges.{reaches, before, within}
 use Rattle.message.specs.Stretches.{all_ends}
-use Rattle.message.proofs.KeyOrder.{both, le_le, lt_le, le_lt, reaches-refl, reaches-from_before, reaches-from_not_before, not_before_from_reaches, begins_before_end, below_next}
+use Rattle.message.proofs.KeyOrder.{both, begins_before_end, below_next}
 use Rattle.message.proofs.NextKey.{by_bool, in_range, one_key, before-next, reaches-next, reaches-from_before_next, one_before_next}
 use Rattle.message.proofs.PointKeys.{left_by_ranges, forgets, point_end, below_past}
 use Rattle.scan.specs.Pairs.{HasNone, IsFirst, IsScan, AddsScan}

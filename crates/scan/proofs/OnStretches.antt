@@ -5,11 +5,12 @@ use Rattle.std.proofs.lemmas.Option.{none-some}
 use Rattle.pathkey.specs.Order.{same}
 use Rattle.pathkey.specs.Keys.{is_below}
 use Rattle.pathkey.proofs.OrderFacts.{same_true}
+use Rattle.pathkey.proofs.KeyOrder.{le_lt, reaches-refl, reaches-from_not_before, not_before_from_reaches}
 use Rattle.message.specs.declared.msg.Msg.{Msg}
 use Rattle.message.specs.declared.msg.Msg.TheVariants.{Put, Del, DelRange, Edit}
 use Rattle.message.specs.Ranges.{reaches, before, within}
 use Rattle.message.specs.Effects.{touches, made_of, effect, effects}
-use Rattle.message.proofs.KeyOrder.{both, le_lt, reaches-refl, reaches-from_not_before, not_before_from_reaches, below_next}
+use Rattle.message.proofs.KeyOrder.{both, below_next}
 use Rattle.scan.specs.Pairs.{HasNone, IsFirst}
 use Rattle.message.specs.Stretches.{ActAlike}
 use Rattle.scan.specs.Stretches.{changed, pair_of}

@@ -7,8 +7,9 @@ use Rattle.std.proofs.lemmas.List.{append-nil}
 use Rattle.std.proofs.lemmas.List.Elements.{All-append, All-push, All-weaker, Contains-append_left, Contains-append_right, Contains-push, All-contains}
 use Rattle.std.proofs.lemmas.List.Kept.{AllPairs-cons}
 use Rattle.pathkey.specs.Keys.{is_below, next_key}
+use Rattle.pathkey.proofs.KeyOrder.{le_le, lt_le, reaches-from_before}
 use Rattle.message.specs.Ranges.{reaches, before, within}
-use Rattle.message.proofs.KeyOrder.{both, le_le, lt_le, reaches-from_before}
+use Rattle.message.proofs.KeyOrder.{both}
 use Rattle.scan.specs.Pairs.{IsRising, IsScan, EndsAt, HasAll}
 use Rattle.message.proofs.NextKey.{in_range, before-next, reaches-next}
 

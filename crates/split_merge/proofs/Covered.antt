@@ -6,10 +6,11 @@ use Rattle.std.specs.Prelude.{◌&&◌}
 use Rattle.std.proofs.lemmas.Bool.{both_ways}
 use Rattle.pathkey.specs.Keys.{is_below, is_in}
 use Rattle.pathkey.specs.declared.range.KeyRange.{KeyRange}
+use Rattle.pathkey.proofs.KeyOrder.{le_le}
 use Rattle.message.specs.declared.msg.Msg.{Msg}
 use Rattle.message.specs.declared.msg.Msg.TheVariants.{Put, Del, DelRange, Edit}
 use Rattle.message.specs.Ranges.{reaches, within, ends_within}
-use Rattle.message.proofs.KeyOrder.{both, le_le}
+use Rattle.message.proofs.KeyOrder.{both}
 use Rattle.message.proofs.RangeEnds.{below_later}
 use Rattle.node.specs.declared.node.Slot.{Slot}
 use Rattle.node.specs.declared.shape.Shape.{Shape}

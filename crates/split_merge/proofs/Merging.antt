@@ -7,10 +7,11 @@ use Rattle.std.specs.List.{insert, remove}
 use Rattle.std.specs.Prelude.{◌&&◌}
 use Rattle.std.proofs.lemmas.Bool.{false_from_ne_true, and_right}
 use Rattle.pathkey.specs.Keys.{is_below}
+use Rattle.pathkey.proofs.KeyOrder.{reaches-from_before, not_before_from_reaches, before_from_not_reaches, le_le}
 use Rattle.message.specs.declared.msg.Msg.{Msg}
 use Rattle.message.specs.Ranges.{reaches, before, within}
 use Rattle.message.specs.Effects.{effects, Takes}
-use Rattle.message.proofs.KeyOrder.{reaches-from_before, not_before_from_reaches, before_from_not_reaches, le_le, both as both_of, below_next}
+use Rattle.message.proofs.KeyOrder.{both as both_of, below_next}
 use Rattle.message.proofs.Lists.{untouched}
 use Rattle.node.specs.declared.node.Slot.{Slot}
 use Rattle.node.specs.declared.shape.Shape.{Shape}

@@ -7,12 +7,13 @@ use Rattle.std.proofs.lemmas.List.Elements.{All-nil, All-push, Contains-push}
 use Rattle.block_index.specs.Means.{blocks}
 use Rattle.call_compiler.specs.declared.indexes.Indexes.{Indexes}
 use Rattle.message.specs.Ranges.{before, reaches, within}
-use Rattle.message.proofs.KeyOrder.{begins_before_end, both, reaches-from_not_before}
+use Rattle.message.proofs.KeyOrder.{begins_before_end, both}
 use Rattle.message.proofs.NextKey.{by_bool, in_range, one_key}
 use Rattle.pathkey.specs.Keys.{Key, block_key, blocks_from, enc, is_below}
 use Rattle.pathkey.specs.Names.{Path, IsPath}
 use Rattle.pathkey.specs.declared.range.KeyRange.{KeyRange}
 use Rattle.pathkey.proofs.KeyFacts.{from_between_high, in_blocks}
+use Rattle.pathkey.proofs.KeyOrder.{reaches-from_not_before}
 use Rattle.reference.specs.Indexes.{Blocks, BlocksMean, most_blocks}
 use Rattle.reference.specs.Shape.{IsTree}
 use Rattle.reference.specs.Tree.{Tree, entry_at}

@@ -2,10 +2,11 @@
 use Rattle.std.proofs.Common.{◌≡◌, ℕ, Bool, true, false, List, [], length, ap, sym, ◌∙◌, subst, Option, Some, None, arith}
 use Rattle.std.specs.Prelude.{is_some}
 use Rattle.message.specs.Ranges.{before, reaches}
-use Rattle.message.proofs.KeyOrder.{both, le_le, reaches-refl, reaches-from_not_before}
+use Rattle.message.proofs.KeyOrder.{both}
 use Rattle.message.proofs.NextKey.{in_range, reaches-next}
 use Rattle.pathkey.specs.Keys.{Key, is_below, next_key}
 use Rattle.pathkey.specs.declared.range.KeyRange.{KeyRange}
+use Rattle.pathkey.proofs.KeyOrder.{le_le, reaches-refl, reaches-from_not_before}
 use Rattle.scan.specs.Pairs.{AreAhead, HasNone, IsGiven, IsScan}
 use Rattle.scan.proofs.AtHand.{ahead_none}
 use Rattle.volume.specs.Cursors.{StandsAt, is_passed}

@@ -2,12 +2,13 @@
 use Rattle.std.proofs.Common.{◌≡◌, ◌≢◌, ℕ, ◌^◌, ◌<◌, ◌≤◌, List, [], ◌∷◌, ◌++◌, refl, sym, ap, subst, ◌∙◌, true, Option, Some, None, arith}
 use Rattle.std.specs.Prelude.{IsSome}
 use Rattle.message.specs.Ranges.{before, reaches}
-use Rattle.message.proofs.KeyOrder.{begins_before_end, both, reaches-from_not_before}
+use Rattle.message.proofs.KeyOrder.{begins_before_end, both}
 use Rattle.message.proofs.NextKey.{by_bool, in_range}
 use Rattle.pathkey.specs.Keys.{Key, block_key, blocks_from, enc, is_below, is_in}
 use Rattle.pathkey.specs.Names.{Path, IsPath}
 use Rattle.pathkey.specs.declared.range.KeyRange.{KeyRange}
 use Rattle.pathkey.proofs.KeyFacts.{block_in_blocks, from_between_high, in_blocks}
+use Rattle.pathkey.proofs.KeyOrder.{reaches-from_not_before}
 use Rattle.reference.specs.Indexes.{BlockOf, Blocks, BlocksMean, most_blocks}
 use Rattle.reference.specs.Tree.{Tree}
 use Rattle.scan.specs.Pairs.{IsFirst}

@@ -7,13 +7,13 @@ use Rattle.std.proofs.lemmas.List.Elements.{All-pop, All-push}
 use Rattle.block_index.specs.Means.{blocks}
 use Rattle.call_compiler.specs.declared.indexes.Indexes.{Indexes}
 use Rattle.message.specs.Ranges.{before, reaches, within}
-use Rattle.message.proofs.KeyOrder.{not_before_from_reaches}
 use Rattle.message.proofs.NextKey.{in_range}
 use Rattle.pathkey.specs.Keys.{Key, block_key, blocks_from, enc}
 use Rattle.pathkey.specs.Names.{Path, EachName, IsPath}
 use Rattle.pathkey.specs.PathKeys.{IsPathOf}
 use Rattle.pathkey.specs.declared.range.KeyRange.{KeyRange}
 use Rattle.pathkey.proofs.KeyFacts.{block_in_blocks, block_in_blocks_from, block_key_injective, enc_law}
+use Rattle.pathkey.proofs.KeyOrder.{not_before_from_reaches}
 use Rattle.reference.specs.Indexes.{BlockOf, Blocks, BlocksMean, Hold, Metadata, MetaMeans, PathOf, byte_of, meta_of, most_blocks}
 use Rattle.reference.specs.Looks.{Bytes, look, seen, sighted}
 use Rattle.reference.specs.Shape.{IsTree}

@@ -1,8 +1,8 @@
 use Rattle.std.proofs.Common.{refl, ap, ◌∙◌}
 use Rattle.node.specs.Meaning.{value}
 use Rattle.pathkey.specs.Keys.{next_key}
+use Rattle.pathkey.proofs.KeyOrder.{reaches-refl}
 use Rattle.message.specs.Ranges.{reaches}
-use Rattle.message.proofs.KeyOrder.{reaches-refl}
 use Rattle.scan.proofs.AtHand.{ahead_none, given_first, given_ahead}
 use Rattle.call_compiler.proofs.Walking.{walk_starts, walk_ends, always_below, walk_goes_on}
 use Rattle.call_compiler.proofs.subtrees.put_moved.Goals as goal

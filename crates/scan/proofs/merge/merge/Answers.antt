@@ -1,9 +1,10 @@
 use Rattle.std.proofs.Common.{◌≡◌, ◌<◌, arith, ap, sym, subst, length, true, Some, None}
 use Rattle.std.specs.Option.{option_copied}
 use Rattle.pathkey.specs.Keys.{is_below, next_key}
+use Rattle.pathkey.proofs.KeyOrder.{reaches-refl}
 use Rattle.message.specs.PointKeys.{IsNextPoint}
 use Rattle.message.specs.Ranges.{reaches}
-use Rattle.message.proofs.KeyOrder.{both, below_next, reaches-refl}
+use Rattle.message.proofs.KeyOrder.{both, below_next}
 use Rattle.scan.proofs.Merging.{merging_start, merging_full, merging_on, merging_over, all_there, point_falls}
 use Rattle.scan.proofs.merge.merge.Goals as goal
 

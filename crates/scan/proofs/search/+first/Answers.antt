@@ -1,7 +1,6 @@
 use Rattle.scan.proofs.search.+first.Goals.{first_of_slot-in-Nothing, first_of_slot-in_default-matches}
 use Rattle.std.proofs.Common.{true≢false, arith, ap, sym, subst, ◌∙◌, ◌≡◌, ◌<◌, ◌+◌, ◌*◌, length, true, Some, None}
 use Rattle.std.specs.Option.{option_copied}
-use Rattle.message.proofs.KeyOrder.{reaches-refl}
 use Rattle.node.specs.Meaning.{value}
 use Rattle.node.specs.Pure.{PNode, inner, depth}
 use Rattle.node.specs.Searchable.{IsSearchable}
@@ -14,6 +13,7 @@ use Rattle.scan.specs.Stretches.{slot_value}
 use Rattle.scan.specs.Pairs.{IsFirst}
 use Rattle.scan.proofs.OnStretches.{first_of_told, first_untouched, first_changed}
 use Rattle.std.proofs.lemmas.Result.{IfOk-weaker}
+use Rattle.pathkey.proofs.KeyOrder.{reaches-refl}
 use Rattle.scan.proofs.Firsts.{none_past, as_called}
 use Rattle.scan.proofs.Searching.{at_start, from_below, stands_at, found, no_more, goes_on, fewer_ahead}
 use Rattle.scan.proofs.search.+first.Goals as goal

@@ -9,9 +9,10 @@ use Rattle.node.specs.See.{see, seen_slots}
 use Rattle.node.specs.declared.node.Slot.{Slot}
 use Rattle.node.proofs.Placing.{searchable_child, depth_child}
 use Rattle.pathkey.specs.Keys.{is_below}
+use Rattle.pathkey.proofs.KeyOrder.{le_le}
 use Rattle.message.specs.PointKeys.{is_cleared, IsNextPoint}
 use Rattle.message.specs.Ranges.{reaches, before, within}
-use Rattle.message.proofs.KeyOrder.{both, le_le}
+use Rattle.message.proofs.KeyOrder.{both}
 use Rattle.message.proofs.NextKey.{in_range, reaches-next}
 use Rattle.scan.specs.Pairs.{AddsScan, IsScan}
 use Rattle.scan.specs.Merging.{AreAll, LeavesGaps, IsMerged, HasPoint, GoesOn}

@@ -3,8 +3,11 @@ use Rattle.pathkey.specs.Keys.{is_below}
 use Rattle.ranges.proofs.Last.{first_some, first_none}
 use Rattle.ranges.proofs.list.Ranges.take_first.Goals as goal
 
-pub lay_between-requires-clause-some : goal.lay_between-requires-clause-some
-lay_between-requires-clause-some c = subst (λ h. is_below c.in-Some.lo.now h ≡ true) (sym c.as_ref.ensures.value) (first_some c.args.from.now (c.in-Some.lo.now, c.in-Some.hi.now) c.lie_apart.ensures c.in-Some.ensures)
+pub unreachable-requires : goal.unreachable-requires
+unreachable-requires c = c.requires.some (first_none c.args.from.now c.in_default.ensures)
 
-pub returns-in_default-clause-taken : goal.returns-in_default-clause-taken
-returns-in_default-clause-taken c = absurd (c.requires.some (first_none c.args.from.now c.in_default.ensures))
+pub fits-requires-clause-some : goal.fits-requires-clause-some
+fits-requires-clause-some c = subst (λ h. is_below c.in-Some.lo.now h ≡ true) (sym c.as_ref-hi.ensures.value) (first_some c.args.from.now (c.in-Some.lo.now, c.in-Some.hi.now) c.lie_apart.ensures c.in-Some.ensures)
+
+pub lay_between-requires-clause-some : goal.lay_between-requires-clause-some
+lay_between-requires-clause-some c = subst (λ h. is_below c.in-Some.lo.now h ≡ true) (sym c.as_ref-hi.ensures.value) (first_some c.args.from.now (c.in-Some.lo.now, c.in-Some.hi.now) c.lie_apart.ensures c.in-Some.ensures)

@@ -2,7 +2,7 @@ use Rattle.std.proofs.Common.{◌≡◌, arith, refl, sym, ap, ◌∙◌}
 use borrow.Author.Rules.{of_calls}
 use Rattle.std.proofs.lemmas.Fn.{called}
 use Rattle.std.proofs.lemmas.List.{nil_from_length}
-use Rattle.scan.proofs.Asking.{answers_next}
+use Rattle.rows.proofs.Striding.{answers_next}
 use Rattle.scan.specs.Pairs.{from_unpassed}
 use Rattle.scan.specs.Sizes.{size_past}
 use Rattle.scan.proofs.AtHand.{unpassed_behind, unpassed_taken}
