@@ -92,8 +92,15 @@ class Edit:
 class Crate:
     name: str
     folder: Path
-    # the repository's crates that it uses, by name
+    # the repository's crates that it uses, by name, and the toolchain's
     uses: tuple[str, ...]
+    of_kit: tuple[str, ...] = ()
+    is_static: bool = False
+
+    @property
+    def root(self) -> str:
+        """The file that the crate begins with."""
+        return "src/main.rt" if (self.folder / "src/main.rt").is_file() else "src/lib.rt"
 
     def sources(self) -> list[Source]:
         """The files of src/, read."""
@@ -111,9 +118,10 @@ class Repository:
         self.top, self.record = top, top / "tests/planted/tried"
         lines = [it.split("#")[0].strip() for it in (top / "crates.txt").read_text(encoding="utf-8").split("\n")]
         self.crates: dict[str, Crate] = {}
-        said = {head.split()[0]: uses.split() for head, _, uses in (it.partition(":") for it in lines if it)}
-        for name, uses in said.items():
-            self.crates[name] = Crate(name, top / "crates" / name, tuple(it for it in uses if it in said))
+        said = {head.split()[0]: (head.split()[1:], uses.split()) for head, _, uses in (it.partition(":") for it in lines if it)}
+        for name, (kind, uses) in said.items():
+            ours, others = (tuple(it for it in uses if (it in said) == is_ours) for is_ours in (True, False))
+            self.crates[name] = Crate(name, top / "crates" / name, ours, others, "staticlib" in kind)
 
     @functools.cached_property
     def beneath(self) -> Beneath:
