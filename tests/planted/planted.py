@@ -12,6 +12,7 @@ from __future__ import annotations
 import dataclasses
 import functools
 import re
+import shutil
 from pathlib import Path
 
 from beneath import Beneath
@@ -91,8 +92,15 @@ class Edit:
 class Crate:
     name: str
     folder: Path
-    # the repository's crates that it uses, by name
+    # the repository's crates that it uses, by name, and the toolchain's
     uses: tuple[str, ...]
+    of_kit: tuple[str, ...] = ()
+    is_static: bool = False
+
+    @property
+    def root(self) -> str:
+        """The file that the crate begins with."""
+        return "src/main.rt" if (self.folder / "src/main.rt").is_file() else "src/lib.rt"
 
     def sources(self) -> list[Source]:
         """The files of src/, read."""
@@ -110,9 +118,10 @@ class Repository:
         self.top, self.record = top, top / "tests/planted/tried"
         lines = [it.split("#")[0].strip() for it in (top / "crates.txt").read_text(encoding="utf-8").split("\n")]
         self.crates: dict[str, Crate] = {}
-        said = {head.split()[0]: uses.split() for head, _, uses in (it.partition(":") for it in lines if it)}
-        for name, uses in said.items():
-            self.crates[name] = Crate(name, top / "crates" / name, tuple(it for it in uses if it in said))
+        said = {head.split()[0]: (head.split()[1:], uses.split()) for head, _, uses in (it.partition(":") for it in lines if it)}
+        for name, (kind, uses) in said.items():
+            ours, others = (tuple(it for it in uses if (it in said) == is_ours) for is_ours in (True, False))
+            self.crates[name] = Crate(name, top / "crates" / name, ours, others, "staticlib" in kind)
 
     @functools.cached_property
     def beneath(self) -> Beneath:
@@ -120,6 +129,22 @@ class Repository:
         below = {it.name: [low.name for low in self.below(it)] for it in self.crates.values()}
         known = {name for it in self.with_edits() for name in [it.name, *below[it.name]]}
         return Beneath({it: self.crates[it].folder for it in self.crates if it in known}, below)
+
+    def minutes(self) -> dict[str, float]:
+        """What the proof and tests of each crate take, in processor minutes, by the table in docs/GATE.md."""
+        text = (self.top / "docs/GATE.md").read_text(encoding="utf-8")
+        rows = re.findall(r"^\| ((?:`\w+`(?:, )?)+) \| ([\d.]+(?:; [\d.]+)*) \|$", text, re.M)
+        return {name: float(it) for names, numbers in rows for name, it in zip(re.findall(r"\w+", names), numbers.split("; "))}
+
+    def leave_only(self, crates: list[Crate]) -> None:
+        """Takes all crates but these and those below them out of the files, which are of a clone."""
+        names = {it.name for crate in crates for it in [crate, *self.below(crate)]}
+        file = self.top / "crates.txt"
+        lines = file.read_text(encoding="utf-8").split("\n")
+        left = [it for it in lines if it.startswith("#") or it.split(":")[0].split()[:1] in [[name] for name in names]]
+        file.write_text("\n".join(left) + "\n", encoding="utf-8")
+        for name in set(self.crates) - names:
+            shutil.rmtree(self.top / "crates" / name)
 
     def below(self, crate: Crate) -> list[Crate]:
         """The crates that it stands on, directly or not, by name."""

@@ -5,6 +5,9 @@ of the crate. An edit of a function's body is refused there where the prover tel
 Nothing else counts. Where a function that no edit touched is refused too, each half of the edits is tried, and so on. Where an edit
 changes more than bodies, where no goal of its function is named, and where one half is that one edit, it is tried by itself, by
 `rt must-fail`.
+
+Where `rt ci` kept the proof of the crate as it stands (`kept.py`), that is not checked first: the first check of edits begins with
+nothing, and the others with what that one left.
 """
 from __future__ import annotations
 
@@ -16,7 +19,8 @@ import subprocess
 from pathlib import Path
 from typing import Iterator
 
-from planted import BadEdit, Crate, Edit
+import kept
+from planted import BadEdit, Crate, Edit, Repository
 from source import Item, Source, Span
 from statements import self_type
 
@@ -28,7 +32,11 @@ ANSWER_ELSEWHERE = re.compile(r"(?:\./)?proofs/\S+\.antt:\d+:\d+: error: ")
 # What only tells that a proof names something that the edit took away, or rests on what is not proved.
 WEAK = re.compile(r"has no field|is not in scope|has no `|that can be named|was not admitted")
 UNREAD = re.compile(r"(?:\./)?((?:src|specs)/\S+?):(\d+):\d+: error")
+# How the last line of a check begins that came to its end, and of one that did not prove the crate.
+ENDED, NO_PROOF = "\nlogic=", "\nlogic=not-proved"
 REFUSED = ": refused, as it must be"
+# What `rt ci` says of each crate that it passes by what it kept.
+IS_KEPT = " is kept: "
 # What `rt` says of a refusal that tells nothing of a contract: the edit took away a name that a proof cites.
 BY_NAME_ALONE = "only because a proof file names"
 
@@ -178,28 +186,49 @@ def linked(folder: Path, to: Path) -> None:
 
 
 class Trial:
-    """Tries edits of one crate in a clone of its own."""
+    """Tries edits of one crate in a clone of its own, which has no crates but this one and those below."""
 
-    def __init__(self, room: Path, crate: Crate, say):
-        self.room, self.crate, self.say = room, crate, say
+    def __init__(self, room: Path, repository: Repository, crate: Crate, say):
+        self.room, self.repository, self.crate, self.say = room, repository, crate, say
         self.work, self.seed = crate.folder / "out/incremental", room / "seed"
         self.bodies = Bodies(crate)
+        self.is_kept = False
 
-    def rt(self, *words: str, where: Path) -> subprocess.CompletedProcess:
-        how = {"cwd": where, "stdin": subprocess.DEVNULL, "stdout": subprocess.PIPE, "stderr": subprocess.STDOUT, "text": True, "errors": "replace"}
-        return subprocess.run(["nice", "-n", "5", "rt", *words], env={**os.environ, "RT_JOBS": "1"}, **how)
+    def run(self, *words: str, where: Path) -> subprocess.CompletedProcess:
+        how = {"stdin": subprocess.DEVNULL, "stdout": subprocess.PIPE, "stderr": subprocess.STDOUT, "text": True, "errors": "replace"}
+        return subprocess.run(["nice", "-n", "5", *words], cwd=where, env={**os.environ, "RT_JOBS": "1"}, **how)
 
     def begin(self) -> None:
-        """Checks the crate as it stands, over what checks kept, and keeps what that check leaves."""
-        ran = self.rt("check", "--jobs", "1", where=self.crate.folder)
+        """Takes what `rt ci` kept. Else it checks the crate as it stands, over what checks kept, and keeps what that check leaves."""
+        self.is_kept = kept.is_given(self.repository.top)
+        if self.is_kept:
+            self.say(f"{self.crate.name}: its proof is kept, so it is not checked as it stands")
+            return
+        ran = self.check()
         if ran.returncode:
             raise NotProved("\n".join(["the crate as it stands is not proved:", *ran.stdout.rstrip().split("\n")[-12:]]))
         linked(self.work, self.seed)
 
     def again(self) -> None:
-        """Lets the next check begin with what the crate as it stands left."""
+        """Lets the next check begin with what the first one left, of the crate as it stands or of edits; the first with nothing."""
         shutil.rmtree(self.work, ignore_errors=True)
-        linked(self.seed, self.work)
+        if self.seed.is_dir():
+            linked(self.seed, self.work)
+        else:
+            self.work.mkdir(parents=True)
+
+    def check(self) -> subprocess.CompletedProcess:
+        """Checks the crate as its files are, over what lies in its folder out/."""
+        words = kept.check(self.repository, self.crate, self.work) if self.is_kept else ["rt", "check", "--jobs", "1"]
+        return self.run(*words, where=self.crate.folder)
+
+    def said(self) -> str:
+        """What a check of the crate with edits says. Where the crate was not checked as it stands, the first that ends leaves the seed."""
+        self.again()
+        said = self.check().stdout
+        if not self.seed.is_dir() and ENDED in said:
+            linked(self.work, self.seed)
+        return said
 
     def checked(self, edits: list[Edit]) -> tuple[str, list[Edit]]:
         """What a check of the crate with these edits says, and those that could be put into it. The crate is then as it was."""
@@ -216,8 +245,7 @@ class Trial:
                     texts.setdefault(path, (self.crate.folder / path).read_text(encoding="utf-8"))
                     (self.crate.folder / path).write_text(text, encoding="utf-8")
                 made.append(edit)
-            self.again()
-            return self.rt("check", "--jobs", "1", where=self.crate.folder).stdout, made
+            return self.said(), made
         finally:
             for path, text in texts.items():
                 (self.crate.folder / path).write_text(text, encoding="utf-8")
@@ -233,7 +261,7 @@ class Trial:
             bad = {edit for edit in made if any(it.has_line(*at) for it in functions[edit] for at in unread)}
             return self.batch([it for it in made if it not in bad]) if bad else (set(), False)
         verdict = verdict_of(said, self.bodies, frozenset().union(*functions.values()))
-        if "\nlogic=not-proved" not in said or not verdict.is_clean:
+        if NO_PROOF not in said or not verdict.is_clean:
             return set(), False
         return {edit for edit in made if functions[edit] & verdict.failed}, True
 
@@ -255,16 +283,22 @@ class Trial:
         folder.mkdir()
         for edit in edits:
             shutil.copyfile(edit.path, folder / edit.path.name)
-        self.again()
-        said = self.rt("must-fail", self.crate.name, where=self.crate.folder.parents[1]).stdout
+        said = self.must_fail()
         shutil.rmtree(folder)
         label = {edit: f"must-fail {self.crate.name}/{edit.path.name}" for edit in edits}
         lines = said.split("\n")
         refused = {edit for edit in edits if any(is_refusal(it, label[edit]) for it in lines)}
         for line in lines:
-            if REFUSED not in line or "only by a limit" in line or BY_NAME_ALONE in line:
+            if IS_KEPT not in line and (REFUSED not in line or "only by a limit" in line or BY_NAME_ALONE in line):
                 self.say(line)
         return refused
+
+    def must_fail(self) -> str:
+        """What is said of the edits in must-fail/: by `rt ci` where it kept the proof, else by `rt must-fail`, which builds libraries."""
+        if self.is_kept:
+            return self.run("rt", "ci", where=self.repository.top).stdout
+        self.again()
+        return self.run("rt", "must-fail", self.crate.name, where=self.repository.top).stdout
 
     def tried(self, edits: list[Edit], by_itself: bool) -> set[Edit]:
         """The edits that are refused."""
