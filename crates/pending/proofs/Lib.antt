@@ -5,3 +5,4 @@ pub mod OneKey
 pub mod Stretching
 pub mod Cutting
 pub mod Leaving
+pub mod Meeting

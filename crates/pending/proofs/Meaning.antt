@@ -18,7 +18,7 @@ use Rattle.message.specs.Effects.{any_touches, effects, range_count}
 use Rattle.message.specs.Told.{IsTold}
 use Rattle.message.proofs.Lists.{effects-append, any_touches-append}
 use Rattle.message.proofs.NextKey.{by_bool}
-use Rattle.points.specs.Changes.{Change, Put, Del, Edit, msg_at, run_msgs, run_effect}
+use Rattle.points.specs.Changes.{Change, msg_at, run_msgs, run_effect}
 use Rattle.points.specs.Points.{point_msgs, point_count, found_effect, left}
 use Rattle.points.specs.Runs.{IsToldOf}
 use Rattle.ranges.specs.Apart.{Span, covered, range_msgs}

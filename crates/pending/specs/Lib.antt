@@ -1,3 +1,4 @@
+pub mod Ahead
 pub mod Lent
 pub mod Parts
 pub mod Sorted

@@ -10,11 +10,12 @@
 //! - some of the oldest messages of the first key may have left: these are counted, since other lists may share the row in which
 //!   they stand.
 //!
-//! `pending` is what callers see. `sorted` is the sorted part, and `lay` what is laid over it. `tail` has messages as they came,
+//! `pending` is what callers see, and `ahead` a walk through its keys. `sorted` is the sorted part, and `lay` what is laid over it. `tail` has messages as they came,
 //! and `list` goes through them; `waiting` is one of them, and `part` a range-delete of which a part is left. `lent` is a message
 //! where it stands, and `stretch` says where messages begin and end to touch keys.
 #![tactic(auto)]
 
+pub mod ahead;
 pub(crate) mod lay;
 pub mod lent;
 pub(crate) mod list;
@@ -25,4 +26,5 @@ pub(crate) mod stretch;
 pub(crate) mod tail;
 pub mod waiting;
 
+pub use ahead::{Ahead, Met, next_met};
 pub use pending::Pending;

@@ -14,7 +14,9 @@ ghost use Rattle.message.specs.PointKeys.{is_cleared, IsNextPoint, IsClearStretc
 ghost use Rattle.message.specs.Stretches.{IsStretch};
 ghost use Rattle.message.specs.Told.{IsTold};
 ghost use Rattle.pathkey.specs.Keys.{is_below};
+ghost use Rattle.pending.specs.Ahead.{StandsAt};
 
+use crate::ahead::Ahead;
 use crate::lent::Lent;
 use crate::sorted::Sorted;
 use crate::tail::Tail;
@@ -554,6 +556,19 @@ impl<U: Update> Pending<U> {
             return None;
         }
         Some(key)
+    }
+
+    /// A walk through the keys from `from` on that have messages for them alone.
+    pub fn ahead(&self, from: &Key) -> Ahead<'_, U>
+        ensures list { result.0 ≡ self.now.0 }
+        ensures stands { StandsAt from.now result }
+    {
+        let rest = if self.fresh.len() > 0 {
+            None
+        } else {
+            self.sorted.walk_from(from)
+        };
+        Ahead { list: self, rest }
     }
 
     /// Whether a range-delete holds the key: then no older value is left there.

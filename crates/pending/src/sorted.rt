@@ -12,6 +12,7 @@ ghost use Rattle.message.specs.Told.{IsTold};
 ghost use Rattle.message.specs.declared.told.Told.TheVariants as told;
 ghost use Rattle.rows.specs.Places.{Rises, at_key};
 ghost use Rattle.points.specs.Points.{left, AreRuns, IsLeft};
+ghost use Rattle.pending.specs.Ahead.{AreFrom};
 ghost use Rattle.pending.specs.Lent.{lent_msg};
 ghost use Rattle.pending.specs.Sorted.{sorted_msgs};
 
@@ -21,8 +22,9 @@ use crate::stretch::point_stop;
 use message::ends::earlier;
 use message::{Changes, Msg, Told, Update};
 use pathkey::{Key, NoMemory};
-use points::Points;
+use points::{Points, Run};
 use ranges::Ranges;
+use rows::Walk;
 use std::alloc::Global;
 use std::marker::Model;
 
@@ -364,6 +366,17 @@ impl<U: Update> Sorted<U> {
         point_stop(self.points.first_from(from), from, end)
     }
 
+    /// The entries from the key on, where no message of the first key is gone.
+    pub(crate) fn walk_from(&self, from: &Key) -> Option<Walk<'_, Run<U>>>
+        ensures { IfSome result (λ rest. AreFrom self.now from.now rest) }
+    {
+        if self.gone > 0 {
+            return None;
+        }
+        self.points.stand();
+        Some(self.points.walk_from(from))
+    }
+
     /// Whether a range-delete holds the key.
     pub(crate) fn is_cleared(&self, key: &Key) -> bool
         ensures { result ≡ is_cleared self.now key.now }
@@ -439,7 +452,7 @@ fn is_key(at: Option<&Key>, key: &Key) -> bool
 }
 
 /// The value, unless it is gone.
-fn unless<V: Drop>(is_gone: bool, old: Option<V>) -> Option<V>
+pub(crate) fn unless<V: Drop>(is_gone: bool, old: Option<V>) -> Option<V>
     ensures { result ≡ (if is_gone then None else old) }
 {
     if is_gone { None } else { old }

@@ -10,7 +10,7 @@ use Rattle.std.proofs.lemmas.Map.Keys.{sorted_head, sorted_tail}
 use Rattle.pathkey.specs.Keys.{is_below, is_in}
 use Rattle.pathkey.specs.Order.{by_bytes}
 use Rattle.pathkey.specs.declared.range.KeyRange.{KeyRange}
-use Rattle.pathkey.proofs.KeyOrder.{le_le, le_lt, lt_le, not_before_from_reaches, reaches-from_before, reaches-from_not_before}
+use Rattle.pathkey.proofs.KeyOrder.{le_le, lt_le, not_before_from_reaches, reaches-from_before, reaches-from_not_before}
 use Rattle.message.proofs.KeyOrder.{split_bool}
 use Rattle.rows.specs.Places.{Rises, before, last_of, place, reaches, AreBefore, AreFrom}
 use Rattle.rows.proofs.Parts.{reach_rest}

@@ -5,7 +5,7 @@ ghost use Rattle.std.specs.List.{filter, list_any, slice_get};
 ghost use Rattle.std.specs.Option.{option_copied, option_map};
 ghost use Rattle.pathkey.specs.Keys.{is_in};
 ghost use Rattle.pathkey.specs.Order.{by_bytes};
-ghost use Rattle.rows.specs.Places.{Rises, at_key, AreBefore, AreFrom};
+ghost use Rattle.rows.specs.Places.{Rises, at_key, place, AreBefore, AreFrom};
 ghost use Rattle.points.specs.Changes.{Put, Del, run_effect};
 ghost use Rattle.points.specs.Points.{left, point_count, point_msgs, first_from, AreRuns, IsLeft, Lays, TakesFirst};
 
@@ -15,7 +15,7 @@ use crate::run::Run;
 use message::ends::is_before_end;
 use message::{Changes, Msg, Update};
 use pathkey::{Key, KeyRange, NoMemory};
-use rows::Rows;
+use rows::{Rows, Walk};
 use std::alloc::Global;
 use std::marker::Model;
 
@@ -82,6 +82,13 @@ impl<U: Update> Points<U> {
         ensures { option_copied result ≡ at_key key.now self.now }
     {
         self.rows.get(key)
+    }
+
+    /// What waits at the key and behind it, key by key.
+    pub fn walk_from(&self, key: &Key) -> Walk<'_, Run<U>>
+        ensures { result ≡ drop (place key.now self.now) self.now }
+    {
+        self.rows.walk_from(key)
     }
 
     /// The first key that has messages, at this one or behind it.

@@ -1,13 +1,13 @@
 -- How large pieces are, and when the tree is walked for one.
-use Rattle.std.proofs.Common.{◌≡◌, ℕ, ◌+◌, ◌-◌, ◌^◌, ◌≤◌, min, max, Bool, true, false, not, cond, List, [], ◌∷◌, ◌++◌, length, refl, ap, sym, ◌∙◌, Option, Some, None, arith}
+use Rattle.std.proofs.Common.{◌≡◌, ℕ, ◌+◌, ◌-◌, ◌^◌, ◌≤◌, min, Bool, true, false, not, cond, List, [], ◌∷◌, ◌++◌, length, refl, ap, sym, ◌∙◌, Option, Some, None, arith}
 use denote.Ref.{Bor}
 use denote.Param.Members.{Mut}
 use Rattle.std.specs.Fn.{Called, ComputesKey}
 use Rattle.std.specs.Option.{option_to_list}
 use Rattle.std.proofs.lemmas.Fn.{always_returns_same}
 use Rattle.message.specs.Ranges.{before}
-use Rattle.scan.specs.Pairs.{from_unpassed, IsTaken}
-use Rattle.scan.specs.Sizes.{IsPiece, is_walked, raised, size_past, walked_for, wants_more}
+use Rattle.scan.specs.Pairs.{IsTaken}
+use Rattle.scan.specs.Sizes.{IsPiece, is_walked, raised, size_past, wants_more}
 
 module _ {V : Type 0} (test : List ℕ → Bool) where
   -- once a pair was passed, the next piece may have one pair, however many more are passed

@@ -1,5 +1,5 @@
 -- How large the pieces of a range are, and when the tree is walked for one. Pairs are at hand; n is how many the next piece may have.
-use Rattle.std.specs.Prelude.{◌≡◌, ℕ, ◌+◌, ◌-◌, ◌^◌, ◌≤◌, min, max, Bool, true, false, not, cond, List, [], ◌∷◌, ◌++◌, Option, length}
+use Rattle.std.specs.Prelude.{◌≡◌, ℕ, ◌+◌, ◌-◌, ◌^◌, ◌≤◌, min, max, Bool, false, not, cond, List, [], ◌∷◌, ◌++◌, Option, length}
 use Rattle.std.specs.Option.{option_to_list}
 use Rattle.message.specs.Ranges.{before}
 use Rattle.scan.specs.Pairs.{from_unpassed}

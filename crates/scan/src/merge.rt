@@ -5,6 +5,7 @@ ghost use Rattle.std.specs.Prelude.{◌≡◌, ◌+◌, ◌++◌, ◌∷◌, Lis
 ghost use Rattle.std.specs.Option.{option_copied, option_to_list};
 ghost use Rattle.pathkey.specs.Keys.{is_below, next_key};
 ghost use Rattle.message.specs.Effects.{effects};
+ghost use Rattle.pending.specs.Ahead.{IsMet};
 ghost use Rattle.message.specs.Ranges.{before};
 ghost use Rattle.scan.specs.Merging.{AreAll, StartsFrom, IsMoved, LeavesGaps, IsMerged};
 ghost use Rattle.scan.specs.Stretches.{pair_of};
@@ -12,17 +13,17 @@ ghost use Rattle.scan.specs.Stretches.{pair_of};
 use message::Update;
 use message::ends::is_before_end;
 use pathkey::{Key, NoMemory};
-use pending::Pending;
+use pending::{Ahead, Met, Pending, next_met};
 use std::alloc::Global;
 use std::collections::VecDeque;
 
 /// Pushes what the messages make of the pairs `below`, which are all that stand from `from` up to `end`, until there are
 /// `limit` pairs.
-pub fn merge<U: Update>(
+pub fn merge<'m, U: Update>(
     alloc: Global,
-    list: &Pending<U>,
+    list: &'m Pending<U>,
     from: &Key,
-    end: Option<&Key>,
+    end: Option<&'m Key>,
     below: Vec<(Key, U::Value)>,
     limit: usize,
     pairs: &mut Vec<(Key, U::Value)>,
@@ -31,12 +32,13 @@ pub fn merge<U: Update>(
 {
     let mut rest = VecDeque::from_vec(below);
     let mut at = from.copy(alloc)?;
-    'points: while let Some(point) = list.next_point(&at, end) {
-        push_before(&mut rest, Some(point), limit, pairs)?;
+    let mut ahead = list.ahead(from);
+    'points: while let Some(met) = next_met(&mut ahead, &at, end) {
+        push_before(&mut rest, Some(met.key()), limit, pairs)?;
         if pairs.len() >= limit {
             return Ok(());
         }
-        at = push_at(alloc, list, point, &mut rest, pairs)?;
+        at = push_at(alloc, &ahead, &met, &mut rest, pairs)?;
     }
     push_before(&mut rest, end, limit, pairs)?;
     Ok(())
@@ -61,22 +63,24 @@ fn push_before<V: Drop>(
     Ok(())
 }
 
-/// Pushes what the messages make of the value at a key that no pair stands before, and answers the key behind it.
+/// Pushes what the messages make of the value at a key that was met and that no pair stands before, and answers the key behind it.
 fn push_at<U: Update>(
     alloc: Global,
-    list: &Pending<U>,
-    point: &Key,
+    ahead: &Ahead<'_, U>,
+    met: &Met<'_, U>,
     rest: &mut VecDeque<(Key, U::Value)>,
     pairs: &mut Vec<(Key, U::Value)>,
 ) -> Result<Key, NoMemory>
-    ensures key { IfOk result (λ next. next ≡ next_key point.now) }
-    ensures pushed { OnOk result ((child : List ℕ → Option U.Value) (end : Option (List ℕ)) → AreAll child point.now end rest.old.items → is_below point.now end ≡ true → pairs.new.items ≡ pairs.old.items ++ option_to_list (pair_of point.now (effects U.means list.now.0 point.now (child point.now)))) }
-    ensures left { OnOk result ((child : List ℕ → Option U.Value) (end : Option (List ℕ)) → AreAll child point.now end rest.old.items → is_below point.now end ≡ true → AreAll child (next_key point.now) end rest.new.items) }
+    requires { IsMet ahead.now.0 met.now }
+    ensures key { IfOk result (λ next. next ≡ next_key met.now.0) }
+    ensures pushed { OnOk result ((child : List ℕ → Option U.Value) (end : Option (List ℕ)) → AreAll child met.now.0 end rest.old.items → is_below met.now.0 end ≡ true → pairs.new.items ≡ pairs.old.items ++ option_to_list (pair_of met.now.0 (effects U.means ahead.now.0 met.now.0 (child met.now.0)))) }
+    ensures left { OnOk result ((child : List ℕ → Option U.Value) (end : Option (List ℕ)) → AreAll child met.now.0 end rest.old.items → is_below met.now.0 end ≡ true → AreAll child (next_key met.now.0) end rest.new.items) }
 {
-    let next = point.next(alloc)?;
+    let key = met.key();
+    let next = key.next(alloc)?;
     let old = take_before(rest, &next);
-    let value = list.value_after(alloc, point, old)?;
-    push_pair(alloc, point, value, pairs)?;
+    let value = ahead.value_after(alloc, met, old)?;
+    push_pair(alloc, key, value, pairs)?;
     Ok(next)
 }
 

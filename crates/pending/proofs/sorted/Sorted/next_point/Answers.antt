@@ -1,7 +1,7 @@
 use Rattle.std.proofs.Common.{◌∙◌, ap, sym, subst}
 use Rattle.std.specs.Option.{option_copied}
 use Rattle.message.specs.PointKeys.{point_stop, IsPointStop}
-use Rattle.points.specs.Points.{left, first_from}
+use Rattle.points.specs.Points.{left}
 use Rattle.points.proofs.Parting.{runs_left}
 use Rattle.pending.proofs.Runs.{left_keys, left_rises}
 use Rattle.pending.proofs.Stretching.{first_from_keys, sorted_stop}

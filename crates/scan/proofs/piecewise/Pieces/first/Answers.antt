@@ -1,8 +1,8 @@
-use Rattle.std.proofs.Common.{◌≡◌, false, max, min, cond, Bool, ℕ, ◌*◌, ap, sym, subst, ◌∙◌, not, [], refl}
+use Rattle.std.proofs.Common.{max, min, cond, Bool, ℕ, ◌*◌, ap, sym, subst, ◌∙◌, not, [], refl}
 use Rattle.std.specs.Prelude.{IfOk}
 use Rattle.message.specs.Ranges.{before}
 use Rattle.node.specs.Meaning.{value}
-use Rattle.scan.specs.Sizes.{IsPiece, is_walked, size_past, walked_for}
+use Rattle.scan.specs.Sizes.{IsPiece, size_past, walked_for}
 use Rattle.scan.proofs.AtHand.{ahead_over}
 use Rattle.scan.proofs.Sizes.{count_kept, count_raised, not_walked, walked_unless}
 use Rattle.scan.proofs.piecewise.Pieces.first.Goals as goal

@@ -1,4 +1,4 @@
-use Rattle.std.proofs.Common.{◌≡◌, ◌≤◌, ◌<◌, ℕ, arith, ap, sym, subst, length, max, nat_lt, [], refl}
+use Rattle.std.proofs.Common.{◌≤◌, ◌<◌, arith, ap, sym, subst, length, max, nat_lt}
 use Rattle.std.proofs.lemmas.Bool.Decides.{nat_tests}
 use Rattle.std.proofs.lemmas.List.{nil_from_length}
 use Rattle.node.specs.Meaning.{value}

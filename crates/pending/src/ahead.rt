@@ -1,0 +1,121 @@
+//! A walk through the keys of a list that have messages for them alone.
+//!
+//! Where all messages are sorted it goes along their entries, and searches for none. Else each key is searched for.
+ghost use Rattle.std.specs.Prelude.{◌≡◌, IfOk, IfSome, IfNone};
+ghost use Rattle.std.specs.Option.{option_copied, option_map};
+ghost use Rattle.pathkey.specs.Keys.{next_key};
+ghost use Rattle.message.specs.Effects.{effects};
+ghost use Rattle.message.specs.PointKeys.{IsNextPoint};
+ghost use Rattle.pending.specs.Ahead.{StandsAt, IsMet, IsPassed, BeginPast};
+
+use crate::pending::Pending;
+use crate::sorted::unless;
+use message::ends::is_before_end;
+use message::{Changes, Update};
+use pathkey::{Key, NoMemory};
+use points::Run;
+use rows::Walk;
+use std::alloc::Global;
+use std::marker::Model;
+
+/// A walk through the keys with messages for them alone. Contracts see the messages of the list, and the entries that are left where it
+/// goes along these.
+#[derive(Drop)]
+pub struct Ahead<'a, U: Changes> {
+    pub(crate) list: &'a Pending<U>,
+    pub(crate) rest: Option<Walk<'a, Run<U>>>,
+}
+
+impl<'a, U: Changes> Model for Ahead<'a, U> {
+    ghost use Rattle.std.specs.Prelude.{List, ℕ, Option};
+    ghost use Rattle.message.specs.declared.msg.Msg.{Msg};
+    ghost use Rattle.points.specs.Changes.{Change};
+
+    ghost Value = { List (Msg U U.Value) × Option (List (List ℕ × List (Change U U.Value))) };
+
+    ghost view = { λ a. (a.list.now.0, a.rest) };
+}
+
+/// A key that a walk met. Contracts see the key, and the changes that wait there where these were met too.
+#[derive(Drop)]
+pub struct Met<'a, U: Changes> {
+    key: &'a Key,
+    run: Option<&'a Run<U>>,
+}
+
+impl<'a, U: Changes> Model for Met<'a, U> {
+    ghost use Rattle.std.specs.Prelude.{List, ℕ, Option};
+    ghost use Rattle.std.specs.Option.{option_copied};
+    ghost use Rattle.points.specs.Changes.{Change};
+
+    ghost Value = { List ℕ × Option (List (Change U U.Value)) };
+
+    ghost view = { λ m. (m.key.now, option_copied m.run) };
+}
+
+impl<'a, U: Update> Met<'a, U> {
+    /// The key.
+    pub fn key(&self) -> &'a Key
+        ensures { result.now ≡ self.now.0 }
+    {
+        self.key
+    }
+}
+
+impl<'a, U: Update> Ahead<'a, U> {
+    /// The value at the key after the messages, where `old` was there.
+    pub fn value_after(
+        &self,
+        alloc: Global,
+        met: &Met<'_, U>,
+        old: Option<U::Value>,
+    ) -> Result<Option<U::Value>, NoMemory>
+        requires { IsMet self.now.0 met.now }
+        ensures { IfOk result (λ v. v ≡ effects U.means self.now.0 met.now.0 old) }
+    {
+        let Some(run) = met.run else {
+            return self.list.value_after(alloc, met.key, old);
+        };
+        let below = unless(self.list.is_cleared(met.key), old);
+        run.apply(alloc, 0, below)
+    }
+}
+
+/// The first key from `from` up to and without `end` that has a message for it alone, if there is one. The walk then stands behind it.
+pub fn next_met<'a: 'b, 'b, U: Update>(
+    ahead: &mut Ahead<'a, U>,
+    from: &'b Key,
+    end: Option<&'b Key>,
+) -> Option<Met<'b, U>>
+    requires { StandsAt from.now ahead.old }
+    ensures same { ahead.new.0 ≡ ahead.old.0 }
+    ensures point { IsNextPoint ahead.old.0 from.now (option_copied end.entry) (option_map (λ m. m.0) result) }
+    ensures stands { IfSome result (λ m. StandsAt (next_key m.0) ahead.new) }
+    ensures met { IfSome result (λ m. IsMet ahead.old.0 m) }
+{
+    if let Some(rest) = &mut ahead.rest {
+        return pass_before(rest, end);
+    }
+    match ahead.list.next_point(from, end) {
+        None => None,
+        Some(key) => Some(Met { key, run: None }),
+    }
+}
+
+/// Goes past the first entry that is left, if its key stands before the end.
+fn pass_before<'a, U: Update>(rest: &mut Walk<'a, Run<U>>, end: Option<&Key>) -> Option<Met<'a, U>>
+    ensures some { IfSome result (λ m. IsPassed (option_copied end.entry) rest.old rest.new m) }
+    ensures none { IfNone result ((rest.new ≡ rest.old) × BeginPast (option_copied end.entry) rest.old) }
+{
+    let Some((key, run)) = rest.peek() else {
+        return None;
+    };
+    if !is_before_end(key, end) {
+        return None;
+    }
+    rest.next();
+    Some(Met {
+        key,
+        run: Some(run),
+    })
+}
