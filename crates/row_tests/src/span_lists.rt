@@ -1,5 +1,5 @@
 //! What becomes of lists of ranges.
-use crate::numbers::{Span, cut, has, joined, laid, lay};
+use crate::spans::{Span, cut, has, joined, laid, lay};
 use pathkey::NoMemory;
 use ranges::Ranges;
 use std::alloc::Global;
