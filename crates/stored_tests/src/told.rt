@@ -1,5 +1,5 @@
 //! Bodies told as lines of a script, against lines that were written by hand.
-use crate::by_hand::{FIRST_BODY, SECOND_BODY, THIRD_BODY};
+use crate::log_by_hand::{FIRST_BODY, SECOND_BODY, THIRD_BODY};
 use log_lines::log_lines;
 use logs::lay::{lay_keep, lay_on_path, lay_punch, lay_rename, lay_truncate, lay_write};
 use logs::{Keeping, PathChange};

@@ -1,5 +1,5 @@
 //! A log that is cut at each of its bytes, and one of which each byte is changed.
-use crate::by_hand::{
+use crate::log_by_hand::{
     FIRST, FIRST_BODY, FIRST_END, LOG, SECOND_BODY, SECOND_END, SIZE, THIRD_BODY,
 };
 use logs::lay::lay_ends;

@@ -1,5 +1,5 @@
 //! Of many files and one change the delta is short.
-use crate::by_hand::{apply, delta_of, image_of, load};
+use crate::deltas_by_hand::{apply, delta_of, image_of, load};
 use std::alloc::Global;
 use std::test::Fail;
 use volume::{Errno, Path, Volume};

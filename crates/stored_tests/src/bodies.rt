@@ -1,5 +1,5 @@
 //! Changes as bytes and back, against bytes that were made by hand.
-use crate::by_hand::{FIRST_BODY, SECOND_BODY, THIRD_BODY};
+use crate::log_by_hand::{FIRST_BODY, SECOND_BODY, THIRD_BODY};
 use logs::lay::{lay_keep, lay_on_path, lay_punch, lay_rename, lay_truncate, lay_write};
 use logs::{Change, Keeping, PathChange, read_changes};
 use pathkey::Errno;

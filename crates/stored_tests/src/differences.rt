@@ -1,5 +1,5 @@
 //! What is printed of two trees, and what a volume has when it is applied.
-use crate::by_hand::{TREE, apply, between, delta, image_of, load};
+use crate::deltas_by_hand::{TREE, apply, between, delta, image_of, load};
 use std::alloc::Global;
 use std::test::Fail;
 

@@ -1,5 +1,5 @@
 //! Texts that are no deltas, deltas of other trees, and deltas that make no image.
-use crate::by_hand::{FIRST, TREE, apply, delta, image_of, load};
+use crate::deltas_by_hand::{FIRST, TREE, apply, delta, image_of, load};
 use delta::DeltaFault;
 use std::alloc::Global;
 use std::test::Fail;

@@ -1,14 +1,7 @@
 //! Files of which parts were made zeros. No function here ensures anything, so that no proof of a test reads the contract of a volume.
-use node::Shape;
+use crate::small::SMALL;
 use std::alloc::Global;
 use volume::{Errno, Frozen, Kind, Path, SnapName, Volume};
-
-/// The smallest shape.
-const SMALL: Shape = Shape {
-    fanout: 4,
-    pending: 4,
-    leaf: 4,
-};
 
 /// How many bytes have which value.
 type Run = (u64, u8);

@@ -1,16 +1,11 @@
 //! What a log makes of a volume.
-use crate::by_hand::{FIRST, FIRST_END, LOG, SECOND_END, SIZE};
+use crate::log_by_hand::{FIRST, FIRST_END, LOG, SECOND_END, SIZE};
+use crate::small::SMALL;
 use pathkey::{Errno, Path};
 use recovery::{Replayed, Stopped, replay};
 use std::alloc::Global;
 use std::test::Fail;
-use volume::{Shape, Volume};
-
-const SHAPE: Shape = Shape {
-    fanout: 4,
-    pending: 4,
-    leaf: 4,
-};
+use volume::Volume;
 
 /// The first bytes of the log.
 fn front(end: usize) -> &'static [u8] {
@@ -26,7 +21,7 @@ fn length_at(alloc: Global, volume: &Volume) -> Result<u64, Errno> {
 
 /// What is told of a log on a new volume, and the length of the file.
 fn replayed(alloc: Global, log: &[u8], number: u64) -> Option<(Replayed, Result<u64, Errno>)> {
-    let Ok(mut volume) = Volume::new(alloc, SHAPE) else {
+    let Ok(mut volume) = Volume::new(alloc, SMALL) else {
         return None;
     };
     if number > 1000 || log.len() > 1000 {
