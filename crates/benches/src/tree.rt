@@ -1,17 +1,15 @@
-//! `tree_bench`: times of a tree beside a map of std, in one run; what scripts can measure stands in `bench/`.
+//! A tree beside a map of std.
 //!
-//! Without an argument it does a little of the work and says how much it found. `tree_bench measure` does all of it
-//! and prints nanoseconds an operation; `tree_bench tree` and `tree_bench map` do the appends alone, for a
+//! Without a word it does a little of the work and says how much it found. `benches tree measure` does all of it
+//! and prints nanoseconds an operation; `benches tree tree` and `benches tree map` do the appends alone, for a
 //! measurement of memory from outside.
-#![tactic(auto)]
+use crate::tree::measure::{ALL, LIMIT, appends, edits, look_ups};
+use crate::tree::work::{Appended, Numbers, append, insert, look_up, new_tree, settle};
+use std::collections::BTreeMap;
 
 pub mod measure;
 pub mod number;
 pub mod work;
-
-use crate::measure::{ALL, LIMIT, appends, edits, look_ups};
-use crate::work::{Appended, Numbers, append, insert, look_up, new_tree, settle};
-use std::collections::BTreeMap;
 
 /// The keys of a little of the work, each six times.
 const FEW: Numbers = Numbers {
@@ -20,19 +18,11 @@ const FEW: Numbers = Numbers {
     count: 6_000,
 };
 
-fn main(rt: HostRuntime) -> anyhow::Result<()> {
-    let alloc = rt.alloc();
-    let words: Vec<String> = std::env::args(&rt)?.collect(alloc)?;
-    match words.get(1) {
-        None => little(&rt),
-        Some(word) => do_work(&rt, word.as_str()),
-    }
-}
-
 /// The work that a word names.
-fn do_work(rt: &HostRuntime, word: &str) -> anyhow::Result<()> {
+pub fn do_work(rt: &HostRuntime, word: &str) -> anyhow::Result<()> {
     let alloc = rt.alloc();
     match word {
+        "" => little(rt)?,
         "measure" => {
             look_ups(rt, alloc)?;
             appends(rt, alloc)?;
@@ -40,7 +30,7 @@ fn do_work(rt: &HostRuntime, word: &str) -> anyhow::Result<()> {
         }
         "tree" => append(alloc, &mut new_tree(alloc)?, Appended::Put, ALL, LIMIT)?,
         "map" => insert(alloc, &mut BTreeMap::new(alloc), ALL)?,
-        _ => eprintln!(rt; "tree_bench: no such work: {word}")?,
+        _ => eprintln!(rt; "benches tree: no such work: {word}")?,
     }
     Ok(())
 }

@@ -1,5 +1,5 @@
 //! The same work on a tree and on a map of std.
-use crate::number::Set;
+use crate::tree::number::Set;
 use lookup::get;
 use message::Msg;
 use node::count::held;

@@ -1,5 +1,5 @@
 //! The table of figures, and a little of the work.
-use crate::measure::{Figures, engine_shared, map_shared, volume_alone, volume_relieved};
+use crate::clients::measure::{Figures, engine_shared, map_shared, volume_alone, volume_relieved};
 use std::alloc::Global;
 use std::rt::Clock;
 use std::sync::Wait;

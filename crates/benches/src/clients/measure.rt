@@ -1,9 +1,9 @@
 //! How long the work takes, by so many threads, on each side.
 ghost use Rattle.std.specs.Prelude.{◌≡◌, ◌≤◌};
 
-use crate::flushers::{Watch, start};
-use crate::map::Files;
-use crate::work::{Kind, Relieved, Share, Store, calls_of, do_share};
+use crate::clients::flushers::{Watch, start};
+use crate::clients::map::Files;
+use crate::clients::work::{Kind, Relieved, Share, Store, calls_of, do_share};
 use engine::{Client, Engine, Naming, Room};
 use node::Shape;
 use std::alloc::Global;

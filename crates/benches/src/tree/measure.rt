@@ -1,6 +1,8 @@
 //! How long the work takes, on a tree and on a map of std.
-use crate::number::Set;
-use crate::work::{Appended, Numbers, append, insert, look_up, look_up_map, new_tree, settle};
+use crate::tree::number::Set;
+use crate::tree::work::{
+    Appended, Numbers, append, insert, look_up, look_up_map, new_tree, settle,
+};
 use node::Tree;
 use pathkey::Key;
 use std::alloc::Global;

@@ -1,5 +1,5 @@
 //! A map of std under a lock, which holds the bytes of each file under its path's key.
-use crate::work::Store;
+use crate::clients::work::Store;
 use pathkey::{Key, Path};
 use reference::Call;
 use std::alloc::Global;
