@@ -1,4 +1,5 @@
-//! Tests of entries in shared rows: each call on lists of numbers, and lists that share rows, whose entries tell which were copied.
+//! Tests of entries in shared rows, and of ranges that lie apart: each call on lists of numbers, lists that share rows, whose entries
+//! tell which were copied, and lists of ranges in plain numbers.
 //!
 //! They stand in a crate of their own, since what a crate with tests proves is proved once more with them.
 #![tactic(auto)]
@@ -9,3 +10,7 @@ mod lists;
 mod numbers;
 #[cfg(test)]
 mod shared;
+#[cfg(test)]
+mod span_lists;
+#[cfg(test)]
+mod spans;

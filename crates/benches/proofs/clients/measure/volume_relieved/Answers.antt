@@ -1,0 +1,7 @@
+use denote.Param.Send.{sendable}
+use Rattle.std.proofs.Crossing.{crosses}
+use Rattle.engine.proofs.Sent.{volume_send}
+use Rattle.benches.proofs.clients.measure.volume_relieved.Goals as goal
+
+pub time_all-requires-send-S : goal.time_all-requires-send-S
+time_all-requires-send-S g c = λ κs lives. search (volume_send, sendable, crosses) depth 20

@@ -1,0 +1,194 @@
+//! How long the work takes, by so many threads, on each side.
+ghost use Rattle.std.specs.Prelude.{◌≡◌, ◌≤◌};
+
+use crate::clients::flushers::{Watch, start};
+use crate::clients::map::Files;
+use crate::clients::work::{Kind, Relieved, Share, Store, calls_of, do_share};
+use engine::{Client, Engine, Naming, Room};
+use node::Shape;
+use std::alloc::Global;
+use std::collections::BTreeMap;
+use std::marker::Brand;
+use std::rt::Clock;
+use std::sync::atomic::{AtomicU64, Ordering};
+use std::sync::{Mutex, Wait};
+use std::thread::{Threads, for_each_mut, scope, scope_env};
+use std::time::Instant;
+use volume::Volume;
+
+/// The shape of the trees.
+const SHAPE: Shape = Shape::USUAL;
+
+/// Nanoseconds of all calls of a kind, and how many turns flushers made meanwhile.
+#[derive(Clone, Copy)]
+pub struct Figures {
+    /// Of all creates.
+    pub create: u64,
+    /// Of all writes.
+    pub write: u64,
+    /// Of all stats.
+    pub stat: u64,
+    /// How many turns were made.
+    pub turns: u64,
+}
+
+impl Figures {
+    /// The lesser times of both, and the greater number of turns.
+    pub fn least(self, other: Figures) -> Figures {
+        Figures {
+            create: self.create.min(other.create),
+            write: self.write.min(other.write),
+            stat: self.stat.min(other.stat),
+            turns: self.turns.max(other.turns),
+        }
+    }
+}
+
+/// Does a kind of call by a thread for each store, which share the files. How long it took; none where a call was not
+/// answered as it has to be.
+fn time<S: Store + Send, R: Threads + Wait + Clock + Sync>(
+    rt: &R,
+    alloc: Global,
+    stores: &mut [S],
+    files: u64,
+    kind: Kind,
+) -> Option<u64> {
+    let count = stores.len().max(1);
+    let files = files.checked_div(count as u64)?;
+    let wanted = calls_of(kind, files).wrapping_mul(count as u64);
+    let done = AtomicU64::new(0);
+    let start = Instant::now(rt).ok()?;
+    for_each_mut(
+        rt,
+        stores,
+        count,
+        &|client, store| {
+            let share = Share { client, files };
+            done.fetch_add(do_share(rt, alloc, store, share, kind), Ordering::Relaxed);
+        },
+    );
+    let time = u64::try_from(start.elapsed(rt).ok()?.as_nanos()).ok()?;
+    (done.load(Ordering::Relaxed) == wanted).then_some(time)
+}
+
+/// Does all the work, one kind of call after the other.
+fn time_all<S: Store + Send, R: Threads + Wait + Clock + Sync>(
+    rt: &R,
+    alloc: Global,
+    stores: &mut [S],
+    files: u64,
+) -> Option<Figures> {
+    time(rt, alloc, stores, files, Kind::Mkdir)?;
+    Some(Figures {
+        create: time(rt, alloc, stores, files, Kind::Create)?,
+        write: time(rt, alloc, stores, files, Kind::Write)?,
+        stat: time(rt, alloc, stores, files, Kind::Stat)?,
+        turns: 0,
+    })
+}
+
+/// A volume alone, which one thread calls.
+pub fn volume_alone<R: Threads + Wait + Clock + Sync>(
+    rt: &R,
+    alloc: Global,
+    files: u64,
+) -> Option<Figures> {
+    let mut volumes = Vec::new(alloc);
+    volumes.push(Volume::new(alloc, SHAPE).ok()?).ok()?;
+    time_all(rt, alloc, volumes.as_mut_slice(), files)
+}
+
+/// A volume that one thread calls, which does one step after each call.
+pub fn volume_relieved<R: Threads + Wait + Clock + Sync>(
+    rt: &R,
+    alloc: Global,
+    files: u64,
+) -> Option<Figures> {
+    let mut volumes = Vec::new(alloc);
+    let volume = Volume::new(alloc, SHAPE).ok()?;
+    volumes.push(Relieved { volume }).ok()?;
+    time_all(rt, alloc, volumes.as_mut_slice(), files)
+}
+
+/// A map under a lock, which so many threads call.
+pub fn map_shared<R: Threads + Wait + Clock + Sync>(
+    rt: &R,
+    alloc: Global,
+    files: u64,
+    threads: usize,
+) -> Option<Figures> {
+    let map: Mutex<Files> = Mutex::new(BTreeMap::new(alloc));
+    let mut stores = Vec::new(alloc);
+    for _ in 0..threads {
+        stores.push(&map).ok()?;
+    }
+    time_all(rt, alloc, stores.as_mut_slice(), files)
+}
+
+/// Clients do the work while flushers make turns.
+fn beside<J: Naming + Send + Sync, R: Threads + Wait + Clock + Sync>(
+    rt: &R,
+    alloc: Global,
+    engine: &mut Engine<J>,
+    clients: &mut [Client<J>],
+    files: u64,
+    flushers: u8,
+) -> Option<Figures> {
+    let watch = Watch::new();
+    let figures = scope(scope_env(), rt, |scope| {
+        for _ in 0..flushers {
+            if let Ok(flusher) = engine.flusher() {
+                start(scope, rt, alloc, flusher, &watch);
+            }
+        }
+        let figures = time_all(rt, alloc, clients, files);
+        watch.stop.store(true, Ordering::Relaxed);
+        figures
+    })?;
+    Some(Figures {
+        turns: watch.turns.load(Ordering::Relaxed),
+        ..figures
+    })
+}
+
+/// An engine in the room, which so many clients call.
+fn in_room<J: Naming + Send + Sync, R: Threads + Wait + Clock + Sync>(
+    rt: &R,
+    alloc: Global,
+    room: Room,
+    files: u64,
+    clients: usize,
+    flushers: u8,
+) -> Option<Figures>
+    requires names { (room.0 ≡ J.table) × (room.1 ≡ J.opening) × (J.clients ≡ clients) }
+    requires few { (1 ≤ clients) × (clients ≤ 64) }
+{
+    let (mut engine, mut clients) = Engine::<J>::open(alloc, room, clients).ok()?;
+    beside(
+        rt,
+        alloc,
+        &mut engine,
+        clients.as_mut_slice(),
+        files,
+        flushers,
+    )
+}
+
+/// A room with a new volume.
+fn new_room(alloc: Global) -> Option<Room> {
+    let volume = Volume::new(alloc, SHAPE).ok()?;
+    Room::new(alloc, volume).ok()
+}
+
+/// An engine which so many clients call while so many flushers make turns.
+pub fn engine_shared<R: Threads + Wait + Clock + Sync>(
+    rt: &R,
+    alloc: Global,
+    files: u64,
+    clients: usize,
+    flushers: u8,
+) -> Option<Figures>
+    requires { (1 ≤ clients) × (clients ≤ 64) }
+{
+    in_room::<Brand, R>(rt, alloc, new_room(alloc)?, files, clients, flushers)
+}

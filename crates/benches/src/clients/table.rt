@@ -1,0 +1,170 @@
+//! The table of figures, and a little of the work.
+use crate::clients::measure::{Figures, engine_shared, map_shared, volume_alone, volume_relieved};
+use std::alloc::Global;
+use std::rt::Clock;
+use std::sync::Wait;
+use std::thread::Threads;
+
+/// How many files are made in all: a power of two.
+const FILES: u64 = 65_536;
+
+/// How many runs there are of each row.
+const RUNS: u32 = 5;
+
+/// How many files are made where only a little of the work is done.
+const FEW: u64 = 64;
+
+/// A row of the table.
+#[derive(Clone, Copy)]
+pub enum Row {
+    /// A volume alone.
+    Volume,
+    /// A volume alone, with one step after each call.
+    Relieved,
+    /// So many threads on a map under a lock.
+    Map(usize),
+    /// So many clients of an engine, beside so many flushers.
+    Engine(usize, u8),
+}
+
+/// The rows.
+const ROWS: &[Row] = &[
+    Row::Volume,
+    Row::Relieved,
+    Row::Engine(1, 0),
+    Row::Engine(2, 0),
+    Row::Engine(4, 0),
+    Row::Engine(1, 1),
+    Row::Engine(2, 1),
+    Row::Engine(4, 1),
+    Row::Engine(1, 2),
+    Row::Engine(2, 2),
+    Row::Engine(4, 2),
+    Row::Map(1),
+    Row::Map(2),
+    Row::Map(4),
+];
+
+/// The figures of a row, of one run.
+fn figures_of<R: Threads + Wait + Clock + Sync>(
+    rt: &R,
+    alloc: Global,
+    row: Row,
+    files: u64,
+) -> Option<Figures> {
+    match row {
+        Row::Volume => volume_alone(rt, alloc, files),
+        Row::Relieved => volume_relieved(rt, alloc, files),
+        Row::Map(threads) => map_shared(rt, alloc, files, threads),
+        Row::Engine(clients, flushers) => {
+            engine_shared(rt, alloc, files, clients.clamp(1, 64), flushers)
+        }
+    }
+}
+
+/// The least figures of all runs.
+fn least_of<R: Threads + Wait + Clock + Sync>(
+    rt: &R,
+    alloc: Global,
+    row: Row,
+    files: u64,
+) -> Option<Figures> {
+    let mut least = figures_of(rt, alloc, row, files)?;
+    for _ in 1..RUNS {
+        least = least.least(figures_of(rt, alloc, row, files)?);
+    }
+    Some(least)
+}
+
+/// Prints what a row is.
+fn show_name(rt: &impl Print, row: Row) -> anyhow::Result<()> {
+    match row {
+        Row::Volume => print!(rt; "volume alone: ")?,
+        Row::Relieved => print!(rt; "volume, one step after each call: ")?,
+        Row::Map(threads) => print!(rt; "map, threads {threads}: ")?,
+        Row::Engine(clients, flushers) => {
+            print!(rt; "clients {clients}, flushers {flushers}: ")?
+        }
+    }
+    Ok(())
+}
+
+/// Prints the figures of a row.
+fn show_figures(rt: &impl Print, figures: Figures, files: u64) -> anyhow::Result<()> {
+    let all = figures
+        .create
+        .saturating_add(figures.write)
+        .saturating_add(figures.stat);
+    let [create, write, stat] = [figures.create, figures.write, figures.stat].map(|time| time
+        .checked_div(files)
+        .unwrap_or(0));
+    let rate = files
+        .saturating_mul(3_000_000)
+        .checked_div(all)
+        .unwrap_or(0);
+    let turns = figures.turns;
+    println!(rt;
+        "create {create} ns, write {write} ns, stat {stat} ns; {rate} thousand calls a second; {turns} turns"
+    )?;
+    Ok(())
+}
+
+/// Prints a row.
+fn show(rt: &impl Print, row: Row, figures: Option<Figures>, files: u64) -> anyhow::Result<()> {
+    show_name(rt, row)?;
+    match figures {
+        Some(figures) => show_figures(rt, figures, files),
+        None => {
+            println!(rt; "not all calls were answered as they have to be")?;
+            Ok(())
+        }
+    }
+}
+
+/// Prints all rows.
+pub fn measure<R: Threads + Wait + Clock + Print + Sync>(
+    rt: &R,
+    alloc: Global,
+) -> anyhow::Result<()> {
+    for row in ROWS {
+        show(rt, *row, least_of(rt, alloc, *row, FILES), FILES)?;
+    }
+    Ok(())
+}
+
+/// Prints the row of one client beside one flusher for twice and four times as many files.
+pub fn measure_growth<R: Threads + Wait + Clock + Print + Sync>(
+    rt: &R,
+    alloc: Global,
+) -> anyhow::Result<()> {
+    let row = Row::Engine(1, 1);
+    for files in [FILES / 2, FILES, 2 * FILES] {
+        print!(rt; "{files} files, ")?;
+        show(rt, row, least_of(rt, alloc, row, files), files)?;
+    }
+    Ok(())
+}
+
+/// Prints one run of a row.
+pub fn show_once<R: Threads + Wait + Clock + Print + Sync>(
+    rt: &R,
+    alloc: Global,
+    row: Row,
+) -> anyhow::Result<()> {
+    show(rt, row, figures_of(rt, alloc, row, FILES), FILES)
+}
+
+/// A little of the work.
+pub fn few_calls<R: Threads + Wait + Clock + Print + Sync>(
+    rt: &R,
+    alloc: Global,
+) -> anyhow::Result<()> {
+    let mut right = 0u64;
+    for row in ROWS {
+        let is_right = figures_of(rt, alloc, *row, FEW).is_some();
+        right = right.wrapping_add(u64::from(is_right));
+    }
+    let rows = ROWS.len();
+    println!(rt; "{right} of {rows} rows answered as they have to be")?;
+    Ok(())
+}

@@ -1,0 +1,33 @@
+//! `benches`: times beside a map of std, in one run; what scripts can measure stands in `bench/`.
+//!
+//! The first word says of what: `benches tree` of a tree (`tree.rt`), `benches clients` of clients of an engine and of a volume alone
+//! (`clients.rt`). The next says which work. Without it a little of the work is done, and without the first a little of both.
+#![tactic(auto)]
+
+pub mod clients;
+pub mod tree;
+
+fn main(rt: HostRuntime) -> anyhow::Result<()> {
+    let words: Vec<String> = std::env::args(&rt)?.collect(rt.alloc())?;
+    let work = word_at(words.as_slice(), 2);
+    match word_at(words.as_slice(), 1) {
+        "" => {
+            tree::do_work(&rt, work)?;
+            clients::do_work(&rt, rt.alloc(), work)
+        }
+        "tree" => tree::do_work(&rt, work),
+        "clients" => clients::do_work(&rt, rt.alloc(), work),
+        word => {
+            eprintln!(rt; "benches: no such work: {word}")?;
+            Ok(())
+        }
+    }
+}
+
+/// The word at a place, or an empty one where there is none.
+fn word_at(words: &[String], place: usize) -> &str {
+    match words.get(place) {
+        Some(word) => word.as_str(),
+        None => "",
+    }
+}

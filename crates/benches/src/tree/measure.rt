@@ -1,0 +1,137 @@
+//! How long the work takes, on a tree and on a map of std.
+use crate::tree::number::Set;
+use crate::tree::work::{
+    Appended, Numbers, append, insert, look_up, look_up_map, new_tree, settle,
+};
+use node::Tree;
+use pathkey::Key;
+use std::alloc::Global;
+use std::collections::BTreeMap;
+use std::rt::Clock;
+use std::time::{Duration, Instant};
+
+/// How many messages may wait in the root of a tree that is flushed.
+pub const LIMIT: usize = 4_096;
+
+/// As many keys as messages.
+pub const ALL: Numbers = Numbers {
+    first: 0,
+    keys: 1_000_000,
+    count: 1_000_000,
+};
+
+/// The keys of a settled tree, each once.
+const SETTLED: Numbers = Numbers {
+    first: 0,
+    keys: 100_000,
+    count: 100_000,
+};
+
+/// Some of these keys, each once.
+const WAITING: Numbers = Numbers {
+    count: 4_096,
+    ..SETTLED
+};
+
+/// These keys, ten times each.
+const LOOKED_UP: Numbers = Numbers {
+    count: 1_000_000,
+    ..SETTLED
+};
+
+/// Other keys, few of them, a thousand times each.
+const EDITED: Numbers = Numbers {
+    first: 100_000,
+    keys: 1_000,
+    count: 1_000_000,
+};
+
+/// Nanoseconds for each of so many operations.
+fn each(time: Duration, numbers: Numbers) -> u128 {
+    time.as_nanos()
+        .checked_div(numbers.count as u128)
+        .unwrap_or(0)
+}
+
+/// Look-ups in a settled tree and then with messages that wait in its root, and in a map of the same keys.
+pub fn look_ups(rt: &(impl Clock + Print), alloc: Global) -> anyhow::Result<()> {
+    let mut tree = new_tree(alloc)?;
+    append(alloc, &mut tree, Appended::Put, SETTLED, LIMIT)?;
+    let steps = settle(alloc, &mut tree);
+    println!(rt; "settled in {steps} steps")?;
+    let mut map = BTreeMap::new(alloc);
+    insert(alloc, &mut map, SETTLED)?;
+    time_look_ups(rt, alloc, &tree, &map)?;
+    append(alloc, &mut tree, Appended::Put, WAITING, LIMIT)?;
+    time_look_ups(rt, alloc, &tree, &map)
+}
+
+/// Look-ups in a tree and in a map of the same keys.
+fn time_look_ups(
+    rt: &(impl Clock + Print),
+    alloc: Global,
+    tree: &Tree<Set>,
+    map: &BTreeMap<Key, u64>,
+) -> anyhow::Result<()> {
+    let pending = tree.shape_report().pending;
+    let start = Instant::now(rt)?;
+    let found = look_up(alloc, tree, LOOKED_UP)?;
+    let tree_time = each(start.elapsed(rt)?, LOOKED_UP);
+    let start = Instant::now(rt)?;
+    let there = look_up_map(alloc, map, LOOKED_UP)?;
+    let map_time = each(start.elapsed(rt)?, LOOKED_UP);
+    println!(rt;
+        "look-up, {pending} pending: tree {tree_time} ns, map {map_time} ns; found {found} and {there}"
+    )?;
+    Ok(())
+}
+
+/// Appends with flushes, where no message or many may wait in the root, and inserts into a map of the same keys.
+pub fn appends(rt: &(impl Clock + Print), alloc: Global) -> anyhow::Result<()> {
+    for limit in [0, LIMIT] {
+        let mut tree = new_tree(alloc)?;
+        let time = time_appends(rt, alloc, &mut tree, Appended::Put, ALL, limit)?;
+        let map_time = time_inserts(rt, alloc, ALL)?;
+        let report = tree.shape_report();
+        let (levels, entries, pending) = (report.levels, report.entries, report.pending);
+        println!(rt; "{levels} levels, {entries} entries, {pending} pending")?;
+        println!(rt; "append, at most {limit} waiting: tree {time} ns, map {map_time} ns")?;
+    }
+    Ok(())
+}
+
+/// Updates of few keys, which join, where no message or many of other keys wait, and inserts into a map of the same keys.
+pub fn edits(rt: &(impl Clock + Print), alloc: Global) -> anyhow::Result<()> {
+    for count in [0, WAITING.count] {
+        let mut tree = new_tree(alloc)?;
+        let others = Numbers { count, ..WAITING };
+        append(alloc, &mut tree, Appended::Put, others, LIMIT)?;
+        let time = time_appends(rt, alloc, &mut tree, Appended::Edit, EDITED, usize::MAX)?;
+        let map_time = time_inserts(rt, alloc, EDITED)?;
+        let pending = tree.shape_report().pending;
+        println!(rt; "edit, {pending} pending: tree {time} ns, map {map_time} ns")?;
+    }
+    Ok(())
+}
+
+/// How long an append to a tree takes.
+fn time_appends(
+    rt: &impl Clock,
+    alloc: Global,
+    tree: &mut Tree<Set>,
+    what: Appended,
+    numbers: Numbers,
+    limit: usize,
+) -> anyhow::Result<u128> {
+    let start = Instant::now(rt)?;
+    append(alloc, tree, what, numbers, limit)?;
+    Ok(each(start.elapsed(rt)?, numbers))
+}
+
+/// How long an insert into a map takes.
+fn time_inserts(rt: &impl Clock, alloc: Global, numbers: Numbers) -> anyhow::Result<u128> {
+    let mut map = BTreeMap::new(alloc);
+    let start = Instant::now(rt)?;
+    insert(alloc, &mut map, numbers)?;
+    Ok(each(start.elapsed(rt)?, numbers))
+}

@@ -1,0 +1,151 @@
+//! The same work on a tree and on a map of std.
+use crate::tree::number::Set;
+use lookup::get;
+use message::Msg;
+use node::count::held;
+use node::{Shape, StepReply, Tree};
+use pathkey::{Key, NoMemory};
+use std::alloc::Global;
+use std::collections::BTreeMap;
+use steps::relieve;
+
+/// The shape of the trees.
+const SHAPE: Shape = Shape::USUAL;
+
+/// The numbers of keys, in turn.
+#[derive(Clone, Copy)]
+pub struct Numbers {
+    /// The first number.
+    pub first: u64,
+    /// How many numbers there are.
+    pub keys: u64,
+    /// How many are taken in all, from the first again after the last.
+    pub count: u64,
+}
+
+impl Numbers {
+    /// The key that is taken at a place in turn.
+    fn key(self, alloc: Global, place: u64) -> Result<Key, NoMemory> {
+        let number = place.checked_rem(self.keys).unwrap_or(0);
+        key(alloc, self.first.wrapping_add(number))
+    }
+}
+
+/// The key with a number: eight bytes in which neighbours lie far apart.
+fn key(alloc: Global, number: u64) -> Result<Key, NoMemory> {
+    let scattered = number.wrapping_mul(0x9E37_79B9_7F4A_7C15);
+    Key::from_bytes(alloc, &scattered.to_be_bytes())
+}
+
+/// How many messages wait in the root.
+fn waiting(tree: &Tree<Set>) -> u128 {
+    match tree.root().slots() {
+        Some(slots) => held(slots),
+        None => 0,
+    }
+}
+
+/// Does a step that relieves the tree; whether one was done.
+fn is_relieved(alloc: Global, tree: &mut Tree<Set>) -> bool {
+    match relieve(alloc, tree) {
+        Some(turn) => matches!(turn.reply, StepReply::Did(_)),
+        None => false,
+    }
+}
+
+/// Does one step that relieves the tree where more than `limit` pieces wait in its root.
+fn relieve_above(alloc: Global, tree: &mut Tree<Set>, limit: usize) -> Result<(), NoMemory> {
+    if waiting(tree) > limit as u128 && !is_relieved(alloc, tree) {
+        return Err(NoMemory);
+    }
+    Ok(())
+}
+
+/// What is appended for a key.
+#[derive(Clone, Copy)]
+pub enum Appended {
+    /// Its value.
+    Put,
+    /// An update that sets its value, and joins those before it.
+    Edit,
+}
+
+impl Appended {
+    /// The message that gives the key the value.
+    fn msg(self, key: Key, value: u64) -> Msg<Set> {
+        match self {
+            Appended::Put => Msg::Put(key, value),
+            Appended::Edit => Msg::Edit(key, Set(value)),
+        }
+    }
+}
+
+/// Gives the keys values in turn; flushes while more than `limit` pieces wait in the root.
+pub fn append(
+    alloc: Global,
+    tree: &mut Tree<Set>,
+    what: Appended,
+    numbers: Numbers,
+    limit: usize,
+) -> Result<(), NoMemory> {
+    for i in 0..numbers.count {
+        tree.append_one(alloc, what.msg(numbers.key(alloc, i)?, i))?;
+        relieve_above(alloc, tree, limit)?;
+    }
+    Ok(())
+}
+
+/// A tree without messages.
+pub fn new_tree(alloc: Global) -> Result<Tree<Set>, NoMemory> {
+    Tree::new(alloc, SHAPE)
+}
+
+/// Flushes until nothing is pending; gives the number of steps.
+pub fn settle(alloc: Global, tree: &mut Tree<Set>) -> u64 {
+    for steps in 0..10_000_000 {
+        if !is_relieved(alloc, tree) {
+            return steps;
+        }
+    }
+    10_000_000
+}
+
+/// Looks the keys up in turn; gives how many were found.
+pub fn look_up(alloc: Global, tree: &Tree<Set>, numbers: Numbers) -> Result<u64, NoMemory> {
+    let mut found = 0u64;
+    for i in 0..numbers.count {
+        if get(alloc, tree, &numbers.key(alloc, i)?)?.is_some() {
+            found = found.wrapping_add(1);
+        }
+    }
+    Ok(found)
+}
+
+/// The same inserts into a map.
+pub fn insert(
+    alloc: Global,
+    map: &mut BTreeMap<Key, u64>,
+    numbers: Numbers,
+) -> Result<(), NoMemory> {
+    for i in 0..numbers.count {
+        if map.insert(numbers.key(alloc, i)?, i).is_err() {
+            return Err(NoMemory);
+        }
+    }
+    Ok(())
+}
+
+/// The same look-ups in a map.
+pub fn look_up_map(
+    alloc: Global,
+    map: &BTreeMap<Key, u64>,
+    numbers: Numbers,
+) -> Result<u64, NoMemory> {
+    let mut found = 0u64;
+    for i in 0..numbers.count {
+        if map.get(&numbers.key(alloc, i)?).is_some() {
+            found = found.wrapping_add(1);
+        }
+    }
+    Ok(found)
+}

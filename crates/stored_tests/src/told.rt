@@ -1,0 +1,117 @@
+//! Bodies told as lines of a script, against lines that were written by hand.
+use crate::log_by_hand::{FIRST_BODY, SECOND_BODY, THIRD_BODY};
+use log_lines::log_lines;
+use logs::lay::{lay_keep, lay_on_path, lay_punch, lay_rename, lay_truncate, lay_write};
+use logs::{Keeping, PathChange};
+use pathkey::Errno;
+use std::alloc::Global;
+use std::test::Fail;
+
+/// Whether a body is told by these lines.
+fn is_told(alloc: Global, body: &[u8], want: &[u8]) -> bool {
+    match log_lines(alloc, body) {
+        Ok(text) => text.as_slice() == want,
+        Err(_) => false,
+    }
+}
+
+/// Whether a change that was laid is told by these lines.
+fn is_laid_told(alloc: Global, laid: Result<usize, Errno>, room: &[u8], want: &[u8]) -> bool {
+    match laid {
+        Ok(size) => size <= room.len() && is_told(alloc, &room[..size], want),
+        Err(_) => false,
+    }
+}
+
+/// Why a body is not told, if it is not.
+fn fault_of(alloc: Global, body: &[u8]) -> Option<Errno> {
+    match log_lines(alloc, body) {
+        Ok(_) => None,
+        Err(fault) => Some(fault),
+    }
+}
+
+/// Why a body that was laid is not told, if it is not.
+fn fault_of_laid(alloc: Global, laid: Result<usize, Errno>, room: &[u8]) -> Option<Errno> {
+    match laid {
+        Ok(size) if size <= room.len() => fault_of(alloc, &room[..size]),
+        _ => None,
+    }
+}
+
+#[test]
+fn told_as_by_hand(rt: HostRuntime) -> Result<(), Fail> {
+    assert!(rt; is_told(rt.alloc(), b"", b""));
+    assert!(rt; is_told(rt.alloc(), FIRST_BODY, b"at 7\nmkdir /a\n"));
+    assert!(rt;
+        is_told(
+            rt.alloc(),
+            SECOND_BODY,
+            b"at 8\ncreate /a/x\nat 9\nwrite /a/x 2 6869\n"
+        )
+    );
+    assert!(rt; is_told(rt.alloc(), THIRD_BODY, b"snapshot s\n"));
+    assert_eq!(rt; fault_of(rt.alloc(), &FIRST_BODY[1..]), Some(Errno::EINVAL));
+    Ok(())
+}
+
+#[test]
+fn each_change_told(rt: HostRuntime) -> Result<(), Fail> {
+    let mut room = [0u8; 64];
+    let laid = lay_on_path(rt.alloc(), PathChange::Unlink, b"/", 1, &mut room);
+    assert!(rt; is_laid_told(rt.alloc(), laid, &room, b"at 1\nunlink /\n"));
+    let laid = lay_rename(rt.alloc(), b"/a b", b"/%", 4, &mut room);
+    assert!(rt; is_laid_told(rt.alloc(), laid, &room, b"at 4\nrename /a%20b /%25\n"));
+    let laid = lay_truncate(rt.alloc(), b"/a", 12, 5, &mut room);
+    assert!(rt; is_laid_told(rt.alloc(), laid, &room, b"at 5\ntruncate /a 12\n"));
+    let laid = lay_write(rt.alloc(), b"/a", 7, b"", 6, &mut room);
+    assert!(rt; is_laid_told(rt.alloc(), laid, &room, b"at 6\nwrite /a 7 -\n"));
+    let laid = lay_write(rt.alloc(), b"/a", u64::MAX, b"x", 6, &mut room);
+    assert_eq!(rt; fault_of_laid(rt.alloc(), laid, &room), Some(Errno::EFBIG));
+    let laid = lay_punch(rt.alloc(), b"/a", 4096, 8192, 6, &mut room);
+    assert!(rt; is_laid_told(rt.alloc(), laid, &room, b"# punch /a 4096 8192\n"));
+    let laid = lay_keep(rt.alloc(), Keeping::Remove, b"s", &mut room);
+    assert!(rt; is_laid_told(rt.alloc(), laid, &room, b"drop s\n"));
+    let laid = lay_keep(rt.alloc(), Keeping::Restore, b"s", &mut room);
+    assert!(rt; is_laid_told(rt.alloc(), laid, &room, b"restore s\n"));
+    Ok(())
+}
+
+/// The body of a write of so many zeros, at the offset 3 and the moment 2.
+fn long_body(alloc: Global, count: usize) -> Option<Vec<u8>> {
+    let Ok(bytes) = Vec::from_elem(alloc, 0u8, count) else {
+        return None;
+    };
+    let Ok(mut body) = Vec::from_elem(alloc, 0u8, count.saturating_add(64)) else {
+        return None;
+    };
+    match lay_write(alloc, b"/a", 3, bytes.as_slice(), 2, body.as_mut_slice()) {
+        Ok(size) => {
+            body.truncate(size);
+            Some(body)
+        }
+        Err(_) => None,
+    }
+}
+
+/// The text without its zeros, or nothing.
+fn shown(alloc: Global, count: usize) -> Option<Vec<u8>> {
+    let body = long_body(alloc, count)?;
+    let Ok(mut text) = log_lines(alloc, body.as_slice()) else {
+        return None;
+    };
+    text.retain(|byte| *byte != b'0');
+    Some(text)
+}
+
+#[test]
+fn a_long_write_told(rt: HostRuntime) -> Result<(), Fail> {
+    let text = shown(rt.alloc(), 28_672).ok_or("none")?;
+    assert_eq!(rt; text.as_slice(), b"at 2\nwrite /a 3 \n".as_slice());
+    let text = shown(rt.alloc(), 57_345).ok_or("none")?;
+    assert_eq!(rt;
+        text.as_slice(),
+        b"at 2\nwrite /a 3 \nwrite /a 28675 \nwrite /a 57347 \n".as_slice()
+    );
+    Ok(())
+}
