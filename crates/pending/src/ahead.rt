@@ -21,12 +21,12 @@ use std::marker::Model;
 /// A walk through the keys with messages for them alone. Contracts see the messages of the list, and the entries that are left where it
 /// goes along these.
 #[derive(Drop)]
-pub struct Ahead<'a, U: Changes> {
+pub struct PointWalk<'a, U: Changes> {
     pub(crate) list: &'a Pending<U>,
     pub(crate) rest: Option<Walk<'a, Run<U>>>,
 }
 
-impl<'a, U: Changes> Model for Ahead<'a, U> {
+impl<'a, U: Changes> Model for PointWalk<'a, U> {
     ghost use Rattle.std.specs.Prelude.{List, ℕ, Option};
     ghost use Rattle.message.specs.declared.msg.Msg.{Msg};
     ghost use Rattle.points.specs.Changes.{Change};
@@ -38,12 +38,12 @@ impl<'a, U: Changes> Model for Ahead<'a, U> {
 
 /// A key that a walk met. Contracts see the key, and the changes that wait there where these were met too.
 #[derive(Drop)]
-pub struct Met<'a, U: Changes> {
+pub struct MetPoint<'a, U: Changes> {
     key: &'a Key,
     run: Option<&'a Run<U>>,
 }
 
-impl<'a, U: Changes> Model for Met<'a, U> {
+impl<'a, U: Changes> Model for MetPoint<'a, U> {
     ghost use Rattle.std.specs.Prelude.{List, ℕ, Option};
     ghost use Rattle.std.specs.Option.{option_copied};
     ghost use Rattle.points.specs.Changes.{Change};
@@ -53,7 +53,7 @@ impl<'a, U: Changes> Model for Met<'a, U> {
     ghost view = { λ m. (m.key.now, option_copied m.run) };
 }
 
-impl<'a, U: Update> Met<'a, U> {
+impl<'a, U: Update> MetPoint<'a, U> {
     /// The key.
     pub fn key(&self) -> &'a Key
         ensures { result.now ≡ self.now.0 }
@@ -62,12 +62,12 @@ impl<'a, U: Update> Met<'a, U> {
     }
 }
 
-impl<'a, U: Update> Ahead<'a, U> {
+impl<'a, U: Update> PointWalk<'a, U> {
     /// The value at the key after the messages, where `old` was there.
     pub fn value_after(
         &self,
         alloc: Global,
-        met: &Met<'_, U>,
+        met: &MetPoint<'_, U>,
         old: Option<U::Value>,
     ) -> Result<Option<U::Value>, NoMemory>
         requires { IsMet self.now.0 met.now }
@@ -83,10 +83,10 @@ impl<'a, U: Update> Ahead<'a, U> {
 
 /// The first key from `from` up to and without `end` that has a message for it alone, if there is one. The walk then stands behind it.
 pub fn next_met<'a: 'b, 'b, U: Update>(
-    ahead: &mut Ahead<'a, U>,
+    ahead: &mut PointWalk<'a, U>,
     from: &'b Key,
     end: Option<&'b Key>,
-) -> Option<Met<'b, U>>
+) -> Option<MetPoint<'b, U>>
     requires { StandsAt from.now ahead.old }
     ensures same { ahead.new.0 ≡ ahead.old.0 }
     ensures point { IsNextPoint ahead.old.0 from.now (option_copied end.entry) (option_map (λ m. m.0) result) }
@@ -98,12 +98,15 @@ pub fn next_met<'a: 'b, 'b, U: Update>(
     }
     match ahead.list.next_point(from, end) {
         None => None,
-        Some(key) => Some(Met { key, run: None }),
+        Some(key) => Some(MetPoint { key, run: None }),
     }
 }
 
 /// Goes past the first entry that is left, if its key stands before the end.
-fn pass_before<'a, U: Update>(rest: &mut Walk<'a, Run<U>>, end: Option<&Key>) -> Option<Met<'a, U>>
+fn pass_before<'a, U: Update>(
+    rest: &mut Walk<'a, Run<U>>,
+    end: Option<&Key>,
+) -> Option<MetPoint<'a, U>>
     ensures some { IfSome result (λ m. IsPassed (option_copied end.entry) rest.old rest.new m) }
     ensures none { IfNone result ((rest.new ≡ rest.old) × BeginPast (option_copied end.entry) rest.old) }
 {
@@ -114,7 +117,7 @@ fn pass_before<'a, U: Update>(rest: &mut Walk<'a, Run<U>>, end: Option<&Key>) ->
         return None;
     }
     rest.next();
-    Some(Met {
+    Some(MetPoint {
         key,
         run: Some(run),
     })

@@ -26,5 +26,5 @@ pub(crate) mod stretch;
 pub(crate) mod tail;
 pub mod waiting;
 
-pub use ahead::{Ahead, Met, next_met};
+pub use ahead::{MetPoint, PointWalk, next_met};
 pub use pending::Pending;

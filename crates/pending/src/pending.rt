@@ -16,7 +16,7 @@ ghost use Rattle.message.specs.Told.{IsTold};
 ghost use Rattle.pathkey.specs.Keys.{is_below};
 ghost use Rattle.pending.specs.Ahead.{StandsAt};
 
-use crate::ahead::Ahead;
+use crate::ahead::PointWalk;
 use crate::lent::Lent;
 use crate::sorted::Sorted;
 use crate::tail::Tail;
@@ -559,7 +559,7 @@ impl<U: Update> Pending<U> {
     }
 
     /// A walk through the keys from `from` on that have messages for them alone.
-    pub fn ahead(&self, from: &Key) -> Ahead<'_, U>
+    pub fn walk_points(&self, from: &Key) -> PointWalk<'_, U>
         ensures list { result.0 ≡ self.now.0 }
         ensures stands { StandsAt from.now result }
     {
@@ -568,7 +568,7 @@ impl<U: Update> Pending<U> {
         } else {
             self.sorted.walk_from(from)
         };
-        Ahead { list: self, rest }
+        PointWalk { list: self, rest }
     }
 
     /// Whether a range-delete holds the key: then no older value is left there.

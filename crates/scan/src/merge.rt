@@ -13,7 +13,7 @@ ghost use Rattle.scan.specs.Stretches.{pair_of};
 use message::Update;
 use message::ends::is_before_end;
 use pathkey::{Key, NoMemory};
-use pending::{Ahead, Met, Pending, next_met};
+use pending::{MetPoint, Pending, PointWalk, next_met};
 use std::alloc::Global;
 use std::collections::VecDeque;
 
@@ -32,7 +32,7 @@ pub fn merge<'m, U: Update>(
 {
     let mut rest = VecDeque::from_vec(below);
     let mut at = from.copy(alloc)?;
-    let mut ahead = list.ahead(from);
+    let mut ahead = list.walk_points(from);
     'points: while let Some(met) = next_met(&mut ahead, &at, end) {
         push_before(&mut rest, Some(met.key()), limit, pairs)?;
         if pairs.len() >= limit {
@@ -66,8 +66,8 @@ fn push_before<V: Drop>(
 /// Pushes what the messages make of the value at a key that was met and that no pair stands before, and answers the key behind it.
 fn push_at<U: Update>(
     alloc: Global,
-    ahead: &Ahead<'_, U>,
-    met: &Met<'_, U>,
+    ahead: &PointWalk<'_, U>,
+    met: &MetPoint<'_, U>,
     rest: &mut VecDeque<(Key, U::Value)>,
     pairs: &mut Vec<(Key, U::Value)>,
 ) -> Result<Key, NoMemory>

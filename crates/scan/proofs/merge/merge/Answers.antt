@@ -13,7 +13,7 @@ use Rattle.scan.proofs.Merging.{merging_start, merging_full, merging_on, merging
 use Rattle.scan.proofs.merge.merge.Goals as goal
 
 pub points-init : goal.points-init
-points-init g c = (c.ahead-ahead.ensures.list, subst (λ k. StandsAt k c.ahead-ahead.result) (sym c.in_ok-at.ensures) c.ahead-ahead.ensures.stands, λ child s gaps. merging_start g.U.Update.means c.args.list.now.0 child c.args.from.now (option_copied c.args.end) c.args.limit c.args.below.items c.args.pairs.now.items c.in_ok-at.at c.from_vec-rest.result.items c.in_ok-at.ensures c.from_vec-rest.ensures.items s)
+points-init g c = (c.walk_points-ahead.ensures.list, subst (λ k. StandsAt k c.walk_points-ahead.result) (sym c.in_ok-at.ensures) c.walk_points-ahead.ensures.stands, λ child s gaps. merging_start g.U.Update.means c.args.list.now.0 child c.args.from.now (option_copied c.args.end) c.args.limit c.args.below.items c.args.pairs.now.items c.in_ok-at.at c.from_vec-rest.result.items c.in_ok-at.ensures c.from_vec-rest.ensures.items s)
 
 pub points-preserved : goal.points-preserved
 points-preserved g c =

@@ -7,7 +7,7 @@ use Rattle.message.specs.PointKeys.{is_cleared}
 use Rattle.points.specs.Changes.{run_effect}
 use Rattle.pending.specs.Ahead.{WaitAt}
 use Rattle.pending.proofs.Meeting.{run_acts, waits_some}
-use Rattle.pending.proofs.ahead.Ahead.value_after.Goals as goal
+use Rattle.pending.proofs.ahead.PointWalk.value_after.Goals as goal
 
 pub apply-requires : goal.apply-requires
 apply-requires g c =
