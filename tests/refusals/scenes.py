@@ -314,9 +314,7 @@ def engines():
 
 def lists():
     for deed, left in DEEDS:
-        # Where lists sink, a range-delete is laid anew by three requests, and no other message is copied.
-        too_many = 8_192 if deed == "sink" else 512
-        yield Scene("lists", ("list_costs", deed), (), judged="count", left=left, too_many=too_many)
+        yield Scene("lists", ("list_costs", deed), (), judged="count", left=left)
     # A copy is a pointer for each row, and a row has 64 messages.
     copied = Scene("lists", ("list_costs", "copy"), (), judged="count", left=lambda count: (f"copy {count} 0",))
     yield dataclasses.replace(copied, many=65_536, too_many=1_024)
