@@ -2,6 +2,7 @@
 // the language answers the script alike. A write that is longer than a line can be stands as several lines. One that is
 // refused stands as a note, and so does a hole, and what is refused for want of memory.
 #include "ending.h"
+#include "over.h"
 #include "script.h"
 #include <errno.h>
 #include <fcntl.h>
@@ -236,22 +237,6 @@ static int log_punch(void *self, const char *path, uint64_t offset, uint64_t cou
     return fault;
 }
 
-// No line of a script asks for it.
-static int log_data(void *self, struct place at, uint64_t offset, struct run *out) {
-    struct log *log = self;
-    return log->over.way->data(log->over.self, at, offset, out);
-}
-
-static unsigned log_relieve(void *self, unsigned steps) {
-    struct log *log = self;
-    return log->over.way->relieve(log->over.self, steps);
-}
-
-static unsigned log_owes(void *self) {
-    struct log *log = self;
-    return log->over.way->owes(log->over.self);
-}
-
 static void free_log(struct log *log) {
     if (log->calls.file >= 0) close(log->calls.file);
     if (log->replies.file >= 0) close(log->replies.file);
@@ -269,9 +254,10 @@ static int log_close(void *self, struct image *image) {
     return fault;
 }
 
+// No line of a script asks for what is stored, or for steps.
 static const struct way log_way = {
-    log_change, log_rename, log_truncate, log_write,   log_read, log_stat,  log_list,
-    log_keep,   log_punch,  log_data,     log_relieve, log_owes, log_close,
+    log_change, log_rename, log_truncate, log_write,    log_read,  log_stat,  log_list,
+    log_keep,   log_punch,  over_data,    over_relieve, over_owes, log_close,
 };
 
 // The bytes of files that only their owner may read go into a record: so may it only be read. An older one stays.
