@@ -147,10 +147,10 @@ static int open_tree(struct replica *replica, const struct making *making, const
 
 static int open_log_of(struct replica *replica, const struct making *making, struct beginning *beginning) {
     int fault = shared_log_open(&making->replica, &replica->log, beginning);
-    if (fault) return fault;
-    fault = open_tree(replica, making, beginning);
+    bool is_open = !fault;
+    if (is_open) fault = open_tree(replica, making, beginning);
     if (beginning->image >= 0) close(beginning->image);
-    if (fault) shared_log_close(replica->log);
+    if (is_open && fault) shared_log_close(replica->log);
     return fault;
 }
 
@@ -179,5 +179,7 @@ int replica_open(const struct making *making, struct mount *mount) {
         return fault;
     }
     begin_at(replica, mount, &beginning);
-    return replica_catch_up(replica, beginning.newest);
+    fault = replica_catch_up(replica, beginning.newest);
+    if (fault) replica_close(replica, 0);
+    return fault;
 }
