@@ -85,14 +85,15 @@ static void *serve_puts(void *self) {
     return 0;
 }
 
-void shared_log_put(struct shared_log *log, uint64_t version, const struct bytes *value) {
+int shared_log_put(struct shared_log *log, uint64_t version, const struct bytes *value) {
     pthread_mutex_lock(&log->lock);
     log->wishes++;
     log->version = version;
     log->value.length = 0;
-    if (value && bytes_append(&log->value, value->at, value->length)) log->value.length = 0;
+    int fault = value ? bytes_append(&log->value, value->at, value->length) : 0;
     pthread_cond_signal(&log->wakes);
     pthread_mutex_unlock(&log->lock);
+    return fault;
 }
 
 // ---- what comes
