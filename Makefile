@@ -120,4 +120,6 @@ dist:
 clean:
 	rm -rf out
 
+# A page that could not be made is none.
+.DELETE_ON_ERROR:
 .PHONY: all libraries install uninstall dist clean

@@ -77,7 +77,7 @@ static int compare_bytes(struct pair files, off_t size, bool *same) {
     return 0;
 }
 
-// The extended attributes of an entry, as names and values one behind the other.
+// The extended attributes of an entry one behind the other: name, length and value.
 static int extended_of(int file, struct bytes *out) {
     static char names[XATTR_LIST_MAX], value[XATTR_SIZE_MAX];
     ssize_t count = flistxattr(file, names, sizeof names);
@@ -85,7 +85,8 @@ static int extended_of(int file, struct bytes *out) {
     for (ssize_t at = 0; !fault && at < count; at += (ssize_t)strlen(names + at) + 1) {
         ssize_t length = fgetxattr(file, names + at, value, sizeof value);
         if (length < 0) return errno;
-        fault = bytes_print(out, "%s=%zd:", names + at, length);
+        fault = bytes_append(out, names + at, strlen(names + at) + 1);
+        if (!fault) fault = bytes_append(out, &length, sizeof length);
         if (!fault) fault = bytes_append(out, value, (size_t)length);
     }
     return fault;
@@ -95,7 +96,7 @@ static int compare_extended(struct pair files, bool *same) {
     struct bytes old = {0}, new = {0};
     int fault = extended_of(files.old, &old);
     if (!fault) fault = extended_of(files.new, &new);
-    if (!fault) *same = old.length == new.length && !memcmp(old.at, new.at, old.length);
+    if (!fault) *same = old.length == new.length && (!old.length || !memcmp(old.at, new.at, old.length));
     bytes_free(&old);
     bytes_free(&new);
     return fault;

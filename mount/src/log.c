@@ -2,6 +2,8 @@
 // the language answers the script alike. A write that is longer than a line can be stands as several lines. One that is
 // refused stands as a note, and so does a hole, and what is refused for want of memory.
 #include "ending.h"
+#include "over.h"
+#include "room.h"
 #include "script.h"
 #include <errno.h>
 #include <fcntl.h>
@@ -13,7 +15,8 @@
 #include <sys/types.h>
 #include <unistd.h>
 
-enum { LONGEST_NOTE = 100, WRITTEN_AT_ONCE = 1 << 16 };
+// A reply has at most SHORT_REPLY bytes, but for bytes that were read, two for each, and names, three.
+enum { LONGEST_NOTE = 100, WRITTEN_AT_ONCE = 1 << 16, SHORT_REPLY = 64 };
 
 // One of the two files: what it has, whole lines, and lines that wait.
 struct sheet {
@@ -31,10 +34,16 @@ struct log {
     struct bytes line, reply;
 };
 
-static struct bytes *fresh(struct bytes *bytes) {
+// The record is no part of the tree. Where memory is wanting for it, it ends.
+static struct bytes *fresh(struct log *log, struct bytes *bytes, size_t room) {
     bytes->length = 0;
+    if (room_reserve(bytes, room)) log->fault = ENOMEM;
     return bytes;
 }
+
+static struct bytes *fresh_line(struct log *log) { return fresh(log, &log->line, LONGEST_LINE); }
+
+static struct bytes *fresh_reply(struct log *log, size_t room) { return fresh(log, &log->reply, room); }
 
 static void write_sheet(struct log *log, struct sheet *sheet) {
     for (size_t from = 0; !log->fault && from < sheet->lines.length;) {
@@ -62,11 +71,16 @@ static void flush(struct log *log) {
     log->calls.lines.length = log->replies.lines.length = 0;
 }
 
+static int append(struct bytes *lines, const struct bytes *more) {
+    int fault = room_reserve(lines, more->length);
+    return fault ? fault : bytes_append(lines, more->at, more->length);
+}
+
 // Puts lines down: the same number in both files, but for notes.
 static void put_lines(struct log *log, const struct bytes *line, const struct bytes *reply) {
     if (log->fault) return;
-    int fault = bytes_append(&log->calls.lines, line->at, line->length);
-    if (!fault && reply) fault = bytes_append(&log->replies.lines, reply->at, reply->length);
+    int fault = append(&log->calls.lines, line);
+    if (!fault && reply) fault = append(&log->replies.lines, reply);
     if (fault) log->fault = fault;
     if (fault || log->calls.lines.length >= WRITTEN_AT_ONCE) flush(log);
 }
@@ -92,13 +106,13 @@ static int note_line(struct log *log) {
 // Writes the line that stands ready and the reply to it: a refusal, or what stands ready as a reply.
 static int tell(struct log *log, int fault) {
     if (fault == ENOMEM) return note_line(log);
-    if (fault) reply_fault(fresh(&log->reply), fault);
+    if (fault) reply_fault(fresh_reply(log, SHORT_REPLY), fault);
     put_lines(log, &log->line, &log->reply);
     return fault;
 }
 
 static int tell_done(struct log *log, int fault) {
-    bytes_append(fresh(&log->reply), "ok\n", 3);
+    bytes_append(fresh_reply(log, SHORT_REPLY), "ok\n", 3);
     return tell(log, fault);
 }
 
@@ -106,34 +120,34 @@ static int tell_done(struct log *log, int fault) {
 static void tell_moment(struct log *log, uint64_t at) {
     if (at == log->at) return;
     log->at = at;
-    script_moment(fresh(&log->line), at);
+    script_moment(fresh_line(log), at);
     tell_done(log, 0);
 }
 
 static int log_change(void *self, enum change what, const char *path, uint64_t at) {
     struct log *log = self;
     tell_moment(log, at);
-    script_change(fresh(&log->line), what, path);
+    script_change(fresh_line(log), what, path);
     return tell_done(log, log->over.way->change(log->over.self, what, path, at));
 }
 
 static int log_rename(void *self, const char *from, const char *to, uint64_t at) {
     struct log *log = self;
     tell_moment(log, at);
-    script_rename(fresh(&log->line), from, to);
+    script_rename(fresh_line(log), from, to);
     return tell_done(log, log->over.way->rename(log->over.self, from, to, at));
 }
 
 static int log_truncate(void *self, const char *path, uint64_t length, uint64_t at) {
     struct log *log = self;
     tell_moment(log, at);
-    script_truncate(fresh(&log->line), path, length);
+    script_truncate(fresh_line(log), path, length);
     return tell_done(log, log->over.way->truncate(log->over.self, path, length, at));
 }
 
 static void tell_write(struct log *log, const char *path, uint64_t offset, const char *bytes, size_t count) {
-    script_write(fresh(&log->line), path, offset, bytes, count);
-    bytes_print(fresh(&log->reply), "count %zu\n", count);
+    script_write(fresh_line(log), path, offset, bytes, count);
+    bytes_print(fresh_reply(log, SHORT_REPLY), "count %zu\n", count);
     tell(log, 0);
 }
 
@@ -147,7 +161,7 @@ static int log_write(void *self, const char *path, uint64_t offset, const char *
                    *done - from < LARGEST_LINE_WRITE ? *done - from : LARGEST_LINE_WRITE);
     if (!fault) return 0;
     if (count - *done <= LARGEST_LINE_WRITE) {
-        script_write(fresh(&log->line), path, offset + *done, bytes + *done, count - *done);
+        script_write(fresh_line(log), path, offset + *done, bytes + *done, count - *done);
         return tell(log, fault);
     }
     put_note(log, "# a write of %zu bytes was refused\n", count - *done);
@@ -157,16 +171,16 @@ static int log_write(void *self, const char *path, uint64_t offset, const char *
 static int log_read(void *self, struct place at, uint64_t offset, char *out, size_t room, size_t *got) {
     struct log *log = self;
     int fault = log->over.way->read(log->over.self, at, offset, out, room, got);
-    script_read(fresh(&log->line), at, offset, room);
-    if (!fault) reply_read(fresh(&log->reply), out, *got);
+    script_read(fresh_line(log), at, offset, room);
+    if (!fault) reply_read(fresh_reply(log, SHORT_REPLY + 2 * *got), out, *got);
     return tell(log, fault);
 }
 
 static int log_stat(void *self, struct place at, struct standing *out) {
     struct log *log = self;
     int fault = log->over.way->stat(log->over.self, at, out);
-    script_stat(fresh(&log->line), at);
-    if (!fault) reply_stat(fresh(&log->reply), *out);
+    script_stat(fresh_line(log), at);
+    if (!fault) reply_stat(fresh_reply(log, SHORT_REPLY), *out);
     return tell(log, fault);
 }
 
@@ -174,14 +188,15 @@ static int log_list(void *self, struct place at, struct bytes *out) {
     struct log *log = self;
     size_t before = out->length;
     int fault = log->over.way->list(log->over.self, at, out);
-    script_list(fresh(&log->line), at);
-    if (!fault) reply_list(fresh(&log->reply), out->at + before, out->length - before);
+    script_list(fresh_line(log), at);
+    size_t length = out->length - before;
+    if (!fault) reply_list(fresh_reply(log, SHORT_REPLY + 3 * length), out->at + before, length);
     return tell(log, fault);
 }
 
 static int log_keep(void *self, enum keeping what, const char *snapshot) {
     struct log *log = self;
-    script_keep(fresh(&log->line), what, snapshot);
+    script_keep(fresh_line(log), what, snapshot);
     return tell_done(log, log->over.way->keep(log->over.self, what, snapshot));
 }
 
@@ -236,22 +251,6 @@ static int log_punch(void *self, const char *path, uint64_t offset, uint64_t cou
     return fault;
 }
 
-// No line of a script asks for it.
-static int log_data(void *self, struct place at, uint64_t offset, struct run *out) {
-    struct log *log = self;
-    return log->over.way->data(log->over.self, at, offset, out);
-}
-
-static unsigned log_relieve(void *self, unsigned steps) {
-    struct log *log = self;
-    return log->over.way->relieve(log->over.self, steps);
-}
-
-static unsigned log_owes(void *self) {
-    struct log *log = self;
-    return log->over.way->owes(log->over.self);
-}
-
 static void free_log(struct log *log) {
     if (log->calls.file >= 0) close(log->calls.file);
     if (log->replies.file >= 0) close(log->replies.file);
@@ -269,9 +268,10 @@ static int log_close(void *self, struct image *image) {
     return fault;
 }
 
+// No line of a script asks for what is stored, or for steps.
 static const struct way log_way = {
-    log_change, log_rename, log_truncate, log_write,   log_read, log_stat,  log_list,
-    log_keep,   log_punch,  log_data,     log_relieve, log_owes, log_close,
+    log_change, log_rename, log_truncate, log_write,    log_read,  log_stat,  log_list,
+    log_keep,   log_punch,  over_data,    over_relieve, over_owes, log_close,
 };
 
 // The bytes of files that only their owner may read go into a record: so may it only be read. An older one stays.

@@ -2,7 +2,6 @@
 #include "replica_inside.h"
 #include "ending.h"
 #include "library.h"
-#include "store_calls.h"
 #include <errno.h>
 #include <stdio.h>
 #include <stdlib.h>
@@ -99,70 +98,15 @@ int replica_change_ends(struct mount *mount, int fault) {
 
 // ---- calls that change something
 
-static int call_begins(struct replica *replica, size_t *before) {
-    *before = replica->calls.length;
+static struct bytes *call_begins(void *self, int *fault) {
+    struct replica *replica = self;
+    if (replica->is_over) return 0;
     change_begins(replica);
-    return replica->pass == NO_PASS ? EROFS : replica_keep_tree(replica);
+    *fault = replica->pass == NO_PASS ? EROFS : replica_keep_tree(replica);
+    return &replica->calls;
 }
 
-static int call_ends(struct replica *replica, size_t before, int fault) {
-    if (fault) replica->calls.length = before;
-    return change_ends(replica, fault);
-}
-
-static int replica_change(void *self, enum change what, const char *path, uint64_t at) {
-    struct replica *replica = self;
-    size_t before;
-    if (replica->is_over) return 0;
-    int fault = call_begins(replica, &before);
-    if (!fault) fault = calls_change(&replica->calls, what, path, at);
-    if (!fault) fault = replica->over.way->change(replica->over.self, what, path, at);
-    return call_ends(replica, before, fault);
-}
-
-static int replica_rename(void *self, const char *from, const char *to, uint64_t at) {
-    struct replica *replica = self;
-    size_t before;
-    if (replica->is_over) return 0;
-    int fault = call_begins(replica, &before);
-    if (!fault) fault = calls_rename(&replica->calls, from, to, at);
-    if (!fault) fault = replica->over.way->rename(replica->over.self, from, to, at);
-    return call_ends(replica, before, fault);
-}
-
-static int replica_truncate(void *self, const char *path, uint64_t length, uint64_t at) {
-    struct replica *replica = self;
-    size_t before;
-    if (replica->is_over) return 0;
-    int fault = call_begins(replica, &before);
-    if (!fault) fault = calls_truncate(&replica->calls, path, length, at);
-    if (!fault) fault = replica->over.way->truncate(replica->over.self, path, length, at);
-    return call_ends(replica, before, fault);
-}
-
-static int replica_write(void *self, const char *path, uint64_t offset, const char *bytes, size_t count, uint64_t at,
-                         size_t *done) {
-    struct replica *replica = self;
-    size_t before;
-    *done = 0;
-    if (replica->is_over) return 0;
-    int fault = call_begins(replica, &before);
-    if (!fault) fault = calls_write(&replica->calls, path, offset, bytes, count, at);
-    if (!fault) fault = replica->over.way->write(replica->over.self, path, offset, bytes, count, at, done);
-    fault = call_ends(replica, before, fault);
-    if (fault) *done = 0;
-    return fault;
-}
-
-static int replica_punch(void *self, const char *path, uint64_t offset, uint64_t count, uint64_t at) {
-    struct replica *replica = self;
-    size_t before;
-    if (replica->is_over) return 0;
-    int fault = call_begins(replica, &before);
-    if (!fault) fault = calls_punch(&replica->calls, path, offset, count, at);
-    if (!fault) fault = replica->over.way->punch(replica->over.self, path, offset, count, at);
-    return call_ends(replica, before, fault);
-}
+static int call_ends(void *self, int fault) { return change_ends(self, fault); }
 
 // The library has one place for snapshots, where the tree is kept that is taken back.
 static int replica_keep(void *self, enum keeping what, const char *snapshot) {
@@ -170,44 +114,12 @@ static int replica_keep(void *self, enum keeping what, const char *snapshot) {
     return EOPNOTSUPP;
 }
 
-// ---- calls that look
-
-static int replica_read(void *self, struct place at, uint64_t offset, char *out, size_t room, size_t *got) {
-    struct replica *replica = self;
-    return replica->over.way->read(replica->over.self, at, offset, out, room, got);
-}
-
-static int replica_stat(void *self, struct place at, struct standing *out) {
-    struct replica *replica = self;
-    return replica->over.way->stat(replica->over.self, at, out);
-}
-
-static int replica_list(void *self, struct place at, struct bytes *out) {
-    struct replica *replica = self;
-    return replica->over.way->list(replica->over.self, at, out);
-}
-
-static int replica_data(void *self, struct place at, uint64_t offset, struct run *out) {
-    struct replica *replica = self;
-    return replica->over.way->data(replica->over.self, at, offset, out);
-}
-
-static unsigned replica_relieve(void *self, unsigned steps) {
-    struct replica *replica = self;
-    return replica->over.way->relieve(replica->over.self, steps);
-}
-
-static unsigned replica_owes(void *self) {
-    struct replica *replica = self;
-    return replica->over.way->owes(replica->over.self);
-}
-
 // ---- its beginning and its end
 
 static int replica_close(void *self, struct image *image) {
     struct replica *replica = self;
     shared_log_close(replica->log);
-    int fault = replica->over.way->close(replica->over.self, image);
+    int fault = replica->noting.over.way->close(replica->noting.over.self, image);
     replica_put_ends(replica);
     bytes_free(&replica->calls);
     bytes_free(&replica->stale);
@@ -216,37 +128,40 @@ static int replica_close(void *self, struct image *image) {
 }
 
 static const struct way replica_way = {
-    replica_change, replica_rename, replica_truncate, replica_write,   replica_read, replica_stat,  replica_list,
-    replica_keep,   replica_punch,  replica_data,     replica_relieve, replica_owes, replica_close,
+    noting_change, noting_rename, noting_truncate, noting_write, over_read, over_stat,     over_list,
+    replica_keep,  noting_punch,  over_data,       over_relieve, over_owes, replica_close,
 };
 
 // The library begins with the image of the checkpoint, which lies in a file without a name.
 static int open_tree(struct replica *replica, const struct making *making, const struct beginning *beginning) {
+    struct volume *over = &replica->noting.over;
     char name[64];
     struct stat stat;
     struct making inner = *making;
     snprintf(name, sizeof name, "/proc/self/fd/%d", beginning->image);
-    if (beginning->image < 0) return open_library(making, &replica->over);
+    if (beginning->image < 0) return open_library(making, over);
     inner.image = name;
     if (!fstat(beginning->image, &stat)) replica->image_size = (uint64_t)stat.st_size;
-    return open_library(&inner, &replica->over);
+    return open_library(&inner, over);
 }
 
 static int open_log_of(struct replica *replica, const struct making *making, struct beginning *beginning) {
     int fault = shared_log_open(&making->replica, &replica->log, beginning);
-    if (fault) return fault;
-    fault = open_tree(replica, making, beginning);
+    bool is_open = !fault;
+    if (is_open) fault = open_tree(replica, making, beginning);
     if (beginning->image >= 0) close(beginning->image);
-    if (fault) shared_log_close(replica->log);
+    if (is_open && fault) shared_log_close(replica->log);
     return fault;
 }
 
 static void begin_at(struct replica *replica, struct mount *mount, const struct beginning *beginning) {
-    replica->volume = library_volume(replica->over.self);
+    replica->noting.begins = call_begins;
+    replica->noting.ends = call_ends;
+    replica->volume = library_volume(replica->noting.over.self);
     replica->number = beginning->number;
     replica->done = replica->kept_at = beginning->checkpoint.version;
     replica->revision = beginning->checkpoint.revision;
-    mount->volume = (struct volume){&replica_way, replica, replica->over.records};
+    mount->volume = (struct volume){&replica_way, replica, replica->noting.over.records};
     mount->replica = replica;
     mount->aside = replica->number << NUMBERS_OF_A_MOUNT;
     entries_number_above(mount->aside);
@@ -264,5 +179,7 @@ int replica_open(const struct making *making, struct mount *mount) {
         return fault;
     }
     begin_at(replica, mount, &beginning);
-    return replica_catch_up(replica, beginning.newest);
+    fault = replica_catch_up(replica, beginning.newest);
+    if (fault) replica_close(replica, 0);
+    return fault;
 }

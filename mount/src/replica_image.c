@@ -21,7 +21,7 @@ struct checkpointing {
     struct wire wire;
     struct checkpoint checkpoint;
     uint64_t former; // the checkpoint that this mount knows of
-    uint64_t size;
+    uint64_t size; // of the image, or of the last one, until all of it is put
     struct sum sum;
     pthread_t thread;
     struct doorvervain_printing printing; // of the thread that serves
@@ -166,14 +166,16 @@ static int await_piece(struct checkpointing *keeping) {
 static int put_pieces(struct checkpointing *keeping) {
     char key[LONGEST_KEY];
     int fault;
+    uint64_t size = 0;
     struct checkpoint *checkpoint = &keeping->checkpoint;
     while (!(fault = await_piece(keeping)) && keeping->length) {
         name_key(&keeping->wire, key, PARTS, checkpoint->version, checkpoint->parts++);
         fault = sum_add(&keeping->sum, keeping->piece, keeping->length);
         if (!fault) fault = put(&keeping->wire, key, keeping->piece, keeping->length);
-        keeping->size += keeping->length;
+        size += keeping->length;
         if (fault) break;
     }
+    if (!fault) keeping->size = size;
     return fault;
 }
 
@@ -243,6 +245,7 @@ static int open_keeping(struct checkpointing *keeping) {
 
 static void free_keeping(struct checkpointing *keeping) {
     doorvervain_print_end(&keeping->printing);
+    sum_end(&keeping->sum, keeping->checkpoint.sum);
     wire_close(&keeping->wire);
     free(keeping);
 }
@@ -254,6 +257,7 @@ void checkpoint_begin(struct replica *replica) {
     if (!keeping) return;
     keeping->replica = replica;
     keeping->former = replica->kept_at;
+    keeping->size = replica->image_size;
     keeping->checkpoint = (struct checkpoint){.version = replica->done, .revision = replica->revision};
     pthread_mutex_init(&keeping->lock, 0);
     pthread_cond_init(&keeping->printed, 0);

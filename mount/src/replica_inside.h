@@ -1,6 +1,7 @@
 // What the files of a replica share. All but the log's threads is done by the thread that serves requests.
 #ifndef REPLICA_INSIDE_H
 #define REPLICA_INSIDE_H
+#include "noting.h"
 #include "replica.h"
 #include "replica_log.h"
 #include <pthread.h>
@@ -46,7 +47,7 @@ struct put {
 };
 
 struct replica {
-    struct volume over;
+    struct noting noting;
     struct doorvervain *volume; // that of the library
     struct mount *mount;
     struct shared_log *log;

@@ -59,14 +59,14 @@ static json_t *question_of_put(struct shared_log *log, uint64_t version, const s
                      wire_coded(value->at, value->length));
 }
 
-// Waits for something to put: which wish that is, and 0 at the end.
+// Waits for something to put: which wish that is, and 0 at the end, or where memory is wanting.
 static uint64_t next_wish(struct shared_log *log, uint64_t done, uint64_t *version, struct bytes *out) {
     pthread_mutex_lock(&log->lock);
     while (!log->ends && (log->wishes == done || !log->value.length)) pthread_cond_wait(&log->wakes, &log->lock);
     uint64_t wish = log->ends ? 0 : log->wishes;
     *version = log->version;
     out->length = 0;
-    if (wish && bytes_append(out, log->value.at, log->value.length)) wish = done;
+    if (wish && bytes_append(out, log->value.at, log->value.length)) wish = 0;
     pthread_mutex_unlock(&log->lock);
     return wish;
 }
@@ -85,14 +85,15 @@ static void *serve_puts(void *self) {
     return 0;
 }
 
-void shared_log_put(struct shared_log *log, uint64_t version, const struct bytes *value) {
+int shared_log_put(struct shared_log *log, uint64_t version, const struct bytes *value) {
     pthread_mutex_lock(&log->lock);
     log->wishes++;
     log->version = version;
     log->value.length = 0;
-    if (value && bytes_append(&log->value, value->at, value->length)) log->value.length = 0;
+    int fault = value ? bytes_append(&log->value, value->at, value->length) : 0;
     pthread_cond_signal(&log->wakes);
     pthread_mutex_unlock(&log->lock);
+    return fault;
 }
 
 // ---- what comes

@@ -41,5 +41,6 @@ int shared_log_event(const struct shared_log *log);
 // says why.
 bool shared_log_take(struct shared_log *log, struct value *out, int *fault);
 // Puts a value where the key has one version less, in place of what was being put: until another is put, or none (null).
-void shared_log_put(struct shared_log *log, uint64_t version, const struct bytes *value);
+// 0, or ENOMEM: none is put.
+int shared_log_put(struct shared_log *log, uint64_t version, const struct bytes *value);
 #endif

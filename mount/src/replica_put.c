@@ -154,15 +154,16 @@ static int add_rests(struct replica *replica) {
 
 static uint64_t parts_of(const struct put *put) { return (put->records.length + LARGEST_PART - 1) / LARGEST_PART; }
 
+// Where memory is wanting its requests wait again.
 static void put_part(struct replica *replica) {
     struct put *put = &replica->put;
     size_t from = put->part * LARGEST_PART, left = put->records.length - from;
     struct value_front front = {VALUE_MARK, replica->number, put->serial, put->part, parts_of(put)};
     put->value.length = 0;
-    if (bytes_append(&put->value, &front, FRONT) ||
-        bytes_append(&put->value, put->records.at + from, left < LARGEST_PART ? left : LARGEST_PART))
-        put->value.length = 0;
-    shared_log_put(replica->log, replica->done + 1, &put->value);
+    int fault = bytes_append(&put->value, &front, FRONT);
+    if (!fault) fault = bytes_append(&put->value, put->records.at + from, left < LARGEST_PART ? left : LARGEST_PART);
+    if (!fault) fault = shared_log_put(replica->log, replica->done + 1, &put->value);
+    if (fault) replica_give_up(replica);
 }
 
 // What was put is not in the log, and is not to come there: its requests wait again.

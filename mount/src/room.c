@@ -100,6 +100,14 @@ void room_begin(void) {
 
 void room_lift(void) { most = 0; }
 
+int room_reserve(struct bytes *bytes, size_t more) {
+    size_t limit = most;
+    most = 0;
+    int fault = bytes_reserve(bytes, more);
+    most = limit;
+    return fault;
+}
+
 // Whether steps of the tree gave memory back. What was removed takes memory until they have come to it. A step that
 // finds no memory itself changes nothing, so that they are not tried for ever.
 static bool gives_back(const struct volume *volume) {

@@ -23,4 +23,6 @@ void room_begin(void);
 // Between them: what undoes a call that was refused may take what it needs.
 void room_lift(void);
 bool room_again(const struct volume *volume, int *fault);
+// Makes room in bytes that are no part of the tree, also between them: 0 or ENOMEM.
+int room_reserve(struct bytes *bytes, size_t more);
 #endif

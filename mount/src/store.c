@@ -22,102 +22,25 @@ static int may_change(const struct store *store) {
     return store->fault && store->queue->calls.length == store_ended(store->queue) ? EIO : 0;
 }
 
-// A call that was refused is none.
-static int settle(struct store *store, size_t before, int fault) {
-    if (fault) store->queue->calls.length = before;
-    return fault;
-}
-
-static int store_change(void *self, enum change what, const char *path, uint64_t at) {
+static struct bytes *call_begins(void *self, int *fault) {
     struct store *store = self;
-    size_t before = store->queue->calls.length;
-    int fault = may_change(store);
-    if (!fault) fault = calls_change(&store->queue->calls, what, path, at);
-    if (!fault) fault = store->over.way->change(store->over.self, what, path, at);
-    return settle(store, before, fault);
-}
-
-static int store_rename(void *self, const char *from, const char *to, uint64_t at) {
-    struct store *store = self;
-    size_t before = store->queue->calls.length;
-    int fault = may_change(store);
-    if (!fault) fault = calls_rename(&store->queue->calls, from, to, at);
-    if (!fault) fault = store->over.way->rename(store->over.self, from, to, at);
-    return settle(store, before, fault);
-}
-
-static int store_truncate(void *self, const char *path, uint64_t length, uint64_t at) {
-    struct store *store = self;
-    size_t before = store->queue->calls.length;
-    int fault = may_change(store);
-    if (!fault) fault = calls_truncate(&store->queue->calls, path, length, at);
-    if (!fault) fault = store->over.way->truncate(store->over.self, path, length, at);
-    return settle(store, before, fault);
-}
-
-// The library writes all or nothing.
-static int store_write(void *self, const char *path, uint64_t offset, const char *bytes, size_t count, uint64_t at,
-                       size_t *done) {
-    struct store *store = self;
-    size_t before = store->queue->calls.length;
-    *done = 0;
-    int fault = may_change(store);
-    if (!fault) fault = calls_write(&store->queue->calls, path, offset, bytes, count, at);
-    if (!fault) fault = store->over.way->write(store->over.self, path, offset, bytes, count, at, done);
-    return settle(store, before, fault);
-}
-
-static int store_punch(void *self, const char *path, uint64_t offset, uint64_t count, uint64_t at) {
-    struct store *store = self;
-    size_t before = store->queue->calls.length;
-    int fault = may_change(store);
-    if (!fault) fault = calls_punch(&store->queue->calls, path, offset, count, at);
-    if (!fault) fault = store->over.way->punch(store->over.self, path, offset, count, at);
-    return settle(store, before, fault);
+    *fault = may_change(store);
+    return &store->queue->calls;
 }
 
 // No image has a snapshot. So where changes are refused until one is whole, a snapshot may still be dropped.
 static int store_keep_name(void *self, enum keeping what, const char *snapshot) {
     struct store *store = self;
-    size_t before = store->queue->calls.length;
+    const struct volume *over = &store->noting.over;
+    struct bytes *calls = &store->queue->calls;
+    size_t before = calls->length;
     int fault = what == DROP_SNAPSHOT ? 0 : may_change(store);
-    if (!fault) fault = calls_keep(&store->queue->calls, what, snapshot);
-    if (!fault) fault = store->over.way->keep(store->over.self, what, snapshot);
+    if (!fault) fault = calls_keep(calls, what, snapshot);
+    if (!fault) fault = over->way->keep(over->self, what, snapshot);
     if (!fault && what == TAKE_SNAPSHOT) store->snapshots++;
     if (!fault && what == DROP_SNAPSHOT) store->snapshots--;
-    return settle(store, before, fault);
-}
-
-// ---- calls that look
-
-static int store_read(void *self, struct place at, uint64_t offset, char *out, size_t room, size_t *got) {
-    struct store *store = self;
-    return store->over.way->read(store->over.self, at, offset, out, room, got);
-}
-
-static int store_stat(void *self, struct place at, struct standing *out) {
-    struct store *store = self;
-    return store->over.way->stat(store->over.self, at, out);
-}
-
-static int store_list(void *self, struct place at, struct bytes *out) {
-    struct store *store = self;
-    return store->over.way->list(store->over.self, at, out);
-}
-
-static int store_data(void *self, struct place at, uint64_t offset, struct run *out) {
-    struct store *store = self;
-    return store->over.way->data(store->over.self, at, offset, out);
-}
-
-static unsigned store_relieve(void *self, unsigned steps) {
-    struct store *store = self;
-    return store->over.way->relieve(store->over.self, steps);
-}
-
-static unsigned store_owes(void *self) {
-    struct store *store = self;
-    return store->over.way->owes(store->over.self);
+    if (fault) calls->length = before;
+    return fault;
 }
 
 // ---- the log
@@ -305,14 +228,14 @@ static int store_close(void *self, struct image *image) {
     end_keeper(store);
     int fault = keep_rest(store);
     if (fault) store_say(store, "what was changed since the last sync may be lost: %s", strerror(fault));
-    int other = store->over.way->close(store->over.self, image);
+    int other = store->noting.over.way->close(store->noting.over.self, image);
     free_store(store);
     return fault ? fault : other;
 }
 
 static const struct way store_way = {
-    store_change,    store_rename, store_truncate, store_write,   store_read, store_stat,  store_list,
-    store_keep_name, store_punch,  store_data,     store_relieve, store_owes, store_close,
+    noting_change,   noting_rename, noting_truncate, noting_write, over_read, over_stat,   over_list,
+    store_keep_name, noting_punch,  over_data,       over_relieve, over_owes, store_close,
 };
 
 // A part of the memory that the tree may take.
@@ -336,8 +259,8 @@ int store_open(const struct making *making, struct volume *volume, struct store 
         free_store(store);
         return fault;
     }
-    store->over = *volume;
-    *volume = (struct volume){&store_way, store, store->over.records};
+    store->noting = (struct noting){*volume, call_begins, 0};
+    *volume = (struct volume){&store_way, store, store->noting.over.records};
     *out = store;
     return 0;
 }

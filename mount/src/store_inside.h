@@ -2,6 +2,7 @@
 #ifndef STORE_INSIDE_H
 #define STORE_INSIDE_H
 #include "crew.h"
+#include "noting.h"
 #include "store.h"
 #include <limits.h>
 #include <pthread.h>
@@ -25,9 +26,9 @@ struct former_log {
 };
 
 struct store {
+    struct noting noting;
     char folder[PATH_MAX];
     int directory, lock; // the folder, and its lock
-    struct volume over;
     struct doorvervain *volume; // that of the library
     struct mount *mount;
     bool syncs_each;
