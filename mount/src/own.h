@@ -26,6 +26,8 @@ int own_aside(struct mount *mount, struct own_path *out);
 struct own_path own_link(uint64_t number);
 // What was set aside goes. To be called where a tree was restored, too.
 int own_clear(struct mount *mount);
+// Those of the folders go that are empty. Whether something is set aside.
+bool own_tidy(struct mount *mount);
 // Nothing is used any more: the folders go that are empty.
 int own_end(struct mount *mount);
 // The name behind the last slash of a path.

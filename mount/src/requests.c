@@ -7,6 +7,7 @@
 #include "requests.h"
 #include "aside.h"
 #include "awake.h"
+#include "delta.h"
 #include "ending.h"
 #include "extended.h"
 #include "holes.h"
@@ -295,6 +296,8 @@ static void on_rename(fuse_req_t req, fuse_ino_t parent, const char *name, fuse_
 // A file or directory that is open. All of them stand in a row, since a mount may end before they are closed.
 struct handle {
     struct bytes names; // of a directory, as they were when it was read from its beginning
+    struct bytes text;  // of a difference, by the root
+    size_t sent;        // bytes of it
     uint64_t told;      // how many failed syncs of the store it was told
     struct handle *before, *after;
 };
@@ -322,6 +325,7 @@ static void close_handle(struct fuse_file_info *info) {
     handle->before->after = handle->after;
     handle->after->before = handle->before;
     bytes_free(&handle->names);
+    bytes_free(&handle->text);
     free(handle);
 }
 
@@ -707,15 +711,38 @@ static int answer_ending(fuse_req_t req) {
     return 0;
 }
 
+static int answer_send(fuse_req_t req, const struct send_request *wanted, struct handle *handle) {
+    struct mount *mount = mount_of(req);
+    handle->text.length = handle->sent = 0;
+    int fault = begin(req);
+    if (!fault) fault = delta_print(mount, wanted, &handle->text);
+    fault = leave(mount, fault);
+    if (!fault) fuse_reply_ioctl(req, 0, 0, 0);
+    return fault;
+}
+
+static int answer_sent_piece(fuse_req_t req, struct handle *handle) {
+    static struct delta_piece piece;
+    size_t left = handle->text.length - handle->sent;
+    piece.count = (uint32_t)(left < sizeof piece.bytes ? left : sizeof piece.bytes);
+    if (piece.count) memcpy(piece.bytes, handle->text.at + handle->sent, piece.count);
+    handle->sent += piece.count;
+    fuse_reply_ioctl(req, 0, &piece, sizeof piece);
+    return 0;
+}
+
 static void on_ioctl(fuse_req_t req, fuse_ino_t number, unsigned what, void *argument, struct fuse_file_info *info,
                      unsigned flags, const void *in, size_t in_size, size_t out_size) {
-    (void)argument, (void)info, (void)flags;
+    (void)argument, (void)flags;
     uid_t asks = fuse_req_ctx(req)->uid;
+    struct handle *handle = handle_of(info);
     int fault = ENOTTY;
     if (asks && asks != getuid()) fault = EPERM;
-    else if (number != FUSE_ROOT_ID) fault = ENOTTY;
+    else if (number != FUSE_ROOT_ID || !handle) fault = ENOTTY;
     else if (what == RESTORE_REQUEST && in_size == sizeof(struct restore_request)) fault = start_restoring(req, in);
     else if (what == ENDING_REQUEST && out_size == sizeof(struct ending_place)) fault = answer_ending(req);
+    else if (what == SEND_REQUEST && in_size == sizeof(struct send_request)) fault = answer_send(req, in, handle);
+    else if (what == SENT_PIECE_REQUEST && out_size == sizeof(struct delta_piece)) fault = answer_sent_piece(req, handle);
     if (fault) fuse_reply_err(req, fault);
 }
 

@@ -337,7 +337,7 @@ int store_open(const struct making *making, struct volume *volume, struct store 
         return fault;
     }
     store->over = *volume;
-    *volume = (struct volume){&store_way, store, store->over.records};
+    *volume = (struct volume){&store_way, store, store->over.records, store->over.tree};
     *out = store;
     return 0;
 }

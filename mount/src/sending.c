@@ -1,0 +1,61 @@
+#include "sending.h"
+#include "changes.h"
+#include "delta.h"
+#include <errno.h>
+#include <fcntl.h>
+#include <stdio.h>
+#include <string.h>
+#include <unistd.h>
+
+static int say(const char *what, const char *which, int fault) {
+    fprintf(stderr, "doorvervain-mount: %s%s: %s\n", what, which, strerror(fault));
+    return 1;
+}
+
+static int open_root(const char *mount_point) { return open(mount_point, O_RDONLY | O_DIRECTORY | O_CLOEXEC); }
+
+static int write_all(const char *bytes, size_t count) {
+    while (count) {
+        ssize_t done = write(STDOUT_FILENO, bytes, count);
+        if (done < 0 && errno == EINTR) continue;
+        if (done < 0) return errno;
+        bytes += done;
+        count -= (size_t)done;
+    }
+    return 0;
+}
+
+// Whether a snapshot stands, or none is named: what is missing is said as by `--changes`.
+static int try_name(int root, const char *name) {
+    int tree = open_tree(root, name);
+    if (tree < 0) return say("no snapshot ", name, errno);
+    close(tree);
+    return 0;
+}
+
+static int write_text(int root, const char *mount_point) {
+    static struct delta_piece piece;
+    do {
+        if (ioctl(root, SENT_PIECE_REQUEST, &piece)) return say("not all was sent of ", mount_point, errno);
+        int fault = write_all(piece.bytes, piece.count);
+        if (fault) return say("not all was written", "", fault);
+    } while (piece.count == sizeof piece.bytes);
+    return 0;
+}
+
+static int send_from(int root, const char *mount_point, const char *from, const char *to) {
+    struct send_request wanted = {{0}, {0}};
+    if (try_name(root, from) || (to && try_name(root, to))) return 1;
+    strcpy(wanted.from, from);
+    strcpy(wanted.to, to ? to : "");
+    if (ioctl(root, SEND_REQUEST, &wanted)) return say("cannot send from ", mount_point, errno);
+    return write_text(root, mount_point);
+}
+
+int send_changes(const char *mount_point, const char *from, const char *to) {
+    int root = open_root(mount_point);
+    if (root < 0) return say("cannot open ", mount_point, errno);
+    int status = send_from(root, mount_point, from, to);
+    close(root);
+    return status;
+}
