@@ -8,7 +8,7 @@ _doorvervain_mount() {
         if [[ $word == -* ]]; then
             mapfile -t COMPREPLY < <(compgen -W "--store --sync --log-size --replica --prefix --authority --certificate \
                 --key --user --password --pipe --load --image --size --record --steps --awake --trust \
-                --allow-other --foreground --restore --changes --send --unmount --lines --version --help" -- "$word")
+                --allow-other --foreground --restore --changes --send --receive --unmount --lines --version --help" -- "$word")
             return
         fi
         mapfile -t COMPREPLY < <(compgen -d -- "$word")

@@ -1,4 +1,6 @@
 #include "delta.h"
+#include "own.h"
+#include "patch.h"
 #include "room.h"
 #include "snapshots.h"
 #include <errno.h>
@@ -41,4 +43,80 @@ int delta_print(struct mount *mount, const struct send_request *wanted, struct b
     if (!has_ends || !wanted->from[0]) return EINVAL;
     if (!wanted->to[0]) return print_to_live(mount, wanted->from, out);
     return print_between(mount->volume.tree, wanted->from, wanted->to, out);
+}
+
+// ---- a difference is applied
+
+// The library reads the text, as one of a tree that the mount has not: so it tells the first line that is bad, and no more.
+static int find_bad_line(const struct bytes *given, uint64_t *line) {
+    static const char other[] = "/another-tree";
+    struct doorvervain tree;
+    *line = 0;
+    uint8_t number = doorvervain_open(&tree, DOORVERVAIN_FANOUT, DOORVERVAIN_PENDING, DOORVERVAIN_LEAF);
+    if (!number) number = doorvervain_mkdir(&tree, text(other), sizeof other - 1, moment_now());
+    if (!number) number = doorvervain_apply(&tree, text(given->at), given->length, line);
+    doorvervain_close(&tree);
+    return number == DOORVERVAIN_ENOMEM ? ENOMEM : 0;
+}
+
+static int add_to_sum(void *sum, const uint8_t *bytes, size_t count) { return sum_add(sum, bytes, count); }
+
+// Whether the image of the live tree is the one that was wanted. So what is no tree is found, too.
+static int try_sum(struct mount *mount, const struct patch *patch) {
+    char digits[SUM_DIGITS + 1] = "";
+    struct sum sum;
+    int fault = sum_begin(&sum);
+    if (!fault) fault = patch_print_live(mount->volume.tree, add_to_sum, &sum);
+    int other = sum_end(&sum, digits);
+    if (fault || other) return fault ? fault : other;
+    return strcmp(digits, patch->sum) ? EINVAL : 0;
+}
+
+static int keep(struct mount *mount, enum keeping what) {
+    return mount->volume.way->keep(mount->volume.self, what, SNAPSHOT_KEPT);
+}
+
+// Where one call is refused, all are taken back.
+static int do_or_undo(struct mount *mount, struct patch *patch) {
+    int fault = keep(mount, TAKE_SNAPSHOT);
+    if (fault) return fault;
+    fault = patch_do(patch, mount);
+    if (!fault) fault = try_sum(mount, patch);
+    if (!fault) fault = own_start(mount);
+    room_lift();
+    int other = fault ? keep(mount, RESTORE_SNAPSHOT) : 0;
+    if (!other) other = keep(mount, DROP_SNAPSHOT);
+    return fault ? fault : other;
+}
+
+static int apply_once(struct mount *mount, const struct bytes *given) {
+    struct patch patch;
+    int fault = patch_read(&patch, mount->volume.tree, given);
+    if (!fault) fault = do_or_undo(mount, &patch);
+    patch_free(&patch);
+    return fault;
+}
+
+static int apply(struct mount *mount, const struct bytes *given, struct bytes *stale) {
+    int fault;
+    snapshot_note(mount, stale);
+    do {
+        room_begin();
+        fault = apply_once(mount, given);
+    } while (room_again(&mount->volume, &fault));
+    if (!fault) entries_number_anew(mount->root);
+    snapshot_follow(mount, fault, stale);
+    return fault;
+}
+
+int delta_apply(struct mount *mount, const struct bytes *given, struct delta_answer *answer, struct bytes *stale) {
+    *answer = (struct delta_answer){DELTA_IS_DONE, 0};
+    if (!mount->volume.tree) return EOPNOTSUPP;
+    int fault = find_bad_line(given, &answer->line);
+    if (!fault && answer->line) answer->outcome = DELTA_IS_NONE;
+    if (fault || answer->line) return fault;
+    fault = apply(mount, given, stale);
+    if (fault == ENOENT) answer->outcome = DELTA_IS_OF_OTHER;
+    if (fault == EINVAL) answer->outcome = DELTA_MAKES_NO_TREE;
+    return answer->outcome ? 0 : fault;
 }

@@ -15,7 +15,9 @@ static const char help[] =
     "                                        prints what changed from its snapshot NAME to TO, or to now: + came, - went,\n"
     "                                        M changed; a folder that came or went is one line\n"
     "  doorvervain-mount --send NAME [TO] MNT\n"
-    "                                        writes the difference of these trees, for --receive, to standard output\n"
+    "                                        writes the difference of these trees to standard output\n"
+    "  doorvervain-mount --receive MNT       makes of the tree of MNT, which has to be the first of these, the second: by the\n"
+    "                                        difference on standard input. Its snapshots stay\n"
     "  doorvervain-mount --unmount MNT       takes it away, and waits until what it keeps is whole; the status is the mount's\n"
     "  doorvervain-mount --lines DIR         prints the logs of a store as lines of a script\n"
     "\n"
@@ -74,6 +76,7 @@ static const struct option known[] = {
     {"restore", required_argument, 0, 'r'},
     {"changes", required_argument, 0, 'c'},
     {"send", required_argument, 0, 'e'},
+    {"receive", no_argument, 0, 'x'},
     {"store", required_argument, 0, 'd'},
     {"replica", required_argument, 0, 'R'},
     {"prefix", required_argument, 0, 'P'},
@@ -166,6 +169,7 @@ static int read_option(int letter, struct options *out) {
     case 'r': out->restore = optarg; return 0;
     case 'c': out->changes = optarg; return 0;
     case 'e': out->send = optarg; return 0;
+    case 'x': out->receives = true; return 0;
     case 'z': return read_bytes(optarg, SMALLEST_SIZE, "--size takes 16M or more, not ", &out->size);
     case 'u': out->unmounts = true; return 0;
     case 'n': out->lines = true; return 0;

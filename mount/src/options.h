@@ -13,6 +13,7 @@ struct options {
     const char *changes_to; // and the one up to which; null: the live tree
     uint64_t size;       // bytes of memory that the tree may take; 0: as many as there are
     unsigned awake;      // microseconds for which the next request is looked for
+    bool receives;       // a difference makes of the tree of a mount that stands another one
     bool lines;          // prints the logs of a store, which `mount_point` names
     bool unmounts;       // takes a mount away, and waits for its end
     bool stays;          // in the foreground

@@ -16,7 +16,7 @@ struct own_path {
     char text[sizeof UNLINKED_PATH + 24];
 };
 
-// Called once the volume stands: what is said on standard error is of an image that was loaded.
+// Called once the volume stands, and where its tree came from elsewhere: what is said on standard error is of that.
 int own_start(struct mount *mount);
 // Makes one of the folders where it does not stand. The root keeps its moment.
 int own_make(struct mount *mount, enum own which);

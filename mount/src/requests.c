@@ -688,21 +688,69 @@ static void *restore(void *argument) {
     return 0;
 }
 
-static int start_restoring(fuse_req_t req, const struct restore_request *wanted) {
+static int start_thread(void *(*run)(void *argument), void *argument) {
     pthread_t thread;
+    count_thread(1);
+    int fault = pthread_create(&thread, 0, run, argument);
+    if (fault) count_thread(-1);
+    else pthread_detach(thread);
+    return fault;
+}
+
+static int start_restoring(fuse_req_t req, const struct restore_request *wanted) {
     if (!memchr(wanted->name, 0, sizeof wanted->name)) return EINVAL;
     struct restoring *restoring = malloc(sizeof *restoring);
     if (!restoring) return ENOMEM;
     *restoring = (struct restoring){req, *wanted};
-    count_thread(1);
-    int fault = pthread_create(&thread, 0, restore, restoring);
-    if (!fault) {
-        pthread_detach(thread);
-        return 0;
-    }
-    count_thread(-1);
-    free(restoring);
+    int fault = start_thread(restore, restoring);
+    if (fault) free(restoring);
     return fault;
+}
+
+// Runs in a thread of its own, as `restore` does.
+struct receiving {
+    fuse_req_t req;
+    struct bytes text;
+};
+
+static void *receive(void *argument) {
+    struct receiving *receiving = argument;
+    struct mount *mount = mount_of(receiving->req);
+    struct bytes stale = {0};
+    struct delta_answer answer;
+    int fault = begin(receiving->req);
+    if (!fault) fault = delta_apply(mount, &receiving->text, &answer, &stale);
+    fault = leave(mount, fault);
+    tell_stale(&stale);
+    if (fault) fuse_reply_err(receiving->req, fault);
+    else fuse_reply_ioctl(receiving->req, 0, &answer, sizeof answer);
+    bytes_free(&receiving->text);
+    free(receiving);
+    count_thread(-1);
+    return 0;
+}
+
+static int start_receiving(fuse_req_t req, struct handle *handle) {
+    struct receiving *receiving = mount_of(req)->volume.tree ? malloc(sizeof *receiving) : 0;
+    if (!receiving) return mount_of(req)->volume.tree ? ENOMEM : EOPNOTSUPP;
+    *receiving = (struct receiving){req, handle->text};
+    handle->text = (struct bytes){0};
+    int fault = start_thread(receive, receiving);
+    if (!fault) return 0;
+    bytes_free(&receiving->text);
+    free(receiving);
+    return fault;
+}
+
+// A text takes no more memory than a call that makes the tree grow.
+static int take_coming_piece(fuse_req_t req, const struct delta_piece *piece, struct handle *handle) {
+    if (piece->count > sizeof piece->bytes) return EINVAL;
+    if (!mount_of(req)->volume.tree) return EOPNOTSUPP;
+    room_begin();
+    int fault = bytes_append(&handle->text, piece->bytes, piece->count);
+    room_lift();
+    if (!fault) fuse_reply_ioctl(req, 0, 0, 0);
+    return fault ? ENOSPC : 0;
 }
 
 static int answer_ending(fuse_req_t req) {
@@ -743,6 +791,8 @@ static void on_ioctl(fuse_req_t req, fuse_ino_t number, unsigned what, void *arg
     else if (what == ENDING_REQUEST && out_size == sizeof(struct ending_place)) fault = answer_ending(req);
     else if (what == SEND_REQUEST && in_size == sizeof(struct send_request)) fault = answer_send(req, in, handle);
     else if (what == SENT_PIECE_REQUEST && out_size == sizeof(struct delta_piece)) fault = answer_sent_piece(req, handle);
+    else if (what == COMING_PIECE_REQUEST && in_size == sizeof(struct delta_piece)) fault = take_coming_piece(req, in, handle);
+    else if (what == RECEIVE_REQUEST && out_size == sizeof(struct delta_answer)) fault = start_receiving(req, handle);
     if (fault) fuse_reply_err(req, fault);
 }
 

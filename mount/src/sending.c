@@ -3,6 +3,7 @@
 #include "delta.h"
 #include <errno.h>
 #include <fcntl.h>
+#include <inttypes.h>
 #include <stdio.h>
 #include <string.h>
 #include <unistd.h>
@@ -56,6 +57,55 @@ int send_changes(const char *mount_point, const char *from, const char *to) {
     int root = open_root(mount_point);
     if (root < 0) return say("cannot open ", mount_point, errno);
     int status = send_from(root, mount_point, from, to);
+    close(root);
+    return status;
+}
+
+// ---- a difference that comes
+
+static int read_piece(struct delta_piece *piece) {
+    ssize_t got;
+    do got = read(STDIN_FILENO, piece->bytes, sizeof piece->bytes);
+    while (got < 0 && errno == EINTR);
+    piece->count = got < 0 ? 0 : (uint32_t)got;
+    return got < 0 ? errno : 0;
+}
+
+static int give_text(int root, const char *mount_point) {
+    static struct delta_piece piece;
+    do {
+        int fault = read_piece(&piece);
+        if (fault) return say("cannot read the difference", "", fault);
+        if (piece.count && ioctl(root, COMING_PIECE_REQUEST, &piece)) return say("cannot receive to ", mount_point, errno);
+    } while (piece.count);
+    return 0;
+}
+
+static int say_outcome(const struct delta_answer *answer, const char *mount_point) {
+    switch (answer->outcome) {
+    case DELTA_IS_DONE: return 0;
+    case DELTA_IS_NONE:
+        fprintf(stderr, "doorvervain-mount: no difference from line %" PRIu64 " on\n", answer->line);
+        return 1;
+    case DELTA_IS_OF_OTHER:
+        fprintf(stderr, "doorvervain-mount: it is the difference of another tree than that of %s\n", mount_point);
+        return 1;
+    default: fputs("doorvervain-mount: what the difference makes is no tree\n", stderr); return 1;
+    }
+}
+
+static int receive_to(int root, const char *mount_point) {
+    struct delta_answer answer = {0};
+    int status = give_text(root, mount_point);
+    if (status) return status;
+    if (ioctl(root, RECEIVE_REQUEST, &answer)) return say("cannot receive to ", mount_point, errno);
+    return say_outcome(&answer, mount_point);
+}
+
+int receive_changes(const char *mount_point) {
+    int root = open_root(mount_point);
+    if (root < 0) return say("cannot open ", mount_point, errno);
+    int status = receive_to(root, mount_point);
     close(root);
     return status;
 }
