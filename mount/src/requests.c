@@ -1,8 +1,8 @@
 // Each request takes the lock, does what files.h has for it, leaves the lock, and answers. One thread serves them all:
-// most take less time than to wake another. A snapshot is restored by a thread of its own.
+// most take less time than to wake another. A snapshot is restored, and a difference applied, by a thread of its own.
 //
 // All changes of the tree come by the kernel, so what it knows of names and attributes stays right for as long as it
-// keeps them; where a snapshot is restored, it is told to forget. The bytes of a file are asked for anew when it is
+// keeps them; where the tree becomes another one, it is told to forget. The bytes of a file are asked for anew when it is
 // opened.
 #include "requests.h"
 #include "aside.h"
@@ -34,7 +34,7 @@ enum { MOST_WAITING_STEPS = 64 };
 static pthread_mutex_t lock = PTHREAD_MUTEX_INITIALIZER;
 static struct fuse_session *session;
 static double seconds_known = SECONDS_KNOWN;
-static unsigned threads; // that restore a snapshot, under the lock
+static unsigned threads; // that make the tree another one, under the lock
 
 void requests_use(struct fuse_session *used, bool is_shared) {
     session = used;
@@ -707,12 +707,18 @@ static int start_restoring(fuse_req_t req, const struct restore_request *wanted)
     return fault;
 }
 
-// Runs in a thread of its own, as `restore` does.
 struct receiving {
     fuse_req_t req;
     struct bytes text;
 };
 
+// A store has on the disk what was received.
+static int sync_new(struct store *store) {
+    uint64_t told = store_failures(store);
+    return store_sync(store, &told);
+}
+
+// Runs in a thread of its own, as `restore` does.
 static void *receive(void *argument) {
     struct receiving *receiving = argument;
     struct mount *mount = mount_of(receiving->req);
@@ -720,6 +726,7 @@ static void *receive(void *argument) {
     struct delta_answer answer;
     int fault = begin(receiving->req);
     if (!fault) fault = delta_apply(mount, &receiving->text, &answer, &stale);
+    if (!fault && mount->store) fault = sync_new(mount->store);
     fault = leave(mount, fault);
     tell_stale(&stale);
     if (fault) fuse_reply_err(receiving->req, fault);

@@ -16,19 +16,23 @@ static int keep(struct mount *mount, enum keeping what, const char *name) {
 // Takes the tree without what is set aside, which stands in it again then.
 static int keep_without_aside(struct mount *mount, const char *name) {
     int fault = mount->volume.way->change(mount->volume.self, REMOVE_TREE, UNLINKED_PATH, 0);
+    if (!fault) own_tidy(mount);
     if (!fault) fault = keep(mount, TAKE_SNAPSHOT, name);
     room_lift();
     int other = keep(mount, RESTORE_SNAPSHOT, SNAPSHOT_KEPT);
     return fault ? fault : other;
 }
 
+// Where there is but one name left, what is set aside is in it.
 int snapshot_keep(struct mount *mount, const char *name) {
     if (!mount->volume.tree || !own_tidy(mount)) return keep(mount, TAKE_SNAPSHOT, name);
     int fault = keep(mount, TAKE_SNAPSHOT, SNAPSHOT_KEPT);
-    if (fault) return fault;
-    fault = keep_without_aside(mount, name);
-    int other = keep(mount, DROP_SNAPSHOT, SNAPSHOT_KEPT);
-    return fault ? fault : other;
+    if (!fault) {
+        fault = keep_without_aside(mount, name);
+        int other = keep(mount, DROP_SNAPSHOT, SNAPSHOT_KEPT);
+        if (!fault) fault = other;
+    }
+    return fault == ENOSPC ? keep(mount, TAKE_SNAPSHOT, name) : fault;
 }
 
 static int take_tree(struct mount *mount, const char *name, struct entry **out) {
