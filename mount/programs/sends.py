@@ -339,16 +339,17 @@ def snapshots_that_are_not_there(folder: Path):
 @record_case
 def what_has_no_room(folder: Path):
     one, other = two_mounts(folder, "--size", "16M")
-    (one.point / "small").write_text("small")
-    snapshot(one, "small")
-    receive(other, send(one, "none", "small"))
+    (one.point / "some").write_bytes(random.Random(5).randbytes(3 << 20))
+    snapshot(one, "some")
+    receive(other, send(one, "none", "some"))
     was = seen(other.point)
-    (one.point / "large").write_bytes(random.Random(5).randbytes(12 << 20))
-    snapshot(one, "large")
-    assert "No space left" in refused("--receive", other.point, text=send(one, "small", "large"))
-    alike(seen(other.point), was)
+    # A text that fits beside the tree, where what comes does not; and one that does not.
+    for size in (3_900_000, 12 << 20):
+        (one.point / "large").write_bytes(random.Random(6).randbytes(size))
+        assert "No space left" in refused("--receive", other.point, text=send(one, "some"))
+        alike(seen(other.point), was)
     (one.point / "large").write_text("smaller")
-    receive(other, send(one, "small"))
+    receive(other, send(one, "some"))
     same(one.point, other.point)
     end_well(one)
     end_well(other)
