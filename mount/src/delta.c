@@ -14,8 +14,8 @@ static uint8_t print_into(struct bytes *out, struct doorvervain *tree, const cha
     return doorvervain_delta(tree, text(from), strlen(from), text(to), strlen(to), (uint8_t *)out->at, out->room, size);
 }
 
-// A text has its bytes in hexadecimal digits, so it hardly has more than thrice what the trees take: one call of the library
-// is enough then. Where there is not so much room, that call tells how much it takes.
+// A text has bytes in hexadecimal digits, so it hardly has more than thrice what the trees take: one call of the
+// library is enough then. Where there is not so much room, that call tells how much it takes.
 static int print_between(struct doorvervain *tree, const char *from, const char *to, struct bytes *out) {
     size_t size = LEAST_ROOM;
     bytes_free(out);
@@ -47,7 +47,8 @@ int delta_print(struct mount *mount, const struct send_request *wanted, struct b
 
 // ---- a difference is applied
 
-// The library reads the text, as one of a tree that the mount has not: so it tells the first line that is bad, and no more.
+// The library is asked to apply the text to a tree that the mount has not: so it tells the first line that is bad, and
+// does no more.
 static int find_bad_line(const struct bytes *given, uint64_t *line) {
     static const char other[] = "/another-tree";
     struct doorvervain tree;

@@ -1,7 +1,7 @@
 // Differences of trees, out of a mount that stands and into it.
 //
-// Who sends or receives asks by ioctl(2) on the root. The text goes by pieces, and belongs to the root as it was opened: so it
-// is gone with whoever asked.
+// Who sends or receives asks by ioctl(2) on the root. The text goes by pieces, and belongs to the root as it was
+// opened: so it is gone with whoever asked.
 #ifndef DELTA_H
 #define DELTA_H
 #include "mount.h"
@@ -37,7 +37,7 @@ struct delta_answer {
 
 // `out` gets the text of a difference.
 int delta_print(struct mount *mount, const struct send_request *wanted, struct bytes *out);
-// The live tree becomes what a text makes of it, and snapshots stay. With a fault, and with another outcome, it is as it was. What
-// the kernel has to forget goes to `stale`, as with snapshot_restore.
+// The live tree becomes what a text makes of it, and snapshots stay. With a fault, and with another outcome, it is as
+// it was. What the kernel has to forget goes to `stale`, as with snapshot_restore.
 int delta_apply(struct mount *mount, const struct bytes *text, struct delta_answer *answer, struct bytes *stale);
 #endif

@@ -49,7 +49,8 @@ static bool next_number(struct line *rest, uint64_t *out) {
     if (!next_word(rest, &word) || word.length > 20) return false;
     for (size_t i = 0; i < word.length; i++) {
         unsigned digit = (unsigned)(word.at[i] - '0');
-        if (digit > 9 || __builtin_mul_overflow(*out, 10, out) || __builtin_add_overflow(*out, digit, out)) return false;
+        bool is_one = digit <= 9 && !__builtin_mul_overflow(*out, 10, out) && !__builtin_add_overflow(*out, digit, out);
+        if (!is_one) return false;
     }
     return true;
 }

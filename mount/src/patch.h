@@ -28,11 +28,11 @@ struct patch {
     char sum[SUM_DIGITS + 1]; // of the image of the new tree
 };
 
-// The text is one that the library takes for a difference, and stays for as long as the patch. 0; ENOENT: it is of another
-// tree; EINVAL: it makes none of this one; ENOMEM. In any case the patch is to be freed.
+// The text is one that the library takes for a difference, and stays for as long as the patch. 0; ENOENT: it is of
+// another tree; EINVAL: it makes none of this one; ENOMEM. In any case the patch is to be freed.
 int patch_read(struct patch *out, struct doorvervain *tree, const struct bytes *text);
-// Makes of the live tree what the patch says, by calls of the volume: 0, or why one of them was refused. EINVAL: what is
-// wanted is no tree.
+// Makes of the live tree what the patch says, by calls of the volume: 0, or why one of them was refused. EINVAL: what
+// is wanted is no tree.
 int patch_do(struct patch *patch, struct mount *mount);
 void patch_free(struct patch *patch);
 

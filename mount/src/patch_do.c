@@ -1,5 +1,5 @@
-// Does by calls of the volume what a difference says: what goes goes first, what comes is made in the order of the image, and
-// last each folder gets the moment that it is to have.
+// Does by calls of the volume what a difference says: what goes goes first, what comes is made in the order of the
+// image, and last each folder gets the moment that it is to have.
 #define _GNU_SOURCE
 #include "patch.h"
 #include "text.h"

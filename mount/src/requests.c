@@ -2,8 +2,8 @@
 // most take less time than to wake another. A snapshot is restored, and a difference applied, by a thread of its own.
 //
 // All changes of the tree come by the kernel, so what it knows of names and attributes stays right for as long as it
-// keeps them; where the tree becomes another one, it is told to forget. The bytes of a file are asked for anew when it is
-// opened.
+// keeps them; where the tree becomes another one, it is told to forget. The bytes of a file are asked for anew when it
+// is opened.
 #include "requests.h"
 #include "aside.h"
 #include "awake.h"
@@ -786,20 +786,29 @@ static int answer_sent_piece(fuse_req_t req, struct handle *handle) {
     return 0;
 }
 
+// What goes in and out has the size that the number of a request tells.
+static int answer_asked(fuse_req_t req, unsigned what, const void *in, struct handle *handle) {
+    switch (what) {
+    case RESTORE_REQUEST: return start_restoring(req, in);
+    case ENDING_REQUEST: return answer_ending(req);
+    case SEND_REQUEST: return answer_send(req, in, handle);
+    case SENT_PIECE_REQUEST: return answer_sent_piece(req, handle);
+    case COMING_PIECE_REQUEST: return take_coming_piece(req, in, handle);
+    case RECEIVE_REQUEST: return start_receiving(req, handle);
+    default: return ENOTTY;
+    }
+}
+
 static void on_ioctl(fuse_req_t req, fuse_ino_t number, unsigned what, void *argument, struct fuse_file_info *info,
                      unsigned flags, const void *in, size_t in_size, size_t out_size) {
     (void)argument, (void)flags;
     uid_t asks = fuse_req_ctx(req)->uid;
     struct handle *handle = handle_of(info);
+    bool has_all = in_size == (_IOC_DIR(what) & _IOC_WRITE ? _IOC_SIZE(what) : 0) &&
+                   out_size == (_IOC_DIR(what) & _IOC_READ ? _IOC_SIZE(what) : 0);
     int fault = ENOTTY;
     if (asks && asks != getuid()) fault = EPERM;
-    else if (number != FUSE_ROOT_ID || !handle) fault = ENOTTY;
-    else if (what == RESTORE_REQUEST && in_size == sizeof(struct restore_request)) fault = start_restoring(req, in);
-    else if (what == ENDING_REQUEST && out_size == sizeof(struct ending_place)) fault = answer_ending(req);
-    else if (what == SEND_REQUEST && in_size == sizeof(struct send_request)) fault = answer_send(req, in, handle);
-    else if (what == SENT_PIECE_REQUEST && out_size == sizeof(struct delta_piece)) fault = answer_sent_piece(req, handle);
-    else if (what == COMING_PIECE_REQUEST && in_size == sizeof(struct delta_piece)) fault = take_coming_piece(req, in, handle);
-    else if (what == RECEIVE_REQUEST && out_size == sizeof(struct delta_answer)) fault = start_receiving(req, handle);
+    else if (number == FUSE_ROOT_ID && handle && has_all) fault = answer_asked(req, what, in, handle);
     if (fault) fuse_reply_err(req, fault);
 }
 

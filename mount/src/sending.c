@@ -76,7 +76,8 @@ static int give_text(int root, const char *mount_point) {
     do {
         int fault = read_piece(&piece);
         if (fault) return say("cannot read the difference", "", fault);
-        if (piece.count && ioctl(root, COMING_PIECE_REQUEST, &piece)) return say("cannot receive to ", mount_point, errno);
+        if (piece.count && ioctl(root, COMING_PIECE_REQUEST, &piece))
+            return say("cannot receive to ", mount_point, errno);
     } while (piece.count);
     return 0;
 }
