@@ -88,7 +88,8 @@ static int sort_all(struct doing *doing) {
     doing->come = sort_items(patch, &patch->come);
     if (!doing->gone || !doing->come) return ENOMEM;
     pair(doing);
-    qsort_r(patch->blocks.at, patch->blocks.length / sizeof(struct block), sizeof(struct block), by_block, patch);
+    size_t count = patch->blocks.length / sizeof(struct block);
+    if (count) qsort_r(patch->blocks.at, count, sizeof(struct block), by_block, patch);
     return 0;
 }
 
@@ -205,6 +206,7 @@ struct run_of_blocks {
 static struct run_of_blocks blocks_of(const struct doing *doing, const char *path) {
     const struct block *blocks = (const struct block *)doing->patch->blocks.at;
     size_t count = doing->patch->blocks.length / sizeof *blocks, from = 0, to = count;
+    if (!count) return (struct run_of_blocks){0};
     while (from < to) {
         size_t middle = from + (to - from) / 2;
         if (strcmp(path_at(doing->patch, blocks[middle].path), path) < 0) from = middle + 1;

@@ -222,7 +222,7 @@ int open_pipe(const struct making *making, struct volume *out) {
     int fault = start(making, pipe);
     // The program has come to its first line: its command line, and the image that it loads, are well.
     if (!fault) fault = pipe_stat(pipe, (struct place){0, "/"}, &root);
-    *out = (struct volume){&pipe_way, pipe, 0, 0};
+    *out = (struct volume){&pipe_way, pipe, 0};
     if (!fault) return 0;
     fprintf(stderr, "doorvervain-mount: %s does not answer: %s\n", making->betr, strerror(fault));
     if (pipe->child > 0) pipe_close(pipe, 0);

@@ -246,7 +246,7 @@ static void begin_at(struct replica *replica, struct mount *mount, const struct 
     replica->number = beginning->number;
     replica->done = replica->kept_at = beginning->checkpoint.version;
     replica->revision = beginning->checkpoint.revision;
-    mount->volume = (struct volume){&replica_way, replica, replica->over.records, 0};
+    mount->volume = (struct volume){&replica_way, replica, replica->over.records};
     mount->replica = replica;
     mount->aside = replica->number << NUMBERS_OF_A_MOUNT;
     entries_number_above(mount->aside);
