@@ -4,14 +4,15 @@ import os
 import random
 import shutil
 import subprocess
+import time
 from pathlib import Path
 
 from kept import TRUST, restore
 from own_mount import MOUNT, Mount, record_case, run_cases
-from own_store import end_well, kill, store_mount, sync
+from own_store import WORKS, end_well, fill, kill, store_mount, sync
 from seen import alike, seen
 
-ROUNDS, PIPE_BUFFER = 25, 1 << 16
+ROUNDS, MANY, PIPE_BUFFER = 25, 1500, 1 << 16
 TOLD = r"%p %y %m %U %G %T@ %s %n %l\n"
 
 
@@ -378,6 +379,31 @@ def what_was_received_outlives_a_kill(folder: Path):
     restore(other, "one")
     receive(other, send(one, "one", "two"))
     alike(seen(other.point), states["two"])
+    end_well(other)
+    end_well(one)
+
+
+@record_case
+def a_kill_within_a_receive(folder: Path):
+    """The tree is the old one or the new one then."""
+    one, other = two_mounts(folder, "--store", folder / "store")
+    fill(one, MANY)
+    (folder / "text").write_bytes(send(one, "none"))
+    snapshot(one, "one")
+    back, received = send(one, "one", "none"), 0
+    for _ in range(ROUNDS):
+        with (folder / "text").open() as text:
+            receives = subprocess.Popen([MOUNT, "--receive", other.point], stdin=text, stderr=subprocess.DEVNULL)
+        time.sleep(WORKS.uniform(0, 0.3))
+        other = killed_and_new(folder, other)
+        receives.wait()
+        names = len(os.listdir(other.point))
+        assert names in (0, MANY), names
+        received += names > 0
+        if names:
+            same(one.point, other.point)
+            receive(other, back)
+    print(f"{received} of {ROUNDS} receives came before their kill")
     end_well(other)
     end_well(one)
 
