@@ -12,7 +12,7 @@ from own_mount import MOUNT, Mount, record_case, run_cases
 from own_store import WORKS, end_well, fill, kill, store_mount, sync
 from seen import alike, seen
 
-ROUNDS, MANY, PIPE_BUFFER = 25, 1500, 1 << 16
+ROUNDS, KILLS, MANY, PIPE_BUFFER = 25, 12, 1500, 1 << 16
 TOLD = r"%p %y %m %U %G %T@ %s %n %l\n"
 
 
@@ -334,6 +334,10 @@ def snapshots_that_are_not_there(folder: Path):
             pass
     assert refused("--send", "one", folder).startswith("no snapshot ")
     assert refused("--receive", folder).startswith("cannot receive to ")
+    for i in range(63):
+        snapshot(mount, f"more{i}")
+    assert "64 snapshots" in refused("--send", "one", mount.point)
+    send(mount, "one", "more0")
     end_well(mount)
 
 
@@ -347,7 +351,7 @@ def what_has_no_room(folder: Path):
     # A text that fits beside the tree, where what comes does not; and one that does not.
     for size in (3_900_000, 12 << 20):
         (one.point / "large").write_bytes(random.Random(6).randbytes(size))
-        assert "No space left" in refused("--receive", other.point, text=send(one, "some"))
+        assert "no room" in refused("--receive", other.point, text=send(one, "some"))
         alike(seen(other.point), was)
     (one.point / "large").write_text("smaller")
     receive(other, send(one, "some"))
@@ -391,7 +395,7 @@ def a_kill_within_a_receive(folder: Path):
     (folder / "text").write_bytes(send(one, "none"))
     snapshot(one, "one")
     back, received = send(one, "one", "none"), 0
-    for _ in range(ROUNDS):
+    for _ in range(KILLS):
         with (folder / "text").open() as text:
             receives = subprocess.Popen([MOUNT, "--receive", other.point], stdin=text, stderr=subprocess.DEVNULL)
         time.sleep(WORKS.uniform(0, 0.3))
@@ -403,7 +407,7 @@ def a_kill_within_a_receive(folder: Path):
         if names:
             same(one.point, other.point)
             receive(other, back)
-    print(f"{received} of {ROUNDS} receives came before their kill")
+    print(f"{received} of {KILLS} receives came before their kill")
     end_well(other)
     end_well(one)
 

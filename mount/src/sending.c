@@ -13,6 +13,15 @@ static int say(const char *what, const char *which, int fault) {
     return 1;
 }
 
+// Why a mount did not do what it was asked.
+static int say_refusal(const char *what, const char *mount_point, int fault) {
+    const char *why = fault == EOPNOTSUPP ? "not over the program, nor with --replica"
+                      : fault == ENOSPC   ? "it has no room, or 64 snapshots"
+                                          : strerror(fault);
+    fprintf(stderr, "doorvervain-mount: %s%s: %s\n", what, mount_point, why);
+    return 1;
+}
+
 static int open_root(const char *mount_point) { return open(mount_point, O_RDONLY | O_DIRECTORY | O_CLOEXEC); }
 
 static int write_all(const char *bytes, size_t count) {
@@ -49,7 +58,7 @@ static int send_from(int root, const char *mount_point, const char *from, const 
     if (try_name(root, from) || (to && try_name(root, to))) return 1;
     strcpy(wanted.from, from);
     strcpy(wanted.to, to ? to : "");
-    if (ioctl(root, SEND_REQUEST, &wanted)) return say("cannot send from ", mount_point, errno);
+    if (ioctl(root, SEND_REQUEST, &wanted)) return say_refusal("cannot send from ", mount_point, errno);
     return write_text(root, mount_point);
 }
 
@@ -77,7 +86,7 @@ static int give_text(int root, const char *mount_point) {
         int fault = read_piece(&piece);
         if (fault) return say("cannot read the difference", "", fault);
         if (piece.count && ioctl(root, COMING_PIECE_REQUEST, &piece))
-            return say("cannot receive to ", mount_point, errno);
+            return say_refusal("cannot receive to ", mount_point, errno);
     } while (piece.count);
     return 0;
 }
@@ -99,7 +108,7 @@ static int receive_to(int root, const char *mount_point) {
     struct delta_answer answer = {0};
     int status = give_text(root, mount_point);
     if (status) return status;
-    if (ioctl(root, RECEIVE_REQUEST, &answer)) return say("cannot receive to ", mount_point, errno);
+    if (ioctl(root, RECEIVE_REQUEST, &answer)) return say_refusal("cannot receive to ", mount_point, errno);
     return say_outcome(&answer, mount_point);
 }
 
