@@ -2,13 +2,13 @@
 _doorvervain_mount() {
     local word=${COMP_WORDS[COMP_CWORD]} before=${COMP_WORDS[COMP_CWORD - 1]}
     case $before in
-    --size | --log-size | --steps | --awake | --restore | --changes | --replica | --prefix | --user) return ;;
+    --size | --log-size | --steps | --awake | --restore | --changes | --send | --replica | --prefix | --user) return ;;
     --load | --image | --record | --pipe | --authority | --certificate | --key | --password) mapfile -t COMPREPLY < <(compgen -f -- "$word") ;;
     *)
         if [[ $word == -* ]]; then
             mapfile -t COMPREPLY < <(compgen -W "--store --sync --log-size --replica --prefix --authority --certificate \
                 --key --user --password --pipe --load --image --size --record --steps --awake --trust \
-                --allow-other --foreground --restore --changes --unmount --lines --version --help" -- "$word")
+                --allow-other --foreground --restore --changes --send --receive --unmount --lines --version --help" -- "$word")
             return
         fi
         mapfile -t COMPREPLY < <(compgen -d -- "$word")

@@ -43,6 +43,13 @@ int bytes_read_all(struct bytes *bytes, int file) {
     }
 }
 
+void bytes_fit(struct bytes *bytes) {
+    char *at = realloc(bytes->at, bytes->length ? bytes->length : 1);
+    if (!at) return;
+    bytes->at = at;
+    bytes->room = bytes->length ? bytes->length : 1;
+}
+
 void bytes_free(struct bytes *bytes) {
     free(bytes->at);
     *bytes = (struct bytes){0};

@@ -16,6 +16,8 @@ int bytes_append(struct bytes *bytes, const void *more, size_t count);
 int bytes_print(struct bytes *bytes, const char *form, ...) __attribute__((format(printf, 2, 3)));
 // Appends what is left of a file that is open: 0, or a number of <errno.h>.
 int bytes_read_all(struct bytes *bytes, int file);
+// Gives the room back that is left.
+void bytes_fit(struct bytes *bytes);
 // Frees them, and leaves none.
 void bytes_free(struct bytes *bytes);
 #endif

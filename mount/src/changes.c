@@ -213,8 +213,7 @@ static int say(const char *what, const char *which, int fault) {
     return 1;
 }
 
-// The root of a snapshot, or of the live tree where none is named. -1 with errno.
-static int open_tree(int root, const char *name) {
+int open_tree(int root, const char *name) {
     char path[sizeof SNAPSHOTS + LONGEST_SNAPSHOT + 1];
     if (!name) return openat(root, ".", O_RDONLY | O_DIRECTORY | O_CLOEXEC);
     if (!*name || strchr(name, '/') || strlen(name) > LONGEST_SNAPSHOT) {

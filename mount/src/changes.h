@@ -5,4 +5,6 @@
 // Prints what differs between a snapshot of a mount that stands and another one, or the live tree where `to` is null: a line for each
 // entry, in the order of names. The status.
 int print_changes(const char *mount_point, const char *from, const char *to);
+// Opens the root of a snapshot, or of the live tree where none is named: -1 with errno.
+int open_tree(int root, const char *name);
 #endif

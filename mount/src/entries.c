@@ -106,6 +106,14 @@ void entries_number_above(uint64_t number) {
     if (number > numbers) numbers = number;
 }
 
+void entries_number_anew(struct entry *root) {
+    for (struct entry *entry = root->first; entry; entry = entry->after) {
+        if (entry->role != ORDINARY) continue;
+        if (!entry->link) entry->number = ++numbers;
+        entries_number_anew(entry);
+    }
+}
+
 struct entry *entry_find(const struct entry *parent, const char *name) {
     for (struct entry *entry = slots[slot_of(parent, name)]; entry; entry = entry->same_slot)
         if (entry->parent == parent && !strcmp(entry->name, name)) return entry;

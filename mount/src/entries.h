@@ -70,6 +70,8 @@ struct entry *entry_find_or_add(struct entry *parent, const char *name, bool is_
 struct entry *entry_own_folder(struct entry *entry, const char *name);
 // The numbers of new entries are above this one.
 void entries_number_above(uint64_t number);
+// The ordinary entries below the root of the mount get new numbers, but for files of several names.
+void entries_number_anew(struct entry *root);
 // Takes an entry and all below it out of the tree. Those that nobody holds are freed.
 void entry_take_out(struct entry *entry);
 // Gives an entry another name, which it then owns.

@@ -236,7 +236,7 @@ int open_library(const struct making *making, struct volume *out) {
     struct library *library = calloc(1, sizeof *library);
     if (!library) return ENOMEM;
     library->steps = making->steps;
-    *out = (struct volume){&library_way, library, &records};
+    *out = (struct volume){&library_way, library, &records, &library->volume};
     int fault = making->image ? load(library, making->image) : open_empty(library);
     if (fault) free(library);
     return fault;

@@ -298,6 +298,6 @@ int open_log(const struct making *making, struct volume *volume) {
         free_log(log);
         return fault;
     }
-    *volume = (struct volume){&log_way, log, log->over.records};
+    *volume = (struct volume){&log_way, log, log->over.records, log->over.tree};
     return 0;
 }

@@ -3,6 +3,7 @@
 #include "ending.h"
 #include "options.h"
 #include "requests.h"
+#include "sending.h"
 #include "serving.h"
 #include "store.h"
 #include <errno.h>
@@ -110,6 +111,8 @@ int main(int count, char **words) {
     if (options.lines) return store_lines(options.mount_point);
     options.mount_point = full_path(options.mount_point);
     if (options.changes) return print_changes(options.mount_point, options.changes, options.changes_to);
+    if (options.send) return send_changes(options.mount_point, options.send, options.changes_to);
+    if (options.receives) return receive_changes(options.mount_point);
     if (options.restore) return ask_to_restore(options.mount_point, options.restore);
     if (options.unmounts) return ending_await(options.mount_point);
     return serve_options(&options);

@@ -1,4 +1,5 @@
 // In the place of library.c where the library is not built.
+#include "delta.h"
 #include "store.h"
 #include <errno.h>
 #include <stdio.h>
@@ -31,3 +32,11 @@ bool store_syncs_each(const struct store *store) { return (void)store, false; }
 int store_sync(struct store *store, uint64_t *told) { return (void)store, (void)told, 0; }
 
 uint64_t store_failures(struct store *store) { return (void)store, 0; }
+
+int delta_print(struct mount *mount, const struct send_request *wanted, struct bytes *out) {
+    return (void)mount, (void)wanted, (void)out, EOPNOTSUPP;
+}
+
+int delta_apply(struct mount *mount, const struct bytes *text, struct delta_answer *answer, struct bytes *stale) {
+    return (void)mount, (void)text, (void)answer, (void)stale, EOPNOTSUPP;
+}

@@ -14,6 +14,10 @@ static const char help[] =
     "  doorvervain-mount --changes NAME [TO] MNT\n"
     "                                        prints what changed from its snapshot NAME to TO, or to now: + came, - went,\n"
     "                                        M changed; a folder that came or went is one line\n"
+    "  doorvervain-mount --send NAME [TO] MNT\n"
+    "                                        writes the difference of these trees to standard output\n"
+    "  doorvervain-mount --receive MNT       makes of the tree of MNT, which has to be the first of these, the second: by the\n"
+    "                                        difference on standard input. Its snapshots stay\n"
     "  doorvervain-mount --unmount MNT       takes it away, and waits until what it keeps is whole; the status is the mount's\n"
     "  doorvervain-mount --lines DIR         prints the logs of a store as lines of a script\n"
     "\n"
@@ -71,6 +75,8 @@ static const struct option known[] = {
     {"steps", required_argument, 0, 's'},
     {"restore", required_argument, 0, 'r'},
     {"changes", required_argument, 0, 'c'},
+    {"send", required_argument, 0, 'e'},
+    {"receive", no_argument, 0, 'x'},
     {"store", required_argument, 0, 'd'},
     {"replica", required_argument, 0, 'R'},
     {"prefix", required_argument, 0, 'P'},
@@ -162,6 +168,8 @@ static int read_option(int letter, struct options *out) {
     case 'w': return read_number(optarg, "--awake takes 0 to 1000, not ", &out->awake);
     case 'r': out->restore = optarg; return 0;
     case 'c': out->changes = optarg; return 0;
+    case 'e': out->send = optarg; return 0;
+    case 'x': out->receives = true; return 0;
     case 'z': return read_bytes(optarg, SMALLEST_SIZE, "--size takes 16M or more, not ", &out->size);
     case 'u': out->unmounts = true; return 0;
     case 'n': out->lines = true; return 0;
@@ -191,7 +199,7 @@ int read_options(int count, char **words, struct options *out) {
     *out = (struct options){.awake = 30, .making.steps = 4, .making.log_size = (uint64_t)64 << 20};
     while (!fault && (letter = getopt_long(count, words, "h", known, 0)) != -1) fault = read_option(letter, out);
     if (fault || out->helps || out->tells_version) return fault;
-    if (out->changes && optind + 2 == count) out->changes_to = words[optind++];
+    if ((out->changes || out->send) && optind + 2 == count) out->changes_to = words[optind++];
     if (optind + 1 != count) return refuse(out->lines ? "one folder of a store is wanted" : "one folder to mount on is wanted", "");
     if (out->making.store && (out->making.betr || out->making.image || out->image))
         return refuse("--store does not go with --pipe, --load or --image", "");

@@ -58,16 +58,20 @@ int own_clear(struct mount *mount) {
     return 0;
 }
 
+static void drop_empty(struct mount *mount, uint64_t root_at) {
+    change(mount, REMOVE_DIRECTORY, LINKS_PATH, 0);
+    if (!change(mount, REMOVE_DIRECTORY, TREE_PATH, 0)) mount->mirrors++;
+    change(mount, REMOVE_DIRECTORY, OWN_PATH, root_at);
+    mount->own_folders = 0;
+}
+
 int own_end(struct mount *mount) {
     uint64_t at = 0;
     if (mount->replica) return 0;
     int fault = own_clear(mount);
     if (!fault) fault = root_moment(mount, &at);
-    if (fault) return fault;
-    change(mount, REMOVE_DIRECTORY, LINKS_PATH, 0);
-    change(mount, REMOVE_DIRECTORY, TREE_PATH, 0);
-    change(mount, REMOVE_DIRECTORY, OWN_PATH, at);
-    return 0;
+    if (!fault) drop_empty(mount, at);
+    return fault;
 }
 
 // A file with several names has the number that it had as an entry before. No entry of this mount has one of those.
@@ -85,6 +89,14 @@ static int find_links(struct mount *mount) {
 static bool stands(struct mount *mount, const char *path) {
     struct standing standing;
     return !mount->volume.way->stat(mount->volume.self, (struct place){0, path}, &standing);
+}
+
+bool own_tidy(struct mount *mount) {
+    uint64_t at;
+    if (!stands(mount, OWN_PATH)) return false;
+    int fault = change(mount, REMOVE_DIRECTORY, UNLINKED_PATH, 0);
+    if (!root_moment(mount, &at)) drop_empty(mount, at);
+    return fault == ENOTEMPTY;
 }
 
 static int refuse(const char *what) {

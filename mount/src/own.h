@@ -16,7 +16,7 @@ struct own_path {
     char text[sizeof UNLINKED_PATH + 24];
 };
 
-// Called once the volume stands: what is said on standard error is of an image that was loaded.
+// Called once the volume stands, and where its tree came from elsewhere: what is said on standard error is of that.
 int own_start(struct mount *mount);
 // Makes one of the folders where it does not stand. The root keeps its moment.
 int own_make(struct mount *mount, enum own which);
@@ -26,6 +26,8 @@ int own_aside(struct mount *mount, struct own_path *out);
 struct own_path own_link(uint64_t number);
 // What was set aside goes. To be called where a tree was restored, too.
 int own_clear(struct mount *mount);
+// Those of the folders go that are empty. Whether something is set aside.
+bool own_tidy(struct mount *mount);
 // Nothing is used any more: the folders go that are empty.
 int own_end(struct mount *mount);
 // The name behind the last slash of a path.

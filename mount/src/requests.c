@@ -1,12 +1,13 @@
 // Each request takes the lock, does what files.h has for it, leaves the lock, and answers. One thread serves them all:
-// most take less time than to wake another. A snapshot is restored by a thread of its own.
+// most take less time than to wake another. A snapshot is restored, and a difference applied, by a thread of its own.
 //
 // All changes of the tree come by the kernel, so what it knows of names and attributes stays right for as long as it
-// keeps them; where a snapshot is restored, it is told to forget. The bytes of a file are asked for anew when it is
-// opened.
+// keeps them; where the tree becomes another one, it is told to forget. The bytes of a file are asked for anew when it
+// is opened.
 #include "requests.h"
 #include "aside.h"
 #include "awake.h"
+#include "delta.h"
 #include "ending.h"
 #include "extended.h"
 #include "holes.h"
@@ -33,7 +34,7 @@ enum { MOST_WAITING_STEPS = 64 };
 static pthread_mutex_t lock = PTHREAD_MUTEX_INITIALIZER;
 static struct fuse_session *session;
 static double seconds_known = SECONDS_KNOWN;
-static unsigned threads; // that restore a snapshot, under the lock
+static unsigned threads; // that make the tree another one, under the lock
 
 void requests_use(struct fuse_session *used, bool is_shared) {
     session = used;
@@ -295,6 +296,8 @@ static void on_rename(fuse_req_t req, fuse_ino_t parent, const char *name, fuse_
 // A file or directory that is open. All of them stand in a row, since a mount may end before they are closed.
 struct handle {
     struct bytes names; // of a directory, as they were when it was read from its beginning
+    struct bytes text;  // of a difference, by the root
+    size_t sent;        // bytes of it
     uint64_t told;      // how many failed syncs of the store it was told
     struct handle *before, *after;
 };
@@ -322,6 +325,7 @@ static void close_handle(struct fuse_file_info *info) {
     handle->before->after = handle->after;
     handle->after->before = handle->before;
     bytes_free(&handle->names);
+    bytes_free(&handle->text);
     free(handle);
 }
 
@@ -684,21 +688,76 @@ static void *restore(void *argument) {
     return 0;
 }
 
-static int start_restoring(fuse_req_t req, const struct restore_request *wanted) {
+static int start_thread(void *(*run)(void *argument), void *argument) {
     pthread_t thread;
+    count_thread(1);
+    int fault = pthread_create(&thread, 0, run, argument);
+    if (fault) count_thread(-1);
+    else pthread_detach(thread);
+    return fault;
+}
+
+static int start_restoring(fuse_req_t req, const struct restore_request *wanted) {
     if (!memchr(wanted->name, 0, sizeof wanted->name)) return EINVAL;
     struct restoring *restoring = malloc(sizeof *restoring);
     if (!restoring) return ENOMEM;
     *restoring = (struct restoring){req, *wanted};
-    count_thread(1);
-    int fault = pthread_create(&thread, 0, restore, restoring);
-    if (!fault) {
-        pthread_detach(thread);
-        return 0;
-    }
-    count_thread(-1);
-    free(restoring);
+    int fault = start_thread(restore, restoring);
+    if (fault) free(restoring);
     return fault;
+}
+
+struct receiving {
+    fuse_req_t req;
+    struct bytes text;
+};
+
+// A store has on the disk what was received.
+static int sync_new(struct store *store) {
+    uint64_t told = store_failures(store);
+    return store_sync(store, &told);
+}
+
+// Runs in a thread of its own, as `restore` does.
+static void *receive(void *argument) {
+    struct receiving *receiving = argument;
+    struct mount *mount = mount_of(receiving->req);
+    struct bytes stale = {0};
+    struct delta_answer answer;
+    int fault = begin(receiving->req);
+    if (!fault) fault = delta_apply(mount, &receiving->text, &answer, &stale);
+    if (!fault && mount->store) fault = sync_new(mount->store);
+    fault = leave(mount, fault);
+    tell_stale(&stale);
+    if (fault) fuse_reply_err(receiving->req, fault);
+    else fuse_reply_ioctl(receiving->req, 0, &answer, sizeof answer);
+    bytes_free(&receiving->text);
+    free(receiving);
+    count_thread(-1);
+    return 0;
+}
+
+static int start_receiving(fuse_req_t req, struct handle *handle) {
+    struct receiving *receiving = mount_of(req)->volume.tree ? malloc(sizeof *receiving) : 0;
+    if (!receiving) return mount_of(req)->volume.tree ? ENOMEM : EOPNOTSUPP;
+    *receiving = (struct receiving){req, handle->text};
+    handle->text = (struct bytes){0};
+    int fault = start_thread(receive, receiving);
+    if (!fault) return 0;
+    bytes_free(&receiving->text);
+    free(receiving);
+    return fault;
+}
+
+// A text takes no more memory than a call that makes the tree grow.
+static int take_coming_piece(fuse_req_t req, const struct delta_piece *piece, struct handle *handle) {
+    if (piece->count > sizeof piece->bytes) return EINVAL;
+    if (!mount_of(req)->volume.tree) return EOPNOTSUPP;
+    room_begin();
+    int fault = bytes_append(&handle->text, piece->bytes, piece->count);
+    room_lift();
+    if (!fault) fuse_reply_ioctl(req, 0, 0, 0);
+    return fault ? ENOSPC : 0;
 }
 
 static int answer_ending(fuse_req_t req) {
@@ -707,15 +766,49 @@ static int answer_ending(fuse_req_t req) {
     return 0;
 }
 
+static int answer_send(fuse_req_t req, const struct send_request *wanted, struct handle *handle) {
+    struct mount *mount = mount_of(req);
+    handle->text.length = handle->sent = 0;
+    int fault = begin(req);
+    if (!fault) fault = delta_print(mount, wanted, &handle->text);
+    fault = leave(mount, fault);
+    if (!fault) fuse_reply_ioctl(req, 0, 0, 0);
+    return fault;
+}
+
+static int answer_sent_piece(fuse_req_t req, struct handle *handle) {
+    static struct delta_piece piece;
+    size_t left = handle->text.length - handle->sent;
+    piece.count = (uint32_t)(left < sizeof piece.bytes ? left : sizeof piece.bytes);
+    if (piece.count) memcpy(piece.bytes, handle->text.at + handle->sent, piece.count);
+    handle->sent += piece.count;
+    fuse_reply_ioctl(req, 0, &piece, sizeof piece);
+    return 0;
+}
+
+// What goes in and out has the size that the number of a request tells.
+static int answer_asked(fuse_req_t req, unsigned what, const void *in, struct handle *handle) {
+    switch (what) {
+    case RESTORE_REQUEST: return start_restoring(req, in);
+    case ENDING_REQUEST: return answer_ending(req);
+    case SEND_REQUEST: return answer_send(req, in, handle);
+    case SENT_PIECE_REQUEST: return answer_sent_piece(req, handle);
+    case COMING_PIECE_REQUEST: return take_coming_piece(req, in, handle);
+    case RECEIVE_REQUEST: return start_receiving(req, handle);
+    default: return ENOTTY;
+    }
+}
+
 static void on_ioctl(fuse_req_t req, fuse_ino_t number, unsigned what, void *argument, struct fuse_file_info *info,
                      unsigned flags, const void *in, size_t in_size, size_t out_size) {
-    (void)argument, (void)info, (void)flags;
+    (void)argument, (void)flags;
     uid_t asks = fuse_req_ctx(req)->uid;
+    struct handle *handle = handle_of(info);
+    bool has_all = in_size == (_IOC_DIR(what) & _IOC_WRITE ? _IOC_SIZE(what) : 0) &&
+                   out_size == (_IOC_DIR(what) & _IOC_READ ? _IOC_SIZE(what) : 0);
     int fault = ENOTTY;
     if (asks && asks != getuid()) fault = EPERM;
-    else if (number != FUSE_ROOT_ID) fault = ENOTTY;
-    else if (what == RESTORE_REQUEST && in_size == sizeof(struct restore_request)) fault = start_restoring(req, in);
-    else if (what == ENDING_REQUEST && out_size == sizeof(struct ending_place)) fault = answer_ending(req);
+    else if (number == FUSE_ROOT_ID && handle && has_all) fault = answer_asked(req, what, in, handle);
     if (fault) fuse_reply_err(req, fault);
 }
 

@@ -93,6 +93,8 @@ struct room room_now(void) {
     return (struct room){all, all - (available < all ? available : all), 0};
 }
 
+uint64_t room_taken(void) { return atomic_load(&taken); }
+
 void room_begin(void) {
     most = size - reserve();
     was_refused = false;

@@ -16,6 +16,8 @@ struct room {
 
 void room_set_size(uint64_t size);
 struct room room_now(void);
+// What this process has taken.
+uint64_t room_taken(void);
 
 // A call that makes the tree grow stands between these two, and is done again for as long as the second says so: steps
 // of the tree gave memory back meanwhile. One that was refused for want of room has the fault ENOSPC.

@@ -9,9 +9,35 @@
 
 static struct entry *folder(const struct mount *mount) { return entry_find(mount->root, SNAPSHOTS); }
 
+static int keep(struct mount *mount, enum keeping what, const char *name) {
+    return mount->volume.way->keep(mount->volume.self, what, name);
+}
+
+// Takes the tree without what is set aside, which stands in it again then.
+static int keep_without_aside(struct mount *mount, const char *name) {
+    int fault = mount->volume.way->change(mount->volume.self, REMOVE_TREE, UNLINKED_PATH, 0);
+    if (!fault) own_tidy(mount);
+    if (!fault) fault = keep(mount, TAKE_SNAPSHOT, name);
+    room_lift();
+    int other = keep(mount, RESTORE_SNAPSHOT, SNAPSHOT_KEPT);
+    return fault ? fault : other;
+}
+
+// Where there is but one name left, what is set aside is in it.
+int snapshot_keep(struct mount *mount, const char *name) {
+    if (!mount->volume.tree || !own_tidy(mount)) return keep(mount, TAKE_SNAPSHOT, name);
+    int fault = keep(mount, TAKE_SNAPSHOT, SNAPSHOT_KEPT);
+    if (!fault) {
+        fault = keep_without_aside(mount, name);
+        int other = keep(mount, DROP_SNAPSHOT, SNAPSHOT_KEPT);
+        if (!fault) fault = other;
+    }
+    return fault == ENOSPC ? keep(mount, TAKE_SNAPSHOT, name) : fault;
+}
+
 static int take_tree(struct mount *mount, const char *name, struct entry **out) {
     const struct volume *volume = &mount->volume;
-    int fault = volume->way->keep(volume->self, TAKE_SNAPSHOT, name);
+    int fault = snapshot_keep(mount, name);
     if (fault) return fault;
     *out = entry_add(folder(mount), name, true);
     if (*out) (*out)->role = SNAPSHOT_ROOT;
@@ -31,8 +57,11 @@ int snapshots_find(struct mount *mount) {
     return fault;
 }
 
+static bool is_reserved(const char *name) { return !strncmp(name, RESERVED, sizeof RESERVED - 1); }
+
 int snapshot_take(struct mount *mount, const char *name, struct found *out) {
     int fault;
+    if (is_reserved(name)) return EPERM;
     do {
         room_begin();
         fault = take_tree(mount, name, &out->entry);
@@ -94,20 +123,25 @@ static void free_notes(struct bytes *notes) {
     notes->length = 0;
 }
 
+void snapshot_note(struct mount *mount, struct bytes *out) { note_held(mount, mount->root, out); }
+
 // What an entry stands for may be of another kind then, or gone: that shows when it is next looked for.
-int snapshot_restore(struct mount *mount, const char *name, struct bytes *out) {
-    const struct volume *volume = &mount->volume;
-    if (!entry_find(folder(mount), name)) return ENOENT;
-    note_held(mount, mount->root, out);
-    int fault = volume->way->keep(volume->self, RESTORE_SNAPSHOT, name);
+void snapshot_follow(struct mount *mount, int fault, struct bytes *out) {
     if (fault) {
         free_notes(out);
-        return fault;
+        return;
     }
     mount->state++;
     mount->mirrors++;
-    // Files that were unlinked and held when the snapshot was taken are not of its tree.
+    // Files that were unlinked and held when a snapshot was taken are not of its tree.
     own_clear(mount);
     note_root(mount, out);
-    return 0;
+}
+
+int snapshot_restore(struct mount *mount, const char *name, struct bytes *out) {
+    if (!entry_find(folder(mount), name)) return ENOENT;
+    snapshot_note(mount, out);
+    int fault = keep(mount, RESTORE_SNAPSHOT, name);
+    snapshot_follow(mount, fault, out);
+    return fault;
 }

@@ -260,7 +260,7 @@ int store_open(const struct making *making, struct volume *volume, struct store 
         return fault;
     }
     store->noting = (struct noting){*volume, call_begins, 0};
-    *volume = (struct volume){&store_way, store, store->noting.over.records};
+    *volume = (struct volume){&store_way, store, store->noting.over.records, store->noting.over.tree};
     *out = store;
     return 0;
 }

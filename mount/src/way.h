@@ -84,6 +84,7 @@ struct volume {
     const struct way *way;
     void *self;
     const struct record_form *records; // null: attributes stand beside the tree, and there are no links
+    struct doorvervain *tree; // that of the library, to look at; null: over the program, and with --replica
 };
 
 // Where the log of a replica is, and what its members are told and believed by.

@@ -1,0 +1,423 @@
+"""Differences of trees, out of one mount and into another."""
+import hashlib
+import os
+import random
+import shutil
+import subprocess
+import time
+from pathlib import Path
+
+from kept import TRUST, restore
+from own_mount import MOUNT, Mount, record_case, run_cases
+from own_store import WORKS, end_well, fill, kill, store_mount, sync
+from seen import alike, seen
+
+ROUNDS, KILLS, MANY, PIPE_BUFFER = 25, 12, 1500, 1 << 16
+TOLD = r"%p %y %m %U %G %T@ %s %n %l\n"
+
+
+def two_mounts(folder: Path, *options) -> tuple[Mount, Mount]:
+    """With one snapshot of the empty tree in the first."""
+    one, other = Mount(folder, "--image", folder / "one", name="from"), Mount(folder, *TRUST, *options, name="to")
+    assert one.stands and other.stands, one.said()
+    snapshot(one, "none")
+    return one, other
+
+
+def snapshot(mount: Mount, name: str) -> Path:
+    path = mount.point / ".snapshots" / name
+    path.mkdir()
+    return path
+
+
+def send(mount: Mount, *names: str) -> bytes:
+    return subprocess.run([MOUNT, "--send", *names, mount.point], stdout=subprocess.PIPE, check=True).stdout
+
+
+def receive(mount: Mount, text: bytes) -> None:
+    subprocess.run([MOUNT, "--receive", mount.point], input=text, check=True)
+
+
+def refused(*words, text: bytes = b"") -> str:
+    """Of a call that fails by status 1: the one line that it says, and nothing is printed."""
+    done = subprocess.run([MOUNT, *words], input=text, capture_output=True)
+    assert (done.returncode, done.stdout) == (1, b""), done
+    line, = done.stderr.decode().splitlines()
+    assert line.startswith("doorvervain-mount: "), line
+    return line.removeprefix("doorvervain-mount: ")
+
+
+def told(top: Path) -> list[str]:
+    """All that find(1) tells of a tree."""
+    listed = subprocess.run(["find", ".", "-printf", TOLD], cwd=top, stdout=subprocess.PIPE, check=True).stdout
+    return sorted(listed.decode(errors="surrogateescape").splitlines())
+
+
+def same(one: Path, other: Path) -> None:
+    assert told(one) == told(other), set(told(one)) ^ set(told(other))
+    alike(seen(one), seen(other))
+
+
+def blocks_of(path: Path) -> int:
+    return path.stat().st_blocks
+
+
+# ---- trees
+
+
+def make(top: Path) -> None:
+    """Entries of many kinds, with attributes that are not the usual ones."""
+    for name in ("folder/below", "empty", "odd \n\x01"):
+        (top / name).mkdir(parents=True)
+    for i in range(20):
+        file = top / f"folder/file{i}"
+        file.write_bytes(bytes([i + 1]) * (700 * i))
+        os.link(file, top / f"folder/below/hard{i}")
+        os.symlink(f"../file{i}", top / f"folder/below/soft{i}")
+        os.setxattr(file, "user.number", str(i).encode() * 3)
+        file.chmod(0o4000 + 0o21 * i)
+        if os.getuid() == 0:
+            os.chown(file, i, i + 1)
+        os.utime(file, ns=(i * 10**17 + i, i * 10**16 + i))
+    os.symlink("none", top / "dangling")
+    os.mkfifo(top / "fifo", 0o640)
+    (top / "sparse").write_bytes(b"x")
+    os.truncate(top / "sparse", 20 << 20)
+    (top / "large").write_bytes(random.Random(5).randbytes(4 * PIPE_BUFFER))
+    os.setxattr(top / "empty", "user.empty", b"")
+    (top / "empty").chmod(0o2750)
+    for name in ("empty", "folder/below", "folder"):
+        os.utime(top / name, ns=(10**18, 10**18 + 789))
+
+
+def change(top: Path) -> None:
+    """What comes, goes, moves, gets other bytes or attributes, or becomes of another kind."""
+    shutil.rmtree(top / "folder/below")
+    (top / "folder/below").write_text("a file")
+    (top / "folder/file1").rename(top / "moved")
+    os.link(top / "folder/file2", top / "second")
+    os.removexattr(top / "folder/file3", "user.number")
+    (top / "folder/file4").unlink()
+    (top / "folder/file4").mkdir()
+    (top / "odd \n\x01/more").mkdir()
+    (top / "odd \n\x01").rename(top / "odd2")
+    os.truncate(top / "folder/file5", 100)
+    with (top / "sparse").open("r+b") as sparse:
+        sparse.seek(9_999_999)
+        sparse.write(b"y")
+    with (top / "large").open("r+b") as large:
+        large.seek(5000)
+        large.write(bytes(9000))
+    os.utime(top / "fifo", ns=(0, 5))
+    (top / "empty").chmod(0o700)
+
+
+# ---- what comes is what was sent
+
+
+@record_case
+def a_chain_of_three(folder: Path):
+    one, other = two_mounts(folder, "--image", folder / "other")
+    first = snapshot(other, "first")
+    was, states = seen(first), []
+    for before, name, work in (("none", "one", make), ("one", "two", change), ("two", "three", lambda top: None)):
+        work(one.point)
+        if name == "three":
+            shutil.rmtree(one.point / "folder")
+        same_as = snapshot(one, name)
+        text = send(one, before, name)
+        assert text == send(one, before)
+        states.append((text, seen(same_as)))
+        receive(other, text)
+        same(one.point, other.point)
+        same(same_as, snapshot(other, name))
+    assert len(states[0][0]) > 4 * PIPE_BUFFER
+    alike(seen(first), was)
+    for name, (_, state) in zip(("one", "two", "three"), states):
+        alike(seen(other.point / ".snapshots" / name), state)
+    assert blocks_of(other.point / "sparse") == blocks_of(one.point / "sparse") <= 16
+    end_well(one)
+    end_well(other)
+    assert (folder / "one").read_bytes() == (folder / "other").read_bytes()
+
+
+@record_case
+def by_a_pipe_and_back_to_an_older_tree(folder: Path):
+    one, other = two_mounts(folder)
+    make(one.point)
+    snapshot(one, "one")
+    with subprocess.Popen([MOUNT, "--send", "none", "one", one.point], stdout=subprocess.PIPE) as sends:
+        subprocess.run([MOUNT, "--receive", other.point], stdin=sends.stdout, check=True)
+    same(one.point, other.point)
+    receive(other, send(one, "one", "none"))
+    assert os.listdir(other.point) == []
+    receive(other, send(one, "none"))
+    same(one.point, other.point)
+    end_well(one)
+    end_well(other)
+
+
+@record_case
+def many_small_changes(folder: Path):
+    works = random.Random(64)
+    one, other = two_mounts(folder, "--image", folder / "other")
+    before, names = "none", [f"{i}" for i in range(6)]
+    for i in range(ROUNDS):
+        for _ in range(works.randrange(1, 30)):
+            change_at_random(works, one.point, names)
+        snapshot(one, f"at{i}")
+        receive(other, send(one, before, f"at{i}"))
+        same(one.point, other.point)
+        (one.point / ".snapshots" / before).rmdir()
+        before = f"at{i}"
+    end_well(one)
+    end_well(other)
+    assert (folder / "one").read_bytes() == (folder / "other").read_bytes()
+
+
+def change_at_random(works: random.Random, top: Path, names: list[str]) -> None:
+    path, other = (top.joinpath(*works.choices(names, k=works.randrange(1, 3))) for _ in range(2))
+    calls = [
+        lambda: path.mkdir(),
+        lambda: path.write_bytes(works.randbytes(works.randrange(9000))),
+        lambda: os.truncate(path, works.randrange(30000)),
+        lambda: path.unlink(),
+        lambda: shutil.rmtree(path),
+        lambda: path.rename(other),
+        lambda: os.link(path, other),
+        lambda: os.symlink(other, path),
+        lambda: path.chmod(works.randrange(0o100, 0o777) | 0o700),
+        lambda: os.setxattr(path, "user.a", works.randbytes(works.randrange(9))),
+        lambda: os.utime(path, ns=(1, works.randrange(1 << 60))),
+    ]
+    try:
+        works.choice(calls)()
+    except OSError:
+        pass
+
+
+@record_case
+def what_is_unlinked_and_open_is_not_sent(folder: Path):
+    one, other = two_mounts(folder, "--image", folder / "other")
+    (one.point / "stays").write_text("stays")
+    held = (one.point / "held").open("w+")
+    held.write("nobody's")
+    held.flush()
+    (one.point / "held").unlink()
+    snapshot(one, "one")
+    text = send(one, "none", "one")
+    assert b"unlinked" not in text and text == send(one, "none")
+    receive(other, text)
+    held.seek(0)
+    assert held.read() == "nobody's" and os.listdir(other.point) == ["stays"]
+    held.close()
+    end_well(other)
+    other = Mount(folder, *TRUST, "--load", folder / "other", "--image", folder / "other", name="to")
+    (one.point / "stays").write_text("goes on")
+    receive(other, send(one, "one"))
+    assert (other.point / "stays").read_text() == "goes on"
+    end_well(one)
+    end_well(other)
+
+
+# ---- what the kernel and open files know
+
+
+@record_case
+def the_kernel_is_told(folder: Path):
+    one, other = two_mounts(folder)
+    make(one.point)
+    snapshot(one, "one")
+    receive(other, send(one, "none", "one"))
+    seen(other.point)
+    with (other.point / "large").open("rb") as stays, (other.point / "folder/file5").open("rb") as gets_shorter:
+        stays.read(1)
+        change(one.point)
+        snapshot(one, "two")
+        receive(other, send(one, "one", "two"))
+        same(one.point, other.point)
+        stays.seek(0)
+        assert stays.read() == (one.point / "large").read_bytes()
+        assert len(gets_shorter.read()) == 100
+    (other.point / "large").write_text("goes on")
+    end_well(one)
+    end_well(other)
+
+
+@record_case
+def numbers_of_files_do_not_meet(folder: Path):
+    """A file that the mount knew has not the number of one with several names that comes."""
+    one, other = two_mounts(folder)
+    for i in range(40):
+        (one.point / f"own{i}").write_text(f"own{i}")
+    snapshot(one, "one")
+    receive(other, send(one, "none", "one"))
+    seen(other.point)
+    for i in range(0, 40, 2):
+        os.link(one.point / f"own{i}", one.point / f"linked{i}")
+    snapshot(one, "two")
+    receive(other, send(one, "one", "two"))
+    same(one.point, other.point)
+    for i in range(1, 40, 2):
+        os.link(other.point / f"own{i}", other.point / f"linked{i}")
+    for i in range(40):
+        assert (other.point / f"linked{i}").read_text() == f"own{i}"
+        assert (other.point / f"own{i}").samefile(other.point / f"linked{i}")
+    assert len({os.lstat(other.point / f"own{i}").st_ino for i in range(40)}) == 40
+    end_well(one)
+    end_well(other)
+
+
+# ---- what is refused, and changes nothing
+
+
+def heading(image: bytes) -> bytes:
+    return b"delta 1 " + hashlib.sha256(image).hexdigest().encode() + b"\n"
+
+
+@record_case
+def texts_that_are_refused(folder: Path):
+    one, other = two_mounts(folder)
+    make(one.point)
+    snapshot(one, "one")
+    text = send(one, "none", "one")
+    receive(other, text)
+    snapshot(other, "mine")
+    was, lines = seen(other.point), text.splitlines(keepends=True)
+    other_tree = f"it is the difference of another tree than that of {other.point}"
+    cases = [(text, other_tree), (b"", "no difference from line 1 on"),
+             (text[:-1], f"no difference from line {len(lines)} on"),
+             (text + b"x", f"no difference from line {len(lines) + 1} on"),
+             (b"".join(lines[:4] + [b"x" + lines[4]] + lines[5:]), "no difference from line 5 on"),
+             (heading(b"x") + b"end\n", other_tree)]
+    for damaged, words in cases:
+        said = refused("--receive", other.point, text=damaged)
+        assert said == words, said
+        alike(seen(other.point), was)
+    assert os.listdir(other.point / ".snapshots") == ["mine"]
+    end_well(one)
+    end_well(other)
+
+
+@record_case
+def what_makes_no_tree(folder: Path):
+    image = folder / "image"
+    end_well(Mount(folder, "--image", image))
+    assert image.read_bytes() == b"D / 0\n"
+    mount, front = Mount(folder), heading(image.read_bytes())
+    commands = [b"", b"- 1\n", b"= 2\n", b"= 1\n+ \n", b"= 1\n+ F /a 3\n", b"= 1\n+ b 0 01\n",
+                b"= 1\n+ F /a 3 4\n+ b 0 00\n", b"= 1\n+ F /a 3 4\n+ b 0 01020304\n",
+                b"= 1\n+ F /a/b 0 1\n", b"= 1\n+ F /b 0 1\n+ F /a 0 1\n",
+                b"= 1\n+ F /a 0 01\n", b"+ D / 1\n= 1\n", b"= 1\n+ D /%00 1\n", b"= 1\n+ F /a 1099511627777 1\n",
+                b"= 1\n+ F /a 0 1\n+ F /a 0 1\n", b"= 1\n+ D /%61 1\n", b"= 1\n+ D a 1\n", b"= 1\n+ D /../a 1\n"]
+    for some in commands:
+        said = refused("--receive", mount.point, text=front + some + b"end\n")
+        assert said == "what the difference makes is no tree", (some, said)
+        assert os.listdir(mount.point) == []
+    receive(mount, front + b"= 1\n+ F /a 3 4\n+ b 0 010203\nend\n")
+    assert (mount.point / "a").read_bytes() == b"\1\2\3" and os.stat(mount.point).st_mtime_ns > 10**18
+    end_well(mount)
+
+
+@record_case
+def snapshots_that_are_not_there(folder: Path):
+    mount = Mount(folder)
+    snapshot(mount, "one")
+    for names in (["none"], ["one", "none"], ["none", "one"], [""], ["../one"]):
+        said = refused("--send", *names, mount.point)
+        assert said.startswith("no snapshot "), said
+    for own in (".doorvervain", ".doorvervain.told"):
+        try:
+            snapshot(mount, own)
+            raise AssertionError(own)
+        except PermissionError:
+            pass
+    assert refused("--send", "one", folder).startswith("no snapshot ")
+    assert refused("--receive", folder).startswith("cannot receive to ")
+    for i in range(63):
+        snapshot(mount, f"more{i}")
+    assert "64 snapshots" in refused("--send", "one", mount.point)
+    send(mount, "one", "more0")
+    end_well(mount)
+
+
+@record_case
+def what_has_no_room(folder: Path):
+    one, other = two_mounts(folder, "--size", "16M")
+    (one.point / "some").write_bytes(random.Random(5).randbytes(3 << 20))
+    snapshot(one, "some")
+    receive(other, send(one, "none", "some"))
+    was = seen(other.point)
+    # A text that fits beside the tree, where what comes does not; and one that does not.
+    for size in (3_900_000, 12 << 20):
+        (one.point / "large").write_bytes(random.Random(6).randbytes(size))
+        assert "no room" in refused("--receive", other.point, text=send(one, "some"))
+        alike(seen(other.point), was)
+    (one.point / "large").write_text("smaller")
+    receive(other, send(one, "some"))
+    same(one.point, other.point)
+    end_well(one)
+    end_well(other)
+
+
+# ---- stores
+
+
+@record_case
+def what_was_received_outlives_a_kill(folder: Path):
+    """Behind a receive nothing syncs: it is on the disk when it is answered. The snapshots of both sides stay."""
+    one, other = two_mounts(folder, "--store", folder / "store")
+    states = {}
+    for before, name, work in (("none", "one", make), ("one", "two", change)):
+        work(one.point)
+        snapshot(one, name)
+        receive(other, send(one, before, name))
+        other = killed_and_new(folder, other)
+        same(one.point, other.point)
+        states[name] = seen(snapshot(other, name))
+        sync(other.point)
+        other = killed_and_new(folder, other)
+        refused("--receive", other.point, text=send(one, before, name))
+        alike(seen(other.point), states[name])
+    alike(seen(other.point / ".snapshots/one"), states["one"])
+    restore(other, "one")
+    receive(other, send(one, "one", "two"))
+    alike(seen(other.point), states["two"])
+    end_well(other)
+    end_well(one)
+
+
+@record_case
+def a_kill_within_a_receive(folder: Path):
+    """The tree is the old one or the new one then."""
+    one, other = two_mounts(folder, "--store", folder / "store")
+    fill(one, MANY)
+    (folder / "text").write_bytes(send(one, "none"))
+    snapshot(one, "one")
+    back, received = send(one, "one", "none"), 0
+    for _ in range(KILLS):
+        with (folder / "text").open() as text:
+            receives = subprocess.Popen([MOUNT, "--receive", other.point], stdin=text, stderr=subprocess.DEVNULL)
+        time.sleep(WORKS.uniform(0, 0.3))
+        other = killed_and_new(folder, other)
+        receives.wait()
+        names = len(os.listdir(other.point))
+        assert names in (0, MANY), names
+        received += names > 0
+        if names:
+            same(one.point, other.point)
+            receive(other, back)
+    print(f"{received} of {KILLS} receives came before their kill")
+    end_well(other)
+    end_well(one)
+
+
+def killed_and_new(folder: Path, mount: Mount) -> Mount:
+    kill(mount)
+    again = store_mount(folder, *TRUST, name="to")
+    assert again.stands, again.said()
+    return again
+
+
+if __name__ == "__main__":
+    run_cases()

@@ -1,0 +1,41 @@
+// What a difference says of entries and of blocks, read beside the image of the tree that it is of; and the calls that
+// do so.
+#ifndef PATCH_H
+#define PATCH_H
+#include "mount.h"
+#include "sum.h"
+
+// An entry that goes or comes. One that is another one then does both.
+struct item {
+    size_t path; // where it stands in `paths`
+    bool is_directory, stays; // an entry of its kind has that path in the other tree too
+    uint64_t length, moment;
+};
+
+// A block that goes or comes. Its bytes are hexadecimal digits; null: it goes.
+struct block {
+    size_t path;
+    uint64_t index;
+    const char *digits;
+    size_t count; // of digits
+};
+
+struct patch {
+    struct bytes paths;      // each with a byte 0 behind it
+    struct bytes gone, come; // as struct item, in the order of their images
+    struct bytes blocks;     // as struct block
+    struct bytes copies;     // as char *: digits that stand in no text
+    char sum[SUM_DIGITS + 1]; // of the image of the new tree
+};
+
+// The text is one that the library takes for a difference, and stays for as long as the patch. 0; ENOENT: it is of
+// another tree; EINVAL: it makes none of this one; ENOMEM. In any case the patch is to be freed.
+int patch_read(struct patch *out, struct doorvervain *tree, const struct bytes *text);
+// Makes of the live tree what the patch says, by calls of the volume: 0, or why one of them was refused. EINVAL: what
+// is wanted is no tree.
+int patch_do(struct patch *patch, struct mount *mount);
+void patch_free(struct patch *patch);
+
+// Gives the image of the live tree to a function.
+int patch_print_live(struct doorvervain *tree, int (*put)(void *self, const uint8_t *bytes, size_t count), void *self);
+#endif
