@@ -1,6 +1,5 @@
 -- Lemmas of the calls of texts and bytes.
 pub mod Asking
-pub mod Looking
 pub mod Fronts
 pub mod Laying
 pub mod OfFiles

@@ -45,7 +45,19 @@ file_here t (Found (File date b)) n m h = (date, b, refl, (cc))
 file_here t Missing n m h = absurd (cc)
 file_here t Blocked n m h = absurd (cc)
 
+no_length_here : (t : Tree) (here : At) (n m : ℕ) → Stat Directory n m ≡ told_of t here → n ≡ 0
+no_length_here t (Found (Dir date es)) n m h = (cc)
+no_length_here t (Found (File date b)) n m h = absurd (cc)
+no_length_here t Missing n m h = absurd (cc)
+no_length_here t Blocked n m h = absurd (cc)
+
 module _ (p : Path) (i : Rooted) where
+  -- a directory is told with no length
+  pub no_length : (n m : ℕ) → MeanSome i → Tells (AskStat p) (Stat Directory n m) i → Tells (AskStat p) (Stat Directory 0 m) i
+  no_length n m s k =
+      let none : n ≡ 0 = ⊎_elim (λ (h : Stat Directory n m ≡ (does 0 s.tree (AskStat p)).1). no_length_here s.tree (entry_at s.tree p) n m (h ∙ stat_is 0 s.tree p)) (λ (h : Stat Directory n m ≡ Fault ENOMEM). absurd (cc)) (k s.tree 0 s.means) in
+      subst (λ (x : ℕ). Tells (AskStat p) (Stat Directory x m) i) none k
+
   -- a refusal of a stat is that of a read
   pub read_as_stat : (e : Errno) → Tells (AskStat p) (Fault e) i → (off n : ℕ) → Tells (Read p off n) (Fault e) i
   read_as_stat e k off n = λ t at mean. ⊎_elim (λ (h : Fault e ≡ (does at t (AskStat p)).1). inl (sym (read_refused at t p off n e (refused_here t (entry_at t p) e (h ∙ stat_is at t p))))) (λ (h : Fault e ≡ Fault ENOMEM). inr h) (k t at mean)

@@ -3,7 +3,6 @@ use Rattle.std.specs.Prelude.{◌≡◌, ℕ, ◌≤◌, List, [], ◌∷◌, �
 use Rattle.volume.specs.declared.rooted.Rooted.{Rooted}
 use Rattle.pathkey.specs.Names.{Name, Path}
 use Rattle.pathkey.specs.declared.errno.Errno.{Errno}
-use Rattle.pathkey.specs.declared.errno.Errno.TheVariants.{EINVAL}
 use Rattle.reference.specs.declared.call.Call.TheVariants.{Readdir}
 use Rattle.reference.specs.declared.reply.Kind.{Kind}
 use Rattle.reference.specs.declared.reply.Kind.TheVariants.{Dir as Directory, File as Plain}
@@ -48,13 +47,6 @@ stat_reply (Ok (Dir at)) = Stat Directory 0 at
 stat_reply (Ok (FileMeta len at)) = Stat Plain len at
 stat_reply (Err e) = Fault e
 
--- what a reply to a stat says, or its refusal; no stat is replied to otherwise
-abbrev pub meta_of : Reply → Result Meta Errno
-meta_of (Stat Directory n at) = Ok (Dir at)
-meta_of (Stat Plain n at) = Ok (FileMeta n at)
-meta_of (Fault e) = Err e
-meta_of _ = Err EINVAL
-
 -- ---- the entries of a directory
 
 -- `d` or `f`
@@ -73,12 +65,6 @@ listing_bytes es = flat_map entry_bytes es
 -- the buffer with bytes at its front, where they fit, and else as it was
 abbrev pub laid : List ℕ → List ℕ → List ℕ
 laid bytes out = if nat_le (length bytes) (length out) then bytes ++ drop (length bytes) out else out
-
--- the entries of a reply to a listing, or its refusal; no listing is replied to otherwise
-abbrev pub names_of : Reply → Result (List (Kind × Name)) Errno
-names_of (Names es) = Ok es
-names_of (Fault e) = Err e
-names_of _ = Err EINVAL
 
 -- the entries that the tree has at the path, and how many bytes they take, which are in the buffer where they fit
 pub record ListsAll (p : Path) (i : Rooted) (n : ℕ) (old new : List ℕ) : Type 0 where

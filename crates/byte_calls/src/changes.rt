@@ -1,12 +1,9 @@
 //! Calls that change a volume, each at a moment.
 ghost use Rattle.pathkey.specs.declared.errno.Errno.TheVariants.{ENOMEM};
 ghost use Rattle.pathkey.specs.Texts.{parsed};
-ghost use Rattle.volume.specs.Changes.{Called};
-ghost use Rattle.std.specs.Prelude.{◌≡◌, ◌⊎◌};
-ghost use Rattle.byte_calls.specs.Changes.{Asks, Changes, Refuses, asked, call_at, done_of, moved, told};
+ghost use Rattle.std.specs.Prelude.{◌⊎◌, Ok};
+ghost use Rattle.byte_calls.specs.Changes.{Asks, Refuses, asked, call_at, moved};
 
-use crate::replies::settled;
-use bytes::Bytes;
 use pathkey::{Errno, Path};
 use reference::Call;
 use std::alloc::Global;
@@ -38,7 +35,7 @@ pub fn on_path(
     ensures { Asks (asked (call_at what) (parsed path.now)) at result volume.old volume.new }
 {
     let path = Path::parse(alloc, path)?;
-    ask(alloc, volume, &call_at(what, path), at)
+    ask_on(alloc, volume, what, &path, at)
 }
 
 /// Moves what stands at the first path to the second. Where memory is refused for the first, the second is not read.
@@ -53,7 +50,7 @@ pub fn rename(
 {
     let old = Path::parse(alloc, old)?;
     let new = Path::parse(alloc, new)?;
-    ask(alloc, volume, &Call::Rename(old, new), at)
+    volume.rename(alloc, &old, &new, at)
 }
 
 /// Cuts a file to so many bytes, or lengthens it to them by zeros.
@@ -67,7 +64,7 @@ pub fn truncate(
     ensures { Asks (asked (λ p. Call.Truncate p length) (parsed path.now)) at result volume.old volume.new }
 {
     let path = Path::parse(alloc, path)?;
-    ask(alloc, volume, &Call::Truncate(path, length), at)
+    volume.truncate(alloc, &path, length, at)
 }
 
 /// Lays the bytes over a file from the offset on: all of them, or none.
@@ -82,30 +79,40 @@ pub fn write(
     ensures { Asks (asked (λ p. Call.Write p offset bytes.now) (parsed path.now)) at result volume.old volume.new }
 {
     let path = Path::parse(alloc, path)?;
-    let Ok(bytes) = Bytes::copy_from_slice(alloc, bytes) else {
-        return Err(Errno::ENOMEM);
-    };
-    ask(alloc, volume, &Call::Write(path, offset, bytes), at)
+    write_at(alloc, volume, &path, offset, bytes, at)
 }
 
-// The call on a path.
-fn call_at(what: PathCall, path: Path) -> Call
-    ensures { result ≡ call_at what path }
+// Does the call on a path.
+fn ask_on(
+    alloc: Global,
+    volume: &mut Volume,
+    what: PathCall,
+    path: &Path,
+    at: u64,
+) -> Result<(), Errno>
+    ensures { Asks (Ok (call_at what path.now)) at result volume.old volume.new }
 {
     match what {
-        PathCall::Mkdir => Call::Mkdir(path),
-        PathCall::Create => Call::Create(path),
-        PathCall::Unlink => Call::Unlink(path),
-        PathCall::Rmdir => Call::Rmdir(path),
-        PathCall::Rmtree => Call::Rmtree(path),
+        PathCall::Mkdir => volume.mkdir(alloc, path, at),
+        PathCall::Create => volume.create(alloc, path, at),
+        PathCall::Unlink => volume.unlink(alloc, path, at),
+        PathCall::Rmdir => volume.rmdir(alloc, path, at),
+        PathCall::Rmtree => volume.rmtree(alloc, path, at),
     }
 }
 
-// Does a call that changes the volume, and tells whether it was done.
-fn ask(alloc: Global, volume: &mut Volume, call: &Call, at: u64) -> Result<(), Errno>
-    requires { Changes call.now }
-    ensures { Called call.now at (told (done_of call.now) result) volume.old volume.new }
+// Lays the bytes over the file at a path. The volume tells their number, which who asks knows.
+fn write_at(
+    alloc: Global,
+    volume: &mut Volume,
+    path: &Path,
+    offset: u64,
+    bytes: &[u8],
+    at: u64,
+) -> Result<(), Errno>
+    ensures { Asks (Ok (Call.Write path.now offset bytes.now)) at result volume.old volume.new }
 {
     volume.means_a_world();
-    settled(volume.call(alloc, call, at))
+    let _written = volume.write(alloc, path, offset, bytes, at)?;
+    Ok(())
 }

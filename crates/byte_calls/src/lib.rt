@@ -10,7 +10,6 @@ mod filling;
 pub mod holes;
 pub mod image_texts;
 pub mod looks;
-mod replies;
 pub mod snapshots;
 pub mod upkeep;
 

@@ -6,7 +6,6 @@ ghost use Rattle.volume.specs.Told.{Tells};
 ghost use Rattle.byte_calls.specs.Looks.{Fills, IsLong, Lists, OnPath, laid, letter_of, listing_bytes, read_reply, stat_reply};
 
 use crate::filling::{blocks_between, lay_blocks};
-use crate::replies::{meta_of, names_of};
 use pathkey::{Errno, NoMemory, Path};
 use reference::{Call, GREATEST_READ, Kind, Meta, Reply};
 use std::alloc::Global;
@@ -131,15 +130,17 @@ fn stat_at(alloc: Global, tree: &Frozen, path: &Path) -> Result<Meta, Errno>
     ensures { Tells (Call.Stat path.now) (stat_reply result) tree.now }
 {
     tree.means_a_tree();
-    meta_of(tree.stat(alloc, path))
+    match tree.try_stat(alloc, path)? {
+        (Kind::Dir, _, modified) => Ok(Meta::Dir { modified }),
+        (Kind::File, len, modified) => Ok(Meta::File { len, modified }),
+    }
 }
 
 // Lists the directory at a path.
 fn readdir_at(alloc: Global, tree: &Frozen, path: &Path, out: &mut [u8]) -> Result<usize, Errno>
     ensures { Lists path.now tree.now result out.old out.new }
 {
-    tree.means_a_tree();
-    let entries = names_of(tree.readdir(alloc, path))?;
+    let entries = tree.try_readdir(alloc, path)?;
     let text = listing_bytes(alloc, entries.as_slice())?;
     Ok(lay_where_it_fits(text.as_slice(), out))
 }

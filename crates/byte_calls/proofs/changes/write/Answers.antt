@@ -4,7 +4,7 @@ use Rattle.pathkey.specs.Texts.{parsed}
 use Rattle.pathkey.specs.declared.errno.Errno.{Errno}
 use Rattle.reference.specs.declared.call.Call.TheVariants.{Write}
 use Rattle.byte_calls.specs.Changes.{Asks, asked}
-use Rattle.byte_calls.proofs.Asking.{read_uncalled, unread}
+use Rattle.byte_calls.proofs.Asking.{unread}
 use Rattle.byte_calls.proofs.changes.write.Goals as goal
 
 pub returns-in_err-path : goal.returns-in_err-path
@@ -12,6 +12,3 @@ returns-in_err-path c =
     let p = err_from_is_err_and c.from_residual.result c.from_residual.ensures.1 in
     subst (λ (r : Result (Unit {0}) Errno). Asks (asked (λ p. Write p c.args.offset c.args.bytes.now) (parsed c.args.path.now)) c.args.at r c.args.volume.now c.args.volume.now) (sym p.1)
     (unread (λ p. Write p c.args.offset c.args.bytes.now) c.args.at (parsed c.args.path.now) _ p.0 c.args.volume.now c.in_err-path.ensures (cc))
-
-pub returns-in_default : goal.returns-in_default
-returns-in_default c = read_uncalled (λ p. Write p c.args.offset c.args.bytes.now) c.args.at (parsed c.args.path.now) c.in_ok-path.path c.args.volume.now c.in_ok-path.ensures

@@ -1,13 +1,18 @@
-use Rattle.std.proofs.Common.{Result, sym, subst}
+use Rattle.std.proofs.Common.{◌≡◌, ℕ, Result, Ok, subst}
 use Rattle.pathkey.specs.declared.errno.Errno.{Errno}
 use Rattle.reference.specs.declared.call.Call.TheVariants.{Stat as AskStat}
-use Rattle.reference.specs.declared.reply.Meta.{Meta}
+use Rattle.reference.specs.declared.reply.Kind.{Kind}
+use Rattle.reference.specs.declared.reply.Reply.TheVariants.{Stat}
 use Rattle.volume.specs.Told.{Tells}
-use Rattle.byte_calls.specs.Looks.{stat_reply}
-use Rattle.byte_calls.proofs.Looking.{stat_told}
+use Rattle.volume.specs.Typed.{replied}
+use Rattle.byte_calls.proofs.OfFiles.{no_length}
 use Rattle.byte_calls.proofs.looks.stat_at.Goals as goal
 
-pub returns : goal.returns
-returns c =
-    subst (λ (r : Result Meta Errno). Tells (AskStat c.args.path.now) (stat_reply r) c.args.tree.now) (sym c.meta_of.ensures)
-    (stat_told c.args.path.now c.stat.result c.args.tree.now c.means_a_tree.ensures c.stat.ensures.reply)
+pub returns-in-Dir-default-default : goal.returns-in-Dir-default-default
+returns-in-Dir-default-default c =
+    let s = c.in_ok-modified.field-0 in
+    let was : c.try_stat.result ≡ Ok s = (cc) in
+    let told : Tells (AskStat c.args.path.now) (Stat s.0 s.1 s.2) c.args.tree.now =
+    subst (λ (r : Result (Kind × ℕ × ℕ) Errno). Tells (AskStat c.args.path.now) (replied (λ x. Stat x.0 x.1 x.2) r) c.args.tree.now) was c.try_stat.ensures in
+    no_length c.args.path.now c.args.tree.now s.1 s.2 c.means_a_tree.ensures
+    (subst (λ (kind : Kind). Tells (AskStat c.args.path.now) (Stat kind s.1 s.2) c.args.tree.now) c.in-Dir-default-default.is-0 told)
