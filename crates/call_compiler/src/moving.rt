@@ -1,17 +1,16 @@
 //! `rename`.
-ghost use Rattle.std.specs.Prelude.{◌≡◌, ◌≤◌, [], ◌∷◌, ◌++◌, IfOk, None, length, not};
+ghost use Rattle.std.specs.Prelude.{◌≡◌, ◌≤◌, [], ◌∷◌, ◌++◌, ◌≢◌, IfOk, None, length, not, true};
 ghost use Rattle.call_compiler.specs.Compiled.{IsCompiled, messages, touches};
 ghost use Rattle.call_compiler.specs.Moves.{replaced};
 ghost use Rattle.message.specs.declared.msg.Msg.TheVariants.{DelRange};
 ghost use Rattle.meta_index.specs.Means.{IsMeantBy, told};
 ghost use Rattle.pathkey.specs.Keys.{subtree as subtree_of};
-ghost use Rattle.reference.specs.Calls.{faults_of_place, faults_of_replacing, first_fault, is_directory as stands_directory, is_full, once, parent, path_fault};
+ghost use Rattle.reference.specs.Calls.{faults_of_place, faults_of_rename_from, faults_of_replacing, first_fault, is_directory as stands_directory, is_file, is_full, once, parent, path_fault};
+ghost use Rattle.reference.specs.Shape.{IsTree};
 ghost use Rattle.reference.specs.Tree as trees;
 
 use crate::batch::{Batch, refused, without_messages};
-use crate::files::find_file;
 use crate::indexes::Indexes;
-use crate::removing::fault_of_rmtree;
 use crate::subtrees::{has_too_long_key, put_moved};
 use crate::touching::touch_directories;
 use block_index::BlockUpdate;
@@ -39,44 +38,69 @@ pub fn rename(
     // What `key` promises says that both paths are paths.
     let _old_key = old.key();
     let _new_key = new.key();
-    if let Some(fault) = fault_of_rmtree(alloc, indexes, old)? {
+    let from = indexes.meta.find(alloc, old)?;
+    if let Some(fault) = fault_of_moved(old, from) {
         return Ok(refused(alloc, fault));
     }
     if old.is_same(new) {
         return Ok(without_messages(alloc, Reply::Done));
     }
-    if let Some(fault) = fault_of_place(alloc, indexes, old, new)? {
+    let to = indexes.meta.find(alloc, new)?;
+    if let Some(fault) = fault_of_place(alloc, indexes, old, from, new, to)? {
         return Ok(refused(alloc, fault));
     }
     let entries = put_moved(alloc, &indexes.meta.tree, old, new, Vec::new(alloc))?;
     if has_too_long_key(entries.as_slice()) {
         return Ok(refused(alloc, Errno::ENAMETOOLONG));
     }
-    let replaced = replaced_blocks(alloc, indexes, new)?;
+    let replaced = replaced_blocks(alloc, to, new)?;
     let blocks = put_moved(alloc, &indexes.block.tree, old, new, replaced)?;
     let batch = with_old_cleared(alloc, old, new, at, entries, blocks)?;
     Ok((Reply::Done, batch))
 }
 
-/// Why what stands at `old` cannot be put at `new`, another path, whatever the length of its texts; none where it can.
+/// Why nothing can be moved from `old`, where `from` was found; none where something can.
+fn fault_of_moved(old: &Path, from: At) -> Option<Errno>
+    ensures { (t : trees.Tree) → from ≡ told (trees.entry_at t old.now) → result ≡ first_fault (faults_of_rename_from t old.now) }
+{
+    if old.is_root() {
+        Some(Errno::EBUSY)
+    } else {
+        from.fault_of_path()
+    }
+}
+
+/// Why `from`, which was found at `old`, cannot be put at `new`, another path, where `to` was found, whatever the length of its
+/// texts; none where it can.
 fn fault_of_place(
     alloc: Global,
     indexes: &Indexes,
     old: &Path,
+    from: At,
     new: &Path,
+    to: At,
 ) -> Result<Option<Errno>, NoMemory>
-    ensures { IfOk result (λ fault. (t : trees.Tree) → IsMeantBy t indexes.now.meta → path_fault (trees.entry_at t old.now) ≡ None → fault ≡ first_fault (faults_of_place t old.now new.now)) }
+    ensures { IfOk result (λ fault. (t : trees.Tree) → IsMeantBy t indexes.now.meta → from ≡ told (trees.entry_at t old.now) → to ≡ told (trees.entry_at t new.now) → path_fault (trees.entry_at t old.now) ≡ None → fault ≡ first_fault (faults_of_place t old.now new.now)) }
 {
-    let from = indexes.meta.find(alloc, old)?;
     if is_directory(from) && new.is_under(old) {
         return Ok(Some(Errno::EINVAL));
     }
     if let Some(fault) = indexes.meta.fault_of_parent(alloc, new)? {
         return Ok(Some(fault));
     }
-    let to = indexes.meta.find(alloc, new)?;
-    let empty = indexes.meta.is_empty_dir(alloc, new)?;
+    let empty = is_empty_there(alloc, indexes, new, to)?;
     Ok(fault_of_replacing(from, to, empty))
+}
+
+/// Whether nothing stands below the path, where `here` was found. The index is asked of a directory alone.
+fn is_empty_there(alloc: Global, indexes: &Indexes, path: &Path, here: At) -> Result<bool, NoMemory>
+    ensures { IfOk result (λ empty. (t : trees.Tree) → IsMeantBy t indexes.now.meta → here ≡ told (trees.entry_at t path.now) → empty ≡ not (is_full (trees.entry_at t path.now))) }
+{
+    if is_directory(here) {
+        indexes.meta.is_empty_dir(alloc, path)
+    } else {
+        Ok(true)
+    }
 }
 
 /// Whether a directory stands at a path.
@@ -106,20 +130,29 @@ fn fault_of_replacing(from: At, to: At, empty: bool) -> Option<Errno>
     }
 }
 
-/// The message that takes out the blocks of the file at the path; none where no file stands there.
-fn replaced_blocks(
-    alloc: Global,
-    indexes: &Indexes,
-    path: &Path,
-) -> Result<Vec<Msg<BlockUpdate>>, NoMemory>
-    ensures blocks { IfOk result (λ msgs. (t : trees.Tree) → IsMeantBy t indexes.now.meta → msgs.items ≡ replaced (trees.entry_at t path.now) path.now) }
+/// The message that takes out the blocks of a file at the path, where `to` was found; none where that is no file.
+fn replaced_blocks(alloc: Global, to: At, path: &Path) -> Result<Vec<Msg<BlockUpdate>>, NoMemory>
+    ensures blocks { IfOk result (λ msgs. (t : trees.Tree) → IsTree t → to ≡ told (trees.entry_at t path.now) → msgs.items ≡ replaced (trees.entry_at t path.now) path.now) }
     ensures few { IfOk result (λ msgs. length msgs.items ≤ 1) }
 {
     let mut msgs = Vec::new(alloc);
-    if find_file(alloc, indexes, path, Errno::EISDIR)?.is_ok() {
+    if has_file(path, to) {
         msgs.push(Msg::DelRange(blocks_from(alloc, path, 0)?))?;
     }
     Ok(msgs)
+}
+
+/// Whether a file stands at the path, where `here` was found. None stands at the root of a tree.
+fn has_file(path: &Path, here: At) -> bool
+    ensures file { (t : trees.Tree) → IsTree t → here ≡ told (trees.entry_at t path.now) → result ≡ is_file (trees.entry_at t path.now) }
+    ensures below { result ≡ true → path.now ≢ [] }
+{
+    match here {
+        At::Found(Meta::File { .. }) => !path.is_root(),
+        At::Found(Meta::Dir { .. }) => false,
+        At::Missing => false,
+        At::Blocked => false,
+    }
 }
 
 /// The batch of a rename: behind the messages, a range-delete in each index over what lies at or below the old path, and

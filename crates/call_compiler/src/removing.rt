@@ -91,12 +91,8 @@ pub fn rmtree(
     done_in(alloc, &directory, at, Msg::DelRange(range), block)
 }
 
-/// Why no entry with all below it can be taken out at the path, or moved from it; none where one can.
-pub(crate) fn fault_of_rmtree(
-    alloc: Global,
-    indexes: &Indexes,
-    path: &Path,
-) -> Result<Option<Errno>, NoMemory>
+/// Why no entry with all below it can be taken out at the path; none where one can.
+fn fault_of_rmtree(alloc: Global, indexes: &Indexes, path: &Path) -> Result<Option<Errno>, NoMemory>
     ensures { IfOk result (λ fault. (t : Tree) → IsMeantBy t indexes.now.meta → fault ≡ first_fault (faults_of_rmtree t path.now)) }
 {
     Ok(if path.is_root() {
