@@ -29,7 +29,7 @@ use lines::input::read_some;
 use lines::words::cut_line;
 use node::Shape;
 use pathkey::{Errno, NoMemory, Path};
-use reference::{Call, Meta, Reply};
+use reference::Meta;
 use std::alloc::Global;
 use std::cmp::Ordering;
 use std::io::Read;
@@ -469,32 +469,11 @@ fn write_bytes(
 ) -> bool
     ensures { result ≡ true → Counts (Write path.now offset bytes) at volume.old volume.new }
 {
-    match path.copy(alloc) {
-        Ok(path) => {
-            let call = Call::Write(path, offset, bytes);
-            let counted = counts(alloc, volume, &call, at);
-            // Let go by a call, so that the proof costs less.
-            drop(call);
-            counted
-        }
-        Err(NoMemory) => {
-            // Let go by a call, so that the proof costs less.
-            drop(bytes);
-            false
-        }
-    }
-}
-
-/// Whether a call at a moment is answered by a count.
-fn counts(alloc: Global, volume: &mut Volume, call: &Call, at: u64) -> bool
-    ensures { result ≡ true → Counts call.now at volume.old volume.new }
-{
-    let reply = volume.call(alloc, call, at);
-    match &reply {
-        Reply::Count(_) => true,
-        // Memory was refused: nothing else keeps a write off a file that is long enough.
-        _ => false,
-    }
+    let counted = volume.write_shared(alloc, path, offset, &bytes, at);
+    // Let go by a call, so that the proof costs less.
+    drop(bytes);
+    // Nothing but want of memory keeps a write off a file that is long enough.
+    counted.is_ok()
 }
 
 /// Why an entry was not planted.

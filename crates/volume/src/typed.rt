@@ -51,6 +51,21 @@ impl Volume {
         counted(self.send(alloc, compiled, at, false))
     }
 
+    /// Lays shared bytes over a file from the offset on, as `write` does: none of them is copied.
+    pub fn write_shared(
+        &mut self,
+        alloc: Global,
+        path: &Path,
+        offset: u64,
+        bytes: &Bytes,
+        at: u64,
+    ) -> Result<u64, Errno>
+        ensures { Called (Call.Write path.now offset bytes.now) at (replied (λ n. Reply.Count n) result) self.old self.new }
+    {
+        let compiled = writing::write(alloc, self.indexes(), path, offset, bytes, at);
+        counted(self.send(alloc, compiled, at, false))
+    }
+
     /// Cuts a file to so many bytes, or lengthens it to them by zeros (truncate).
     pub fn truncate(
         &mut self,
