@@ -1,6 +1,7 @@
 // A disk that fails, under a program: preloaded, it stands before writes and syncs of files in the folder FAILING_STORE.
-// Where the file FAILING_DISK has the word `sync`, syncs fail; with `write`, writes fail too; with `log`, both fail of a
-// file whose name begins with that. Behind each sync that is done, the length of the file goes to the folder FAILING_SYNCED, below its name: so much a loss of power leaves at least.
+// Where the file FAILING_DISK has the word `sync`, syncs fail; with `write`, writes fail too; with another word, both fail
+// of a file whose name begins with that and a dot. Behind each sync that is done, the length of the file goes to the
+// folder FAILING_SYNCED, below its name: so much a loss of power leaves at least.
 #define _GNU_SOURCE
 #include <dlfcn.h>
 #include <errno.h>
@@ -30,7 +31,8 @@ static int fails(int file, const char *what) {
     if (!told) return 0;
     if (fscanf(told, "%15s", word) != 1) word[0] = 0;
     fclose(told);
-    return !strcmp(word, what) || !strcmp(word, "write") || (!strcmp(word, "log") && !strncmp(name, "log.", 4));
+    size_t length = strlen(word);
+    return !strcmp(word, what) || !strcmp(word, "write") || (!strncmp(name, word, length) && name[length] == '.');
 }
 
 // The length of a file without the zeros at its end.

@@ -1,4 +1,4 @@
-"""Mounts with a store, for the cases of `store`, `store_disks`, `store_programs` and `store_large`."""
+"""Mounts with a store, for the cases of `store`, `store_snapshots`, `store_disks`, `store_programs` and `store_large`."""
 import os
 import random
 import subprocess
@@ -20,6 +20,12 @@ def store_mount(folder: Path, *options, **named) -> Mount:
 
 def end_well(mount: Mount) -> None:
     assert mount.end() == 0, mount.said()
+
+
+def snapshot(mount: Mount, name: str) -> Path:
+    path = mount.point / ".snapshots" / name
+    path.mkdir()
+    return path
 
 
 def sync(path: Path) -> None:

@@ -272,26 +272,6 @@ def an_image_can_begin_a_store(folder: Path):
     assert names_after(folder) == {"file", "later"}
 
 
-@case
-def snapshots_stand_again_and_hold_images_up(folder: Path):
-    mount = store_mount(folder, "--log-size", "10K")
-    (mount.point / ".snapshots/one").mkdir()
-    for i in range(20):
-        (mount.point / "file").write_bytes(bytes([i]) * 5000)
-        sync(mount.point)
-    time.sleep(0.5)
-    kill(mount)
-    assert [it.name for it in logs(folder)] == ["log.0"]
-    again = store_mount(folder, "--log-size", "10K")
-    assert os.listdir(again.point / ".snapshots/one") == []
-    (again.point / ".snapshots/one").rmdir()
-    sync(again.point)
-    time.sleep(1)
-    end_well(again)
-    assert [it.name for it in logs(folder)] == ["log.1"]
-    assert names_after(folder) == {"file"}
-
-
 CHANGES = "mkdir create unlink rmdir rmtree rename truncate write snapshot drop restore".split()
 
 

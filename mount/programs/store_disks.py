@@ -8,41 +8,10 @@ import time
 from collections.abc import Callable
 from pathlib import Path
 
+from failing_disk import FailingDisk
 from own_mount import MOUNT, Mount, case, run_cases
-from own_store import (KILLS, PROGRAMS, WORKS, end_well, find_state, kill, kill_at_chance, logs, names_after, on_small_disk,
-                       store_mount, sync)
-
-
-class FailingDisk:
-    """A disk below a store that fails when it is told to, and knows what was synced."""
-
-    def __init__(self, folder: Path):
-        library = folder / "failing_disk.so"
-        subprocess.run(["gcc", "-shared", "-fPIC", "-O1", PROGRAMS / "failing_disk.c", "-o", library, "-ldl"], check=True)
-        self.control, self.synced = folder / "fails", folder / "synced"
-        self.synced.mkdir()
-        self.environment = {"LD_PRELOAD": str(library), "FAILING_STORE": str(folder / "store"),
-                            "FAILING_DISK": str(self.control), "FAILING_SYNCED": str(self.synced),
-                            "ASAN_OPTIONS": os.environ.get("ASAN_OPTIONS", "") + ":verify_asan_link_order=0"}
-
-    def fail(self, what: str) -> None:
-        self.control.write_text(what)
-
-    def mend(self) -> None:
-        self.control.unlink()
-
-    def lose_power(self, folder: Path) -> None:
-        """Of what no sync came behind only a part is left, of each log another."""
-        for log in logs(folder):
-            least = int((self.synced / log.name).read_text()) if (self.synced / log.name).exists() else 0
-            whole = log.read_bytes()
-            left = WORKS.randint(min(least, len(whole)), len(whole))
-            torn = bytearray(whole[:left])
-            for at in WORKS.sample(range(least, left), min(2, max(0, left - least))):
-                torn[at] = 0
-            log.write_bytes(torn + bytes(WORKS.choice([0, len(whole) - left])))
-        for part in (folder / "store").glob("*.part"):
-            part.write_bytes(part.read_bytes()[:WORKS.randrange(1 << 16)])
+from own_store import (KILLS, WORKS, end_well, find_state, kill, kill_at_chance, logs, names_after, on_small_disk,
+                       snapshot, store_mount, sync)
 
 
 def refused(number: int, call: Callable, *words) -> None:
@@ -75,6 +44,21 @@ def a_loss_of_power_takes_nothing_that_was_synced(folder: Path):
 @case
 def nor_one_while_images_are_written(folder: Path):
     cut_power_often(folder, "--log-size", "20K")
+
+
+@case
+def nor_one_while_they_are_written_with_snapshots(folder: Path):
+    mount = store_mount(folder)
+    (mount.point / "file").write_bytes(WORKS.randbytes(20000))
+    snapshots = {name: snapshot(mount, name) for name in ("one", "two")}
+    (mount.point / "file").write_text("later")
+    wanted = {name: (path / "file").read_bytes() for name, path in snapshots.items()}
+    end_well(mount)
+    cut_power_often(folder, "--log-size", "20K")
+    assert list((folder / "store").glob("snapshots.*[0-9]"))
+    mount = store_mount(folder)
+    assert {name: (path / "file").read_bytes() for name, path in snapshots.items()} == wanted
+    end_well(mount)
 
 
 def write_when_it_may(path: Path) -> None:

@@ -47,32 +47,6 @@ int delta_print(struct mount *mount, const struct send_request *wanted, struct b
 
 // ---- a difference is applied
 
-// The library is asked to apply the text to a tree that the mount has not: so it tells the first line that is bad, and
-// does no more.
-static int find_bad_line(const struct bytes *given, uint64_t *line) {
-    static const char other[] = "/another-tree";
-    struct doorvervain tree;
-    *line = 0;
-    uint8_t number = doorvervain_open(&tree, DOORVERVAIN_FANOUT, DOORVERVAIN_PENDING, DOORVERVAIN_LEAF);
-    if (!number) number = doorvervain_mkdir(&tree, text(other), sizeof other - 1, moment_now());
-    if (!number) number = doorvervain_apply(&tree, text(given->at), given->length, line);
-    doorvervain_close(&tree);
-    return number == DOORVERVAIN_ENOMEM ? ENOMEM : 0;
-}
-
-static int add_to_sum(void *sum, const uint8_t *bytes, size_t count) { return sum_add(sum, bytes, count); }
-
-// Whether the image of the live tree is the one that was wanted. So what is no tree is found, too.
-static int try_sum(struct mount *mount, const struct patch *patch) {
-    char digits[SUM_DIGITS + 1] = "";
-    struct sum sum;
-    int fault = sum_begin(&sum);
-    if (!fault) fault = patch_print_live(mount->volume.tree, add_to_sum, &sum);
-    int other = sum_end(&sum, digits);
-    if (fault || other) return fault ? fault : other;
-    return strcmp(digits, patch->sum) ? EINVAL : 0;
-}
-
 static int keep(struct mount *mount, enum keeping what) {
     return mount->volume.way->keep(mount->volume.self, what, SNAPSHOT_KEPT);
 }
@@ -81,8 +55,8 @@ static int keep(struct mount *mount, enum keeping what) {
 static int do_or_undo(struct mount *mount, struct patch *patch) {
     int fault = keep(mount, TAKE_SNAPSHOT);
     if (fault) return fault;
-    fault = patch_do(patch, mount);
-    if (!fault) fault = try_sum(mount, patch);
+    fault = patch_do(patch, &mount->volume);
+    if (!fault) fault = patch_try_sum(mount->volume.tree, patch->sum);
     if (!fault) fault = own_start(mount);
     room_lift();
     int other = fault ? keep(mount, RESTORE_SNAPSHOT) : 0;
@@ -113,7 +87,7 @@ static int apply(struct mount *mount, const struct bytes *given, struct bytes *s
 int delta_apply(struct mount *mount, const struct bytes *given, struct delta_answer *answer, struct bytes *stale) {
     *answer = (struct delta_answer){DELTA_IS_DONE, 0};
     if (!mount->volume.tree) return EOPNOTSUPP;
-    int fault = find_bad_line(given, &answer->line);
+    int fault = patch_find_bad_line(given, &answer->line);
     if (!fault && answer->line) answer->outcome = DELTA_IS_NONE;
     if (fault || answer->line) return fault;
     fault = apply(mount, given, stale);

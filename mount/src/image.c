@@ -91,6 +91,8 @@ int image_put(struct image *image, const char *bytes, size_t count) {
     return fault ? fault : sum_add(&image->sum, bytes, count);
 }
 
+int image_sum(const struct image *image, char digits[SUM_DIGITS + 1]) { return sum_so_far(&image->sum, digits); }
+
 // One line, as sha256sum(1) writes and checks it.
 static int write_sum(struct image *image) {
     char line[SUM_DIGITS + PATH_MAX + 4];

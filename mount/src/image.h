@@ -17,6 +17,8 @@ struct image {
 // Opens it, before anything is mounted: 0, or a number of <errno.h>, with a word on standard error.
 int image_open(struct image *image, const char *file);
 int image_put(struct image *image, const char *bytes, size_t count);
+// The checksum of what was put there so far: 0 or ENOMEM.
+int image_sum(const struct image *image, char digits[SUM_DIGITS + 1]);
 // The image is whole: it gets its name. Where that fails it stays in FILE.part.
 int image_keep(struct image *image);
 // The image is not wanted: FILE stays as it was.

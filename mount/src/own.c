@@ -74,10 +74,10 @@ int own_end(struct mount *mount) {
     return fault;
 }
 
-// A file with several names has the number that it had as an entry before. No entry of this mount has one of those.
-static int find_links(struct mount *mount) {
+// A file with several names has the number that it had as an entry before.
+int own_find_links(struct mount *mount, const char *snapshot) {
     struct bytes names = {0};
-    int fault = mount->volume.way->list(mount->volume.self, (struct place){0, LINKS_PATH}, &names);
+    int fault = mount->volume.way->list(mount->volume.self, (struct place){snapshot, LINKS_PATH}, &names);
     for (size_t at = 0; !fault && at < names.length; at += strlen(names.at + at) + 1) {
         uint64_t number = strtoull(names.at + at + 1, 0, 10);
         if (number < MOST_NUMBER) entries_number_above(number);
@@ -125,5 +125,5 @@ int own_start(struct mount *mount) {
     if (!mount->store && !mount->replica && stands(mount, UNLINKED_PATH))
         fputs("doorvervain-mount: the image has " UNLINKED_PATH ", which is left out\n", stderr);
     fault = own_clear(mount);
-    return fault ? fault : find_links(mount);
+    return fault ? fault : own_find_links(mount, 0);
 }

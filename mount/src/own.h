@@ -18,6 +18,8 @@ struct own_path {
 
 // Called once the volume stands, and where its tree came from elsewhere: what is said on standard error is of that.
 int own_start(struct mount *mount);
+// No entry of this mount gets the number that a file of several names has in a tree; null: in the live one.
+int own_find_links(struct mount *mount, const char *snapshot);
 // Makes one of the folders where it does not stand. The root keeps its moment.
 int own_make(struct mount *mount, enum own which);
 // A place in `unlinked` where nothing stands.

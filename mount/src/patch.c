@@ -1,6 +1,7 @@
 // Reads a difference beside the lines of the old image, as they are printed.
 #define _GNU_SOURCE
 #include "patch.h"
+#include "entries.h"
 #include "text.h"
 #include <errno.h>
 #include <stdlib.h>
@@ -225,7 +226,9 @@ static int take_piece(void *self, const uint8_t *bytes, size_t count) {
     return fault;
 }
 
-int patch_print_live(struct doorvervain *tree, int (*put)(void *self, const uint8_t *bytes, size_t count), void *self) {
+// Gives the image of the live tree to a function.
+static int print_live(struct doorvervain *tree, int (*put)(void *self, const uint8_t *bytes, size_t count),
+                      void *self) {
     static uint8_t piece[PIECE];
     struct doorvervain_frozen live;
     int failed = 0;
@@ -235,10 +238,23 @@ int patch_print_live(struct doorvervain *tree, int (*put)(void *self, const uint
 }
 
 static int read_all(struct reading *reading, struct doorvervain *tree) {
-    int fault = patch_print_live(tree, take_piece, reading);
+    int fault = print_live(tree, take_piece, reading);
     if (!fault) fault = next_command(reading);
     if (reading->staying || reading->going || *reading->at != 'e') reading->is_wrong = true;
     return fault;
+}
+
+// The library is asked to apply the text to a tree that the mount has not: so it tells the first line that is bad, and
+// does no more.
+int patch_find_bad_line(const struct bytes *given, uint64_t *line) {
+    static const uint8_t other[] = "/another-tree";
+    struct doorvervain tree;
+    *line = 0;
+    uint8_t number = doorvervain_open(&tree, DOORVERVAIN_FANOUT, DOORVERVAIN_PENDING, DOORVERVAIN_LEAF);
+    if (!number) number = doorvervain_mkdir(&tree, other, sizeof other - 1, moment_now());
+    if (!number) number = doorvervain_apply(&tree, (const uint8_t *)given->at, given->length, line);
+    doorvervain_close(&tree);
+    return number == DOORVERVAIN_ENOMEM ? ENOMEM : 0;
 }
 
 static int begin_sums(struct reading *reading) {
@@ -262,6 +278,18 @@ int patch_read(struct patch *out, struct doorvervain *tree, const struct bytes *
     bytes_free(&reading->line);
     free(reading);
     return fault;
+}
+
+static int add_to_sum(void *sum, const uint8_t *bytes, size_t count) { return sum_add(sum, bytes, count); }
+
+int patch_try_sum(struct doorvervain *tree, const char *wanted) {
+    char digits[SUM_DIGITS + 1] = "";
+    struct sum sum;
+    int fault = sum_begin(&sum);
+    if (!fault) fault = print_live(tree, add_to_sum, &sum);
+    int other = sum_end(&sum, digits);
+    if (fault || other) return fault ? fault : other;
+    return strcmp(digits, wanted) ? EINVAL : 0;
 }
 
 void patch_free(struct patch *patch) {

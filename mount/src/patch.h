@@ -2,8 +2,8 @@
 // do so.
 #ifndef PATCH_H
 #define PATCH_H
-#include "mount.h"
 #include "sum.h"
+#include "way.h"
 
 // An entry that goes or comes. One that is another one then does both.
 struct item {
@@ -28,14 +28,15 @@ struct patch {
     char sum[SUM_DIGITS + 1]; // of the image of the new tree
 };
 
+// The first line with which a text is no difference, by the library; 0: it is one. 0 or ENOMEM.
+int patch_find_bad_line(const struct bytes *text, uint64_t *line);
 // The text is one that the library takes for a difference, and stays for as long as the patch. 0; ENOENT: it is of
 // another tree; EINVAL: it makes none of this one; ENOMEM. In any case the patch is to be freed.
 int patch_read(struct patch *out, struct doorvervain *tree, const struct bytes *text);
 // Makes of the live tree what the patch says, by calls of the volume: 0, or why one of them was refused. EINVAL: what
 // is wanted is no tree.
-int patch_do(struct patch *patch, struct mount *mount);
+int patch_do(struct patch *patch, const struct volume *volume);
 void patch_free(struct patch *patch);
-
-// Gives the image of the live tree to a function.
-int patch_print_live(struct doorvervain *tree, int (*put)(void *self, const uint8_t *bytes, size_t count), void *self);
+// Whether the image of the live tree has a checksum: 0, EINVAL or ENOMEM.
+int patch_try_sum(struct doorvervain *tree, const char *sum);
 #endif

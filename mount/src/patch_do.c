@@ -17,7 +17,7 @@ struct settled {
 
 struct doing {
     struct patch *patch;
-    struct mount *mount;
+    const struct volume *volume;
     struct item **gone, **come; // in the order of their paths
     struct bytes settled;
 };
@@ -30,13 +30,13 @@ static size_t count_items(const struct bytes *list) { return list->length / size
 static const char *path_at(const struct patch *patch, size_t at) { return patch->paths.at + at; }
 
 static int change(struct doing *doing, enum change what, const char *path, uint64_t at) {
-    const struct volume *volume = &doing->mount->volume;
+    const struct volume *volume = doing->volume;
     return volume->way->change(volume->self, what, path, at);
 }
 
 // Steps of the tree that are due meanwhile.
 static void relieve(struct doing *doing) {
-    const struct volume *volume = &doing->mount->volume;
+    const struct volume *volume = doing->volume;
     unsigned owed = volume->way->owes(volume->self);
     if (owed) volume->way->relieve(volume->self, owed);
 }
@@ -128,7 +128,7 @@ static bool is_noted(const struct doing *doing, const char *path, size_t length)
 
 // A folder that does not come itself keeps its moment. One that is new has none yet, and comes.
 static int note_parent(struct doing *doing, const struct item *item) {
-    const struct volume *volume = &doing->mount->volume;
+    const struct volume *volume = doing->volume;
     struct patch *patch = doing->patch;
     struct standing standing;
     char path[LONGEST_PATH + 1];
@@ -176,7 +176,7 @@ static int give_moment(struct doing *doing, const char *folder, uint64_t moment)
 }
 
 static int settle_one(struct doing *doing, const struct settled *settled) {
-    const struct volume *volume = &doing->mount->volume;
+    const struct volume *volume = doing->volume;
     const char *path = path_at(doing->patch, settled->path);
     struct standing standing;
     int fault = volume->way->stat(volume->self, (struct place){0, path}, &standing);
@@ -218,7 +218,7 @@ static struct run_of_blocks blocks_of(const struct doing *doing, const char *pat
 
 // Blocks that go one behind the other become one hole.
 static int punch_all(struct doing *doing, const char *path, struct run_of_blocks blocks, uint64_t at) {
-    const struct volume *volume = &doing->mount->volume;
+    const struct volume *volume = doing->volume;
     uint64_t from = 0, count = 0;
     int fault = 0;
     for (size_t i = 0; !fault && i <= blocks.count; i++) {
@@ -243,7 +243,7 @@ struct gathered {
 };
 
 static int write_gathered(struct doing *doing, const struct item *file, struct gathered *gathered) {
-    const struct volume *volume = &doing->mount->volume;
+    const struct volume *volume = doing->volume;
     const char *path = path_at(doing->patch, file->path), *bytes = gathered->bytes;
     uint64_t at = gathered->from;
     int fault = 0;
@@ -284,7 +284,7 @@ static int write_all(struct doing *doing, const struct item *file, struct run_of
 
 // A file gets its length, and by that its moment, before its blocks.
 static int edit(struct doing *doing, const struct item *file) {
-    const struct volume *volume = &doing->mount->volume;
+    const struct volume *volume = doing->volume;
     const char *path = path_at(doing->patch, file->path);
     struct run_of_blocks blocks = blocks_of(doing, path);
     int fault = 0;
@@ -328,8 +328,8 @@ static int do_all(struct doing *doing) {
     return fault ? fault : settle_all(doing);
 }
 
-int patch_do(struct patch *patch, struct mount *mount) {
-    struct doing doing = {.patch = patch, .mount = mount};
+int patch_do(struct patch *patch, const struct volume *volume) {
+    struct doing doing = {.patch = patch, .volume = volume};
     int fault = do_all(&doing);
     free(doing.gone);
     free(doing.come);

@@ -45,14 +45,19 @@ static int take_tree(struct mount *mount, const char *name, struct entry **out) 
     return *out ? 0 : ENOMEM;
 }
 
+static int add_folder(struct mount *mount, const char *name) {
+    int fault = own_find_links(mount, name);
+    struct entry *entry = fault ? 0 : entry_add(folder(mount), name, true);
+    if (!entry) return fault ? fault : ENOMEM;
+    entry->role = SNAPSHOT_ROOT;
+    return 0;
+}
+
 int snapshots_find(struct mount *mount) {
     struct bytes names = {0};
     int fault = store_snapshots(mount->store, &names);
-    for (size_t at = 0; !fault && at < names.length; at += strlen(names.at + at) + 1) {
-        struct entry *entry = entry_add(folder(mount), names.at + at, true);
-        if (entry) entry->role = SNAPSHOT_ROOT;
-        else fault = ENOMEM;
-    }
+    for (size_t at = 0; !fault && at < names.length; at += strlen(names.at + at) + 1)
+        fault = add_folder(mount, names.at + at);
     bytes_free(&names);
     return fault;
 }

@@ -28,7 +28,7 @@ static struct bytes *call_begins(void *self, int *fault) {
     return &store->queue->calls;
 }
 
-// No image has a snapshot. So where changes are refused until one is whole, a snapshot may still be dropped.
+// No image has too many snapshots. So where changes are refused until one is whole, a snapshot may still be dropped.
 static int store_keep_name(void *self, enum keeping what, const char *snapshot) {
     struct store *store = self;
     const struct volume *over = &store->noting.over;
@@ -37,8 +37,7 @@ static int store_keep_name(void *self, enum keeping what, const char *snapshot) 
     int fault = what == DROP_SNAPSHOT ? 0 : may_change(store);
     if (!fault) fault = calls_keep(calls, what, snapshot);
     if (!fault) fault = over->way->keep(over->self, what, snapshot);
-    if (!fault && what == TAKE_SNAPSHOT) store->snapshots++;
-    if (!fault && what == DROP_SNAPSHOT) store->snapshots--;
+    if (!fault) store_note_snapshot(store, what, snapshot);
     if (fault) calls->length = before;
     return fault;
 }
@@ -54,9 +53,8 @@ static void wake_keeper(struct store *store) {
     pthread_mutex_unlock(&store->waiting);
 }
 
-// An image has no snapshot: so where one stands the log goes on.
 static void ask_for_image(struct store *store) {
-    if (!store->snapshots && !store->fault && store->logged >= store->enough) wake_keeper(store);
+    if (!store->fault && !store_has_too_many(store) && store->logged >= store->enough) wake_keeper(store);
 }
 
 // The keeper makes records of the calls and writes them, on another processor.
@@ -109,20 +107,6 @@ int store_sync(struct store *store, uint64_t *told) {
     if (*told != store->failures) fault = EIO;
     *told = store->failures;
     return fault;
-}
-
-int store_snapshots(struct store *store, struct bytes *out) {
-    uint8_t number = DOORVERVAIN_DONE;
-    for (size_t index = 0;; index++) {
-        size_t size = 0;
-        if (bytes_reserve(out, LONGEST_SNAPSHOT + 1)) return ENOMEM;
-        uint8_t *to = (uint8_t *)out->at + out->length;
-        number = doorvervain_snapshot_name(store->volume, index, to, LONGEST_SNAPSHOT, &size);
-        if (number) return number == DOORVERVAIN_ENOENT ? 0 : doorvervain_errno(number);
-        out->length += size;
-        out->at[out->length++] = 0;
-        store->snapshots++;
-    }
 }
 
 // ---- the keeper

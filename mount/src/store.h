@@ -1,8 +1,8 @@
 // A folder that keeps a volume: what was synced is lost neither with the process nor with the machine.
 //
-// In it lie `tree.N`, an image, and `log.N`, `log.N+1` .., in which each request that changed something since has one
-// record; `lock` keeps a second mount out. A change is in memory when it is answered. It is on the disk once the log is
-// synced: by fsync(2), every five seconds, and when the mount is taken away.
+// In it lie `tree.N`, an image, `snapshots.N` where some stood then, and `log.N`, `log.N+1` .., in which each request
+// that changed something since has one record; `lock` keeps a second mount out. A change is in memory when it is
+// answered. It is on the disk once the log is synced: by fsync(2), every five seconds, and when the mount is taken away.
 #ifndef STORE_H
 #define STORE_H
 #include "mount.h"

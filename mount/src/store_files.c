@@ -24,7 +24,7 @@ void store_say(const struct store *store, const char *form, ...) {
 }
 
 void store_name(char out[STORE_NAME], const char *kind, uint64_t number) {
-    snprintf(out, STORE_NAME, "%.6s.%" PRIu64, kind, number);
+    snprintf(out, STORE_NAME, "%.9s.%" PRIu64, kind, number);
 }
 
 int store_path(const struct store *store, const char *name, char out[PATH_MAX]) {
@@ -109,19 +109,23 @@ int store_numbers(const struct store *store, const char *kind, struct bytes *out
     return fault;
 }
 
+bool store_has(const struct store *store, const char *name) { return !faccessat(store->directory, name, F_OK, 0); }
+
 static bool ends_with(const char *name, const char *ending) {
     size_t length = strlen(name), last = strlen(ending);
     return length >= last && !strcmp(name + length - last, ending);
 }
 
-// Whether a file is of a tree or log below a number, or part of an image that did not become whole.
+static bool begins_with(const char *name, const char *kind) { return !strncmp(name, kind, strlen(kind)); }
+
+// Whether a file is of an image or log below a number, or part of an image that did not become whole.
 static bool is_past(const char *name, uint64_t below) {
     char *end;
-    bool is_tree = !strncmp(name, "tree.", 5), is_log = !strncmp(name, "log.", 4);
-    if (!is_tree && !is_log) return false;
-    uint64_t number = strtoull(name + (is_tree ? 5 : 4), &end, 10);
-    if (is_tree && ends_with(end, ".part")) return true;
-    return number < below && (!*end || (is_tree && !strcmp(end, ".sum")));
+    bool is_image = begins_with(name, "tree.") || begins_with(name, "snapshots.");
+    if (!is_image && !begins_with(name, "log.")) return false;
+    uint64_t number = strtoull(strchr(name, '.') + 1, &end, 10);
+    if (is_image && ends_with(end, ".part")) return true;
+    return number < below && (!*end || (is_image && !strcmp(end, ".sum")));
 }
 
 static int clear_name(const struct store *store, const char *name, void *context) {

@@ -1,5 +1,4 @@
 // Images of a store: when one is due, and how it is written while requests go on.
-#include "image.h"
 #include "requests.h"
 #include "store_inside.h"
 #include <errno.h>
@@ -12,9 +11,12 @@ enum { PIECE = 1 << 18, PIECES_SYNCED = 64 };
 
 // An image that is being written.
 struct writing {
-    struct image image;
+    struct part tree;
     struct doorvervain_printing printing;
-    uint64_t number, former_bytes, size, pieces;
+    struct frozen_snapshots snapshots;
+    struct told_snapshots told;
+    uint64_t number, former_bytes;
+    uint64_t told_size;       // bytes of the file of snapshots
     uint64_t failures;        // of the logs up to its own
     struct former_log former; // the log before it
 };
@@ -23,15 +25,16 @@ void store_enough(struct store *store, uint64_t image) {
     store->enough = 2 * image > store->log_size ? 2 * image : store->log_size;
 }
 
-// An image has no snapshot: so where one stands the log goes on.
 bool store_is_long(struct store *store) {
     requests_pause();
     pthread_mutex_lock(&store->writing);
-    bool is = !store->snapshots && (store->fault || store->logged >= store->enough);
+    bool is = !store_has_too_many(store) && (store->fault || store->logged >= store->enough);
     pthread_mutex_unlock(&store->writing);
     requests_go_on();
     return is;
 }
+
+// ---- its beginning
 
 static int freeze(struct store *store, struct writing *writing) {
     struct doorvervain_frozen tree;
@@ -39,16 +42,25 @@ static int freeze(struct store *store, struct writing *writing) {
     return fault ? fault : doorvervain_errno(doorvervain_print_begin(&writing->printing, &tree));
 }
 
-// At one moment the tree is frozen: all that was answered before is taken for the log that ends there.
+// At one moment the trees are frozen: all that was answered before is taken for the log that ends there.
 static int take_and_freeze(struct store *store, struct writing *writing) {
-    int fault = store->snapshots ? EBUSY : store_take(store);
-    return fault ? fault : freeze(store, writing);
+    int fault = store_has_too_many(store) ? EBUSY : store_take(store);
+    if (!fault) fault = freeze(store, writing);
+    return fault ? fault : store_freeze_snapshots(store, &writing->snapshots);
+}
+
+// No image takes the place of one with its number: the snapshots beside it may be others.
+static bool has_tree(const struct store *store) {
+    char name[STORE_NAME];
+    store_name(name, "tree", store->number);
+    return store_has(store, name);
 }
 
 // Another log begins. One that has nothing, since changes are refused, serves on.
 static int begin_log(struct store *store, struct writing *writing) {
     writing->former_bytes = store->logged;
-    int fault = store->records || !store->fault ? store_next_log(store, &writing->former) : 0;
+    bool serves = !store->records && store->fault && !has_tree(store);
+    int fault = serves ? 0 : store_next_log(store, &writing->former);
     writing->number = store->number;
     if (!fault && writing->former.file >= 0) fault = store_end_log(store, &writing->former);
     return fault;
@@ -67,51 +79,47 @@ static int begin(struct store *store, struct writing *writing) {
     return fault;
 }
 
-static int open_image(const struct store *store, struct writing *writing) {
-    char name[STORE_NAME + 8], path[PATH_MAX];
-    store_name(name, "tree", writing->number);
-    int fault = store_path(store, name, path);
-    strcat(name, ".part");
-    unlinkat(store->directory, name, 0);
-    return fault ? fault : image_open(&writing->image, path);
+// ---- files that are written while requests go on
+
+int store_open_part(struct part *part, const char *kind, uint64_t number) {
+    char name[STORE_NAME], path[PATH_MAX];
+    store_name(name, kind, number);
+    int fault = store_path(part->store, name, path);
+    return fault ? fault : image_open(&part->image, path);
 }
 
-// A little at a time, so that the last sync does not keep the log waiting for its own.
-static int sync_part(struct writing *writing) {
-    if (++writing->pieces % PIECES_SYNCED) return 0;
-    return fdatasync(writing->image.out) ? errno : 0;
+// Synced a little at a time, so that the last sync does not keep the log waiting for its own.
+int store_put(struct part *part, const char *bytes, size_t count) {
+    int fault = image_put(&part->image, bytes, count);
+    part->size += count;
+    if (fault || ++part->pieces % PIECES_SYNCED) return fault;
+    return fdatasync(part->image.out) ? errno : 0;
 }
 
-// The lock of requests is held for a piece.
-static int put_piece(struct writing *writing, uint8_t *piece, size_t *size) {
+int store_tend(struct part *part) {
+    if (!part->meanwhile) return 0;
+    part->meanwhile(part->store);
+    return part->store->ends ? ECANCELED : 0;
+}
+
+int store_print(struct part *part, struct doorvervain_printing *printing, uint8_t *out, size_t room, size_t *size) {
     requests_pause();
-    int fault = doorvervain_errno(doorvervain_print_piece(&writing->printing, piece, PIECE, size));
+    int fault = doorvervain_errno(doorvervain_print_piece(printing, out, room, size));
     requests_go_on();
-    if (!fault && *size) fault = image_put(&writing->image, (const char *)piece, *size);
-    writing->size += *size;
-    return fault ? fault : sync_part(writing);
+    return fault ? fault : store_tend(part);
 }
 
-static int put_all(struct store *store, struct writing *writing, void (*meanwhile)(struct store *store)) {
-    static uint8_t piece[PIECE];
-    size_t size = 1;
-    int fault = 0;
-    while (!fault && size) {
-        fault = put_piece(writing, piece, &size);
-        if (meanwhile) meanwhile(store);
-        if (!fault && meanwhile && store->ends) fault = ECANCELED;
+int store_end_part(struct part *part, int fault) {
+    if (fault) {
+        image_drop(&part->image);
+        return fault;
     }
+    fault = image_keep(&part->image);
+    if (fault) unlink(part->image.part);
     return fault;
 }
 
-static int put_image(struct store *store, struct writing *writing, void (*meanwhile)(struct store *store)) {
-    int fault = open_image(store, writing);
-    if (fault) return fault;
-    fault = put_all(store, writing, meanwhile);
-    if (!fault) return image_keep(&writing->image);
-    image_drop(&writing->image);
-    return fault;
-}
+// ---- all of it
 
 static void end_printing(struct writing *writing) {
     requests_pause();
@@ -119,17 +127,42 @@ static void end_printing(struct writing *writing) {
     requests_go_on();
 }
 
+static int put_tree(struct writing *writing) {
+    static uint8_t piece[PIECE];
+    size_t size = 1;
+    int fault = 0;
+    while (!fault && size) {
+        fault = store_print(&writing->tree, &writing->printing, piece, PIECE, &size);
+        if (!fault && size) fault = store_put(&writing->tree, (const char *)piece, size);
+    }
+    end_printing(writing);
+    return fault;
+}
+
+// The snapshots are whole before the image gets its name: so where that stands, they do.
+static int put_image(struct writing *writing) {
+    store_clear(writing->tree.store, 0);
+    int fault = store_open_part(&writing->tree, "tree", writing->number);
+    if (fault) return fault;
+    fault = put_tree(writing);
+    if (!fault)
+        fault = store_put_snapshots(&writing->tree, writing->number, &writing->snapshots, &writing->told,
+                                    &writing->told_size);
+    return store_end_part(&writing->tree, fault);
+}
+
 // Changes are done again where they were refused: all that was answered before lies in the image. What its own log lost
 // since it began takes another image.
 static void succeed(struct store *store, const struct writing *writing) {
     pthread_mutex_lock(&store->writing);
-    store_enough(store, writing->size);
+    store_enough(store, writing->tree.size + writing->told_size);
     if (store->failures == writing->failures) {
         if (store->fault) store_say(store, "changes are kept again");
         store->fault = 0;
     }
     store->told = 0;
     pthread_mutex_unlock(&store->writing);
+    store->told_snapshots = writing->told;
     store_clear(store, writing->number);
 }
 
@@ -145,10 +178,11 @@ static void give_up(struct store *store, const struct writing *writing, int faul
 }
 
 int store_checkpoint(struct store *store, void (*meanwhile)(struct store *store)) {
-    struct writing writing = {.former.file = -1};
+    struct writing writing = {.tree = {.store = store, .meanwhile = meanwhile}, .former.file = -1};
     int fault = begin(store, &writing);
-    if (!fault) fault = put_image(store, &writing, meanwhile);
+    if (!fault) fault = put_image(&writing);
     end_printing(&writing);
+    store_thaw_snapshots(&writing.snapshots);
     if (fault) give_up(store, &writing, fault);
     else succeed(store, &writing);
     return fault;

@@ -2,6 +2,7 @@
 #ifndef STORE_INSIDE_H
 #define STORE_INSIDE_H
 #include "crew.h"
+#include "image.h"
 #include "noting.h"
 #include "store.h"
 #include <limits.h>
@@ -25,6 +26,32 @@ struct former_log {
     uint64_t length;
 };
 
+// A volume has no more snapshots. Where they are made of an image, the live tree takes one more name.
+enum { MOST_SNAPSHOTS = 64, MOST_KEPT = MOST_SNAPSHOTS - 1 };
+
+struct snapshot {
+    char name[LONGEST_SNAPSHOT + 1];
+    uint64_t number; // that no other one of this mount has or had
+};
+
+struct snapshots {
+    unsigned count;
+    struct snapshot at[MOST_SNAPSHOTS];
+};
+
+// The text of a snapshot in a file of them.
+struct told_snapshot {
+    uint64_t number, over; // of the snapshot, and of the one that it is told of; 0: of the live tree
+    uint64_t from, length; // where the text stands
+    char text_sum[SUM_DIGITS + 1], image_sum[SUM_DIGITS + 1]; // of the text, and of the snapshot's image
+};
+
+struct told_snapshots {
+    uint64_t file; // its number
+    unsigned count;
+    struct told_snapshot at[MOST_KEPT];
+};
+
 struct store {
     struct noting noting;
     char folder[PATH_MAX];
@@ -37,10 +64,11 @@ struct store {
 
     // Under the lock of requests.
     struct queue *queue;
-    struct row full;    // before it
-    unsigned snapshots; // how many stand
-    unsigned changes;   // requests since the last sync that changed something
-    unsigned expected;  // so many were there before the last sync
+    struct row full;   // before it
+    unsigned changes;  // requests since the last sync that changed something
+    unsigned expected; // so many were there before the last sync
+    struct snapshots snapshots; // in the order in which they were taken
+    uint64_t last_snapshot;     // the last number
 
     // Under `writing`.
     pthread_mutex_t writing;
@@ -68,6 +96,7 @@ struct store {
     _Atomic uint64_t failures;
     _Atomic int fault; // why changes are refused, until a new image is whole; 0: they are not
 
+    struct told_snapshots told_snapshots; // of who writes images: in the last file of snapshots
     struct crew crew;
     pthread_t keeper;
     bool is_kept;
@@ -81,7 +110,7 @@ struct store {
 // ---- store_files.c
 
 enum { STORE_NAME = 32 };
-// The name of a file in the folder: `tree` or `log`, and a number.
+// The name of a file in the folder: `tree`, `snapshots` or `log`, and a number.
 void store_name(char out[STORE_NAME], const char *kind, uint64_t number);
 // The path of a file in the folder: 0 or ENAMETOOLONG.
 int store_path(const struct store *store, const char *name, char out[PATH_MAX]);
@@ -89,7 +118,8 @@ int store_path(const struct store *store, const char *name, char out[PATH_MAX]);
 int store_lock(struct store *store, const char *folder);
 // The rising numbers of the files of a kind.
 int store_numbers(const struct store *store, const char *kind, struct bytes *out);
-// Takes out the trees and logs below a number, and parts of images.
+bool store_has(const struct store *store, const char *name);
+// Takes out the images and logs below a number, and parts of images.
 void store_clear(const struct store *store, uint64_t number);
 // Says something on standard error and to syslog.
 void store_say(const struct store *store, const char *form, ...) __attribute__((format(printf, 2, 3)));
@@ -135,10 +165,51 @@ int store_load(struct store *store, const struct making *making, struct volume *
 
 // ---- store_image.c
 
+// A file that is being written while requests go on.
+struct part {
+    struct store *store;
+    void (*meanwhile)(struct store *store); // called between pieces; null: nothing is
+    struct image image;
+    uint64_t size, pieces;
+};
+
+int store_open_part(struct part *part, const char *kind, uint64_t number);
+int store_put(struct part *part, const char *bytes, size_t count);
+// The next bytes of an image. The lock of requests is held for a piece.
+int store_print(struct part *part, struct doorvervain_printing *printing, uint8_t *out, size_t room, size_t *size);
+// Does what is due between two pieces: ECANCELED where the end of the mount has come.
+int store_tend(struct part *part);
+// Ends it with its fault: the file gets its name where there is none, and else it goes.
+int store_end_part(struct part *part, int fault);
 // Writes an image of the tree as it stands, and takes out what lies before it. Called with no lock; between its pieces
 // it calls `meanwhile`.
 int store_checkpoint(struct store *store, void (*meanwhile)(struct store *store));
 // Another is due when the logs behind one of so many bytes are longer than twice that, and than `log_size`.
 void store_enough(struct store *store, uint64_t image);
 bool store_is_long(struct store *store);
+
+// ---- store_snapshots.c
+
+// A snapshot was taken or dropped.
+void store_note_snapshot(struct store *store, enum keeping what, const char *name);
+// Finds out which stand behind a start. Those that no image had are the last.
+int store_find_snapshots(struct store *store);
+// Whether they are too many for an image: so the log goes on.
+bool store_has_too_many(const struct store *store);
+
+// Snapshots as they stood at one moment, from the last taken to the first, each with its tree and that which it is told
+// of: the live one, or that of the snapshot before it.
+struct frozen_snapshots {
+    unsigned count;
+    struct snapshot at[MOST_KEPT];
+    struct doorvervain_frozen old[MOST_KEPT], new[MOST_KEPT];
+};
+// Under the lock of requests. They are to be thawed whatever is answered, which takes that lock.
+int store_freeze_snapshots(struct store *store, struct frozen_snapshots *out);
+void store_thaw_snapshots(struct frozen_snapshots *frozen);
+// Writes them into the file that belongs to an image, all of which was put; where there are none, no such file is left.
+int store_put_snapshots(const struct part *tree, uint64_t number, struct frozen_snapshots *frozen,
+                        struct told_snapshots *out, uint64_t *size);
+// Makes those that belong to the image of a number, which the volume has. What failed is said. `size` is that of the file.
+int store_make_snapshots(struct store *store, const struct volume *volume, uint64_t number, uint64_t *size);
 #endif

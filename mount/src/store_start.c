@@ -1,5 +1,4 @@
-// How a store comes to stand: the highest tree that is whole, and what the logs behind it have.
-#include "image.h"
+// How a store comes to stand: the highest tree that is whole, the snapshots beside it, and what the logs behind it have.
 #include "library.h"
 #include "store_calls.h"
 #include "store_inside.h"
@@ -195,9 +194,14 @@ static int find_tree(const struct store *store, uint64_t *number, char out[PATH_
     return fault ? fault : count && !*out ? EINVAL : 0;
 }
 
-static void set_enough(struct store *store, const char *tree) {
+// What belongs to a tree, which the volume has, and what the logs behind it have.
+static int load_behind(struct store *store, const char *tree, uint64_t number, const struct volume *volume) {
     struct stat stat;
-    store_enough(store, *tree && !lstat(tree, &stat) ? (uint64_t)stat.st_size : 0);
+    uint64_t size = !lstat(tree, &stat) ? (uint64_t)stat.st_size : 0, told_size = 0;
+    int fault = *tree ? store_make_snapshots(store, volume, number, &told_size) : 0;
+    store_enough(store, size + told_size);
+    if (!fault) fault = load_logs(store, number);
+    return fault ? fault : store_find_snapshots(store);
 }
 
 int store_load(struct store *store, const struct making *making, struct volume *volume) {
@@ -210,8 +214,7 @@ int store_load(struct store *store, const struct making *making, struct volume *
     fault = open_library(&inner, volume);
     if (fault) return fault;
     store->volume = library_volume(volume->self);
-    set_enough(store, tree);
-    fault = load_logs(store, number);
+    fault = load_behind(store, tree, number, volume);
     if (fault) volume->way->close(volume->self, 0);
     return fault;
 }

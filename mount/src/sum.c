@@ -24,6 +24,13 @@ int sum_end(struct sum *sum, char digits[SUM_DIGITS + 1]) {
     return is_told ? 0 : ENOMEM;
 }
 
+int sum_so_far(const struct sum *sum, char digits[SUM_DIGITS + 1]) {
+    struct sum copy = {EVP_MD_CTX_new()};
+    bool is_copied = copy.context && EVP_MD_CTX_copy_ex(copy.context, sum->context);
+    int fault = sum_end(&copy, digits);
+    return is_copied ? fault : ENOMEM;
+}
+
 static int add_all(struct sum *sum, int file) {
     static char part[1 << 16];
     for (;;) {

@@ -1,0 +1,38 @@
+"""A disk that fails, of `failing_disk.c`, below a store."""
+import os
+import subprocess
+from pathlib import Path
+
+from own_store import PROGRAMS, WORKS, logs
+
+
+class FailingDisk:
+    """A disk below a store that fails when it is told to, and knows what was synced."""
+
+    def __init__(self, folder: Path):
+        library = folder / "failing_disk.so"
+        subprocess.run(["gcc", "-shared", "-fPIC", "-O1", PROGRAMS / "failing_disk.c", "-o", library, "-ldl"], check=True)
+        self.control, self.synced = folder / "fails", folder / "synced"
+        self.synced.mkdir()
+        self.environment = {"LD_PRELOAD": str(library), "FAILING_STORE": str(folder / "store"),
+                            "FAILING_DISK": str(self.control), "FAILING_SYNCED": str(self.synced),
+                            "ASAN_OPTIONS": os.environ.get("ASAN_OPTIONS", "") + ":verify_asan_link_order=0"}
+
+    def fail(self, what: str) -> None:
+        self.control.write_text(what)
+
+    def mend(self) -> None:
+        self.control.unlink()
+
+    def lose_power(self, folder: Path) -> None:
+        """Of what no sync came behind only a part is left, of each log another."""
+        for log in logs(folder):
+            least = int((self.synced / log.name).read_text()) if (self.synced / log.name).exists() else 0
+            whole = log.read_bytes()
+            left = WORKS.randint(min(least, len(whole)), len(whole))
+            torn = bytearray(whole[:left])
+            for at in WORKS.sample(range(least, left), min(2, max(0, left - least))):
+                torn[at] = 0
+            log.write_bytes(torn + bytes(WORKS.choice([0, len(whole) - left])))
+        for part in (folder / "store").glob("*.part"):
+            part.write_bytes(part.read_bytes()[:WORKS.randrange(1 << 16)])
