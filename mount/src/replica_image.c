@@ -11,7 +11,7 @@
 
 // The key of a part: by the version and its number.
 #define PARTS "image/%020llu/%llu"
-enum { LONGEST_KEY = 512, TIMES = 200 };
+enum { LONGEST_KEY = 512, TIMES = 200, SECONDS_TO_ASK = 30 };
 
 static _Atomic bool gives_up; // the mount is at its end
 
@@ -43,10 +43,12 @@ static const char *name_key(const struct wire *wire, char out[LONGEST_KEY], cons
     return out;
 }
 
-// Asks until a member answers, for some time. The question goes.
+// Asks until a member answers, for some time, and each at least once. The question goes.
 static json_t *ask(struct wire *wire, const char *path, json_t *question) {
     json_t *answer = 0;
-    for (int i = 0; i < TIMES && question && !answer && !gives_up; i++) {
+    uint64_t end = replica_clock() + (uint64_t)SECONDS_TO_ASK * NANOSECONDS;
+    for (size_t asked = 0; question && !answer && !gives_up; asked++) {
+        if (asked >= wire->members->count && replica_clock() >= end) break;
         answer = wire_ask(wire, path, json_incref(question));
         if (!answer) wire_rest();
     }
@@ -136,18 +138,25 @@ static int fetch(struct wire *wire, const struct checkpoint *checkpoint, int fil
 }
 
 // Parts that are gone are of a checkpoint that another one has replaced.
-int checkpoint_fetch(struct wire *wire, struct checkpoint *out, int *file) {
+int checkpoint_fetch(struct wire *wire, uint64_t after, struct checkpoint *out, int *file) {
     int fault = ENOENT;
     *file = -1;
     for (int i = 0; i < TIMES && fault == ENOENT; i++) {
-        fault = read_checkpoint(wire, out);
-        if (fault || !out->version) break;
         if (*file >= 0) close(*file);
+        *file = -1;
+        fault = read_checkpoint(wire, out);
+        if (fault || out->version <= after) break;
         *file = memfd_create("image", MFD_CLOEXEC);
         fault = *file < 0 ? errno : fetch(wire, out, *file);
     }
-    if (fault) fprintf(stderr, "doorvervain-mount: --replica: no checkpoint is read: %s\n", strerror(fault));
     return fault;
+}
+
+int checkpoint_fetch_mark(struct wire *wire, uint64_t mount, struct bytes *out) {
+    char key[LONGEST_KEY];
+    out->length = 0;
+    int fault = get(wire, name_key(wire, key, MARK, mount, 0), out);
+    return fault == ENOENT ? 0 : fault;
 }
 
 // ---- an image is kept
@@ -280,11 +289,14 @@ static void print_piece(struct checkpointing *keeping) {
     pthread_cond_signal(&keeping->printed);
 }
 
+// What is known here meanwhile may be newer.
 static void finish(struct replica *replica) {
     struct checkpointing *keeping = replica->keeping;
     pthread_join(keeping->thread, 0);
-    replica->kept_at = keeping->former;
-    replica->image_size = keeping->size;
+    if (keeping->former >= replica->kept_at) {
+        replica->kept_at = keeping->former;
+        replica->image_size = keeping->size;
+    }
     free_keeping(keeping);
     replica->keeping = 0;
 }
@@ -299,12 +311,19 @@ void checkpoint_step(struct replica *replica) {
     if (has_ended) finish(replica);
 }
 
-void checkpoint_end(struct replica *replica) {
+void checkpoint_cancel(struct replica *replica) {
     struct checkpointing *keeping = replica->keeping;
     if (!keeping) return;
     pthread_mutex_lock(&keeping->lock);
-    keeping->ends = gives_up = true;
+    keeping->ends = true;
     pthread_cond_signal(&keeping->printed);
     pthread_mutex_unlock(&keeping->lock);
-    finish(replica);
+}
+
+void checkpoint_give_up(void) { gives_up = true; }
+
+void checkpoint_end(struct replica *replica) {
+    checkpoint_give_up();
+    checkpoint_cancel(replica);
+    if (replica->keeping) finish(replica);
 }
