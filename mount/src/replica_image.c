@@ -56,14 +56,20 @@ static json_t *ask(struct wire *wire, const char *path, json_t *question) {
     return answer;
 }
 
-// What a key has: 0, ENOENT, or EIO.
-static int get(struct wire *wire, const char *key, struct bytes *out) {
+// What a key has, and the revision at which it was put: 0, ENOENT, or EIO.
+static int get_put(struct wire *wire, const char *key, struct bytes *out, uint64_t *put_at) {
     json_t *answer = ask(wire, "/v3/kv/range", json_pack("{s:o}", "key", wire_key(key)));
     json_t *pair = json_array_get(json_object_get(answer, "kvs"), 0);
     const char *text = json_string_value(json_object_get(pair, "value"));
     int fault = !answer ? EIO : !text ? ENOENT : wire_decode(text, out);
+    *put_at = wire_number(pair, "mod_revision");
     json_decref(answer);
     return fault;
+}
+
+static int get(struct wire *wire, const char *key, struct bytes *out) {
+    uint64_t put_at;
+    return get_put(wire, key, out, &put_at);
 }
 
 static int put(struct wire *wire, const char *key, const void *bytes, size_t length) {
@@ -86,7 +92,7 @@ static int read_checkpoint(struct wire *wire, struct checkpoint *out) {
     char key[LONGEST_KEY];
     struct bytes text = {0};
     *out = (struct checkpoint){0};
-    int fault = get(wire, name_key(wire, key, "checkpoint", 0, 0), &text);
+    int fault = get_put(wire, name_key(wire, key, "checkpoint", 0, 0), &text, &out->put_at);
     json_t *said = fault ? 0 : json_loadb(text.at, text.length, 0, 0);
     const char *sum = json_string_value(json_object_get(said, "sum"));
     if (!fault && !sum) fault = EBADMSG;
@@ -196,24 +202,42 @@ static json_t *print_checkpoint(const struct checkpoint *checkpoint) {
                      checkpoint->sum);
 }
 
-static int put_checkpoint(struct checkpointing *keeping) {
+// Puts a text where the key is the one that was put at a revision: else EAGAIN.
+static int put_behind(struct wire *wire, const char *key, const char *text, uint64_t put_at) {
+    char at[32];
+    snprintf(at, sizeof at, "%llu", (unsigned long long)put_at);
+    json_t *question = json_pack("{s:[{s:o, s:s, s:s}], s:[{s:{s:o, s:o}}]}", "compare", "key", wire_key(key), "target",
+                                 "MOD", "mod_revision", at, "success", "request_put", "key", wire_key(key), "value",
+                                 wire_coded(text, strlen(text)));
+    json_t *answer = ask(wire, "/v3/kv/txn", question);
+    int fault = !answer ? EIO : json_is_true(json_object_get(answer, "succeeded")) ? 0 : EAGAIN;
+    json_decref(answer);
+    return fault;
+}
+
+static int put_checkpoint(struct checkpointing *keeping, uint64_t put_at) {
     char key[LONGEST_KEY];
     json_t *told = print_checkpoint(&keeping->checkpoint);
     char *text = told ? json_dumps(told, JSON_COMPACT) : 0;
     name_key(&keeping->wire, key, "checkpoint", 0, 0);
-    int fault = text ? put(&keeping->wire, key, text, strlen(text)) : ENOMEM;
+    int fault = text ? put_behind(&keeping->wire, key, text, put_at) : ENOMEM;
     free(text);
     json_decref(told);
     return fault;
 }
 
-// Another mount may have made one meanwhile: the newer one stays.
+// Another mount may have made one meanwhile: the newer one stays, of whose parts alone none was dropped. One of the same
+// version and image is this one, whose answer was lost.
 static int replace(struct checkpointing *keeping) {
-    struct checkpoint there;
-    int fault = read_checkpoint(&keeping->wire, &there);
-    if (!fault && there.version >= keeping->checkpoint.version) fault = EEXIST;
-    if (!fault) fault = put_checkpoint(keeping);
-    if (!fault) drop_before(&keeping->wire, keeping->checkpoint.version);
+    struct checkpoint there, *own = &keeping->checkpoint;
+    int fault = EAGAIN;
+    while (fault == EAGAIN) {
+        fault = read_checkpoint(&keeping->wire, &there);
+        if (!fault && there.version == own->version && !strcmp(there.sum, own->sum)) break;
+        if (!fault && there.version >= own->version) fault = EEXIST;
+        if (!fault) fault = put_checkpoint(keeping, there.put_at);
+    }
+    if (!fault) drop_before(&keeping->wire, own->version);
     return fault;
 }
 

@@ -12,6 +12,7 @@ struct checkpoint {
     uint64_t revision; // of etcd, that this version has
     uint64_t parts;
     char sum[72];      // of the image, as SHA-256
+    uint64_t put_at;   // the revision of etcd at which it was put; 0: there is none
 };
 
 // The key that has the front of the last value of the log that the mount of a number put: it is put with that.
