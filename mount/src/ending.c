@@ -32,6 +32,12 @@ void ending_say(const char *what, const char *which, int fault) {
     tell(text);
 }
 
+void ending_mention(const char *what, int fault) {
+    const char *why = fault ? strerror(fault) : "";
+    fprintf(stderr, "doorvervain-mount: %s%s\n", what, why);
+    syslog(LOG_DAEMON | (fault ? LOG_ERR : LOG_NOTICE), "doorvervain-mount: %s%s", what, why);
+}
+
 int ending_tell(int status) {
     tell(status ? "1" : "0");
     return status;

@@ -17,6 +17,8 @@ int ending_open(void);
 struct ending_place ending_place(void);
 // Says what failed, also on standard error and to the log of the system.
 void ending_say(const char *what, const char *which, int fault);
+// Says what happened, with a fault where it went wrong, on standard error and to the log of the system alone.
+void ending_mention(const char *what, int fault);
 // Says how the process ends, and gives the status back.
 int ending_tell(int status);
 

@@ -24,7 +24,7 @@ struct library {
     char snapshot[LONGEST_SNAPSHOT + 1];
 };
 
-static uint8_t piece[1 << 16]; // of an image
+static uint8_t piece[1 << 16]; // of an image: one at a time is read or written
 
 static const uint8_t *text(const char *word) { return (const uint8_t *)word; }
 
@@ -209,26 +209,37 @@ static int open_empty(struct library *library) {
     return fault;
 }
 
-static int get(void *file, uint8_t *out, size_t room, size_t *got) {
+// Where an image is read from.
+struct source {
+    int file;
+    const _Atomic bool *stops;
+};
+
+static int get(void *from, uint8_t *out, size_t room, size_t *got) {
+    const struct source *source = from;
     ssize_t count;
-    do count = read(*(int *)file, out, room);
+    *got = 0;
+    if (source->stops && *source->stops) return ECANCELED;
+    do count = read(source->file, out, room);
     while (count < 0 && errno == EINTR);
     *got = count < 0 ? 0 : (size_t)count;
     return count < 0 ? errno : 0;
 }
 
 // The image comes in piece by piece, as it goes out.
-static int load(struct library *library, const char *name) {
+static int load(struct library *library, const struct making *making) {
+    const char *name = making->image;
     uint64_t line = 0;
-    int file = open(name, O_RDONLY | O_CLOEXEC), failed = file < 0 ? errno : 0;
+    struct source source = {open(name, O_RDONLY | O_CLOEXEC), making->stops};
+    int failed = source.file < 0 ? errno : 0;
     uint8_t number = 0;
     if (!failed)
         number = doorvervain_load_from(&library->volume, DOORVERVAIN_FANOUT, DOORVERVAIN_PENDING, DOORVERVAIN_LEAF,
-                                       piece, sizeof piece, get, &file, &failed, &line);
+                                       piece, sizeof piece, get, &source, &failed, &line);
     int fault = failed ? failed : doorvervain_errno(number);
     if (line) fprintf(stderr, "doorvervain-mount: %s: bad image at line %" PRIu64 "\n", name, line);
     else if (fault) fprintf(stderr, "doorvervain-mount: %s: %s\n", name, strerror(fault));
-    if (file >= 0) close(file);
+    if (source.file >= 0) close(source.file);
     return fault;
 }
 
@@ -237,7 +248,7 @@ int open_library(const struct making *making, struct volume *out) {
     if (!library) return ENOMEM;
     library->steps = making->steps;
     *out = (struct volume){&library_way, library, &records, &library->volume};
-    int fault = making->image ? load(library, making->image) : open_empty(library);
+    int fault = making->image ? load(library, making) : open_empty(library);
     if (fault) free(library);
     return fault;
 }

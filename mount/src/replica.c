@@ -118,6 +118,7 @@ static int replica_keep(void *self, enum keeping what, const char *snapshot) {
 
 static int replica_close(void *self, struct image *image) {
     struct replica *replica = self;
+    behind_end(replica);
     shared_log_close(replica->log);
     int fault = replica->noting.over.way->close(replica->noting.over.self, image);
     replica_put_ends(replica);
@@ -132,23 +133,21 @@ static const struct way replica_way = {
     replica_keep,  noting_punch,  over_data,       over_relieve, over_owes, replica_close,
 };
 
-// The library begins with the image of the checkpoint, which lies in a file without a name.
-static int open_tree(struct replica *replica, const struct making *making, const struct beginning *beginning) {
-    struct volume *over = &replica->noting.over;
+int replica_load(const struct making *making, int image, struct volume *out, uint64_t *size) {
     char name[64];
     struct stat stat;
     struct making inner = *making;
-    snprintf(name, sizeof name, "/proc/self/fd/%d", beginning->image);
-    if (beginning->image < 0) return open_library(making, over);
+    snprintf(name, sizeof name, "/proc/self/fd/%d", image);
+    if (image < 0) return open_library(making, out);
     inner.image = name;
-    if (!fstat(beginning->image, &stat)) replica->image_size = (uint64_t)stat.st_size;
-    return open_library(&inner, over);
+    if (!fstat(image, &stat)) *size = (uint64_t)stat.st_size;
+    return open_library(&inner, out);
 }
 
 static int open_log_of(struct replica *replica, const struct making *making, struct beginning *beginning) {
     int fault = shared_log_open(&making->replica, &replica->log, beginning);
     bool is_open = !fault;
-    if (is_open) fault = open_tree(replica, making, beginning);
+    if (is_open) fault = replica_load(making, beginning->image, &replica->noting.over, &replica->image_size);
     if (beginning->image >= 0) close(beginning->image);
     if (is_open && fault) shared_log_close(replica->log);
     return fault;
@@ -173,13 +172,16 @@ int replica_open(const struct making *making, struct mount *mount) {
     if (!replica) return ENOMEM;
     replica->mount = mount;
     replica->log_size = making->log_size;
+    replica->steps = making->steps;
     int fault = open_log_of(replica, making, &beginning);
     if (fault) {
+        fprintf(stderr, "doorvervain-mount: --replica: no mount: %s\n", strerror(fault));
         free(replica);
         return fault;
     }
     begin_at(replica, mount, &beginning);
     fault = replica_catch_up(replica, beginning.newest);
+    if (fault) shared_log_blame(replica->log);
     if (fault) replica_close(replica, 0);
     return fault;
 }

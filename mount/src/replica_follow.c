@@ -2,6 +2,7 @@
 // who has a file open never gets the bytes of another one, and the kernel asks anew.
 #include "replica_inside.h"
 #include "own.h"
+#include "records.h"
 #include "requests.h"
 #include "snapshots.h"
 #include <errno.h>
@@ -181,6 +182,57 @@ static void follow_call(struct replica *replica, const struct call *call, const 
     if (call->kind != A_RENAME) return;
     note_entry(replica, entry_of_record(replica, other, call->lengths[1]));
     follow_rename(replica, &reach, other, call->lengths[1]);
+}
+
+// ---- another tree
+
+// Whether an entry has the same file in both trees. One that has several names, or was set aside, lies at a number that
+// no other one gets. Any other one is told by its moment: each write gives it a new one, and so has what is put in its
+// place. So a file that was written to elsewhere is taken for another one, too.
+static bool is_same(struct replica *replica, const struct volume *former, const struct entry *entry) {
+    const struct volume *over = &replica->noting.over;
+    struct standing before, now;
+    struct attributes attributes;
+    struct spot spot;
+    if (entry_spot(entry, 0, &spot)) return false;
+    struct place at = {0, spot.path};
+    if (over->way->stat(over->self, at, &now) || now.is_directory != entry->is_directory) return false;
+    if (entry->is_directory || entry->parent->role == OWN_FOLDER) return true;
+    if (former->way->stat(former->self, at, &before) || before.is_directory) return false;
+    if (before.modified != now.modified || before.length != now.length) return false;
+    return !records_read(replica->mount, &spot, false, &attributes, 0) &&
+           attributes.told.kind == entry->attributes.told.kind;
+}
+
+static void note_below(struct replica *replica, const struct entry *entry) {
+    note_entry(replica, entry);
+    for (const struct entry *child = entry->first; child; child = child->after) note_below(replica, child);
+}
+
+static void lose(struct replica *replica, struct entry *entry) {
+    if (is_told(entry->parent)) note(replica, number_of(entry->parent), number_of(entry->parent), entry->name);
+    note_below(replica, entry);
+    entry_take_out(entry);
+}
+
+static void follow_below(struct replica *replica, const struct volume *former, const struct entry *parent) {
+    for (struct entry *entry = parent->first, *next; entry; entry = next) {
+        next = entry->after;
+        if (entry->role == SNAPSHOT_FOLDER) continue;
+        bool stays = entry->role == OWN_FOLDER || is_same(replica, former, entry);
+        if (!stays) {
+            lose(replica, entry);
+            continue;
+        }
+        note_entry(replica, entry);
+        follow_below(replica, former, entry);
+    }
+}
+
+void replica_follow_tree(struct replica *replica, const struct volume *former) {
+    requests_tell_names_stale();
+    note_entry(replica, replica->mount->root);
+    follow_below(replica, former, replica->mount->root);
 }
 
 void replica_follow(struct replica *replica, const char *calls, size_t length) {

@@ -11,7 +11,7 @@
 
 // The key of a part: by the version and its number.
 #define PARTS "image/%020llu/%llu"
-enum { LONGEST_KEY = 512, TIMES = 200 };
+enum { LONGEST_KEY = 512, TIMES = 200, SECONDS_TO_ASK = 30 };
 
 static _Atomic bool gives_up; // the mount is at its end
 
@@ -43,10 +43,12 @@ static const char *name_key(const struct wire *wire, char out[LONGEST_KEY], cons
     return out;
 }
 
-// Asks until a member answers, for some time. The question goes.
+// Asks until a member answers, for some time, and each at least once. The question goes.
 static json_t *ask(struct wire *wire, const char *path, json_t *question) {
     json_t *answer = 0;
-    for (int i = 0; i < TIMES && question && !answer && !gives_up; i++) {
+    uint64_t end = replica_clock() + (uint64_t)SECONDS_TO_ASK * NANOSECONDS;
+    for (size_t asked = 0; question && !answer && !gives_up; asked++) {
+        if (asked >= wire->members->count && replica_clock() >= end) break;
         answer = wire_ask(wire, path, json_incref(question));
         if (!answer) wire_rest();
     }
@@ -54,14 +56,20 @@ static json_t *ask(struct wire *wire, const char *path, json_t *question) {
     return answer;
 }
 
-// What a key has: 0, ENOENT, or EIO.
-static int get(struct wire *wire, const char *key, struct bytes *out) {
+// What a key has, and the revision at which it was put: 0, ENOENT, or EIO.
+static int get_put(struct wire *wire, const char *key, struct bytes *out, uint64_t *put_at) {
     json_t *answer = ask(wire, "/v3/kv/range", json_pack("{s:o}", "key", wire_key(key)));
     json_t *pair = json_array_get(json_object_get(answer, "kvs"), 0);
     const char *text = json_string_value(json_object_get(pair, "value"));
     int fault = !answer ? EIO : !text ? ENOENT : wire_decode(text, out);
+    *put_at = wire_number(pair, "mod_revision");
     json_decref(answer);
     return fault;
+}
+
+static int get(struct wire *wire, const char *key, struct bytes *out) {
+    uint64_t put_at;
+    return get_put(wire, key, out, &put_at);
 }
 
 static int put(struct wire *wire, const char *key, const void *bytes, size_t length) {
@@ -84,7 +92,7 @@ static int read_checkpoint(struct wire *wire, struct checkpoint *out) {
     char key[LONGEST_KEY];
     struct bytes text = {0};
     *out = (struct checkpoint){0};
-    int fault = get(wire, name_key(wire, key, "checkpoint", 0, 0), &text);
+    int fault = get_put(wire, name_key(wire, key, "checkpoint", 0, 0), &text, &out->put_at);
     json_t *said = fault ? 0 : json_loadb(text.at, text.length, 0, 0);
     const char *sum = json_string_value(json_object_get(said, "sum"));
     if (!fault && !sum) fault = EBADMSG;
@@ -136,18 +144,25 @@ static int fetch(struct wire *wire, const struct checkpoint *checkpoint, int fil
 }
 
 // Parts that are gone are of a checkpoint that another one has replaced.
-int checkpoint_fetch(struct wire *wire, struct checkpoint *out, int *file) {
+int checkpoint_fetch(struct wire *wire, uint64_t after, struct checkpoint *out, int *file) {
     int fault = ENOENT;
     *file = -1;
     for (int i = 0; i < TIMES && fault == ENOENT; i++) {
-        fault = read_checkpoint(wire, out);
-        if (fault || !out->version) break;
         if (*file >= 0) close(*file);
+        *file = -1;
+        fault = read_checkpoint(wire, out);
+        if (fault || out->version <= after) break;
         *file = memfd_create("image", MFD_CLOEXEC);
         fault = *file < 0 ? errno : fetch(wire, out, *file);
     }
-    if (fault) fprintf(stderr, "doorvervain-mount: --replica: no checkpoint is read: %s\n", strerror(fault));
     return fault;
+}
+
+int checkpoint_fetch_mark(struct wire *wire, uint64_t mount, struct bytes *out) {
+    char key[LONGEST_KEY];
+    out->length = 0;
+    int fault = get(wire, name_key(wire, key, MARK, mount, 0), out);
+    return fault == ENOENT ? 0 : fault;
 }
 
 // ---- an image is kept
@@ -187,24 +202,42 @@ static json_t *print_checkpoint(const struct checkpoint *checkpoint) {
                      checkpoint->sum);
 }
 
-static int put_checkpoint(struct checkpointing *keeping) {
+// Puts a text where the key is the one that was put at a revision: else EAGAIN.
+static int put_behind(struct wire *wire, const char *key, const char *text, uint64_t put_at) {
+    char at[32];
+    snprintf(at, sizeof at, "%llu", (unsigned long long)put_at);
+    json_t *question = json_pack("{s:[{s:o, s:s, s:s}], s:[{s:{s:o, s:o}}]}", "compare", "key", wire_key(key), "target",
+                                 "MOD", "mod_revision", at, "success", "request_put", "key", wire_key(key), "value",
+                                 wire_coded(text, strlen(text)));
+    json_t *answer = ask(wire, "/v3/kv/txn", question);
+    int fault = !answer ? EIO : json_is_true(json_object_get(answer, "succeeded")) ? 0 : EAGAIN;
+    json_decref(answer);
+    return fault;
+}
+
+static int put_checkpoint(struct checkpointing *keeping, uint64_t put_at) {
     char key[LONGEST_KEY];
     json_t *told = print_checkpoint(&keeping->checkpoint);
     char *text = told ? json_dumps(told, JSON_COMPACT) : 0;
     name_key(&keeping->wire, key, "checkpoint", 0, 0);
-    int fault = text ? put(&keeping->wire, key, text, strlen(text)) : ENOMEM;
+    int fault = text ? put_behind(&keeping->wire, key, text, put_at) : ENOMEM;
     free(text);
     json_decref(told);
     return fault;
 }
 
-// Another mount may have made one meanwhile: the newer one stays.
+// Another mount may have made one meanwhile: the newer one stays, of whose parts alone none was dropped. One of the same
+// version and image is this one, whose answer was lost.
 static int replace(struct checkpointing *keeping) {
-    struct checkpoint there;
-    int fault = read_checkpoint(&keeping->wire, &there);
-    if (!fault && there.version >= keeping->checkpoint.version) fault = EEXIST;
-    if (!fault) fault = put_checkpoint(keeping);
-    if (!fault) drop_before(&keeping->wire, keeping->checkpoint.version);
+    struct checkpoint there, *own = &keeping->checkpoint;
+    int fault = EAGAIN;
+    while (fault == EAGAIN) {
+        fault = read_checkpoint(&keeping->wire, &there);
+        if (!fault && there.version == own->version && !strcmp(there.sum, own->sum)) break;
+        if (!fault && there.version >= own->version) fault = EEXIST;
+        if (!fault) fault = put_checkpoint(keeping, there.put_at);
+    }
+    if (!fault) drop_before(&keeping->wire, own->version);
     return fault;
 }
 
@@ -280,11 +313,14 @@ static void print_piece(struct checkpointing *keeping) {
     pthread_cond_signal(&keeping->printed);
 }
 
+// What is known here meanwhile may be newer.
 static void finish(struct replica *replica) {
     struct checkpointing *keeping = replica->keeping;
     pthread_join(keeping->thread, 0);
-    replica->kept_at = keeping->former;
-    replica->image_size = keeping->size;
+    if (keeping->former >= replica->kept_at) {
+        replica->kept_at = keeping->former;
+        replica->image_size = keeping->size;
+    }
     free_keeping(keeping);
     replica->keeping = 0;
 }
@@ -299,12 +335,19 @@ void checkpoint_step(struct replica *replica) {
     if (has_ended) finish(replica);
 }
 
-void checkpoint_end(struct replica *replica) {
+void checkpoint_cancel(struct replica *replica) {
     struct checkpointing *keeping = replica->keeping;
     if (!keeping) return;
     pthread_mutex_lock(&keeping->lock);
-    keeping->ends = gives_up = true;
+    keeping->ends = true;
     pthread_cond_signal(&keeping->printed);
     pthread_mutex_unlock(&keeping->lock);
-    finish(replica);
+}
+
+void checkpoint_give_up(void) { gives_up = true; }
+
+void checkpoint_end(struct replica *replica) {
+    checkpoint_give_up();
+    checkpoint_cancel(replica);
+    if (replica->keeping) finish(replica);
 }

@@ -6,6 +6,8 @@
 #include "replica_log.h"
 #include <pthread.h>
 
+#define NANOSECONDS 1000000000u
+
 enum {
     // What a request is refused with that waits for the log: it is not answered.
     IT_WAITS = 1 << 20,
@@ -55,6 +57,9 @@ struct replica {
     uint64_t done;     // the log's version up to which all is done
     uint64_t revision; // and what etcd has for it
     int fault;       // why the log cannot be followed any more
+    bool is_behind;        // what follows in the log was cut: a checkpoint is wanted
+    struct behind *behind; // who sees to that; null: nobody does
+    unsigned steps;        // of the tree, behind some changes
 
     // A pass.
     enum pass pass;
@@ -103,6 +108,9 @@ int replica_keep_tree(struct replica *replica);
 void replica_forget(struct replica *replica);
 // The log cannot be followed any more.
 void replica_fail(struct replica *replica, const char *what, int fault);
+// The library begins with the image of a checkpoint, in a file without a name, whose size is told; or with the empty tree
+// (-1).
+int replica_load(const struct making *making, int image, struct volume *out, uint64_t *size);
 
 // ---- replica_put.c
 
@@ -111,10 +119,15 @@ void replica_note_rest(struct replica *replica);
 void replica_put(struct replica *replica);
 // What is under way is not put any more. It may come all the same.
 void replica_give_up(struct replica *replica);
-// Does what the log has up to a version.
+// Does what the log has up to a version: where for some time nothing comes, a fault.
 int replica_catch_up(struct replica *replica, uint64_t newest);
 // Does what came from the log.
 void replica_take(struct replica *replica);
+// The log goes on elsewhere. Of what is under way a mark tells whether the log has it: so its requests are done, and
+// answered, or wait again.
+void replica_settle(struct replica *replica, const struct bytes *mark);
+// No part of a value is there.
+void replica_drop_parts(struct replica *replica);
 void replica_put_ends(struct replica *replica);
 
 // ---- replica_serve.c
@@ -129,7 +142,20 @@ uint64_t replica_clock(void);
 
 // The entries follow the calls of records that are done, and the kernel is told.
 void replica_follow(struct replica *replica, const char *calls, size_t length);
+// The same where the tree became another one than that of a volume.
+void replica_follow_tree(struct replica *replica, const struct volume *former);
 int replica_tell_begins(struct replica *replica);
 // Ends that thread: false where it is still at it, and requests have to be served until it is not.
 bool replica_tell_ends(struct replica *replica);
+
+// ---- replica_behind.c
+
+// The log was cut before all of it was read here.
+void behind_begin(struct replica *replica);
+// The thread that serves calls it between two requests: where the tree of a checkpoint is there, it takes the place of
+// the one that stands.
+void behind_step(struct replica *replica);
+// Whether no checkpoint was there when it was looked for: changes need not wait.
+bool behind_is_in_vain(struct replica *replica);
+void behind_end(struct replica *replica);
 #endif

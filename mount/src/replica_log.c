@@ -19,20 +19,21 @@ struct came {
 
 struct shared_log {
     struct members members;
-    char *key;             // that has the log
+    char *key, *mark;      // that has the log, and that has the front of this mount's last value
     uint64_t revision;     // from which on it is watched
     uint64_t seen;         // the newest version that was
+    uint64_t until;        // in seconds: when it gives up to begin
     int event;             // is raised where something came
     _Atomic bool ends;
     struct bytes line;     // of the watch
     struct wire puts, watches;
 
     pthread_mutex_t lock; // of what follows
-    pthread_cond_t wakes, has_room;
+    pthread_cond_t wakes, has_room, goes_on;
     pthread_t putter, watcher;
     struct came *first, *last;
     size_t waiting;  // bytes of them
-    int fault;
+    int fault;       // it is not watched any more
     uint64_t wishes; // counts what was to be put
     uint64_t version;
     struct bytes value; // none: nothing is to be put
@@ -50,13 +51,18 @@ void shared_log_wake(struct shared_log *log) {
 
 // ---- what is put
 
-// Where a version stands already the key stays as it is: the watch tells which value that is.
+static json_t *put_of(const char *key, const void *bytes, size_t length) {
+    return json_pack("{s:{s:o, s:o}}", "request_put", "key", wire_key(key), "value", wire_coded(bytes, length));
+}
+
+// Where a version stands already the keys stay as they are: the watch tells which value that is. Where the watch missed
+// it, the mark does.
 static json_t *question_of_put(struct shared_log *log, uint64_t version, const struct bytes *value) {
     char before[32];
     snprintf(before, sizeof before, "%llu", (unsigned long long)(version - 1));
-    return json_pack("{s:[{s:o, s:s, s:s}], s:[{s:{s:o, s:o}}]}", "compare", "key", wire_key(log->key), "target",
-                     "VERSION", "version", before, "success", "request_put", "key", wire_key(log->key), "value",
-                     wire_coded(value->at, value->length));
+    return json_pack("{s:[{s:o, s:s, s:s}], s:[o, o]}", "compare", "key", wire_key(log->key), "target", "VERSION",
+                     "version", before, "success", put_of(log->key, value->at, value->length),
+                     put_of(log->mark, value->at, sizeof(struct value_front)));
 }
 
 // Waits for something to put: which wish that is, and 0 at the end, or where memory is wanting.
@@ -180,11 +186,19 @@ static int ends(void *self, curl_off_t a, curl_off_t b, curl_off_t c, curl_off_t
     return log->ends;
 }
 
+// Waits while the log cannot be read: false at the end.
+static bool may_watch(struct shared_log *log) {
+    pthread_mutex_lock(&log->lock);
+    while (!log->ends && log->fault) pthread_cond_wait(&log->goes_on, &log->lock);
+    pthread_mutex_unlock(&log->lock);
+    return !log->ends;
+}
+
 // Of large answers the pieces come one by one.
 static void *watch(void *self) {
     struct shared_log *log = self;
     char from[32];
-    while (!log->ends) {
+    while (may_watch(log)) {
         snprintf(from, sizeof from, "%llu", (unsigned long long)log->revision);
         log->line.length = 0;
         wire_listen(&log->watches, "/v3/watch",
@@ -194,6 +208,16 @@ static void *watch(void *self) {
         if (!log->ends) wire_rest();
     }
     return 0;
+}
+
+// All that was seen was taken, and the thread that watches waits.
+void shared_log_go_on(struct shared_log *log, const struct checkpoint *from) {
+    pthread_mutex_lock(&log->lock);
+    log->seen = from->version;
+    log->revision = from->revision + 1;
+    log->fault = 0;
+    pthread_cond_signal(&log->goes_on);
+    pthread_mutex_unlock(&log->lock);
 }
 
 int shared_log_event(const struct shared_log *log) { return log->event; }
@@ -224,15 +248,17 @@ static uint64_t seconds(void) {
     return (uint64_t)now.tv_sec;
 }
 
-// Asks one member after the other; the question stays the caller's.
+// Asks one member after the other, each at least once; the question stays the caller's.
 static json_t *ask_all(struct shared_log *log, const char *path, json_t *question) {
     json_t *answer = 0;
-    for (uint64_t end = seconds() + SECONDS_TO_BEGIN; !answer && seconds() < end;) {
+    for (size_t asked = 0; !answer && (asked < log->members.count || seconds() < log->until); asked++) {
         answer = wire_ask(&log->puts, path, json_incref(question));
         if (!answer) wire_rest();
     }
-    if (!answer) fprintf(stderr, "doorvervain-mount: --replica: no member answers %s\n", path);
-    return answer;
+    if (answer) return answer;
+    fprintf(stderr, "doorvervain-mount: --replica: no member answers %s\n", path);
+    wire_tell(&log->puts);
+    return 0;
 }
 
 // The number of a mount is how many there were: a key's version, which is put and read at one moment.
@@ -248,6 +274,13 @@ static int ask_number(struct shared_log *log, uint64_t *out) {
     json_decref(question);
     free(key);
     return !answer ? EIO : *out ? 0 : EBADMSG;
+}
+
+static int name_mark(struct shared_log *log, uint64_t number) {
+    char name[64];
+    snprintf(name, sizeof name, MARK, (unsigned long long)number);
+    log->mark = name_key(log->members.place, name);
+    return log->mark ? 0 : ENOMEM;
 }
 
 static int ask_newest(struct shared_log *log, uint64_t *newest) {
@@ -272,7 +305,10 @@ static int begin_threads(struct shared_log *log) {
 // The log is watched behind a checkpoint, or from its first version on.
 static int begin_behind(struct shared_log *log, struct beginning *beginning) {
     int fault = ask_newest(log, &beginning->newest);
-    if (!fault) fault = checkpoint_fetch(&log->puts, &beginning->checkpoint, &beginning->image);
+    if (fault) return fault;
+    fault = checkpoint_fetch(&log->puts, 0, &beginning->checkpoint, &beginning->image);
+    if (fault) fprintf(stderr, "doorvervain-mount: --replica: no checkpoint is read: %s\n", strerror(fault));
+    if (fault) wire_tell(&log->puts);
     if (fault || !beginning->checkpoint.version) return fault;
     log->seen = beginning->checkpoint.version;
     log->revision = beginning->checkpoint.revision + 1;
@@ -287,7 +323,9 @@ static int open_all(struct shared_log *log, const struct replica_place *place, s
     if (!fault && !log->key) fault = ENOMEM;
     if (!fault) fault = wire_open(&log->puts, &log->members, (size_t)getpid());
     if (!fault) fault = wire_open(&log->watches, &log->members, (size_t)getpid());
+    log->until = seconds() + SECONDS_TO_BEGIN;
     if (!fault) fault = ask_number(log, &beginning->number);
+    if (!fault) fault = name_mark(log, beginning->number);
     if (!fault) fault = begin_behind(log, beginning);
     return fault ? fault : begin_threads(log);
 }
@@ -301,6 +339,7 @@ int shared_log_open(const struct replica_place *place, struct shared_log **out, 
     pthread_mutex_init(&log->lock, 0);
     pthread_cond_init(&log->wakes, 0);
     pthread_cond_init(&log->has_room, 0);
+    pthread_cond_init(&log->goes_on, 0);
     log->event = eventfd(0, EFD_CLOEXEC | EFD_NONBLOCK);
     int fault = log->event < 0 ? errno : open_all(log, place, beginning);
     if (fault) shared_log_close(log);
@@ -313,9 +352,16 @@ static void end_threads(struct shared_log *log) {
     log->ends = true;
     pthread_cond_broadcast(&log->wakes);
     pthread_cond_broadcast(&log->has_room);
+    pthread_cond_broadcast(&log->goes_on);
     pthread_mutex_unlock(&log->lock);
     if (log->putter) pthread_join(log->putter, 0);
     if (log->watcher) pthread_join(log->watcher, 0);
+    log->putter = log->watcher = 0;
+}
+
+void shared_log_blame(struct shared_log *log) {
+    end_threads(log);
+    wire_tell(&log->watches);
 }
 
 void shared_log_close(struct shared_log *log) {
@@ -331,6 +377,7 @@ void shared_log_close(struct shared_log *log) {
     bytes_free(&log->value);
     bytes_free(&log->line);
     free(log->key);
+    free(log->mark);
     if (log->event >= 0) close(log->event);
     free(log);
 }

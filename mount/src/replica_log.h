@@ -34,6 +34,10 @@ int shared_log_open(const struct replica_place *place, struct shared_log **out, 
 const struct members *shared_log_members(const struct shared_log *log);
 // Lets the file that is polled for be read.
 void shared_log_wake(struct shared_log *log);
+// Once the log could not be read any more: it is read behind another checkpoint.
+void shared_log_go_on(struct shared_log *log, const struct checkpoint *from);
+// Ends its threads, and says on standard error what each member that gave no values answered.
+void shared_log_blame(struct shared_log *log);
 void shared_log_close(struct shared_log *log);
 // A file to poll for: it can be read where a value has come.
 int shared_log_event(const struct shared_log *log);

@@ -12,6 +12,7 @@
 #include <string.h>
 
 enum { FRONT = sizeof(struct value_front), LARGEST_PART = LARGEST_VALUE - FRONT, MILLISECONDS = 100 };
+enum { SECONDS_TO_CATCH_UP = 30 };
 
 // ---- what no request waits for
 
@@ -179,7 +180,7 @@ void replica_give_up(struct replica *replica) {
 
 void replica_put(struct replica *replica) {
     struct put *put = &replica->put;
-    if (put->is_under_way || replica->fault || !(replica->first || replica->rests)) return;
+    if (put->is_under_way || replica->fault || replica->is_behind || !(replica->first || replica->rests)) return;
     put->requests = put->part = 0;
     put->records.length = 0;
     put->is_torn = false;
@@ -239,7 +240,15 @@ static void do_put(struct replica *replica) {
     }
     for (struct rest *rest = put->rests; rest; rest = rest->next) run(replica, &rest->calls);
     free_rests(&put->rests);
-    if (!replica->fault) checkpoint_begin(replica);
+    if (!replica->fault && !replica->is_behind) checkpoint_begin(replica);
+}
+
+void replica_settle(struct replica *replica, const struct bytes *mark) {
+    struct put *put = &replica->put;
+    if (!put->is_under_way) return;
+    bool is_there = mark->length == FRONT && !memcmp(mark->at, put->value.at, FRONT);
+    if (is_there && put->part + 1 == parts_of(put)) do_put(replica);
+    else replica_give_up(replica);
 }
 
 // The calls of each record that was done.
@@ -282,6 +291,11 @@ static bool assemble(struct replica *replica, const struct bytes *value) {
     return front.part + 1 == front.parts;
 }
 
+void replica_drop_parts(struct replica *replica) {
+    replica->parts.length = 0;
+    replica->front = (struct value_front){0};
+}
+
 static bool is_own(const struct replica *replica, const struct bytes *value) {
     const struct bytes *own = &replica->put.value;
     return replica->put.is_under_way && own->length == value->length && !memcmp(own->at, value->at, own->length);
@@ -320,7 +334,7 @@ void replica_take(struct replica *replica) {
         take_value(replica, &value);
         bytes_free(&value.bytes);
     }
-    if (fault) replica_fail(replica, "it was cut, or its key is gone", fault);
+    if (fault) behind_begin(replica);
 }
 
 void replica_put_ends(struct replica *replica) {
@@ -331,11 +345,23 @@ void replica_put_ends(struct replica *replica) {
     bytes_free(&replica->parts);
 }
 
+// Whether nothing came for too long, where `done` was the last that did, until `end`.
+static bool is_late(const struct replica *replica, uint64_t *done, uint64_t *end) {
+    uint64_t now = replica_clock();
+    if (replica->is_behind || replica->done != *done) *end = now + (uint64_t)SECONDS_TO_CATCH_UP * NANOSECONDS;
+    *done = replica->done;
+    return now >= *end;
+}
+
 int replica_catch_up(struct replica *replica, uint64_t newest) {
     struct pollfd comes = {.fd = shared_log_event(replica->log), .events = POLLIN};
+    uint64_t done = UINT64_MAX, end = UINT64_MAX;
     while (!replica->fault && replica->done < newest) {
         poll(&comes, 1, MILLISECONDS);
         replica_take(replica);
+        behind_step(replica);
+        if (behind_is_in_vain(replica)) replica_fail(replica, "it was cut, or its key is gone", ESTALE);
+        if (is_late(replica, &done, &end)) replica_fail(replica, "no member gives all of it", ETIMEDOUT);
     }
     return replica->fault;
 }

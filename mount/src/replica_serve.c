@@ -13,7 +13,6 @@
 #include <unistd.h>
 
 enum { SECONDS_TO_WAIT = 10, SECONDS_TO_END = 3, MILLISECONDS = 100 };
-#define NANOSECONDS 1000000000u
 
 static struct replica *answers; // whose requests are answered
 static struct fuse_session *session;
@@ -158,8 +157,9 @@ static bool is_vain(const struct replica *replica) {
 
 static void refuse_old(struct replica *replica) {
     uint64_t now = replica_clock();
+    bool refuses_all = replica->fault || replica->is_ending || behind_is_in_vain(replica);
     for (struct waiting *one = replica->first; one; one = one->next) {
-        bool is_late = now >= one->until || replica->fault || replica->is_ending;
+        bool is_late = now >= one->until || refuses_all;
         if (one->is_refused || !is_late) continue;
         answer_fault(one, EIO);
         one->is_refused = true;
@@ -198,6 +198,7 @@ static int serve_all(struct replica *replica, struct fuse_buf *buffer) {
     while (!fuse_session_exited(session) && (got > 0 || got == -EINTR || got == -EAGAIN)) {
         if (one_has_come(replica, MILLISECONDS)) got = serve_next(replica, buffer);
         replica_take(replica);
+        behind_step(replica);
         refuse_old(replica);
         replica_put(replica);
         checkpoint_step(replica);
@@ -215,7 +216,7 @@ int replica_serve(struct fuse_session *used, struct mount *mount) {
     int status = serve_all(replica, &buffer);
     serve_rest(replica, &buffer);
     answers = 0;
-    return status || replica->fault;
+    return status || replica->fault || replica->is_behind;
 }
 
 // ---- the end
@@ -249,5 +250,6 @@ void replica_end(struct mount *mount) {
         replica_put(replica);
         if (replica->put.is_under_way) poll(&comes, 1, MILLISECONDS);
         replica_take(replica);
-    } while (!replica->fault && (replica->put.is_under_way || replica->rests) && replica_clock() < end);
+        if (replica->fault || replica->is_behind) break;
+    } while ((replica->put.is_under_way || replica->rests) && replica_clock() < end);
 }

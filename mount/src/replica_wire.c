@@ -152,6 +152,28 @@ static void next_member(struct wire *wire) {
     drop_token(wire);
 }
 
+static void note_told(struct wire *wire, const char *what) {
+    char *told = wire->told[wire->at];
+    snprintf(told, LONGEST_TOLD, "%s", what);
+    told[strcspn(told, "\n")] = 0;
+}
+
+// What a question to the member came to.
+static void note_outcome(struct wire *wire, CURLcode code) {
+    char text[LONGEST_TOLD];
+    long status = 0;
+    curl_easy_getinfo(wire->curl, CURLINFO_RESPONSE_CODE, &status);
+    int length = wire->said.length < LONGEST_TOLD ? (int)wire->said.length : LONGEST_TOLD;
+    snprintf(text, sizeof text, "%ld %.*s", status, length, length ? wire->said.at : "");
+    note_told(wire, code == CURLE_OK ? text : curl_easy_strerror(code));
+}
+
+void wire_tell(const struct wire *wire) {
+    for (size_t i = 0; wire->members && i < wire->members->count; i++)
+        if (wire->told[i][0])
+            fprintf(stderr, "doorvervain-mount: --replica: %s: %s\n", wire->members->urls[i], wire->told[i]);
+}
+
 static json_t *ask_once(struct wire *wire, const char *path, const char *text) {
     json_t *answer = 0;
     long status = 0;
@@ -160,9 +182,10 @@ static json_t *ask_once(struct wire *wire, const char *path, const char *text) {
     curl_easy_setopt(wire->curl, CURLOPT_WRITEFUNCTION, keep);
     curl_easy_setopt(wire->curl, CURLOPT_WRITEDATA, &wire->said);
     curl_easy_setopt(wire->curl, CURLOPT_TIMEOUT, (long)SECONDS_OF_A_QUESTION);
-    bool is_done = curl_easy_perform(wire->curl) == CURLE_OK;
+    CURLcode code = curl_easy_perform(wire->curl);
     curl_easy_getinfo(wire->curl, CURLINFO_RESPONSE_CODE, &status);
-    if (is_done && status == 200) answer = json_loadb(wire->said.at, wire->said.length, 0, 0);
+    if (code == CURLE_OK && status == 200) answer = json_loadb(wire->said.at, wire->said.length, 0, 0);
+    if (!answer) note_outcome(wire, code);
     return answer;
 }
 
@@ -180,7 +203,10 @@ static int find_token(struct wire *wire) {
     const struct replica_place *place = wire->members->place;
     char password[LARGEST_PASSWORD];
     if (!place->user || wire->token) return 0;
-    if (read_password(place->password, password)) return EIO;
+    if (read_password(place->password, password)) {
+        note_told(wire, "the password cannot be read");
+        return EIO;
+    }
     json_t *question = json_pack("{s:s, s:s}", "name", place->user, "password", password);
     char *text = json_dumps(question, JSON_COMPACT);
     json_t *answer = text ? ask_once(wire, "/v3/auth/authenticate", text) : 0;
@@ -217,7 +243,8 @@ void wire_listen(struct wire *wire, const char *path, json_t *question,
         curl_easy_setopt(wire->curl, CURLOPT_XFERINFODATA, context);
         curl_easy_setopt(wire->curl, CURLOPT_LOW_SPEED_LIMIT, 1L);
         curl_easy_setopt(wire->curl, CURLOPT_LOW_SPEED_TIME, (long)SECONDS_OF_SILENCE);
-        curl_easy_perform(wire->curl);
+        wire->said.length = 0;
+        note_outcome(wire, curl_easy_perform(wire->curl));
     }
     free(text);
     next_member(wire);

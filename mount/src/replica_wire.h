@@ -5,7 +5,7 @@
 #include <curl/curl.h>
 #include <jansson.h>
 
-enum { MOST_MEMBERS = 16 };
+enum { MOST_MEMBERS = 16, LONGEST_TOLD = 160 };
 
 struct members {
     const struct replica_place *place;
@@ -20,6 +20,7 @@ struct wire {
     struct curl_slist *heads;
     char *token; // of the user; null: none was asked for
     struct bytes said;
+    char told[MOST_MEMBERS][LONGEST_TOLD]; // what each member answered last, where that was no answer
 };
 
 // Reads the members' names: 0, or EINVAL where one may not be spoken to, which is said.
@@ -30,6 +31,8 @@ int wire_open(struct wire *wire, const struct members *members, size_t first);
 void wire_close(struct wire *wire);
 // Asks the member: what it says, or null where that failed, and then the next one is asked next time. The question goes.
 json_t *wire_ask(struct wire *wire, const char *path, json_t *question);
+// Says on standard error what each member answered that was no answer.
+void wire_tell(const struct wire *wire);
 // Asks what is answered by lines without end, each of which `put` gets; a silence of some seconds ends it.
 void wire_listen(struct wire *wire, const char *path, json_t *question,
                  size_t (*put)(char *bytes, size_t size, size_t count, void *context),

@@ -638,7 +638,7 @@ static void on_listxattr(fuse_req_t req, fuse_ino_t number, size_t room) {
 }
 
 // Of kernels since 6.16: all names that the kernel knows are asked for anew. Older ones refuse it.
-static bool tell_all_names_stale(void) {
+bool requests_tell_names_stale(void) {
     enum { ALL_NAMES_ARE_STALE = 8 };
     struct {
         uint32_t length;
@@ -651,7 +651,7 @@ static bool tell_all_names_stale(void) {
 // Tells the kernel to forget what it knows. It may wait for other requests, so no lock is held.
 static void tell_stale(struct bytes *list) {
     struct stale *stale = (struct stale *)list->at;
-    bool knows_names = !tell_all_names_stale();
+    bool knows_names = !requests_tell_names_stale();
     for (size_t i = 0; i < list->length / sizeof *stale; i++) {
         if (stale[i].parent && knows_names)
             fuse_lowlevel_notify_inval_entry(session, stale[i].parent, stale[i].name, strlen(stale[i].name));

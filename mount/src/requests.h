@@ -15,6 +15,8 @@ struct restore_request {
 extern const struct fuse_lowlevel_ops requests;
 // The session that requests come by. What others change too the kernel knows for a second.
 void requests_use(struct fuse_session *session, bool is_shared);
+// All names that the kernel knows are asked for anew: kernels before 6.16 refuse that.
+bool requests_tell_names_stale(void);
 // Whether a thread is at work on one still. The session and the volume have to stand until then.
 bool requests_are_under_way(void);
 // Between two requests: does one step of the tree that is due, and those that have waited for long; then looks for the

@@ -99,6 +99,7 @@ struct replica_place {
 struct making {
     const char *betr;  // the program to speak to; null: the library
     const char *image; // a file with the tree to begin with; null: the empty tree
+    const _Atomic bool *stops; // where it becomes true, that is not read on: ECANCELED; null: nothing stops it
     bool prints_image; // the image is asked for at the end
     const char *store; // the folder that keeps it; null: none does
     bool syncs_each;   // a store is synced at each change
