@@ -151,6 +151,17 @@ static void take_out(struct entry *entry) {
     if (entry && entry->role == ORDINARY) entry_take_out(entry);
 }
 
+// The record of an entry is another one. A file that was empty when it got its second name has another place since then,
+// to which its entry is not moved.
+static void follow_record(struct replica *replica, struct entry *entry) {
+    struct attributes attributes;
+    struct spot spot;
+    note_entry(replica, entry);
+    bool has_name = entry && entry->role == ORDINARY && !entry->is_directory && entry->parent->role != OWN_FOLDER;
+    if (!has_name || entry_spot(entry, 0, &spot) || records_read(replica->mount, &spot, false, &attributes, 0)) return;
+    if (attributes.told.kind == DOORVERVAIN_OTHER_NAME) take_out(entry);
+}
+
 // A file that gets a place of its own keeps its entry.
 static void move(struct replica *replica, struct entry *entry, const char *path, size_t length) {
     struct reach to = reach_path(replica, path, length, true);
@@ -175,12 +186,12 @@ static void follow_rename(struct replica *replica, const struct reach *from, con
 static void follow_call(struct replica *replica, const struct call *call, const char *texts) {
     const char *path = texts, *other = texts + call->lengths[0];
     struct reach reach = reach_path(replica, path, call->lengths[0], false);
-    note_entry(replica, entry_of_record(replica, path, call->lengths[0]));
+    follow_record(replica, entry_of_record(replica, path, call->lengths[0]));
     note_entry(replica, reach.entry);
     if (call->kind <= A_RENAME) note_name(replica, &reach);
     if (call->kind == AN_UNLINK || call->kind == AN_RMDIR || call->kind == AN_RMTREE) take_out(reach.entry);
     if (call->kind != A_RENAME) return;
-    note_entry(replica, entry_of_record(replica, other, call->lengths[1]));
+    follow_record(replica, entry_of_record(replica, other, call->lengths[1]));
     follow_rename(replica, &reach, other, call->lengths[1]);
 }
 
