@@ -2,6 +2,7 @@
 // lines meet. That they meet where both are at the same place makes it short.
 #include "differ.h"
 #include "bytes.h"
+#include "text.h"
 #include <errno.h>
 #include <inttypes.h>
 #include <stdbool.h>
@@ -81,8 +82,6 @@ static int step(const struct differ *differ, struct walk *walk) {
 
 // ---- the order of lines
 
-static int digit(char of) { return of <= '9' ? of - '0' : of - 'A' + 10; }
-
 // The next byte of a path, and 1 more; 0: a slash; -1: the end. In the order of keys a slash is before all bytes.
 static int next_byte(const char **at, const char *end) {
     if (*at == end) return -1;
@@ -90,7 +89,7 @@ static int next_byte(const char **at, const char *end) {
     if (byte == '/') return 0;
     if (byte != '%' || end - *at < 2) return 1 + (unsigned char)byte;
     *at += 2;
-    return 1 + 16 * digit((*at)[-2]) + digit((*at)[-1]);
+    return 1 + 16 * text_digit((*at)[-2]) + text_digit((*at)[-1]);
 }
 
 static int compare_paths(const struct walk *one, const struct walk *other) {

@@ -26,7 +26,7 @@ int text_hex(struct bytes *out, const char *bytes, size_t count) {
     return 0;
 }
 
-static int value_of(char digit) {
+int text_digit(char digit) {
     if (digit >= '0' && digit <= '9') return digit - '0';
     if (digit >= 'a' && digit <= 'f') return digit - 'a' + 10;
     if (digit >= 'A' && digit <= 'F') return digit - 'A' + 10;
@@ -36,8 +36,8 @@ static int value_of(char digit) {
 int text_unescape(struct bytes *out, const char *text, size_t length) {
     if (bytes_reserve(out, length)) return ENOMEM;
     for (size_t i = 0; i < length; i++) {
-        bool escaped = text[i] == '%' && i + 2 < length && value_of(text[i + 1]) >= 0 && value_of(text[i + 2]) >= 0;
-        out->at[out->length++] = escaped ? (char)(value_of(text[i + 1]) * 16 + value_of(text[i + 2])) : text[i];
+        bool escaped = text[i] == '%' && i + 2 < length && text_digit(text[i + 1]) >= 0 && text_digit(text[i + 2]) >= 0;
+        out->at[out->length++] = escaped ? (char)(text_digit(text[i + 1]) * 16 + text_digit(text[i + 2])) : text[i];
         if (escaped) i += 2;
     }
     return 0;
@@ -47,7 +47,7 @@ long text_read_hex(const char *digits, size_t length, char *out, size_t room) {
     if (length == 1 && *digits == '-') return 0;
     if (length % 2 || length / 2 > room) return -1;
     for (size_t i = 0; i < length / 2; i++) {
-        int high = value_of(digits[2 * i]), low = value_of(digits[2 * i + 1]);
+        int high = text_digit(digits[2 * i]), low = text_digit(digits[2 * i + 1]);
         if (high < 0 || low < 0) return -1;
         out[i] = (char)(high * 16 + low);
     }

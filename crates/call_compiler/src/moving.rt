@@ -5,12 +5,13 @@ ghost use Rattle.call_compiler.specs.Moves.{replaced};
 ghost use Rattle.message.specs.declared.msg.Msg.TheVariants.{DelRange};
 ghost use Rattle.meta_index.specs.Means.{IsMeantBy, told};
 ghost use Rattle.pathkey.specs.Keys.{subtree as subtree_of};
-ghost use Rattle.reference.specs.Calls.{faults_of_place, faults_of_rename_from, faults_of_replacing, first_fault, is_directory as stands_directory, is_file, is_full, once, parent, path_fault};
+ghost use Rattle.reference.specs.Calls.{faults_of_place, faults_of_replacing, first_fault, is_directory as stands_directory, is_file, is_full, once, parent, path_fault};
 ghost use Rattle.reference.specs.Shape.{IsTree};
 ghost use Rattle.reference.specs.Tree as trees;
 
 use crate::batch::{Batch, refused, without_messages};
 use crate::indexes::Indexes;
+use crate::removing::fault_of_taking;
 use crate::subtrees::{has_too_long_key, put_moved};
 use crate::touching::touch_directories;
 use block_index::BlockUpdate;
@@ -39,7 +40,7 @@ pub fn rename(
     let _old_key = old.key();
     let _new_key = new.key();
     let from = indexes.meta.find(alloc, old)?;
-    if let Some(fault) = fault_of_moved(old, from) {
+    if let Some(fault) = fault_of_taking(old, from) {
         return Ok(refused(alloc, fault));
     }
     if old.is_same(new) {
@@ -57,17 +58,6 @@ pub fn rename(
     let blocks = put_moved(alloc, &indexes.block.tree, old, new, replaced)?;
     let batch = with_old_cleared(alloc, old, new, at, entries, blocks)?;
     Ok((Reply::Done, batch))
-}
-
-/// Why nothing can be moved from `old`, where `from` was found; none where something can.
-fn fault_of_moved(old: &Path, from: At) -> Option<Errno>
-    ensures { (t : trees.Tree) → from ≡ told (trees.entry_at t old.now) → result ≡ first_fault (faults_of_rename_from t old.now) }
-{
-    if old.is_root() {
-        Some(Errno::EBUSY)
-    } else {
-        from.fault_of_path()
-    }
 }
 
 /// Why `from`, which was found at `old`, cannot be put at `new`, another path, where `to` was found, whatever the length of its

@@ -1,15 +1,16 @@
 //! Calls that take an entry out: `unlink`, `rmdir` and `rmtree`.
 ghost use Rattle.std.specs.Prelude.{◌≡◌, [], ◌∷◌, IfOk};
 ghost use Rattle.call_compiler.specs.Compiled.{IsCompiled, messages};
-ghost use Rattle.meta_index.specs.Means.{IsMeantBy};
+ghost use Rattle.meta_index.specs.Means.{IsMeantBy, told};
 ghost use Rattle.reference.specs.Calls.{faults_of_rmdir, faults_of_rmtree, first_fault};
-ghost use Rattle.reference.specs.Tree.{Tree};
+ghost use Rattle.reference.specs.Tree.{Tree, entry_at};
 
 use crate::batch::{Batch, done_in, refused};
 use crate::files::{find_file, without_blocks};
 use crate::indexes::Indexes;
 use crate::touching::directory_of;
 use message::Msg;
+use meta_index::At;
 use pathkey::{Errno, NoMemory, Path, subtree};
 use reference::{Call, Reply};
 use std::alloc::Global;
@@ -81,7 +82,8 @@ pub fn rmtree(
 {
     // What `key` promises says that the path is one.
     let _key = path.key();
-    if let Some(fault) = fault_of_rmtree(alloc, indexes, path)? {
+    let here = indexes.meta.find(alloc, path)?;
+    if let Some(fault) = fault_of_taking(path, here) {
         return Ok(refused(alloc, fault));
     }
     let range = subtree(alloc, path)?;
@@ -91,13 +93,13 @@ pub fn rmtree(
     done_in(alloc, &directory, at, Msg::DelRange(range), block)
 }
 
-/// Why no entry with all below it can be taken out at the path; none where one can.
-fn fault_of_rmtree(alloc: Global, indexes: &Indexes, path: &Path) -> Result<Option<Errno>, NoMemory>
-    ensures { IfOk result (λ fault. (t : Tree) → IsMeantBy t indexes.now.meta → fault ≡ first_fault (faults_of_rmtree t path.now)) }
+/// Why no entry with all below it can be taken out of its place, or moved from it, where `here` was found; none where one can.
+pub(crate) fn fault_of_taking(path: &Path, here: At) -> Option<Errno>
+    ensures { (t : Tree) → here ≡ told (entry_at t path.now) → result ≡ first_fault (faults_of_rmtree t path.now) }
 {
-    Ok(if path.is_root() {
+    if path.is_root() {
         Some(Errno::EBUSY)
     } else {
-        indexes.meta.find(alloc, path)?.fault_of_path()
-    })
+        here.fault_of_path()
+    }
 }

@@ -14,7 +14,7 @@ use crate::frozen::Frozen;
 use crate::volume::Volume;
 use bytes::Bytes;
 use call_compiler::touching::{moves_in_root, stands_in_root};
-use call_compiler::{Batch, Call, Indexes, Reply, making, moving, reading, removing, writing};
+use call_compiler::{Batch, Call, Reply, making, moving, reading, removing, writing};
 use pathkey::{Errno, NoMemory, Path};
 use reference::Kind;
 use std::alloc::Global;
@@ -47,8 +47,10 @@ impl Volume {
     ) -> Result<u64, Errno>
         ensures { Called (Call.Write path.now offset bytes.now) at (replied (λ n. Reply.Count n) result) self.old self.new }
     {
-        let compiled = compile_write(alloc, self.indexes(), path, offset, bytes, at);
-        counted(self.send(alloc, compiled, at, false))
+        match Bytes::copy_from_slice(alloc, bytes) {
+            Ok(own) => self.write_shared(alloc, path, offset, &own, at),
+            Err(_) => Err(Errno::ENOMEM),
+        }
     }
 
     /// Lays shared bytes over a file from the offset on, as `write` does: none of them is copied.
@@ -185,21 +187,6 @@ impl Frozen {
         self.means_a_tree();
         names(self.readdir(alloc, path))
     }
-}
-
-// What a write is compiled to. The messages own the bytes, so they are copied once.
-fn compile_write(
-    alloc: Global,
-    indexes: &Indexes,
-    path: &Path,
-    offset: u64,
-    bytes: &[u8],
-    at: u64,
-) -> Result<(Reply, Batch), NoMemory>
-    ensures { Compiles indexes.now (Call.Write path.now offset bytes.now) at result }
-{
-    let own = Bytes::copy_from_slice(alloc, bytes)?;
-    writing::write(alloc, indexes, path, offset, &own, at)
 }
 
 // The answer that tells a reply of which only a refusal counts.

@@ -16,13 +16,13 @@ use Rattle.call_compiler.proofs.removing.rmtree.Goals as goal
 
 pub returns-in-Some : goal.returns-in-Some
 returns-in-Some c = rmtree_is_refused c.args.indexes.now c.args.path.now c.args.at c.refused.result.0 (messages c.refused.result.1)
-    c.in_ok-fault.field-0 c.in_ok-fault.ensures c.in-Some.fault c.in-Some.is c.refused.ensures.reply c.refused.ensures.messages
+    c.fault_of_taking.result (λ t means. c.fault_of_taking.ensures t (c.in_ok-here.ensures.told t means)) c.in-Some.fault c.in-Some.is c.refused.ensures.reply c.refused.ensures.messages
 
 pub returns : goal.returns
 returns c =
     let d = c.in_ok-directory.directory in
     if_ok_both c.done_in.result _ _ _
-    (λ a reply sent. rmtree_is_done c.args.indexes.now c.args.path.now c.args.at a.0 (messages a.1) c.in_ok-fault.field-0 c.in_ok-fault.ensures c.in_default.is (omega (arith, c.ranges.at.fits)) c.key-key.ensures.valid reply
+    (λ a reply sent. rmtree_is_done c.args.indexes.now c.args.path.now c.args.at a.0 (messages a.1) c.fault_of_taking.result (λ t means. c.fault_of_taking.ensures t (c.in_ok-here.ensures.told t means)) c.in_default.is (omega (arith, c.ranges.at.fits)) c.key-key.ensures.valid reply
     (sent ∙ halves _ _ _ _
     (ap (λ (r : KeyRange). DelRange r ∷ needed_touches c.args.at d) c.in_ok-range.ensures
     ∙ ap (λ (ts : List (Msg MetaUpdate Meta)). DelRange (subtree c.args.path.now) ∷ ts) (unknown_touches c.args.at d (parent c.args.path.now) c.in_ok-directory.ensures.path c.in_ok-directory.ensures.moment))

@@ -1,18 +1,13 @@
-use Rattle.std.proofs.Common.{refl, sym, subst}
-use Rattle.call_compiler.specs.declared.indexes.Indexes.{Indexes}
+use Rattle.std.proofs.Common.{List, ℕ, refl, sym, subst}
 use Rattle.reference.specs.declared.call.Call.TheVariants.{Write}
-use Rattle.reference.specs.declared.reply.Reply.{Reply}
+use Rattle.reference.specs.declared.reply.Reply.TheVariants.{Count}
 use Rattle.volume.specs.Changes.{Called}
-use Rattle.volume.specs.Typed.{Compiles}
+use Rattle.volume.specs.Typed.{replied}
+use Rattle.volume.proofs.Leading.{lacks_call, live_of}
 use Rattle.volume.proofs.volume.Volume.write.Goals as goal
 
-pub send-requires : goal.send-requires
-send-requires c = (Write c.args.path.now c.args.offset c.args.bytes.now, record { compiles = subst (λ (i : Indexes). Compiles i (Write c.args.path.now c.args.offset c.args.bytes.now) c.args.at c.compile_write-compiled.result) c.indexes.ensures c.compile_write-compiled.ensures; root = refl })
+pub returns-in-Ok : goal.returns-in-Ok
+returns-in-Ok c = subst (λ (w : List ℕ). Called (Write c.args.path.now c.args.offset w) c.args.at (replied (λ (n : ℕ). Count n) c.write_shared.result) c.args.self.now c.write_shared.new.self) c.in-Ok.ensures c.write_shared.ensures
 
-pub counted-requires : goal.counted-requires
-counted-requires c = c.send.ensures.kind (Write c.args.path.now c.args.offset c.args.bytes.now) (subst (λ (i : Indexes). Compiles i (Write c.args.path.now c.args.offset c.args.bytes.now) c.args.at c.compile_write-compiled.result) c.indexes.ensures c.compile_write-compiled.ensures)
-
-pub returns : goal.returns
-returns c =
-    subst (λ (r : Reply). Called (Write c.args.path.now c.args.offset c.args.bytes.now) c.args.at r c.args.self.now c.send.new.self) (sym c.counted.ensures)
-    (c.send.ensures.called (Write c.args.path.now c.args.offset c.args.bytes.now) (record { compiles = subst (λ (i : Indexes). Compiles i (Write c.args.path.now c.args.offset c.args.bytes.now) c.args.at c.compile_write-compiled.result) c.indexes.ensures c.compile_write-compiled.ensures; root = refl }))
+pub returns-in-Err : goal.returns-in-Err
+returns-in-Err c = lacks_call c.args.self.now (Write c.args.path.now c.args.offset c.args.bytes.now) c.args.at (live_of c.args.self.now) refl
