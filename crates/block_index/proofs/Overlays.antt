@@ -1,12 +1,23 @@
 -- Bytes laid over a block, once and twice.
-use Rattle.std.proofs.Common.{◌≡◌, ℕ, [], ◌+◌, ◌-◌, ◌<◌, ◌≤◌, min, max, List, ◌++◌, length, take, drop, get_or, sym, ap, refl, ◌∙◌, ◌⊎◌, inl, inr, ⊎_elim, arith, length-append, length-take, length-drop}
+use Rattle.std.proofs.Common.{◌≡◌, true, false, leb, ℕ, [], ◌+◌, ◌-◌, ◌<◌, ◌≤◌, min, max, List, ◌++◌, length, take, drop, get_or, sym, ap, refl, ◌∙◌, ◌⊎◌, inl, inr, ⊎_elim, arith, length-append, length-take, length-drop}
 use Rattle.std.proofs.lemmas.List.{ext_get_or, take_all, take-append-le, drop_min, get_or_append_left, get_or-append_right, get_or-take, get_or-drop, get_or_past}
-use Rattle.std.proofs.lemmas.Bool.{cases_lt}
+use Rattle.std.proofs.lemmas.Bool.{cases_lt, leb-true, leb-false, and_parts, and_cases}
 use borrow.Rule.Slice.PartMut.{post_of}
 use Rattle.reference.specs.Tree.{over, sized}
 use Rattle.reference.proofs.Contents.{length-over, length-sized}
 use Rattle.reference.proofs.FileBlocks.{sized_at, over_before, over_inside, over_after}
-use Rattle.block_index.specs.Patches.{joined}
+use Rattle.block_index.specs.Patches.{is_touching, joined}
+
+-- what touches begins at or before the other's end
+pub touching_meets : (a : ℕ) (v : List ℕ) (c : ℕ) (w : List ℕ) → is_touching a v c w ≡ true → (c ≤ a + length v) × (a ≤ c + length w)
+touching_meets a v c w h = let p : (leb c (a + length v) ≡ true) × (leb a (c + length w) ≡ true) = and_parts _ _ h in (leb-true c (a + length v) p.0, leb-true a (c + length w) p.1)
+
+-- and what does not lies apart
+pub touching_not : (a : ℕ) (v : List ℕ) (c : ℕ) (w : List ℕ) → is_touching a v c w ≡ false → (a + length v < c) ⊎ (c + length w < a)
+touching_not a v c w h = ⊎_elim
+    (λ (g : leb c (a + length v) ≡ false). inl (leb-false c (a + length v) g))
+    (λ (g : leb a (c + length w) ≡ false). inr (leb-false a (c + length w) g))
+    (and_cases _ _ h)
 
 -- how long two patches are together
 length-joined : (a : ℕ) (v : List ℕ) (c : ℕ) (w : List ℕ) → c ≤ a + length v → length (joined a v c w) ≡ (c - a) + length w + (length v - (c + length w - a))

@@ -4,3 +4,4 @@ pub mod Updates
 pub mod Changed
 pub mod Means
 pub mod Read
+pub mod Layers

@@ -1,5 +1,5 @@
 -- What a patch is: bytes, and where in a block they begin.
-use Rattle.std.specs.Prelude.{ℕ, ◌+◌, ◌-◌, List, ◌++◌, length, take, drop}
+use Rattle.std.specs.Prelude.{ℕ, ◌+◌, ◌-◌, List, ◌++◌, length, take, drop, Bool, ◌&&◌, nat_le}
 
 -- bytes to be laid over a block from the offset on
 pub record Overlay : Type 0 where
@@ -9,3 +9,7 @@ pub record Overlay : Type 0 where
 -- the bytes of two patches that meet, w from c on over v from a on, from the earlier of both beginnings on
 abbrev pub joined : ℕ → List ℕ → ℕ → List ℕ → List ℕ
 joined a v c w = take (c - a) v ++ w ++ drop (c + length w - a) v
+
+-- v from a on and w from c on lie over one another or side by side
+abbrev pub is_touching : ℕ → List ℕ → ℕ → List ℕ → Bool
+is_touching a v c w = nat_le c (a + length v) && nat_le a (c + length w)

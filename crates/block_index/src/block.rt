@@ -1,9 +1,12 @@
 //! Blocks of a file.
-ghost use Rattle.std.specs.Prelude.{◌≡◌, ◌≤◌, length, take, IfOk, OnOk, OnErr};
+ghost use Rattle.std.specs.Prelude.{◌≡◌, ◌≤◌, length, take, Some, None, if◌then◌else◌, IfOk, IfSome, OnOk, OnErr};
+ghost use Rattle.std.specs.Option.{option_map};
+ghost use Rattle.block_index.specs.Layers.{layered};
 ghost use Rattle.block_index.specs.Stored.{bytes_of};
 ghost use Rattle.reference.specs.Tree.{over};
 
 use crate::patch::Patch;
+use crate::stack::Stack;
 use crate::stored::Stored;
 use pathkey::NoMemory;
 use std::alloc::Global;
@@ -44,9 +47,7 @@ impl Block {
     {
         let mut own = Vec::with_capacity(alloc, bytes.len())?;
         own.extend_from_slice(bytes)?;
-        Ok(Block {
-            stored: Stored::Own(Arc::new(alloc, own)?),
-        })
+        Block::owned(alloc, own)
     }
 
     /// These bytes with the patch laid over them. Where it covers them all, the block shares its bytes.
@@ -68,6 +69,14 @@ impl Block {
         if end < old.len() {
             own.extend_from_slice(&old[end..])?;
         }
+        Block::owned(alloc, own)
+    }
+
+    /// A block of these bytes.
+    pub(crate) fn owned(alloc: Global, own: Vec<u8>) -> Result<Block, NoMemory>
+        requires { length own.items ≤ 4096 }
+        ensures { IfOk result (λ b. b ≡ own.items) }
+    {
         Ok(Block {
             stored: Stored::Own(Arc::new(alloc, own)?),
         })
@@ -99,6 +108,35 @@ impl Block {
             *self = Block::patched(alloc, self.as_slice(), patch)?;
         }
         Ok(())
+    }
+
+    /// What layers make of these bytes, or of no block; none where they make none.
+    pub(crate) fn laid(
+        alloc: Global,
+        old: Option<&[u8]>,
+        layers: &Stack,
+    ) -> Result<Option<Block>, NoMemory>
+        requires { IfSome old (λ b. length b.now ≤ 4096) }
+        ensures { IfOk result (λ r. r ≡ layered layers.now (option_map (λ b. b.now) old.entry)) }
+    {
+        match layers.over(alloc, old)? {
+            Some(own) => Ok(Some(Block::owned(alloc, own)?)),
+            None => Ok(None),
+        }
+    }
+
+    /// Lays layers over the block, and answers whether there still is one. On want of memory it is as it was.
+    pub(crate) fn relay(&mut self, alloc: Global, layers: &Stack) -> Result<bool, NoMemory>
+        ensures ok { IfOk result (λ stays. (if stays then Some self.new else None) ≡ layered layers.now (Some self.old)) }
+        ensures err { OnErr result (self.new ≡ self.old) }
+    {
+        match Block::laid(alloc, Some(self.as_slice()), layers)? {
+            Some(new) => {
+                *self = new;
+                Ok(true)
+            }
+            None => Ok(false),
+        }
     }
 
     /// Keeps the first `n` bytes, or all where there are fewer.

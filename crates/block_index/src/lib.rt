@@ -7,11 +7,15 @@
 
 pub mod block;
 pub mod index;
+pub mod layers;
 pub mod patch;
+mod stack;
 mod stored;
+mod top;
 pub mod update;
 
 pub use block::{BLOCK, Block};
 pub use index::BlockIndex;
+pub use layers::Layers;
 pub use patch::Patch;
 pub use update::BlockUpdate;

@@ -1,6 +1,6 @@
 //! Patches: bytes that are laid over a block.
 ghost use Rattle.std.specs.Prelude.{◌≡◌, ◌+◌, ◌≤◌, ◌-◌, length, min, IfOk, IfSome, Option, List, ℕ};
-ghost use Rattle.block_index.specs.Patches.{joined};
+ghost use Rattle.block_index.specs.Patches.{is_touching, joined};
 ghost use Rattle.reference.specs.Indexes.{overlaid};
 
 use bytes::Bytes;
@@ -81,7 +81,7 @@ impl Patch {
     {
         let (a, c) = (self.off(), later.off());
         let (v, w) = (self.bytes(), later.bytes());
-        if c > a + v.len() || a > c + w.len() {
+        if !touches(a, v, c, w) {
             return Ok(None);
         }
         if c <= a && a + v.len() <= c + w.len() {
@@ -93,8 +93,22 @@ impl Patch {
     }
 }
 
+/// Whether the bytes `v` from `a` on and `w` from `c` on lie over one another or side by side.
+pub(crate) fn touches(a: usize, v: &[u8], c: usize, w: &[u8]) -> bool
+    requires short { (a + length v.now ≤ 4096) × (c + length w.now ≤ 4096) }
+    ensures { result ≡ is_touching a v.now c w.now }
+{
+    c <= a + v.len() && a <= c + w.len()
+}
+
 /// The bytes `w` from `c` on laid over the bytes `v` from `a` on.
-fn join_bytes(alloc: Global, a: usize, v: &[u8], c: usize, w: &[u8]) -> Result<Vec<u8>, NoMemory>
+pub(crate) fn join_bytes(
+    alloc: Global,
+    a: usize,
+    v: &[u8],
+    c: usize,
+    w: &[u8],
+) -> Result<Vec<u8>, NoMemory>
     requires meets { c ≤ a + length v.now }
     requires short { (a + length v.now ≤ 4096) × (c + length w.now ≤ 4096) }
     ensures { IfOk result (λ b. b.items ≡ joined a v.now c w.now) }

@@ -69,7 +69,7 @@ impl Stored {
             Stored::Slice(_) => Ok(false),
             Stored::Own(bytes) => match Arc::get_mut(bytes) {
                 Some(own) => {
-                    overlay(own, patch)?;
+                    overlay(own, patch.off(), patch.bytes())?;
                     Ok(true)
                 }
                 // They have other owners.
@@ -79,18 +79,18 @@ impl Stored {
     }
 }
 
-/// Lays the patch over the bytes in their place.
-fn overlay(own: &mut Vec<u8>, patch: &Patch) -> Result<(), NoMemory>
-    requires { length own.old.items ≤ 4096 }
-    ensures ok { OnOk result (own.new.items ≡ over own.old.items patch.now.off patch.now.bytes) }
+/// Lays the bytes `new` over others in their place, from `off` on.
+pub(crate) fn overlay(own: &mut Vec<u8>, off: usize, new: &[u8]) -> Result<(), NoMemory>
+    requires own { length own.old.items ≤ 4096 }
+    requires new { off + length new.now ≤ 4096 }
+    ensures ok { OnOk result (own.new.items ≡ over own.old.items off new.now) }
     ensures short { OnOk result (length own.new.items ≤ 4096) }
     ensures err { OnErr result (own.new.items ≡ own.old.items) }
 {
-    let off = patch.off();
-    let end = off + patch.bytes().len();
+    let end = off + new.len();
     if own.len() < end {
         own.resize(end, 0)?;
     }
-    own[off..end].copy_from_slice(patch.bytes());
+    own[off..end].copy_from_slice(new);
     Ok(())
 }

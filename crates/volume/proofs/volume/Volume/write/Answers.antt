@@ -3,7 +3,8 @@ use Rattle.reference.specs.declared.call.Call.TheVariants.{Write}
 use Rattle.reference.specs.declared.reply.Reply.TheVariants.{Count}
 use Rattle.volume.specs.Changes.{Called}
 use Rattle.volume.specs.Typed.{replied}
-use Rattle.volume.proofs.Leading.{lacks_call, live_of}
+use Rattle.volume.specs.Volumes.{live_of}
+use Rattle.volume.proofs.Leading.{lacks_call}
 use Rattle.volume.proofs.volume.Volume.write.Goals as goal
 
 pub returns-in-Ok : goal.returns-in-Ok

@@ -1,0 +1,43 @@
+-- What layers are: a cut of a block, if there is one, and then bytes that are laid over it at several places.
+use Rattle.std.specs.Prelude.{◌≡◌, ℕ, ◌+◌, ◌-◌, ◌≤◌, ⊤, List, [], ◌∷◌, length, take, drop, min, Option, None, Some}
+use Rattle.block_index.specs.Patches.{Overlay}
+use Rattle.block_index.specs.declared.stack.Extent.{Extent}
+use Rattle.reference.specs.Indexes.{overlaid, shortened}
+
+-- the first layer is the newest
+pub record Layered : Type 0 where
+  pub cut : Option ℕ
+  pub layers : List Overlay
+
+-- what layers make of a block, or of its absence: the newest is laid over all others
+abbrev pub laid : List Overlay → Option (List ℕ) → Option (List ℕ)
+laid [] old = old
+laid (p ∷ ps) old = overlaid p.off p.bytes (laid ps old)
+
+-- what is left of a block behind a cut, if there is one
+abbrev pub cut_by : Option ℕ → Option (List ℕ) → Option (List ℕ)
+cut_by None old = old
+cut_by (Some n) old = shortened n old
+
+-- what both make of a block
+abbrev pub layered : Layered → Option (List ℕ) → Option (List ℕ)
+layered l old = laid l.layers (cut_by l.cut old)
+
+-- one of two updates after the other: what the later makes of what the earlier made
+abbrev pub Follows : (Option (List ℕ) → Option (List ℕ)) → Layered → Layered → Type 0
+Follows later l new = (old : Option (List ℕ)) → layered new old ≡ later (layered l old)
+
+-- ---- where their bytes lie
+
+-- the layer that an extent tells, among the bytes of all
+abbrev pub layer_in : List ℕ → Extent → Overlay
+layer_in bytes e = record { off = e.off; bytes = take e.len (drop e.start bytes) }
+
+-- all bytes are there, and lie in the block
+abbrev pub AreInside : List ℕ → List Extent → Type 0
+AreInside bytes [] = ⊤
+AreInside bytes (e ∷ es) = (e.start + e.len ≤ length bytes) × (e.off + e.len ≤ 4096) × AreInside bytes es
+
+-- what is left of a layer before a byte of the block
+abbrev pub clipped : ℕ → Overlay → Overlay
+clipped end p = record { off = min p.off end; bytes = take (end - p.off) p.bytes }

@@ -1,0 +1,56 @@
+//! Layers: several updates of one block as one, shared.
+ghost use Rattle.std.specs.Prelude.{◌≡◌, IfOk};
+
+use crate::stack::Stack;
+use pathkey::NoMemory;
+use std::alloc::Global;
+use std::marker::Model;
+use std::sync::Arc;
+
+/// A cut of a block, if there is one, and then bytes that are laid over it at several places. A copy is one more owner.
+pub struct Layers {
+    stack: Arc<Stack>,
+}
+
+// Written out, as that of `pathkey::Key`.
+impl Drop for Layers {
+    fn drop(self) {
+        let Layers { stack: _ } = self;
+    }
+}
+
+impl Model for Layers {
+    ghost use Rattle.std.specs.Arc.{arc_value};
+    ghost use Rattle.block_index.specs.Layers.{Layered};
+
+    ghost Value = { Layered };
+
+    ghost view = { λ l. arc_value l.stack };
+}
+
+impl Layers {
+    /// The layers of a stack.
+    pub(crate) fn of(alloc: Global, stack: Stack) -> Result<Layers, NoMemory>
+        ensures { IfOk result (λ l. l ≡ stack) }
+    {
+        Ok(Layers {
+            stack: Arc::new(alloc, stack)?,
+        })
+    }
+
+    /// Their stack.
+    pub(crate) fn stack(&self) -> &Stack
+        ensures { result.now ≡ self.now }
+    {
+        &self.stack
+    }
+
+    /// Equal layers: one more owner.
+    pub(crate) fn copy(&self) -> Result<Layers, NoMemory>
+        ensures { IfOk result (λ l. l ≡ self.now) }
+    {
+        Ok(Layers {
+            stack: Arc::try_clone(&self.stack)?,
+        })
+    }
+}

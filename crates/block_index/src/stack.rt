@@ -1,0 +1,349 @@
+//! Stacks of layers: several updates of one block in one.
+ghost use Rattle.std.specs.Prelude.{◌≡◌, ◌+◌, ◌-◌, ◌≤◌, ◌++◌, [], ◌∷◌, List, ℕ, Option, Some, None, true, false, length, map, drop, ◌<◌, if◌then◌else◌, IfOk, IfSome, OnErr};
+ghost use Rattle.block_index.specs.Layers.{AreInside, Follows, Layered, clipped, cut_by, laid, layer_in, layered};
+ghost use Rattle.block_index.specs.Patches.{Overlay};
+ghost use Rattle.reference.specs.Indexes.{held, overlaid, shortened};
+ghost use Rattle.std.specs.Option.{option_map};
+
+use crate::stored::overlay;
+use crate::top::Top;
+use pathkey::NoMemory;
+use std::alloc::Global;
+use std::marker::Model;
+
+/// How many layers there are at most.
+const MOST: usize = 128;
+
+/// Where the bytes of a layer begin in the block, where they begin among the bytes of all layers, and how many they are.
+#[derive(Clone, Copy)]
+pub struct Extent {
+    pub(crate) off: u16,
+    pub(crate) start: u16,
+    pub(crate) len: u16,
+}
+
+/// A cut of a block, if there is one, and then layers: bytes that are laid over it at several places.
+///
+/// The first layer is the newest: it is laid over all others. What comes takes in the layers that it touches, so that each byte
+/// of the block stands once, and what waits for a block is no longer than it.
+pub struct Stack {
+    cut: Option<u16>,
+    extents: Vec<Extent>,
+    bytes: Vec<u8>,
+}
+
+// Written out, as that of `pathkey::Key`.
+impl Drop for Stack {
+    fn drop(self) {
+        let Stack {
+            cut: _,
+            extents: _,
+            bytes: _,
+        } = self;
+    }
+}
+
+impl Model for Stack {
+    ghost use Rattle.std.specs.Prelude.{length, map, ◌≤◌};
+    ghost use Rattle.block_index.specs.Layers.{AreInside, Layered, layer_in};
+
+    ghost Value = { Layered };
+
+    ghost view = { λ l. record { cut = l.cut; layers = map (layer_in l.bytes.items) l.extents.items } };
+
+    ghost invariant = { λ l. AreInside l.bytes.items l.extents.items × (length l.bytes.items ≤ 4096) };
+}
+
+impl Stack {
+    /// No layer, over a block that is cut to so many bytes, if it is.
+    pub(crate) fn new(alloc: Global, cut: Option<u16>) -> Stack
+        ensures { result ≡ record { cut = cut; layers = [] } }
+    {
+        Stack {
+            cut,
+            extents: Vec::new(alloc),
+            bytes: Vec::new(alloc),
+        }
+    }
+
+    /// These layers and then the bytes laid over the block from `off` on; none where that would be too many.
+    pub(crate) fn laid(
+        &self,
+        alloc: Global,
+        off: usize,
+        new: &[u8],
+    ) -> Result<Option<Stack>, NoMemory>
+        requires { off + length new.now ≤ 4096 }
+        ensures { IfOk result (λ r. IfSome r (λ l. (l.cut ≡ self.now.cut) × ((old : Option (List ℕ)) → laid l.layers old ≡ overlaid off new.now (laid self.now.layers old)))) }
+    {
+        let (extents, bytes) = (self.extents.as_slice(), self.bytes.as_slice());
+        if extents.len() >= MOST {
+            return Ok(None);
+        }
+        if !touches_any(extents, off, new) && bytes.len() + new.len() <= 4096 {
+            return Ok(Some(above(alloc, self.cut, extents, bytes, off, new)?));
+        }
+        joined(alloc, Stack::new(alloc, self.cut), extents, bytes, off, new)
+    }
+
+    /// These layers and then a cut to so many bytes; none where that would be too many.
+    pub(crate) fn cut_to(&self, alloc: Global, n: u16) -> Result<Option<Stack>, NoMemory>
+        ensures { IfOk result (λ r. IfSome r (λ l. Follows (shortened n) self.now l)) }
+    {
+        let cut = match self.cut {
+            Some(m) => m.min(n),
+            None => n,
+        };
+        let first = Stack::new(alloc, Some(cut));
+        laid_all(
+            alloc,
+            first,
+            self.extents.as_slice(),
+            self.bytes.as_slice(),
+            n as usize,
+        )
+    }
+
+    /// These layers and then others; none where that would be too many.
+    pub(crate) fn and(&self, alloc: Global, later: &Stack) -> Result<Option<Stack>, NoMemory>
+        ensures { IfOk result (λ r. IfSome r (λ l. Follows (layered later.now) self.now l)) }
+    {
+        let first = match later.cut {
+            Some(n) => self.cut_to(alloc, n)?,
+            None => Some(self.copy(alloc)?),
+        };
+        match first {
+            Some(first) => laid_all(
+                alloc,
+                first,
+                later.extents.as_slice(),
+                later.bytes.as_slice(),
+                4096,
+            ),
+            None => Ok(None),
+        }
+    }
+
+    /// Equal layers.
+    fn copy(&self, alloc: Global) -> Result<Stack, NoMemory>
+        ensures { IfOk result (λ l. l ≡ self.now) }
+    {
+        let mut extents = Vec::with_capacity(alloc, self.extents.len())?;
+        extents.extend_from_slice(self.extents.as_slice())?;
+        let mut bytes = Vec::with_capacity(alloc, self.bytes.len())?;
+        bytes.extend_from_slice(self.bytes.as_slice())?;
+        Ok(Stack {
+            cut: self.cut,
+            extents,
+            bytes,
+        })
+    }
+
+    /// Puts a layer below all others, and answers whether there was room for it.
+    fn push(&mut self, alloc: Global, off: usize, run: &[u8]) -> Result<bool, NoMemory>
+        requires { off + length run.now ≤ 4096 }
+        ensures { IfOk result (λ fits. self.new ≡ (if fits then record { cut = self.old.cut; layers = self.old.layers ++ record { off = off; bytes = run.now } ∷ [] } else self.old)) }
+    {
+        let start = self.bytes.len();
+        if start + run.len() > 4096 {
+            return Ok(false);
+        }
+        self.bytes.extend_from_slice(run)?;
+        self.extents.push(Extent {
+            off: off as u16,
+            start: start as u16,
+            len: run.len() as u16,
+        })?;
+        Ok(true)
+    }
+
+    /// The bytes of a block with these layers, where `old` was there; none where there is no block then.
+    pub(crate) fn over(
+        &self,
+        alloc: Global,
+        old: Option<&[u8]>,
+    ) -> Result<Option<Vec<u8>>, NoMemory>
+        requires { IfSome old (λ b. length b.now ≤ 4096) }
+        ensures value { IfOk result (λ r. option_map (λ v. v.items) r ≡ layered self.now (option_map (λ b. b.now) old.entry)) }
+        ensures short { IfOk result (λ r. IfSome r (λ v. length v.items ≤ 4096)) }
+    {
+        let own = match old {
+            Some(bytes) => cut_bytes(alloc, self.cut, bytes)?,
+            None if self.extents.is_empty() => return Ok(None),
+            None => Vec::new(alloc),
+        };
+        let all = over_all(alloc, own, self.extents.as_slice(), self.bytes.as_slice())?;
+        Ok(Some(all))
+    }
+}
+
+/// Whether a layer and the bytes `new` from `off` on lie over one another or side by side.
+fn touches_any(extents: &[Extent], off: usize, new: &[u8]) -> bool
+    requires { off + length new.now ≤ 4096 }
+{
+    let end = off + new.len();
+    extents.iter().any(|extent| {
+        let first = extent.off as usize;
+        off <= first + extent.len as usize && first <= end
+    })
+}
+
+/// The bytes of a layer among those of all.
+fn run_of(bytes: &[u8], extent: Extent) -> &[u8]
+    requires { extent.start + extent.len ≤ length bytes.now }
+    ensures { result.now ≡ (layer_in bytes.now extent).bytes }
+{
+    let start = extent.start as usize;
+    &bytes[start..start + extent.len as usize]
+}
+
+/// A layer: where in the block it begins, and its bytes.
+fn layer_at<'a>(extents: &[Extent], bytes: &'a [u8], i: usize) -> (usize, &'a [u8])
+    requires inside { AreInside bytes.now extents.now }
+    requires there { i < length extents.now }
+    ensures at { drop i (map (layer_in bytes.now) extents.now) ≡ record { off = result.0; bytes = result.1.now } ∷ drop (i + 1) (map (layer_in bytes.now) extents.now) }
+    ensures fits { result.0 + length result.1.now ≤ 4096 }
+{
+    let extent = extents[i];
+    (extent.off as usize, run_of(bytes, extent))
+}
+
+/// Layers with a new one above them.
+fn above(
+    alloc: Global,
+    cut: Option<u16>,
+    extents: &[Extent],
+    bytes: &[u8],
+    off: usize,
+    new: &[u8],
+) -> Result<Stack, NoMemory>
+    requires inside { AreInside bytes.now extents.now }
+    requires room { length bytes.now + length new.now ≤ 4096 }
+    requires fits { off + length new.now ≤ 4096 }
+    ensures { IfOk result (λ l. l ≡ record { cut = cut; layers = record { off = off; bytes = new.now } ∷ map (layer_in bytes.now) extents.now }) }
+{
+    let mut all = Vec::with_capacity(alloc, bytes.len() + new.len())?;
+    all.extend_from_slice(bytes)?;
+    all.extend_from_slice(new)?;
+    let mut places = Vec::with_capacity(alloc, extents.len() + 1)?;
+    places.push(Extent {
+        off: off as u16,
+        start: bytes.len() as u16,
+        len: new.len() as u16,
+    })?;
+    places.extend_from_slice(extents)?;
+    Ok(Stack {
+        cut,
+        extents: places,
+        bytes: all,
+    })
+}
+
+/// Layers with a new one that takes in those that it touches. It lies below all others, which it does not touch.
+fn joined(
+    alloc: Global,
+    none: Stack,
+    extents: &[Extent],
+    bytes: &[u8],
+    off: usize,
+    new: &[u8],
+) -> Result<Option<Stack>, NoMemory>
+    requires none { none.layers ≡ [] }
+    requires inside { AreInside bytes.now extents.now }
+    requires fits { off + length new.now ≤ 4096 }
+    ensures { IfOk result (λ r. IfSome r (λ l. (l.cut ≡ none.cut) × ((old : Option (List ℕ)) → laid l.layers old ≡ overlaid off new.now (laid (map (layer_in bytes.now) extents.now) old)))) }
+{
+    let mut kept = none;
+    let mut top = Top::copied(alloc, off, new)?;
+    let mut at = 0;
+    'each: while at < extents.len() {
+        let (first, run) = layer_at(extents, bytes, at);
+        if !take_or_keep(alloc, &mut kept, &mut top, first, run)? {
+            return Ok(None);
+        }
+        at += 1;
+    }
+    if !kept.push(alloc, top.off(), top.bytes())? {
+        return Ok(None);
+    }
+    Ok(Some(kept))
+}
+
+/// Has a layer take in an older one that it touches, or puts that one among those that are kept; `false` where there was no room for it.
+fn take_or_keep(
+    alloc: Global,
+    kept: &mut Stack,
+    top: &mut Top,
+    off: usize,
+    run: &[u8],
+) -> Result<bool, NoMemory>
+    requires { off + length run.now ≤ 4096 }
+    ensures cut { IfOk result (λ fits. fits ≡ true → kept.new.cut ≡ kept.old.cut) }
+    ensures all { IfOk result (λ fits. fits ≡ true → (o : Option (List ℕ)) → laid kept.new.layers (overlaid top.new.off top.new.bytes o) ≡ laid kept.old.layers (overlaid top.old.off top.old.bytes (overlaid off run.now o))) }
+{
+    if top.take(alloc, off, run)? {
+        return Ok(true);
+    }
+    kept.push(alloc, off, run)
+}
+
+/// Layers and then those of others, as far as they lie before `end`, the oldest first; none where that would be too many.
+fn laid_all(
+    alloc: Global,
+    first: Stack,
+    extents: &[Extent],
+    bytes: &[u8],
+    end: usize,
+) -> Result<Option<Stack>, NoMemory>
+    requires inside { AreInside bytes.now extents.now }
+    ensures { IfOk result (λ r. IfSome r (λ l. (l.cut ≡ first.cut) × ((old : Option (List ℕ)) → laid l.layers old ≡ laid (map (clipped end) (map (layer_in bytes.now) extents.now)) (laid first.layers old)))) }
+{
+    let mut all = first;
+    let mut left = extents.len();
+    'each: while left > 0 {
+        let (first, run) = layer_at(extents, bytes, left - 1);
+        let off = first.min(end);
+        let kept = run.len().min(end - off);
+        match all.laid(alloc, off, &run[..kept])? {
+            Some(more) => all = more,
+            None => return Ok(None),
+        }
+        left -= 1;
+    }
+    Ok(Some(all))
+}
+
+/// The bytes of a block with layers over it, the oldest first.
+fn over_all(
+    alloc: Global,
+    old: Vec<u8>,
+    extents: &[Extent],
+    bytes: &[u8],
+) -> Result<Vec<u8>, NoMemory>
+    requires inside { AreInside bytes.now extents.now }
+    requires short { length old.items ≤ 4096 }
+    ensures value { IfOk result (λ v. (o : Option (List ℕ)) → held o ≡ old.items → v.items ≡ held (laid (map (layer_in bytes.now) extents.now) o)) }
+    ensures short { IfOk result (λ v. length v.items ≤ 4096) }
+{
+    let mut own = old;
+    let mut left = extents.len();
+    'each: while left > 0 {
+        let (off, run) = layer_at(extents, bytes, left - 1);
+        overlay(&mut own, off, run)?;
+        left -= 1;
+    }
+    Ok(own)
+}
+
+/// A copy of the bytes that a cut leaves, if there is one.
+fn cut_bytes(alloc: Global, cut: Option<u16>, old: &[u8]) -> Result<Vec<u8>, NoMemory>
+    ensures { IfOk result (λ v. Some v.items ≡ cut_by cut (Some old.now)) }
+{
+    let kept = match cut {
+        Some(n) => old.len().min(n as usize),
+        None => old.len(),
+    };
+    let mut own = Vec::with_capacity(alloc, kept)?;
+    own.extend_from_slice(&old[..kept])?;
+    Ok(own)
+}
