@@ -87,17 +87,16 @@ fn join_both(
     first.join(alloc, later)
 }
 
-/// Whether two updates are one that makes these bytes; or none.
-fn join_to(alloc: Global, first: &BlockUpdate, later: &BlockUpdate, wanted: Option<&[u8]>) -> bool {
+/// Whether two updates are one that makes these bytes.
+fn join_to(alloc: Global, first: &BlockUpdate, later: &BlockUpdate, wanted: &[u8]) -> bool {
     match join_both(alloc, first, later) {
-        Ok(Some(one)) => matches!(wanted, Some(bytes) if makes(alloc, &one, bytes)),
-        Ok(None) => wanted.is_none(),
-        Err(_) => false,
+        Ok(Some(one)) => makes(alloc, &one, wanted),
+        _ => false,
     }
 }
 
-/// Two updates, and the bytes that the one which they are makes of five; none where they are not one.
-struct Joined(Laid, Laid, Option<&'static [u8]>);
+/// Two updates, and the bytes that the one which they are makes of five.
+struct Joined(Laid, Laid, &'static [u8]);
 
 /// Whether an update and the later one of the row join as the row says.
 fn joins(alloc: Global, first: &BlockUpdate, row: &Joined) -> bool {
@@ -117,25 +116,88 @@ impl Holds for Joined {
 }
 
 const JOINED: &[Joined] = &[
-    Joined(Laid::Patch(4, b"ab"), Laid::Patch(2, b"c"), None),
-    Joined(Laid::Patch(2, b"c"), Laid::Patch(4, b"ab"), None),
-    Joined(Laid::Patch(2, b"c"), Laid::Patch(3, b"d"), Some(b"12cd5")),
-    Joined(
-        Laid::Patch(4, b"ab"),
-        Laid::Patch(2, b"cd"),
-        Some(b"12cdab"),
-    ),
-    Joined(Laid::Patch(1, b"aaa"), Laid::Patch(2, b"b"), Some(b"1aba5")),
-    Joined(Laid::Patch(2, b"b"), Laid::Patch(1, b"aaa"), Some(b"1aaa5")),
-    Joined(Laid::CutTo(2), Laid::CutTo(4), Some(b"12")),
-    Joined(Laid::CutTo(4), Laid::CutTo(2), Some(b"12")),
-    Joined(Laid::Patch(0, b"a"), Laid::CutTo(4), None),
-    Joined(Laid::CutTo(4), Laid::Patch(0, b"a"), None),
+    Joined(Laid::Patch(4, b"ab"), Laid::Patch(2, b"c"), b"12c4ab"),
+    Joined(Laid::Patch(2, b"c"), Laid::Patch(4, b"ab"), b"12c4ab"),
+    Joined(Laid::Patch(7, b"c"), Laid::Patch(0, b"ab"), b"ab345\0\0c"),
+    Joined(Laid::Patch(2, b"c"), Laid::Patch(3, b"d"), b"12cd5"),
+    Joined(Laid::Patch(4, b"ab"), Laid::Patch(2, b"cd"), b"12cdab"),
+    Joined(Laid::Patch(1, b"aaa"), Laid::Patch(2, b"b"), b"1aba5"),
+    Joined(Laid::Patch(2, b"b"), Laid::Patch(1, b"aaa"), b"1aaa5"),
+    Joined(Laid::CutTo(2), Laid::CutTo(4), b"12"),
+    Joined(Laid::CutTo(4), Laid::CutTo(2), b"12"),
+    Joined(Laid::Patch(0, b"a"), Laid::CutTo(4), b"a234"),
+    Joined(Laid::Patch(1, b"abc"), Laid::CutTo(3), b"1ab"),
+    Joined(Laid::Patch(7, b"a"), Laid::CutTo(6), b"12345\0"),
+    Joined(Laid::CutTo(4), Laid::Patch(0, b"a"), b"a234"),
+    Joined(Laid::CutTo(2), Laid::Patch(4, b"a"), b"12\0\0a"),
 ];
 
 #[test]
-fn updates_join_where_they_are_one(rt: HostRuntime) -> Result<(), usize> {
+fn two_updates_join(rt: HostRuntime) -> Result<(), usize> {
     all_hold(rt.alloc(), JOINED)
+}
+
+/// An update and the next one as one; none where they are not, or memory is refused.
+fn with_next(alloc: Global, first: &BlockUpdate, next: Laid) -> Option<BlockUpdate> {
+    match next.update(alloc) {
+        Some(next) => join_both(alloc, first, &next).ok()?,
+        None => None,
+    }
+}
+
+/// The updates as one; none where they are not, or memory is refused.
+fn one_of(alloc: Global, laid: &[Laid]) -> Option<BlockUpdate> {
+    let (first, rest) = laid.split_first()?;
+    let mut one = first.update(alloc)?;
+    for next in rest {
+        one = with_next(alloc, &one, *next)?;
+    }
+    Some(one)
+}
+
+/// Updates and then others, and the bytes that the one which they are makes of five.
+struct Several(&'static [Laid], &'static [Laid], &'static [u8]);
+
+impl Several {
+    /// Whether what the first are, and then the others, make the bytes of the row.
+    fn follow(&self, alloc: Global, first: &BlockUpdate) -> bool {
+        match one_of(alloc, self.1) {
+            Some(later) => join_to(alloc, first, &later, self.2),
+            None => false,
+        }
+    }
+}
+
+impl Holds for Several {
+    fn holds(&self, alloc: Global) -> bool {
+        match one_of(alloc, self.0) {
+            Some(first) => self.follow(alloc, &first),
+            None => false,
+        }
+    }
+}
+
+const SEVERAL: &[Several] = &[
+    Several(
+        &[Laid::Patch(0, b"ab"), Laid::Patch(4, b"cd")],
+        &[Laid::Patch(2, b"x"), Laid::Patch(6, b"y")],
+        b"abx4cdy",
+    ),
+    Several(
+        &[Laid::Patch(0, b"ab"), Laid::Patch(6, b"cd")],
+        &[Laid::CutTo(3), Laid::Patch(4, b"e")],
+        b"ab3\0e",
+    ),
+    Several(
+        &[Laid::CutTo(2), Laid::Patch(3, b"a")],
+        &[Laid::CutTo(1), Laid::Patch(8, b"b"), Laid::Patch(4, b"c")],
+        b"1\0\0\0c\0\0\0b",
+    ),
+];
+
+#[test]
+fn several_updates_join(rt: HostRuntime) -> Result<(), usize> {
+    all_hold(rt.alloc(), SEVERAL)
 }
 
 /// An update of a block, the length that the block then has, and bytes with which it begins and ends.

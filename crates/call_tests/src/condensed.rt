@@ -1,4 +1,4 @@
-//! Pending lists of blocks that condense: patches that touch join.
+//! Pending lists of blocks that condense: updates of one block are one message.
 
 use crate::blocks::Laid;
 use crate::metadata::key_of;
@@ -9,9 +9,6 @@ use pending::Pending;
 use samples::{Holds, all_hold};
 use std::alloc::Global;
 
-/// A patch of one block, and how many messages wait for the block then.
-type Patched = (u16, &'static [u8], usize);
-
 /// The message of an update at a key; none where memory is refused.
 fn edit(alloc: Global, key: &Key, update: BlockUpdate) -> Option<Msg<BlockUpdate>> {
     match key.copy(alloc) {
@@ -20,32 +17,32 @@ fn edit(alloc: Global, key: &Key, update: BlockUpdate) -> Option<Msg<BlockUpdate
     }
 }
 
-/// The message of a row's patch at a key; none where memory is refused.
-fn message(alloc: Global, key: &Key, row: &Patched) -> Option<Msg<BlockUpdate>> {
-    match Laid::Patch(row.0, row.1).update(alloc) {
+/// The message of a row's update at a key; none where memory is refused.
+fn message(alloc: Global, key: &Key, row: Laid) -> Option<Msg<BlockUpdate>> {
+    match row.update(alloc) {
         Some(update) => edit(alloc, key, update),
         None => None,
     }
 }
 
-/// Adds a patch at a key to a list; `false` where memory is refused.
-fn push(alloc: Global, list: &mut Pending<BlockUpdate>, key: &Key, row: &Patched) -> bool {
+/// Adds an update at a key to a list, and gives how many messages wait then; none where memory is refused.
+fn push(alloc: Global, list: &mut Pending<BlockUpdate>, key: &Key, row: Laid) -> Option<usize> {
     if list.reserve(1).is_err() {
-        return false;
+        return None;
     }
     match message(alloc, key, row) {
         Some(message) => {
             list.push_reserved(message);
-            list.len() == row.2
+            Some(list.len())
         }
-        None => false,
+        None => None,
     }
 }
 
-/// Whether each patch of the rows leaves so many messages.
-fn push_all(alloc: Global, list: &mut Pending<BlockUpdate>, key: &Key, rows: &[Patched]) -> bool {
+/// Whether one message waits after each update of the rows.
+fn push_all(alloc: Global, list: &mut Pending<BlockUpdate>, key: &Key, rows: &[Laid]) -> bool {
     for row in rows {
-        if !push(alloc, list, key, row) {
+        if push(alloc, list, key, *row) != Some(1) {
             return false;
         }
     }
@@ -60,40 +57,103 @@ fn makes(alloc: Global, list: &Pending<BlockUpdate>, key: &Key, wanted: &[u8]) -
     }
 }
 
-/// Whether patches at a key leave so many messages each, and these bytes.
-fn patch(alloc: Global, key: &Key, rows: &[Patched], wanted: &[u8]) -> bool {
+/// Whether updates at a key leave one message, and these bytes.
+fn update(alloc: Global, key: &Key, rows: &[Laid], wanted: &[u8]) -> bool {
     let mut list = Pending::new(alloc);
     push_all(alloc, &mut list, key, rows) && makes(alloc, &list, key, wanted)
 }
 
-/// Patches of one block, and the bytes that they make.
-struct Patches(&'static [Patched], &'static [u8]);
+/// Updates of one block, and the bytes that they make of none.
+struct Updates(&'static [Laid], &'static [u8]);
 
-impl Holds for Patches {
+impl Holds for Updates {
     fn holds(&self, alloc: Global) -> bool {
         match key_of(alloc, "/f") {
-            Some(key) => patch(alloc, &key, self.0, self.1),
+            Some(key) => update(alloc, &key, self.0, self.1),
             None => false,
         }
     }
 }
 
-const PATCHED: &[Patches] = &[
-    Patches(
-        &[(4, b"\xaa\xbb", 1), (2, b"\xcc", 2), (3, b"\xdd", 1)],
+const UPDATES: &[Updates] = &[
+    Updates(
+        &[
+            Laid::Patch(4, b"\xaa\xbb"),
+            Laid::Patch(2, b"\xcc"),
+            Laid::Patch(3, b"\xdd"),
+        ],
         b"\0\0\xcc\xdd\xaa\xbb",
     ),
-    Patches(
-        &[(2, b"\xcc", 1), (4, b"\xaa\xbb", 2), (3, b"\xdd", 1)],
+    Updates(
+        &[
+            Laid::Patch(2, b"\xcc"),
+            Laid::Patch(4, b"\xaa\xbb"),
+            Laid::Patch(3, b"\xdd"),
+        ],
         b"\0\0\xcc\xdd\xaa\xbb",
     ),
-    Patches(
-        &[(0, b"aaa", 1), (1, b"b", 1), (9, b"c", 2)],
+    Updates(
+        &[
+            Laid::Patch(0, b"aaa"),
+            Laid::Patch(1, b"b"),
+            Laid::Patch(9, b"c"),
+        ],
         b"aba\0\0\0\0\0\0c",
+    ),
+    Updates(
+        &[
+            Laid::Patch(8, b"ab"),
+            Laid::Patch(0, b"cd"),
+            Laid::Patch(4, b"ef"),
+            Laid::Patch(1, b"ghijklmn"),
+        ],
+        b"cghijklmnb",
+    ),
+    Updates(
+        &[
+            Laid::Patch(6, b"ab"),
+            Laid::Patch(0, b"c"),
+            Laid::CutTo(7),
+            Laid::Patch(3, b"d"),
+        ],
+        b"c\0\0d\0\0a",
+    ),
+    Updates(
+        &[Laid::Patch(6, b"ab"), Laid::CutTo(2), Laid::Patch(4, b"c")],
+        b"\0\0\0\0c",
     ),
 ];
 
 #[test]
-fn patches_join_with_those_that_they_touch(rt: HostRuntime) -> Result<(), usize> {
-    all_hold(rt.alloc(), PATCHED)
+fn one_message_waits_for_a_block(rt: HostRuntime) -> Result<(), usize> {
+    all_hold(rt.alloc(), UPDATES)
+}
+
+/// How many messages wait behind so many patches of one byte, of which no two touch; none where memory is refused.
+fn waiting(alloc: Global, key: &Key, count: u16) -> Option<usize> {
+    let mut list = Pending::new(alloc);
+    let mut waiting = Some(0);
+    for number in 0..count {
+        waiting = push(alloc, &mut list, key, Laid::Patch(number * 2, b"a"));
+    }
+    waiting
+}
+
+/// So many patches of one byte, and the messages that they are: a message has at most 128.
+struct Counted(u16, usize);
+
+impl Holds for Counted {
+    fn holds(&self, alloc: Global) -> bool {
+        match key_of(alloc, "/f") {
+            Some(key) => waiting(alloc, &key, self.0) == Some(self.1),
+            None => false,
+        }
+    }
+}
+
+const COUNTED: &[Counted] = &[Counted(128, 1), Counted(129, 2), Counted(256, 2)];
+
+#[test]
+fn a_message_has_so_many_patches(rt: HostRuntime) -> Result<(), usize> {
+    all_hold(rt.alloc(), COUNTED)
 }
