@@ -1,4 +1,4 @@
-"""Logs as the program `history` prints them: `BEGIN END CLIENT CALL ANSWER`, a line a call, below a line of what there is."""
+"""Logs as `benches history` prints them: `BEGIN END CLIENT CALL ANSWER`, a line a call, below a line of what there is."""
 import sys
 from collections.abc import Iterable
 from typing import NamedTuple

@@ -1,22 +1,27 @@
-//! `benches`: times beside a map of std, in one run; what scripts can measure stands in `bench/`.
+//! `benches`: times beside a map of std, in one run, and calls for a check from outside; what scripts can measure stands in `bench/`.
 //!
 //! The first word says of what: `benches tree` of a tree (`tree.rt`), `benches clients` of clients of an engine and of a volume alone
-//! (`clients.rt`). The next says which work. Without it a little of the work is done, and without the first a little of both.
+//! (`clients.rt`), `benches history` what clients are answered (`history.rt`). The next say which work. Without them a little of the
+//! work is done, and without the first a little of each.
 #![tactic(auto)]
 
 pub mod clients;
+pub mod history;
 pub mod tree;
 
 fn main(rt: HostRuntime) -> anyhow::Result<()> {
     let words: Vec<String> = std::env::args(&rt)?.collect(rt.alloc())?;
     let work = word_at(words.as_slice(), 2);
+    let calls = word_at(words.as_slice(), 3);
     match word_at(words.as_slice(), 1) {
         "" => {
             tree::do_work(&rt, work)?;
-            clients::do_work(&rt, rt.alloc(), work)
+            clients::do_work(&rt, rt.alloc(), work)?;
+            history::do_work(&rt, rt.alloc(), work, calls)
         }
         "tree" => tree::do_work(&rt, work),
         "clients" => clients::do_work(&rt, rt.alloc(), work),
+        "history" => history::do_work(&rt, rt.alloc(), work, calls),
         word => {
             eprintln!(rt; "benches: no such work: {word}")?;
             Ok(())

@@ -1,4 +1,4 @@
-use Rattle.history.proofs.run.run.Given as goal
+use Rattle.benches.proofs.history.run.run.Given as goal
 
 abbrev pub ghosts-in_room : goal.ghosts-in_room
 ghosts-in_room g a = record { table = a.room.0; opening = a.room.1; clients = 8 }

@@ -1,10 +1,10 @@
 //! Clients of one engine work, each in a thread of its own, beside flushers.
 ghost use Rattle.std.specs.Prelude.{◌≡◌};
 
-use crate::call::Log;
-use crate::flushers::{Turns, Watch, start};
-use crate::names::new_volume;
-use crate::work::{Course, work};
+use crate::history::call::Log;
+use crate::history::flushers::{Turns, Watch, start};
+use crate::history::names::new_volume;
+use crate::history::work::{Course, work};
 use engine::{Client, Engine, Naming, Room};
 use std::alloc::Global;
 use std::marker::Brand;

@@ -1,6 +1,6 @@
 //! Which calls a client makes: numbers that look random choose them.
-use crate::call::Asked;
-use crate::names::{FILES, SNAPSHOTS};
+use crate::history::call::Asked;
+use crate::history::names::{FILES, SNAPSHOTS};
 use samples::Random;
 
 /// How many files have half of the calls, so that clients often meet at one.

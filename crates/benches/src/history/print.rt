@@ -1,6 +1,6 @@
 //! A log as lines of text: `BEGIN END CLIENT CALL ANSWER`, one a call.
-use crate::call::{Answer, Asked, Log, Made};
-use crate::names::FILES;
+use crate::history::call::{Answer, Asked, Log, Made};
+use crate::history::names::FILES;
 use std::io::{Result, Write};
 
 /// Prints a call.

@@ -1,9 +1,19 @@
-//! `history`: clients and flushers of one engine over files that all share, with each call's begin, end and answer by a clock that
-//! all share.
+//! Clients and flushers of one engine over files that all share, with each call's begin, end and answer by a clock that all share.
 //!
-//! `history SEED CALLS` makes about so many calls, and prints a line for each; without arguments it makes a few, and says how many
-//! there were. `tests/history/run` at the top asks whether one order explains them.
-#![tactic(auto)]
+//! `benches history SEED CALLS` makes about so many calls, and prints a line for each; without numbers it makes a few, and says how
+//! many there were. `tests/history/run` at the top asks whether one order explains them.
+use crate::history::call::Log;
+use crate::history::flushers::Turns;
+use crate::history::names::{FILES, SNAPSHOTS};
+use crate::history::print::print_log;
+use crate::history::run::{CLIENTS, FLUSHERS, Outcome, run};
+use crate::history::work::Course;
+use std::alloc::Global;
+use std::io;
+use std::io::{BufWriter, Write};
+use std::sync::Wait;
+use std::sync::atomic::AtomicU64;
+use std::thread::Threads;
 
 pub mod call;
 pub mod draw;
@@ -13,34 +23,25 @@ pub mod print;
 pub mod run;
 pub mod work;
 
-use crate::call::Log;
-use crate::flushers::Turns;
-use crate::names::{FILES, SNAPSHOTS};
-use crate::print::print_log;
-use crate::run::{CLIENTS, FLUSHERS, Outcome, run};
-use crate::work::Course;
-use std::alloc::Global;
-use std::io;
-use std::io::{BufWriter, Write};
-use std::sync::Wait;
-use std::sync::atomic::AtomicU64;
-use std::thread::Threads;
-
-/// How many calls each client makes where there is no argument.
+/// How many calls each client makes where the words are not two numbers.
 const FEW: u64 = 200;
 
-fn main(rt: HostRuntime) -> anyhow::Result<()> {
-    let alloc = rt.alloc();
-    let words: Vec<String> = std::env::args(&rt)?.collect(alloc)?;
-    match (number(words.get(1)), number(words.get(2))) {
-        (Some(seed), Some(calls)) => show(&rt, alloc, &new_course(seed, calls), io::writer(&rt)),
-        _ => few_calls(&rt, alloc),
+/// Makes about so many calls that a seed chooses; a few where the words are not two numbers.
+pub fn do_work<R: Threads + Wait + Print + Sync>(
+    rt: &R,
+    alloc: Global,
+    seed: &str,
+    calls: &str,
+) -> anyhow::Result<()> {
+    match (number(seed), number(calls)) {
+        (Some(seed), Some(calls)) => show(rt, alloc, &new_course(seed, calls), io::writer(rt)),
+        _ => few_calls(rt, alloc),
     }
 }
 
 /// The number that a word says.
-fn number(word: Option<&String>) -> Option<u64> {
-    word?.as_str().parse::<u64>().ok()
+fn number(word: &str) -> Option<u64> {
+    word.parse::<u64>().ok()
 }
 
 /// A course of about so many calls of all clients together.
