@@ -211,6 +211,7 @@ WORKLOADS = {
     "random": Workload("creates in random order", 50_000, 2_000, lambda _: directories(), shuffled_creates),
     "stat": Workload("stats in random order, of as many files", 50_000, 2_000, files, stats),
     "small": Workload(f"writes of 16 bytes in {FILES_OF_WRITES:,} files", 50_000, 2_000, few_files, small_writes),
+    "scattered": Workload("the same, up to 62 to each block", 250_000, 10_000, few_files, small_writes),
     "write": Workload("writes of 28 KiB, one after the other", 2_341, 40, long_file, long_writes),
     "read": Workload("reads of the same", 2_341, 40, long_written, long_reads),
     "again": Workload("files unlinked and made again", 10_000, 1_000, files, made_again),
