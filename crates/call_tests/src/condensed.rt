@@ -130,17 +130,17 @@ fn one_message_waits_for_a_block(rt: HostRuntime) -> Result<(), usize> {
 }
 
 /// How many messages wait behind so many patches of one byte, of which no two touch; none where memory is refused.
-fn waiting(alloc: Global, key: &Key, count: u16) -> Option<usize> {
+fn waiting(alloc: Global, key: &Key, count: u8) -> Option<usize> {
     let mut list = Pending::new(alloc);
     let mut waiting = Some(0);
     for number in 0..count {
-        waiting = push(alloc, &mut list, key, Laid::Patch(number * 2, b"a"));
+        waiting = push(alloc, &mut list, key, Laid::Patch(number as u16 * 2, b"a"));
     }
     waiting
 }
 
 /// So many patches of one byte, and the messages that they are: a message has at most 128.
-struct Counted(u16, usize);
+struct Counted(u8, usize);
 
 impl Holds for Counted {
     fn holds(&self, alloc: Global) -> bool {
@@ -151,7 +151,7 @@ impl Holds for Counted {
     }
 }
 
-const COUNTED: &[Counted] = &[Counted(128, 1), Counted(129, 2), Counted(256, 2)];
+const COUNTED: &[Counted] = &[Counted(128, 1), Counted(129, 2), Counted(255, 2)];
 
 #[test]
 fn a_message_has_so_many_patches(rt: HostRuntime) -> Result<(), usize> {
