@@ -66,6 +66,24 @@ impl Stack {
         }
     }
 
+    /// No layer, with room for so many and for so many bytes of them.
+    fn with_room(
+        alloc: Global,
+        cut: Option<u16>,
+        extents: usize,
+        bytes: usize,
+    ) -> Result<Stack, NoMemory>
+        ensures { IfOk result (λ l. l ≡ record { cut = cut; layers = [] }) }
+    {
+        let extents = Vec::with_capacity(alloc, extents)?;
+        let bytes = Vec::with_capacity(alloc, bytes)?;
+        Ok(Stack {
+            cut,
+            extents,
+            bytes,
+        })
+    }
+
     /// These layers and then the bytes laid over the block from `off` on; none where that would be too many.
     pub(crate) fn laid(
         &self,
@@ -83,7 +101,9 @@ impl Stack {
         if !touches_any(extents, off, new) && bytes.len() + new.len() <= 4096 {
             return Ok(Some(above(alloc, self.cut, extents, bytes, off, new)?));
         }
-        joined(alloc, Stack::new(alloc, self.cut), extents, bytes, off, new)
+        let room = (bytes.len() + new.len()).min(4096);
+        let none = Stack::with_room(alloc, self.cut, extents.len() + 1, room)?;
+        joined(alloc, none, extents, bytes, off, new)
     }
 
     /// These layers and then a cut to so many bytes; none where that would be too many.
