@@ -60,6 +60,10 @@ impl Top {
         if !touches(off, run, self.off, self.bytes.as_slice()) {
             return Ok(false);
         }
+        // What lies below these bytes alone adds none, and so asks for no memory.
+        if self.off <= off && off + run.len() <= self.off + self.bytes.len() {
+            return Ok(true);
+        }
         self.bytes = join_bytes(alloc, off, run, self.off, self.bytes.as_slice())?;
         self.off = off.min(self.off);
         Ok(true)

@@ -1,8 +1,8 @@
-use Rattle.std.proofs.Common.{◌≡◌, ◌+◌, ◌≤◌, false, List, ℕ, Some, length, min, sym, ap, ◌∙◌, subst}
+use Rattle.std.proofs.Common.{◌≡◌, ◌+◌, ◌≤◌, arith, false, List, ℕ, Some, length, min, sym, ap, ◌∙◌, subst}
 use Rattle.reference.specs.Tree.{over}
 use Rattle.reference.specs.Indexes.{held, overlaid}
 use Rattle.block_index.specs.Patches.{Overlay, is_touching, joined}
-use Rattle.block_index.proofs.Overlays.{over_twice, touching_meets, touching_not}
+use Rattle.block_index.proofs.Overlays.{over_covers, over_twice, touching_meets, touching_not}
 use Rattle.block_index.proofs.Layering.{over_swap}
 use Rattle.block_index.proofs.top.Top.take.Goals as goal
 
@@ -12,6 +12,12 @@ returns-then-not-touches-clause-apart c = λ _ old.
     subst (λ (p : Overlay). overlaid c.args.off c.args.run.now (overlaid p.off p.bytes old) ≡ overlaid p.off p.bytes (overlaid c.args.off c.args.run.now old)) c.self.view_is
     (subst (λ (b : List ℕ). overlaid c.args.off c.args.run.now (overlaid c.self.inside.off b old) ≡ overlaid c.self.inside.off b (overlaid c.args.off c.args.run.now old)) c.as_slice.ensures.value
     (sym (ap (λ (b : List ℕ). Some b) (over_swap (held old) c.args.off c.args.run.now c.self.inside.off c.as_slice.result.now (touching_not c.args.off c.args.run.now c.self.inside.off c.as_slice.result.now apart)))))
+
+pub returns-then-off-run-clause-taken : goal.returns-then-off-run-clause-taken
+returns-then-off-run-clause-taken c = λ _ old.
+    let long : c.len.result ≡ length c.self.inside.bytes.items = c.len.ensures ∙ c.self.inside.bytes.ok.0 in
+    subst (λ (p : Overlay). overlaid p.off p.bytes old ≡ overlaid p.off p.bytes (overlaid c.args.off c.args.run.now old)) c.self.view_is
+    (ap (λ (b : List ℕ). Some b) (over_covers (held old) c.args.off c.args.run.now c.self.inside.off c.self.inside.bytes.items (omega (arith, c.if-self-off.true)) (omega (arith, c.if-off-run.true))))
 
 pub returns-clause-taken : goal.returns-clause-taken
 returns-clause-taken c = λ _ old.
