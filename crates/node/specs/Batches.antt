@@ -2,8 +2,8 @@
 use Rattle.std.specs.Prelude.{ℕ, List, [], ◌∷◌, length, map, None, ⊤}
 use Rattle.message.specs.declared.msg.Msg.{Msg}
 use Rattle.node.specs.declared.node.Slot.{Slot}
-use Rattle.node.specs.declared.node.append.Batch.{Batch}
-use Rattle.node.specs.declared.node.append.Batch.TheVariants.{Whole, Parts}
+use Rattle.node.specs.declared.node.batch.Batch.{Batch}
+use Rattle.node.specs.declared.node.batch.Batch.TheVariants.{Whole, Parts}
 use Rattle.node.specs.Appended.{parts}
 use Rattle.node.specs.Homes.{IsHome}
 use Rattle.node.specs.Pure.{PSlots}

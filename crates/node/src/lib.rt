@@ -23,5 +23,5 @@ pub use place::{Place, TreeStep};
 pub use report::ShapeReport;
 pub use shape::Shape;
 pub use step::{StepKind, StepReply};
-pub use tree::kept::append_both_kept;
+pub use tree::append::append_both_kept;
 pub use tree::{Tree, append_both};

@@ -10,13 +10,13 @@ use std::sync::Arc;
 use weight::Weight;
 
 pub mod append;
+pub mod batch;
 pub mod below;
 pub mod change;
 pub mod copy;
 pub mod count;
 pub mod cut;
 pub mod descend;
-pub mod kept;
 pub mod leaf;
 pub mod make;
 pub mod search;

@@ -13,15 +13,15 @@ use crate::node::Node;
 use crate::node::count::{height, total};
 use crate::report::{Quantity, ShapeReport};
 use crate::shape::Shape;
-use kept::append_both_kept;
+use append::append_both_kept;
 use message::{Changes, Msg, Update};
 use pathkey::NoMemory;
 use std::alloc::Global;
 use std::marker::Model;
 use std::sync::Arc;
 
+pub mod append;
 pub mod graft;
-pub mod kept;
 pub mod step;
 
 /// A buffered tree. Every tree is lawful, which its type keeps.

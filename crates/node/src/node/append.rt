@@ -1,215 +1,144 @@
-//! New messages for the slots of a root, cut at the pivots, with room for them.
-//!
-//! An append has two steps. `prepare` cuts the messages at the pivots and reserves room in every slot that takes
-//! some: it may be refused memory, and the tree looks the same. `put_batch` (in `kept`) moves the parts into that room and
-//! cannot fail. So two trees are appended to together: prepare, prepare, put, put. A few messages that have all their keys in
-//! one slot each go to their slots as they are, without a part for each slot.
-ghost use Rattle.std.specs.Prelude.{◌≡◌, true, OnOk, OnErr, IfOk, map, length, ◌++◌, [], None};
-ghost use Rattle.std.specs.Option.{option_copied, option_to_list};
-ghost use Rattle.node.specs.Appended.{parts as parts_of, placed, HaveTaken, IsAppended};
-ghost use Rattle.node.specs.Batches.{batch_parts, HasRoomFor, HaveHomes, KeepsRoom};
+//! New messages in the slots of a root. Slots from which a job was taken keep their lists, with the new messages behind them.
+ghost use Rattle.std.specs.Prelude.{◌≡◌, ◌↔◌, ◌+◌, ◌<◌, ◌≤◌, ◌++◌, [], ◌∷◌, true, None, OnOk, OnErr, map, length, get_or};
+ghost use Rattle.message.specs.Effects.{Takes};
+ghost use Rattle.node.specs.Appended.{parts as parts_of, HaveTaken, IsAppended};
+ghost use Rattle.node.specs.Batches.{batch_parts, HasRoomFor, HaveHomes};
+ghost use Rattle.node.specs.Grafts.{IsFirstKept, KeepLists, KeepsLists};
 ghost use Rattle.node.specs.Pure.{inner};
-ghost use Rattle.node.specs.Searchable.{AreRising, Fits, AllFit, IsRoot, HasRoom, see_list};
+ghost use Rattle.node.specs.Searchable.{IsRoot, HasRoom, see_list};
 ghost use Rattle.node.specs.See.{see_slot, seen_slots};
 
-use super::Slot;
-use super::kept::put_kept;
-use super::search::{home_of, next_pivot, slot_of};
-use message::{Changes, Msg, Update};
-use pathkey::{Key, NoMemory};
+use super::batch::{Batch, copied_parts, prepare, reserve_each};
+use super::search::home_of;
+use super::{Body, Node, Slot};
+use message::{Msg, Taken, Update};
+use pathkey::NoMemory;
+use pending::Pending;
 use std::alloc::Global;
 
-/// Puts the piece, if there is one, at the end of a part.
-fn push_some<U: Update>(part: &mut Vec<Msg<U>>, piece: Option<Msg<U>>) -> Result<(), NoMemory>
-    ensures { OnOk result (part.new.items ≡ part.old.items ++ option_to_list piece) }
+/// Puts a part behind a list that has room for it; where `plain`, the list stays as it was.
+fn put_part<U: Update>(pending: &mut Pending<U>, part: &mut Vec<Msg<U>>, plain: bool)
+    requires { length part.old.items ≤ pending.old.1 }
+    ensures takes { Takes U.means pending.old.0 part.old.items pending.new.0 }
+    ensures kept { plain ≡ true → pending.new.0 ≡ pending.old.0 ++ part.old.items }
 {
-    match piece {
-        None => Ok(()),
-        Some(piece) => Ok(part.push(piece)?),
+    if plain {
+        pending.append_kept(part);
+    } else {
+        pending.append_reserved(part);
     }
 }
 
-/// Puts the piece of the message that lies in each slot's range at the end of that slot's part.
-fn place_in_all<U: Update>(
-    alloc: Global,
-    slots: &[Slot<U>],
-    hi: Option<&Key>,
-    parts: &mut [Vec<Msg<U>>],
-    msg: &Msg<U>,
-) -> Result<(), NoMemory>
-    ensures { OnOk result (map see_list parts.new ≡ placed (option_copied hi.entry) msg.now (seen_slots slots.now) (map see_list parts.old)) }
+/// Whether the first of the numbers is above 0, and the others. It takes no memory.
+fn first_kept(kept: &[u32]) -> (bool, &[u32])
+    ensures { IsFirstKept kept.now result.0 result.1.now }
 {
-    let Some((slot, slots)) = slots.split_first() else {
-        return Ok(());
+    match kept.split_first() {
+        None => (false, kept),
+        Some((first, rest)) => (*first > 0, rest),
+    }
+}
+
+/// Puts each part behind what waits in its slot, where there is room for it; where the slot's number is above 0, what
+/// waits stays as it was.
+pub fn put_kept<U: Update>(slots: &mut [Slot<U>], parts: &mut [Vec<Msg<U>>], kept: &[u32])
+    requires { HasRoom slots.old parts.old }
+    ensures taken { HaveTaken U.means (seen_slots slots.old) (map see_list parts.old) (seen_slots slots.new) }
+    ensures kept { KeepLists kept.now (map see_list parts.old) (seen_slots slots.old) (seen_slots slots.new) }
+{
+    let Some((slot, slots)) = slots.split_first_mut() else {
+        return;
     };
     let Some((part, parts)) = parts.split_first_mut() else {
         // No caller has fewer parts than slots.
-        return Ok(());
+        return;
     };
-    let piece = msg.cut_between(alloc, &slot.lo, next_pivot(slots, hi))?;
-    push_some(part, piece)?;
-    place_in_all(alloc, slots, hi, parts, msg)
+    let (plain, kept) = first_kept(kept);
+    put_part(&mut slot.pending, part, plain);
+    put_kept(slots, parts, kept)
 }
 
-/// Puts the pieces of the message at the end of the parts of the slots that take them; a message for
-/// one key is moved and not cut.
-fn place<U: Update>(
-    alloc: Global,
-    slots: &[Slot<U>],
-    hi: Option<&Key>,
-    parts: &mut [Vec<Msg<U>>],
-    msg: Msg<U>,
-) -> Result<(), NoMemory>
-    requires rising { AreRising (seen_slots slots.now) }
-    requires fits { Fits (option_copied hi) (seen_slots slots.now) msg }
-    requires pairs { length parts.old ≡ length slots.now }
-    ensures { OnOk result (map see_list parts.new ≡ placed (option_copied hi.entry) msg (seen_slots slots.now) (map see_list parts.old)) }
+/// Whether the number at the place is above 0; one that is missing is 0. It takes no memory.
+fn is_kept(kept: &[u32], i: usize) -> bool
+    ensures { (0 < get_or kept.now i 0) ↔ (result ≡ true) }
 {
-    match msg.point() {
-        None => place_in_all(alloc, slots, hi, parts, &msg),
-        Some(key) => {
-            let i = slot_of(slots, key);
-            parts[i].push(msg)?;
-            Ok(())
+    match kept.get(i) {
+        None => false,
+        Some(number) => *number > 0,
+    }
+}
+
+/// Puts a message behind a list that has room for it; where `plain`, the list stays as it was.
+fn put_message<U: Update>(pending: &mut Pending<U>, msg: Msg<U>, plain: bool)
+    requires { 0 < pending.old.1 }
+    ensures takes { Takes U.means pending.old.0 (msg ∷ []) pending.new.0 }
+    ensures kept { plain ≡ true → pending.new.0 ≡ pending.old.0 ++ msg ∷ [] }
+    ensures room { pending.old.1 ≤ pending.new.1 + 1 }
+{
+    if plain {
+        pending.push_kept(msg);
+    } else {
+        pending.push_reserved(msg);
+    }
+}
+
+/// Puts each message as it is behind what waits in the slot with the number in its place, where there is room for it; where a
+/// slot's number in `kept` is above 0, what waits stays as it was.
+fn put_whole<U: Update>(slots: &mut [Slot<U>], msgs: &mut Taken<U>, homes: &[usize], kept: &[u32])
+    requires { HaveHomes (length msgs.old) slots.old msgs.old homes.now }
+    ensures taken { HaveTaken U.means (seen_slots slots.old) (parts_of None msgs.old (seen_slots slots.old)) (seen_slots slots.new) }
+    ensures kept { KeepLists kept.now (parts_of None msgs.old (seen_slots slots.old)) (seen_slots slots.old) (seen_slots slots.new) }
+{
+    let Some(msg) = msgs.next() else {
+        return;
+    };
+    let Some((home, homes)) = homes.split_first() else {
+        // Each message has the number of its slot.
+        unreachable!()
+    };
+    let i = *home;
+    // The number was noted for one of these slots: said for the checker.
+    let is_there = i < slots.len();
+    prove!(is_there);
+    let plain = is_kept(kept, i);
+    put_message(&mut slots[i].pending, msg, plain);
+    put_whole(slots, msgs, homes, kept)
+}
+
+/// Puts the messages behind what waits in the slots, where there is room for them; where a slot's number is above 0, what
+/// waits stays as it was.
+fn put_batch<U: Update>(slots: &mut [Slot<U>], batch: Batch<U>, kept: &[u32])
+    requires { HasRoomFor slots.old batch }
+    ensures taken { HaveTaken U.means (seen_slots slots.old) (batch_parts batch (seen_slots slots.old)) (seen_slots slots.new) }
+    ensures kept { KeepLists kept.now (batch_parts batch (seen_slots slots.old)) (seen_slots slots.old) (seen_slots slots.new) }
+{
+    match batch {
+        Batch::Whole(msgs, homes) => {
+            let mut msgs = Taken::of(msgs);
+            put_whole(slots, &mut msgs, &homes, kept);
+        }
+        Batch::Parts(parts) => {
+            let mut parts = parts;
+            put_kept(slots, parts.as_mut_slice(), kept);
         }
     }
 }
 
-/// An empty part for each slot.
-fn empty_parts<U: Update>(alloc: Global, slots: &[Slot<U>]) -> Result<Vec<Vec<Msg<U>>>, NoMemory>
-    ensures { IfOk result (λ v. map see_list v.items ≡ map (λ s. []) slots.now) }
-{
-    let mut parts = Vec::with_capacity(alloc, slots.len())?;
-    for _ in slots {
-        parts.push(Vec::new(alloc))?;
-    }
-    Ok(parts)
-}
-
-/// The messages as each slot takes them, cut at the pivots; `hi` is where the last slot ends, if it does.
-pub fn parts<U: Update>(
-    alloc: Global,
-    slots: &[Slot<U>],
-    hi: Option<&Key>,
-    msgs: Vec<Msg<U>>,
-) -> Result<Vec<Vec<Msg<U>>>, NoMemory>
-    requires rising { AreRising (seen_slots slots.now) }
-    requires fits { AllFit (option_copied hi) (seen_slots slots.now) msgs.items }
-    ensures { IfOk result (λ v. map see_list v.items ≡ parts_of (option_copied hi.entry) msgs.items (seen_slots slots.now)) }
-{
-    let mut parts = empty_parts(alloc, slots)?;
-    for msg in msgs {
-        place(alloc, slots, hi, parts.as_mut_slice(), msg)?;
-    }
-    Ok(parts)
-}
-
-/// Copies of the messages as each slot takes them, cut at the pivots; the last slot has no end.
-fn copied_parts<U: Update>(
-    alloc: Global,
-    slots: &[Slot<U>],
-    msgs: &[Msg<U>],
-) -> Result<Vec<Vec<Msg<U>>>, NoMemory>
-    ensures { IfOk result (λ v. map see_list v.items ≡ parts_of None msgs.now (seen_slots slots.now)) }
-{
-    let mut parts = empty_parts(alloc, slots)?;
-    for msg in msgs {
-        place_in_all(alloc, slots, None, parts.as_mut_slice(), msg)?;
-    }
-    Ok(parts)
-}
-
-/// Reserves room in each slot's list for its part. The slots mean what they meant, whatever it answers.
-fn reserve_each<U: Update>(slots: &mut [Slot<U>], parts: &[Vec<Msg<U>>]) -> Result<(), NoMemory>
-    ensures same { map see_slot slots.new ≡ map see_slot slots.old }
-    ensures room { OnOk result (HasRoom slots.new parts.now) }
-{
-    let Some((slot, slots)) = slots.split_first_mut() else {
-        return Ok(());
-    };
-    let Some((part, parts)) = parts.split_first() else {
-        // No caller has fewer parts than slots.
-        return Ok(());
-    };
-    slot.pending.reserve(part.len())?;
-    reserve_each(slots, parts)
-}
-
-/// How many messages an append brings to their slots as they are, at most.
-const FEW: usize = 4;
-
-/// The messages of an append as the slots take them.
-#[derive(Drop)]
-pub enum Batch<U: Changes> {
-    /// A few messages, each of which goes as it is to the slot with the number in its place.
-    Whole(Vec<Msg<U>>, [usize; FEW]),
-    /// The part of each slot.
-    Parts(Vec<Vec<Msg<U>>>),
-}
-
-/// Reserves room for `count` messages in the slot that takes each of the messages as it is, and notes its number in the
-/// message's place; says whether each has one. The slots mean what they meant, and have the room that they had, whatever it
-/// answers.
-fn reserve_homes<U: Update>(
-    slots: &mut [Slot<U>],
-    count: usize,
-    msgs: &[Msg<U>],
-    homes: &mut [usize],
-) -> Result<bool, NoMemory>
-    requires { IsRoot (inner (seen_slots slots.old)) }
-    ensures same { map see_slot slots.new ≡ map see_slot slots.old }
-    ensures stays { KeepsRoom count slots.old slots.new }
-    ensures room { IfOk result (λ all. all ≡ true → HaveHomes count slots.new msgs.now homes.new) }
-{
-    let Some((msg, later)) = msgs.split_first() else {
-        return Ok(true);
-    };
-    let Some((home, homes)) = homes.split_first_mut() else {
-        // Not met: `prepare` has a place for each message.
-        return Ok(false);
-    };
-    let Some(i) = home_of(slots, msg) else {
-        return Ok(false);
-    };
-    slots[i].pending.reserve(count)?;
-    *home = i;
-    reserve_homes(slots, count, later, homes)
-}
-
-/// Cuts the messages for a root's slots and reserves room for the parts in them.
-fn prepare_parts<U: Update>(
+/// Puts messages behind what waits in a root's slots; where a slot's number is above 0, what waits stays as it was.
+fn append_slots<U: Update>(
     alloc: Global,
     slots: &mut [Slot<U>],
     msgs: Vec<Msg<U>>,
-) -> Result<Vec<Vec<Msg<U>>>, NoMemory>
+    kept: &[u32],
+) -> Result<(), NoMemory>
     requires { IsRoot (inner (seen_slots slots.old)) }
-    ensures same { map see_slot slots.new ≡ map see_slot slots.old }
-    ensures room { IfOk result (λ v. HasRoom slots.new v.items) }
-    ensures parts { IfOk result (λ v. map see_list v.items ≡ parts_of None msgs.items (seen_slots slots.old)) }
+    ensures ok { OnOk result (IsAppended U.means msgs.items (inner (seen_slots slots.old)) (inner (seen_slots slots.new))) }
+    ensures kept { OnOk result (KeepsLists kept.now msgs.items (inner (seen_slots slots.old)) (inner (seen_slots slots.new))) }
+    ensures err { OnErr result (map see_slot slots.new ≡ map see_slot slots.old) }
 {
-    let parts = parts(alloc, slots, None, msgs)?;
-    reserve_each(slots, parts.as_slice())?;
-    Ok(parts)
-}
-
-/// Cuts the messages for a root's slots and reserves room in them, but a few messages that have all
-/// their keys in one slot each go to their slots as they are.
-pub fn prepare<U: Update>(
-    alloc: Global,
-    slots: &mut [Slot<U>],
-    msgs: Vec<Msg<U>>,
-) -> Result<Batch<U>, NoMemory>
-    requires { IsRoot (inner (seen_slots slots.old)) }
-    ensures same { map see_slot slots.new ≡ map see_slot slots.old }
-    ensures room { IfOk result (λ b. HasRoomFor slots.new b) }
-    ensures parts { IfOk result (λ b. batch_parts b (seen_slots slots.old) ≡ parts_of None msgs.items (seen_slots slots.old)) }
-{
-    let count = msgs.len();
-    let mut homes = [0; FEW];
-    if count <= FEW && reserve_homes(slots, count, msgs.as_slice(), &mut homes)? {
-        return Ok(Batch::Whole(msgs, homes));
-    }
-    Ok(Batch::Parts(prepare_parts(alloc, slots, msgs)?))
+    let batch = prepare(alloc, slots, msgs)?;
+    put_batch(slots, batch, kept);
+    Ok(())
 }
 
 /// Puts copies of messages behind what waits in slots, each cut to the ranges of the slots that it touches, whole or
@@ -226,4 +155,127 @@ pub fn append_copies<U: Update>(
     reserve_each(slots, parts.as_slice())?;
     put_kept(slots, parts.as_mut_slice(), &[]);
     Ok(())
+}
+
+/// Puts a message behind all others of a list, or leaves the list as it was.
+fn push<U: Update>(pending: &mut Pending<U>, msg: Msg<U>) -> Result<(), NoMemory>
+    ensures ok { OnOk result (Takes U.means pending.old.0 (msg ∷ []) pending.new.0) }
+    ensures err { OnErr result (pending.new.0 ≡ pending.old.0) }
+{
+    pending.reserve(1)?;
+    pending.push_reserved(msg);
+    Ok(())
+}
+
+/// Puts one message behind what waits in a root's slots. It makes no list of messages where one slot takes it as it is.
+fn append_one<U: Update>(alloc: Global, slots: &mut [Slot<U>], msg: Msg<U>) -> Result<(), NoMemory>
+    requires { IsRoot (inner (seen_slots slots.old)) }
+    ensures ok { OnOk result (IsAppended U.means (msg ∷ []) (inner (seen_slots slots.old)) (inner (seen_slots slots.new))) }
+    ensures err { OnErr result (map see_slot slots.new ≡ map see_slot slots.old) }
+{
+    let Some(i) = home_of(slots, &msg) else {
+        let mut msgs = Vec::with_capacity(alloc, 1)?;
+        msgs.push(msg)?;
+        return append_slots(alloc, slots, msgs, &[]);
+    };
+    push(&mut slots[i].pending, msg)
+}
+
+/// Puts messages behind what waits in the slots of two roots, as `append_slots` does: both or neither.
+fn append_both_slots<A: Update, B: Update>(
+    alloc: Global,
+    first: &mut [Slot<A>],
+    first_msgs: Vec<Msg<A>>,
+    first_kept: &[u32],
+    second: &mut [Slot<B>],
+    second_msgs: Vec<Msg<B>>,
+    second_kept: &[u32],
+) -> Result<(), NoMemory>
+    requires first { IsRoot (inner (seen_slots first.old)) }
+    requires second { IsRoot (inner (seen_slots second.old)) }
+    ensures first_ok { OnOk result (IsAppended A.means first_msgs.items (inner (seen_slots first.old)) (inner (seen_slots first.new))) }
+    ensures first_kept { OnOk result (KeepsLists first_kept.now first_msgs.items (inner (seen_slots first.old)) (inner (seen_slots first.new))) }
+    ensures first_err { OnErr result (map see_slot first.new ≡ map see_slot first.old) }
+    ensures second_ok { OnOk result (IsAppended B.means second_msgs.items (inner (seen_slots second.old)) (inner (seen_slots second.new))) }
+    ensures second_kept { OnOk result (KeepsLists second_kept.now second_msgs.items (inner (seen_slots second.old)) (inner (seen_slots second.new))) }
+    ensures second_err { OnErr result (map see_slot second.new ≡ map see_slot second.old) }
+{
+    let first_batch = prepare(alloc, first, first_msgs)?;
+    // Where this is refused, the first root has gained room and nothing else.
+    let second_batch = prepare(alloc, second, second_msgs)?;
+    put_batch(first, first_batch, first_kept);
+    put_batch(second, second_batch, second_kept);
+    Ok(())
+}
+
+impl<U: Update> Node<U> {
+    /// Puts one message into the slots of a root.
+    pub(crate) fn append_one(&mut self, alloc: Global, msg: Msg<U>) -> Result<(), NoMemory>
+        requires { IsRoot self.old }
+        ensures ok { OnOk result (IsAppended U.means (msg ∷ []) self.old self.new) }
+        ensures err { OnErr result (self.new ≡ self.old) }
+    {
+        let Body::Inner(slots) = self.body_mut() else {
+            // A root is an inner node.
+            unreachable!()
+        };
+        append_one(alloc, slots.as_mut_slice(), msg)
+    }
+
+    /// Puts messages into the slots of a root; where a slot's number is above 0, what waits stays as it was.
+    pub fn append_kept(
+        &mut self,
+        alloc: Global,
+        msgs: Vec<Msg<U>>,
+        kept: &[u32],
+    ) -> Result<(), NoMemory>
+        requires { IsRoot self.old }
+        ensures ok { OnOk result (IsAppended U.means msgs.items self.old self.new) }
+        ensures kept { OnOk result (KeepsLists kept.now msgs.items self.old self.new) }
+        ensures err { OnErr result (self.new ≡ self.old) }
+    {
+        let Body::Inner(slots) = self.body_mut() else {
+            // A root is an inner node.
+            unreachable!()
+        };
+        append_slots(alloc, slots.as_mut_slice(), msgs, kept)
+    }
+}
+
+/// Puts messages into the slots of two roots, as `append_kept` does for each: both or neither.
+pub fn append_both_kept<A: Update, B: Update>(
+    alloc: Global,
+    first: &mut Node<A>,
+    first_msgs: Vec<Msg<A>>,
+    first_kept: &[u32],
+    second: &mut Node<B>,
+    second_msgs: Vec<Msg<B>>,
+    second_kept: &[u32],
+) -> Result<(), NoMemory>
+    requires first { IsRoot first.old }
+    requires second { IsRoot second.old }
+    ensures first_ok { OnOk result (IsAppended A.means first_msgs.items first.old first.new) }
+    ensures first_kept { OnOk result (KeepsLists first_kept.now first_msgs.items first.old first.new) }
+    ensures first_err { OnErr result (first.new ≡ first.old) }
+    ensures second_ok { OnOk result (IsAppended B.means second_msgs.items second.old second.new) }
+    ensures second_kept { OnOk result (KeepsLists second_kept.now second_msgs.items second.old second.new) }
+    ensures second_err { OnErr result (second.new ≡ second.old) }
+{
+    let Body::Inner(one) = first.body_mut() else {
+        // A root is an inner node.
+        unreachable!()
+    };
+    let Body::Inner(two) = second.body_mut() else {
+        // A root is an inner node.
+        unreachable!()
+    };
+    append_both_slots(
+        alloc,
+        one.as_mut_slice(),
+        first_msgs,
+        first_kept,
+        two.as_mut_slice(),
+        second_msgs,
+        second_kept,
+    )
 }

@@ -1,0 +1,215 @@
+//! New messages for the slots of a root, cut at the pivots, with room for them.
+//!
+//! An append has two steps. `prepare` cuts the messages at the pivots and reserves room in every slot that takes
+//! some: it may be refused memory, and the tree looks the same. `put_batch` (in `append`) moves the parts into that room and
+//! cannot fail. So two trees are appended to together: prepare, prepare, put, put. A few messages that have all their keys in
+//! one slot each go to their slots as they are, without a part for each slot.
+ghost use Rattle.std.specs.Prelude.{◌≡◌, true, OnOk, OnErr, IfOk, map, length, ◌++◌, [], None};
+ghost use Rattle.std.specs.Option.{option_copied, option_to_list};
+ghost use Rattle.node.specs.Appended.{parts as parts_of, placed};
+ghost use Rattle.node.specs.Batches.{batch_parts, HasRoomFor, HaveHomes, KeepsRoom};
+ghost use Rattle.node.specs.Pure.{inner};
+ghost use Rattle.node.specs.Searchable.{AreRising, Fits, AllFit, IsRoot, HasRoom, see_list};
+ghost use Rattle.node.specs.See.{see_slot, seen_slots};
+
+use super::Slot;
+use super::search::{home_of, next_pivot, slot_of};
+use message::{Changes, Msg, Update};
+use pathkey::{Key, NoMemory};
+use std::alloc::Global;
+
+/// Puts the piece, if there is one, at the end of a part.
+fn push_some<U: Update>(part: &mut Vec<Msg<U>>, piece: Option<Msg<U>>) -> Result<(), NoMemory>
+    ensures { OnOk result (part.new.items ≡ part.old.items ++ option_to_list piece) }
+{
+    match piece {
+        None => Ok(()),
+        Some(piece) => Ok(part.push(piece)?),
+    }
+}
+
+/// Puts the piece of the message that lies in each slot's range at the end of that slot's part.
+fn place_in_all<U: Update>(
+    alloc: Global,
+    slots: &[Slot<U>],
+    hi: Option<&Key>,
+    parts: &mut [Vec<Msg<U>>],
+    msg: &Msg<U>,
+) -> Result<(), NoMemory>
+    ensures { OnOk result (map see_list parts.new ≡ placed (option_copied hi.entry) msg.now (seen_slots slots.now) (map see_list parts.old)) }
+{
+    let Some((slot, slots)) = slots.split_first() else {
+        return Ok(());
+    };
+    let Some((part, parts)) = parts.split_first_mut() else {
+        // No caller has fewer parts than slots.
+        return Ok(());
+    };
+    let piece = msg.cut_between(alloc, &slot.lo, next_pivot(slots, hi))?;
+    push_some(part, piece)?;
+    place_in_all(alloc, slots, hi, parts, msg)
+}
+
+/// Puts the pieces of the message at the end of the parts of the slots that take them; a message for
+/// one key is moved and not cut.
+fn place<U: Update>(
+    alloc: Global,
+    slots: &[Slot<U>],
+    hi: Option<&Key>,
+    parts: &mut [Vec<Msg<U>>],
+    msg: Msg<U>,
+) -> Result<(), NoMemory>
+    requires rising { AreRising (seen_slots slots.now) }
+    requires fits { Fits (option_copied hi) (seen_slots slots.now) msg }
+    requires pairs { length parts.old ≡ length slots.now }
+    ensures { OnOk result (map see_list parts.new ≡ placed (option_copied hi.entry) msg (seen_slots slots.now) (map see_list parts.old)) }
+{
+    match msg.point() {
+        None => place_in_all(alloc, slots, hi, parts, &msg),
+        Some(key) => {
+            let i = slot_of(slots, key);
+            parts[i].push(msg)?;
+            Ok(())
+        }
+    }
+}
+
+/// An empty part for each slot.
+fn empty_parts<U: Update>(alloc: Global, slots: &[Slot<U>]) -> Result<Vec<Vec<Msg<U>>>, NoMemory>
+    ensures { IfOk result (λ v. map see_list v.items ≡ map (λ s. []) slots.now) }
+{
+    let mut parts = Vec::with_capacity(alloc, slots.len())?;
+    for _ in slots {
+        parts.push(Vec::new(alloc))?;
+    }
+    Ok(parts)
+}
+
+/// The messages as each slot takes them, cut at the pivots; `hi` is where the last slot ends, if it does.
+pub fn parts<U: Update>(
+    alloc: Global,
+    slots: &[Slot<U>],
+    hi: Option<&Key>,
+    msgs: Vec<Msg<U>>,
+) -> Result<Vec<Vec<Msg<U>>>, NoMemory>
+    requires rising { AreRising (seen_slots slots.now) }
+    requires fits { AllFit (option_copied hi) (seen_slots slots.now) msgs.items }
+    ensures { IfOk result (λ v. map see_list v.items ≡ parts_of (option_copied hi.entry) msgs.items (seen_slots slots.now)) }
+{
+    let mut parts = empty_parts(alloc, slots)?;
+    for msg in msgs {
+        place(alloc, slots, hi, parts.as_mut_slice(), msg)?;
+    }
+    Ok(parts)
+}
+
+/// Copies of the messages as each slot takes them, cut at the pivots; the last slot has no end.
+pub(crate) fn copied_parts<U: Update>(
+    alloc: Global,
+    slots: &[Slot<U>],
+    msgs: &[Msg<U>],
+) -> Result<Vec<Vec<Msg<U>>>, NoMemory>
+    ensures { IfOk result (λ v. map see_list v.items ≡ parts_of None msgs.now (seen_slots slots.now)) }
+{
+    let mut parts = empty_parts(alloc, slots)?;
+    for msg in msgs {
+        place_in_all(alloc, slots, None, parts.as_mut_slice(), msg)?;
+    }
+    Ok(parts)
+}
+
+/// Reserves room in each slot's list for its part. The slots mean what they meant, whatever it answers.
+pub(crate) fn reserve_each<U: Update>(
+    slots: &mut [Slot<U>],
+    parts: &[Vec<Msg<U>>],
+) -> Result<(), NoMemory>
+    ensures same { map see_slot slots.new ≡ map see_slot slots.old }
+    ensures room { OnOk result (HasRoom slots.new parts.now) }
+{
+    let Some((slot, slots)) = slots.split_first_mut() else {
+        return Ok(());
+    };
+    let Some((part, parts)) = parts.split_first() else {
+        // No caller has fewer parts than slots.
+        return Ok(());
+    };
+    slot.pending.reserve(part.len())?;
+    reserve_each(slots, parts)
+}
+
+/// How many messages an append brings to their slots as they are, at most.
+const FEW: usize = 4;
+
+/// The messages of an append as the slots take them.
+#[derive(Drop)]
+pub enum Batch<U: Changes> {
+    /// A few messages, each of which goes as it is to the slot with the number in its place.
+    Whole(Vec<Msg<U>>, [usize; FEW]),
+    /// The part of each slot.
+    Parts(Vec<Vec<Msg<U>>>),
+}
+
+/// Reserves room for `count` messages in the slot that takes each of the messages as it is, and notes its number in the
+/// message's place; says whether each has one. The slots mean what they meant, and have the room that they had, whatever it
+/// answers.
+fn reserve_homes<U: Update>(
+    slots: &mut [Slot<U>],
+    count: usize,
+    msgs: &[Msg<U>],
+    homes: &mut [usize],
+) -> Result<bool, NoMemory>
+    requires { IsRoot (inner (seen_slots slots.old)) }
+    ensures same { map see_slot slots.new ≡ map see_slot slots.old }
+    ensures stays { KeepsRoom count slots.old slots.new }
+    ensures room { IfOk result (λ all. all ≡ true → HaveHomes count slots.new msgs.now homes.new) }
+{
+    let Some((msg, later)) = msgs.split_first() else {
+        return Ok(true);
+    };
+    let Some((home, homes)) = homes.split_first_mut() else {
+        // Not met: `prepare` has a place for each message.
+        return Ok(false);
+    };
+    let Some(i) = home_of(slots, msg) else {
+        return Ok(false);
+    };
+    slots[i].pending.reserve(count)?;
+    *home = i;
+    reserve_homes(slots, count, later, homes)
+}
+
+/// Cuts the messages for a root's slots and reserves room for the parts in them.
+fn prepare_parts<U: Update>(
+    alloc: Global,
+    slots: &mut [Slot<U>],
+    msgs: Vec<Msg<U>>,
+) -> Result<Vec<Vec<Msg<U>>>, NoMemory>
+    requires { IsRoot (inner (seen_slots slots.old)) }
+    ensures same { map see_slot slots.new ≡ map see_slot slots.old }
+    ensures room { IfOk result (λ v. HasRoom slots.new v.items) }
+    ensures parts { IfOk result (λ v. map see_list v.items ≡ parts_of None msgs.items (seen_slots slots.old)) }
+{
+    let parts = parts(alloc, slots, None, msgs)?;
+    reserve_each(slots, parts.as_slice())?;
+    Ok(parts)
+}
+
+/// Cuts the messages for a root's slots and reserves room in them, but a few messages that have all
+/// their keys in one slot each go to their slots as they are.
+pub fn prepare<U: Update>(
+    alloc: Global,
+    slots: &mut [Slot<U>],
+    msgs: Vec<Msg<U>>,
+) -> Result<Batch<U>, NoMemory>
+    requires { IsRoot (inner (seen_slots slots.old)) }
+    ensures same { map see_slot slots.new ≡ map see_slot slots.old }
+    ensures room { IfOk result (λ b. HasRoomFor slots.new b) }
+    ensures parts { IfOk result (λ b. batch_parts b (seen_slots slots.old) ≡ parts_of None msgs.items (seen_slots slots.old)) }
+{
+    let count = msgs.len();
+    let mut homes = [0; FEW];
+    if count <= FEW && reserve_homes(slots, count, msgs.as_slice(), &mut homes)? {
+        return Ok(Batch::Whole(msgs, homes));
+    }
+    Ok(Batch::Parts(prepare_parts(alloc, slots, msgs)?))
+}
