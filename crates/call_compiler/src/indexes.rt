@@ -2,14 +2,13 @@
 ghost use Rattle.std.specs.Prelude.{◌≡◌, [], IfOk, IsTrue, OnErr, OnOk};
 ghost use Rattle.call_compiler.specs.Compiled.{MeanTree, messages};
 ghost use Rattle.call_compiler.specs.Laws.{HaveTaken};
-ghost use Rattle.node.specs.Grafts.{KeepsLists};
 ghost use Rattle.node.specs.Shapes.{is_shape};
 ghost use Rattle.reference.specs.Tree.{Dir, nothing};
 
 use crate::batch::Batch;
 use block_index::BlockIndex;
 use meta_index::MetaIndex;
-use node::{Shape, append_both_kept};
+use node::{Shape, append_both};
 use pathkey::NoMemory;
 use std::alloc::Global;
 
@@ -55,34 +54,13 @@ impl Indexes {
         ensures no_block { batch.block.items ≡ [] → self.new.block ≡ self.old.block }
         ensures err { OnErr result (self.new ≡ self.old) }
     {
-        self.append_kept(alloc, batch, &[], &[])
-    }
-
-    /// Does what `append` does. The list of the slot with number `i` of an index's root stays as it was if that index's
-    /// `kept[i]` is above 0, with the new pieces behind it as they are. A number that is missing is 0.
-    pub fn append_kept(
-        &mut self,
-        alloc: Global,
-        batch: Batch,
-        meta_kept: &[u32],
-        block_kept: &[u32],
-    ) -> Result<(), NoMemory>
-        ensures done { OnOk result (HaveTaken (messages batch) self.old self.new) }
-        ensures meta_kept { OnOk result (KeepsLists meta_kept.now batch.meta.items self.old.meta.tree.root self.new.meta.tree.root) }
-        ensures block_kept { OnOk result (KeepsLists block_kept.now batch.block.items self.old.block.tree.root self.new.block.tree.root) }
-        ensures no_meta { batch.meta.items ≡ [] → self.new.meta ≡ self.old.meta }
-        ensures no_block { batch.block.items ≡ [] → self.new.block ≡ self.old.block }
-        ensures err { OnErr result (self.new ≡ self.old) }
-    {
         let Batch { meta, block } = batch;
-        append_both_kept(
+        append_both(
             alloc,
             &mut self.meta.tree,
             meta,
-            meta_kept,
             &mut self.block.tree,
             block,
-            block_kept,
         )
     }
 }

@@ -252,17 +252,6 @@ live_same s r a b is = both r (λ e m. same_live a b e (is.marks ∙ m)) (step_s
     both StepNoRoom f p q = f p q
     both StepNoMemory f p q = f p q
 
--- so they are where the reply is not that it was done
-pub undone_same : (s : Step) (r : StepReply) (a b : PLive) → StepsLive s r a b → ((n : ℕ) → r ≡ Did n → ⊥) → b ≡ a
-undone_same s (Did n) a b is undone = absurd (undone n refl)
-undone_same s StepNotThere a b is undone = live_same s StepNotThere a b is
-undone_same s StepNoRoom a b is undone = live_same s StepNoRoom a b is
-undone_same s StepNoMemory a b is undone = live_same s StepNoMemory a b is
-
--- a step after one that had no room
-pub stepped_after : (s t : Step) (r q : StepReply) (a b d : PLive) → r ≡ StepNoRoom → StepsLive s r a b → StepsLive t q b d → StepsLive t q a d
-stepped_after s t r q a b d e first later = subst (λ (x : PLive). StepsLive t q x d) (subst (λ (z : StepReply). UnlessDid z (b ≡ a)) e (live_same s r a b first)) later
-
 pub stepped : (v : PVolume) (s : Step) (r : StepReply) (l : PLive) → StepsLive s r (live_of v) l → Stepped s r v (volume l v.live.modified v.snapshots)
 stepped v s r l is = record {
   keeps = λ w m. record { live = record { indexes = tree_kept s.index s.step r v.live.indexes l.indexes is.index w.live m.live.indexes; root = m.live.root }; snapshots = m.snapshots };

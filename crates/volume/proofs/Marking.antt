@@ -1,5 +1,5 @@
 -- Live indexes with their marks: what stays of the marks where one index changes, or both take messages.
-use Rattle.std.proofs.Common.{◌≡◌, ℕ, ◌+◌, ◌≤◌, ◌^◌, List, [], ◌∷◌, ◌++◌, length, refl, ap, sym, subst, arith, Option}
+use Rattle.std.proofs.Common.{◌≡◌, ℕ, ◌+◌, ◌≤◌, ◌^◌, List, [], ◌∷◌, ◌++◌, length, refl, ap, sym, subst, ◌∙◌, arith, Option}
 use Rattle.std.specs.Prelude.{Result, Ok, Err, OnOk, OnErr}
 use Rattle.std.proofs.lemmas.Result.{on_err_weaker, on_ok_weaker}
 use Rattle.block_index.specs.Updates.{means as block_means}
@@ -16,6 +16,7 @@ use Rattle.jobs.proofs.MarkFacts.{each_without, fewer_without, marks_given, mark
 use Rattle.jobs.proofs.Stepping.{each_left, fewer_left}
 use Rattle.meta_index.specs.Updates.{means as meta_means}
 use Rattle.meta_index.specs.declared.update.MetaUpdate.{MetaUpdate}
+use Rattle.node.specs.Appended.{Appended}
 use Rattle.node.specs.Grafts.{KeepsLists}
 use Rattle.node.specs.Places.{way}
 use Rattle.node.specs.Pure.{PTree}
@@ -141,6 +142,15 @@ pub record AppendsKept {T X : Type 0} (r : Result T X) (msgs : Messages) (l : PL
   pub meta : OnOk r (KeepsLists (kept_in l.marks.meta l.indexes.meta.tree.root) msgs.meta l.indexes.meta.tree.root new.meta.tree.root)
   pub block : OnOk r (KeepsLists (kept_in l.marks.block l.indexes.block.tree.root) msgs.block l.indexes.block.tree.root new.block.tree.root)
   pub err : OnErr r (new ≡ l.indexes)
+
+-- indexes of these trees
+abbrev pub indexes_of : PTree MetaUpdate MetaValue → PTree BlockUpdate (List ℕ) → Indexes
+indexes_of a b = record { meta = record { tree = a }; block = record { tree = b } }
+
+-- so they are where each tree took its half, or neither did
+pub appends_kept : {T X : Type 0} (r : Result T X) (msgs : Messages) (l : PLive) (a : PTree MetaUpdate MetaValue) (b : PTree BlockUpdate (List ℕ)) → OnOk r (Appended meta_means msgs.meta l.indexes.meta.tree a) → OnOk r (Appended block_means msgs.block l.indexes.block.tree b) → OnOk r (KeepsLists (kept_in l.marks.meta l.indexes.meta.tree.root) msgs.meta l.indexes.meta.tree.root a.root) → OnOk r (KeepsLists (kept_in l.marks.block l.indexes.block.tree.root) msgs.block l.indexes.block.tree.root b.root) → OnErr r (a ≡ l.indexes.meta.tree) → OnErr r (b ≡ l.indexes.block.tree) → AppendsKept r msgs l (record { meta = record { tree = a }; block = record { tree = b } })
+appends_kept (Ok x) msgs l a b ta tb ka kb ea eb = record { taken = record { meta = ta; block = tb }; meta = ka; block = kb; err = tt }
+appends_kept (Err x) msgs l a b ta tb ka kb ea eb = record { taken = tt; meta = tt; block = tt; err = ap (λ t. indexes_of t b) ea ∙ ap (λ t. indexes_of l.indexes.meta.tree t) eb }
 
 meta_all : {T X : Type 0} (r : Result T X) (msgs : Messages) (l : PLive) (new : Indexes) → AreMarked l → AppendsKept r msgs l new → AllKept meta_means l.indexes.meta.tree new.meta.tree l.marks.meta l.marks.given
 meta_all r msgs l new is h =

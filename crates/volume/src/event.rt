@@ -14,6 +14,24 @@ pub enum Index {
     Block,
 }
 
+/// Does the same with the tree of the index that is named: the one place where an index becomes a tree.
+macro_rules! in_tree {
+    ($indexes:expr, $index:expr, $tree:ident => $what:expr) => {
+        match $index {
+            Index::Meta => {
+                let $tree = &$indexes.meta.tree;
+                $what
+            }
+            Index::Block => {
+                let $tree = &$indexes.block.tree;
+                $what
+            }
+        }
+    };
+}
+
+pub(crate) use in_tree;
+
 /// A step of the tree of one index.
 #[derive(Clone, Copy)]
 pub struct Step {

@@ -7,6 +7,26 @@ use jobs::Ticket;
 use meta_index::MetaUpdate;
 use std::alloc::Global;
 
+/// Does the same with a job, or what was built of one, of either index.
+macro_rules! of_either {
+    ($value:expr, $kind:ident, $inner:ident => $what:expr) => {
+        match $value {
+            $kind::Meta($inner) => $what,
+            $kind::Block($inner) => $what,
+        }
+    };
+}
+
+/// What was built of an index's job, or the job.
+macro_rules! built_in {
+    ($built:expr, $index:ident) => {
+        match $built {
+            Ok(done) => Ok(Done::$index(done)),
+            Err(job) => Err(Job::$index(job)),
+        }
+    };
+}
+
 /// A job: the oldest messages of a slot of a live index's root, and a share of the slot's child.
 #[derive(Drop)]
 pub enum Job {
@@ -21,10 +41,7 @@ impl Job {
     pub fn ticket(&self) -> Ticket
         ensures { result.number ≡ ticket_of self.now }
     {
-        match self {
-            Job::Meta(job) => job.ticket(),
-            Job::Block(job) => job.ticket(),
-        }
+        of_either!(self, Job, job => job.ticket())
     }
 
     /// Builds the job: a subtree with the job's messages in it, which sink as far as there is room. Where memory is refused
@@ -36,14 +53,8 @@ impl Job {
         ensures err { IfErr result (λ job. job ≡ self) }
     {
         match self {
-            Job::Meta(job) => match job.build(alloc) {
-                Ok(done) => Ok(Done::Meta(done)),
-                Err(job) => Err(Job::Meta(job)),
-            },
-            Job::Block(job) => match job.build(alloc) {
-                Ok(done) => Ok(Done::Block(done)),
-                Err(job) => Err(Job::Block(job)),
-            },
+            Job::Meta(job) => built_in!(job.build(alloc), Meta),
+            Job::Block(job) => built_in!(job.build(alloc), Block),
         }
     }
 }
@@ -62,10 +73,7 @@ impl Done {
     pub fn ticket(&self) -> Ticket
         ensures { result.number ≡ done_ticket self.now }
     {
-        match self {
-            Done::Meta(done) => done.ticket(),
-            Done::Block(done) => done.ticket(),
-        }
+        of_either!(self, Done, done => done.ticket())
     }
 }
 

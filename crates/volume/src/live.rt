@@ -12,16 +12,45 @@ ghost use Rattle.volume.specs.Marked.{KeepMarkedLists, KeepsMarks, Stands, no_ma
 ghost use Rattle.volume.specs.Told.{HeaviestIn, pending_in};
 ghost use Rattle.volume.specs.Typed.{Compiles, IsOfKind};
 
-use crate::event::{Index, Relief, Step};
+use crate::event::{Index, Relief, Step, in_tree};
 use crate::job::{Done, InstallReply, Job, TakeReply};
 use call_compiler::{Batch, Indexes, Reply};
 use flush::heaviest;
 use jobs::{Load, Marks, Ticket};
-use node::{StepReply, TreeStep};
+use node::{StepReply, TreeStep, append_both_kept};
 use pathkey::NoMemory;
 use std::alloc::Global;
 use std::marker::Model;
-use steps::{TRIES, make_room, part_ahead};
+use steps::{Lane, make_room, part_ahead, relieve_in};
+
+// The updates of the two indexes differ in type, so that no function can be given either's tree. What is done alike in both is
+// written once, as a macro, and `in_tree` is where an index becomes a tree.
+
+/// Takes a job of the slot of an index's root, and counts it.
+macro_rules! take_in {
+    ($live:expr, $alloc:expr, $slot:expr, $all:expr, $index:ident, $marks:ident, $job:path) => {
+        match $live.$marks.take_job($alloc, &$live.indexes.$index.tree, $live.given, $all, $slot) {
+            jobs::TakeReply::Taken(job) => {
+                $live.given += 1;
+                TakeReply::Taken($job(job))
+            }
+            jobs::TakeReply::NotThere => TakeReply::NotThere,
+            jobs::TakeReply::NoRoom => TakeReply::NoRoom,
+            jobs::TakeReply::NoMemory => TakeReply::NoMemory,
+        }
+    };
+}
+
+/// Puts what was built of a job into an index's tree.
+macro_rules! install_in {
+    ($live:expr, $built:expr, $index:ident, $marks:ident, $done:path) => {
+        match $live.$marks.install(&mut $live.indexes.$index.tree, $built) {
+            jobs::InstallReply::Installed => InstallReply::Installed,
+            jobs::InstallReply::Stale => InstallReply::Stale,
+            jobs::InstallReply::NoMemory(done) => InstallReply::NoMemory($done(done)),
+        }
+    };
+}
 
 /// Indexes, and the marks of the jobs taken from them: they stand beside the trees, so that no share of a tree has any.
 pub struct Live {
@@ -108,15 +137,31 @@ impl Live {
         ensures marks { self.new.marks ≡ self.old.marks }
         ensures kept { KeepsMarks self.old self.new }
     {
+        let Batch { meta, block } = batch;
         if self.meta_marks.len() == 0 && self.block_marks.len() == 0 {
-            return self.indexes.append(alloc, batch);
+            return append_both_kept(
+                alloc,
+                &mut self.indexes.meta.tree,
+                meta,
+                &[],
+                &mut self.indexes.block.tree,
+                block,
+                &[],
+            );
         }
         let meta_kept = self.meta_marks.kept(alloc, self.indexes.meta.tree.root())?;
         let block_kept = self
             .block_marks
             .kept(alloc, self.indexes.block.tree.root())?;
-        self.indexes
-            .append_kept(alloc, batch, meta_kept.as_slice(), block_kept.as_slice())
+        append_both_kept(
+            alloc,
+            &mut self.indexes.meta.tree,
+            meta,
+            meta_kept.as_slice(),
+            &mut self.indexes.block.tree,
+            block,
+            block_kept.as_slice(),
+        )
     }
 
     /// Does a file call that was compiled: appends its messages. It fails only for want of memory, and then changes nothing.
@@ -157,10 +202,7 @@ impl Live {
     pub fn heaviest(&self, index: Index) -> Option<TreeStep>
         ensures { HeaviestIn index result self.now.indexes }
     {
-        match index {
-            Index::Meta => heaviest(&self.indexes.meta.tree),
-            Index::Block => heaviest(&self.indexes.block.tree),
-        }
+        in_tree!(self.indexes, index, tree => heaviest(tree))
     }
 
     /// The slot of an index's root of which a job would move the most messages; none where no job would move any.
@@ -176,56 +218,8 @@ impl Live {
         ensures { IfSome result (λ other. other.index ≡ step.index) }
     {
         let index = step.index;
-        let step = match index {
-            Index::Meta => make_room(&self.indexes.meta.tree, step.step)?,
-            Index::Block => make_room(&self.indexes.block.tree, step.step)?,
-        };
+        let step = LiveTree(index).make_room(self, step.step)?;
         Some(Step { index, step })
-    }
-
-    /// Does the step or, where it has no room, what makes room for it; gives the step that was tried last.
-    fn step_with_room(&mut self, alloc: Global, step: Step, tries: u8) -> Relief
-        ensures index { result.step.index ≡ step.index }
-        ensures stepped { StepsLive result.step result.reply self.old self.new }
-    {
-        let reply = self.step(alloc, step);
-        let StepReply::NoRoom = reply else {
-            return Relief { step, reply };
-        };
-        if tries == 0 {
-            return Relief { step, reply };
-        }
-        let Some(other) = self.make_room(step) else {
-            return Relief { step, reply };
-        };
-        self.step_with_room(alloc, other, tries - 1)
-    }
-
-    /// The step that parts a flush's node before the flush is tried; none where the flush is to be tried at once.
-    fn step_ahead(&self, flush: Step) -> Option<Step>
-        ensures { IfSome result (λ other. other.index ≡ flush.index) }
-    {
-        let index = flush.index;
-        let step = match index {
-            Index::Meta => part_ahead(&self.indexes.meta.tree, flush.step)?,
-            Index::Block => part_ahead(&self.indexes.block.tree, flush.step)?,
-        };
-        Some(Step { index, step })
-    }
-
-    /// Parts a flush's node, or does what makes room for that, where this is better than to try the flush. `None` where it is
-    /// not, or where none of these steps was done, and then nothing has changed.
-    fn prepare(&mut self, alloc: Global, flush: Step) -> Option<Relief>
-        ensures unchanged { IfNone result (self.new ≡ self.old) }
-        ensures index { IfSome result (λ r. r.step.index ≡ flush.index) }
-        ensures stepped { IfSome result (λ r. StepsLive r.step r.reply self.old self.new) }
-    {
-        let step = self.step_ahead(flush)?;
-        let relief = self.step_with_room(alloc, step, TRIES);
-        match relief.reply {
-            StepReply::Did(_) => Some(relief),
-            _ => None,
-        }
     }
 
     /// Flushes the heaviest slot of an index or, where its flush has no room, does what makes room for it; `None` where nothing
@@ -237,12 +231,15 @@ impl Live {
         ensures index { IfSome result (λ r. r.step.index ≡ index) }
         ensures stepped { IfSome result (λ r. StepsLive r.step r.reply self.old self.new) }
     {
-        let step = self.heaviest(index)?;
-        let flush = Step { index, step };
-        if let Some(relief) = self.prepare(alloc, flush) {
-            return Some(relief);
-        }
-        Some(self.step_with_room(alloc, flush, TRIES))
+        let turn = relieve_in(alloc, LiveTree(index), self)?;
+        let step = Step {
+            index,
+            step: turn.step,
+        };
+        Some(Relief {
+            step,
+            reply: turn.reply,
+        })
     }
 
     /// How many marks stand. It takes no memory.
@@ -252,50 +249,14 @@ impl Live {
         self.meta_marks.len() + self.block_marks.len()
     }
 
-    /// Takes a job of a slot of the metadata's root.
-    fn take_meta(&mut self, alloc: Global, slot: u8) -> TakeReply
-        ensures { AnswersTaking Index.Meta slot result self.old self.new }
-    {
-        let all = self.mark_count();
-        let tree = &self.indexes.meta.tree;
-        match self.meta_marks.take_job(alloc, tree, self.given, all, slot) {
-            jobs::TakeReply::Taken(job) => {
-                self.given += 1;
-                TakeReply::Taken(Job::Meta(job))
-            }
-            jobs::TakeReply::NotThere => TakeReply::NotThere,
-            jobs::TakeReply::NoRoom => TakeReply::NoRoom,
-            jobs::TakeReply::NoMemory => TakeReply::NoMemory,
-        }
-    }
-
-    /// Takes a job of a slot of the blocks' root.
-    fn take_block(&mut self, alloc: Global, slot: u8) -> TakeReply
-        ensures { AnswersTaking Index.Block slot result self.old self.new }
-    {
-        let all = self.mark_count();
-        let tree = &self.indexes.block.tree;
-        match self
-            .block_marks
-            .take_job(alloc, tree, self.given, all, slot)
-        {
-            jobs::TakeReply::Taken(job) => {
-                self.given += 1;
-                TakeReply::Taken(Job::Block(job))
-            }
-            jobs::TakeReply::NotThere => TakeReply::NotThere,
-            jobs::TakeReply::NoRoom => TakeReply::NoRoom,
-            jobs::TakeReply::NoMemory => TakeReply::NoMemory,
-        }
-    }
-
     /// Takes a job of the slot with this number of an index's root, under the next ticket.
     pub fn take_job(&mut self, alloc: Global, index: Index, slot: u8) -> TakeReply
         ensures { AnswersTaking index slot result self.old self.new }
     {
+        let all = self.mark_count();
         match index {
-            Index::Meta => self.take_meta(alloc, slot),
-            Index::Block => self.take_block(alloc, slot),
+            Index::Meta => take_in!(self, alloc, slot, all, meta, meta_marks, Job::Meta),
+            Index::Block => take_in!(self, alloc, slot, all, block, block_marks, Job::Block),
         }
     }
 
@@ -305,20 +266,8 @@ impl Live {
         ensures { AnswersInstalling done result self.old self.new }
     {
         match done {
-            Done::Meta(done) => {
-                match self.meta_marks.install(&mut self.indexes.meta.tree, done) {
-                    jobs::InstallReply::Installed => InstallReply::Installed,
-                    jobs::InstallReply::Stale => InstallReply::Stale,
-                    jobs::InstallReply::NoMemory(done) => InstallReply::NoMemory(Done::Meta(done)),
-                }
-            }
-            Done::Block(done) => {
-                match self.block_marks.install(&mut self.indexes.block.tree, done) {
-                    jobs::InstallReply::Installed => InstallReply::Installed,
-                    jobs::InstallReply::Stale => InstallReply::Stale,
-                    jobs::InstallReply::NoMemory(done) => InstallReply::NoMemory(Done::Block(done)),
-                }
-            }
+            Done::Meta(done) => install_in!(self, done, meta, meta_marks, Done::Meta),
+            Done::Block(done) => install_in!(self, done, block, block_marks, Done::Block),
         }
     }
 
@@ -340,5 +289,35 @@ impl Live {
     {
         self.meta_marks.cancel_all();
         self.block_marks.cancel_all();
+    }
+}
+
+/// The live tree of an index, with the marks of its jobs, as relief sees it.
+#[derive(Clone, Copy)]
+struct LiveTree(Index);
+
+impl Lane<Live> for LiveTree {
+    ghost use Rattle.volume.specs.Changes.{StepsLive};
+    ghost use Rattle.volume.specs.Told.{pending_in};
+
+    ghost answers = { λ t s r a b. StepsLive (record { index = t.0; step = s }) r a b };
+
+    ghost waiting = { λ t l. pending_in t.0 l.indexes };
+
+    fn heaviest(self, on: &Live) -> Option<TreeStep> {
+        on.heaviest(self.0)
+    }
+
+    fn make_room(self, on: &Live, step: TreeStep) -> Option<TreeStep> {
+        in_tree!(on.indexes, self.0, tree => make_room(tree, step))
+    }
+
+    fn part_ahead(self, on: &Live, flush: TreeStep) -> Option<TreeStep> {
+        in_tree!(on.indexes, self.0, tree => part_ahead(tree, flush))
+    }
+
+    fn try_step(self, alloc: Global, on: &mut Live, step: TreeStep) -> StepReply {
+        let index = self.0;
+        on.step(alloc, Step { index, step })
     }
 }

@@ -16,7 +16,7 @@ ghost use Rattle.volume.specs.Volumes.{AreNames, IsNew, IsVolume, MeanRooted, Me
 ghost use Rattle.volume.specs.Typed.{Asks, Compiles, IsCount, IsOfKind};
 ghost use Rattle.volume.specs.Told.{Finds, HeaviestIn, busier, pending_in, report_in};
 
-use crate::event::{Index, Relief, Step};
+use crate::event::{Index, Relief, Step, in_tree};
 use crate::frozen::Frozen;
 use crate::job::{Done, InstallReply, TakeReply};
 use crate::live::Live;
@@ -268,20 +268,14 @@ impl Volume {
     pub fn shape_report(&self, index: Index) -> ShapeReport
         ensures { result ≡ report_in index self.now.live.indexes }
     {
-        match index {
-            Index::Meta => self.live.indexes().meta.tree.shape_report(),
-            Index::Block => self.live.indexes().block.tree.shape_report(),
-        }
+        in_tree!(self.live.indexes(), index, tree => tree.shape_report())
     }
 
     /// How many pieces wait in a live index. It costs a look at the slots of its tree's root, and takes no memory.
     pub fn pending(&self, index: Index) -> u128
         ensures { result ≡ pending_in index self.now.live.indexes }
     {
-        match index {
-            Index::Meta => self.live.indexes().meta.tree.pending(),
-            Index::Block => self.live.indexes().block.tree.pending(),
-        }
+        in_tree!(self.live.indexes(), index, tree => tree.pending())
     }
 
     /// Does a tree step in the index with more pending pieces, that of the metadata where both have as many: the heaviest flush
