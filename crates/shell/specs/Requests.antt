@@ -8,22 +8,10 @@ use Rattle.reference.specs.declared.call.Call.{Call}
 use Rattle.reference.specs.declared.call.Call.TheVariants.{Mkdir, Create, Write, Truncate, Unlink, Rmdir, Rename, Rmtree, Read, Stat as AskStat, Readdir}
 use Rattle.lines.specs.Lines.{at_sign, words_of}
 use Rattle.lines.specs.Values.{bytes_of, number_of, path_of}
-use Rattle.shell.specs.declared.command.PathCall.{PathCall}
-use Rattle.shell.specs.declared.command.PathCall.TheVariants as on
 use Rattle.shell.specs.declared.request.Look.{Look}
 use Rattle.shell.specs.declared.request.Look.TheVariants as look
 use Rattle.shell.specs.declared.request.Request.{Request}
 use Rattle.shell.specs.declared.request.Request.TheVariants.{Silent, Overlong, Malformed, Refused, Moment, Wanted, Snapshot, DropSnapshot, Restore, Past}
-
--- the call on a path
-abbrev pub call_at : PathCall → Path → Call
-call_at on.Mkdir p = Mkdir p
-call_at on.Create p = Create p
-call_at on.Unlink p = Unlink p
-call_at on.Rmdir p = Rmdir p
-call_at on.Rmtree p = Rmtree p
-call_at on.Stat p = AskStat p
-call_at on.Readdir p = Readdir p
 
 -- the call on a path, or why the path is refused
 abbrev pub on_path : (Path → Call) → Result Path Errno → Request

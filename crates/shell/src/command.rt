@@ -1,16 +1,16 @@
 //! Reads what a line asks for.
-ghost use Rattle.std.specs.Prelude.{◌≡◌, ◌⊎◌, ℕ, List, Err, MatchOption, MatchResult};
+ghost use Rattle.std.specs.Prelude.{◌≡◌, ◌⊎◌, Err, MatchResult};
 ghost use Rattle.pathkey.specs.declared.errno.Errno.TheVariants.{ENOMEM};
 ghost use Rattle.lines.specs.Lines.{words_of};
 ghost use Rattle.pathkey.specs.SnapNames.{snap_parsed};
-ghost use Rattle.shell.specs.Requests.{IsReadAs, call_at, command_of, looking, named_command, offset_command, on_path, past, past_path_command, past_read_command, path_command, read_command, rename_of, request_of, third_command, truncate_command, with_value, write_command};
+ghost use Rattle.shell.specs.Requests.{IsReadAs, command_of, looking, named_command, offset_command, past, past_path_command, past_read_command, path_command, read_command, rename_of, request_of, third_command, truncate_command, with_value, write_command};
 ghost use Rattle.lines.specs.Values.{number_of, path_of};
 
 use crate::request::{Look, Request};
 use lines::held::LONGEST_LINE;
 use lines::values::{read_bytes, read_number, read_path};
 use lines::words::{cut_at_sign, cut_word};
-use pathkey::{Errno, NoMemory, Path, SnapName};
+use pathkey::{Errno, NoMemory, SnapName};
 use reference::Call;
 use std::alloc::Global;
 
@@ -50,76 +50,28 @@ fn read_command(alloc: Global, line: &[u8]) -> Request
 fn read_path_command(alloc: Global, name: &[u8], word: &[u8]) -> Request
     ensures { IsReadAs (path_command name.now word.now) result }
 {
-    match path_call(name) {
-        Some(call) => read_on_path(alloc, call, word),
-        None => read_named_command(alloc, name, word),
-    }
-}
-
-/// A call that needs nothing but a path.
-#[derive(Clone, Copy)]
-pub(crate) enum PathCall {
-    Mkdir,
-    Create,
-    Unlink,
-    Rmdir,
-    Rmtree,
-    Stat,
-    Readdir,
-}
-
-// The call of that name that needs nothing but a path.
-fn path_call(name: &[u8]) -> Option<PathCall>
-    ensures { MatchOption result ((word : List ℕ) → path_command name.now word ≡ named_command name.now word)
-        (λ call. (word : List ℕ) → path_command name.now word ≡ on_path (call_at call) (path_of word)) }
-{
     if name == b"mkdir".as_slice() {
-        return Some(PathCall::Mkdir);
+        return ask(read_path(alloc, word).map(Call::Mkdir));
     }
     if name == b"create".as_slice() {
-        return Some(PathCall::Create);
+        return ask(read_path(alloc, word).map(Call::Create));
     }
     if name == b"unlink".as_slice() {
-        return Some(PathCall::Unlink);
+        return ask(read_path(alloc, word).map(Call::Unlink));
     }
     if name == b"rmdir".as_slice() {
-        return Some(PathCall::Rmdir);
+        return ask(read_path(alloc, word).map(Call::Rmdir));
     }
     if name == b"rmtree".as_slice() {
-        return Some(PathCall::Rmtree);
+        return ask(read_path(alloc, word).map(Call::Rmtree));
     }
     if name == b"stat".as_slice() {
-        return Some(PathCall::Stat);
+        return ask(read_path(alloc, word).map(Call::Stat));
     }
     if name == b"readdir".as_slice() {
-        return Some(PathCall::Readdir);
+        return ask(read_path(alloc, word).map(Call::Readdir));
     }
-    None
-}
-
-// The call on the path that a word names.
-fn read_on_path(alloc: Global, call: PathCall, word: &[u8]) -> Request
-    ensures { IsReadAs (on_path (call_at call) (path_of word.now)) result }
-{
-    match read_path(alloc, word) {
-        Ok(path) => Request::Wanted(call_at(call, path)),
-        Err(fault) => Request::Refused(fault),
-    }
-}
-
-// The call on a path.
-fn call_at(call: PathCall, path: Path) -> Call
-    ensures { result ≡ call_at call path }
-{
-    match call {
-        PathCall::Mkdir => Call::Mkdir(path),
-        PathCall::Create => Call::Create(path),
-        PathCall::Unlink => Call::Unlink(path),
-        PathCall::Rmdir => Call::Rmdir(path),
-        PathCall::Rmtree => Call::Rmtree(path),
-        PathCall::Stat => Call::Stat(path),
-        PathCall::Readdir => Call::Readdir(path),
-    }
+    read_named_command(alloc, name, word)
 }
 
 // What a command of two words asks for with a snapshot's name or a moment: it is the second word, or a name stands behind an `@` in

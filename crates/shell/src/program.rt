@@ -7,7 +7,7 @@ use crate::trees::{draw_alone, draw_volume};
 use clap::error::ErrorKind;
 use images::{ImageFault, LoadFault, load_image, print_image};
 use node::Shape;
-use pathkey::{Errno, NoMemory};
+use pathkey::NoMemory;
 use std::alloc::Global;
 use std::fs::Files;
 use std::io::{BufWriter, Read, Write};
@@ -106,18 +106,13 @@ fn end_unread<W: Write>(error: clap::Error, output: &mut W) -> Result<(), Failur
     if error.use_stderr() {
         return Err(Failure::Words(error));
     }
-    let ended = print_help(&error, output);
+    let ended = match write!(output, "{error}") {
+        Ok(()) => flush(output),
+        Err(_) => Err(Failure::Write),
+    };
     // Let go by a call, so that the proof costs less.
     drop(error);
     ended
-}
-
-/// Prints help.
-fn print_help<W: Write>(help: &clap::Error, output: &mut W) -> Result<(), Failure> {
-    match write!(output, "{help}") {
-        Ok(()) => flush(output),
-        Err(_) => Err(Failure::Write),
-    }
 }
 
 /// Runs the script that the options name over the volume that they start with.
@@ -129,21 +124,9 @@ fn run<H: Files + Threads + Wait + Sync, R: Read, W: Write>(
     output: &mut W,
 ) -> Result<(), Failure> {
     let volume = first_volume(rt, alloc, options)?;
-    match options.script {
-        Some(path) => run_file(rt, alloc, volume, path, options, output),
-        None => print(rt, alloc, volume, options, input, output),
-    }
-}
-
-/// Runs the script that stands in a file.
-fn run_file<H: Files + Threads + Wait + Sync, W: Write>(
-    rt: &H,
-    alloc: Global,
-    volume: Volume,
-    path: &str,
-    options: &Options<'_>,
-    output: &mut W,
-) -> Result<(), Failure> {
+    let Some(path) = options.script else {
+        return print(rt, alloc, volume, options, input, output);
+    };
     match open(rt, path) {
         Ok(mut file) => print(rt, alloc, volume, options, &mut file, output),
         Err(failure) => {
@@ -169,17 +152,8 @@ fn first_volume<F: Files>(rt: &F, alloc: Global, options: &Options<'_>) -> Resul
             let mut file = open(rt, path)?;
             load_image(alloc, shape, &mut file).map_err(Failure::Load)
         }
-        None => new_volume(alloc, shape),
-    }
-}
-
-/// A new volume of this shape.
-fn new_volume(alloc: Global, shape: Shape) -> Result<Volume, Failure> {
-    match Volume::new(alloc, shape) {
-        Ok(volume) => Ok(volume),
-        // Not met: the shape was found to be ok before.
-        Err(Errno::EINVAL) => Err(Failure::Shape),
-        Err(_) => Err(Failure::Memory),
+        // A shape that is ok is refused only for want of memory.
+        None => Volume::new(alloc, shape).map_err(|_| Failure::Memory),
     }
 }
 
@@ -211,7 +185,7 @@ fn print<H: Files + Threads + Wait + Sync, R: Read, W: Write>(
     }
 }
 
-/// Prints the replies to a script, and then the image if the options ask for it.
+/// Prints the replies to a script, while flushers tidy if there are some, and what the options ask for behind them.
 fn print_all<H: Files + Threads + Wait + Sync, R: Read, W: Write>(
     rt: &H,
     alloc: Global,
@@ -220,25 +194,13 @@ fn print_all<H: Files + Threads + Wait + Sync, R: Read, W: Write>(
     script: &mut R,
     writer: &mut W,
 ) -> Result<(), Failure> {
-    if options.flushers > 0 {
-        return print_beside(rt, alloc, volume, options, script, writer);
+    if options.flushers == 0 {
+        let mut volume = volume;
+        let ended = print_lines(rt, alloc, &mut volume, options, script, writer);
+        // Let go by a call, so that the proof costs less.
+        drop(volume);
+        return ended;
     }
-    let mut volume = volume;
-    let ended = print_lines(rt, alloc, &mut volume, options, script, writer);
-    // Let go by a call, so that the proof costs less.
-    drop(volume);
-    ended
-}
-
-/// Prints the replies to a script while flushers tidy, and what the options ask for behind them.
-fn print_beside<H: Files + Threads + Wait + Sync, R: Read, W: Write>(
-    rt: &H,
-    alloc: Global,
-    volume: Volume,
-    options: &Options<'_>,
-    script: &mut R,
-    writer: &mut W,
-) -> Result<(), Failure> {
     match run_beside_flushers(rt, alloc, volume, options.flushers, script, writer) {
         Ok(tree) => {
             let ended = print_tree(rt, alloc, &tree, options, writer);
@@ -265,7 +227,7 @@ fn print_tree<F: Files, W: Write>(
     }
 }
 
-/// Prints the replies to a script on a volume, and what the options ask for behind them.
+/// Prints the replies to a script on a volume, with steps of tidying after each line, and what the options ask for behind them.
 fn print_lines<F: Files, R: Read, W: Write>(
     rt: &F,
     alloc: Global,
@@ -274,8 +236,13 @@ fn print_lines<F: Files, R: Read, W: Write>(
     script: &mut R,
     writer: &mut W,
 ) -> Result<(), Failure> {
-    print_replies(alloc, volume, options.steps, script, writer)?;
-    print_live(alloc, volume, options.image, writer)?;
+    let mut pace = Tidy::new(options.steps);
+    run_script(alloc, volume, script, writer, &mut pace).map_err(Failure::Script)?;
+    let tree = volume.freeze().map_err(|_| Failure::Memory)?;
+    let printed = print_end(alloc, &tree, options.image, writer);
+    // Let go by a call, so that the proof costs less.
+    drop(tree);
+    printed?;
     match options.trees {
         Some(path) => save(rt, path, draw_volume(alloc, volume)),
         None => Ok(()),
@@ -306,36 +273,6 @@ fn print_end<W: Write>(
         print_image(alloc, tree, writer).map_err(Failure::Image)?;
     }
     flush(writer)
-}
-
-/// Prints the replies to a script; so many steps of tidying follow each line.
-fn print_replies<R: Read, W: Write>(
-    alloc: Global,
-    volume: &mut Volume,
-    steps: u16,
-    script: &mut R,
-    writer: &mut W,
-) -> Result<(), Failure> {
-    let mut pace = Tidy::new(steps);
-    run_script(alloc, volume, script, writer, &mut pace).map_err(Failure::Script)
-}
-
-/// Prints the image of the live tree if that is asked for, and writes out what is gathered.
-fn print_live<W: Write>(
-    alloc: Global,
-    volume: &Volume,
-    image: bool,
-    writer: &mut W,
-) -> Result<(), Failure> {
-    match volume.freeze() {
-        Ok(tree) => {
-            let ended = print_end(alloc, &tree, image, writer);
-            // Let go by a call, so that the proof costs less.
-            drop(tree);
-            ended
-        }
-        Err(_) => Err(Failure::Memory),
-    }
 }
 
 /// Writes out what is gathered.

@@ -1,5 +1,5 @@
 //! Runs a script: reads it piece by piece, does each line, and writes its reply.
-ghost use Rattle.std.specs.Prelude.{◌≡◌, ◌≢◌, ◌≤◌, ◌<◌, ◌+◌, ◌++◌, ℕ, List, [], ◌∷◌, All, length, vec_capacity, OnOk, OnErr};
+ghost use Rattle.std.specs.Prelude.{◌≡◌, ◌≢◌, ◌≤◌, ◌<◌, ◌+◌, ℕ, List, [], length, vec_capacity, OnOk, OnErr};
 ghost use Rattle.std.specs.Io.KnownBytes.{Appends};
 ghost use Rattle.lines.specs.Parts.{AppendsPart};
 ghost use Rattle.shell.specs.Replies.{reply_text};
@@ -146,7 +146,8 @@ fn run_over<S: Session, R: Read, W: Write, P: Pace>(
     Err(ScriptFault::Read)
 }
 
-// Does each line that ends in a piece of the text, and holds what follows the last of them.
+// Does each line that ends in a piece of the text, and holds what follows the last of them. A line is copied only where it began
+// in an earlier piece.
 fn take_piece<S: Session, W: Write, P: Pace>(
     alloc: Global,
     session: &mut S,
@@ -166,38 +167,16 @@ fn take_piece<S: Session, W: Write, P: Pace>(
 {
     let mut rest = piece;
     while let Some((end, after)) = cut_line(rest) {
-        end_line(alloc, session, at, line, end, writer, pace)?;
+        if line.is_empty() {
+            do_line(alloc, session, at, end, writer, pace)?;
+        } else {
+            hold(line, end);
+            do_line(alloc, session, at, line.as_slice(), writer, pace)?;
+            line.clear();
+        }
         rest = after;
     }
     hold(line, rest);
-    Ok(())
-}
-
-// Does the line that begins with what is held, `start`, and ends with `end`. It is copied only where something is held.
-fn end_line<S: Session, W: Write, P: Pace>(
-    alloc: Global,
-    session: &mut S,
-    at: &mut u64,
-    start: &mut Vec<u8>,
-    end: &[u8],
-    writer: &mut W,
-    pace: &mut P,
-) -> Result<(), WriteFailed>
-    requires room { 65536 < vec_capacity start.old }
-    requires free { All (λ b. b ≢ 10) end.now }
-    ensures room { 65536 < vec_capacity start.new }
-    ensures ok { OnOk result ((held : List ℕ) → Holds held start.old.items → Leads (Meant (S.means session.old) at.old) (Meant (S.means session.new) at.new)
-        (λ first out after. (left : List ℕ) × Holds left start.new.items × Went held (end.now ++ 10 ∷ []) first out left after)
-        (Appends (W.contents writer.old) (W.contents writer.new))) }
-    ensures err { OnErr result ((held : List ℕ) → Holds held start.old.items → Leads (Meant (S.means session.old) at.old) (Meant (S.means session.new) at.new)
-        (FailedIn held (end.now ++ 10 ∷ [])) (Appends (W.contents writer.old) (W.contents writer.new))) }
-{
-    if start.is_empty() {
-        return do_line(alloc, session, at, end, writer, pace);
-    }
-    hold(start, end);
-    do_line(alloc, session, at, start.as_slice(), writer, pace)?;
-    start.clear();
     Ok(())
 }
 
@@ -236,28 +215,13 @@ fn do_line<S: Session, W: Write, P: Pace>(
     ensures err { OnErr result (Leads (Meant (S.means session.old) at.old) (Meant (S.means session.new) at.new) (λ first. Does first line.now)
         (AppendsPart (W.contents writer.old) (W.contents writer.new))) }
 {
-    answer_line(alloc, session, at, line, writer)?;
-    session.keep_pace(alloc, pace);
-    Ok(())
-}
-
-// Does one line, and writes its reply. What was asked is let go by a call: its kinds are not told apart here.
-fn answer_line<S: Session, W: Write>(
-    alloc: Global,
-    session: &mut S,
-    at: &mut u64,
-    line: &[u8],
-    writer: &mut W,
-) -> Result<(), WriteFailed>
-    ensures ok { OnOk result (Leads (Meant (S.means session.old) at.old) (Meant (S.means session.new) at.new) (λ first. Does first line.now)
-        (Appends (W.contents writer.old) (W.contents writer.new))) }
-    ensures err { OnErr result (Leads (Meant (S.means session.old) at.old) (Meant (S.means session.new) at.new) (λ first. Does first line.now)
-        (AppendsPart (W.contents writer.old) (W.contents writer.new))) }
-{
     let request = read_request(alloc, line);
     let told = answer(alloc, session, at, &request, writer);
+    // Let go by a call: its kinds are not told apart here.
     drop(request);
-    told
+    told?;
+    session.keep_pace(alloc, pace);
+    Ok(())
 }
 
 // Does what is asked for, and writes the reply.
