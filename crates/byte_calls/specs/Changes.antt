@@ -3,24 +3,14 @@ use Rattle.std.specs.Prelude.{◌≡◌, ℕ, length, Result, Ok, Err}
 use Rattle.pathkey.specs.Names.{Path}
 use Rattle.pathkey.specs.declared.errno.Errno.{Errno}
 use Rattle.reference.specs.declared.call.Call.{Call}
-use Rattle.reference.specs.declared.call.Call.TheVariants.{Mkdir, Create, Write, Unlink, Rmdir, Rename, Rmtree}
+use Rattle.reference.specs.declared.call.Call.TheVariants.{Write, Rename}
 use Rattle.reference.specs.declared.reply.Reply.{Reply}
 use Rattle.reference.specs.declared.reply.Reply.TheVariants.{Done, Count}
 use Rattle.volume.specs.Changes.{Called}
 use Rattle.volume.specs.Typed.{replied}
 use Rattle.volume.specs.Volumes.{PVolume}
-use Rattle.byte_calls.specs.declared.changes.PathCall.{PathCall}
-use Rattle.byte_calls.specs.declared.changes.PathCall.TheVariants as on
 
 -- ---- what texts ask for
-
--- the call on a path
-abbrev pub call_at : PathCall → Path → Call
-call_at on.Mkdir p = Mkdir p
-call_at on.Create p = Create p
-call_at on.Unlink p = Unlink p
-call_at on.Rmdir p = Rmdir p
-call_at on.Rmtree p = Rmtree p
 
 -- the call on the path that was read, or why there is none
 abbrev pub asked : (Path → Call) → Result Path Errno → Result Call Errno

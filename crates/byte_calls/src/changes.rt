@@ -2,40 +2,51 @@
 ghost use Rattle.pathkey.specs.declared.errno.Errno.TheVariants.{ENOMEM};
 ghost use Rattle.pathkey.specs.Texts.{parsed};
 ghost use Rattle.std.specs.Prelude.{◌⊎◌, Ok};
-ghost use Rattle.byte_calls.specs.Changes.{Asks, Refuses, asked, call_at, moved};
+ghost use Rattle.byte_calls.specs.Changes.{Asks, Refuses, asked, moved};
 
 use pathkey::{Errno, Path};
 use reference::Call;
 use std::alloc::Global;
 use volume::Volume;
 
-/// A call that needs nothing but a path.
-#[derive(Clone, Copy, Debug, PartialEq, Eq)]
-pub enum PathCall {
-    /// Makes an empty directory.
-    Mkdir,
-    /// Makes an empty file where nothing stands.
-    Create,
-    /// Takes a file out.
-    Unlink,
-    /// Takes an empty directory out.
-    Rmdir,
-    /// Takes a file out, or a directory with all below it.
-    Rmtree,
-}
-
-/// Does a call at a moment on the path that a text names.
-pub fn on_path(
-    alloc: Global,
-    volume: &mut Volume,
-    what: PathCall,
-    path: &[u8],
-    at: u64,
-) -> Result<(), Errno>
-    ensures { Asks (asked (call_at what) (parsed path.now)) at result volume.old volume.new }
+/// Makes an empty directory.
+pub fn mkdir(alloc: Global, volume: &mut Volume, path: &[u8], at: u64) -> Result<(), Errno>
+    ensures { Asks (asked (λ p. Call.Mkdir p) (parsed path.now)) at result volume.old volume.new }
 {
     let path = Path::parse(alloc, path)?;
-    ask_on(alloc, volume, what, &path, at)
+    volume.mkdir(alloc, &path, at)
+}
+
+/// Makes an empty file where nothing stands.
+pub fn create(alloc: Global, volume: &mut Volume, path: &[u8], at: u64) -> Result<(), Errno>
+    ensures { Asks (asked (λ p. Call.Create p) (parsed path.now)) at result volume.old volume.new }
+{
+    let path = Path::parse(alloc, path)?;
+    volume.create(alloc, &path, at)
+}
+
+/// Takes a file out.
+pub fn unlink(alloc: Global, volume: &mut Volume, path: &[u8], at: u64) -> Result<(), Errno>
+    ensures { Asks (asked (λ p. Call.Unlink p) (parsed path.now)) at result volume.old volume.new }
+{
+    let path = Path::parse(alloc, path)?;
+    volume.unlink(alloc, &path, at)
+}
+
+/// Takes an empty directory out.
+pub fn rmdir(alloc: Global, volume: &mut Volume, path: &[u8], at: u64) -> Result<(), Errno>
+    ensures { Asks (asked (λ p. Call.Rmdir p) (parsed path.now)) at result volume.old volume.new }
+{
+    let path = Path::parse(alloc, path)?;
+    volume.rmdir(alloc, &path, at)
+}
+
+/// Takes a file out, or a directory with all below it.
+pub fn rmtree(alloc: Global, volume: &mut Volume, path: &[u8], at: u64) -> Result<(), Errno>
+    ensures { Asks (asked (λ p. Call.Rmtree p) (parsed path.now)) at result volume.old volume.new }
+{
+    let path = Path::parse(alloc, path)?;
+    volume.rmtree(alloc, &path, at)
 }
 
 /// Moves what stands at the first path to the second. Where memory is refused for the first, the second is not read.
@@ -80,25 +91,6 @@ pub fn write(
 {
     let path = Path::parse(alloc, path)?;
     write_at(alloc, volume, &path, offset, bytes, at)
-}
-
-// Does the call on a path.
-fn ask_on(
-    alloc: Global,
-    volume: &mut Volume,
-    what: PathCall,
-    path: &Path,
-    at: u64,
-) -> Result<(), Errno>
-    ensures { Asks (Ok (call_at what path.now)) at result volume.old volume.new }
-{
-    match what {
-        PathCall::Mkdir => volume.mkdir(alloc, path, at),
-        PathCall::Create => volume.create(alloc, path, at),
-        PathCall::Unlink => volume.unlink(alloc, path, at),
-        PathCall::Rmdir => volume.rmdir(alloc, path, at),
-        PathCall::Rmtree => volume.rmtree(alloc, path, at),
-    }
 }
 
 // Lays the bytes over the file at a path. The volume tells their number, which who asks knows.

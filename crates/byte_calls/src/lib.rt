@@ -13,7 +13,7 @@ pub mod looks;
 pub mod snapshots;
 pub mod upkeep;
 
-pub use changes::{PathCall, on_path, rename, truncate, write};
+pub use changes::{create, mkdir, rename, rmdir, rmtree, truncate, unlink, write};
 pub use differences::delta;
 pub use holes::{frozen_stored, punch, stored};
 pub use image_texts::{load, print, print_begin, print_piece};

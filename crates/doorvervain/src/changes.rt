@@ -9,7 +9,6 @@ ghost use Rattle.doorvervain.specs.Numbers.{IsNumber, told};
 
 use crate::handle::Handle;
 use crate::numbers::number;
-use byte_calls::PathCall;
 use std::alloc::Global;
 
 /// Makes an empty directory.
@@ -18,7 +17,7 @@ pub extern "C" fn doorvervain_raw_mkdir(alloc: Global, fs: &mut Handle, path: &[
     ensures call { AsksAt ask.Mkdir path.now at result fs.old.volume fs.new.volume }
     ensures number { IsNumber result }
 {
-    number(byte_calls::on_path(alloc, fs.volume(), PathCall::Mkdir, path, at))
+    number(byte_calls::mkdir(alloc, fs.volume(), path, at))
 }
 
 /// Makes an empty file where nothing stands.
@@ -27,7 +26,7 @@ pub extern "C" fn doorvervain_raw_create(alloc: Global, fs: &mut Handle, path: &
     ensures call { AsksAt ask.Create path.now at result fs.old.volume fs.new.volume }
     ensures number { IsNumber result }
 {
-    number(byte_calls::on_path(alloc, fs.volume(), PathCall::Create, path, at))
+    number(byte_calls::create(alloc, fs.volume(), path, at))
 }
 
 /// Takes a file out.
@@ -36,7 +35,7 @@ pub extern "C" fn doorvervain_raw_unlink(alloc: Global, fs: &mut Handle, path: &
     ensures call { AsksAt ask.Unlink path.now at result fs.old.volume fs.new.volume }
     ensures number { IsNumber result }
 {
-    number(byte_calls::on_path(alloc, fs.volume(), PathCall::Unlink, path, at))
+    number(byte_calls::unlink(alloc, fs.volume(), path, at))
 }
 
 /// Takes an empty directory out.
@@ -45,7 +44,7 @@ pub extern "C" fn doorvervain_raw_rmdir(alloc: Global, fs: &mut Handle, path: &[
     ensures call { AsksAt ask.Rmdir path.now at result fs.old.volume fs.new.volume }
     ensures number { IsNumber result }
 {
-    number(byte_calls::on_path(alloc, fs.volume(), PathCall::Rmdir, path, at))
+    number(byte_calls::rmdir(alloc, fs.volume(), path, at))
 }
 
 /// Takes a file out, or a directory with all below it.
@@ -54,7 +53,7 @@ pub extern "C" fn doorvervain_raw_rmtree(alloc: Global, fs: &mut Handle, path: &
     ensures call { AsksAt ask.Rmtree path.now at result fs.old.volume fs.new.volume }
     ensures number { IsNumber result }
 {
-    number(byte_calls::on_path(alloc, fs.volume(), PathCall::Rmtree, path, at))
+    number(byte_calls::rmtree(alloc, fs.volume(), path, at))
 }
 
 /// Moves what stands at the first path to the second.

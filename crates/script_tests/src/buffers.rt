@@ -1,7 +1,7 @@
 //! Calls by texts and buffers of more than a block, with ample memory: no contract can say that memory is found.
 use crate::asked::{USUAL, freeze, new_volume};
 use crate::pieces::{Piece, built};
-use byte_calls::{PathCall, frozen_readdir, load, on_path, print, read, readdir, stat, write};
+use byte_calls::{create, frozen_readdir, load, print, read, readdir, stat, write};
 use images::LoadFault;
 use reference::Meta;
 use std::alloc::Global;
@@ -9,7 +9,7 @@ use volume::{Frozen, Volume};
 
 /// Whether the file is made. No function that asks ensures anything, so that no proof of a test reads the contract of a call.
 fn makes(alloc: Global, volume: &mut Volume) -> bool {
-    on_path(alloc, volume, PathCall::Create, b"/f", 1).is_ok()
+    create(alloc, volume, b"/f", 1).is_ok()
 }
 
 /// Whether bytes are written into the file, from its third on.
