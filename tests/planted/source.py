@@ -20,11 +20,12 @@ CLAUSE = re.compile(r"(\b(requires|ensures)\b\s*\*?\s*(\w+\s*)?|\bghost\s+\w+\s*
 ITEM = re.compile(
     r"(?P<public>pub\b(?P<within>\s*\([^)]*\))?\s*)?((unsafe|async|extern)\b\s*)*"
     r"(const\s+(?=(unsafe\s+|extern\s+)*fn\b))?((unsafe|extern)\b\s*)*"
-    r"(?P<kind>fn|struct|enum|union|trait|type|const|static|impl|mod|use|ghost\s+use|ghost|law)\b\s*(?P<name>\w+)?"
+    r"(?P<kind>fn|struct|enum|union|trait|type|const|static|impl|mod|use|ghost\s+use|ghost|law|macro_rules(?=\s*!))\b\s*!?\s*(?P<name>\w+)?"
 )
 ATTRIBUTE = re.compile(r"#\s*!?\s*(?=\[)")
-# Kinds whose items end with a block, if they have one; the others end with a semicolon.
-WITH_BLOCK = ("struct", "enum", "union", "trait", "impl", "mod")
+# Kinds whose items end with a block, if they have one; the others end with a semicolon. A macro states nothing: what it writes into a
+# function is a part of that body.
+WITH_BLOCK = ("struct", "enum", "union", "trait", "impl", "mod", "macro_rules")
 HOLDERS = ("trait", "impl", "mod")
 
 

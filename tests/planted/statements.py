@@ -163,7 +163,7 @@ class Reading:
             elif item.name in self.closed:
                 yield self.part(item, [], names=frozenset({item.name}))
                 yield self.whole(item, needs=frozenset({item.name}), is_inside=True)
-            elif item.kind != "mod" and not is_import(item):
+            elif item.kind not in ("mod", "macro_rules") and not is_import(item):
                 yield self.whole(item, names=frozenset({item.name, *variants(self.source, item)}))
 
     def whole(self, item: Item, **how) -> Statement:
