@@ -53,10 +53,14 @@ not_called : (c : Call) (at : ℕ) (v : PVolume) → Called c at (Fault ENOMEM) 
 not_called c at v = lacks_call v c at (live_of v) refl
 
 -- no path was read: the text is none, or memory was refused
-pub unread : (call : Path → Call) (at : ℕ) (read answer : Result Path Errno) (e : Errno) (v : PVolume) → IsOrLacksMemory answer read → answer ≡ Err e → Asks (asked call read) at (Err e) v v
+unread : (call : Path → Call) (at : ℕ) (read answer : Result Path Errno) (e : Errno) (v : PVolume) → IsOrLacksMemory answer read → answer ≡ Err e → Asks (asked call read) at (Err e) v v
 unread call at read answer e v (inl is) err = subst (λ (r : Result Path Errno). Asks (asked call r) at (Err e) v v) (sym err ∙ is) (refl, refl)
 unread call at read answer e v (inr lacks) err = lacking read lacks.1
   where
     lacking : (r : Result Path Errno) → IsOk r → Asks (asked call r) at (Err e) v v
     lacking (Ok p) some = let same : e ≡ ENOMEM = (cc) in subst (λ (x : Errno). Called (call p) at (Fault x) v v) (sym same) (not_called (call p) at v)
     lacking (Err f) some = absurd (cc)
+
+-- so the call is answered by the error that came of reading its path
+pub not_read : (call : Path → Call) (at : ℕ) (read answer : Result Path Errno) (e : Errno) (told : Result (Unit {0}) Errno) (v : PVolume) → IsOrLacksMemory answer read → answer ≡ Err e → told ≡ Err e → Asks (asked call read) at told v v
+not_read call at read answer e told v is err same = subst (λ (r : Result (Unit {0}) Errno). Asks (asked call read) at r v v) (sym same) (unread call at read answer e v is err)

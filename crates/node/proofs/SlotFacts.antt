@@ -4,12 +4,25 @@ use Rattle.message.specs.Ranges.{reaches}
 use Rattle.message.specs.Effects.{effects}
 use Rattle.node.specs.Meaning.{value, slots_value, slot_number}
 use Rattle.node.specs.declared.node.Slot.{Slot}
-use Rattle.node.specs.See.{seen_slots}
+use Rattle.node.specs.Pure.{PNode, inner, slots}
+use Rattle.node.specs.See.{see_slot, seen_slots}
 use Rattle.node.specs.Searchable.{AreRising}
+use Rattle.std.specs.Prelude.{◌++◌, OnErr, Result, Ok, Err, drop, map, take}
+use Rattle.std.proofs.lemmas.List.{append-nil, drop_all, length-map, take_all}
 use Rattle.std.specs.List.Sorted.{IsPartitionedBy, IsPartitionPoint}
 use Rattle.pathkey.proofs.KeyOrder.{reaches-from_before, le_le}
 
 module _ {U V : Type 0} where
+  -- slots that were lent as a whole and mean what they meant: where there is an error, the node is as it was
+  pub lent_back : {T E : Type 0} (r : Result T E) (n : ℕ) (items lent new : List (Slot U V)) (node : PNode U V) → length lent ≡ n → lent ≡ items → map see_slot new ≡ map see_slot lent → inner (seen_slots items) ≡ node → OnErr r (inner (seen_slots (take n (new ++ drop (length new) items))) ≡ node)
+  lent_back (Ok x) n items lent new node l is same e = tt
+  lent_back (Err x) n items lent new node l is same e =
+      let seen : map see_slot new ≡ map see_slot items = same ∙ ap (map see_slot) is in
+      let long : length new ≡ length items = sym (length-map new see_slot) ∙ ap length seen ∙ length-map items see_slot in
+      let all : length items ≡ n = sym (ap length is) ∙ l in
+      let whole : new ++ drop (length new) items ≡ new = ap (λ z. new ++ z) (drop_all (length new) items (omega (arith, long))) ∙ append-nil new in
+      ap (λ z. inner (seen_slots z)) (ap (take n) whole ∙ take_all n new (omega (arith, long, all))) ∙ ap (λ z. inner (slots z)) seen ∙ e
+
   -- the slot whose successor is the first that begins above k
   pub slot_number_is : (k : List ℕ) (ss : List (Slot U V)) (i : ℕ) → i < length ss → ((j : ℕ) (d : Slot U V) → j < i → reaches (get_or ss (suc j) d).lo k ≡ true) → ((d : Slot U V) → suc i < length ss → reaches (get_or ss (suc i) d).lo k ≡ false) → i ≡ slot_number (seen_slots ss) k
   slot_number_is k [] i h up stop = absurd (omega arith)

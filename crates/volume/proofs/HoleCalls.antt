@@ -1,18 +1,16 @@
 -- From what a hole was compiled to, and sent, to what became of the volume.
 use Rattle.std.proofs.Common.{arith, ◌≡◌, ℕ, Bool, true, false, cond, refl, sym, ap, subst, ◌∙◌, inr, Ok, Err}
-use Rattle.std.specs.Prelude.{Result, OnErr, ◌&&◌}
+use Rattle.std.specs.Prelude.{Result, ◌&&◌}
 use Rattle.block_index.specs.Updates.{means as block_means}
 use Rattle.block_index.specs.declared.index.BlockIndex.{BlockIndex}
-use Rattle.call_compiler.specs.Compiled.{Messages, MeanTree, messages, no_messages}
+use Rattle.call_compiler.specs.Compiled.{Messages, MeanTree, no_messages}
 use Rattle.call_compiler.specs.Punched.{IsPunched, zeroing}
-use Rattle.call_compiler.specs.declared.batch.Batch.{Batch}
 use Rattle.call_compiler.proofs.Appending.{meant_after}
 use Rattle.meta_index.specs.Updates.{means as meta_means}
 use Rattle.meta_index.specs.declared.index.MetaIndex.{MetaIndex}
 use Rattle.pathkey.specs.Keys.{block_key}
 use Rattle.pathkey.specs.Names.{Path}
 use Rattle.pathkey.specs.declared.errno.Errno.TheVariants.{ENOMEM}
-use Rattle.pathkey.specs.declared.errno.NoMemory.{NoMemory}
 use Rattle.reference.specs.Calls.{does, is_done}
 use Rattle.reference.specs.Tree.{Tree}
 use Rattle.reference.specs.Worlds.{World, Fits, Replied, next}
@@ -21,12 +19,12 @@ use Rattle.reference.specs.declared.reply.Reply.{Reply}
 use Rattle.reference.specs.declared.reply.Reply.TheVariants.{Fault}
 use Rattle.reference.proofs.Unique.{one_meaning}
 use Rattle.volume.specs.Changes.{Does}
-use Rattle.volume.specs.Holes.{Arrives, Compiles, Punches, Sent, hole_in}
-use Rattle.volume.specs.Marked.{PLive, KeepsMarks, Stands}
+use Rattle.volume.specs.Holes.{Punches, hole_in}
+use Rattle.volume.specs.Marked.{PLive, KeepMarkedLists, KeepsMarks, Stands}
 use Rattle.volume.specs.Rooted.{after_call, reply_to}
 use Rattle.volume.specs.Typed.{IsCount}
 use Rattle.volume.specs.Volumes.{PVolume, IsVolume, Means, live_of}
-use Rattle.volume.proofs.Leading.{volume, called, kept_same, nothing_comes, same_live}
+use Rattle.volume.proofs.Leading.{Arriving, volume, called, kept_same, nothing_comes, same_live}
 use Rattle.volume.proofs.Trees.{Appends, nothing_appended, receives}
 use Rattle.volume.proofs.Typing.{of_kind}
 
@@ -56,10 +54,7 @@ module _ (v : PVolume) (is : IsVolume v) (p : Path) (off n at : ℕ) (l : PLive)
   abbrev new : PVolume
   new = volume l v.live.modified v.snapshots
 
-  appends : (msgs : Messages) → Arrives msgs (live_of v) l → Appends msgs v.live.indexes l.indexes
-  appends msgs arrives = record { taken = arrives.taken; no_meta = arrives.no_meta; no_block = arrives.no_block }
-
-  module _ (r : Reply) (msgs : Messages) (made : IsPunched v.live.indexes p off n at r msgs) (arrives : Arrives msgs (live_of v) l) (marks : l.marks ≡ v.marks) (kept : KeepsMarks (live_of v) l) where
+  module _ (r : Reply) (msgs : Messages) (made : IsPunched v.live.indexes p off n at r msgs) (arrives : Appends msgs v.live.indexes l.indexes) (lists : KeepMarkedLists msgs (live_of v) l) (marks : l.marks ≡ v.marks) (kept : KeepsMarks (live_of v) l) where
     -- the write of zeros in the one tree that is meant
     does_it : (w : World) → Means v w → Does (zeroing p off n w.live) at r v.live.indexes l.indexes
     does_it w m t meant =
@@ -69,7 +64,7 @@ module _ (v : PVolume) (is : IsVolume v) (p : Path) (off n at : ℕ) (l : PLive)
         (made.reply w.live m.live.indexes, meant_after (does at w.live c).0 v.live.indexes l.indexes msgs (made.tree w.live m.live.indexes) arrives.taken)
 
     same_volume : msgs ≡ no_messages → new ≡ v
-    same_volume none = ap (λ (k : PLive). volume k v.live.modified v.snapshots) (same_live (live_of v) l (nothing_appended v.live.indexes l.indexes msgs none (appends msgs arrives)) marks)
+    same_volume none = ap (λ (k : PLive). volume k v.live.modified v.snapshots) (same_live (live_of v) l (nothing_appended v.live.indexes l.indexes msgs none arrives) marks)
 
     punched : Punches p off n at r v new
     punched = record {
@@ -81,7 +76,7 @@ module _ (v : PVolume) (is : IsVolume v) (p : Path) (off n at : ℕ) (l : PLive)
         few = made.few;
         meta = receives meta_means msgs.meta v.live.indexes.meta.tree l.indexes.meta.tree arrives.taken.meta (λ e. ap (λ (x : MetaIndex). x.tree) (arrives.no_meta e));
         block = receives block_means msgs.block v.live.indexes.block.tree l.indexes.block.tree arrives.taken.block (λ e. ap (λ (x : BlockIndex). x.tree) (arrives.no_block e));
-        lists = arrives.lists;
+        lists = lists;
       };
       gone = λ m e i li low high. arrives.taken.block.value_after (block_key p i) ∙ made.gone is.world.live is.means.live.indexes m e i li low high;
       snapshots = refl;
@@ -89,17 +84,15 @@ module _ (v : PVolume) (is : IsVolume v) (p : Path) (off n at : ℕ) (l : PLive)
       kept = kept;
     }
 
-  -- what the live indexes answered
-  pub answered_hole : (compiled : Result (Reply × Batch) NoMemory) (a : Result Reply NoMemory) → Compiles v.live.indexes p off n at compiled → Sent compiled a (live_of v) l → OnErr a (l ≡ live_of v) → l.marks ≡ v.marks → KeepsMarks (live_of v) l → Punches p off n at (reply_to a) v new
-  answered_hole compiled (Ok r) made (b, e, arrives) err marks kept = punched r (messages b) (subst (Compiles v.live.indexes p off n at) e made) arrives marks kept
-  answered_hole compiled (Err x) made sent err marks kept = lacks_hole v p off n at l err
+  -- what is replied
+  pub answered_hole : {T E : Type 0} (r : Reply) (msgs : Messages) (a : Result T E) → IsPunched v.live.indexes p off n at r msgs → Arriving msgs a (live_of v) l → Punches p off n at (reply_to a r) v new
+  answered_hole r msgs (Ok x) made h = punched r msgs made (record { taken = h.taken; no_meta = h.no_meta; no_block = h.no_block }) h.lists h.marks h.kept
+  answered_hole r msgs (Err e) made h = lacks_hole v p off n at l h.err
 
   -- its kind
-  pub hole_count : (compiled : Result (Reply × Batch) NoMemory) (a : Result Reply NoMemory) → Compiles v.live.indexes p off n at compiled → Sent compiled a (live_of v) l → IsCount (reply_to a)
-  hole_count compiled (Ok r) made (b, e, arrives) =
-      let is_made : IsPunched v.live.indexes p off n at r (messages b) = subst (Compiles v.live.indexes p off n at) e made in
-      subst IsCount (sym (is_made.reply is.world.live is.means.live.indexes)) (of_kind (zeroing p off n is.world.live) at is.world.live)
-  hole_count compiled (Err x) made sent = tt
+  pub hole_count : {T E : Type 0} (r : Reply) (msgs : Messages) (a : Result T E) → IsPunched v.live.indexes p off n at r msgs → IsCount (reply_to a r)
+  hole_count r msgs (Ok x) made = subst IsCount (sym (made.reply is.world.live is.means.live.indexes)) (of_kind (zeroing p off n is.world.live) at is.world.live)
+  hole_count r msgs (Err e) made = tt
 
   -- the type of volumes keeps what it keeps
   pub hole_lasts : (r : Reply) → Punches p off n at r v new → Stands l → IsVolume new

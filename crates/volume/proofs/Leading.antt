@@ -1,6 +1,6 @@
 -- From what a call did to a volume to what it means: the answer fits each world that was meant, and the next one is meant.
 use Rattle.std.proofs.Common.{◌≡◌, ℕ, ◌+◌, ◌<◌, ◌≤◌, List, Bool, true, false, cond, refl, sym, ap, subst, ◌∙◌, inl, inr, Option, Some, None, Ok, Err, arith, ◌-◌, []}
-use Rattle.std.specs.Prelude.{◌&&◌, Result, IsOk, IfOk, OnErr, IfSome, IfNone}
+use Rattle.std.specs.Prelude.{◌&&◌, Result, IsOk, OnErr, IfSome, IfNone, OnOk}
 use Rattle.std.specs.Result.{IsErrAnd}
 use Rattle.std.specs.FinMap as finite
 use Rattle.std.proofs.lemmas.Bool.{lt-leb, le-leb}
@@ -35,7 +35,8 @@ use Rattle.volume.specs.declared.event.Index.TheVariants.{Meta, Block}
 use Rattle.volume.specs.declared.event.Relief.{Relief}
 use Rattle.volume.specs.declared.event.Step.{Step}
 use Rattle.node.specs.declared.step.StepReply.{StepReply}
-use Rattle.call_compiler.specs.Compiled.{no_messages, touches_root, MeanTree}
+use Rattle.call_compiler.specs.Compiled.{IsCompiled, Messages, no_messages, touches_root, MeanTree}
+use Rattle.call_compiler.specs.Laws.{HaveTaken}
 use Rattle.call_compiler.proofs.RootMoment.{root_moment}
 use Rattle.call_compiler.proofs.Compiling.{nothing_sent}
 use Rattle.volume.specs.Rooted.{after_call, reply_to}
@@ -43,7 +44,7 @@ use Rattle.volume.specs.Volumes.{Kept, PVolume, Alike, MeanRooted, Means, IsVolu
 use Rattle.volume.specs.declared.rooted.Rooted.{Rooted}
 use Rattle.volume.specs.Changes.{Leads, Does, Batched, Called, Settles, KeptAs, Dropped, Restored, StepsLive, Stepped}
 use Rattle.volume.proofs.Pairs.{same_names, alike_insert, alike_remove, found_alike, same_len}
-use Rattle.volume.proofs.Trees.{tree_kept, tree_same_values, step_same}
+use Rattle.volume.proofs.Trees.{Appends, compiled_batched, compiled_does, nothing_appended, tree_kept, tree_same_values, step_same}
 
 -- a volume of these parts
 abbrev pub volume : PLive → ℕ → Kept → PVolume
@@ -116,22 +117,26 @@ call_done v c at r l does_it refused batch marks kept = record {
   kept = kept;
 }
 
--- what the live indexes answered to a call
-pub record Answered {E : Type 0} (c : Call) (at : ℕ) (a : Result Reply E) (old new : PLive) : Type 0 where
-  pub done : IfOk a (λ r. Does c at r old.indexes new.indexes)
-  pub refused : IfOk a (λ r. (e : Errno) → r ≡ Fault e → new.indexes ≡ old.indexes)
-  pub batch : IfOk a (λ _. Batched c at old new)
+-- what became of live indexes to which messages were to be appended
+pub record Arriving {T E : Type 0} (msgs : Messages) (a : Result T E) (old new : PLive) : Type 0 where
+  pub taken : OnOk a (HaveTaken msgs old.indexes new.indexes)
+  pub no_meta : msgs.meta ≡ [] → new.indexes.meta ≡ old.indexes.meta
+  pub no_block : msgs.block ≡ [] → new.indexes.block ≡ old.indexes.block
+  pub lists : OnOk a (KeepMarkedLists msgs old new)
   pub err : OnErr a (new ≡ old)
   pub marks : new.marks ≡ old.marks
   pub kept : KeepsMarks old new
 
-pub answered : {E : Type 0} (v : PVolume) (c : Call) (at : ℕ) (a : Result Reply E) (l : PLive) → Answered c at a (live_of v) l → Called c at (reply_to a) v (volume l (after_call (touches_root c) (reply_to a) at v.live.modified) v.snapshots)
-answered v c at (Ok r) l h = call_done v c at r l h.done h.refused h.batch h.marks h.kept
-answered v c at (Err e) l h = lacks_call v c at l h.err
+pub answered : {T E : Type 0} (v : PVolume) (c : Call) (at : ℕ) (r : Reply) (msgs : Messages) (a : Result T E) (l : PLive) → IsCompiled v.live.indexes c at r msgs → Arriving msgs a (live_of v) l → Called c at (reply_to a r) v (volume l (after_call (touches_root c) (reply_to a r) at v.live.modified) v.snapshots)
+answered v c at r msgs (Ok x) l made h =
+    let appends : Appends msgs v.live.indexes l.indexes = record { taken = h.taken; no_meta = h.no_meta; no_block = h.no_block } in
+    call_done v c at r l (compiled_does v.live.indexes l.indexes c at r msgs made h.taken) (λ e f. nothing_appended v.live.indexes l.indexes msgs (made.fault e f) appends)
+    (compiled_batched (live_of v) l c at r msgs made appends h.lists) h.marks h.kept
+answered v c at r msgs (Err e) l made h = lacks_call v c at l h.err
 
-pub answered_lasts : {E : Type 0} (v : PVolume) (c : Call) (at : ℕ) (a : Result Reply E) (l : PLive) → IsVolume v → Answered c at a (live_of v) l → Stands l → IsVolume (volume l (after_call (touches_root c) (reply_to a) at v.live.modified) v.snapshots)
-answered_lasts v c at a l is h stands =
-    lasts v (volume l (after_call (touches_root c) (reply_to a) at v.live.modified) v.snapshots) (Ask c at) (Replied (reply_to a)) is (answered v c at a l h).leads is.few stands
+pub answered_lasts : {T E : Type 0} (v : PVolume) (c : Call) (at : ℕ) (r : Reply) (msgs : Messages) (a : Result T E) (l : PLive) → IsVolume v → IsCompiled v.live.indexes c at r msgs → Arriving msgs a (live_of v) l → Stands l → IsVolume (volume l (after_call (touches_root c) (reply_to a r) at v.live.modified) v.snapshots)
+answered_lasts v c at r msgs a l is made h stands =
+    lasts v (volume l (after_call (touches_root c) (reply_to a r) at v.live.modified) v.snapshots) (Ask c at) (Replied (reply_to a r)) is (answered v c at r msgs a l made h).leads is.few stands
 
 -- ---- snapshot calls
 

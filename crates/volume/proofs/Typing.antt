@@ -1,6 +1,6 @@
 -- A call's reply is of the call's kind, and a call that only looks changes nothing.
 use Rattle.std.proofs.Common.{◌≡◌, ◌⊎◌, ℕ, List, [], ◌∷◌, length, Bool, true, false, cond, refl, sym, ap, subst, ◌∙◌, Option, inl, inr}
-use Rattle.std.specs.Prelude.{◌&&◌, Result, Ok, Err, IfOk}
+use Rattle.std.specs.Prelude.{◌&&◌, Result, Ok, Err}
 use Rattle.std.proofs.lemmas.Bool.{cond_both}
 use Rattle.call_compiler.specs.Compiled.{IsCompiled, Messages, MeanTree, Sends, no_messages, touches_root}
 use Rattle.call_compiler.specs.declared.indexes.Indexes.{Indexes}
@@ -74,9 +74,9 @@ refusal (AskStat p) e = tt
 refusal (Readdir p) e = tt
 
 -- and so is want of memory
-pub answered_kind : {E : Type 0} (c : Call) (a : Result Reply E) → IfOk a (IsOfKind c) → IsOfKind c (reply_to a)
-answered_kind c (Ok r) h = h
-answered_kind c (Err e) h = refusal c ENOMEM
+pub answered_kind : {T E : Type 0} (c : Call) (a : Result T E) (r : Reply) → IsOfKind c r → IsOfKind c (reply_to a r)
+answered_kind c (Ok x) r h = h
+answered_kind c (Err e) r h = refusal c ENOMEM
 
 -- the reply of a call that was compiled over indexes that mean a tree is of its kind
 pub compiled_kind : (c : Call) (at : ℕ) (r : Reply) (msgs : Messages) (i : Indexes) (t : Tree) → MeanTree i t → IsCompiled i c at r msgs → IsOfKind c r

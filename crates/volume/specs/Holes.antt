@@ -1,9 +1,8 @@
 -- What became of a volume in which a part of a file was made zeros.
-use Rattle.std.specs.Prelude.{◌≡◌, ◌≤◌, ◌<◌, ◌*◌, ◌+◌, ℕ, [], length, None, Result, Ok, IfOk}
+use Rattle.std.specs.Prelude.{◌≡◌, ◌≤◌, ◌<◌, ◌*◌, ◌+◌, ℕ, length, None, Result, IfOk}
 use Rattle.block_index.specs.Means.{blocks}
 use Rattle.block_index.specs.Updates.{means as block_means}
 use Rattle.call_compiler.specs.Compiled.{Messages, messages}
-use Rattle.call_compiler.specs.Laws.{HaveTaken}
 use Rattle.call_compiler.specs.Punched.{IsPunched, zeroing}
 use Rattle.call_compiler.specs.declared.batch.Batch.{Batch}
 use Rattle.call_compiler.specs.declared.indexes.Indexes.{Indexes}
@@ -19,17 +18,6 @@ use Rattle.reference.specs.declared.reply.Reply.TheVariants.{Count, Fault}
 use Rattle.volume.specs.Changes.{Receives}
 use Rattle.volume.specs.Marked.{PLive, KeepMarkedLists, KeepsMarks}
 use Rattle.volume.specs.Volumes.{PVolume, Means, live_of}
-
--- messages were appended to live indexes, each half to its own: an index that gets none is not touched, and marked lists stay in front
-pub record Arrives (msgs : Messages) (old new : PLive) : Type 0 where
-  pub taken : HaveTaken msgs old.indexes new.indexes
-  pub no_meta : msgs.meta ≡ [] → new.indexes.meta ≡ old.indexes.meta
-  pub no_block : msgs.block ≡ [] → new.indexes.block ≡ old.indexes.block
-  pub lists : KeepMarkedLists msgs old new
-
--- what was compiled was sent: the reply is its reply, and its messages were appended
-abbrev pub Sent : Result (Reply × Batch) NoMemory → Result Reply NoMemory → PLive → PLive → Type 0
-Sent compiled told old new = IfOk told (λ r. (b : Batch) × (compiled ≡ Ok (r, b)) × Arrives (messages b) old new)
 
 -- what a hole of n bytes at off is compiled to, unless memory was refused
 abbrev pub Compiles : Indexes → Path → ℕ → ℕ → ℕ → Result (Reply × Batch) NoMemory → Type 0

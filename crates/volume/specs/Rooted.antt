@@ -9,10 +9,10 @@ use Rattle.reference.specs.declared.reply.Reply.{Reply}
 use Rattle.reference.specs.declared.reply.Reply.TheVariants.{Fault}
 use Rattle.pathkey.specs.declared.errno.Errno.TheVariants.{ENOMEM}
 
--- the reply of a call, or want of memory
-abbrev pub reply_to : {E : Type 0} → Result Reply E → Reply
-reply_to (Ok r) = r
-reply_to (Err e) = Fault ENOMEM
+-- the reply of a call whose messages were to be appended, or want of memory
+abbrev pub reply_to : {T E : Type 0} → Result T E → Reply → Reply
+reply_to (Ok x) r = r
+reply_to (Err e) r = Fault ENOMEM
 
 -- a call that is done, and puts an entry into the root or takes one out, gives it its own moment
 abbrev pub after_call : Bool → Reply → ℕ → ℕ → ℕ

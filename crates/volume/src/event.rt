@@ -14,7 +14,7 @@ pub enum Index {
     Block,
 }
 
-/// Does the same with the tree of the index that is named: the one place where an index becomes a tree.
+/// Does the same with the tree of the index that is named, to look at it.
 macro_rules! in_tree {
     ($indexes:expr, $index:expr, $tree:ident => $what:expr) => {
         match $index {

@@ -1,20 +1,15 @@
 //! The live indexes of a volume, with the marks of the jobs taken from their trees.
 ghost use Rattle.std.specs.Prelude.{◌≡◌, ◌↔◌, ℕ, [], None, IfOk, IfNone, IfSome, OnErr, OnOk};
-ghost use Rattle.call_compiler.specs.Compiled.{MeanTree, messages};
+ghost use Rattle.call_compiler.specs.Compiled.{messages};
 ghost use Rattle.call_compiler.specs.Laws.{HaveTaken};
-ghost use Rattle.pathkey.specs.declared.errno.Errno.{Errno as Refusal};
-ghost use Rattle.reference.specs.Tree.{Tree};
-ghost use Rattle.reference.specs.declared.call.Call.{Call as FileCall};
-ghost use Rattle.volume.specs.Changes.{Does, Batched, StepsLive};
-ghost use Rattle.volume.specs.Holes.{Sent};
+ghost use Rattle.volume.specs.Changes.{StepsLive};
 ghost use Rattle.volume.specs.Jobs.{AnswersTaking, AnswersInstalling, DoneFits, mark_count};
 ghost use Rattle.volume.specs.Marked.{KeepMarkedLists, KeepsMarks, Stands, no_marks, without_mark};
 ghost use Rattle.volume.specs.Told.{HeaviestIn, pending_in};
-ghost use Rattle.volume.specs.Typed.{Compiles, IsOfKind};
 
 use crate::event::{Index, Relief, Step, in_tree};
 use crate::job::{Done, InstallReply, Job, TakeReply};
-use call_compiler::{Batch, Indexes, Reply};
+use call_compiler::{Batch, Indexes};
 use flush::heaviest;
 use jobs::{Load, Marks, Ticket};
 use node::{StepReply, TreeStep, append_both_kept};
@@ -24,7 +19,8 @@ use std::marker::Model;
 use steps::{Lane, make_room, part_ahead, relieve_in};
 
 // The updates of the two indexes differ in type, so that no function can be given either's tree. What is done alike in both is
-// written once, as a macro, and `in_tree` is where an index becomes a tree.
+// written once, as a macro. Where a tree is only looked at, `in_tree` makes a tree of an index; `step`, `load` and `take_job`
+// choose it with its marks.
 
 /// Takes a job of the slot of an index's root, and counts it.
 macro_rules! take_in {
@@ -162,26 +158,6 @@ impl Live {
             block,
             block_kept.as_slice(),
         )
-    }
-
-    /// Does a file call that was compiled: appends its messages. It fails only for want of memory, and then changes nothing.
-    pub fn send(
-        &mut self,
-        alloc: Global,
-        compiled: Result<(Reply, Batch), NoMemory>,
-    ) -> Result<Reply, NoMemory>
-        ensures done { (c : FileCall) (at : ℕ) → Compiles self.old.indexes c at compiled → IfOk result (λ r. Does c at r self.old.indexes self.new.indexes) }
-        ensures kind { (c : FileCall) (at : ℕ) → Compiles self.old.indexes c at compiled → (t : Tree) → MeanTree self.old.indexes t → IfOk result (λ r. IsOfKind c r) }
-        ensures refused { (c : FileCall) (at : ℕ) → Compiles self.old.indexes c at compiled → IfOk result (λ r. (e : Refusal) → r ≡ Reply.Fault e → self.new.indexes ≡ self.old.indexes) }
-        ensures batch { (c : FileCall) (at : ℕ) → Compiles self.old.indexes c at compiled → IfOk result (λ r. Batched c at self.old self.new) }
-        ensures sent { Sent compiled result self.old self.new }
-        ensures err { OnErr result (self.new ≡ self.old) }
-        ensures marks { self.new.marks ≡ self.old.marks }
-        ensures kept { KeepsMarks self.old self.new }
-    {
-        let (reply, batch) = compiled?;
-        self.append(alloc, batch)?;
-        Ok(reply)
     }
 
     /// Does a tree step in the index that it names. Where it is done, the marks that do not outlive it go.

@@ -63,12 +63,12 @@ impl Model for Volume {
     ghost invariant = { λ v. IsVolume (record { live = record { indexes = v.live.indexes; modified = v.modified }; snapshots = v.snapshots; marks = v.live.marks }) };
 }
 
-/// The reply; ENOMEM where memory was refused.
-fn reply_to(answer: Result<Reply, NoMemory>) -> Reply
-    ensures { result ≡ reply_to answer }
+/// The reply of a call whose messages were to be appended; ENOMEM where memory was refused.
+fn reply_to(appended: Result<(), NoMemory>, reply: Reply) -> Reply
+    ensures { result ≡ reply_to appended reply }
 {
-    match answer {
-        Ok(reply) => reply,
+    match appended {
+        Ok(()) => reply,
         Err(NoMemory) => Reply::Fault(Errno::ENOMEM),
     }
 }
@@ -118,9 +118,12 @@ impl Volume {
         ensures called { (c : FileCall) → Asks self.old.live.indexes c at compiled in_root → Called c at result self.old self.new }
         ensures kind { (c : FileCall) → Compiles self.old.live.indexes c at compiled → IsOfKind c result }
     {
-        let answer = self.live.send(alloc, compiled);
+        let Ok((reply, batch)) = compiled else {
+            return Reply::Fault(Errno::ENOMEM);
+        };
+        let appended = self.live.append(alloc, batch);
         self.live.stands();
-        let reply = reply_to(answer);
+        let reply = reply_to(appended, reply);
         self.modified = after_call(&reply, in_root, at, self.modified);
         reply
     }
@@ -135,9 +138,12 @@ impl Volume {
         ensures punches { (p : Names) (off n at : ℕ) → HoleCompiles self.old.live.indexes p off n at compiled → Punches p off n at result self.old self.new }
         ensures count { (p : Names) (off n at : ℕ) → HoleCompiles self.old.live.indexes p off n at compiled → IsCount result }
     {
-        let answer = self.live.send(alloc, compiled);
+        let Ok((reply, batch)) = compiled else {
+            return Reply::Fault(Errno::ENOMEM);
+        };
+        let punched = self.live.append(alloc, batch);
         self.live.stands();
-        reply_to(answer)
+        reply_to(punched, reply)
     }
 
     /// Plants an entry with its moment, as an image that is loaded tells it: an empty directory, or a file of so many zeros. A directory

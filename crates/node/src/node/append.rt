@@ -181,33 +181,6 @@ fn append_one<U: Update>(alloc: Global, slots: &mut [Slot<U>], msg: Msg<U>) -> R
     push(&mut slots[i].pending, msg)
 }
 
-/// Puts messages behind what waits in the slots of two roots, as `append_slots` does: both or neither.
-fn append_both_slots<A: Update, B: Update>(
-    alloc: Global,
-    first: &mut [Slot<A>],
-    first_msgs: Vec<Msg<A>>,
-    first_kept: &[u32],
-    second: &mut [Slot<B>],
-    second_msgs: Vec<Msg<B>>,
-    second_kept: &[u32],
-) -> Result<(), NoMemory>
-    requires first { IsRoot (inner (seen_slots first.old)) }
-    requires second { IsRoot (inner (seen_slots second.old)) }
-    ensures first_ok { OnOk result (IsAppended A.means first_msgs.items (inner (seen_slots first.old)) (inner (seen_slots first.new))) }
-    ensures first_kept { OnOk result (KeepsLists first_kept.now first_msgs.items (inner (seen_slots first.old)) (inner (seen_slots first.new))) }
-    ensures first_err { OnErr result (map see_slot first.new ≡ map see_slot first.old) }
-    ensures second_ok { OnOk result (IsAppended B.means second_msgs.items (inner (seen_slots second.old)) (inner (seen_slots second.new))) }
-    ensures second_kept { OnOk result (KeepsLists second_kept.now second_msgs.items (inner (seen_slots second.old)) (inner (seen_slots second.new))) }
-    ensures second_err { OnErr result (map see_slot second.new ≡ map see_slot second.old) }
-{
-    let first_batch = prepare(alloc, first, first_msgs)?;
-    // Where this is refused, the first root has gained room and nothing else.
-    let second_batch = prepare(alloc, second, second_msgs)?;
-    put_batch(first, first_batch, first_kept);
-    put_batch(second, second_batch, second_kept);
-    Ok(())
-}
-
 impl<U: Update> Node<U> {
     /// Puts one message into the slots of a root.
     pub(crate) fn append_one(&mut self, alloc: Global, msg: Msg<U>) -> Result<(), NoMemory>
@@ -269,13 +242,12 @@ pub fn append_both_kept<A: Update, B: Update>(
         // A root is an inner node.
         unreachable!()
     };
-    append_both_slots(
-        alloc,
-        one.as_mut_slice(),
-        first_msgs,
-        first_kept,
-        two.as_mut_slice(),
-        second_msgs,
-        second_kept,
-    )
+    let one = one.as_mut_slice();
+    let two = two.as_mut_slice();
+    let first_batch = prepare(alloc, one, first_msgs)?;
+    // Where this is refused, the first root has gained room and nothing else.
+    let second_batch = prepare(alloc, two, second_msgs)?;
+    put_batch(one, first_batch, first_kept);
+    put_batch(two, second_batch, second_kept);
+    Ok(())
 }

@@ -1,31 +1,43 @@
-use Rattle.std.proofs.Common.{sym, subst}
+use Rattle.std.proofs.Common.{refl, sym, subst}
+use Rattle.call_compiler.specs.Compiled.{messages}
+use Rattle.call_compiler.specs.Punched.{IsPunched}
 use Rattle.reference.specs.declared.reply.Reply.{Reply}
 use Rattle.volume.specs.Holes.{Compiles, Punches}
 use Rattle.volume.specs.Typed.{IsCount}
-use Rattle.volume.specs.Volumes.{PVolume}
-use Rattle.volume.proofs.HoleCalls.{answered_hole, hole_count, hole_lasts}
-use Rattle.volume.proofs.Leading.{volume}
+use Rattle.volume.specs.Volumes.{PVolume, live_of}
+use Rattle.volume.proofs.HoleCalls.{answered_hole, hole_count, hole_lasts, lacks_hole}
+use Rattle.volume.proofs.Leading.{Arriving, volume}
 use Rattle.volume.proofs.volume.Volume.send_zeros.Goals as goal
+use Rattle.volume.proofs.volume.Volume.send_zeros.Goals.{After-reply_to}
+
+abbrev old : After-reply_to → PVolume
+old c = volume c.self.inside.live c.self.inside.modified c.self.inside.snapshots
+
+-- what became of the live indexes
+arriving : (c : After-reply_to) → Arriving (messages c.in-Ok.batch) c.append-punched.result (live_of (old c)) c.append-punched.new.self
+arriving c = let e = c.append-punched.ensures in record { taken = e.done; no_meta = e.no_meta; no_block = e.no_block; lists = e.lists; err = e.err; marks = e.marks; kept = e.kept }
 
 pub invariant_of-self : goal.invariant_of-self
 invariant_of-self c =
-    let old : PVolume = volume c.self.inside.live c.self.inside.modified c.self.inside.snapshots in
     let (p, off, n, at, given) = c.requires in
-    let made : Compiles old.live.indexes p off n at c.args.compiled = subst (λ (v : PVolume). Compiles v.live.indexes p off n at c.args.compiled) (sym c.self.view_is) given in
-    let e = c.send-answer.ensures in
-    hole_lasts old c.self.invariant p off n at c.send-answer.new.self _ (answered_hole old c.self.invariant p off n at c.send-answer.new.self c.args.compiled c.send-answer.result made e.sent e.err e.marks e.kept) c.stands.ensures
+    let made : IsPunched (old c).live.indexes p off n at c.in-Ok.reply (messages c.in-Ok.batch) = subst (Compiles (old c).live.indexes p off n at) c.in-Ok.is (subst (λ (v : PVolume). Compiles v.live.indexes p off n at c.args.compiled) (sym c.self.view_is) given) in
+    hole_lasts (old c) c.self.invariant p off n at c.append-punched.new.self _ (answered_hole (old c) c.self.invariant p off n at c.append-punched.new.self c.in-Ok.reply _ c.append-punched.result made (arriving c)) c.stands.ensures
 
 pub returns-clause-punches : goal.returns-clause-punches
 returns-clause-punches c = λ p off n at given.
-    let old : PVolume = volume c.self.inside.live c.self.inside.modified c.self.inside.snapshots in
-    let made : Compiles old.live.indexes p off n at c.args.compiled = subst (λ (v : PVolume). Compiles v.live.indexes p off n at c.args.compiled) (sym c.self.view_is) given in
-    let e = c.send-answer.ensures in
-    subst (λ (v : PVolume). Punches p off n at c.reply_to.result v (volume c.send-answer.new.self c.self.inside.modified c.self.inside.snapshots)) c.self.view_is
-    (subst (λ (r : Reply). Punches p off n at r old (volume c.send-answer.new.self c.self.inside.modified c.self.inside.snapshots)) (sym c.reply_to.ensures)
-    (answered_hole old c.self.invariant p off n at c.send-answer.new.self c.args.compiled c.send-answer.result made e.sent e.err e.marks e.kept))
+    let l = c.append-punched.new.self in
+    let made : IsPunched (old c).live.indexes p off n at c.in-Ok.reply (messages c.in-Ok.batch) = subst (Compiles (old c).live.indexes p off n at) c.in-Ok.is (subst (λ (v : PVolume). Compiles v.live.indexes p off n at c.args.compiled) (sym c.self.view_is) given) in
+    subst (λ (v : PVolume). Punches p off n at c.reply_to.result v (volume l c.self.inside.modified c.self.inside.snapshots)) c.self.view_is
+    (subst (λ (r : Reply). Punches p off n at r (old c) (volume l c.self.inside.modified c.self.inside.snapshots)) (sym c.reply_to.ensures)
+    (answered_hole (old c) c.self.invariant p off n at l c.in-Ok.reply _ c.append-punched.result made (arriving c)))
 
 pub returns-clause-count : goal.returns-clause-count
 returns-clause-count c = λ p off n at given.
-    let old : PVolume = volume c.self.inside.live c.self.inside.modified c.self.inside.snapshots in
-    let made : Compiles old.live.indexes p off n at c.args.compiled = subst (λ (v : PVolume). Compiles v.live.indexes p off n at c.args.compiled) (sym c.self.view_is) given in
-    subst IsCount (sym c.reply_to.ensures) (hole_count old c.self.invariant p off n at c.send-answer.new.self c.args.compiled c.send-answer.result made c.send-answer.ensures.sent)
+    let made : IsPunched (old c).live.indexes p off n at c.in-Ok.reply (messages c.in-Ok.batch) = subst (Compiles (old c).live.indexes p off n at) c.in-Ok.is (subst (λ (v : PVolume). Compiles v.live.indexes p off n at c.args.compiled) (sym c.self.view_is) given) in
+    subst IsCount (sym c.reply_to.ensures) (hole_count (old c) c.self.invariant p off n at c.append-punched.new.self c.in-Ok.reply _ c.append-punched.result made)
+
+pub returns-in_default-clause-punches : goal.returns-in_default-clause-punches
+returns-in_default-clause-punches c = λ p off n at given. lacks_hole c.args.self.now p off n at (live_of c.args.self.now) refl
+
+pub returns-in_default-clause-count : goal.returns-in_default-clause-count
+returns-in_default-clause-count c = λ p off n at given. tt

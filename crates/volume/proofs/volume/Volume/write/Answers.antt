@@ -1,4 +1,4 @@
-use Rattle.std.proofs.Common.{List, ℕ, refl, sym, subst}
+use Rattle.std.proofs.Common.{List, ℕ, refl, subst}
 use Rattle.reference.specs.declared.call.Call.TheVariants.{Write}
 use Rattle.reference.specs.declared.reply.Reply.TheVariants.{Count}
 use Rattle.volume.specs.Changes.{Called}
