@@ -1,12 +1,22 @@
 -- Cutting lines into words.
-use Rattle.std.proofs.Common.{eqb, ◌≡◌, ◌≢◌, ℕ, ◌+◌, ◌-◌, ◌<◌, List, [], ◌∷◌, ◌++◌, length, take, drop, get_or, sym, ap, refl, ◌∙◌, append_assoc, take-append-drop, None, Some, option_map}
+use Rattle.std.proofs.Common.{eqb, ◌≡◌, ◌≢◌, ℕ, ◌+◌, ◌-◌, ◌<◌, arith, List, [], ◌∷◌, ◌++◌, length, take, drop, get_or, sym, ap, refl, ◌∙◌, append_assoc, take-append-drop, None, Some, Option, option_map}
 use Rattle.std.specs.List.{All}
-use Rattle.std.proofs.lemmas.Bool.{cond-false, ne_eqb}
-use Rattle.std.proofs.lemmas.List.{take_more, take_rest, drop-drop}
-use Rattle.std.proofs.lemmas.List.Elements.{All-head, All-tail}
+use Rattle.std.specs.Prelude.{MatchOption, slice_index}
+use Rattle.std.proofs.lemmas.Bool.{cond-false, eq-eqb, eqb-true, ne_eqb}
+use Rattle.std.proofs.lemmas.List.{take_more, take_rest, drop-drop, get_or-take, length-take-le}
+use Rattle.std.proofs.lemmas.List.Elements.{All-from_get_or, All-head, All-tail}
+use Rattle.memchr.specs.Find.{IsFirstByte, is_byte}
 use Rattle.pathkey.specs.Texts.{pieces}
 use Rattle.pathkey.proofs.Pieces.{pieces_cut}
 use Rattle.lines.specs.Lines.{at_sign, words_of}
+
+-- a byte that is found is at no place before
+pub first_place : (w : ℕ) (xs : List ℕ) (r : Option ℕ) → IsFirstByte (is_byte w) xs r → MatchOption r (All (λ b. b ≢ w) xs) (λ i. (i < length xs) × (slice_index xs i ≡ w) × All (λ b. b ≢ w) (take i xs))
+first_place w xs None none = All-from_get_or (λ b. b ≢ w) xs 0 (λ i lt e. none i (omega arith) lt (eq-eqb (get_or xs i 0) w e))
+first_place w xs (Some k) found =
+    let high : k < length xs = found.0.high in
+    let long : length (take k xs) ≡ k = length-take-le k xs (omega arith) in
+    (high, eqb-true (get_or xs k 0) w found.1, All-from_get_or (λ b. b ≢ w) (take k xs) 0 (λ i lt e. found.0.before i (omega arith) (omega arith) (eq-eqb (get_or xs i 0) w (sym (get_or-take k xs i 0 (omega arith)) ∙ e))))
 
 -- a list before and after an element
 pub parted_at : (xs : List ℕ) (i x : ℕ) → i < length xs → get_or xs i 0 ≡ x → xs ≡ take i xs ++ (x ∷ drop (i + 1) xs)

@@ -2,6 +2,8 @@
 ghost use Rattle.std.specs.Prelude.{◌≡◌, ◌≢◌, ◌++◌, ◌<◌, [], ◌∷◌, All, MatchOption, length, take, option_map, slice_index};
 ghost use Rattle.lines.specs.Lines.{at_sign, words_of};
 
+use memchr::memchr;
+
 /// The first word of a line, and what follows its space; none where the line is one word.
 pub fn cut_word(line: &[u8]) -> Option<(&[u8], &[u8])>
     ensures { MatchOption result (words_of line.now ≡ line.now ∷ [])
@@ -52,5 +54,5 @@ fn place_of(text: &[u8], wanted: u8) -> Option<usize>
     ensures { MatchOption result (All (λ b. b ≢ wanted) text.now)
         (λ i. (i < length text.now) × (slice_index text.now i ≡ wanted) × All (λ b. b ≢ wanted) (take i text.now)) }
 {
-    text.iter().position(|byte| *byte == wanted)
+    memchr(wanted, text)
 }
