@@ -10,7 +10,6 @@ use std::rt::Clock;
 use std::sync::Wait;
 use std::thread::Threads;
 
-pub mod flushers;
 pub mod map;
 pub mod measure;
 pub mod table;

@@ -2,8 +2,8 @@
 //!
 //! `benches history SEED CALLS` makes about so many calls, and prints a line for each; without numbers it makes a few, and says how
 //! many there were. `tests/history/run` at the top asks whether one order explains them.
+use crate::flushers::Turns;
 use crate::history::call::Log;
-use crate::history::flushers::Turns;
 use crate::history::names::{FILES, SNAPSHOTS};
 use crate::history::print::print_log;
 use crate::history::run::{CLIENTS, FLUSHERS, Outcome, run};
@@ -17,7 +17,6 @@ use std::thread::Threads;
 
 pub mod call;
 pub mod draw;
-pub mod flushers;
 pub mod names;
 pub mod print;
 pub mod run;
@@ -89,9 +88,14 @@ fn show<R: Threads + Wait + Sync, W: Write + Drop>(
 /// Prints what came of a course, gathered into large writes.
 fn print_outcome<W: Write + Drop>(alloc: Global, outcome: &Outcome, out: W) -> anyhow::Result<()> {
     let mut out = BufWriter::new(alloc, out)?;
-    print_all(&mut out, outcome.logs.as_slice(), outcome.turns)?;
-    out.flush()?;
+    print_whole(&mut out, outcome)?;
     Ok(())
+}
+
+/// Prints what came of a course, to the end.
+fn print_whole<W: Write>(out: &mut W, outcome: &Outcome) -> io::Result<()> {
+    print_all(out, outcome.logs.as_slice(), outcome.turns)?;
+    out.flush()
 }
 
 /// Prints a line of what there is, the lines of all calls, and one of what flushers did.

@@ -5,23 +5,38 @@
 //! work is done, and without the first a little of each.
 #![tactic(auto)]
 
+use std::alloc::Global;
+use std::rt::Clock;
+use std::sync::Wait;
+use std::thread::Threads;
+
 pub mod clients;
+pub mod flushers;
 pub mod history;
 pub mod tree;
 
 fn main(rt: HostRuntime) -> anyhow::Result<()> {
     let words: Vec<String> = std::env::args(&rt)?.collect(rt.alloc())?;
-    let work = word_at(words.as_slice(), 2);
-    let calls = word_at(words.as_slice(), 3);
-    match word_at(words.as_slice(), 1) {
+    do_work(&rt, rt.alloc(), words.as_slice())
+}
+
+/// The work that the words name.
+fn do_work<R: Threads + Wait + Clock + Print + Eprint + Sync>(
+    rt: &R,
+    alloc: Global,
+    words: &[String],
+) -> anyhow::Result<()> {
+    let work = word_at(words, 2);
+    let calls = word_at(words, 3);
+    match word_at(words, 1) {
         "" => {
-            tree::do_work(&rt, work)?;
-            clients::do_work(&rt, rt.alloc(), work)?;
-            history::do_work(&rt, rt.alloc(), work, calls)
+            tree::do_work(rt, alloc, work)?;
+            clients::do_work(rt, alloc, work)?;
+            history::do_work(rt, alloc, work, calls)
         }
-        "tree" => tree::do_work(&rt, work),
-        "clients" => clients::do_work(&rt, rt.alloc(), work),
-        "history" => history::do_work(&rt, rt.alloc(), work, calls),
+        "tree" => tree::do_work(rt, alloc, work),
+        "clients" => clients::do_work(rt, alloc, work),
+        "history" => history::do_work(rt, alloc, work, calls),
         word => {
             eprintln!(rt; "benches: no such work: {word}")?;
             Ok(())

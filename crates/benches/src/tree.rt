@@ -4,8 +4,13 @@
 //! and prints nanoseconds an operation; `benches tree tree` and `benches tree map` do the appends alone, for a
 //! measurement of memory from outside.
 use crate::tree::measure::{ALL, LIMIT, appends, edits, look_ups};
+use crate::tree::number::Set;
 use crate::tree::work::{Appended, Numbers, append, insert, look_up, new_tree, settle};
+use node::Tree;
+use pathkey::NoMemory;
+use std::alloc::Global;
 use std::collections::BTreeMap;
+use std::rt::Clock;
 
 pub mod measure;
 pub mod number;
@@ -19,32 +24,77 @@ const FEW: Numbers = Numbers {
 };
 
 /// The work that a word names.
-pub fn do_work(rt: &HostRuntime, word: &str) -> anyhow::Result<()> {
-    let alloc = rt.alloc();
+pub fn do_work(
+    rt: &(impl Clock + Print + Eprint),
+    alloc: Global,
+    word: &str,
+) -> anyhow::Result<()> {
     match word {
-        "" => little(rt)?,
-        "measure" => {
-            look_ups(rt, alloc)?;
-            appends(rt, alloc)?;
-            edits(rt, alloc)?;
-        }
-        "tree" => append(alloc, &mut new_tree(alloc)?, Appended::Put, ALL, LIMIT)?,
+        "" => show_little(rt, alloc)?,
+        "measure" => measure_all(rt, alloc)?,
+        "tree" => append_all(alloc)?,
         "map" => insert(alloc, &mut BTreeMap::new(alloc), ALL)?,
         _ => eprintln!(rt; "benches tree: no such work: {word}")?,
     }
     Ok(())
 }
 
-/// A little of the work.
-fn little(rt: &HostRuntime) -> anyhow::Result<()> {
-    let alloc = rt.alloc();
-    let mut tree = new_tree(alloc)?;
-    append(alloc, &mut tree, Appended::Put, FEW, LIMIT)?;
-    settle(alloc, &mut tree);
-    let found = look_up(alloc, &tree, FEW)?;
+/// All that is measured.
+fn measure_all(rt: &(impl Clock + Print), alloc: Global) -> anyhow::Result<()> {
+    look_ups(rt, alloc)?;
+    appends(rt, alloc)?;
+    edits(rt, alloc)
+}
+
+/// The appends alone, to a new tree.
+fn append_all(alloc: Global) -> Result<(), NoMemory> {
+    match new_tree(alloc) {
+        Ok(mut tree) => append(alloc, &mut tree, Appended::Put, ALL, LIMIT),
+        Err(refused) => Err(refused),
+    }
+}
+
+/// What a little of the work comes to.
+#[derive(Clone, Copy)]
+struct Little {
+    /// How many keys are found.
+    found: u64,
+    /// How many messages wait then.
+    pending: u128,
+    /// How many wait after edits that join.
+    joined: u128,
+}
+
+/// A little of the work on a tree.
+fn do_little(alloc: Global, tree: &mut Tree<Set>) -> Result<Little, NoMemory> {
+    append(alloc, tree, Appended::Put, FEW, LIMIT)?;
+    settle(alloc, tree);
+    let found = look_up(alloc, tree, FEW)?;
     let pending = tree.pending();
-    append(alloc, &mut tree, Appended::Edit, FEW, usize::MAX)?;
+    append(alloc, tree, Appended::Edit, FEW, usize::MAX)?;
     let joined = tree.pending();
+    Ok(Little {
+        found,
+        pending,
+        joined,
+    })
+}
+
+/// The same on a new tree.
+fn do_little_anew(alloc: Global) -> Result<Little, NoMemory> {
+    match new_tree(alloc) {
+        Ok(mut tree) => do_little(alloc, &mut tree),
+        Err(refused) => Err(refused),
+    }
+}
+
+/// Does it, and says what it comes to.
+fn show_little(rt: &impl Print, alloc: Global) -> anyhow::Result<()> {
+    let Little {
+        found,
+        pending,
+        joined,
+    } = do_little_anew(alloc)?;
     println!(rt; "{found} found, {pending} pending, {joined} after edits that join")?;
     Ok(())
 }

@@ -43,11 +43,28 @@ where
 {
     let alloc = rt.alloc();
     let arguments: Vec<String> = env::args(rt)?.collect(alloc)?;
+    run_arguments(rt, alloc, arguments.as_slice(), output, errors)
+}
+
+/// Does what the arguments of the command line ask for, and answers the program's status.
+fn run_arguments<F: Files, W: Write + Drop, E: Write>(
+    rt: &F,
+    alloc: Global,
+    arguments: &[String],
+    output: W,
+    errors: &mut E,
+) -> io::Result<u8> {
     let mut words: Vec<&str> = Vec::new(alloc);
-    for argument in arguments.iter() {
+    put_words(&mut words, arguments)?;
+    Ok(run_words(rt, alloc, words.as_slice(), output, errors))
+}
+
+/// Puts the words behind others.
+fn put_words<'a>(words: &mut Vec<&'a str>, arguments: &'a [String]) -> io::Result<()> {
+    for argument in arguments {
         words.push(argument.as_str())?;
     }
-    Ok(run_words(rt, alloc, words.as_slice(), output, errors))
+    Ok(())
 }
 
 /// Says why the words of the command line cannot be read, and answers the program's status.
@@ -126,11 +143,24 @@ fn work<F: Files, W: Write>(
     let Ok(mut writer) = BufWriter::with_capacity(alloc, OUTPUT_BUFFER, output) else {
         return Err(Failure::Memory);
     };
-    match task {
-        Task::Between(old, new) => print_between(rt, alloc, old, new, &mut writer)?,
-        Task::Apply(tree, delta) => print_applied(rt, alloc, tree, delta, &mut writer)?,
+    do_task(rt, alloc, task, &mut writer)
+}
+
+/// Does the task, and writes out what is gathered.
+fn do_task<F: Files, W: Write>(
+    rt: &F,
+    alloc: Global,
+    task: &Task<'_>,
+    writer: &mut W,
+) -> Result<(), Failure> {
+    let ended = match task {
+        Task::Between(old, new) => print_between(rt, alloc, old, new, writer),
+        Task::Apply(tree, delta) => print_applied(rt, alloc, tree, delta, writer),
+    };
+    match ended {
+        Ok(()) => flush(writer),
+        Err(failure) => Err(failure),
     }
-    flush(&mut writer)
 }
 
 /// Writes out what is gathered.

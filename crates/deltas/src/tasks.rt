@@ -1,7 +1,7 @@
 //! What the commands do.
 use crate::failure::{Failure, Named, of_delta, of_image, of_load, of_print};
 use delta::{apply_delta, image_digest, print_delta};
-use images::{load_image, print_image};
+use images::{LoadFault, load_image, print_image};
 use node::Shape;
 use std::alloc::Global;
 use std::fs::Files;
@@ -18,18 +18,23 @@ pub(crate) fn print_between<F: Files, W: Write>(
     writer: &mut W,
 ) -> Result<(), Failure> {
     let before = load(rt, alloc, Named::First, old)?;
-    match load(rt, alloc, Named::Second, new) {
-        Ok(after) => {
-            let ended = print_both(alloc, &before, &after, writer);
-            drop(after);
-            drop(before);
-            ended
-        }
-        Err(failure) => {
-            drop(before);
-            Err(failure)
-        }
-    }
+    let ended = print_from(rt, alloc, &before, new, writer);
+    drop(before);
+    ended
+}
+
+/// Prints what makes the image of a file out of the tree of a volume.
+fn print_from<F: Files, W: Write>(
+    rt: &F,
+    alloc: Global,
+    before: &Volume,
+    new: &str,
+    writer: &mut W,
+) -> Result<(), Failure> {
+    let after = load(rt, alloc, Named::Second, new)?;
+    let ended = print_both(alloc, before, &after, writer);
+    drop(after);
+    ended
 }
 
 /// Prints the image that the difference of one file makes of the image of another.
@@ -41,12 +46,26 @@ pub(crate) fn print_applied<F: Files, W: Write>(
     writer: &mut W,
 ) -> Result<(), Failure> {
     let mut volume = load(rt, alloc, Named::First, tree)?;
-    let ended = match text_of(rt, alloc, delta) {
-        Ok(text) => print_made(alloc, &mut volume, text, writer),
-        Err(failure) => Err(failure),
-    };
+    let ended = print_applied_to(rt, alloc, &mut volume, delta, writer);
     drop(volume);
     ended
+}
+
+/// Prints the image that the difference in a file makes of the tree of a volume.
+fn print_applied_to<F: Files, W: Write>(
+    rt: &F,
+    alloc: Global,
+    volume: &mut Volume,
+    delta: &str,
+    writer: &mut W,
+) -> Result<(), Failure> {
+    let text = text_of(rt, alloc, delta)?;
+    let applied = apply(alloc, volume, text.as_slice());
+    drop(text);
+    match applied {
+        Ok(()) => print_tree(alloc, volume, writer),
+        Err(failure) => Err(failure),
+    }
 }
 
 /// Prints what makes the tree of one volume of that of another.
@@ -56,12 +75,20 @@ fn print_both<W: Write>(
     after: &Volume,
     writer: &mut W,
 ) -> Result<(), Failure> {
-    let Ok(digest) = image_digest(alloc, freeze(before)?) else {
-        return Err(Failure::Memory);
-    };
-    let old = freeze(before)?;
+    let digest = digest_of(alloc, freeze(before)?)?;
+    print_trees(alloc, &digest, freeze(before)?, after, writer)
+}
+
+/// Prints what makes the tree of a volume out of an older tree, whose image has this digest.
+fn print_trees<W: Write>(
+    alloc: Global,
+    digest: &[u8; 32],
+    old: Frozen,
+    after: &Volume,
+    writer: &mut W,
+) -> Result<(), Failure> {
     match freeze(after) {
-        Ok(new) => print_delta(alloc, &digest, old, new, writer).map_err(of_print),
+        Ok(new) => put(alloc, digest, old, new, writer),
         Err(failure) => {
             drop(old);
             Err(failure)
@@ -69,25 +96,41 @@ fn print_both<W: Write>(
     }
 }
 
-/// Applies a difference, and prints the image of what it makes.
-fn print_made<W: Write>(
+/// The digest of a tree's image. It ensures nothing, so that no other proof reads what an image is; nor do the next four.
+fn digest_of(alloc: Global, tree: Frozen) -> Result<[u8; 32], Failure> {
+    image_digest(alloc, tree).map_err(|_| Failure::Memory)
+}
+
+/// Prints what makes one tree of another.
+fn put<W: Write>(
     alloc: Global,
-    volume: &mut Volume,
-    text: Vec<u8>,
+    digest: &[u8; 32],
+    old: Frozen,
+    new: Frozen,
     writer: &mut W,
 ) -> Result<(), Failure> {
-    let applied = apply_delta(alloc, volume, text.as_slice());
-    drop(text);
-    match applied {
-        Ok(()) => print_tree(alloc, volume, writer),
-        Err(fault) => Err(of_delta(fault)),
-    }
+    print_delta(alloc, digest, old, new, writer).map_err(of_print)
+}
+
+/// Applies a difference.
+fn apply(alloc: Global, volume: &mut Volume, text: &[u8]) -> Result<(), Failure> {
+    apply_delta(alloc, volume, text).map_err(of_delta)
+}
+
+/// Prints the image of a tree.
+fn put_image<W: Write>(alloc: Global, tree: &Frozen, writer: &mut W) -> Result<(), Failure> {
+    print_image(alloc, tree, writer).map_err(of_image)
+}
+
+/// The volume of an image.
+fn load_from<R: Read>(alloc: Global, reader: &mut R) -> Result<Volume, LoadFault> {
+    load_image(alloc, Shape::USUAL, reader)
 }
 
 /// Prints the image of a volume's tree.
 fn print_tree<W: Write>(alloc: Global, volume: &Volume, writer: &mut W) -> Result<(), Failure> {
     let tree = freeze(volume)?;
-    let ended = print_image(alloc, &tree, writer).map_err(of_image);
+    let ended = put_image(alloc, &tree, writer);
     drop(tree);
     ended
 }
@@ -100,7 +143,7 @@ fn freeze(volume: &Volume) -> Result<Frozen, Failure> {
 /// The volume of the image that a file has.
 fn load<F: Files>(rt: &F, alloc: Global, file: Named, path: &str) -> Result<Volume, Failure> {
     let mut reader = open(rt, file, path)?;
-    match load_image(alloc, Shape::USUAL, &mut reader) {
+    match load_from(alloc, &mut reader) {
         Ok(volume) => Ok(volume),
         Err(fault) => Err(of_load(file, fault)),
     }
@@ -109,13 +152,26 @@ fn load<F: Files>(rt: &F, alloc: Global, file: Named, path: &str) -> Result<Volu
 /// All that the second file has.
 fn text_of<F: Files>(rt: &F, alloc: Global, path: &str) -> Result<Vec<u8>, Failure> {
     let mut reader = open(rt, Named::Second, path)?;
+    text_in(alloc, &mut reader)
+}
+
+/// All that a reader of it gives.
+fn text_in<R: Read>(alloc: Global, reader: &mut R) -> Result<Vec<u8>, Failure> {
     let mut text = Vec::new(alloc);
-    match reader.read_to_end(&mut text) {
-        Ok(_) => Ok(text),
-        Err(error) => {
+    match read_all(reader, &mut text) {
+        Ok(()) => Ok(text),
+        Err(failure) => {
             drop(text);
-            Err(refused(error.kind(), Failure::Read(Named::Second)))
+            Err(failure)
         }
+    }
+}
+
+/// Puts that behind other bytes.
+fn read_all<R: Read>(reader: &mut R, text: &mut Vec<u8>) -> Result<(), Failure> {
+    match reader.read_to_end(text) {
+        Ok(_) => Ok(()),
+        Err(error) => Err(refused(error.kind(), Failure::Read(Named::Second))),
     }
 }
 

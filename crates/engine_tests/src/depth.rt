@@ -3,6 +3,7 @@
 ghost use Rattle.std.specs.Prelude.{◌≡◌};
 
 use crate::asked::answers;
+use crate::crew::{freeze, turned};
 use engine::{Between, Client, Flusher, Naming, TurnReply};
 use node::{ShapeReport, StepReply};
 use samples::{Ask, Told, file_name};
@@ -56,7 +57,7 @@ fn did(reply: TurnReply) -> bool {
 /// What one turn answers; none where it does not call `between` once.
 fn turn<J: Naming, R: Wait>(rt: &R, alloc: Global, flusher: &mut Flusher<J>) -> Option<TurnReply> {
     let mut count = Count { turns: 0 };
-    let reply = flusher.turn(rt, alloc, &mut count);
+    let reply = turned(rt, alloc, flusher, &mut count);
     (count.turns == 1).then_some(reply)
 }
 
@@ -116,7 +117,7 @@ pub fn shapes<J: Naming, R: Wait>(
     rt: &R,
     client: &mut Client<J>,
 ) -> Option<(ShapeReport, ShapeReport)> {
-    match client.freeze(rt) {
+    match freeze(rt, client) {
         Ok(tree) => Some(shapes_of(&tree)),
         Err(_) => None,
     }

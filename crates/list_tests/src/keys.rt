@@ -45,25 +45,38 @@ fn long_text(
 /// Whether the key has these bytes, or there is none of both.
 fn is_key(key: &Option<Key>, want: Option<&[u8]>) -> bool {
     match (key, want) {
-        (Some(key), Some(want)) => key.as_bytes() == want,
+        (Some(key), Some(want)) => has_bytes(key, want),
         (None, None) => true,
         _ => false,
     }
 }
 
+/// Whether a key has these bytes.
+fn has_bytes(key: &Key, want: &[u8]) -> bool {
+    key.as_bytes() == want
+}
+
 /// Whether a key that was made has these bytes.
 fn is_made(made: Result<Key, NoMemory>, want: &[u8]) -> bool {
     match made {
-        Ok(key) => key.as_bytes() == want,
+        Ok(key) => has_bytes(&key, want),
         Err(_) => false,
+    }
+}
+
+/// Whether a path has this key, or there is none of both.
+fn is_path(path: &Option<Path>, want: Option<&[u8]>) -> bool {
+    match (path, want) {
+        (Some(path), Some(want)) => has_bytes(path.key(), want),
+        (None, None) => true,
+        _ => false,
     }
 }
 
 /// Whether the path of the key has this key itself; or the key has no path.
 fn leads_to(alloc: Global, key: &Key, want: Option<&[u8]>) -> bool {
     match decoded(alloc, key) {
-        Ok(Some(path)) => want == Some(path.key().as_bytes()),
-        Ok(None) => want.is_none(),
+        Ok(path) => is_path(&path, want),
         Err(_) => false,
     }
 }
@@ -79,7 +92,7 @@ fn made_leads_to(alloc: Global, made: Result<Key, NoMemory>, want: Option<&[u8]>
 /// Whether a range that was made begins and ends so.
 fn has_ends(made: Result<KeyRange, NoMemory>, lo: &[u8], hi: Option<&[u8]>) -> bool {
     match made {
-        Ok(range) => range.lo.as_bytes() == lo && is_key(&range.hi, hi),
+        Ok(range) => has_bytes(&range.lo, lo) && is_key(&range.hi, hi),
         Err(_) => false,
     }
 }
@@ -87,8 +100,7 @@ fn has_ends(made: Result<KeyRange, NoMemory>, lo: &[u8], hi: Option<&[u8]>) -> b
 /// Whether the path above has this key; without a key, there is none above.
 fn has_parent(alloc: Global, path: &Path, want: Option<&[u8]>) -> bool {
     match path.parent(alloc) {
-        Ok(Some(up)) => want == Some(up.key().as_bytes()),
-        Ok(None) => want.is_none(),
+        Ok(up) => is_path(&up, want),
         Err(_) => false,
     }
 }
@@ -138,7 +150,7 @@ enum Asked {
 fn answers(alloc: Global, path: &Path, asked: Asked) -> bool {
     match asked {
         Asked::Key(want) => {
-            path.key().as_bytes() == want
+            has_bytes(path.key(), want)
                 && is_made(enc(alloc, path), want)
                 && made_leads_to(alloc, enc(alloc, path), Some(want))
         }

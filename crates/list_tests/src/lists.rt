@@ -1,114 +1,197 @@
 //! Each call on a list that shares no row.
-use crate::numbers::{Number, Replace, at, drop_some, has, key, numbers, put, scattered};
-use pathkey::{KeyRange, NoMemory};
+use crate::numbers::{
+    Number, Replace, at, drop_some, has, is_put, is_rejoined, key, numbers, put, scattered,
+};
+use pathkey::{Key, KeyRange, NoMemory};
 use rows::{Edited, Rows};
 use std::alloc::Global;
 
 /// Whether numbers that were put in order and in another order are met in order.
-fn are_in_order(alloc: Global) -> Result<bool, NoMemory> {
-    let straight = numbers(alloc, 1000)?;
-    let mixed = scattered(alloc)?;
-    Ok(has(&straight, 0, 1000) && has(&mixed, 0, 1000) && !mixed.is_empty())
+fn are_in_order(list: Result<Rows<Number>, NoMemory>) -> bool {
+    match list {
+        Ok(list) => has(&list, 0, 1000) && !list.is_empty(),
+        Err(NoMemory) => false,
+    }
 }
 
 #[test]
 fn entries_rise(rt: HostRuntime) {
-    assert_eq!(rt; are_in_order(rt.alloc()).ok(), Some(true));
+    let alloc = rt.alloc();
+    assert!(rt; are_in_order(numbers(alloc, 1000)));
+    assert!(rt; are_in_order(scattered(alloc)));
 }
 
 /// What comes back of a put, an edit and an edit where nothing stands.
-fn answers(alloc: Global) -> Result<(bool, bool, bool), NoMemory> {
-    let mut list = numbers(alloc, 300)?;
-    let old = match list.put(key(alloc, 7)?, Number(70)) {
-        Ok(Some(old)) => old.0 == 7,
-        _ => false,
-    };
-    let edited = match list.edit(&key(alloc, 7)?, Replace(71)) {
-        Edited::Done(old) => old == 70,
-        _ => false,
-    };
-    let absent = match list.edit(&key(alloc, 300)?, Replace(0)) {
-        Edited::Absent(back) => back.0 == 0,
-        _ => false,
-    };
-    Ok((
-        old && at(alloc, &list, 8)? == Some(8),
-        edited && at(alloc, &list, 7)? == Some(71),
-        absent,
-    ))
+fn answer(alloc: Global, list: &mut Rows<Number>) -> bool {
+    is_put(alloc, list, 7, 70, Some(7))
+        && at(alloc, list, 8) == Ok(Some(8))
+        && edited(alloc, list, 7, 71) == Some(70)
+        && at(alloc, list, 7) == Ok(Some(71))
+        && is_absent(alloc, list, 300)
+}
+
+/// The number whose place another takes at a key; none where there is none or memory is refused.
+fn edited(alloc: Global, list: &mut Rows<Number>, at: u16, number: u64) -> Option<u64> {
+    match key(alloc, at) {
+        Ok(at) => match list.edit(&at, Replace(number)) {
+            Edited::Done(old) => Some(old),
+            _ => None,
+        },
+        Err(NoMemory) => None,
+    }
+}
+
+/// Whether an edit comes back from a key at which nothing stands.
+fn is_absent(alloc: Global, list: &mut Rows<Number>, at: u16) -> bool {
+    match key(alloc, at) {
+        Ok(at) => matches!(list.edit(&at, Replace(0)), Edited::Absent(Replace(0))),
+        Err(NoMemory) => false,
+    }
+}
+
+/// Whether puts and edits answer as they should in a new list of 300 numbers.
+fn answers(alloc: Global) -> bool {
+    match numbers(alloc, 300) {
+        Ok(mut list) => answer(alloc, &mut list),
+        Err(NoMemory) => false,
+    }
 }
 
 #[test]
 fn puts_and_edits_answer(rt: HostRuntime) {
-    assert_eq!(rt; answers(rt.alloc()).ok(), Some((true, true, true)));
+    assert!(rt; answers(rt.alloc()));
 }
 
-/// Whether a range of numbers leaves the list, and the others stay.
-fn range_leaves(alloc: Global, from: u16, to: u16) -> Result<bool, NoMemory> {
-    let mut list = scattered(alloc)?;
-    let range = KeyRange {
-        lo: key(alloc, from)?,
-        hi: Some(key(alloc, to)?),
-    };
-    let out = list.cut_out(&range)?;
-    let mut later = list.split_off(&range.lo)?;
-    let apart = has(&out, from as u64, to as u64)
-        && has(&list, 0, from as u64)
-        && has(&later, to as u64, 1000);
-    list.append(&mut later)?;
-    Ok(
-        apart
-            && later.is_empty()
-            && at(alloc, &list, 999)? == Some(999)
-            && at(alloc, &list, from)? == None,
-    )
+/// Whether the numbers of a range leave the list, and the others stay.
+fn leave(alloc: Global, list: &mut Rows<Number>, range: &KeyRange, from: u16, to: u16) -> bool {
+    takes_out(list, range, from, to)
+        && is_rejoined(list, &range.lo, from, to)
+        && at(alloc, list, 999) == Ok(Some(999))
+        && at(alloc, list, from) == Ok(None)
+}
+
+/// Whether just the numbers of a range come out.
+fn takes_out(list: &mut Rows<Number>, range: &KeyRange, from: u16, to: u16) -> bool {
+    match list.cut_out(range) {
+        Ok(out) => has(&out, from as u64, to as u64),
+        Err(NoMemory) => false,
+    }
+}
+
+/// The keys of the numbers from one up to another.
+fn range(alloc: Global, from: u16, to: u16) -> Result<KeyRange, NoMemory> {
+    let lo = key(alloc, from)?;
+    let hi = key(alloc, to)?;
+    Ok(KeyRange { lo, hi: Some(hi) })
+}
+
+/// Whether the numbers from one up to another leave the list, and the others stay.
+fn range_leaves(alloc: Global, list: &mut Rows<Number>, from: u16, to: u16) -> bool {
+    match range(alloc, from, to) {
+        Ok(range) => leave(alloc, list, &range, from, to),
+        Err(NoMemory) => false,
+    }
+}
+
+/// Whether the numbers from one up to another leave a new list of a thousand, and the others stay.
+fn ranges_leave_from(alloc: Global, from: u16, to: u16) -> bool {
+    match scattered(alloc) {
+        Ok(mut list) => range_leaves(alloc, &mut list, from, to),
+        Err(NoMemory) => false,
+    }
 }
 
 #[test]
 fn ranges_leave(rt: HostRuntime) {
     let alloc = rt.alloc();
-    assert_eq!(rt; range_leaves(alloc, 500, 501).ok(), Some(true));
-    assert_eq!(rt; range_leaves(alloc, 3, 900).ok(), Some(true));
+    assert!(rt; ranges_leave_from(alloc, 500, 501));
+    assert!(rt; ranges_leave_from(alloc, 3, 900));
 }
 
 /// The numbers next to one: the first from it on, the first behind it, the last before it, the last up to it, and the last of all.
-fn next_to(alloc: Global, list: &Rows<Number>, number: u16) -> Result<[Option<u64>; 5], NoMemory> {
-    let at = key(alloc, number)?;
-    Ok([
-        list.walk_from(&at).peek().map(|found| found.1.0),
-        list.walk_past(&at).peek().map(|found| found.1.0),
-        list.last_before(&at).map(|found| found.1.0),
-        list.last_by(&at).map(|found| found.1.0),
-        list.last().map(|found| found.1.0),
-    ])
+fn next_to(list: &Rows<Number>, at: &Key) -> [Option<u64>; 5] {
+    [
+        number(list.walk_from(at).peek()),
+        number(list.walk_past(at).peek()),
+        number(list.last_before(at)),
+        number(list.last_by(at)),
+        number(list.last()),
+    ]
 }
 
-/// Those next to a number that is there, and to one that is not.
-fn neighbours(alloc: Global) -> Result<([Option<u64>; 5], [Option<u64>; 5]), NoMemory> {
+/// The number of an entry.
+fn number(found: Option<(&Key, &Number)>) -> Option<u64> {
+    match found {
+        Some((_, found)) => Some(found.0),
+        None => None,
+    }
+}
+
+/// Whether these numbers stand next to one.
+fn has_next_to(alloc: Global, list: &Rows<Number>, at: u16, wanted: &[Option<u64>; 5]) -> bool {
+    match key(alloc, at) {
+        Ok(at) => next_to(list, &at) == *wanted,
+        Err(NoMemory) => false,
+    }
+}
+
+const THERE: &[Option<u64>; 5] = &[Some(112), Some(113), Some(111), Some(112), Some(600)];
+
+const ABSENT: &[Option<u64>; 5] = &[Some(600), Some(600), Some(499), Some(499), Some(600)];
+
+/// The numbers up to 500, and 600.
+fn with_a_gap(alloc: Global) -> Result<Rows<Number>, NoMemory> {
     let mut list = numbers(alloc, 500)?;
     put(alloc, &mut list, 600)?;
-    Ok((next_to(alloc, &list, 112)?, next_to(alloc, &list, 550)?))
+    Ok(list)
+}
+
+/// Whether those next to a number that is there are found, and those next to one that is not.
+fn neighbours(alloc: Global) -> bool {
+    match with_a_gap(alloc) {
+        Ok(list) => {
+            has_next_to(alloc, &list, 112, THERE) && has_next_to(alloc, &list, 550, ABSENT)
+        }
+        Err(NoMemory) => false,
+    }
 }
 
 #[test]
 fn neighbours_are_found(rt: HostRuntime) {
-    let there = [Some(112), Some(113), Some(111), Some(112), Some(600)];
-    let absent = [Some(600), Some(600), Some(499), Some(499), Some(600)];
-    assert_eq!(rt; neighbours(rt.alloc()).ok(), Some((there, absent)));
+    assert!(rt; neighbours(rt.alloc()));
 }
 
 /// Whether numbers leave a list from the front, one by one and many at once, and those behind them stay.
-fn front(alloc: Global) -> Result<bool, NoMemory> {
-    let mut list = numbers(alloc, 1000)?;
-    let dropped = drop_some(&mut list, 150);
-    if list.is_empty() {
-        return Ok(false);
+fn leave_in_front(alloc: Global, list: &mut Rows<Number>) -> bool {
+    drop_some(list, 150)
+        && !list.is_empty()
+        && leave_behind(alloc, list, 600)
+        && has(list, 150, 600)
+}
+
+/// Whether the numbers from one on leave the list.
+fn leave_behind(alloc: Global, list: &mut Rows<Number>, from: u16) -> bool {
+    match parted_at(alloc, list, from) {
+        Ok(back) => has(&back, from as u64, 1000),
+        Err(NoMemory) => false,
     }
-    let back = list.split_off(&key(alloc, 600)?)?;
-    Ok(dropped && has(&list, 150, 600) && has(&back, 600, 1000))
+}
+
+/// The list's numbers from one on, out of the list.
+fn parted_at(alloc: Global, list: &mut Rows<Number>, from: u16) -> Result<Rows<Number>, NoMemory> {
+    let from = key(alloc, from)?;
+    list.split_off(&from)
+}
+
+/// Whether numbers leave a new list of a thousand from the front, and those behind them stay.
+fn front(alloc: Global) -> bool {
+    match numbers(alloc, 1000) {
+        Ok(mut list) => leave_in_front(alloc, &mut list),
+        Err(NoMemory) => false,
+    }
 }
 
 #[test]
 fn numbers_leave_from_the_front(rt: HostRuntime) {
-    assert_eq!(rt; front(rt.alloc()).ok(), Some(true));
+    assert!(rt; front(rt.alloc()));
 }

@@ -1,4 +1,5 @@
 //! Messages on numbers, at keys of one byte, beside the same messages told in plain numbers.
+use crate::numbers;
 use message::{Msg, cut, touches};
 use pathkey::{Key, KeyRange, NoMemory};
 use pending::Pending;
@@ -8,10 +9,17 @@ use std::alloc::Global;
 fn list_of(alloc: Global, msgs: &[Plain]) -> Result<Pending<Digit>, NoMemory> {
     let mut list = Pending::new(alloc);
     for plain in msgs {
-        list.reserve(1)?;
-        list.push_reserved(plain.message(alloc)?);
+        push(alloc, &mut list, *plain)?;
     }
     Ok(list)
+}
+
+/// Puts a message behind those of a list.
+fn push(alloc: Global, list: &mut Pending<Digit>, plain: Plain) -> Result<(), NoMemory> {
+    list.reserve(1)?;
+    let msg = plain.message(alloc)?;
+    list.push_reserved(msg);
+    Ok(())
 }
 
 /// What is asked of a message, with the answer.
@@ -452,9 +460,28 @@ fn without_first(alloc: Global, msgs: &[Plain]) -> Result<Pending<Digit>, NoMemo
 
 /// Two lists, before the key 5 and behind it, as one. Each has two updates of one key, of which the first has left.
 fn joined_half_gone(alloc: Global) -> Result<Pending<Digit>, NoMemory> {
-    let front = without_first(alloc, &[Plain::Edit(3, 1), Plain::Edit(3, 2)])?;
-    let back = without_first(alloc, &[Plain::Edit(7, 3), Plain::Edit(7, 4)])?;
-    front.joined(alloc, back, &key(alloc, 5)?)
+    let front = without_first(alloc, EDITS_OF_THREE)?;
+    match without_first(alloc, EDITS_OF_SEVEN) {
+        Ok(back) => joined_at(alloc, front, back, 5),
+        Err(NoMemory) => Err(NoMemory),
+    }
+}
+
+const EDITS_OF_THREE: &[Plain] = &[Plain::Edit(3, 1), Plain::Edit(3, 2)];
+
+const EDITS_OF_SEVEN: &[Plain] = &[Plain::Edit(7, 3), Plain::Edit(7, 4)];
+
+/// Two lists, before a key and behind it, as one.
+fn joined_at(
+    alloc: Global,
+    front: Pending<Digit>,
+    back: Pending<Digit>,
+    at: u8,
+) -> Result<Pending<Digit>, NoMemory> {
+    match key(alloc, at) {
+        Ok(at) => front.joined(alloc, back, &at),
+        Err(NoMemory) => Err(NoMemory),
+    }
 }
 
 /// Whether the lists were joined, and both updates that are left wait.
@@ -479,21 +506,30 @@ fn long_list(alloc: Global) -> Result<Pending<Digit>, NoMemory> {
     let mut list = Pending::new(alloc);
     for i in 0..LONG as u64 {
         let at = i * 7_919 % LONG as u64;
-        let key = Key::from_bytes(alloc, &(at as u16).to_be_bytes())?;
-        list.reserve(1)?;
-        list.push_reserved(Msg::Put(key, at));
+        put_number(alloc, &mut list, at as u16)?;
     }
     Ok(list)
+}
+
+/// Puts a number behind the messages of a list, at the key of its two bytes.
+fn put_number(alloc: Global, list: &mut Pending<Digit>, number: u16) -> Result<(), NoMemory> {
+    list.reserve(1)?;
+    let key = numbers::key(alloc, number)?;
+    list.push_reserved(Msg::Put(key, number as u64));
+    Ok(())
 }
 
 /// Whether this is the number at the key of its two bytes.
 fn is_number(msg: &Msg<Digit>, number: u16) -> bool {
     match msg {
-        Msg::Put(key, value) => {
-            key.as_bytes() == number.to_be_bytes().as_slice() && *value == number as u64
-        }
+        Msg::Put(key, value) => *value == number as u64 && is_key_of(key, number),
         _ => false,
     }
+}
+
+/// Whether a key has the two bytes of a number.
+fn is_key_of(key: &Key, number: u16) -> bool {
+    key.as_bytes() == numbers::bytes_of(number).as_slice()
 }
 
 /// Whether the messages are the numbers from `first` on, in their order.
@@ -522,9 +558,10 @@ fn parted_at(
     list: &mut Pending<Digit>,
     at: u16,
 ) -> Result<Pending<Digit>, NoMemory> {
-    let lo = Key::new(alloc);
-    let pivot = Key::from_bytes(alloc, &at.to_be_bytes())?;
-    list.split_off(alloc, 0, &lo, &pivot)
+    match numbers::key(alloc, at) {
+        Ok(pivot) => list.split_off(alloc, 0, &Key::new(alloc), &pivot),
+        Err(NoMemory) => Err(NoMemory),
+    }
 }
 
 /// Whether so many messages move to another list, one at a time.

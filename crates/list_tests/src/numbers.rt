@@ -34,9 +34,14 @@ impl Edit<Number> for Replace {
     }
 }
 
-/// The key of a number.
+/// The two bytes of a number.
+pub fn bytes_of(number: u16) -> [u8; 2] {
+    number.to_be_bytes()
+}
+
+/// The key of a number: its two bytes.
 pub fn key(alloc: Global, number: u16) -> Result<Key, NoMemory> {
-    Key::from_bytes(alloc, &number.to_be_bytes())
+    Key::from_bytes(alloc, &bytes_of(number))
 }
 
 /// Puts a number at its key.
@@ -66,10 +71,58 @@ pub fn scattered(alloc: Global) -> Result<Rows<Number>, NoMemory> {
     Ok(list)
 }
 
+/// Whether a number is put at the key of another, and this one stood there.
+pub fn is_put(
+    alloc: Global,
+    list: &mut Rows<Number>,
+    at: u16,
+    number: u64,
+    old: Option<u64>,
+) -> bool {
+    match key(alloc, at) {
+        Ok(at) => number_of(&list.put(at, Number(number))) == Some(old),
+        Err(NoMemory) => false,
+    }
+}
+
+/// The number that a put answers; none where memory was refused.
+fn number_of(answer: &Result<Option<Number>, (Key, Number)>) -> Option<Option<u64>> {
+    match answer {
+        Ok(Some(old)) => Some(Some(old.0)),
+        Ok(None) => Some(None),
+        Err(_) => None,
+    }
+}
+
 /// What stands at the key of a number.
 pub fn at(alloc: Global, list: &Rows<Number>, number: u16) -> Result<Option<u64>, NoMemory> {
-    let at = key(alloc, number)?;
-    Ok(list.get(&at).map(|found| found.0))
+    match key(alloc, number) {
+        Ok(at) => Ok(at_key(list, &at)),
+        Err(NoMemory) => Err(NoMemory),
+    }
+}
+
+/// What stands at a key.
+fn at_key(list: &Rows<Number>, at: &Key) -> Option<u64> {
+    match list.get(at) {
+        Some(found) => Some(found.0),
+        None => None,
+    }
+}
+
+/// Whether a list of the numbers up to a thousand, but for those from `from` up to `to`, is cut at the key of the first that is not
+/// there, and joined again.
+pub fn is_rejoined(list: &mut Rows<Number>, at: &Key, from: u16, to: u16) -> bool {
+    list.rise();
+    match list.split_off(at) {
+        Ok(mut later) => {
+            has(list, 0, from as u64)
+                && has(&later, to as u64, 1000)
+                && list.append(&mut later).is_ok()
+                && later.is_empty()
+        }
+        Err(NoMemory) => false,
+    }
 }
 
 /// Whether a walk through the list meets the numbers from one up to another, each once and in order, and no other.

@@ -38,13 +38,37 @@ impl Update for Lone {
 /// How many keys a list has.
 const KEYS: u8 = 200;
 
+/// An update of the key of a number.
+fn update(alloc: Global, at: u8, number: u64) -> Result<Msg<Lone>, NoMemory> {
+    let at = key(alloc, at)?;
+    Ok(Msg::Edit(at, Lone(number)))
+}
+
+/// A range-delete from a number on.
+fn deletion(alloc: Global, lo: u8, hi: Option<u8>) -> Result<Msg<Lone>, NoMemory> {
+    let range = range(alloc, lo, hi)?;
+    Ok(Msg::DelRange(range))
+}
+
+/// Puts a message behind those of a list.
+fn push(list: &mut Pending<Lone>, msg: Result<Msg<Lone>, NoMemory>) -> Result<(), NoMemory> {
+    list.reserve(1)?;
+    list.push_reserved(msg?);
+    Ok(())
+}
+
+/// Puts a message behind those of a list, to wait as it came.
+fn keep(list: &mut Pending<Lone>, msg: Result<Msg<Lone>, NoMemory>) -> Result<(), NoMemory> {
+    list.reserve(1)?;
+    list.push_kept(msg?);
+    Ok(())
+}
+
 /// A list with two updates at each key.
 fn list_of_lone(alloc: Global) -> Result<Pending<Lone>, NoMemory> {
     let mut list = Pending::new(alloc);
     for i in 0..2 * KEYS as u64 {
-        let at = key(alloc, (i * 77 % KEYS as u64) as u8)?;
-        list.reserve(1)?;
-        list.push_reserved(Msg::Edit(at, Lone(i)));
+        push(&mut list, update(alloc, (i * 77 % KEYS as u64) as u8, i))?;
     }
     Ok(list)
 }
@@ -52,33 +76,29 @@ fn list_of_lone(alloc: Global) -> Result<Pending<Lone>, NoMemory> {
 /// The same with a range-delete behind all keys.
 fn with_a_range(alloc: Global) -> Result<Pending<Lone>, NoMemory> {
     let mut list = list_of_lone(alloc)?;
-    list.reserve(1)?;
-    list.push_reserved(Msg::DelRange(range(alloc, KEYS, None)?));
+    push(&mut list, deletion(alloc, KEYS, None))?;
     Ok(list)
 }
 
 /// The same with an update that waits as it came.
 fn with_a_tail(alloc: Global) -> Result<Pending<Lone>, NoMemory> {
     let mut list = list_of_lone(alloc)?;
-    list.reserve(1)?;
-    list.push_kept(Msg::Edit(key(alloc, 5)?, Lone(5)));
+    keep(&mut list, update(alloc, 5, 5))?;
     Ok(list)
 }
 
 /// The same with a range-delete over the key 100 and one update more, which wait as they came.
 fn with_a_range_in_the_tail(alloc: Global) -> Result<Pending<Lone>, NoMemory> {
     let mut list = with_a_tail(alloc)?;
-    list.reserve(2)?;
-    list.push_kept(Msg::DelRange(range(alloc, 50, Some(150))?));
-    list.push_kept(Msg::Edit(key(alloc, 120)?, Lone(6)));
+    keep(&mut list, deletion(alloc, 50, Some(150)))?;
+    keep(&mut list, update(alloc, 120, 6))?;
     Ok(list)
 }
 
 /// The same with a range-delete over the key 100 that has its place among the others.
 fn with_a_range_inside(alloc: Global) -> Result<Pending<Lone>, NoMemory> {
     let mut list = list_of_lone(alloc)?;
-    list.reserve(1)?;
-    list.push_reserved(Msg::DelRange(range(alloc, 50, Some(150))?));
+    push(&mut list, deletion(alloc, 50, Some(150)))?;
     Ok(list)
 }
 
@@ -94,9 +114,14 @@ fn half_gone(alloc: Global) -> Result<Pending<Lone>, NoMemory> {
 /// Whether a copy of the list succeeds and has as many messages, where copies of messages are refused.
 fn is_shared(alloc: Global, list: Result<Pending<Lone>, NoMemory>) -> bool {
     match list {
-        Ok(list) => has_a_copy(alloc, &list) && list.copy_front(alloc, list.len()).is_err(),
+        Ok(list) => has_a_copy(alloc, &list) && copied(alloc, &list).is_err(),
         Err(_) => false,
     }
+}
+
+/// Copies of all messages of the list.
+fn copied(alloc: Global, list: &Pending<Lone>) -> Result<Vec<Msg<Lone>>, NoMemory> {
+    list.copy_front(alloc, list.len())
 }
 
 /// Whether a copy of the list succeeds and has as many messages.
@@ -134,21 +159,24 @@ fn parted_at(alloc: Global, list: &mut Pending<Lone>, at: u8) -> Result<Pending<
 /// Whether a cut of the list succeeds, and all its messages are in the parts; a range-delete over the key is in both.
 fn has_parts(alloc: Global, list: &mut Pending<Lone>, at: u8) -> bool {
     let all = list.len();
-    let ranges = list.range_deletes(0);
+    let ranges = ranges_in(list);
     match parted_at(alloc, list, at) {
         Ok(back) => { back.len() > 0 && list.len() > 0 && have_all(list, &back, all, ranges) }
         Err(_) => false,
     }
 }
 
+/// How many range-deletes a list has.
+fn ranges_in(list: &Pending<Lone>) -> usize {
+    list.range_deletes(0)
+}
+
 /// Whether both parts of a list have so many messages together, but for each of its range-deletes at most one more.
 fn have_all(front: &Pending<Lone>, back: &Pending<Lone>, all: usize, ranges: usize) -> bool {
-    let parts = front.len().saturating_add(back.len());
-    let cut = front
-        .range_deletes(0)
-        .saturating_add(back.range_deletes(0))
+    let cut = ranges_in(front)
+        .saturating_add(ranges_in(back))
         .saturating_sub(ranges);
-    parts == all.saturating_add(cut)
+    front.len().saturating_add(back.len()) == all.saturating_add(cut)
 }
 
 #[test]
@@ -164,30 +192,49 @@ fn cuts_copy_no_message_for_one_key(rt: HostRuntime) {
 
 /// Whether the parts of a list before a key and from it on are joined again, and have as many messages as the parts.
 fn rejoins(alloc: Global, list: Result<Pending<Lone>, NoMemory>, at: u8) -> bool {
-    match rejoined(alloc, list, at) {
-        Ok(is_whole) => is_whole,
+    match list {
+        Ok(list) => rejoined(alloc, list, at),
         Err(NoMemory) => false,
     }
 }
 
-/// The same, unless memory is refused.
-fn rejoined(
+/// Whether a list that is cut at a key and joined again has as many messages as its parts had.
+fn rejoined(alloc: Global, list: Pending<Lone>, at: u8) -> bool {
+    let mut front = list;
+    match parted_at(alloc, &mut front, at) {
+        Ok(back) => is_as_long(front.len(), back.len(), joined_at(alloc, front, back, at)),
+        Err(NoMemory) => false,
+    }
+}
+
+/// Both lists as one, where they lie on both sides of a key.
+fn joined_at(
     alloc: Global,
-    list: Result<Pending<Lone>, NoMemory>,
+    front: Pending<Lone>,
+    back: Pending<Lone>,
     at: u8,
-) -> Result<bool, NoMemory> {
-    let mut front = list?;
-    let back = parted_at(alloc, &mut front, at)?;
-    let parts = front.len().saturating_add(back.len());
-    let all = front.joined(alloc, back, &key(alloc, at)?)?;
-    Ok(all.len() == parts)
+) -> Result<Pending<Lone>, NoMemory> {
+    match key(alloc, at) {
+        Ok(at) => front.joined(alloc, back, &at),
+        Err(NoMemory) => Err(NoMemory),
+    }
+}
+
+/// Whether a list has as many messages as two others had.
+fn is_as_long(front: usize, back: usize, all: Result<Pending<Lone>, NoMemory>) -> bool {
+    match all {
+        Ok(all) => all.len() == front.saturating_add(back),
+        Err(NoMemory) => false,
+    }
 }
 
 /// The list, cut at a key and joined again.
 fn halves_joined(alloc: Global, list: Pending<Lone>, at: u8) -> Result<Pending<Lone>, NoMemory> {
     let mut front = list;
-    let back = parted_at(alloc, &mut front, at)?;
-    front.joined(alloc, back, &key(alloc, at)?)
+    match parted_at(alloc, &mut front, at) {
+        Ok(back) => joined_at(alloc, front, back, at),
+        Err(NoMemory) => Err(NoMemory),
+    }
 }
 
 /// Whether a list whose range-delete was cut and joined again has as many messages as before.
@@ -197,7 +244,7 @@ fn is_whole_again(alloc: Global) -> bool {
     };
     let all = list.len();
     match halves_joined(alloc, list, 100) {
-        Ok(again) => again.len() == all && again.range_deletes(0) == 1,
+        Ok(again) => again.len() == all && ranges_in(&again) == 1,
         Err(NoMemory) => false,
     }
 }

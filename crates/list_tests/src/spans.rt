@@ -1,6 +1,6 @@
 //! Ranges in plain numbers: a number stands for the key of that one byte.
 use message::Msg;
-use pathkey::NoMemory;
+use pathkey::{Key, KeyRange, NoMemory};
 use ranges::Ranges;
 use samples::{Digit, Plain, key, range};
 use std::alloc::Global;
@@ -10,11 +10,18 @@ pub type Span = (u8, Option<u8>);
 
 /// Lays a range over a list, which is to be short.
 pub fn lay(alloc: Global, list: &mut Ranges, span: &Span) -> Result<(), NoMemory> {
+    match range(alloc, span.0, span.1) {
+        Ok(range) => lay_range(alloc, list, &range),
+        Err(NoMemory) => Err(NoMemory),
+    }
+}
+
+/// Lays a range of keys over a list, which is to be short.
+fn lay_range(alloc: Global, list: &mut Ranges, range: &KeyRange) -> Result<(), NoMemory> {
     if list.len() > 1000 {
         return Err(NoMemory);
     }
-    let range = range(alloc, span.0, span.1)?;
-    list.lay(alloc, &range)
+    list.lay(alloc, range)
 }
 
 /// A list over which these ranges were laid, one after the other.
@@ -27,36 +34,65 @@ pub fn laid(alloc: Global, spans: &[Span]) -> Result<Ranges, NoMemory> {
 }
 
 /// Whether the list has these ranges, and no other.
-pub fn has(alloc: Global, list: &Ranges, spans: &[Span]) -> Result<bool, NoMemory> {
-    let mut msgs: Vec<Msg<Digit>> = Vec::new(alloc);
+pub fn has(alloc: Global, list: &Ranges, spans: &[Span]) -> bool {
+    match messages(alloc, list) {
+        Ok(msgs) => list.len() == spans.len() && are_spans(msgs.as_slice(), spans),
+        Err(NoMemory) => false,
+    }
+}
+
+/// Up to a thousand of the list's ranges, as messages.
+fn messages(alloc: Global, list: &Ranges) -> Result<Vec<Msg<Digit>>, NoMemory> {
+    let mut msgs = Vec::new(alloc);
     list.copy_into(alloc, 1000, &mut msgs)?;
-    if list.len() != spans.len() || msgs.len() != spans.len() {
-        return Ok(false);
+    Ok(msgs)
+}
+
+/// Whether the messages are these ranges, in their order.
+fn are_spans(msgs: &[Msg<Digit>], spans: &[Span]) -> bool {
+    if msgs.len() != spans.len() {
+        return false;
     }
     for (msg, span) in msgs.iter().zip(spans) {
         if Plain::of(msg) != Plain::DelRange(span.0, span.1) {
-            return Ok(false);
+            return false;
         }
     }
-    Ok(true)
+    true
 }
 
 /// The list up to a number and from it on.
 pub fn cut(alloc: Global, list: Ranges, pivot: u8) -> Result<(Ranges, Ranges), NoMemory> {
+    match key(alloc, pivot) {
+        Ok(pivot) => cut_at(alloc, list, &pivot),
+        Err(NoMemory) => Err(NoMemory),
+    }
+}
+
+/// Cuts a list at a key, into the part up to it and the part from it on.
+fn cut_at(alloc: Global, list: Ranges, pivot: &Key) -> Result<(Ranges, Ranges), NoMemory> {
     if list.len() > 1000 {
         return Err(NoMemory);
     }
-    list.cut_at::<Digit>(alloc, &key(alloc, pivot)?)
+    list.cut_at::<Digit>(alloc, pivot)
 }
 
 /// Both lists as one, where they lie on both sides of a number.
 pub fn joined(alloc: Global, front: Ranges, back: Ranges, pivot: u8) -> Result<Ranges, NoMemory> {
-    let pivot = key(alloc, pivot)?;
-    if front.len() > 1000 || back.len() > 1000 {
-        return Err(NoMemory);
+    match key(alloc, pivot) {
+        Ok(pivot) => joined_at(alloc, front, back, &pivot),
+        Err(NoMemory) => Err(NoMemory),
     }
-    if !front.end_by::<Digit>(&pivot) || !back.begin_from::<Digit>(&pivot) {
-        return Err(NoMemory);
+}
+
+/// Joins both lists as one, where they are short and lie on both sides of a key.
+fn joined_at(alloc: Global, front: Ranges, back: Ranges, pivot: &Key) -> Result<Ranges, NoMemory> {
+    if front.len() <= 1000
+        && back.len() <= 1000
+        && front.end_by::<Digit>(pivot)
+        && back.begin_from::<Digit>(pivot)
+    {
+        return front.joined::<Digit>(alloc, back, pivot);
     }
-    front.joined::<Digit>(alloc, back, &pivot)
+    Err(NoMemory)
 }

@@ -51,7 +51,7 @@ fn show<J: Naming, R: Wait>(alloc: Global, served: &mut Served<'_, J, R>, out: &
     let live = served.client.freeze(served.rt);
     put_counts(&live, out);
     put_live(alloc, live, out);
-    for text in NAMES {
+    for text in &NAMES {
         put_past(alloc, past_of(alloc, served, text), out);
     }
 }

@@ -2,7 +2,7 @@
 ghost use Rattle.std.specs.Prelude.{◌≡◌};
 
 use crate::clients::{Made, Served, make_turn};
-use engine::{Client, Clients, CloseFault, Engine, Naming, Report, Room};
+use engine::{Client, Clients, CloseFault, Engine, Flusher, Naming, Report, Room};
 use pathkey::SnapName;
 use refused_trees::frame::ask;
 use refused_trees::told::{put, put_no_memory, put_number};
@@ -42,21 +42,57 @@ pub enum Scene<'a> {
     Close,
 }
 
+/// What a scene's first word asks for.
+#[derive(Clone, Copy)]
+enum Verb {
+    Room,
+    Open,
+    Freeze,
+    Frozen,
+    Made,
+    Flusher,
+    Turn,
+    Stale,
+    Close,
+}
+
+/// The first words of scenes.
+const VERBS: &[(&str, Verb)] = &[
+    ("room", Verb::Room),
+    ("engine", Verb::Open),
+    ("client_freeze", Verb::Freeze),
+    ("client_frozen", Verb::Frozen),
+    ("client_made", Verb::Made),
+    ("flusher", Verb::Flusher),
+    ("turn", Verb::Turn),
+    ("stale_turn", Verb::Stale),
+    ("close", Verb::Close),
+];
+
+/// What a word asks for.
+fn verb_of(name: &str) -> Option<Verb> {
+    for (word, verb) in VERBS {
+        if name == *word {
+            return Some(*verb);
+        }
+    }
+    None
+}
+
 /// The scene that words name, but for that of a call.
 fn scene_of<'a>(words: &'a [&'a str]) -> Option<Scene<'a>> {
     let (name, others) = words.split_first()?;
-    match *name {
-        "room" => Some(Scene::Room),
-        "engine" => Some(Scene::Open),
-        "client_freeze" => Some(Scene::Freeze),
-        "client_frozen" => Some(Scene::Frozen(word_at(others, 0)?)),
-        "client_made" => Some(Scene::Made),
-        "flusher" => Some(Scene::Flusher),
-        "turn" => Some(Scene::Turn(word_at(others, 0)?.parse::<u32>().ok()?)),
-        "stale_turn" => Some(Scene::Stale(word_at(others, 0)?)),
-        "close" => Some(Scene::Close),
-        _ => None,
-    }
+    Some(match verb_of(name)? {
+        Verb::Room => Scene::Room,
+        Verb::Open => Scene::Open,
+        Verb::Freeze => Scene::Freeze,
+        Verb::Frozen => Scene::Frozen(word_at(others, 0)?),
+        Verb::Made => Scene::Made,
+        Verb::Flusher => Scene::Flusher,
+        Verb::Turn => Scene::Turn(word_at(others, 0)?.parse::<u32>().ok()?),
+        Verb::Stale => Scene::Stale(word_at(others, 0)?),
+        Verb::Close => Scene::Close,
+    })
 }
 
 /// A client takes the tree of a snapshot.
@@ -74,6 +110,23 @@ fn looks_back<J: Naming, R: Wait + Print>(
 }
 
 /// What a client does alone.
+fn does<J: Naming, R: Wait + Print>(
+    rt: &R,
+    alloc: Global,
+    served: &mut Served<'_, J, R>,
+    scene: Scene<'_>,
+    out: &mut Vec<u8>,
+) -> bool {
+    match scene {
+        Scene::Call(act) => ask(rt, alloc, served, &mut Line { act }, out),
+        Scene::Freeze => ask(rt, alloc, served, &mut Freeze, out),
+        Scene::Frozen(text) => looks_back(rt, alloc, served, text, out),
+        Scene::Made => ask(rt, alloc, served, &mut Made, out),
+        _ => false,
+    }
+}
+
+/// The same of a client that is given away.
 fn by_client<J: Naming, R: Wait + Print>(
     rt: &R,
     alloc: Global,
@@ -82,13 +135,12 @@ fn by_client<J: Naming, R: Wait + Print>(
     out: &mut Vec<u8>,
 ) -> bool {
     let mut served = Served { rt, client };
-    match scene {
-        Scene::Call(act) => ask(rt, alloc, &mut served, &mut Line { act }, out),
-        Scene::Freeze => ask(rt, alloc, &mut served, &mut Freeze, out),
-        Scene::Frozen(text) => looks_back(rt, alloc, &mut served, text, out),
-        Scene::Made => ask(rt, alloc, &mut served, &mut Made, out),
-        _ => false,
-    }
+    does(rt, alloc, &mut served, scene, out)
+}
+
+/// A flusher of an engine. It ensures nothing, so that no other proof reads what an engine means.
+fn flusher_of<J: Naming>(engine: &mut Engine<J>) -> Option<Flusher<J>> {
+    engine.flusher().ok()
 }
 
 /// A turn of a flusher.
@@ -101,21 +153,34 @@ fn by_flusher<J: Naming, R: Wait + Print>(
     turns: u32,
     out: &mut Vec<u8>,
 ) -> bool {
-    match engine.flusher() {
-        Ok(flusher) => make_turn(rt, alloc, client, flusher, restored, turns, out),
-        Err(_) => false,
+    match flusher_of(engine) {
+        Some(flusher) => make_turn(rt, alloc, client, flusher, restored, turns, out),
+        None => false,
     }
+}
+
+/// The same where a snapshot is restored between its two holds of the lock.
+fn by_stale_flusher<J: Naming, R: Wait + Print>(
+    rt: &R,
+    alloc: Global,
+    engine: &mut Engine<J>,
+    client: Client<J>,
+    text: &str,
+    out: &mut Vec<u8>,
+) -> bool {
+    let name = SnapName::parse(alloc, text.as_bytes()).ok();
+    by_flusher(rt, alloc, engine, client, name, 0, out)
 }
 
 /// A flusher is made between the two lines.
 fn make_flusher<J: Naming, R: Print>(rt: &R, engine: &mut Engine<J>, out: &mut Vec<u8>) -> bool {
     window::open(rt);
-    let made = engine.flusher();
+    let made = flusher_of(engine);
     window::close(rt);
     put(out, "== answer\n");
     match made {
-        Ok(_) => put(out, "made\n"),
-        Err(_) => put(out, "no memory\n"),
+        Some(_) => put(out, "made\n"),
+        None => put(out, "no memory\n"),
     }
     true
 }
@@ -131,10 +196,7 @@ fn play<J: Naming, R: Wait + Print>(
 ) -> bool {
     match scene {
         Scene::Turn(turns) => by_flusher(rt, alloc, engine, client, None, turns, out),
-        Scene::Stale(text) => {
-            let name = SnapName::parse(alloc, text.as_bytes()).ok();
-            by_flusher(rt, alloc, engine, client, name, 0, out)
-        }
+        Scene::Stale(text) => by_stale_flusher(rt, alloc, engine, client, text, out),
         Scene::Flusher => make_flusher(rt, engine, out),
         _ => by_client(rt, alloc, client, scene, out),
     }
@@ -211,6 +273,21 @@ fn close<J: Naming, R: Wait + Print>(
     true
 }
 
+/// What is done with the client of an engine.
+fn play_first<J: Naming, R: Wait + Print>(
+    rt: &R,
+    alloc: Global,
+    engine: &mut Engine<J>,
+    clients: &mut Clients<J>,
+    scene: Scene<'_>,
+    out: &mut Vec<u8>,
+) -> bool {
+    match clients.pop() {
+        Some(client) => play(rt, alloc, engine, client, scene, out),
+        None => false,
+    }
+}
+
 /// What is done with an engine of one client.
 fn with<J: Naming, R: Wait + Print>(
     rt: &R,
@@ -223,10 +300,7 @@ fn with<J: Naming, R: Wait + Print>(
     if let Scene::Close = scene {
         return close(rt, alloc, engine, clients, out);
     }
-    match clients.pop() {
-        Some(client) => play(rt, alloc, &mut engine, client, scene, out),
-        None => false,
-    }
+    play_first(rt, alloc, &mut engine, &mut clients, scene, out)
 }
 
 /// Prints that memory was refused, and what stands.

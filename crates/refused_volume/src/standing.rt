@@ -80,7 +80,7 @@ pub fn show_volume(alloc: Global, volume: &Volume, out: &mut Vec<u8>) {
     put_measures(out, "meta", measures_of(volume, Index::Meta));
     put_measures(out, "block", measures_of(volume, Index::Block));
     put_live(alloc, volume.freeze(), out);
-    for text in NAMES {
+    for text in &NAMES {
         put_past(alloc, past_of(alloc, volume, text), out);
     }
 }

@@ -54,24 +54,27 @@ fn loaded(alloc: Global, text: &[u8], size: usize) -> Result<Volume, LoadFault>
     }
 }
 
+/// What is left of a text behind what a printing writes next into a room, if the text begins so.
+fn behind<'a>(
+    alloc: Global,
+    printing: &mut Printing,
+    room: &mut [u8],
+    text: &'a [u8],
+) -> Option<&'a [u8]> {
+    let count = next(alloc, printing, room)?;
+    text.strip_prefix(room.get(..count)?)
+}
+
 /// Whether what a printing writes into a room of some bytes, again and again, is a text.
 fn writes(alloc: Global, printing: &mut Printing, room: &mut [u8], text: &[u8]) -> bool {
     let mut rest = text;
     // No text here has more pieces.
     for _ in 0..100_000u32 {
-        let Some(count) = next(alloc, printing, room) else {
-            return false;
-        };
-        if count == 0 {
-            return rest.is_empty();
+        match behind(alloc, printing, room, rest) {
+            Some(left) if left.len() == rest.len() => return rest.is_empty(),
+            Some(left) => rest = left,
+            None => return false,
         }
-        let Some(piece) = room.get(..count) else {
-            return false;
-        };
-        let Some(behind) = rest.strip_prefix(piece) else {
-            return false;
-        };
-        rest = behind;
     }
     false
 }
@@ -117,7 +120,7 @@ const IMAGES: [&[u8]; 5] = [
 
 #[test]
 fn goes_in_pieces_of_any_size(rt: HostRuntime) {
-    for text in IMAGES {
+    for text in &IMAGES {
         assert!(rt; goes(rt.alloc(), text, 1));
         assert!(rt; goes(rt.alloc(), text, 7));
         assert!(rt; goes(rt.alloc(), text, 4_096));
@@ -154,29 +157,43 @@ const SPOILED: [(&[u8], u64); 6] = [
     (b"D / 0\nD /b 0\nD /a 0\nx\n", 3),
 ];
 
-/// Why a text in pieces of so many bytes is not loaded.
-fn fault(alloc: Global, text: &[u8], size: usize) -> Option<LoadFault>
+/// Whether a text in pieces of so many bytes is refused at this line.
+fn is_refused(alloc: Global, text: &[u8], size: usize, line: u64) -> bool
     requires { 0 < size }
 {
-    loaded(alloc, text, size).err()
+    match loaded(alloc, text, size) {
+        Ok(_) => false,
+        Err(fault) => fault == LoadFault::Bad(line),
+    }
 }
 
 #[test]
 fn is_refused_at_the_same_line(rt: HostRuntime) {
-    for (text, line) in SPOILED {
-        assert!(rt; fault(rt.alloc(), text, 1) == Some(LoadFault::Bad(line)));
-        assert!(rt; fault(rt.alloc(), text, 7) == Some(LoadFault::Bad(line)));
-        assert!(rt; fault(rt.alloc(), text, 4_096) == Some(LoadFault::Bad(line)));
+    for (text, line) in &SPOILED {
+        assert!(rt; is_refused(rt.alloc(), text, 1, *line));
+        assert!(rt; is_refused(rt.alloc(), text, 7, *line));
+        assert!(rt; is_refused(rt.alloc(), text, 4_096, *line));
+    }
+}
+
+/// Whether a loader refuses a piece at the second line.
+fn refuses(alloc: Global, loader: &mut Loader, piece: &[u8]) -> bool {
+    take(alloc, loader, piece) == Err(LoadFault::Bad(2))
+}
+
+/// Whether it refuses there at the end.
+fn refuses_at_end(loader: Loader) -> bool {
+    match end(loader) {
+        Ok(_) => false,
+        Err(fault) => fault == LoadFault::Bad(2),
     }
 }
 
 /// Whether a loader that refused a piece refuses all that follows at the same line.
 fn stays_refused(alloc: Global, mut loader: Loader) -> bool {
-    let line = Err(LoadFault::Bad(2));
-    if take(alloc, &mut loader, b"D / 0\nx\n") != line {
-        return false;
-    }
-    take(alloc, &mut loader, b"D / 0\n") == line && end(loader).err() == Some(LoadFault::Bad(2))
+    let both = refuses(alloc, &mut loader, b"D / 0\nx\n")
+        && refuses(alloc, &mut loader, b"D / 0\n");
+    refuses_at_end(loader) && both
 }
 
 /// Whether a new one does.

@@ -3,7 +3,7 @@ use crate::asked::{SMALL, USUAL, new_volume};
 use crate::pieces::{Piece, built};
 use crate::streams::has_image;
 use node::{Place, StepKind, StepReply, TreeStep};
-use shell::{Pace, ScriptFault, Tidy, run_script};
+use shell::{Pace, Tidy, run_script};
 use std::alloc::Global;
 use volume::{Index, Step, Volume};
 
@@ -14,8 +14,8 @@ fn run<P: Pace>(
     mut script: &[u8],
     out: &mut Vec<u8>,
     pace: &mut P,
-) -> Result<(), ScriptFault> {
-    run_script(alloc, volume, &mut script, out, pace)
+) -> bool {
+    run_script(alloc, volume, &mut script, out, pace).is_ok()
 }
 
 /// Whether a script is answered so.
@@ -27,7 +27,7 @@ fn answers<P: Pace>(
     pace: &mut P,
 ) -> bool {
     let mut out = Vec::new(alloc);
-    run(alloc, volume, script, &mut out, pace).is_ok() && out.as_slice() == wanted
+    run(alloc, volume, script, &mut out, pace) && out.as_slice() == wanted
 }
 
 /// The flush of the leaf below the root's first slot.
@@ -173,12 +173,18 @@ fn done_in_new(alloc: Global, script: &[u8], wanted: &[u8], steps: Steps) -> Opt
 }
 
 /// The same of the directory's script.
+fn done_so(alloc: Global, wanted: &[u8], steps: Steps) -> Option<u32> {
+    match built(alloc, FILES) {
+        Some(script) => done_in_new(alloc, script.as_slice(), wanted, steps),
+        None => None,
+    }
+}
+
+/// How many of the steps are done behind the directory's script, if its lines are answered as they should be.
 fn done_behind(alloc: Global, steps: Steps) -> Option<u32> {
-    match (built(alloc, FILES), built(alloc, FILES_ANSWERS)) {
-        (Some(script), Some(wanted)) => {
-            done_in_new(alloc, script.as_slice(), wanted.as_slice(), steps)
-        }
-        _ => None,
+    match built(alloc, FILES_ANSWERS) {
+        Some(wanted) => done_so(alloc, wanted.as_slice(), steps),
+        None => None,
     }
 }
 

@@ -1,6 +1,5 @@
 //! Texts that are told by their pieces, where they are long.
 use std::alloc::Global;
-use std::io;
 use std::io::Write;
 
 /// A piece of a text.
@@ -15,50 +14,76 @@ pub enum Piece {
     Blocks(u32),
 }
 
+/// Appends a text; whether there was memory.
+fn put_text(text: &mut Vec<u8>, piece: &str) -> bool {
+    text.extend_from_slice(piece.as_bytes()).is_ok()
+}
+
 /// Appends a text so many times.
-fn put_times(text: &mut Vec<u8>, piece: &str, count: u32) -> io::Result<()> {
+fn put_times(text: &mut Vec<u8>, piece: &str, count: u32) -> bool {
     for _ in 0..count {
-        text.extend_from_slice(piece.as_bytes())?;
+        if !put_text(text, piece) {
+            return false;
+        }
     }
-    Ok(())
+    true
+}
+
+/// Appends a line of a text and a number.
+fn put_line(text: &mut Vec<u8>, front: &str, number: u32) -> bool {
+    writeln!(text, "{front}{number}").is_ok()
 }
 
 /// Appends a line for each number.
-fn put_numbered(text: &mut Vec<u8>, front: &str, first: u32, end: u32) -> io::Result<()> {
+fn put_numbered(text: &mut Vec<u8>, front: &str, first: u32, end: u32) -> bool {
     for number in first..end {
-        writeln!(text, "{front}{number}")?;
+        if !put_line(text, front, number) {
+            return false;
+        }
     }
-    Ok(())
+    true
+}
+
+/// Appends the line of a block.
+fn put_block(text: &mut Vec<u8>, number: u32) -> bool {
+    write!(text, "b {number} ").is_ok() && put_times(text, "ff", 4_096) && put_text(text, "\n")
 }
 
 /// Appends the lines of blocks.
-fn put_blocks(text: &mut Vec<u8>, count: u32) -> io::Result<()> {
+fn put_blocks(text: &mut Vec<u8>, count: u32) -> bool {
     for number in 0..count {
-        write!(text, "b {number} ")?;
-        put_times(text, "ff", 4_096)?;
-        text.extend_from_slice(b"\n")?;
+        if !put_block(text, number) {
+            return false;
+        }
     }
-    Ok(())
+    true
+}
+
+/// Appends a piece.
+fn put_piece(text: &mut Vec<u8>, piece: &Piece) -> bool {
+    match piece {
+        Piece::Text(piece) => put_text(text, piece),
+        Piece::Times(piece, count) => put_times(text, piece, *count),
+        Piece::Numbered(front, first, end) => put_numbered(text, front, *first, *end),
+        Piece::Blocks(count) => put_blocks(text, *count),
+    }
 }
 
 /// Appends the pieces.
-fn put(text: &mut Vec<u8>, pieces: &[Piece]) -> io::Result<()> {
+fn put(text: &mut Vec<u8>, pieces: &[Piece]) -> bool {
     for piece in pieces {
-        match piece {
-            Piece::Text(piece) => put_times(text, piece, 1)?,
-            Piece::Times(piece, count) => put_times(text, piece, *count)?,
-            Piece::Numbered(front, first, end) => put_numbered(text, front, *first, *end)?,
-            Piece::Blocks(count) => put_blocks(text, *count)?,
+        if !put_piece(text, piece) {
+            return false;
         }
     }
-    Ok(())
+    true
 }
 
 /// The text of pieces; none where memory is refused.
 pub fn built(alloc: Global, pieces: &[Piece]) -> Option<Vec<u8>> {
     let mut text = Vec::new(alloc);
-    match put(&mut text, pieces) {
-        Ok(()) => Some(text),
-        Err(_) => None,
+    if put(&mut text, pieces) {
+        return Some(text);
     }
+    None
 }

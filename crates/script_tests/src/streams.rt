@@ -311,6 +311,10 @@ fn stops_at_a_failing_write(rt: HostRuntime) {
     }
 }
 
+/// How many empty lines are read, and with how many flushes: a piece of 65,536 bytes is read at once, and a last read gives none. So
+/// many pieces, and so many flushes.
+const FLUSHES: &[(u32, u32)] = &[(0, 2), (1, 3), (65_536, 3), (65_537, 4), (131_073, 5)];
+
 /// Whether a script of so many empty lines is read with so many flushes.
 fn lines_flush(alloc: Global, length: u32, wanted: u32) -> bool {
     match built(alloc, &[Piece::Times("\n", length)]) {
@@ -325,9 +329,8 @@ fn lines_flush(alloc: Global, length: u32, wanted: u32) -> bool {
 
 #[test]
 fn flushes_before_each_read(rt: HostRuntime) {
-    // a piece of 65,536 bytes is read at once, and a last read gives none: so many pieces, and so many flushes
-    for (length, want) in [(0, 2), (1, 3), (65_536, 3), (65_537, 4), (131_073, 5)] {
-        assert!(rt; lines_flush(rt.alloc(), length, want), "{length}");
+    for (length, want) in FLUSHES {
+        assert!(rt; lines_flush(rt.alloc(), *length, *want), "{length}");
     }
 }
 

@@ -21,10 +21,15 @@ const NUMBERS: &[(&str, Option<u64>)] = &[
     ("\u{661}", None),
 ];
 
+/// Reads a number. It ensures nothing, so that no proof of a test reads what a word means.
+fn number_of(word: &[u8]) -> Option<u64> {
+    read_number(word)
+}
+
 #[test]
 fn reads_numbers(rt: HostRuntime) {
     for row in NUMBERS {
-        assert!(rt; read_number(row.0.as_bytes()) == row.1, "{row:?}");
+        assert!(rt; number_of(row.0.as_bytes()) == row.1, "{}", row.0);
     }
 }
 
@@ -56,9 +61,13 @@ const NO_BYTES: &[&str] = &["", "a", "abc", "0g", "0x", "--", "-0", "g0", " 0", 
 #[test]
 fn reads_bytes(rt: HostRuntime) {
     for row in BYTES {
-        assert!(rt; is_read_as(rt.alloc(), row.0.as_bytes(), row.1), "{row:?}");
+        assert!(rt;
+            is_read_as(rt.alloc(), row.0.as_bytes(), row.1),
+            "{}",
+            row.0
+        );
     }
     for word in NO_BYTES {
-        assert!(rt; is_no_bytes(rt.alloc(), word.as_bytes()), "{word:?}");
+        assert!(rt; is_no_bytes(rt.alloc(), word.as_bytes()), "{word}");
     }
 }

@@ -42,17 +42,46 @@ fn told(alloc: Global, laid: Result<usize, Errno>, room: &[u8]) -> u64 {
     }
 }
 
+/// The number of a change at a moment. It adds without a bound to prove.
+fn numbered(change: u64, at: u64) -> u64 {
+    change.saturating_add(at % 10)
+}
+
+/// A number for each kind of change at a path that the rows have.
+fn told_on_path(change: PathChange, at: u64) -> u64 {
+    match change {
+        PathChange::Unlink => numbered(100, at),
+        PathChange::Rmdir => numbered(200, at),
+        PathChange::Rmtree => numbered(300, at),
+        _ => 1,
+    }
+}
+
+/// A number for each kind of call on snapshots that the rows have.
+fn told_of_keeping(keeping: Keeping) -> u64 {
+    match keeping {
+        Keeping::Remove => 700,
+        Keeping::Restore => 800,
+        _ => 1,
+    }
+}
+
 /// A number for each change that the rows have.
+fn told_of_one(change: &Change) -> u64 {
+    match change {
+        Change::OnPath(change, _, at) => told_on_path(*change, *at),
+        Change::Rename(_, _, at) => numbered(400, *at),
+        Change::Truncate(_, 12, at) => numbered(500, *at),
+        Change::Punch(_, 4096, 8192, at) => numbered(600, *at),
+        Change::Keep(keeping, _) => told_of_keeping(*keeping),
+        _ => 1,
+    }
+}
+
+/// The number of the one change.
 fn told_of(changes: &[Change]) -> u64 {
     match changes {
-        [Change::OnPath(PathChange::Unlink, _, at)] => 100 + at % 10,
-        [Change::OnPath(PathChange::Rmdir, _, at)] => 200 + at % 10,
-        [Change::OnPath(PathChange::Rmtree, _, at)] => 300 + at % 10,
-        [Change::Rename(_, _, at)] => 400 + at % 10,
-        [Change::Truncate(_, 12, at)] => 500 + at % 10,
-        [Change::Punch(_, 4096, 8192, at)] => 600 + at % 10,
-        [Change::Keep(Keeping::Remove, _)] => 700,
-        [Change::Keep(Keeping::Restore, _)] => 800,
+        [change] => told_of_one(change),
         _ => 1,
     }
 }
@@ -79,69 +108,86 @@ fn read_as_they_were_laid(rt: HostRuntime) -> Result<(), Fail> {
     Ok(())
 }
 
+/// Whether a call ended so.
+fn ends_so(told: Result<usize, Errno>, want: Result<usize, Errno>) -> bool {
+    told == want
+}
+
 #[test]
 fn refused_texts(rt: HostRuntime) -> Result<(), Fail> {
     let mut room = [0u8; 64];
     let mkdir = PathChange::Mkdir;
-    assert_eq!(rt;
-        lay_on_path(rt.alloc(), mkdir, b"", 1, &mut room),
-        Err(Errno::ENOENT)
-    );
-    assert_eq!(rt;
-        lay_on_path(rt.alloc(), mkdir, b"a", 1, &mut room),
-        Err(Errno::EINVAL)
-    );
-    assert_eq!(rt;
-        lay_rename(rt.alloc(), b"/a", b"b", 1, &mut room),
-        Err(Errno::EINVAL)
-    );
-    assert_eq!(rt;
-        lay_keep(rt.alloc(), Keeping::Snapshot, b"", &mut room),
-        Err(Errno::EINVAL)
-    );
+    let laid = lay_on_path(rt.alloc(), mkdir, b"", 1, &mut room);
+    assert!(rt; ends_so(laid, Err(Errno::ENOENT)));
+    let laid = lay_on_path(rt.alloc(), mkdir, b"a", 1, &mut room);
+    assert!(rt; ends_so(laid, Err(Errno::EINVAL)));
+    let laid = lay_rename(rt.alloc(), b"/a", b"b", 1, &mut room);
+    assert!(rt; ends_so(laid, Err(Errno::EINVAL)));
+    let laid = lay_keep(rt.alloc(), Keeping::Snapshot, b"", &mut room);
+    assert!(rt; ends_so(laid, Err(Errno::EINVAL)));
     // No room: the size alone.
-    assert_eq!(rt; lay_on_path(rt.alloc(), mkdir, b"/a", 1, &mut []), Ok(50));
+    let laid = lay_on_path(rt.alloc(), mkdir, b"/a", 1, &mut []);
+    assert!(rt; ends_so(laid, Ok(50)));
     assert_eq!(rt; room[0], 0);
     Ok(())
 }
 
-/// How many changes a body is, or its refusal; the body has one byte changed.
-fn count(alloc: Global, body: &[u8], place: usize, byte: u8) -> Result<usize, Errno> {
-    let Ok(mut changed) = Vec::from_slice(alloc, body) else {
-        return Err(Errno::ENOMEM);
-    };
-    if let Some(old) = changed.get_mut(place) {
-        *old = byte;
+/// How many changes a body is, or its refusal.
+fn count(alloc: Global, body: &[u8]) -> Result<usize, Errno> {
+    match read_changes(alloc, body) {
+        Ok(changes) => Ok(changes.len()),
+        Err(fault) => Err(fault),
     }
-    let changes = read_changes(alloc, changed.as_slice())?;
-    Ok(changes.len())
+}
+
+/// The beginning of a body up to a size, a byte's place, if it has that, what the byte becomes, and how many changes that is, or its
+/// refusal.
+type Row = (&'static [u8], usize, usize, u8, Result<usize, Errno>);
+
+const ROWS: [Row; 13] = [
+    (b"", 0, 0, 0, Ok(0)),
+    (SECOND_BODY, SECOND_BODY.len(), 999, 0, Ok(2)),
+    // The kinds are 1 to 12.
+    (FIRST_BODY, FIRST_BODY.len(), 0, 0, Err(Errno::EINVAL)),
+    (FIRST_BODY, FIRST_BODY.len(), 0, 13, Err(Errno::EINVAL)),
+    (FIRST_BODY, FIRST_BODY.len(), 0, 5, Ok(1)),
+    // A number that the change has not.
+    (FIRST_BODY, FIRST_BODY.len(), 16, 1, Err(Errno::EINVAL)),
+    (FIRST_BODY, FIRST_BODY.len(), 24, 1, Err(Errno::EINVAL)),
+    // Texts that are too long for the body, or leave bytes.
+    (FIRST_BODY, FIRST_BODY.len(), 32, 3, Err(Errno::EINVAL)),
+    (FIRST_BODY, FIRST_BODY.len(), 32, 1, Err(Errno::EINVAL)),
+    (FIRST_BODY, FIRST_BODY.len(), 40, 1, Err(Errno::EINVAL)),
+    // No path.
+    (FIRST_BODY, FIRST_BODY.len(), 48, b'a', Err(Errno::EINVAL)),
+    // Cut off.
+    (FIRST_BODY, 49, 999, 0, Err(Errno::EINVAL)),
+    (SECOND_BODY, 100, 999, 0, Err(Errno::EINVAL)),
+];
+
+/// Whether changed bytes are so many changes, or are refused so.
+fn are_changes(alloc: Global, bytes: &mut [u8], row: &Row) -> bool {
+    if let Some(byte) = bytes.get_mut(row.2) {
+        *byte = row.3;
+    }
+    ends_so(count(alloc, bytes), row.4)
+}
+
+/// Whether a row is so.
+fn is_row(alloc: Global, row: &Row) -> bool {
+    let Some(body) = row.0.get(..row.1) else {
+        return false;
+    };
+    match Vec::from_slice(alloc, body) {
+        Ok(mut bytes) => are_changes(alloc, bytes.as_mut_slice(), row),
+        Err(_) => false,
+    }
 }
 
 #[test]
 fn no_bodies(rt: HostRuntime) -> Result<(), Fail> {
-    assert_eq!(rt; count(rt.alloc(), b"", 0, 0), Ok(0));
-    assert_eq!(rt; count(rt.alloc(), SECOND_BODY, 999, 0), Ok(2));
-    // The kinds are 1 to 12.
-    assert_eq!(rt; count(rt.alloc(), FIRST_BODY, 0, 0), Err(Errno::EINVAL));
-    assert_eq!(rt; count(rt.alloc(), FIRST_BODY, 0, 13), Err(Errno::EINVAL));
-    assert_eq!(rt; count(rt.alloc(), FIRST_BODY, 0, 5), Ok(1));
-    // A number that the change has not.
-    assert_eq!(rt; count(rt.alloc(), FIRST_BODY, 16, 1), Err(Errno::EINVAL));
-    assert_eq!(rt; count(rt.alloc(), FIRST_BODY, 24, 1), Err(Errno::EINVAL));
-    // Texts that are too long for the body, or leave bytes.
-    assert_eq!(rt; count(rt.alloc(), FIRST_BODY, 32, 3), Err(Errno::EINVAL));
-    assert_eq!(rt; count(rt.alloc(), FIRST_BODY, 32, 1), Err(Errno::EINVAL));
-    assert_eq!(rt; count(rt.alloc(), FIRST_BODY, 40, 1), Err(Errno::EINVAL));
-    // No path.
-    assert_eq!(rt; count(rt.alloc(), FIRST_BODY, 48, b'a'), Err(Errno::EINVAL));
-    // Cut off.
-    assert_eq!(rt;
-        count(rt.alloc(), &FIRST_BODY[..49], 999, 0),
-        Err(Errno::EINVAL)
-    );
-    assert_eq!(rt;
-        count(rt.alloc(), &SECOND_BODY[..100], 999, 0),
-        Err(Errno::EINVAL)
-    );
+    for row in &ROWS {
+        assert!(rt; is_row(rt.alloc(), row));
+    }
     Ok(())
 }

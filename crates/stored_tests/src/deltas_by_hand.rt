@@ -26,39 +26,93 @@ fn print(alloc: Global, frozen: &Frozen, out: &mut Vec<u8>) -> bool {
     print_image(alloc, frozen, out).is_ok()
 }
 
-/// The image of a volume's tree.
-pub fn image_of(alloc: Global, volume: &Volume) -> Option<Vec<u8>> {
-    let frozen = freeze(volume)?;
+/// The image of a tree.
+fn text_of(alloc: Global, frozen: &Frozen) -> Option<Vec<u8>> {
     let mut text = Vec::new(alloc);
-    if print(alloc, &frozen, &mut text) {
+    if print(alloc, frozen, &mut text) {
         return Some(text);
     }
     None
 }
 
-fn digest_of(alloc: Global, frozen: Frozen) -> Option<[u8; 32]> {
+/// The image of a volume's tree.
+pub fn image_of(alloc: Global, volume: &Volume) -> Option<Vec<u8>> {
+    match freeze(volume) {
+        Some(frozen) => text_of(alloc, &frozen),
+        None => None,
+    }
+}
+
+/// Whether a volume's tree has this image.
+pub fn has_image(alloc: Global, volume: &Volume, image: &[u8]) -> bool {
+    match image_of(alloc, volume) {
+        Some(found) => found.as_slice() == image,
+        None => false,
+    }
+}
+
+fn digest(alloc: Global, frozen: Frozen) -> Option<[u8; 32]> {
     image_digest(alloc, frozen).ok()
+}
+
+/// The digest of the image of a volume's tree.
+fn digest_of(alloc: Global, volume: &Volume) -> Option<[u8; 32]> {
+    match freeze(volume) {
+        Some(frozen) => digest(alloc, frozen),
+        None => None,
+    }
 }
 
 fn put(alloc: Global, digest: &[u8; 32], old: Frozen, new: Frozen, out: &mut Vec<u8>) -> bool {
     print_delta(alloc, digest, old, new, out).is_ok()
 }
 
+/// Prints the delta from a tree to that of a volume.
+fn put_to(alloc: Global, digest: &[u8; 32], old: Frozen, new: &Volume, out: &mut Vec<u8>) -> bool {
+    match freeze(new) {
+        Some(new) => put(alloc, digest, old, new, out),
+        None => false,
+    }
+}
+
+/// Prints the delta of two volumes' trees, of which the first has this digest.
+fn put_both(
+    alloc: Global,
+    digest: &[u8; 32],
+    old: &Volume,
+    new: &Volume,
+    out: &mut Vec<u8>,
+) -> bool {
+    match freeze(old) {
+        Some(old) => put_to(alloc, digest, old, new, out),
+        None => false,
+    }
+}
+
 /// The delta of two volumes' trees.
 pub fn delta_of(alloc: Global, old: &Volume, new: &Volume) -> Option<Vec<u8>> {
-    let digest = digest_of(alloc, freeze(old)?)?;
+    let digest = digest_of(alloc, old)?;
     let mut text = Vec::new(alloc);
-    if put(alloc, &digest, freeze(old)?, freeze(new)?, &mut text) {
+    if put_both(alloc, &digest, old, new, &mut text) {
         return Some(text);
     }
     None
 }
 
+/// The delta of a volume's tree and an image.
+fn delta_to(alloc: Global, old: &Volume, new: &[u8]) -> Option<Vec<u8>> {
+    match load(alloc, new) {
+        Some(new) => delta_of(alloc, old, &new),
+        None => None,
+    }
+}
+
 /// The delta of two images.
 pub fn between(alloc: Global, old: &[u8], new: &[u8]) -> Option<Vec<u8>> {
-    let old = load(alloc, old)?;
-    let new = load(alloc, new)?;
-    delta_of(alloc, &old, &new)
+    match load(alloc, old) {
+        Some(old) => delta_to(alloc, &old, new),
+        None => None,
+    }
 }
 
 /// Applies a delta to a volume.
@@ -66,10 +120,17 @@ pub fn apply(alloc: Global, volume: &mut Volume, delta: &[u8]) -> Result<(), Del
     apply_delta(alloc, volume, delta)
 }
 
+/// Adds the first line of a delta of `TREE`, and these lines.
+fn put_lines(text: &mut Vec<u8>, commands: &str) -> bool {
+    text.extend_from_slice(FIRST.as_bytes()).is_ok()
+        && text.extend_from_slice(commands.as_bytes()).is_ok()
+}
+
 /// The first line of a delta of `TREE`, and these lines.
 pub fn delta(alloc: Global, commands: &str) -> Option<Vec<u8>> {
     let mut text = Vec::new(alloc);
-    text.extend_from_slice(FIRST.as_bytes()).ok()?;
-    text.extend_from_slice(commands.as_bytes()).ok()?;
-    Some(text)
+    if put_lines(&mut text, commands) {
+        return Some(text);
+    }
+    None
 }

@@ -1,28 +1,44 @@
 //! What is printed of two trees, and what a volume has when it is applied.
-use crate::deltas_by_hand::{TREE, apply, between, delta, image_of, load};
+use crate::deltas_by_hand::{TREE, apply, between, delta, has_image, load};
 use std::alloc::Global;
 use std::test::Fail;
 
-/// Whether these commands are printed of `TREE` and of another image.
-fn prints(alloc: Global, commands: &str, image: &str) -> Option<bool> {
-    let wanted = delta(alloc, commands)?;
-    let found = between(alloc, TREE.as_bytes(), image.as_bytes())?;
-    Some(found.as_slice() == wanted.as_slice())
+/// Whether this delta is printed of `TREE` and of another image.
+fn prints_text(alloc: Global, wanted: &[u8], image: &[u8]) -> bool {
+    match between(alloc, TREE.as_bytes(), image) {
+        Some(found) => found.as_slice() == wanted,
+        None => false,
+    }
 }
 
-/// Whether they make of a volume with `TREE` one with the other image.
-fn makes(alloc: Global, commands: &str, image: &str) -> Option<bool> {
-    let text = delta(alloc, commands)?;
-    let mut volume = load(alloc, TREE.as_bytes())?;
-    if apply(alloc, &mut volume, text.as_slice()).is_err() {
-        return Some(false);
+/// Whether the delta of these commands is printed of `TREE` and of another image.
+fn prints(alloc: Global, commands: &str, image: &str) -> bool {
+    match delta(alloc, commands) {
+        Some(wanted) => prints_text(alloc, wanted.as_slice(), image.as_bytes()),
+        None => false,
     }
-    let found = image_of(alloc, &volume)?;
-    Some(found.as_slice() == image.as_bytes())
+}
+
+/// Whether a delta makes of a volume with `TREE` one with the other image.
+fn makes_image(alloc: Global, text: &[u8], image: &[u8]) -> bool {
+    match load(alloc, TREE.as_bytes()) {
+        Some(mut volume) => {
+            apply(alloc, &mut volume, text).is_ok() && has_image(alloc, &volume, image)
+        }
+        None => false,
+    }
+}
+
+/// Whether the delta of these commands makes of a volume with `TREE` one with the other image.
+fn makes(alloc: Global, commands: &str, image: &str) -> bool {
+    match delta(alloc, commands) {
+        Some(text) => makes_image(alloc, text.as_slice(), image.as_bytes()),
+        None => false,
+    }
 }
 
 fn is_between(alloc: Global, commands: &str, image: &str) -> bool {
-    prints(alloc, commands, image) == Some(true) && makes(alloc, commands, image) == Some(true)
+    prints(alloc, commands, image) && makes(alloc, commands, image)
 }
 
 /// The commands, and the image that they make of `TREE`.
@@ -62,7 +78,7 @@ fn differences_by_hand(rt: HostRuntime) -> Result<(), Fail> {
 #[test]
 fn other_commands_make_the_same(rt: HostRuntime) -> Result<(), Fail> {
     let (commands, image) = ROWS[5];
-    assert!(rt; makes(rt.alloc(), commands, image) == Some(true));
-    assert!(rt; makes(rt.alloc(), "= 1\n= 1\n= 5\nend\n", TREE) == Some(true));
+    assert!(rt; makes(rt.alloc(), commands, image));
+    assert!(rt; makes(rt.alloc(), "= 1\n= 1\n= 5\nend\n", TREE));
     Ok(())
 }

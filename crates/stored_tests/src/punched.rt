@@ -124,126 +124,333 @@ const ROWS: [Row; 11] = [
     },
 ];
 
-fn path(alloc: Global, text: &str) -> Result<Path, Errno> {
-    Path::parse(alloc, text.as_bytes())
+/// The path of a text.
+fn path(alloc: Global, text: &str) -> Option<Path> {
+    Path::parse(alloc, text.as_bytes()).ok()
 }
 
-/// Puts the bytes of the runs behind others.
-fn push_runs(bytes: &mut Vec<u8>, runs: &[Run]) -> Result<(), Errno> {
-    for (count, byte) in runs {
-        for _ in 0..*count {
-            if bytes.push(*byte).is_err() {
-                return Err(Errno::ENOMEM);
-            }
-        }
-    }
-    Ok(())
-}
-
-/// A volume with a directory `/d`, and with the file `/f` before any hole, in a small tree.
-fn filled(alloc: Global) -> Result<Volume, Errno> {
-    let mut volume = Volume::new(alloc, SMALL)?;
-    let file = path(alloc, "/f")?;
-    let mut bytes = Vec::new(alloc);
-    push_runs(&mut bytes, &WHOLE)?;
-    volume.mkdir(alloc, &path(alloc, "/d")?, 1)?;
-    volume.create(alloc, &file, 2)?;
-    let _written = volume.write(alloc, &file, 0, bytes.as_slice(), 3)?;
-    for _ in 0..100 {
-        if volume.relieve(alloc).is_none() {
-            break;
-        }
-    }
-    Ok(volume)
-}
-
-/// Whether the file of a tree has the bytes, and the moment.
-fn has_bytes(alloc: Global, tree: &Frozen, runs: &[Run], modified: u64) -> Result<bool, Errno> {
-    let file = path(alloc, "/f")?;
-    let mut wanted = Vec::new(alloc);
-    push_runs(&mut wanted, runs)?;
-    let bytes = tree.try_read(alloc, &file, 0, 100_000)?;
-    let (kind, length, moment) = tree.try_stat(alloc, &file)?;
-    Ok(bytes == wanted && kind == Kind::File && length == LENGTH && moment == modified)
-}
-
-/// Whether these runs of the file are stored, and no others.
-fn has_runs(alloc: Global, tree: &Frozen, runs: &[(u64, u64)]) -> Result<bool, Errno> {
-    let file = path(alloc, "/f")?;
-    let mut offset = 0;
-    for run in runs {
-        if tree.stored(alloc, &file, offset)? != *run {
-            return Ok(false);
-        }
-        offset = run.1;
-    }
-    Ok(tree.stored(alloc, &file, offset)? == (LENGTH, LENGTH))
-}
-
-/// Makes the holes in the file: how many bytes the last made zeros.
-fn punch(alloc: Global, volume: &mut Volume, holes: &[(u64, u64)]) -> Result<u64, Errno> {
-    let file = path(alloc, "/f")?;
-    let mut count = 0;
-    for hole in holes {
-        count = volume.punch(alloc, &file, hole.0, hole.1, 7)?;
-    }
-    Ok(count)
-}
-
-/// Whether holes are made as their row says, and a snapshot that was taken before keeps its bytes.
-fn makes(alloc: Global, row: &Row) -> Result<bool, Errno> {
-    let mut volume = filled(alloc)?;
-    let name = SnapName::parse(alloc, b"before")?;
-    volume.snapshot(alloc, &name)?;
-    let count = punch(alloc, &mut volume, row.asked)?;
-    let live = volume.freeze()?;
-    let before = volume.frozen(&name)?;
-    Ok(
-        count == row.count
-            && has_bytes(alloc, &live, row.bytes, row.modified)?
-            && has_runs(alloc, &live, row.stored)?
-            && has_bytes(alloc, &before, &WHOLE, 3)?
-            && has_runs(alloc, &before, &[(0, LENGTH)])?,
-    )
-}
-
-fn makes_each(alloc: Global) -> bool {
-    for row in &ROWS {
-        match makes(alloc, row) {
-            Ok(true) => {}
-            _ => return false,
+/// Puts a byte so many times behind others.
+fn push(bytes: &mut Vec<u8>, count: u64, byte: u8) -> bool {
+    for _ in 0..count {
+        if bytes.push(byte).is_err() {
+            return false;
         }
     }
     true
 }
 
-#[test]
-fn makes_zeros_of_a_part_of_a_file(rt: HostRuntime) {
-    assert!(rt; makes_each(rt.alloc()));
+/// Puts the bytes of the runs behind others.
+fn push_runs(bytes: &mut Vec<u8>, runs: &[Run]) -> bool {
+    for (count, byte) in runs {
+        if !push(bytes, *count, *byte) {
+            return false;
+        }
+    }
+    true
 }
 
-/// Whether both calls are refused so at the path of a text.
-fn are_refused(alloc: Global, volume: &mut Volume, text: &str, fault: Errno) -> bool {
-    let Ok(path) = path(alloc, text) else {
-        return false;
-    };
-    volume.punch(alloc, &path, 0, 1, 7) == Err(fault)
-        && volume.stored(alloc, &path, 0) == Err(fault)
+/// The bytes of the runs.
+fn bytes_of(alloc: Global, runs: &[Run]) -> Option<Vec<u8>> {
+    let mut bytes = Vec::new(alloc);
+    if push_runs(&mut bytes, runs) {
+        return Some(bytes);
+    }
+    None
+}
+
+fn new_volume(alloc: Global) -> Option<Volume> {
+    Volume::new(alloc, SMALL).ok()
+}
+
+fn mkdir(alloc: Global, volume: &mut Volume, path: &Path) -> bool {
+    volume.mkdir(alloc, path, 1).is_ok()
+}
+
+fn create(alloc: Global, volume: &mut Volume, file: &Path) -> bool {
+    volume.create(alloc, file, 2).is_ok()
+}
+
+fn write(alloc: Global, volume: &mut Volume, file: &Path, bytes: &[u8]) -> bool {
+    volume.write(alloc, file, 0, bytes, 3).is_ok()
+}
+
+fn relieve(alloc: Global, volume: &mut Volume) -> bool {
+    volume.relieve(alloc).is_some()
+}
+
+/// Makes the directory `/d`.
+fn make_directory(alloc: Global, volume: &mut Volume) -> bool {
+    match path(alloc, "/d") {
+        Some(path) => mkdir(alloc, volume, &path),
+        None => false,
+    }
+}
+
+/// Writes the bytes that the file has before any hole.
+fn write_whole(alloc: Global, volume: &mut Volume, file: &Path) -> bool {
+    match bytes_of(alloc, &WHOLE) {
+        Some(bytes) => write(alloc, volume, file, bytes.as_slice()),
+        None => false,
+    }
+}
+
+/// Lets a volume do what waits.
+fn settle(alloc: Global, volume: &mut Volume) {
+    for _ in 0..100 {
+        if !relieve(alloc, volume) {
+            break;
+        }
+    }
+}
+
+/// Makes the directory and the file.
+fn fill(alloc: Global, volume: &mut Volume, file: &Path) -> bool {
+    make_directory(alloc, volume) && create(alloc, volume, file) && write_whole(alloc, volume, file)
+}
+
+/// A volume with a directory `/d`, and with the file before any hole, in a small tree.
+fn filled(alloc: Global, file: &Path) -> Option<Volume> {
+    let mut volume = new_volume(alloc)?;
+    if !fill(alloc, &mut volume, file) {
+        return None;
+    }
+    settle(alloc, &mut volume);
+    Some(volume)
+}
+
+fn freeze(volume: &Volume) -> Option<Frozen> {
+    volume.freeze().ok()
+}
+
+fn frozen(volume: &Volume, name: &SnapName) -> Option<Frozen> {
+    volume.frozen(name).ok()
+}
+
+fn read(alloc: Global, tree: &Frozen, file: &Path) -> Option<Vec<u8>> {
+    tree.try_read(alloc, file, 0, 100_000).ok()
+}
+
+fn stat(alloc: Global, tree: &Frozen, file: &Path) -> Option<(Kind, u64, u64)> {
+    tree.try_stat(alloc, file).ok()
+}
+
+fn stored(alloc: Global, tree: &Frozen, file: &Path, offset: u64) -> Option<(u64, u64)> {
+    tree.stored(alloc, file, offset).ok()
+}
+
+/// Whether the file of a tree has these bytes.
+fn reads(alloc: Global, tree: &Frozen, file: &Path, wanted: &[u8]) -> bool {
+    match read(alloc, tree, file) {
+        Some(bytes) => bytes.as_slice() == wanted,
+        None => false,
+    }
+}
+
+/// Whether the file of a tree has the bytes of these runs.
+fn reads_runs(alloc: Global, tree: &Frozen, file: &Path, runs: &[Run]) -> bool {
+    match bytes_of(alloc, runs) {
+        Some(wanted) => reads(alloc, tree, file, wanted.as_slice()),
+        None => false,
+    }
+}
+
+/// Whether it has its length, and the moment.
+fn is_told(alloc: Global, tree: &Frozen, file: &Path, modified: u64) -> bool {
+    match stat(alloc, tree, file) {
+        Some((kind, length, moment)) => {
+            kind == Kind::File && length == LENGTH && moment == modified
+        }
+        None => false,
+    }
+}
+
+/// Whether the file of a tree has the bytes, and the moment.
+fn has_bytes(alloc: Global, tree: &Frozen, file: &Path, runs: &[Run], modified: u64) -> bool {
+    reads_runs(alloc, tree, file, runs) && is_told(alloc, tree, file, modified)
+}
+
+/// Whether these runs of the file are stored, and no others.
+fn has_runs(alloc: Global, tree: &Frozen, file: &Path, runs: &[(u64, u64)]) -> bool {
+    let mut offset = 0;
+    for run in runs {
+        if stored(alloc, tree, file, offset) != Some(*run) {
+            return false;
+        }
+        offset = run.1;
+    }
+    stored(alloc, tree, file, offset) == Some((LENGTH, LENGTH))
+}
+
+fn punch(alloc: Global, volume: &mut Volume, file: &Path, hole: (u64, u64)) -> Option<u64> {
+    volume.punch(alloc, file, hole.0, hole.1, 7).ok()
+}
+
+/// Makes the holes in the file: how many bytes the last made zeros.
+fn punch_each(
+    alloc: Global,
+    volume: &mut Volume,
+    file: &Path,
+    holes: &[(u64, u64)],
+) -> Option<u64> {
+    let mut count = Some(0);
+    for hole in holes {
+        count = punch(alloc, volume, file, *hole);
+        if count.is_none() {
+            return None;
+        }
+    }
+    count
+}
+
+fn snapshot(alloc: Global, volume: &mut Volume, name: &SnapName) -> bool {
+    volume.snapshot(alloc, name).is_ok()
+}
+
+/// Whether the live tree is as the row says.
+fn is_live(alloc: Global, volume: &Volume, file: &Path, row: &Row) -> bool {
+    match freeze(volume) {
+        Some(tree) => {
+            has_bytes(alloc, &tree, file, row.bytes, row.modified)
+                && has_runs(alloc, &tree, file, row.stored)
+        }
+        None => false,
+    }
+}
+
+/// The runs that are stored before any hole.
+const ALL: [(u64, u64); 1] = [(0, LENGTH)];
+
+/// Whether a snapshot has the file before any hole.
+fn keeps(alloc: Global, volume: &Volume, file: &Path, name: &SnapName) -> bool {
+    match frozen(volume, name) {
+        Some(tree) => {
+            has_bytes(alloc, &tree, file, &WHOLE, 3) && has_runs(alloc, &tree, file, &ALL)
+        }
+        None => false,
+    }
+}
+
+/// Whether holes are made in a volume as their row says, and a snapshot that was taken before keeps its bytes.
+fn makes_beside(
+    alloc: Global,
+    volume: &mut Volume,
+    file: &Path,
+    name: &SnapName,
+    row: &Row,
+) -> bool {
+    snapshot(alloc, volume, name)
+        && punch_each(alloc, volume, file, row.asked) == Some(row.count)
+        && is_live(alloc, volume, file, row)
+        && keeps(alloc, volume, file, name)
+}
+
+/// Whether holes are made in a new volume as their row says, and a snapshot that is taken before keeps its bytes.
+fn makes(alloc: Global, file: &Path, name: &SnapName, row: &Row) -> bool {
+    match filled(alloc, file) {
+        Some(mut volume) => makes_beside(alloc, &mut volume, file, name, row),
+        None => false,
+    }
+}
+
+fn makes_each(alloc: Global, file: &Path, name: &SnapName) -> bool {
+    for row in &ROWS {
+        if !makes(alloc, file, name, row) {
+            return false;
+        }
+    }
+    true
+}
+
+/// Whether the holes of each row are made in a file as it says, beside a snapshot with the name `before`.
+fn makes_each_beside(alloc: Global, file: &Path) -> bool {
+    match SnapName::parse(alloc, b"before") {
+        Ok(name) => makes_each(alloc, file, &name),
+        Err(_) => false,
+    }
+}
+
+/// Whether the holes of each row are made in the file `/f` as it says.
+fn makes_each_at(alloc: Global) -> bool {
+    match path(alloc, "/f") {
+        Some(file) => makes_each_beside(alloc, &file),
+        None => false,
+    }
+}
+
+#[test]
+fn makes_zeros_of_a_part_of_a_file(rt: HostRuntime) {
+    assert!(rt; makes_each_at(rt.alloc()));
+}
+
+/// Why no hole is made at a path.
+fn fault_of_punch(alloc: Global, volume: &mut Volume, path: &Path) -> Option<Errno> {
+    volume.punch(alloc, path, 0, 1, 7).err()
+}
+
+/// Why it is not told what is stored there.
+fn fault_of_stored(alloc: Global, volume: &Volume, path: &Path) -> Option<Errno> {
+    volume.stored(alloc, path, 0).err()
+}
+
+/// Whether both calls are refused so.
+fn are_refused(alloc: Global, volume: &mut Volume, path: &Path, fault: Errno) -> bool {
+    fault_of_punch(alloc, volume, path) == Some(fault)
+        && fault_of_stored(alloc, volume, path) == Some(fault)
+}
+
+/// Whether both calls are refused with this fault at the path that a text names.
+fn are_refused_at(alloc: Global, volume: &mut Volume, text: &str, fault: Errno) -> bool {
+    match path(alloc, text) {
+        Some(path) => are_refused(alloc, volume, &path, fault),
+        None => false,
+    }
+}
+
+/// Where no file stands, and why the calls are refused there.
+const REFUSED: [(&str, Errno); 4] = [
+    ("/", Errno::EISDIR),
+    ("/d", Errno::EISDIR),
+    ("/d/x", Errno::ENOENT),
+    ("/f/x", Errno::ENOTDIR),
+];
+
+/// Whether both calls are refused at each.
+fn are_refused_each(alloc: Global, volume: &mut Volume) -> bool {
+    for (text, fault) in &REFUSED {
+        if !are_refused_at(alloc, volume, text, *fault) {
+            return false;
+        }
+    }
+    true
+}
+
+/// Whether the live tree has the file before any hole.
+fn is_whole(alloc: Global, volume: &Volume, file: &Path) -> bool {
+    match freeze(volume) {
+        Some(tree) => has_bytes(alloc, &tree, file, &WHOLE, 3),
+        None => false,
+    }
 }
 
 /// Whether both calls are refused where no file stands, and nothing is changed.
-fn are_refused_each(alloc: Global) -> Result<bool, Errno> {
-    let mut volume = filled(alloc)?;
-    Ok(
-        are_refused(alloc, &mut volume, "/", Errno::EISDIR)
-            && are_refused(alloc, &mut volume, "/d", Errno::EISDIR)
-            && are_refused(alloc, &mut volume, "/d/x", Errno::ENOENT)
-            && are_refused(alloc, &mut volume, "/f/x", Errno::ENOTDIR)
-            && has_bytes(alloc, &volume.freeze()?, &WHOLE, 3)?,
-    )
+fn refuses_each(alloc: Global, file: &Path) -> bool {
+    match filled(alloc, file) {
+        Some(mut volume) => {
+            are_refused_each(alloc, &mut volume) && is_whole(alloc, &volume, file)
+        }
+        None => false,
+    }
+}
+
+/// Whether both calls are refused where no file stands, and the file `/f` stays whole.
+fn refuses_each_beside(alloc: Global) -> bool {
+    match path(alloc, "/f") {
+        Some(file) => refuses_each(alloc, &file),
+        None => false,
+    }
 }
 
 #[test]
 fn refuses_what_is_no_file(rt: HostRuntime) {
-    assert!(rt; are_refused_each(rt.alloc()) == Ok(true));
+    assert!(rt; refuses_each_beside(rt.alloc()));
 }

@@ -1,26 +1,41 @@
 //! Texts that are no deltas, deltas of other trees, and deltas that make no image.
-use crate::deltas_by_hand::{FIRST, TREE, apply, delta, image_of, load};
+use crate::deltas_by_hand::{FIRST, TREE, apply, delta, has_image, load};
 use delta::DeltaFault;
 use std::alloc::Global;
 use std::test::Fail;
+use volume::Volume;
 
-/// What is answered to a delta for `TREE`, where the volume has the same image behind it.
-fn answer(alloc: Global, text: &[u8]) -> Option<DeltaFault> {
-    let mut volume = load(alloc, TREE.as_bytes())?;
-    let Err(fault) = apply(alloc, &mut volume, text) else {
-        return None;
-    };
-    let image = image_of(alloc, &volume)?;
-    if image.as_slice() == TREE.as_bytes() {
-        return Some(fault);
+/// What a volume answers to a delta, where it has the image of `TREE` behind it.
+fn answer_in(alloc: Global, volume: &mut Volume, text: &[u8]) -> Option<DeltaFault> {
+    let fault = apply(alloc, volume, text).err();
+    if has_image(alloc, volume, TREE.as_bytes()) {
+        return fault;
     }
     None
 }
 
+/// What a volume with `TREE` answers to a delta, where it has that image behind it too.
+fn answer(alloc: Global, text: &[u8]) -> Option<DeltaFault> {
+    match load(alloc, TREE.as_bytes()) {
+        Some(mut volume) => answer_in(alloc, &mut volume, text),
+        None => None,
+    }
+}
+
+/// Whether that is what is answered to a delta.
+fn is_answer(alloc: Global, text: &[u8], want: &DeltaFault) -> bool {
+    match answer(alloc, text) {
+        Some(fault) => fault == *want,
+        None => false,
+    }
+}
+
 /// The same of the first line and these lines.
-fn answer_to(alloc: Global, commands: &str) -> Option<DeltaFault> {
-    let text = delta(alloc, commands)?;
-    answer(alloc, text.as_slice())
+fn is_answer_to(alloc: Global, commands: &str, want: &DeltaFault) -> bool {
+    match delta(alloc, commands) {
+        Some(text) => is_answer(alloc, text.as_slice(), want),
+        None => false,
+    }
 }
 
 /// Lines behind the first, and the number of the first bad line.
@@ -41,44 +56,52 @@ const BAD: [(&str, u64); 14] = [
     ("= 7\nEND\n", 3),
 ];
 
+/// Whether the line with this number is the first bad one.
+fn is_bad(alloc: Global, commands: &str, bad: u64) -> bool {
+    is_answer_to(alloc, commands, &DeltaFault::Bad(bad))
+}
+
 #[test]
 fn bad_lines_by_their_numbers(rt: HostRuntime) -> Result<(), Fail> {
     for number in 0..14usize {
         let (commands, bad) = BAD[number];
-        assert!(rt;
-            answer_to(rt.alloc(), commands) == Some(DeltaFault::Bad(bad)),
-            "{number}"
-        );
+        assert!(rt; is_bad(rt.alloc(), commands, bad), "{number}");
     }
     Ok(())
 }
 
+/// Texts of which the first line is bad.
+const BAD_FIRST: [&[u8]; 4] = [
+    b"",
+    b"delta 1 e004\nend\n",
+    b"delta 1 E00440C4873F9DACAF51B6B07E14B86DEC6351BA50CC8F6E10515DE683A2B4C1\n= 7\nend\n",
+    b"delta 2 e00440c4873f9dacaf51b6b07e14b86dec6351ba50cc8f6e10515de683a2b4c1\n= 7\nend\n",
+];
+
+/// Whether the first line of a text is bad.
+fn is_bad_first(alloc: Global, text: &[u8]) -> bool {
+    is_answer(alloc, text, &DeltaFault::Bad(1))
+}
+
 #[test]
 fn bad_first_lines(rt: HostRuntime) -> Result<(), Fail> {
-    let bad = Some(DeltaFault::Bad(1));
-    assert!(rt; answer(rt.alloc(), b"") == bad);
-    assert!(rt; answer(rt.alloc(), &FIRST.as_bytes()[..72]) == bad);
-    assert!(rt; answer(rt.alloc(), b"delta 1 e004\nend\n") == bad);
-    assert!(rt;
-        answer(
-            rt.alloc(),
-            b"delta 1 E00440C4873F9DACAF51B6B07E14B86DEC6351BA50CC8F6E10515DE683A2B4C1\n= 7\nend\n"
-        ) == bad
-    );
-    assert!(rt;
-        answer(
-            rt.alloc(),
-            b"delta 2 e00440c4873f9dacaf51b6b07e14b86dec6351ba50cc8f6e10515de683a2b4c1\n= 7\nend\n"
-        ) == bad
-    );
+    for text in &BAD_FIRST {
+        assert!(rt; is_bad_first(rt.alloc(), text));
+    }
+    assert!(rt; is_bad_first(rt.alloc(), &FIRST.as_bytes()[..72]));
     Ok(())
+}
+
+/// Whether a text is the delta of another tree.
+fn is_of_another_tree(alloc: Global, text: &[u8]) -> bool {
+    is_answer(alloc, text, &DeltaFault::OtherTree)
 }
 
 #[test]
 fn another_tree(rt: HostRuntime) -> Result<(), Fail> {
     let text =
         b"delta 1 e00440c4873f9dacaf51b6b07e14b86dec6351ba50cc8f6e10515de683a2b4c2\n= 7\nend\n";
-    assert!(rt; answer(rt.alloc(), text) == Some(DeltaFault::OtherTree));
+    assert!(rt; is_of_another_tree(rt.alloc(), text));
     Ok(())
 }
 
@@ -92,13 +115,15 @@ const SPOILT: [&str; 6] = [
     "= 7\n+ F /b 0 1\nend\n",
 ];
 
+/// Whether no image comes of commands.
+fn is_spoilt(alloc: Global, commands: &str) -> bool {
+    is_answer_to(alloc, commands, &DeltaFault::NoImage)
+}
+
 #[test]
 fn no_image_comes_of_it(rt: HostRuntime) -> Result<(), Fail> {
     for number in 0..6usize {
-        assert!(rt;
-            answer_to(rt.alloc(), SPOILT[number]) == Some(DeltaFault::NoImage),
-            "{number}"
-        );
+        assert!(rt; is_spoilt(rt.alloc(), SPOILT[number]), "{number}");
     }
     Ok(())
 }

@@ -12,63 +12,111 @@ fn front(end: usize) -> &'static [u8] {
     if end <= LOG.len() { &LOG[..end] } else { LOG }
 }
 
-/// How long the file is that the log makes, or that there is none.
-fn length_at(alloc: Global, volume: &Volume) -> Result<u64, Errno> {
-    let path = Path::parse(alloc, b"/a/x")?;
-    let (_, length, _) = volume.stat(alloc, &path)?;
-    Ok(length)
+fn new_volume(alloc: Global) -> Option<Volume> {
+    Volume::new(alloc, SMALL).ok()
 }
 
-/// What is told of a log on a new volume, and the length of the file.
-fn replayed(alloc: Global, log: &[u8], number: u64) -> Option<(Replayed, Result<u64, Errno>)> {
-    let Ok(mut volume) = Volume::new(alloc, SMALL) else {
-        return None;
-    };
+/// What a volume tells of a path. It ensures nothing, so that no proof of a test reads the contract of a volume; nor does the next.
+fn length_of(alloc: Global, volume: &Volume, path: &Path) -> Result<u64, Errno> {
+    match volume.stat(alloc, path) {
+        Ok((_, length, _)) => Ok(length),
+        Err(fault) => Err(fault),
+    }
+}
+
+/// Replays a log.
+fn replayed(alloc: Global, volume: &mut Volume, log: &[u8], number: u64) -> Option<Replayed> {
     if number > 1000 || log.len() > 1000 {
         return None;
     }
-    let told = replay(alloc, &mut volume, log, number);
-    Some((told, length_at(alloc, &volume)))
+    Some(replay(alloc, volume, log, number))
+}
+
+/// Whether the file that the log makes has this length, or is missing so.
+fn has_length(alloc: Global, volume: &Volume, want: Result<u64, Errno>) -> bool {
+    match Path::parse(alloc, b"/a/x") {
+        Ok(path) => length_of(alloc, volume, &path) == want,
+        Err(_) => false,
+    }
+}
+
+/// What a log does on a new volume.
+#[derive(Clone, Copy)]
+struct Row {
+    log: &'static [u8],
+    /// The number of its first record.
+    number: u64,
+    /// What is told of it.
+    told: Replayed,
+    /// The length of the file.
+    length: Result<u64, Errno>,
+}
+
+/// Whether a log does that on a volume.
+fn does(alloc: Global, volume: &mut Volume, row: &Row) -> bool {
+    replayed(alloc, volume, row.log, row.number) == Some(row.told)
+        && has_length(alloc, volume, row.length)
+}
+
+/// Whether a log does what its row says on a new volume.
+fn does_on_new(alloc: Global, row: &Row) -> bool {
+    match new_volume(alloc) {
+        Some(mut volume) => does(alloc, &mut volume, row),
+        None => false,
+    }
+}
+
+/// Where a log ends, how many records were done of it, how many bytes those take, and the length of the file.
+const ENDS: [(usize, usize, usize, Result<u64, Errno>); 6] = [
+    (0, 0, 0, Err(Errno::ENOENT)),
+    (FIRST_END - 1, 0, 0, Err(Errno::ENOENT)),
+    (FIRST_END, 1, FIRST_END, Err(Errno::ENOENT)),
+    (SECOND_END - 1, 1, FIRST_END, Err(Errno::ENOENT)),
+    (SECOND_END, 2, SECOND_END, Ok(4)),
+    (SIZE, 3, SIZE, Ok(4)),
+];
+
+/// The row of a log that ends there.
+fn row_of(end: &(usize, usize, usize, Result<u64, Errno>)) -> Row {
+    let told = Replayed {
+        records: end.1,
+        size: end.2,
+        stopped: None,
+    };
+    Row {
+        log: front(end.0),
+        number: FIRST,
+        told,
+        length: end.3,
+    }
 }
 
 #[test]
 fn whole_and_cut(rt: HostRuntime) -> Result<(), Fail> {
-    let rows = [
-        (0, 0, 0, Err(Errno::ENOENT)),
-        (FIRST_END - 1, 0, 0, Err(Errno::ENOENT)),
-        (FIRST_END, 1, FIRST_END, Err(Errno::ENOENT)),
-        (SECOND_END - 1, 1, FIRST_END, Err(Errno::ENOENT)),
-        (SECOND_END, 2, SECOND_END, Ok(4)),
-        (SIZE, 3, SIZE, Ok(4)),
-    ];
-    for (end, records, size, length) in rows {
-        let want = Replayed {
-            records,
-            size,
-            stopped: None,
-        };
-        assert_eq!(rt;
-            replayed(rt.alloc(), front(end), FIRST),
-            Some((want, length))
-        );
+    for end in &ENDS {
+        assert!(rt; does_on_new(rt.alloc(), &row_of(end)), "{}", end.0);
     }
     Ok(())
 }
 
-// The second record alone: `/a` is missing where its file is made.
-#[test]
-fn stops_where_a_change_is_refused(rt: HostRuntime) -> Result<(), Fail> {
-    let want = Replayed {
+/// The second record alone: `/a` is missing where its file is made.
+fn second_alone() -> Row {
+    let fault = Errno::ENOENT;
+    let told = Replayed {
         records: 0,
         size: 0,
-        stopped: Some(Stopped {
-            done: 0,
-            fault: Errno::ENOENT,
-        }),
+        stopped: Some(Stopped { done: 0, fault }),
     };
-    assert_eq!(rt;
-        replayed(rt.alloc(), &LOG[FIRST_END..], FIRST + 1),
-        Some((want, Err(Errno::ENOENT)))
-    );
+    Row {
+        log: &LOG[FIRST_END..],
+        number: FIRST + 1,
+        told,
+        length: Err(Errno::ENOENT),
+    }
+}
+
+#[test]
+fn stops_where_a_change_is_refused(rt: HostRuntime) -> Result<(), Fail> {
+    assert!(rt; does_on_new(rt.alloc(), &second_alone()));
     Ok(())
 }

@@ -7,9 +7,14 @@ use pathkey::Errno;
 use std::alloc::Global;
 use std::test::Fail;
 
+/// The lines of a body. It ensures nothing, so that no proof of a test reads what they mean.
+fn lines(alloc: Global, body: &[u8]) -> Result<Vec<u8>, Errno> {
+    log_lines(alloc, body)
+}
+
 /// Whether a body is told by these lines.
 fn is_told(alloc: Global, body: &[u8], want: &[u8]) -> bool {
-    match log_lines(alloc, body) {
+    match lines(alloc, body) {
         Ok(text) => text.as_slice() == want,
         Err(_) => false,
     }
@@ -25,7 +30,7 @@ fn is_laid_told(alloc: Global, laid: Result<usize, Errno>, room: &[u8], want: &[
 
 /// Why a body is not told, if it is not.
 fn fault_of(alloc: Global, body: &[u8]) -> Option<Errno> {
-    match log_lines(alloc, body) {
+    match lines(alloc, body) {
         Ok(_) => None,
         Err(fault) => Some(fault),
     }
@@ -77,27 +82,37 @@ fn each_change_told(rt: HostRuntime) -> Result<(), Fail> {
     Ok(())
 }
 
-/// The body of a write of so many zeros, at the offset 3 and the moment 2.
+/// Lays the write of bytes at the moment 2. It ensures nothing, so that no proof of a test reads what is laid.
+fn lay(alloc: Global, path: &[u8], offset: u64, bytes: &[u8], room: &mut [u8]) -> Option<usize> {
+    lay_write(alloc, path, offset, bytes, 2, room).ok()
+}
+
+/// Lays such a write of so many zeros at the offset 3.
+fn lay_zeros(alloc: Global, count: usize, room: &mut [u8]) -> Option<usize> {
+    match Vec::from_elem(alloc, 0u8, count) {
+        Ok(bytes) => lay(alloc, b"/a", 3, bytes.as_slice(), room),
+        Err(_) => None,
+    }
+}
+
+/// The body of a write of so many zeros.
 fn long_body(alloc: Global, count: usize) -> Option<Vec<u8>> {
-    let Ok(bytes) = Vec::from_elem(alloc, 0u8, count) else {
-        return None;
-    };
     let Ok(mut body) = Vec::from_elem(alloc, 0u8, count.saturating_add(64)) else {
         return None;
     };
-    match lay_write(alloc, b"/a", 3, bytes.as_slice(), 2, body.as_mut_slice()) {
-        Ok(size) => {
+    match lay_zeros(alloc, count, body.as_mut_slice()) {
+        Some(size) => {
             body.truncate(size);
             Some(body)
         }
-        Err(_) => None,
+        None => None,
     }
 }
 
 /// The text without its zeros, or nothing.
 fn shown(alloc: Global, count: usize) -> Option<Vec<u8>> {
     let body = long_body(alloc, count)?;
-    let Ok(mut text) = log_lines(alloc, body.as_slice()) else {
+    let Ok(mut text) = lines(alloc, body.as_slice()) else {
         return None;
     };
     text.retain(|byte| *byte != b'0');

@@ -2,6 +2,8 @@
 use crate::asked::{SMALL, call_of, name_of};
 use crate::own::{OWNED, PLACE, mark_of};
 use engine::Room;
+use pathkey::Errno;
+use reference::{Call, Reply};
 use samples::{Ask, Told, file_name};
 use std::alloc::Global;
 use volume::{Index, TakeReply, Volume};
@@ -12,10 +14,15 @@ const FILES: u32 = 300;
 /// How many steps are made at most.
 const STEPS: u32 = 10_000;
 
+/// The reply to a call. It ensures nothing, so that no proof of a test reads what a call means; nor do `new_volume` and `take`.
+fn reply_to(alloc: Global, volume: &mut Volume, call: &Call) -> Reply {
+    volume.call(alloc, call, 0)
+}
+
 /// Whether a call of the volume is answered so.
 pub fn answers(alloc: Global, volume: &mut Volume, ask: Ask<'_>, told: Told<'_>) -> bool {
     match call_of(alloc, ask) {
-        Some(call) => told.is(&volume.call(alloc, &call, 0)),
+        Some(call) => told.is(&reply_to(alloc, volume, &call)),
         None => false,
     }
 }
@@ -48,13 +55,25 @@ fn fills(alloc: Global, volume: &mut Volume) -> bool {
     false
 }
 
-/// A volume of many files with a byte each, in which nothing waits.
-pub fn filled_volume(alloc: Global) -> Option<Volume> {
-    let mut volume = Volume::new(alloc, SMALL).ok()?;
+/// A new volume.
+fn new_volume(alloc: Global) -> Result<Volume, Errno> {
+    Volume::new(alloc, SMALL)
+}
+
+/// This volume, once it has many files.
+fn filled(alloc: Global, mut volume: Volume) -> Option<Volume> {
     if fills(alloc, &mut volume) {
         Some(volume)
     } else {
         None
+    }
+}
+
+/// A volume of many files with a byte each, in which nothing waits.
+pub fn filled_volume(alloc: Global) -> Option<Volume> {
+    match new_volume(alloc) {
+        Ok(volume) => filled(alloc, volume),
+        Err(_) => None,
     }
 }
 
@@ -85,17 +104,29 @@ fn keeps(alloc: Global, volume: &mut Volume) -> bool {
     }
 }
 
-/// A volume of many files with the first marks, which all wait in the roots, and a snapshot of that.
-fn kept_volume(alloc: Global) -> Option<Volume> {
-    let mut volume = filled_volume(alloc)?;
+/// Writes the first mark to each file that one client alone writes, and keeps the snapshot.
+fn writes_and_keeps(alloc: Global, volume: &mut Volume) -> bool {
     let mut is_right = true;
     for number in 0..OWNED {
-        is_right &= writes_first(alloc, &mut volume, number);
+        is_right &= writes_first(alloc, volume, number);
     }
-    if is_right && keeps(alloc, &mut volume) {
+    is_right && keeps(alloc, volume)
+}
+
+/// This volume, once it has the first marks and a snapshot of them.
+fn kept(alloc: Global, mut volume: Volume) -> Option<Volume> {
+    if writes_and_keeps(alloc, &mut volume) {
         Some(volume)
     } else {
         None
+    }
+}
+
+/// A volume of many files with the first marks, which all wait in the roots, and a snapshot of that.
+fn kept_volume(alloc: Global) -> Option<Volume> {
+    match filled_volume(alloc) {
+        Some(volume) => kept(alloc, volume),
+        None => None,
     }
 }
 
@@ -112,15 +143,20 @@ fn room_of(alloc: Global, volume: Option<Volume>) -> Option<Room> {
     }
 }
 
+/// A taking at this slot of an index's root.
+pub fn take(alloc: Global, volume: &mut Volume, index: Index, slot: u8) -> TakeReply {
+    volume.take_job(alloc, index, slot)
+}
+
 /// Whether a job was taken of the slot of the metadata's root in which the most messages wait.
 fn takes(alloc: Global, volume: &mut Volume) -> bool {
-    let Some(load) = volume.load(Index::Meta) else {
-        return false;
-    };
-    matches!(
-        volume.take_job(alloc, Index::Meta, load.slot),
-        TakeReply::Taken(_)
-    )
+    match volume.load(Index::Meta) {
+        Some(load) => matches!(
+            take(alloc, volume, Index::Meta, load.slot),
+            TakeReply::Taken(_)
+        ),
+        None => false,
+    }
 }
 
 /// Whether a job was taken of the one slot of the metadata's root in which a message waits: a new file, whose directory has its moment.
@@ -130,13 +166,20 @@ fn marks(alloc: Global, volume: &mut Volume) -> bool {
         && volume.load(Index::Meta).is_none()
 }
 
-/// A volume of many files, and one more that waits behind marks.
-fn marked_volume(alloc: Global) -> Option<Volume> {
-    let mut volume = filled_volume(alloc)?;
+/// This volume, once one file more waits behind marks.
+fn marked(alloc: Global, mut volume: Volume) -> Option<Volume> {
     if marks(alloc, &mut volume) {
         Some(volume)
     } else {
         None
+    }
+}
+
+/// A volume of many files, and one more that waits behind marks.
+fn marked_volume(alloc: Global) -> Option<Volume> {
+    match filled_volume(alloc) {
+        Some(volume) => marked(alloc, volume),
+        None => None,
     }
 }
 

@@ -1,6 +1,7 @@
 //! What waits in a slot once the mark of a job that was taken there is gone: one message a key, however many came meanwhile.
 use crate::asked::call_of;
-use crate::filled::{answers, filled_volume};
+use crate::filled::{answers, filled_volume, take};
+use pathkey::NoMemory;
 use samples::{Ask, Told};
 use std::alloc::Global;
 use volume::{Answer, Event, FinishAnswer, Index, Job, TakeReply, Volume};
@@ -42,12 +43,19 @@ fn is_folded(alloc: Global, volume: &mut Volume) -> bool {
         && answers(alloc, volume, Ask::Stat(FILE), Told::File(WRITES + 3))
 }
 
-/// The job of the slot in which something waits.
-fn job_of(alloc: Global, volume: &mut Volume, index: Index) -> Option<Job> {
-    let load = volume.load(index)?;
-    match volume.take_job(alloc, index, load.slot) {
+/// The job of a taking.
+fn taken(reply: TakeReply) -> Option<Job> {
+    match reply {
         TakeReply::Taken(job) => Some(job),
         _ => None,
+    }
+}
+
+/// The job of the slot in which something waits.
+fn job_of(alloc: Global, volume: &mut Volume, index: Index) -> Option<Job> {
+    match volume.load(index) {
+        Some(load) => taken(take(alloc, volume, index, load.slot)),
+        None => None,
     }
 }
 
@@ -127,27 +135,43 @@ fn installed(answers: &[Answer]) -> u32 {
     count
 }
 
+/// What a volume answers to events. It ensures nothing, so that no proof of a test reads what a run means.
+fn run(alloc: Global, volume: &mut Volume, events: &[Event]) -> Result<Vec<Answer>, NoMemory> {
+    volume.run(alloc, events)
+}
+
 /// Whether the events install two jobs.
 fn installs(alloc: Global, volume: &mut Volume, events: &[Event]) -> bool {
-    match volume.run(alloc, events) {
+    match run(alloc, volume, events) {
         Ok(answers) => installed(answers.as_slice()) == 2,
         Err(_) => false,
     }
 }
 
-/// Jobs with the tickets of these, many bytes, the jobs are installed, and one byte more: whether the lists fold.
-fn folds_where_installed(
+/// Whether jobs with the tickets of these are taken, many bytes are written, and the jobs are installed.
+fn installs_both(
     alloc: Global,
     volume: &mut Volume,
     meta: &Option<Job>,
     block: &Option<Job>,
 ) -> bool {
     let mut events = Vec::new(alloc);
-    let added = adds_writes(alloc, volume, &mut events)
+    adds_writes(alloc, volume, &mut events)
         && adds(&mut events, finishing(meta))
-        && adds(&mut events, finishing(block));
-    let installed = installs(alloc, volume, events.as_slice());
-    added && installed && writes(alloc, volume, WRITES + 2) && is_folded(alloc, volume)
+        && adds(&mut events, finishing(block))
+        && installs(alloc, volume, events.as_slice())
+}
+
+/// The same, and one byte more: whether the lists fold.
+fn folds_where_installed(
+    alloc: Global,
+    volume: &mut Volume,
+    meta: &Option<Job>,
+    block: &Option<Job>,
+) -> bool {
+    installs_both(alloc, volume, meta, block)
+        && writes(alloc, volume, WRITES + 2)
+        && is_folded(alloc, volume)
 }
 
 /// Whether the lists of two equal volumes fold. The jobs of both have the same tickets.
@@ -160,13 +184,18 @@ fn both_fold(alloc: Global, one: &mut Volume, other: &mut Volume) -> bool {
         && folds_where_installed(alloc, other, &meta, &block)
 }
 
+/// The same of this volume and another of many files.
+fn folds_beside(alloc: Global, one: &mut Volume) -> bool {
+    match filled_volume(alloc) {
+        Some(mut other) => both_fold(alloc, one, &mut other),
+        None => false,
+    }
+}
+
 /// The same of two volumes of many files.
 fn fold(alloc: Global) -> bool {
-    let Some(mut one) = filled_volume(alloc) else {
-        return false;
-    };
     match filled_volume(alloc) {
-        Some(mut other) => both_fold(alloc, &mut one, &mut other),
+        Some(mut one) => folds_beside(alloc, &mut one),
         None => false,
     }
 }

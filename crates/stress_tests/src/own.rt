@@ -206,6 +206,16 @@ fn found_in(reply: &Reply) -> Found {
     }
 }
 
+/// The reply to a call of the client. It ensures nothing, so that no proof of a test reads what a call means.
+fn reply_to<J: Naming, R: Wait>(
+    rt: &R,
+    alloc: Global,
+    client: &mut Client<J>,
+    call: &Call,
+) -> Reply {
+    client.call(rt, alloc, call, 0)
+}
+
 /// What a call of the client is answered.
 fn found_by<J: Naming, R: Wait>(
     rt: &R,
@@ -213,8 +223,7 @@ fn found_by<J: Naming, R: Wait>(
     client: &mut Client<J>,
     call: &Call,
 ) -> Found {
-    let reply = client.call(rt, alloc, call, 0);
-    found_in(&reply)
+    found_in(&reply_to(rt, alloc, client, call))
 }
 
 /// What the client is answered.

@@ -104,3 +104,11 @@ pub fn frozen(alloc: Global, volume: &Volume, text: &str) -> Result<Frozen, Errn
         Err(fault) => Err(fault),
     }
 }
+
+/// Whether a file is made at a moment: the one with this number in this directory.
+pub fn creates(alloc: Global, volume: &mut Volume, directory: &str, number: u32, at: u64) -> bool {
+    match format!(in alloc; "{directory}/f{number:03}") {
+        Ok(text) => answers_at(alloc, volume, Ask::Create(text.as_str()), at, Told::Done),
+        Err(_) => false,
+    }
+}

@@ -1,41 +1,38 @@
 //! A walk through the blocks of one file after the other of a frozen tree, in the order of paths and in others.
-use crate::asked::{USUAL, new_volume};
+use crate::asked::{USUAL, freeze, new_volume};
+use crate::changes::{Change, Row, goes};
+use pathkey::NoMemory;
+use samples::ask::path;
 use std::alloc::Global;
-use volume::{Block, BlockWalk, Errno, Frozen, Path, Volume};
+use volume::{Block, BlockWalk, Frozen, Path, Volume};
 
-fn path(alloc: Global, text: &str) -> Result<Path, Errno> {
-    Path::parse(alloc, text.as_bytes())
-}
-
-/// Makes files of three blocks, of which the second is a hole, of no block, and of one, and an empty directory.
-fn fill(alloc: Global, volume: &mut Volume) -> Result<(), Errno> {
-    let (first, last) = (path(alloc, "/a/f")?, path(alloc, "/c")?);
-    volume.mkdir(alloc, &path(alloc, "/a")?, 1)?;
-    volume.create(alloc, &first, 2)?;
-    volume.create(alloc, &path(alloc, "/a/g")?, 3)?;
-    volume.mkdir(alloc, &path(alloc, "/b")?, 4)?;
-    volume.create(alloc, &last, 5)?;
-    let _one = volume.write(alloc, &first, 0, b"one", 6)?;
-    let _three = volume.write(alloc, &first, 8192, b"three", 7)?;
-    let _four = volume.write(alloc, &last, 4096, b"four", 8)?;
-    Ok(())
-}
+/// Files of three blocks, of which the second is a hole, of no block, and of one, and an empty directory.
+const FILLED: &[Row] = &[
+    (1, "/a", Change::Mkdir, Ok(0)),
+    (2, "/a/f", Change::Create, Ok(0)),
+    (3, "/a/g", Change::Create, Ok(0)),
+    (4, "/b", Change::Mkdir, Ok(0)),
+    (5, "/c", Change::Create, Ok(0)),
+    (6, "/a/f", Change::Write(0, "one"), Ok(3)),
+    (7, "/a/f", Change::Write(8192, "three"), Ok(5)),
+    (8, "/c", Change::Write(4096, "four"), Ok(4)),
+];
 
 /// The next block of a file. It ensures nothing, so that no proof of a test reads what a tree is.
 fn next(
     alloc: Global,
     walk: &mut BlockWalk,
-    of: &str,
+    of: &Path,
     from: u32,
-) -> Result<Option<(u32, Block)>, Errno> {
-    Ok(walk.next(alloc, &path(alloc, of)?, from)?)
+) -> Result<Option<(u32, Block)>, NoMemory> {
+    walk.next(alloc, of, from)
 }
 
 /// Which file is asked for a block, from which number on, and the number and the bytes that it gives, if any.
 type Step = (&'static str, u32, Option<(u32, &'static str)>);
 
 /// In the order of paths and numbers.
-const IN_ORDER: [Step; 9] = [
+const IN_ORDER: &[Step] = &[
     ("/", 0, None),
     ("/a", 0, None),
     ("/a/f", 0, Some((0, "one"))),
@@ -48,7 +45,7 @@ const IN_ORDER: [Step; 9] = [
 ];
 
 /// Back and forth, and the same again.
-const IN_NO_ORDER: [Step; 8] = [
+const IN_NO_ORDER: &[Step] = &[
     ("/c", 0, Some((1, "four"))),
     ("/c", 1, Some((1, "four"))),
     ("/a/f", 2, Some((2, "three"))),
@@ -59,19 +56,26 @@ const IN_NO_ORDER: [Step; 8] = [
     ("/c", 1, Some((1, "four"))),
 ];
 
-fn is_block(block: Option<(u32, Block)>, wanted: Option<(u32, &str)>) -> bool {
+fn is_block(block: &Option<(u32, Block)>, wanted: Option<(u32, &str)>) -> bool {
     match (block, wanted) {
         (Some((number, block)), Some((other, bytes))) => {
-            number == other && block.as_slice() == bytes.as_bytes()
+            *number == other && block.as_slice() == bytes.as_bytes()
         }
         (None, None) => true,
         _ => false,
     }
 }
 
+fn gives_at(alloc: Global, walk: &mut BlockWalk, of: &Path, step: Step) -> bool {
+    match next(alloc, walk, of, step.1) {
+        Ok(block) => is_block(&block, step.2),
+        Err(_) => false,
+    }
+}
+
 fn gives(alloc: Global, walk: &mut BlockWalk, step: Step) -> bool {
-    match next(alloc, walk, step.0, step.1) {
-        Ok(block) => is_block(block, step.2),
+    match path(alloc, step.0) {
+        Ok(of) => gives_at(alloc, walk, &of, step),
         Err(_) => false,
     }
 }
@@ -86,15 +90,17 @@ fn gives_each(alloc: Global, tree: &Frozen, steps: &[Step]) -> bool {
     true
 }
 
-/// Whether a frozen tree is walked so.
-fn is_told(alloc: Global, volume: &mut Volume) -> bool {
-    if fill(alloc, volume).is_err() {
-        return false;
-    }
-    match volume.freeze() {
-        Ok(tree) => gives_each(alloc, &tree, &IN_ORDER) && gives_each(alloc, &tree, &IN_NO_ORDER),
+/// Whether the live tree is walked so, frozen.
+fn is_walked(alloc: Global, volume: &Volume) -> bool {
+    match freeze(volume) {
+        Ok(tree) => gives_each(alloc, &tree, IN_ORDER) && gives_each(alloc, &tree, IN_NO_ORDER),
         Err(_) => false,
     }
+}
+
+/// Whether the files are made in a volume, and walks through its live tree then give their blocks.
+fn is_told(alloc: Global, volume: &mut Volume) -> bool {
+    goes(alloc, volume, FILLED) && is_walked(alloc, volume)
 }
 
 fn is_told_anew(alloc: Global) -> bool {

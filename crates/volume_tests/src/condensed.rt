@@ -1,6 +1,6 @@
 //! What waits for a file that is written byte by byte, and for a directory that gets many files.
 
-use crate::asked::{USUAL, answers, answers_at, new_volume, waiting};
+use crate::asked::{USUAL, answers, creates, new_volume, waiting};
 use samples::{Ask, Told};
 use std::alloc::Global;
 use volume::{Index, Volume};
@@ -53,23 +53,11 @@ fn settles(alloc: Global, volume: &mut Volume) -> bool {
     false
 }
 
-/// Whether the file with this number is made at a moment.
-fn is_created(alloc: Global, volume: &mut Volume, number: u32, at: u64) -> bool {
-    match format!(in alloc; "/a/f{number:03}") {
-        Ok(text) => answers_at(alloc, volume, Ask::Create(text.as_str()), at, Told::Done),
-        Err(_) => false,
-    }
-}
-
 /// Whether a thousand files are made in one directory, the first at moment 0 and each other so much later than the one before.
 fn create_all(alloc: Global, volume: &mut Volume, later: u64) -> bool {
     for number in 0..1_000 {
-        if !is_created(
-            alloc,
-            volume,
-            number,
-            u64::from(number).saturating_mul(later),
-        ) {
+        let at = u64::from(number).saturating_mul(later);
+        if !creates(alloc, volume, "/a", number, at) {
             return false;
         }
     }

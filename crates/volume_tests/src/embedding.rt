@@ -2,53 +2,110 @@
 use crate::asked::{USUAL, new_volume};
 use bytes::Bytes;
 use std::alloc::Global;
-use volume::{Call, Errno, Kind, Path, Reply, SnapName, Volume};
+use volume::{Call, Errno, Frozen, Kind, Path, Reply, SnapName, Volume};
 
-fn create(alloc: Global, volume: &mut Volume) -> Result<Reply, Errno> {
-    let path = Path::parse(alloc, b"/notes")?;
-    Ok(volume.call(alloc, &Call::Create(path), 0))
+/// A call on the file.
+#[derive(Clone, Copy)]
+enum Line {
+    Create,
+    Write,
+    Unlink,
 }
 
-fn write(alloc: Global, volume: &mut Volume) -> Result<Reply, Errno> {
-    let path = Path::parse(alloc, b"/notes")?;
-    let hello = Bytes::from_static(b"hello");
-    Ok(volume.call(alloc, &Call::Write(path, 0, hello), 0))
+fn notes(alloc: Global) -> Result<Path, Errno> {
+    Path::parse(alloc, b"/notes")
 }
 
-fn keep(alloc: Global, volume: &mut Volume) -> Result<(), Errno> {
-    let name = SnapName::parse(alloc, b"before")?;
-    volume.snapshot(alloc, &name)
+fn before(alloc: Global) -> Result<SnapName, Errno> {
+    SnapName::parse(alloc, b"before")
 }
 
-fn unlink(alloc: Global, volume: &mut Volume) -> Result<Reply, Errno> {
-    let path = Path::parse(alloc, b"/notes")?;
-    Ok(volume.call(alloc, &Call::Unlink(path), 0))
-}
-
-fn length_before(alloc: Global, volume: &Volume) -> Result<u64, Errno> {
-    let before = volume.frozen(&SnapName::parse(alloc, b"before")?)?;
-    match before.stat(alloc, &Path::parse(alloc, b"/notes")?) {
-        Reply::Stat(Kind::File, length, _) => Ok(length),
-        _ => Err(Errno::ENOENT),
+fn call_of(line: Line, path: Path) -> Call {
+    match line {
+        Line::Create => Call::Create(path),
+        Line::Write => Call::Write(path, 0, Bytes::from_static(b"hello")),
+        Line::Unlink => Call::Unlink(path),
     }
 }
 
+/// The reply to a call. It ensures nothing, so that no proof of a test reads what a call means; nor do the next ones.
+fn reply_to(alloc: Global, volume: &mut Volume, call: &Call) -> Reply {
+    volume.call(alloc, call, 0)
+}
+
+fn keep_as(alloc: Global, volume: &mut Volume, name: &SnapName) -> Result<(), Errno> {
+    volume.snapshot(alloc, name)
+}
+
+fn kept_as(volume: &Volume, name: &SnapName) -> Result<Frozen, Errno> {
+    volume.frozen(name)
+}
+
+fn stat_of(alloc: Global, tree: &Frozen, path: &Path) -> Reply {
+    tree.stat(alloc, path)
+}
+
 /// Whether a call was answered so.
-fn is_ok(answer: Result<Reply, Errno>, wanted: u64) -> bool {
-    match answer {
-        Ok(Reply::Count(count)) => count == wanted,
-        Ok(Reply::Done) => wanted == 0,
-        Ok(_) | Err(_) => false,
+fn is_ok(reply: &Reply, wanted: u64) -> bool {
+    match reply {
+        Reply::Count(count) => *count == wanted,
+        Reply::Done => wanted == 0,
+        _ => false,
+    }
+}
+
+/// Whether this tells of a file of so many bytes.
+fn is_long(reply: &Reply, wanted: u64) -> bool {
+    match reply {
+        Reply::Stat(Kind::File, length, _) => *length == wanted,
+        _ => false,
+    }
+}
+
+fn does(alloc: Global, volume: &mut Volume, line: Line, wanted: u64) -> bool {
+    match notes(alloc) {
+        Ok(path) => is_ok(&reply_to(alloc, volume, &call_of(line, path)), wanted),
+        Err(_) => false,
+    }
+}
+
+fn keeps(alloc: Global, volume: &mut Volume) -> bool {
+    match before(alloc) {
+        Ok(name) => keep_as(alloc, volume, &name).is_ok(),
+        Err(_) => false,
+    }
+}
+
+/// Whether the file of a tree that stands still has so many bytes.
+fn has(alloc: Global, tree: &Frozen, wanted: u64) -> bool {
+    match notes(alloc) {
+        Ok(path) => is_long(&stat_of(alloc, tree, &path), wanted),
+        Err(_) => false,
+    }
+}
+
+fn had_as(alloc: Global, volume: &Volume, name: &SnapName, wanted: u64) -> bool {
+    match kept_as(volume, name) {
+        Ok(tree) => has(alloc, &tree, wanted),
+        Err(_) => false,
+    }
+}
+
+/// Whether the file of the snapshot has so many bytes.
+fn had(alloc: Global, volume: &Volume, wanted: u64) -> bool {
+    match before(alloc) {
+        Ok(name) => had_as(alloc, volume, &name, wanted),
+        Err(_) => false,
     }
 }
 
 /// Whether each line is answered as it must be.
 fn is_kept(alloc: Global, volume: &mut Volume) -> bool {
-    is_ok(create(alloc, volume), 0)
-        && is_ok(write(alloc, volume), 5)
-        && keep(alloc, volume).is_ok()
-        && is_ok(unlink(alloc, volume), 0)
-        && length_before(alloc, volume) == Ok(5)
+    does(alloc, volume, Line::Create, 0)
+        && does(alloc, volume, Line::Write, 5)
+        && keeps(alloc, volume)
+        && does(alloc, volume, Line::Unlink, 0)
+        && had(alloc, volume, 5)
 }
 
 /// The same in a new volume.

@@ -7,6 +7,8 @@ mod asked;
 #[cfg(test)]
 mod block_walks;
 #[cfg(test)]
+mod changes;
+#[cfg(test)]
 mod condensed;
 #[cfg(test)]
 mod embedding;

@@ -10,9 +10,12 @@ use volume::{Frozen, Volume};
 /// Whether two listings are one.
 fn are_one(names: &Listing, wanted: &Listing) -> bool {
     let (names, wanted) = (names.as_slice(), wanted.as_slice());
+    for (entry, other) in names.iter().zip(wanted.iter()) {
+        if entry.0 != other.0 || entry.1.as_slice() != other.1.as_slice() {
+            return false;
+        }
+    }
     names.len() == wanted.len()
-        && names.iter().zip(wanted.iter()).all(|(entry, other)| entry.0 == other.0
-            && entry.1.as_slice() == other.1.as_slice())
 }
 
 /// Whether two replies are one.
@@ -118,10 +121,20 @@ fn list_alike(
     }
 }
 
+/// How many bytes stand before the first line feed, if there is one.
+fn line_end(text: &[u8]) -> Option<usize> {
+    for (place, byte) in text.iter().enumerate() {
+        if *byte == b'\n' {
+            return Some(place);
+        }
+    }
+    None
+}
+
 /// The path whose text begins at a place among the texts; the place then goes behind it.
 fn next(alloc: Global, texts: &[u8], at: &mut usize) -> Option<Path> {
     let rest = texts.get(*at..)?;
-    let end = rest.iter().position(|byte| *byte == b'\n')?;
+    let end = line_end(rest)?;
     *at = at.saturating_add(end).saturating_add(1);
     Path::parse(alloc, rest.get(..end)?).ok()
 }

@@ -1,5 +1,5 @@
 //! Many files with steps of both trees between the calls: the answers are the same whatever steps are done.
-use crate::asked::{SMALL, answers, new_volume};
+use crate::asked::{SMALL, answers, creates, new_volume};
 use node::StepReply;
 use reference::Kind;
 use samples::{Ask, Told};
@@ -47,19 +47,11 @@ fn tidy_both(alloc: Global, volume: &mut Volume, turns: u32) -> u32 {
     meta.saturating_add(tidy(alloc, volume, Index::Block, turns))
 }
 
-/// Whether the file with this number is created.
-fn is_created(alloc: Global, volume: &mut Volume, number: u32) -> bool {
-    match format!(in alloc; "/d/f{number:03}") {
-        Ok(text) => answers(alloc, volume, Ask::Create(text.as_str()), Told::Done),
-        Err(_) => false,
-    }
-}
-
 /// Creates 300 files below `/d`, with so many steps after each; how many were created.
 fn create_all(alloc: Global, volume: &mut Volume, turns: u32) -> u32 {
     let mut created = 0u32;
     for number in 0..300u32 {
-        if is_created(alloc, volume, number) {
+        if creates(alloc, volume, "/d", number, 0) {
             created = created.saturating_add(1);
         }
         tidy_both(alloc, volume, turns);
@@ -99,26 +91,29 @@ fn lists(alloc: Global, volume: &mut Volume) -> bool {
     )
 }
 
-/// The same of a new volume, before and after so many steps at the end; how many of these were done.
+/// How many of so many steps at the end are done, if all is answered as it should be and the one file stays.
+fn told_in(alloc: Global, volume: &mut Volume, turns: u32, last: u32) -> Option<u32> {
+    let before = is_told(alloc, volume, turns);
+    let done = tidy_both(alloc, volume, last);
+    let is_told = before && lists(alloc, volume);
+    is_told.then_some(done)
+}
+
+/// How many of so many steps at the end are done in a new volume, if all is answered as it should be.
 fn told(alloc: Global, turns: u32, last: u32) -> Option<u32> {
     match new_volume(alloc, SMALL) {
-        Ok(mut volume) => {
-            let before = is_told(alloc, &mut volume, turns);
-            let done = tidy_both(alloc, &mut volume, last);
-            if before && lists(alloc, &mut volume) {
-                Some(done)
-            } else {
-                None
-            }
-        }
+        Ok(mut volume) => told_in(alloc, &mut volume, turns, last),
         Err(_) => None,
     }
 }
 
+/// After how many steps each call comes.
+const TURNS: &[u32] = &[0, 1, 1_000];
+
 #[test]
 fn directory_comes_again_whatever_steps_are_done(rt: HostRuntime) {
-    for turns in [0, 1, 1_000] {
-        assert_eq!(rt; told(rt.alloc(), turns, 0), Some(0));
+    for turns in TURNS {
+        assert_eq!(rt; told(rt.alloc(), *turns, 0), Some(0));
     }
 }
 

@@ -72,18 +72,19 @@ fn new_is_relieved(alloc: Global, bytes: &[u8], index: Index) -> bool {
     }
 }
 
+/// The root and the file wait in the metadata, and each block in the other index.
+const RELIEVED: &[(&[u8], Index)] = &[
+    (b"", Index::Meta),
+    (&[0xaa; 4_096], Index::Meta),
+    (&[0xaa; 8_192], Index::Meta),
+    (&[0xaa; 8_193], Index::Block),
+];
+
 #[test]
 fn relief_takes_the_index_in_which_more_waits(rt: HostRuntime) {
-    // The root and the file wait in the metadata, and each block in the other index.
-    let rows: [(&[u8], Index); 4] = [
-        (b"", Index::Meta),
-        (&[0xaa; 4_096], Index::Meta),
-        (&[0xaa; 8_192], Index::Meta),
-        (&[0xaa; 8_193], Index::Block),
-    ];
-    for (bytes, index) in rows {
+    for (bytes, index) in RELIEVED {
         assert!(rt;
-            new_is_relieved(rt.alloc(), bytes, index),
+            new_is_relieved(rt.alloc(), bytes, *index),
             "{}",
             bytes.len()
         );

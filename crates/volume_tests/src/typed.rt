@@ -1,68 +1,12 @@
 //! The calls that have an answer of their own: each is done once, and refused once.
-use crate::asked::{USUAL, new_volume};
+use crate::asked::{USUAL, freeze, new_volume};
+use crate::changes::{Change, Row, goes};
+use samples::ask::path;
 use std::alloc::Global;
 use volume::{Errno, Frozen, Kind, Path, Volume};
 
-/// A change of one path.
-#[derive(Clone, Copy)]
-enum Change<'a> {
-    Mkdir,
-    Create,
-    Write(u64, &'a str),
-    Truncate(u64),
-    Rename(&'a str),
-    Unlink,
-    Rmdir,
-    Rmtree,
-}
-
-fn path(alloc: Global, text: &str) -> Result<Path, Errno> {
-    Path::parse(alloc, text.as_bytes())
-}
-
-/// Does a change of the path at a moment: how many bytes were written.
-fn does(
-    alloc: Global,
-    volume: &mut Volume,
-    of: &Path,
-    change: Change<'_>,
-    at: u64,
-) -> Result<u64, Errno> {
-    match change {
-        Change::Mkdir => volume.mkdir(alloc, of, at)?,
-        Change::Create => volume.create(alloc, of, at)?,
-        Change::Write(offset, text) => {
-            return volume.write(alloc, of, offset, text.as_bytes(), at);
-        }
-        Change::Truncate(length) => volume.truncate(alloc, of, length, at)?,
-        Change::Rename(to) => return moves(alloc, volume, of, to, at),
-        Change::Unlink => volume.unlink(alloc, of, at)?,
-        Change::Rmdir => volume.rmdir(alloc, of, at)?,
-        Change::Rmtree => volume.rmtree(alloc, of, at)?,
-    }
-    Ok(0)
-}
-
-fn moves(alloc: Global, volume: &mut Volume, from: &Path, to: &str, at: u64) -> Result<u64, Errno> {
-    volume.rename(alloc, from, &path(alloc, to)?, at)?;
-    Ok(0)
-}
-
-fn outcome(
-    alloc: Global,
-    volume: &mut Volume,
-    text: &str,
-    change: Change<'_>,
-    at: u64,
-) -> Result<u64, Errno> {
-    does(alloc, volume, &path(alloc, text)?, change, at)
-}
-
-/// A moment, a path, what is done there, and what is answered.
-type Row = (u64, &'static str, Change<'static>, Result<u64, Errno>);
-
 /// What is done in a new volume, in this order. The moments do not rise.
-const ROWS: [Row; 12] = [
+const ROWS: &[Row] = &[
     (1, "/a", Change::Mkdir, Ok(0)),
     (2, "/a", Change::Create, Err(Errno::EEXIST)),
     (3, "/a/f", Change::Create, Ok(0)),
@@ -77,22 +21,13 @@ const ROWS: [Row; 12] = [
     (6, "/a/f", Change::Unlink, Err(Errno::ENOENT)),
 ];
 
-/// Whether each row is answered so.
-fn goes(alloc: Global, volume: &mut Volume) -> bool {
-    for (at, text, what, wanted) in ROWS {
-        if outcome(alloc, volume, text, what, at) != wanted {
-            return false;
-        }
-    }
-    true
-}
+/// A tree goes with all below it.
+const WHOLE: &[Row] = &[
+    (5, "/a", Change::Rmtree, Ok(0)),
+    (5, "/a", Change::Rmtree, Err(Errno::ENOENT)),
+];
 
-/// Whether the file at the path has these bytes, in a volume and in its frozen tree.
-fn reads(alloc: Global, volume: &Volume, tree: &Frozen, at: &Path, wanted: &[u8]) -> bool {
-    is_read(volume.read(alloc, at, 0, 100), wanted)
-        && is_read(tree.try_read(alloc, at, 0, 100), wanted)
-}
-
+/// Whether these bytes were read.
 fn is_read(answer: Result<Vec<u8>, Errno>, wanted: &[u8]) -> bool {
     match answer {
         Ok(bytes) => bytes.as_slice() == wanted,
@@ -111,33 +46,47 @@ fn is_listed(answer: Result<Vec<(Kind, Vec<u8>)>, Errno>, wanted: &[u8]) -> bool
     }
 }
 
-/// Whether `/a` has the one file `/a/g` with these bytes, each with its moment of last change, as all looks tell.
-fn looks(alloc: Global, volume: &Volume, tree: &Frozen) -> Result<bool, Errno> {
-    let (directory, file) = (path(alloc, "/a")?, path(alloc, "/a/g")?);
-    Ok(
-        reads(alloc, volume, tree, &file, b"\0\0\0wor")
-            && volume.stat(alloc, &file) == Ok((Kind::File, 6, 7))
-            && tree.try_stat(alloc, &directory) == Ok((Kind::Dir, 0, 4))
-            && is_listed(volume.readdir(alloc, &directory), b"g")
-            && is_listed(tree.try_readdir(alloc, &directory), b"g"),
-    )
+/// Whether a volume and its frozen tree tell of the file at a path.
+fn tell_file(alloc: Global, volume: &Volume, tree: &Frozen, file: &Path) -> bool {
+    is_read(volume.read(alloc, file, 0, 100), b"\0\0\0wor")
+        && is_read(tree.try_read(alloc, file, 0, 100), b"\0\0\0wor")
+        && volume.stat(alloc, file) == Ok((Kind::File, 6, 7))
 }
 
-/// Whether a tree goes with all below it.
-fn goes_whole(alloc: Global, volume: &mut Volume) -> bool {
-    outcome(alloc, volume, "/a", Change::Rmtree, 5) == Ok(0)
-        && outcome(alloc, volume, "/a", Change::Rmtree, 5) == Err(Errno::ENOENT)
+/// Whether they tell of the directory at a path.
+fn tell_directory(alloc: Global, volume: &Volume, tree: &Frozen, directory: &Path) -> bool {
+    tree.try_stat(alloc, directory) == Ok((Kind::Dir, 0, 4))
+        && is_listed(volume.readdir(alloc, directory), b"g")
+        && is_listed(tree.try_readdir(alloc, directory), b"g")
+}
+
+/// Whether `/a/g` has these bytes, with its moment of last change, as all looks tell.
+fn has_file(alloc: Global, volume: &Volume, tree: &Frozen) -> bool {
+    match path(alloc, "/a/g") {
+        Ok(file) => tell_file(alloc, volume, tree, &file),
+        Err(_) => false,
+    }
+}
+
+/// Whether `/a` has that one file, with its moment of last change.
+fn has_directory(alloc: Global, volume: &Volume, tree: &Frozen) -> bool {
+    match path(alloc, "/a") {
+        Ok(directory) => tell_directory(alloc, volume, tree, &directory),
+        Err(_) => false,
+    }
+}
+
+/// Whether all looks tell what the rows left.
+fn looks(alloc: Global, volume: &Volume) -> bool {
+    match freeze(volume) {
+        Ok(tree) => has_file(alloc, volume, &tree) && has_directory(alloc, volume, &tree),
+        Err(_) => false,
+    }
 }
 
 /// Whether all rows are answered, looks tell what they left, and the whole goes.
 fn is_done(alloc: Global, volume: &mut Volume) -> bool {
-    if !goes(alloc, volume) {
-        return false;
-    }
-    match volume.freeze() {
-        Ok(tree) => looks(alloc, volume, &tree) == Ok(true) && goes_whole(alloc, volume),
-        Err(_) => false,
-    }
+    goes(alloc, volume, ROWS) && looks(alloc, volume) && goes(alloc, volume, WHOLE)
 }
 
 fn is_done_anew(alloc: Global) -> bool {

@@ -1,22 +1,22 @@
 //! Walks through a frozen tree: its entries from a path on, and the blocks of a file from a number on, so many at most.
-use crate::asked::{USUAL, new_volume};
+use crate::asked::{USUAL, freeze, new_volume};
+use crate::changes::{Change, Row, goes};
+use pathkey::NoMemory;
+use samples::ask::path;
 use std::alloc::Global;
-use volume::{Block, Errno, Frozen, Meta, Path, Volume};
+use volume::{Block, Frozen, Meta, Path, Volume};
 
-fn path(alloc: Global, text: &str) -> Result<Path, Errno> {
-    Path::parse(alloc, text.as_bytes())
-}
+/// A directory with a file of three blocks, of which the second is a hole, and an empty file beside the directory.
+const FILLED: &[Row] = &[
+    (1, "/a", Change::Mkdir, Ok(0)),
+    (2, "/a/f", Change::Create, Ok(0)),
+    (3, "/a-", Change::Create, Ok(0)),
+    (4, "/a/f", Change::Write(0, "one"), Ok(3)),
+    (5, "/a/f", Change::Write(8192, "three"), Ok(5)),
+];
 
-/// Makes a directory with a file of three blocks, of which the second is a hole, and an empty file beside the directory.
-fn fill(alloc: Global, volume: &mut Volume) -> Result<(), Errno> {
-    let file = path(alloc, "/a/f")?;
-    volume.mkdir(alloc, &path(alloc, "/a")?, 1)?;
-    volume.create(alloc, &file, 2)?;
-    volume.create(alloc, &path(alloc, "/a-")?, 3)?;
-    let _first = volume.write(alloc, &file, 0, b"one", 4)?;
-    let _third = volume.write(alloc, &file, 8192, b"three", 5)?;
-    Ok(())
-}
+/// The directory goes, with all below it.
+const EMPTIED: &[Row] = &[(9, "/a", Change::Rmtree, Ok(0))];
 
 /// An entry: a text of its path, and what is told of it.
 type Entry = (&'static str, Meta);
@@ -64,16 +64,16 @@ fn are_entries(alloc: Global, entries: &[(Path, Meta)], wanted: &[Entry]) -> boo
 fn entries(
     alloc: Global,
     tree: &Frozen,
-    from: &str,
+    from: &Path,
     limit: usize,
-) -> Result<Vec<(Path, Meta)>, Errno> {
-    Ok(tree.entries(alloc, &path(alloc, from)?, limit)?)
+) -> Result<Vec<(Path, Meta)>, NoMemory> {
+    tree.entries(alloc, from, limit)
 }
 
 /// Where a walk begins, how many entries it lists at most, and which.
 type Walk = (&'static str, usize, &'static [Entry]);
 
-const WALKS: [Walk; 7] = [
+const WALKS: &[Walk] = &[
     ("/", usize::MAX, &[ROOT, DIRECTORY, FILE, EMPTY]),
     ("/", 2, &[ROOT, DIRECTORY]),
     ("/", 0, &[]),
@@ -83,9 +83,16 @@ const WALKS: [Walk; 7] = [
     ("/b", 4, &[]),
 ];
 
-fn is_walked(alloc: Global, tree: &Frozen, walk: Walk) -> bool {
-    match entries(alloc, tree, walk.0, walk.1) {
+fn is_walked_from(alloc: Global, tree: &Frozen, from: &Path, walk: Walk) -> bool {
+    match entries(alloc, tree, from, walk.1) {
         Ok(listed) => are_entries(alloc, listed.as_slice(), walk.2),
+        Err(_) => false,
+    }
+}
+
+fn is_walked(alloc: Global, tree: &Frozen, walk: Walk) -> bool {
+    match path(alloc, walk.0) {
+        Ok(from) => is_walked_from(alloc, tree, &from, walk),
         Err(_) => false,
     }
 }
@@ -109,21 +116,21 @@ fn are_blocks(blocks: &[(u32, Block)], wanted: &[Stored]) -> bool {
 fn blocks(
     alloc: Global,
     tree: &Frozen,
-    of: &str,
+    of: &Path,
     from: u32,
     limit: usize,
-) -> Result<Vec<(u32, Block)>, Errno> {
-    Ok(tree.blocks(alloc, &path(alloc, of)?, from, limit)?)
+) -> Result<Vec<(u32, Block)>, NoMemory> {
+    tree.blocks(alloc, of, from, limit)
 }
 
 /// Of which file blocks are listed, from which number on, how many at most, and which.
-type Row = (&'static str, u32, usize, &'static [Stored]);
+type Listing = (&'static str, u32, usize, &'static [Stored]);
 
 const FIRST: Stored = (0, "one");
 
 const THIRD: Stored = (2, "three");
 
-const ROWS: [Row; 9] = [
+const LISTINGS: &[Listing] = &[
     ("/a/f", 0, usize::MAX, &[FIRST, THIRD]),
     ("/a/f", 0, 1, &[FIRST]),
     ("/a/f", 1, 1, &[THIRD]),
@@ -135,16 +142,23 @@ const ROWS: [Row; 9] = [
     ("/", 0, 9, &[]),
 ];
 
-fn is_listed(alloc: Global, tree: &Frozen, row: Row) -> bool {
-    match blocks(alloc, tree, row.0, row.1, row.2) {
-        Ok(listed) => are_blocks(listed.as_slice(), row.3),
+fn is_listed_of(alloc: Global, tree: &Frozen, of: &Path, listing: Listing) -> bool {
+    match blocks(alloc, tree, of, listing.1, listing.2) {
+        Ok(listed) => are_blocks(listed.as_slice(), listing.3),
+        Err(_) => false,
+    }
+}
+
+fn is_listed(alloc: Global, tree: &Frozen, listing: Listing) -> bool {
+    match path(alloc, listing.0) {
+        Ok(of) => is_listed_of(alloc, tree, &of, listing),
         Err(_) => false,
     }
 }
 
 fn are_walked(alloc: Global, tree: &Frozen) -> bool {
     for walk in WALKS {
-        if !is_walked(alloc, tree, walk) {
+        if !is_walked(alloc, tree, *walk) {
             return false;
         }
     }
@@ -152,30 +166,30 @@ fn are_walked(alloc: Global, tree: &Frozen) -> bool {
 }
 
 fn are_listed(alloc: Global, tree: &Frozen) -> bool {
-    for row in ROWS {
-        if !is_listed(alloc, tree, row) {
+    for listing in LISTINGS {
+        if !is_listed(alloc, tree, *listing) {
             return false;
         }
     }
     true
 }
 
-/// Takes the directory away, with all below it.
-fn empty(alloc: Global, volume: &mut Volume) -> Result<(), Errno> {
-    volume.rmtree(alloc, &path(alloc, "/a")?, 9)
+/// Whether a frozen tree is walked so, though its volume goes on.
+fn goes_on(alloc: Global, volume: &mut Volume, tree: &Frozen) -> bool {
+    goes(alloc, volume, EMPTIED) && are_walked(alloc, tree) && are_listed(alloc, tree)
 }
 
-/// Whether a frozen tree is walked so, though its volume goes on.
-fn is_told(alloc: Global, volume: &mut Volume) -> bool {
-    if fill(alloc, volume).is_err() {
-        return false;
-    }
-    match volume.freeze() {
-        Ok(tree) => {
-            empty(alloc, volume).is_ok() && are_walked(alloc, &tree) && are_listed(alloc, &tree)
-        }
+/// Whether the live tree is walked as it should be once it is frozen, though its volume goes on.
+fn freezes(alloc: Global, volume: &mut Volume) -> bool {
+    match freeze(volume) {
+        Ok(tree) => goes_on(alloc, volume, &tree),
         Err(_) => false,
     }
+}
+
+/// Whether the files are made in a volume, and its tree is then walked as it should be once it is frozen.
+fn is_told(alloc: Global, volume: &mut Volume) -> bool {
+    goes(alloc, volume, FILLED) && freezes(alloc, volume)
 }
 
 fn is_told_anew(alloc: Global) -> bool {

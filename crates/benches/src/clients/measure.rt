@@ -1,9 +1,9 @@
 //! How long the work takes, by so many threads, on each side.
 ghost use Rattle.std.specs.Prelude.{◌≡◌, ◌≤◌};
 
-use crate::clients::flushers::{Watch, start};
 use crate::clients::map::Files;
 use crate::clients::work::{Kind, Relieved, Share, Store, calls_of, do_share};
+use crate::flushers::{Pace, Watch, start};
 use engine::{Client, Engine, Naming, Room};
 use node::Shape;
 use std::alloc::Global;
@@ -87,15 +87,35 @@ fn time_all<S: Store + Send, R: Threads + Wait + Clock + Sync>(
     })
 }
 
+/// A store that one thread calls.
+fn alone<S: Store + Send + Drop, R: Threads + Wait + Clock + Sync>(
+    rt: &R,
+    alloc: Global,
+    store: S,
+    files: u64,
+) -> Option<Figures> {
+    let mut stores = Vec::new(alloc);
+    match stores.push(store) {
+        Ok(()) => time_all(rt, alloc, stores.as_mut_slice(), files),
+        Err(_) => None,
+    }
+}
+
+/// A new volume.
+fn new_volume(alloc: Global) -> Option<Volume> {
+    Volume::new(alloc, SHAPE).ok()
+}
+
 /// A volume alone, which one thread calls.
 pub fn volume_alone<R: Threads + Wait + Clock + Sync>(
     rt: &R,
     alloc: Global,
     files: u64,
 ) -> Option<Figures> {
-    let mut volumes = Vec::new(alloc);
-    volumes.push(Volume::new(alloc, SHAPE).ok()?).ok()?;
-    time_all(rt, alloc, volumes.as_mut_slice(), files)
+    match new_volume(alloc) {
+        Some(volume) => alone(rt, alloc, volume, files),
+        None => None,
+    }
 }
 
 /// A volume that one thread calls, which does one step after each call.
@@ -104,10 +124,25 @@ pub fn volume_relieved<R: Threads + Wait + Clock + Sync>(
     alloc: Global,
     files: u64,
 ) -> Option<Figures> {
-    let mut volumes = Vec::new(alloc);
-    let volume = Volume::new(alloc, SHAPE).ok()?;
-    volumes.push(Relieved { volume }).ok()?;
-    time_all(rt, alloc, volumes.as_mut_slice(), files)
+    match new_volume(alloc) {
+        Some(volume) => alone(rt, alloc, Relieved { volume }, files),
+        None => None,
+    }
+}
+
+/// So many threads share a map.
+fn share_map<R: Threads + Wait + Clock + Sync>(
+    rt: &R,
+    alloc: Global,
+    map: &Mutex<Files>,
+    files: u64,
+    threads: usize,
+) -> Option<Figures> {
+    let mut stores = Vec::new(alloc);
+    for _ in 0..threads {
+        stores.push(map).ok()?;
+    }
+    time_all(rt, alloc, stores.as_mut_slice(), files)
 }
 
 /// A map under a lock, which so many threads call.
@@ -118,11 +153,7 @@ pub fn map_shared<R: Threads + Wait + Clock + Sync>(
     threads: usize,
 ) -> Option<Figures> {
     let map: Mutex<Files> = Mutex::new(BTreeMap::new(alloc));
-    let mut stores = Vec::new(alloc);
-    for _ in 0..threads {
-        stores.push(&map).ok()?;
-    }
-    time_all(rt, alloc, stores.as_mut_slice(), files)
+    share_map(rt, alloc, &map, files, threads)
 }
 
 /// Clients do the work while flushers make turns.
@@ -134,7 +165,7 @@ fn beside<J: Naming + Send + Sync, R: Threads + Wait + Clock + Sync>(
     files: u64,
     flushers: u8,
 ) -> Option<Figures> {
-    let watch = Watch::new();
+    let watch = Watch::new(Pace::Many);
     let figures = scope(scope_env(), rt, |scope| {
         for _ in 0..flushers {
             if let Ok(flusher) = engine.flusher() {
@@ -142,11 +173,11 @@ fn beside<J: Naming + Send + Sync, R: Threads + Wait + Clock + Sync>(
             }
         }
         let figures = time_all(rt, alloc, clients, files);
-        watch.stop.store(true, Ordering::Relaxed);
+        watch.end();
         figures
     })?;
     Some(Figures {
-        turns: watch.turns.load(Ordering::Relaxed),
+        turns: watch.turns().made,
         ..figures
     })
 }
@@ -163,21 +194,25 @@ fn in_room<J: Naming + Send + Sync, R: Threads + Wait + Clock + Sync>(
     requires names { (room.0 ≡ J.table) × (room.1 ≡ J.opening) × (J.clients ≡ clients) }
     requires few { (1 ≤ clients) × (clients ≤ 64) }
 {
-    let (mut engine, mut clients) = Engine::<J>::open(alloc, room, clients).ok()?;
-    beside(
-        rt,
-        alloc,
-        &mut engine,
-        clients.as_mut_slice(),
-        files,
-        flushers,
-    )
+    match Engine::<J>::open(alloc, room, clients) {
+        Ok((mut engine, mut clients)) => beside(
+            rt,
+            alloc,
+            &mut engine,
+            clients.as_mut_slice(),
+            files,
+            flushers,
+        ),
+        Err(_) => None,
+    }
 }
 
 /// A room with a new volume.
 fn new_room(alloc: Global) -> Option<Room> {
-    let volume = Volume::new(alloc, SHAPE).ok()?;
-    Room::new(alloc, volume).ok()
+    match new_volume(alloc) {
+        Some(volume) => Room::new(alloc, volume).ok(),
+        None => None,
+    }
 }
 
 /// An engine which so many clients call while so many flushers make turns.
@@ -190,5 +225,8 @@ pub fn engine_shared<R: Threads + Wait + Clock + Sync>(
 ) -> Option<Figures>
     requires { (1 ≤ clients) × (clients ≤ 64) }
 {
-    in_room::<Brand, R>(rt, alloc, new_room(alloc)?, files, clients, flushers)
+    match new_room(alloc) {
+        Some(room) => in_room::<Brand, R>(rt, alloc, room, files, clients, flushers),
+        None => None,
+    }
 }

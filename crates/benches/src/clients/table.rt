@@ -89,15 +89,20 @@ fn show_name(rt: &impl Print, row: Row) -> anyhow::Result<()> {
     Ok(())
 }
 
+/// Nanoseconds for each of so many files.
+fn each(time: u64, files: u64) -> u64 {
+    time.checked_div(files).unwrap_or(0)
+}
+
 /// Prints the figures of a row.
 fn show_figures(rt: &impl Print, figures: Figures, files: u64) -> anyhow::Result<()> {
     let all = figures
         .create
         .saturating_add(figures.write)
         .saturating_add(figures.stat);
-    let [create, write, stat] = [figures.create, figures.write, figures.stat].map(|time| time
-        .checked_div(files)
-        .unwrap_or(0));
+    let create = each(figures.create, files);
+    let write = each(figures.write, files);
+    let stat = each(figures.stat, files);
     let rate = files
         .saturating_mul(3_000_000)
         .checked_div(all)

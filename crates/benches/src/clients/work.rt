@@ -3,6 +3,7 @@ use bytes::Bytes;
 use engine::{Client, Naming};
 use pathkey::Path;
 use reference::{Call, Reply};
+use samples::ask::path;
 use std::alloc::Global;
 use std::sync::Wait;
 use volume::Volume;
@@ -84,7 +85,10 @@ impl Share {
     /// The path of the directory, made and parsed as text.
     fn directory(self, alloc: Global) -> Option<Path> {
         let client = self.client;
-        parse(alloc, &format!(in alloc; "/c{client}").ok()?)
+        match format!(in alloc; "/c{client}") {
+            Ok(text) => parse(alloc, &text),
+            Err(_) => None,
+        }
     }
 
     /// The path of a file. Neighbours in number lie far apart, and each file has one number.
@@ -93,7 +97,10 @@ impl Share {
         let number = number
             .wrapping_mul(0x9E37_79B9_7F4A_7C15)
             .checked_rem(self.files)?;
-        parse(alloc, &format!(in alloc; "/c{client}/f{number}").ok()?)
+        match format!(in alloc; "/c{client}/f{number}") {
+            Ok(text) => parse(alloc, &text),
+            Err(_) => None,
+        }
     }
 
     /// A call of that kind, on the file of that number where it is one on files.
@@ -116,14 +123,16 @@ pub fn calls_of(kind: Kind, files: u64) -> u64 {
 }
 
 /// The path of a text.
-fn parse(alloc: Global, text: &String) -> Option<Path> {
-    Path::parse(alloc, text.as_bytes()).ok()
+pub fn parse(alloc: Global, text: &String) -> Option<Path> {
+    path(alloc, text.as_str()).ok()
 }
 
 /// The call that writes to a file.
 fn write_call(alloc: Global, path: Path) -> Option<Call> {
-    let bytes = Bytes::copy_from_slice(alloc, &TEXT).ok()?;
-    Some(Call::Write(path, 0, bytes))
+    match Bytes::copy_from_slice(alloc, &TEXT) {
+        Ok(bytes) => Some(Call::Write(path, 0, bytes)),
+        Err(_) => None,
+    }
 }
 
 /// Makes a call; whether it was answered as it has to be.

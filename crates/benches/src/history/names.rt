@@ -1,7 +1,7 @@
 //! The files and snapshots that all clients share, by their numbers.
+use crate::clients::work::parse;
 use engine::{Path, Shape, SnapName, Volume};
 use std::alloc::Global;
-use std::fmt::Write;
 
 /// How many files there are.
 pub const FILES: usize = 128;
@@ -30,50 +30,75 @@ pub struct Names {
 
 /// The path of the directory of a number.
 fn directory(alloc: Global, number: usize) -> Option<Path> {
-    let mut text = String::new(alloc);
-    write!(text, "/d{number}").ok()?;
-    Path::parse(alloc, text.as_bytes()).ok()
+    match format!(in alloc; "/d{number}") {
+        Ok(text) => parse(alloc, &text),
+        Err(_) => None,
+    }
 }
 
 /// The path of the file of a number.
 fn file(alloc: Global, number: usize) -> Option<Path> {
-    let mut text = String::new(alloc);
     let directory = number / FILES_EACH;
-    write!(text, "/d{directory}/f{number}").ok()?;
-    Path::parse(alloc, text.as_bytes()).ok()
+    match format!(in alloc; "/d{directory}/f{number}") {
+        Ok(text) => parse(alloc, &text),
+        Err(_) => None,
+    }
+}
+
+/// The name of a text.
+fn name(alloc: Global, text: &String) -> Option<SnapName> {
+    SnapName::parse(alloc, text.as_bytes()).ok()
 }
 
 /// The name of the snapshot of a number.
 fn snapshot(alloc: Global, number: usize) -> Option<SnapName> {
-    let mut text = String::new(alloc);
-    write!(text, "s{number}").ok()?;
-    SnapName::parse(alloc, text.as_bytes()).ok()
+    match format!(in alloc; "s{number}") {
+        Ok(text) => name(alloc, &text),
+        Err(_) => None,
+    }
+}
+
+/// Adds what there is behind the others. Whether it was added.
+fn adds<T: Drop>(all: &mut Vec<T>, one: Option<T>) -> bool {
+    match one {
+        Some(one) => all.push(one).is_ok(),
+        None => false,
+    }
 }
 
 /// The paths of all files.
 fn files(alloc: Global) -> Option<Vec<Path>> {
     let mut files = Vec::new(alloc);
+    let mut is_made = true;
     for number in 0..FILES {
-        files.push(file(alloc, number)?).ok()?;
+        is_made &= adds(&mut files, file(alloc, number));
     }
-    Some(files)
+    is_made.then_some(files)
 }
 
 /// The names of all snapshots.
 fn snapshots(alloc: Global) -> Option<Vec<SnapName>> {
     let mut snapshots = Vec::new(alloc);
+    let mut is_made = true;
     for number in 0..SNAPSHOTS {
-        snapshots.push(snapshot(alloc, number)?).ok()?;
+        is_made &= adds(&mut snapshots, snapshot(alloc, number));
     }
-    Some(snapshots)
+    is_made.then_some(snapshots)
+}
+
+/// These files, and all snapshots.
+fn named(alloc: Global, files: Vec<Path>) -> Option<Names> {
+    match snapshots(alloc) {
+        Some(snapshots) => Some(Names { files, snapshots }),
+        None => None,
+    }
 }
 
 impl Names {
     /// All names; none where memory is refused.
     pub fn new(alloc: Global) -> Option<Names> {
-        let files = files(alloc)?;
-        match snapshots(alloc) {
-            Some(snapshots) => Some(Names { files, snapshots }),
+        match files(alloc) {
+            Some(files) => named(alloc, files),
             None => None,
         }
     }
@@ -103,12 +128,19 @@ fn make_files(alloc: Global, volume: &mut Volume) -> bool {
     is_made
 }
 
-/// A volume in which each file stands, and is empty.
-pub fn new_volume(alloc: Global) -> Option<Volume> {
-    let mut volume = Volume::new(alloc, SMALL).ok()?;
+/// This volume, if each file could be made in it.
+fn filled(alloc: Global, mut volume: Volume) -> Option<Volume> {
     if make_directories(alloc, &mut volume) && make_files(alloc, &mut volume) {
         Some(volume)
     } else {
         None
+    }
+}
+
+/// A volume in which each file stands, and is empty.
+pub fn new_volume(alloc: Global) -> Option<Volume> {
+    match Volume::new(alloc, SMALL) {
+        Ok(volume) => filled(alloc, volume),
+        Err(_) => None,
     }
 }

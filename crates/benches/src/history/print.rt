@@ -3,18 +3,34 @@ use crate::history::call::{Answer, Asked, Log, Made};
 use crate::history::names::FILES;
 use std::io::{Result, Write};
 
+/// The word of a call.
+fn word_of(asked: Asked) -> &'static str {
+    match asked {
+        Asked::Read(_) => "read",
+        Asked::Write(..) => "write",
+        Asked::Create(_) => "create",
+        Asked::Unlink(_) => "unlink",
+        Asked::Keep(_) => "keep",
+        Asked::Drop(_) => "drop",
+        Asked::Restore(_) => "restore",
+        Asked::Look(_) => "look",
+        Asked::Scan => "scan",
+    }
+}
+
 /// Prints a call.
 fn print_asked<W: Write>(out: &mut W, asked: Asked) -> Result<()> {
+    let word = word_of(asked);
     match asked {
-        Asked::Read(file) => write!(out, "read {file}"),
-        Asked::Write(file, mark) => write!(out, "write {file} {mark}"),
-        Asked::Create(file) => write!(out, "create {file}"),
-        Asked::Unlink(file) => write!(out, "unlink {file}"),
-        Asked::Keep(name) => write!(out, "keep {name}"),
-        Asked::Drop(name) => write!(out, "drop {name}"),
-        Asked::Restore(name) => write!(out, "restore {name}"),
-        Asked::Look(name) => write!(out, "look {name}"),
-        Asked::Scan => write!(out, "scan"),
+        Asked::Scan => write!(out, "{word}"),
+        Asked::Write(file, mark) => write!(out, "{word} {file} {mark}"),
+        Asked::Read(number)
+        | Asked::Create(number)
+        | Asked::Unlink(number)
+        | Asked::Keep(number)
+        | Asked::Drop(number)
+        | Asked::Restore(number)
+        | Asked::Look(number) => write!(out, "{word} {number}"),
     }
 }
 

@@ -1,14 +1,13 @@
 //! Clients of one engine work, each in a thread of its own, beside flushers.
 ghost use Rattle.std.specs.Prelude.{◌≡◌};
 
+use crate::flushers::{Pace, Turns, Watch, start};
 use crate::history::call::Log;
-use crate::history::flushers::{Turns, Watch, start};
 use crate::history::names::new_volume;
 use crate::history::work::{Course, work};
 use engine::{Client, Engine, Naming, Room};
 use std::alloc::Global;
 use std::marker::Brand;
-use std::sync::atomic::Ordering;
 use std::sync::{Mutex, Wait};
 use std::thread::{Threads, for_each_mut, scope, scope_env};
 
@@ -46,7 +45,7 @@ fn beside<J: Naming + Send + Sync, R: Threads + Wait + Sync>(
     course: &Course,
     logs: &Mutex<Vec<Log>>,
 ) -> Turns {
-    let watch = Watch::new();
+    let watch = Watch::new(Pace::Rests);
     scope(scope_env(), rt, |scope| {
         for _ in 0..FLUSHERS {
             if let Ok(flusher) = engine.flusher() {
@@ -54,7 +53,7 @@ fn beside<J: Naming + Send + Sync, R: Threads + Wait + Sync>(
             }
         }
         work_all(rt, alloc, clients, course, logs);
-        watch.stop.store(true, Ordering::SeqCst);
+        watch.end();
     });
     watch.turns()
 }

@@ -1,7 +1,7 @@
 //! A client makes calls, and logs each with what the clock says before it and once it is answered.
+use crate::flushers::rest;
 use crate::history::call::{Answer, Asked, Log, Made};
 use crate::history::draw::Draw;
-use crate::history::flushers::rest;
 use crate::history::names::Names;
 use engine::{Client, Errno, Frozen, Naming, Path, Reply, SnapName};
 use std::alloc::Global;

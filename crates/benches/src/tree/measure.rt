@@ -46,6 +46,12 @@ const EDITED: Numbers = Numbers {
     count: 1_000_000,
 };
 
+/// How many messages may wait in the root while keys are appended.
+const LIMITS: &[usize] = &[0, LIMIT];
+
+/// How many messages of other keys wait while few keys are updated.
+const COUNTS: &[u64] = &[0, WAITING.count];
+
 /// Nanoseconds for each of so many operations.
 fn each(time: Duration, numbers: Numbers) -> u128 {
     time.as_nanos()
@@ -56,14 +62,32 @@ fn each(time: Duration, numbers: Numbers) -> u128 {
 /// Look-ups in a settled tree and then with messages that wait in its root, and in a map of the same keys.
 pub fn look_ups(rt: &(impl Clock + Print), alloc: Global) -> anyhow::Result<()> {
     let mut tree = new_tree(alloc)?;
-    append(alloc, &mut tree, Appended::Put, SETTLED, LIMIT)?;
-    let steps = settle(alloc, &mut tree);
+    look_ups_in(rt, alloc, &mut tree)
+}
+
+/// The same in this tree.
+fn look_ups_in(
+    rt: &(impl Clock + Print),
+    alloc: Global,
+    tree: &mut Tree<Set>,
+) -> anyhow::Result<()> {
+    append(alloc, tree, Appended::Put, SETTLED, LIMIT)?;
+    let steps = settle(alloc, tree);
     println!(rt; "settled in {steps} steps")?;
-    let mut map = BTreeMap::new(alloc);
-    insert(alloc, &mut map, SETTLED)?;
-    time_look_ups(rt, alloc, &tree, &map)?;
-    append(alloc, &mut tree, Appended::Put, WAITING, LIMIT)?;
-    time_look_ups(rt, alloc, &tree, &map)
+    look_ups_beside(rt, alloc, tree, &mut BTreeMap::new(alloc))
+}
+
+/// The same in this settled tree and in this map, which gets the same keys.
+fn look_ups_beside(
+    rt: &(impl Clock + Print),
+    alloc: Global,
+    tree: &mut Tree<Set>,
+    map: &mut BTreeMap<Key, u64>,
+) -> anyhow::Result<()> {
+    insert(alloc, map, SETTLED)?;
+    time_look_ups(rt, alloc, tree, map)?;
+    append(alloc, tree, Appended::Put, WAITING, LIMIT)?;
+    time_look_ups(rt, alloc, tree, map)
 }
 
 /// Look-ups in a tree and in a map of the same keys.
@@ -88,29 +112,49 @@ fn time_look_ups(
 
 /// Appends with flushes, where no message or many may wait in the root, and inserts into a map of the same keys.
 pub fn appends(rt: &(impl Clock + Print), alloc: Global) -> anyhow::Result<()> {
-    for limit in [0, LIMIT] {
-        let mut tree = new_tree(alloc)?;
-        let time = time_appends(rt, alloc, &mut tree, Appended::Put, ALL, limit)?;
-        let map_time = time_inserts(rt, alloc, ALL)?;
-        let report = tree.shape_report();
-        let (levels, entries, pending) = (report.levels, report.entries, report.pending);
-        println!(rt; "{levels} levels, {entries} entries, {pending} pending")?;
-        println!(rt; "append, at most {limit} waiting: tree {time} ns, map {map_time} ns")?;
+    for limit in LIMITS {
+        appends_to(rt, alloc, &mut new_tree(alloc)?, *limit)?;
     }
+    Ok(())
+}
+
+/// Appends to this tree.
+fn appends_to(
+    rt: &(impl Clock + Print),
+    alloc: Global,
+    tree: &mut Tree<Set>,
+    limit: usize,
+) -> anyhow::Result<()> {
+    let time = time_appends(rt, alloc, tree, Appended::Put, ALL, limit)?;
+    let map_time = time_inserts(rt, alloc, ALL)?;
+    let report = tree.shape_report();
+    let (levels, entries, pending) = (report.levels, report.entries, report.pending);
+    println!(rt; "{levels} levels, {entries} entries, {pending} pending")?;
+    println!(rt; "append, at most {limit} waiting: tree {time} ns, map {map_time} ns")?;
     Ok(())
 }
 
 /// Updates of few keys, which join, where no message or many of other keys wait, and inserts into a map of the same keys.
 pub fn edits(rt: &(impl Clock + Print), alloc: Global) -> anyhow::Result<()> {
-    for count in [0, WAITING.count] {
-        let mut tree = new_tree(alloc)?;
-        let others = Numbers { count, ..WAITING };
-        append(alloc, &mut tree, Appended::Put, others, LIMIT)?;
-        let time = time_appends(rt, alloc, &mut tree, Appended::Edit, EDITED, usize::MAX)?;
-        let map_time = time_inserts(rt, alloc, EDITED)?;
-        let pending = tree.shape_report().pending;
-        println!(rt; "edit, {pending} pending: tree {time} ns, map {map_time} ns")?;
+    for count in COUNTS {
+        edits_in(rt, alloc, &mut new_tree(alloc)?, *count)?;
     }
+    Ok(())
+}
+
+/// Updates in this tree.
+fn edits_in(
+    rt: &(impl Clock + Print),
+    alloc: Global,
+    tree: &mut Tree<Set>,
+    count: u64,
+) -> anyhow::Result<()> {
+    let others = Numbers { count, ..WAITING };
+    append(alloc, tree, Appended::Put, others, LIMIT)?;
+    let time = time_appends(rt, alloc, tree, Appended::Edit, EDITED, usize::MAX)?;
+    let map_time = time_inserts(rt, alloc, EDITED)?;
+    let pending = tree.shape_report().pending;
+    println!(rt; "edit, {pending} pending: tree {time} ns, map {map_time} ns")?;
     Ok(())
 }
 
@@ -128,10 +172,19 @@ fn time_appends(
     Ok(each(start.elapsed(rt)?, numbers))
 }
 
-/// How long an insert into a map takes.
+/// How long an insert into a new map takes.
 fn time_inserts(rt: &impl Clock, alloc: Global, numbers: Numbers) -> anyhow::Result<u128> {
-    let mut map = BTreeMap::new(alloc);
+    time_inserts_into(rt, alloc, &mut BTreeMap::new(alloc), numbers)
+}
+
+/// How long an insert into this map takes.
+fn time_inserts_into(
+    rt: &impl Clock,
+    alloc: Global,
+    map: &mut BTreeMap<Key, u64>,
+    numbers: Numbers,
+) -> anyhow::Result<u128> {
     let start = Instant::now(rt)?;
-    insert(alloc, &mut map, numbers)?;
+    insert(alloc, map, numbers)?;
     Ok(each(start.elapsed(rt)?, numbers))
 }

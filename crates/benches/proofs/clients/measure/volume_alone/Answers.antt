@@ -3,5 +3,5 @@ use Rattle.std.proofs.Crossing.{crosses}
 use Rattle.engine.proofs.Sent.{volume_send}
 use Rattle.benches.proofs.clients.measure.volume_alone.Goals as goal
 
-pub time_all-requires-send-S : goal.time_all-requires-send-S
-time_all-requires-send-S g c = λ κs lives. search (volume_send, sendable, crosses) depth 20
+pub alone-requires-send-S : goal.alone-requires-send-S
+alone-requires-send-S g c = λ κs lives. search (volume_send, sendable, crosses) depth 20

@@ -9,22 +9,35 @@ use std::time::Duration;
 /// How many microseconds a rest takes, or somewhat more.
 const REST: u64 = 20;
 
+/// After how many turns a flusher that does not rest looks whether it has to stop.
+const TURNS: u32 = 64;
+
 /// How many turns flushers made.
 #[derive(Clone, Copy)]
 pub struct Turns {
     /// All of them.
     pub made: u64,
-    /// Those in which a job was installed.
+    /// Those of flushers that rest in which a job was installed.
     pub installed: u64,
-    /// Those in which the job was stale, since a restore came between.
+    /// Those of flushers that rest in which the job was stale, since a restore came between.
     pub stale: u64,
+}
+
+/// How flushers make turns.
+#[derive(Clone, Copy)]
+pub enum Pace {
+    /// Many at once, as the library makes them.
+    Many,
+    /// One by one, with a rest in its middle and one behind it.
+    Rests,
 }
 
 /// What flushers are told, and what they made.
 #[derive(Drop)]
 pub struct Watch {
+    pace: Pace,
     /// Whether they have to stop.
-    pub stop: AtomicBool,
+    stop: AtomicBool,
     turns: AtomicU64,
     installed: AtomicU64,
     stale: AtomicU64,
@@ -32,13 +45,24 @@ pub struct Watch {
 
 impl Watch {
     /// No turn was made.
-    pub fn new() -> Watch {
+    pub fn new(pace: Pace) -> Watch {
         Watch {
+            pace,
             stop: AtomicBool::new(false),
             turns: AtomicU64::new(0),
             installed: AtomicU64::new(0),
             stale: AtomicU64::new(0),
         }
+    }
+
+    /// Tells them to stop.
+    pub fn end(&self) {
+        self.stop.store(true, Ordering::SeqCst);
+    }
+
+    /// Whether they have to stop.
+    fn is_ended(&self) -> bool {
+        self.stop.load(Ordering::SeqCst)
     }
 
     /// How many turns there were so far.
@@ -50,9 +74,14 @@ impl Watch {
         }
     }
 
+    /// Notes so many turns.
+    fn note_all(&self, turns: u32) {
+        self.turns.fetch_add(u64::from(turns), Ordering::SeqCst);
+    }
+
     /// Notes what a turn did.
     fn note(&self, reply: TurnReply) {
-        self.turns.fetch_add(1, Ordering::SeqCst);
+        self.note_all(1);
         match reply {
             TurnReply::Installed => {
                 self.installed.fetch_add(1, Ordering::SeqCst);
@@ -82,6 +111,12 @@ pub fn rest<R: Wait>(rt: &R) {
     Parker::new().park_timeout(rt, Duration::from_micros(REST));
 }
 
+/// A turn with its rests.
+fn turn<J: Naming, H: Wait>(rt: &H, alloc: Global, flusher: &mut Flusher<J>, watch: &Watch) {
+    watch.note(flusher.turn(rt, alloc, &mut Rests { rt }));
+    rest(rt);
+}
+
 /// Starts a flusher in a thread of its own, if there is one.
 pub fn start<'s, E, J: Naming + Send + Sync + 's, H: Wait + Sync>(
     scope: &Scope<'s, E>,
@@ -96,10 +131,15 @@ pub fn start<'s, E, J: Naming + Send + Sync + 's, H: Wait + Sync>(
 /// Turns until it has to stop.
 fn flush<J: Naming, H: Wait>(rt: &H, alloc: Global, mut flusher: Flusher<J>, watch: &Watch) {
     for _ in 0..u64::MAX {
-        if watch.stop.load(Ordering::SeqCst) {
+        if watch.is_ended() {
             return;
         }
-        watch.note(flusher.turn(rt, alloc, &mut Rests { rt }));
-        rest(rt);
+        match watch.pace {
+            Pace::Many => {
+                flusher.run_flusher(rt, alloc, TURNS);
+                watch.note_all(TURNS);
+            }
+            Pace::Rests => turn(rt, alloc, &mut flusher, watch),
+        }
     }
 }

@@ -2,8 +2,8 @@ use denote.Param.{param}
 use denote.Param.Send.{sendable}
 use Rattle.std.proofs.Crossing.{crosses}
 use Rattle.engine.proofs.Sent.{flusher_send}
-use Rattle.benches.proofs.history.flushers.Watch.TheSendSync as watches
-use Rattle.benches.proofs.history.flushers.start.Goals as goal
+use Rattle.benches.proofs.flushers.Watch.TheSendSync as watches
+use Rattle.benches.proofs.flushers.start.Goals as goal
 
 pub spawn-requires-send-F : goal.spawn-requires-send-F
 spawn-requires-send-F g c = λ κs lives. let a = flusher_send (param 0 g.row.J) g.J.Naming in search (watches.the_sync, sendable, crosses) depth 20

@@ -1,0 +1,81 @@
+//! Changes of a volume by the calls that have an answer of their own, as a table can hold them.
+use pathkey::{Errno, Path};
+use samples::ask::path;
+use std::alloc::Global;
+use volume::Volume;
+
+/// A change of one path.
+#[derive(Clone, Copy)]
+pub enum Change<'a> {
+    Mkdir,
+    Create,
+    Write(u64, &'a str),
+    Truncate(u64),
+    Rename(&'a str),
+    Unlink,
+    Rmdir,
+    Rmtree,
+}
+
+/// A moment, a path, what is done there, and how many bytes were written, or why not.
+pub type Row = (u64, &'static str, Change<'static>, Result<u64, Errno>);
+
+/// What a call that tells nothing back is answered: no bytes were written.
+fn settled(told: Result<(), Errno>) -> Result<u64, Errno> {
+    match told {
+        Ok(()) => Ok(0),
+        Err(fault) => Err(fault),
+    }
+}
+
+/// Moves to the path of a text.
+fn moves(alloc: Global, volume: &mut Volume, from: &Path, to: &str, at: u64) -> Result<u64, Errno> {
+    match path(alloc, to) {
+        Ok(to) => settled(volume.rename(alloc, from, &to, at)),
+        Err(fault) => Err(fault),
+    }
+}
+
+/// Does a change of the path at a moment: how many bytes were written.
+fn does(
+    alloc: Global,
+    volume: &mut Volume,
+    of: &Path,
+    change: Change<'_>,
+    at: u64,
+) -> Result<u64, Errno> {
+    match change {
+        Change::Mkdir => settled(volume.mkdir(alloc, of, at)),
+        Change::Create => settled(volume.create(alloc, of, at)),
+        Change::Write(offset, text) => volume.write(alloc, of, offset, text.as_bytes(), at),
+        Change::Truncate(length) => settled(volume.truncate(alloc, of, length, at)),
+        Change::Rename(to) => moves(alloc, volume, of, to, at),
+        Change::Unlink => settled(volume.unlink(alloc, of, at)),
+        Change::Rmdir => settled(volume.rmdir(alloc, of, at)),
+        Change::Rmtree => settled(volume.rmtree(alloc, of, at)),
+    }
+}
+
+/// Does a change of the path of a text.
+pub fn outcome(
+    alloc: Global,
+    volume: &mut Volume,
+    text: &str,
+    change: Change<'_>,
+    at: u64,
+) -> Result<u64, Errno> {
+    match path(alloc, text) {
+        Ok(of) => does(alloc, volume, &of, change, at),
+        Err(fault) => Err(fault),
+    }
+}
+
+/// Whether each change comes out so, in this order.
+pub fn goes(alloc: Global, volume: &mut Volume, rows: &[Row]) -> bool {
+    for (at, text, change, wanted) in rows {
+        if outcome(alloc, volume, text, *change, *at) != *wanted {
+            return false;
+        }
+    }
+    true
+}
