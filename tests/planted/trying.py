@@ -78,7 +78,8 @@ def functions_among(source: Source, items: tuple[Item, ...], module: str, holder
             exact = "/".join(filter(None, (front, item.name)))
             of_trait = r"\w*" if holder else ""
             folder = re.compile(re.escape(front) + of_trait + ("/" if front else "") + re.escape(item.name))
-            yield Function(source.path, item.name, item.body, source.line(item.start), source.line(item.span.end - 1), folder, exact)
+            # from its attributes on: the prover tells of an export at these
+            yield Function(source.path, item.name, item.body, source.line(item.span.start), source.line(item.span.end - 1), folder, exact)
         elif item.kind == "mod":
             yield from functions_among(source, item.parts, "/".join(filter(None, (module, item.name))), "")
         elif item.kind in ("impl", "trait"):
