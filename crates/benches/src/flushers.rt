@@ -1,4 +1,4 @@
-//! Flushers that make turns until they are told to stop, and count what these did.
+//! Flushers that make turns until they are told to stop, and count them; one that rests counts what each turn did too.
 use engine::{Between, Flusher, Naming, TurnReply};
 use std::alloc::Global;
 use std::sync::Wait;
@@ -26,9 +26,9 @@ pub struct Turns {
 /// How flushers make turns.
 #[derive(Clone, Copy)]
 pub enum Pace {
-    /// Many at once, as the library makes them.
+    /// Many in a row, by `run_flusher`.
     Many,
-    /// One by one, with a rest in its middle and one behind it.
+    /// One by one: a rest in the middle of each, and one behind it.
     Rests,
 }
 

@@ -2,7 +2,7 @@
 
 use engine::{Client, Naming, Room};
 use node::Shape;
-use pathkey::{Errno, SnapName};
+use pathkey::SnapName;
 use reference::{Call, Reply};
 use samples::{Ask, Told};
 use std::alloc::Global;
@@ -16,27 +16,27 @@ pub const SMALL: Shape = Shape {
     leaf: 4,
 };
 
-/// A new volume. It ensures nothing, so that no proof of a test reads what a volume means; nor does `reply_to`.
-fn new_volume(alloc: Global, shape: Shape) -> Result<Volume, Errno> {
-    Volume::new(alloc, shape)
-}
-
 /// A room with a new volume.
 pub fn new_room(alloc: Global, shape: Shape) -> Option<Room> {
-    match new_volume(alloc, shape) {
-        Ok(volume) => Room::new(alloc, volume).ok(),
-        Err(_) => None,
-    }
+    let volume = Volume::new(alloc, shape).ok()?;
+    Room::new(alloc, volume).ok()
 }
 
-/// The reply to a call.
-fn reply_to<J: Naming, R: Wait>(
+/// The reply to a call, and whether it is this one.
+fn replies<J: Naming, R: Wait>(
     rt: &R,
     alloc: Global,
     client: &mut Client<J>,
     call: &Call,
-) -> Reply {
-    client.call(rt, alloc, call, 0)
+    told: Told<'_>,
+) -> bool {
+    let reply = client.call(rt, alloc, call, 0);
+    is(told, &reply)
+}
+
+/// Whether this is the reply.
+pub fn is(told: Told<'_>, reply: &Reply) -> bool {
+    told.is(reply)
 }
 
 /// Whether a call of the client is answered so.
@@ -48,7 +48,7 @@ pub fn answers<J: Naming, R: Wait>(
     told: Told<'_>,
 ) -> bool {
     match call_of(alloc, ask) {
-        Some(call) => told.is(&reply_to(rt, alloc, client, &call)),
+        Some(call) => replies(rt, alloc, client, &call, told),
         None => false,
     }
 }

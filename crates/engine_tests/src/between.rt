@@ -2,7 +2,6 @@
 ghost use Rattle.std.specs.Prelude.{◌≡◌};
 
 use crate::asked::answers;
-use crate::crew::turned;
 use crate::depth::{makes_all, turns_until_idle};
 use crate::ends::{Snap, fault_of};
 use engine::{Between, Client, Flusher, Naming, TurnReply};
@@ -117,19 +116,6 @@ pub fn prepares<J: Naming, R: Wait>(
         && answers(rt, alloc, client, Ask::Create("/z"), Told::Done)
 }
 
-/// Whether a turn and its client are answered as they have to be.
-fn turns_so<J: Naming, R: Wait>(
-    rt: &R,
-    alloc: Global,
-    flusher: &mut Flusher<J>,
-    between: &mut Meanwhile<'_, J, R>,
-) -> bool {
-    let deed = between.deed;
-    let reply = turned(rt, alloc, flusher, between);
-    let is_found = finds(rt, alloc, &mut between.client, deed);
-    reply == deed.wanted() && between.is_done && is_found
-}
-
 /// A turn between whose taking and installing the client does this: whether turn and client are answered as they have to be.
 pub fn goes_on<J: Naming, R: Wait>(
     rt: &R,
@@ -146,22 +132,20 @@ pub fn goes_on<J: Naming, R: Wait>(
         deed,
         is_done: false,
     };
-    is_ready && turns_so(rt, alloc, &mut flusher, &mut between)
+    let reply = flusher.turn(rt, alloc, &mut between);
+    let is_found = finds(rt, alloc, &mut between.client, deed);
+    is_ready && reply == deed.wanted() && between.is_done && is_found
 }
 
 /// Whether a turn whose job is given back says so, and the next one takes the slot again.
-fn takes_again<J: Naming, R: Wait>(rt: &R, alloc: Global, flusher: &mut Flusher<J>) -> bool {
-    let first = turned(rt, alloc, flusher, &mut Refuses);
-    let second = turned(rt, alloc, flusher, &mut Nothing);
-    first == TurnReply::NoMemory && second == TurnReply::Installed
-}
-
-/// The same once there is a job to take.
 pub fn gives_back<J: Naming, R: Wait>(
     rt: &R,
     alloc: Global,
     mut client: Client<J>,
     mut flusher: Flusher<J>,
 ) -> bool {
-    prepares(rt, alloc, &mut client, &mut flusher) && takes_again(rt, alloc, &mut flusher)
+    let is_ready = prepares(rt, alloc, &mut client, &mut flusher);
+    let first = flusher.turn(rt, alloc, &mut Refuses);
+    let second = flusher.turn(rt, alloc, &mut Nothing);
+    is_ready && first == TurnReply::NoMemory && second == TurnReply::Installed
 }

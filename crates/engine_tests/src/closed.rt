@@ -3,8 +3,7 @@ ghost use Rattle.std.specs.Prelude.{◌≡◌};
 
 use crate::asked::{SMALL, new_room};
 use crate::between::prepares;
-use crate::crew::{close, turned};
-use engine::{Between, Client, Clients, Engine, Flusher, Naming, Room, TurnReply};
+use engine::{Between, Clients, Engine, Flusher, Naming, Room, TurnReply};
 use std::alloc::Global;
 use std::marker::Brand;
 use std::sync::Wait;
@@ -13,103 +12,62 @@ use std::sync::Wait;
 #[derive(Drop)]
 struct Closes<'a, J: Naming, R: Wait> {
     rt: &'a R,
-    engine: Option<Engine<J>>,
-    clients: Option<Clients<J>>,
+    whole: Option<(Engine<J>, Clients<J>)>,
     is_ended: bool,
-}
-
-/// Whether an engine ends with these clients, if there are any.
-fn ends_with<J: Naming, R: Wait>(rt: &R, engine: Engine<J>, clients: Option<Clients<J>>) -> bool {
-    match clients {
-        Some(clients) => close(rt, engine, clients).is_ok(),
-        None => false,
-    }
 }
 
 impl<'a, J: Naming, R: Wait> Between for Closes<'a, J, R> {
     fn between(&mut self) {
-        if let Some(engine) = self.engine.take() {
-            self.is_ended = ends_with(self.rt, engine, self.clients.take());
+        if let Some((engine, clients)) = self.whole.take() {
+            self.is_ended = engine.close(self.rt, clients).is_ok();
         }
     }
 }
 
-/// Whether a job can be taken, once a client has made its calls.
-fn is_prepared<J: Naming, R: Wait>(
-    rt: &R,
-    alloc: Global,
-    clients: &mut [Client<J>],
-    flusher: &mut Flusher<J>,
-) -> bool {
-    match clients {
-        [client] => prepares(rt, alloc, client, flusher),
-        _ => false,
-    }
-}
-
-/// The same of the one client of an engine. It ensures nothing, so that no other proof reads what the clients are.
+/// Whether a job can be taken, once the one client has made its calls.
 fn is_ready<J: Naming, R: Wait>(
     rt: &R,
     alloc: Global,
     clients: &mut Clients<J>,
     flusher: &mut Flusher<J>,
 ) -> bool {
-    is_prepared(rt, alloc, clients.as_mut_slice(), flusher)
+    match clients.pop() {
+        Some(mut client) => {
+            let is_ready = prepares(rt, alloc, &mut client, flusher);
+            clients.push(client).is_ok() && is_ready
+        }
+        None => false,
+    }
 }
 
 /// What the turn answers in whose middle the engine ends, and what the next one.
 fn last_turns<J: Naming, R: Wait>(
     rt: &R,
     alloc: Global,
-    flusher: &mut Flusher<J>,
-    between: &mut Closes<'_, J, R>,
-) -> Option<(TurnReply, TurnReply)> {
-    let first = turned(rt, alloc, flusher, between);
-    let second = turned(rt, alloc, flusher, between);
-    between.is_ended.then_some((first, second))
-}
-
-/// The same where this engine ends with these clients.
-fn ends_amid<J: Naming, R: Wait>(
-    rt: &R,
-    alloc: Global,
     engine: Engine<J>,
-    mut clients: Clients<J>,
+    clients: Clients<J>,
     flusher: &mut Flusher<J>,
 ) -> Option<(TurnReply, TurnReply)> {
-    if !is_ready(rt, alloc, &mut clients, flusher) {
-        return None;
-    }
     let mut between = Closes {
         rt,
-        engine: Some(engine),
-        clients: Some(clients),
+        whole: Some((engine, clients)),
         is_ended: false,
     };
-    last_turns(rt, alloc, flusher, &mut between)
-}
-
-/// The same with a flusher of this engine.
-fn ends_beside<J: Naming, R: Wait>(
-    rt: &R,
-    alloc: Global,
-    mut engine: Engine<J>,
-    clients: Clients<J>,
-) -> Option<(TurnReply, TurnReply)> {
-    match engine.flusher() {
-        Ok(mut flusher) => ends_amid(rt, alloc, engine, clients, &mut flusher),
-        Err(_) => None,
-    }
+    let first = flusher.turn(rt, alloc, &mut between);
+    let second = flusher.turn(rt, alloc, &mut between);
+    between.is_ended.then_some((first, second))
 }
 
 /// The same of an engine with one client in this room.
 fn ends_in<J: Naming, R: Wait>(rt: &R, alloc: Global, room: Room) -> Option<(TurnReply, TurnReply)>
     requires { (room.0 ≡ J.table) × (room.1 ≡ J.opening) × (J.clients ≡ 1) }
 {
-    match Engine::<J>::open(alloc, room, 1) {
-        Ok((engine, clients)) => ends_beside(rt, alloc, engine, clients),
-        Err(_) => None,
+    let (mut engine, mut clients) = Engine::<J>::open(alloc, room, 1).ok()?;
+    let mut flusher = engine.flusher().ok()?;
+    if !is_ready(rt, alloc, &mut clients, &mut flusher) {
+        return None;
     }
+    last_turns(rt, alloc, engine, clients, &mut flusher)
 }
 
 /// An engine in this room.

@@ -1,42 +1,39 @@
-//! What engines, clients and flushers do, by functions that ensure nothing, so that no proof of a test reads what that means.
-use engine::{Between, Client, Clients, CloseFault, Engine, Flusher, Naming, Report, TurnReply};
-use pathkey::NoMemory;
-use std::alloc::Global;
+//! An engine with two clients and two flushers.
+use engine::{Client, Clients, Engine, Flusher, Naming, Report};
 use std::sync::Wait;
-use volume::Frozen;
 
-/// The live tree.
-pub fn freeze<J: Naming, R: Wait>(rt: &R, client: &mut Client<J>) -> Result<Frozen, NoMemory> {
-    client.freeze(rt)
+/// The two clients of an engine that was opened with two.
+pub fn two_of<J: Naming>(clients: &mut Clients<J>) -> Option<(Client<J>, Client<J>)> {
+    let other = clients.pop()?;
+    let one = clients.pop()?;
+    Some((one, other))
 }
 
-/// What a turn answers.
-pub fn turned<J: Naming, R: Wait, B: Between>(
-    rt: &R,
-    alloc: Global,
-    flusher: &mut Flusher<J>,
-    between: &mut B,
-) -> TurnReply {
-    flusher.turn(rt, alloc, between)
+/// The two flushers of an engine.
+pub fn two_flushers<J: Naming>(engine: &mut Engine<J>) -> Option<(Flusher<J>, Flusher<J>)> {
+    let one = engine.flusher().ok()?;
+    let other = engine.flusher().ok()?;
+    Some((one, other))
 }
 
-/// Ends an engine.
-pub fn close<J: Naming, R: Wait>(
-    rt: &R,
-    engine: Engine<J>,
-    clients: Clients<J>,
-) -> Result<Report, CloseFault<J>> {
-    engine.close(rt, clients)
+/// Whether a client is put back.
+fn takes_back<J: Naming>(clients: &mut Clients<J>, client: Client<J>) -> bool {
+    clients.push(client).is_ok()
 }
 
-/// Ends an engine with all its clients: how many calls there were in all.
-pub fn calls_at_end<J: Naming, R: Wait>(
+/// Ends an engine with its two clients.
+pub fn end<J: Naming, R: Wait>(
     rt: &R,
     engine: Engine<J>,
-    clients: Clients<J>,
-) -> Option<u64> {
-    match close(rt, engine, clients) {
-        Ok(report) => Some(report.calls),
-        Err(_) => None,
+    mut clients: Clients<J>,
+    one: Client<J>,
+    other: Client<J>,
+) -> Option<Report> {
+    let first = takes_back(&mut clients, one);
+    let second = takes_back(&mut clients, other);
+    if first && second {
+        engine.close(rt, clients).ok()
+    } else {
+        None
     }
 }

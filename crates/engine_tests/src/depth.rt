@@ -3,7 +3,6 @@
 ghost use Rattle.std.specs.Prelude.{◌≡◌};
 
 use crate::asked::answers;
-use crate::crew::{freeze, turned};
 use engine::{Between, Client, Flusher, Naming, TurnReply};
 use node::{ShapeReport, StepReply};
 use samples::{Ask, Told, file_name};
@@ -57,7 +56,7 @@ fn did(reply: TurnReply) -> bool {
 /// What one turn answers; none where it does not call `between` once.
 fn turn<J: Naming, R: Wait>(rt: &R, alloc: Global, flusher: &mut Flusher<J>) -> Option<TurnReply> {
     let mut count = Count { turns: 0 };
-    let reply = turned(rt, alloc, flusher, &mut count);
+    let reply = flusher.turn(rt, alloc, &mut count);
     (count.turns == 1).then_some(reply)
 }
 
@@ -117,7 +116,7 @@ pub fn shapes<J: Naming, R: Wait>(
     rt: &R,
     client: &mut Client<J>,
 ) -> Option<(ShapeReport, ShapeReport)> {
-    match freeze(rt, client) {
+    match client.freeze(rt) {
         Ok(tree) => Some(shapes_of(&tree)),
         Err(_) => None,
     }

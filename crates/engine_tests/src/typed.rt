@@ -1,180 +1,100 @@
 //! Each file call of a client by its name, once; and what stands then has the moments at which it was changed.
 use crate::asked::{SMALL, new_room};
 use engine::{Client, Errno, Kind, Naming, Path, Room, Work};
-use samples::ask::path;
 use std::alloc::Global;
 use std::sync::Wait;
 use std::sync::atomic::{AtomicBool, Ordering};
 use std::thread::Threads;
 
-/// A change of one path.
-#[derive(Clone, Copy)]
-enum Change {
-    Mkdir,
-    Create,
-    Write(u64, &'static str),
-    Truncate(u64),
-    Rename(&'static str),
-    Unlink,
-    Rmdir,
-    Rmtree,
+/// A directory, a file in it, and where the file is moved to.
+#[derive(Drop)]
+struct Places {
+    home: Path,
+    file: Path,
+    moved: Path,
 }
 
-/// A moment, a path, what is done there, and how many bytes were written, or why not.
-type Row = (u64, &'static str, Change, Result<u64, Errno>);
-
-/// Makes a file and moves it, a moment after the other.
-const MADE: &[Row] = &[
-    (1, "/a", Change::Mkdir, Ok(0)),
-    (2, "/a/f", Change::Create, Ok(0)),
-    (3, "/a/f", Change::Write(3, "words"), Ok(5)),
-    (4, "/a/f", Change::Truncate(6), Ok(0)),
-    (5, "/a/f", Change::Rename("/a/g"), Ok(0)),
-];
-
-/// Takes file and directory out, which then are not there any more.
-const REMOVED: &[Row] = &[
-    (6, "/a", Change::Rmdir, Err(Errno::ENOTEMPTY)),
-    (6, "/a/g", Change::Unlink, Ok(0)),
-    (7, "/a", Change::Rmdir, Ok(0)),
-    (8, "/a", Change::Rmtree, Err(Errno::ENOENT)),
-];
-
-/// What a call that tells nothing back is answered: no bytes were written.
-fn settled(told: Result<(), Errno>) -> Result<u64, Errno> {
-    match told {
-        Ok(()) => Ok(0),
-        Err(fault) => Err(fault),
-    }
+fn path(alloc: Global, text: &str) -> Result<Path, Errno> {
+    Path::parse(alloc, text.as_bytes())
 }
 
-/// Moves to the path of a text.
-fn moves<J: Naming, R: Wait>(
+fn new_places(alloc: Global) -> Result<Places, Errno> {
+    let home = path(alloc, "/a")?;
+    let file = path(alloc, "/a/f")?;
+    let moved = path(alloc, "/a/g")?;
+    Ok(Places { home, file, moved })
+}
+
+/// Makes the file and moves it, a moment after the other: how many bytes were written.
+fn changes<J: Naming, R: Wait>(
     rt: &R,
     alloc: Global,
     client: &mut Client<J>,
-    from: &Path,
-    to: &str,
-    at: u64,
+    places: &Places,
 ) -> Result<u64, Errno> {
-    match path(alloc, to) {
-        Ok(to) => settled(client.rename(rt, alloc, from, &to, at)),
-        Err(fault) => Err(fault),
-    }
+    client.mkdir(rt, alloc, &places.home, 1)?;
+    client.create(rt, alloc, &places.file, 2)?;
+    let count = client.write(rt, alloc, &places.file, 3, b"words", 3)?;
+    client.truncate(rt, alloc, &places.file, 6, 4)?;
+    client.rename(rt, alloc, &places.file, &places.moved, 5)?;
+    Ok(count)
 }
 
-/// Does a change of the path at a moment.
-fn does<J: Naming, R: Wait>(
-    rt: &R,
-    alloc: Global,
-    client: &mut Client<J>,
-    of: &Path,
-    change: Change,
-    at: u64,
-) -> Result<u64, Errno> {
-    match change {
-        Change::Mkdir => settled(client.mkdir(rt, alloc, of, at)),
-        Change::Create => settled(client.create(rt, alloc, of, at)),
-        Change::Write(offset, text) => client.write(rt, alloc, of, offset, text.as_bytes(), at),
-        Change::Truncate(length) => settled(client.truncate(rt, alloc, of, length, at)),
-        Change::Rename(to) => moves(rt, alloc, client, of, to, at),
-        Change::Unlink => settled(client.unlink(rt, alloc, of, at)),
-        Change::Rmdir => settled(client.rmdir(rt, alloc, of, at)),
-        Change::Rmtree => settled(client.rmtree(rt, alloc, of, at)),
-    }
-}
-
-/// Does the change of a row.
-fn outcome<J: Naming, R: Wait>(
-    rt: &R,
-    alloc: Global,
-    client: &mut Client<J>,
-    row: &Row,
-) -> Result<u64, Errno> {
-    match path(alloc, row.1) {
-        Ok(of) => does(rt, alloc, client, &of, row.2, row.0),
-        Err(fault) => Err(fault),
-    }
-}
-
-/// Whether each row comes out so, in this order.
-fn goes_so<J: Naming, R: Wait>(
-    rt: &R,
-    alloc: Global,
-    client: &mut Client<J>,
-    rows: &[Row],
-) -> bool {
-    for row in rows {
-        if outcome(rt, alloc, client, row) != row.3 {
-            return false;
-        }
-    }
-    true
-}
-
-/// Whether these bytes were read.
-fn is_read(answer: Result<Vec<u8>, Errno>, wanted: &[u8]) -> bool {
-    match answer {
-        Ok(bytes) => bytes.as_slice() == wanted,
+/// Whether the file has these bytes.
+fn reads<J: Naming, R: Wait>(rt: &R, alloc: Global, client: &mut Client<J>, file: &Path) -> bool {
+    match client.read(rt, alloc, file, 0, 100) {
+        Ok(bytes) => bytes.as_slice() == b"\0\0\0wor".as_slice(),
         Err(_) => false,
     }
 }
 
-/// Whether one file of that name is listed.
-fn is_listed(answer: Result<Vec<(Kind, Vec<u8>)>, Errno>, wanted: &[u8]) -> bool {
-    match answer {
+/// Whether the directory has one entry, which is the moved file.
+fn lists<J: Naming, R: Wait>(rt: &R, alloc: Global, client: &mut Client<J>, home: &Path) -> bool {
+    match client.readdir(rt, alloc, home) {
         Ok(entries) => match entries.as_slice() {
-            [(Kind::File, name)] => name.as_slice() == wanted,
+            [(Kind::File, name)] => name.as_slice() == b"g".as_slice(),
             _ => false,
         },
         Err(_) => false,
     }
 }
 
-/// Whether the file at a path has what was written, and its moment.
-fn tells_file<J: Naming, R: Wait>(
+/// Whether the looks tell what was changed.
+fn looks<J: Naming, R: Wait>(
     rt: &R,
     alloc: Global,
     client: &mut Client<J>,
-    file: &Path,
+    places: &Places,
 ) -> bool {
-    is_read(client.read(rt, alloc, file, 0, 100), b"\0\0\0wor")
-        && client.stat(rt, alloc, file) == Ok((Kind::File, 6, 4))
+    reads(rt, alloc, client, &places.moved)
+        && lists(rt, alloc, client, &places.home)
+        && client.stat(rt, alloc, &places.moved) == Ok((Kind::File, 6, 4))
+        && client.stat(rt, alloc, &places.home) == Ok((Kind::Dir, 0, 5))
 }
 
-/// Whether the directory at a path has one entry, which is the moved file, and its moment.
-fn tells_directory<J: Naming, R: Wait>(
+/// Whether file and directory are taken out, and are not there any more.
+fn removes<J: Naming, R: Wait>(
     rt: &R,
     alloc: Global,
     client: &mut Client<J>,
-    home: &Path,
+    places: &Places,
 ) -> bool {
-    is_listed(client.readdir(rt, alloc, home), b"g")
-        && client.stat(rt, alloc, home) == Ok((Kind::Dir, 0, 5))
-}
-
-/// Whether the looks at the file tell what was changed.
-fn looks_at_file<J: Naming, R: Wait>(rt: &R, alloc: Global, client: &mut Client<J>) -> bool {
-    match path(alloc, "/a/g") {
-        Ok(file) => tells_file(rt, alloc, client, &file),
-        Err(_) => false,
-    }
-}
-
-/// Whether the looks at the directory tell it.
-fn looks_at_directory<J: Naming, R: Wait>(rt: &R, alloc: Global, client: &mut Client<J>) -> bool {
-    match path(alloc, "/a") {
-        Ok(home) => tells_directory(rt, alloc, client, &home),
-        Err(_) => false,
-    }
+    client.rmdir(rt, alloc, &places.home, 6) == Err(Errno::ENOTEMPTY)
+        && client.unlink(rt, alloc, &places.moved, 6) == Ok(())
+        && client.rmdir(rt, alloc, &places.home, 7) == Ok(())
+        && client.rmtree(rt, alloc, &places.home, 8) == Err(Errno::ENOENT)
 }
 
 /// Whether each call is answered as it has to be.
 fn goes<J: Naming, R: Wait>(rt: &R, alloc: Global, client: &mut Client<J>) -> bool {
-    goes_so(rt, alloc, client, MADE)
-        && looks_at_file(rt, alloc, client)
-        && looks_at_directory(rt, alloc, client)
-        && goes_so(rt, alloc, client, REMOVED)
+    match new_places(alloc) {
+        Ok(places) => {
+            changes(rt, alloc, client, &places) == Ok(5)
+                && looks(rt, alloc, client, &places)
+                && removes(rt, alloc, client, &places)
+        }
+        Err(_) => false,
+    }
 }
 
 /// A client makes each call.

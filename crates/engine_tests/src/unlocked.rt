@@ -2,7 +2,6 @@
 ghost use Rattle.std.specs.Prelude.{◌≡◌};
 
 use crate::asked::answers;
-use crate::crew::turned;
 use crate::depth::{FILES, makes_all, shapes, turns_until_idle};
 use engine::{Between, Client, Flusher, Naming, TurnReply};
 use samples::{Ask, Told, file_name};
@@ -107,7 +106,7 @@ fn builds<J: Naming, R: Wait>(
         flags,
         is_seen: false,
     };
-    let reply = turned(rt, alloc, &mut flusher, &mut between);
+    let reply = flusher.turn(rt, alloc, &mut between);
     flags.ended.store(true, Ordering::SeqCst);
     between.is_seen && reply == TurnReply::Installed
 }

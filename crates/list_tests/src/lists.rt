@@ -6,7 +6,7 @@ use pathkey::{Key, KeyRange, NoMemory};
 use rows::{Edited, Rows};
 use std::alloc::Global;
 
-/// Whether numbers that were put in order and in another order are met in order.
+/// Whether a thousand numbers of a list are met in order.
 fn are_in_order(list: Result<Rows<Number>, NoMemory>) -> bool {
     match list {
         Ok(list) => has(&list, 0, 1000) && !list.is_empty(),
@@ -21,13 +21,13 @@ fn entries_rise(rt: HostRuntime) {
     assert!(rt; are_in_order(scattered(alloc)));
 }
 
-/// What comes back of a put, an edit and an edit where nothing stands.
-fn answer(alloc: Global, list: &mut Rows<Number>) -> bool {
+/// Whether a put, an edit and an edit where nothing stands answer as they should, and change no other number.
+fn answer_in_turn(alloc: Global, list: &mut Rows<Number>) -> bool {
     is_put(alloc, list, 7, 70, Some(7))
-        && at(alloc, list, 8) == Ok(Some(8))
         && edited(alloc, list, 7, 71) == Some(70)
-        && at(alloc, list, 7) == Ok(Some(71))
         && is_absent(alloc, list, 300)
+        && at(alloc, list, 8) == Ok(Some(8))
+        && at(alloc, list, 7) == Ok(Some(71))
 }
 
 /// The number whose place another takes at a key; none where there is none or memory is refused.
@@ -52,7 +52,7 @@ fn is_absent(alloc: Global, list: &mut Rows<Number>, at: u16) -> bool {
 /// Whether puts and edits answer as they should in a new list of 300 numbers.
 fn answers(alloc: Global) -> bool {
     match numbers(alloc, 300) {
-        Ok(mut list) => answer(alloc, &mut list),
+        Ok(mut list) => answer_in_turn(alloc, &mut list),
         Err(NoMemory) => false,
     }
 }
@@ -65,15 +65,14 @@ fn puts_and_edits_answer(rt: HostRuntime) {
 /// Whether the numbers of a range leave the list, and the others stay.
 fn leave(alloc: Global, list: &mut Rows<Number>, range: &KeyRange, from: u16, to: u16) -> bool {
     takes_out(list, range, from, to)
-        && is_rejoined(list, &range.lo, from, to)
         && at(alloc, list, 999) == Ok(Some(999))
         && at(alloc, list, from) == Ok(None)
 }
 
-/// Whether just the numbers of a range come out.
+/// Whether just the numbers of a range come out, and are whole when the list was cut and joined behind them.
 fn takes_out(list: &mut Rows<Number>, range: &KeyRange, from: u16, to: u16) -> bool {
     match list.cut_out(range) {
-        Ok(out) => has(&out, from as u64, to as u64),
+        Ok(out) => is_rejoined(list, &range.lo, from, to) && has(&out, from as u64, to as u64),
         Err(NoMemory) => false,
     }
 }
@@ -163,16 +162,13 @@ fn neighbours_are_found(rt: HostRuntime) {
 
 /// Whether numbers leave a list from the front, one by one and many at once, and those behind them stay.
 fn leave_in_front(alloc: Global, list: &mut Rows<Number>) -> bool {
-    drop_some(list, 150)
-        && !list.is_empty()
-        && leave_behind(alloc, list, 600)
-        && has(list, 150, 600)
+    drop_some(list, 150) && !list.is_empty() && leave_behind(alloc, list, 600)
 }
 
-/// Whether the numbers from one on leave the list.
+/// Whether the numbers from one on leave the list, and those from 150 on stay before them.
 fn leave_behind(alloc: Global, list: &mut Rows<Number>, from: u16) -> bool {
     match parted_at(alloc, list, from) {
-        Ok(back) => has(&back, from as u64, 1000),
+        Ok(back) => has(list, 150, from as u64) && has(&back, from as u64, 1000),
         Err(NoMemory) => false,
     }
 }

@@ -71,7 +71,7 @@ pub fn scattered(alloc: Global) -> Result<Rows<Number>, NoMemory> {
     Ok(list)
 }
 
-/// Whether a number is put at the key of another, and this one stood there.
+/// Whether a number is put at the key of another, and the old one is answered; none where nothing stood there.
 pub fn is_put(
     alloc: Global,
     list: &mut Rows<Number>,
@@ -110,8 +110,8 @@ fn at_key(list: &Rows<Number>, at: &Key) -> Option<u64> {
     }
 }
 
-/// Whether a list of the numbers up to a thousand, but for those from `from` up to `to`, is cut at the key of the first that is not
-/// there, and joined again.
+/// Whether a list of the numbers up to a thousand, but for those from `from` up to `to`, is cut at a key into those before `from` and
+/// those from `to` on, which then stand behind the others again.
 pub fn is_rejoined(list: &mut Rows<Number>, at: &Key, from: u16, to: u16) -> bool {
     list.rise();
     match list.split_off(at) {

@@ -89,13 +89,13 @@ fn what_is_refused_changes_nothing(rt: HostRuntime) {
 
 /// Whether the first entries leave the list, and one that is made to share its rows has the others too.
 fn leaves(list: &mut Rows<Number>) -> bool {
-    drop_some(list, 150) && is_shared(list, 150) && has(list, 150, 1000)
+    drop_some(list, 150) && is_shared(list, 150)
 }
 
-/// Whether a list that is made to share the rows of this one has the numbers from one on.
+/// Whether the list and one that is made to share its rows have the numbers from one on.
 fn is_shared(list: &Rows<Number>, from: u64) -> bool {
     match list.share() {
-        Ok(again) => has(&again, from, 1000),
+        Ok(again) => has(list, from, 1000) && has(&again, from, 1000),
         Err(NoMemory) => false,
     }
 }
@@ -121,10 +121,10 @@ fn moves_first(list: &mut Rows<Number>, from: &mut Rows<Number>) -> bool {
     matches!(first_moved(list, from), Ok(None))
 }
 
-/// Whether the first number goes to another list where a third shares it, which keeps it.
+/// Whether the first number goes to another list where a third shares it, which keeps it, also where another then stays.
 fn goes_shared(list: &mut Rows<Number>, later: &mut Rows<Number>) -> bool {
     match later.share() {
-        Ok(other) => moves_first(list, later) && has(&other, 11, 1000),
+        Ok(other) => moves_first(list, later) && stays(list) && has(&other, 11, 1000),
         Err(NoMemory) => false,
     }
 }
@@ -142,7 +142,6 @@ fn first_goes(list: &mut Rows<Number>, later: &mut Rows<Number>) -> bool {
     drop_some(later, 10)
         && moves_first(list, later)
         && goes_shared(list, later)
-        && stays(list)
         && has(list, 0, 12)
         && has(later, 12, 1000)
 }

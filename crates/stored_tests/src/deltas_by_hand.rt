@@ -18,7 +18,8 @@ pub fn load(alloc: Global, text: &[u8]) -> Option<Volume> {
     load_text(alloc, Shape::USUAL, text).ok()
 }
 
-fn freeze(volume: &Volume) -> Option<Frozen> {
+/// The live tree of a volume.
+pub fn freeze(volume: &Volume) -> Option<Frozen> {
     volume.freeze().ok()
 }
 

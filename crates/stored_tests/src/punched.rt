@@ -1,5 +1,6 @@
 //! Files of which parts were made zeros. No function here ensures anything, so that no proof of a test reads the contract of a volume.
-use crate::small::SMALL;
+use crate::deltas_by_hand::freeze;
+use crate::small::new_volume;
 use std::alloc::Global;
 use volume::{Errno, Frozen, Kind, Path, SnapName, Volume};
 
@@ -158,10 +159,6 @@ fn bytes_of(alloc: Global, runs: &[Run]) -> Option<Vec<u8>> {
     None
 }
 
-fn new_volume(alloc: Global) -> Option<Volume> {
-    Volume::new(alloc, SMALL).ok()
-}
-
 fn mkdir(alloc: Global, volume: &mut Volume, path: &Path) -> bool {
     volume.mkdir(alloc, path, 1).is_ok()
 }
@@ -216,10 +213,6 @@ fn filled(alloc: Global, file: &Path) -> Option<Volume> {
     }
     settle(alloc, &mut volume);
     Some(volume)
-}
-
-fn freeze(volume: &Volume) -> Option<Frozen> {
-    volume.freeze().ok()
 }
 
 fn frozen(volume: &Volume, name: &SnapName) -> Option<Frozen> {

@@ -1,6 +1,6 @@
 //! What a log makes of a volume.
 use crate::log_by_hand::{FIRST, FIRST_END, LOG, SECOND_END, SIZE};
-use crate::small::SMALL;
+use crate::small::new_volume;
 use pathkey::{Errno, Path};
 use recovery::{Replayed, Stopped, replay};
 use std::alloc::Global;
@@ -12,11 +12,7 @@ fn front(end: usize) -> &'static [u8] {
     if end <= LOG.len() { &LOG[..end] } else { LOG }
 }
 
-fn new_volume(alloc: Global) -> Option<Volume> {
-    Volume::new(alloc, SMALL).ok()
-}
-
-/// What a volume tells of a path. It ensures nothing, so that no proof of a test reads the contract of a volume; nor does the next.
+/// What a volume tells of a path. It ensures nothing, so that no proof of a test reads the contract of a volume.
 fn length_of(alloc: Global, volume: &Volume, path: &Path) -> Result<u64, Errno> {
     match volume.stat(alloc, path) {
         Ok((_, length, _)) => Ok(length),

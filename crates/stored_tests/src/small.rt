@@ -1,5 +1,6 @@
-//! The shape of small trees.
-use volume::Shape;
+//! Small trees.
+use std::alloc::Global;
+use volume::{Shape, Volume};
 
 /// The smallest shape.
 pub(crate) const SMALL: Shape = Shape {
@@ -7,3 +8,8 @@ pub(crate) const SMALL: Shape = Shape {
     pending: 4,
     leaf: 4,
 };
+
+/// An empty volume of small trees. It ensures nothing, so that no proof of a test reads the contract of a volume.
+pub(crate) fn new_volume(alloc: Global) -> Option<Volume> {
+    Volume::new(alloc, SMALL).ok()
+}

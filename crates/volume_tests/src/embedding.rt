@@ -1,5 +1,6 @@
 //! A volume as a program embeds it: a file is written, kept by a snapshot and unlinked, and its length is told.
 use crate::asked::{USUAL, new_volume};
+use crate::look_alike::stat_of;
 use bytes::Bytes;
 use std::alloc::Global;
 use volume::{Call, Errno, Frozen, Kind, Path, Reply, SnapName, Volume};
@@ -39,10 +40,6 @@ fn keep_as(alloc: Global, volume: &mut Volume, name: &SnapName) -> Result<(), Er
 
 fn kept_as(volume: &Volume, name: &SnapName) -> Result<Frozen, Errno> {
     volume.frozen(name)
-}
-
-fn stat_of(alloc: Global, tree: &Frozen, path: &Path) -> Reply {
-    tree.stat(alloc, path)
 }
 
 /// Whether a call was answered so.

@@ -35,7 +35,7 @@ pub fn is_reply(reply: &Reply, wanted: &Reply) -> bool {
 
 /// What a tree that stands still replies to a stat. It ensures nothing, so that no proof of a test reads what a tree means; nor do the
 /// next ones.
-fn stat_of(alloc: Global, frozen: &Frozen, path: &Path) -> Reply {
+pub fn stat_of(alloc: Global, frozen: &Frozen, path: &Path) -> Reply {
     frozen.stat(alloc, path)
 }
 

@@ -1,9 +1,0 @@
-use denote.Param.{param}
-use denote.Param.Send.{sendable}
-use Rattle.std.proofs.Crossing.{crosses}
-use Rattle.engine.proofs.Sent.{flusher_send}
-use Rattle.engine_tests.proofs.pairs.Tally.TheSendSync as tallies
-use Rattle.engine_tests.proofs.pairs.start.Goals as goal
-
-pub spawn-requires-send-F : goal.spawn-requires-send-F
-spawn-requires-send-F g c = λ κs lives. let a = flusher_send (param 0 g.row.J) g.J.Naming in search (tallies.the_sync, sendable, crosses) depth 20
