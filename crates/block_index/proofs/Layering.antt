@@ -1,5 +1,5 @@
 -- Layers over a block: in what order they are laid, what a cut leaves of them, and where their bytes lie.
-use Rattle.std.proofs.Common.{◌≡◌, ℕ, ◌+◌, ◌-◌, ◌<◌, ◌≤◌, min, max, List, [], ◌∷◌, ◌++◌, length, take, drop, map, get_or, sym, ap, refl, ◌∙◌, Option, None, Some, ◌⊎◌, inl, inr, ⊎_elim, IfSome, arith, subst, add-one, length-append, length-take, length-drop}
+use Rattle.std.proofs.Common.{◌≡◌, ℕ, ◌+◌, ◌-◌, ◌<◌, ◌≤◌, min, max, List, [], ◌∷◌, ◌++◌, length, take, drop, map, get_or, sym, ap, refl, ◌∙◌, Option, None, Some, ◌⊎◌, inl, inr, ⊎_elim, arith, subst, add-one, length-append, length-take, length-drop}
 use Rattle.std.proofs.lemmas.List.{ext_get_or, get_or-take, take-take, take-append-le, drop-append-le, drop_at, take_all, map-append}
 use Rattle.std.proofs.lemmas.Bool.{cases_lt}
 use Prim.Native.Nat.{zero, suc}
@@ -172,6 +172,47 @@ layer_there bs [] i d h = absurd (omega arith)
 layer_there bs (e ∷ es) zero d h = refl
 layer_there bs (e ∷ es) (suc i) d h = layer_there bs es i d (omega arith) ∙ ap (λ (n : ℕ). layer_in bs (get_or es i d) ∷ drop n (map (layer_in bs) es)) (add-one i) ∙ ap (λ (n : ℕ). layer_in bs (get_or es i d) ∷ drop n (layer_in bs e ∷ map (layer_in bs) es)) (sym (add-one (suc i)))
 
+-- ---- one that is taken out
+
+module _ {A B : Type 0} (f : A → B) where
+  -- those before it, and those behind it
+  before_taken : (xs : List A) (i : ℕ) → i < length xs → take i (map f (take i xs ++ drop (suc i) xs)) ≡ take i (map f xs)
+  before_taken [] i h = absurd (omega arith)
+  before_taken (x ∷ xs) zero h = refl
+  before_taken (x ∷ xs) (suc i) h = ap (λ (ys : List B). f x ∷ ys) (before_taken xs i (omega arith))
+
+  behind_taken : (xs : List A) (i : ℕ) → i < length xs → drop i (map f (take i xs ++ drop (suc i) xs)) ≡ drop (suc i) (map f xs)
+  behind_taken [] i h = absurd (omega arith)
+  behind_taken (x ∷ xs) zero h = refl
+  behind_taken (x ∷ xs) (suc i) h = behind_taken xs i (omega arith)
+
+  pub others_taken : (xs ys : List A) (i : ℕ) → i < length xs → ys ≡ take i xs ++ drop (i + 1) xs → (take i (map f ys) ≡ take i (map f xs)) × (drop i (map f ys) ≡ drop (i + 1) (map f xs))
+  others_taken xs ys i h e =
+      let is : ys ≡ take i xs ++ drop (suc i) xs = e ∙ ap (λ (n : ℕ). take i xs ++ drop n xs) (add-one i) in
+      (ap (λ (zs : List A). take i (map f zs)) is ∙ before_taken xs i h, ap (λ (zs : List A). drop i (map f zs)) is ∙ behind_taken xs i h ∙ ap (λ (n : ℕ). drop n (map f xs)) (sym (add-one i)))
+
+inside_others : (bs : List ℕ) (es : List Extent) (i : ℕ) → AreInside bs es → AreInside bs (take i es ++ drop (suc i) es)
+inside_others bs [] zero inside = tt
+inside_others bs [] (suc i) inside = tt
+inside_others bs (e ∷ es) zero inside = inside.2
+inside_others bs (e ∷ es) (suc i) inside = (inside.0, inside.1, inside_others bs es i inside.2)
+
+pub inside_taken : (bs : List ℕ) (es fs : List Extent) (i : ℕ) → AreInside bs es → fs ≡ take i es ++ drop (i + 1) es → AreInside bs fs
+inside_taken bs es fs i inside e = subst (AreInside bs) (sym (e ∙ ap (λ (n : ℕ). take i es ++ drop n es) (add-one i))) (inside_others bs es i inside)
+
+-- the first ones and the next
+next_one : {A : Type 0} (xs : List A) (i : ℕ) (x : A) (ys : List A) → drop i xs ≡ x ∷ ys → take (suc i) xs ≡ take i xs ++ x ∷ []
+next_one [] zero x ys e = absurd (cc)
+next_one [] (suc i) x ys e = absurd (cc)
+next_one (y ∷ xs) zero x ys e = cc
+next_one {A = A} (y ∷ xs) (suc i) x ys e = ap (λ (zs : List A). y ∷ zs) (next_one xs i x ys e)
+
+-- layers below which one is put that does not touch the one that comes
+pub laid_past : (ps : List Overlay) (i : ℕ) (p : Overlay) (rest : Option (List ℕ) → Option (List ℕ)) (old : Option (List ℕ)) → drop i ps ≡ p ∷ drop (i + 1) ps
+    → laid (take (i + 1) ps) (rest old) ≡ laid (take i ps) (overlaid p.off p.bytes (rest old))
+laid_past ps i p rest old e =
+    ap (λ (qs : List Overlay). laid qs (rest old)) (ap (λ (n : ℕ). take n ps) (add-one i) ∙ next_one ps i p (drop (i + 1) ps) e) ∙ laid-append (take i ps) (p ∷ []) (rest old)
+
 -- ---- several updates as one
 
 -- what a cut makes of no block
@@ -222,8 +263,3 @@ laid_made bs (e ∷ es) o some = refl
 
 pub held_none : (cut : Option ℕ) → held (cut_by cut None) ≡ []
 held_none cut = ap held (cut_none cut)
-
--- what holds of a value that may be there
-pub some_weaker : {X : Type 0} (o : Option X) (P Q : X → Type 0) → ((x : X) → P x → Q x) → IfSome o P → IfSome o Q
-some_weaker None P Q f h = h
-some_weaker (Some x) P Q f h = f x h

@@ -27,6 +27,10 @@ layered l old = laid l.layers (cut_by l.cut old)
 abbrev pub Follows : (Option (List ℕ) → Option (List ℕ)) → Layered → Layered → Type 0
 Follows later l new = (old : Option (List ℕ)) → layered new old ≡ later (layered l old)
 
+-- the same cut and layers, and bytes that are laid over the block after them
+abbrev pub IsLaid : ℕ → List ℕ → Layered → Layered → Type 0
+IsLaid off new before after = (after.cut ≡ before.cut) × ((block : Option (List ℕ)) → laid after.layers block ≡ overlaid off new (laid before.layers block))
+
 -- ---- where their bytes lie
 
 -- the layer that an extent tells, among the bytes of all

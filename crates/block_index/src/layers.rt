@@ -1,6 +1,8 @@
 //! Layers: several updates of one block as one, shared.
-ghost use Rattle.std.specs.Prelude.{◌≡◌, IfOk};
+ghost use Rattle.std.specs.Prelude.{◌≡◌, IfOk, OnErr, OnOk};
+ghost use Rattle.block_index.specs.Layers.{IsLaid};
 
+use crate::patch::Patch;
 use crate::stack::Stack;
 use pathkey::NoMemory;
 use std::alloc::Global;
@@ -43,6 +45,18 @@ impl Layers {
         ensures { result.now ≡ self.now }
     {
         &self.stack
+    }
+
+    /// Lays a patch over the block, newer than all layers, in their place. Where others share them, they would be too many, or memory
+    /// is refused, they are as they were.
+    pub(crate) fn lay(&mut self, alloc: Global, patch: &Patch) -> Result<(), NoMemory>
+        ensures ok { OnOk result (IsLaid patch.now.off patch.now.bytes self.old self.new) }
+        ensures err { OnErr result (self.new ≡ self.old) }
+    {
+        match Arc::get_mut(&mut self.stack) {
+            Some(stack) => stack.lay(alloc, patch.off(), patch.bytes()),
+            None => Err(NoMemory),
+        }
     }
 
     /// Equal layers: one more owner.

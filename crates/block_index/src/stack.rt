@@ -1,6 +1,6 @@
 //! Stacks of layers: several updates of one block in one.
-ghost use Rattle.std.specs.Prelude.{◌≡◌, ◌+◌, ◌-◌, ◌≤◌, ◌++◌, [], ◌∷◌, List, ℕ, Option, Some, None, true, false, length, map, drop, ◌<◌, if◌then◌else◌, IfOk, IfSome, OnErr};
-ghost use Rattle.block_index.specs.Layers.{AreInside, Follows, Layered, clipped, cut_by, laid, layer_in, layered};
+ghost use Rattle.std.specs.Prelude.{◌≡◌, ◌+◌, ◌-◌, ◌≤◌, ◌++◌, [], ◌∷◌, List, ℕ, Option, Some, None, true, false, length, map, drop, ◌<◌, if◌then◌else◌, IfOk, IfSome, OnErr, OnOk};
+ghost use Rattle.block_index.specs.Layers.{AreInside, Follows, IsLaid, Layered, clipped, cut_by, laid, layer_in, layered};
 ghost use Rattle.block_index.specs.Patches.{Overlay};
 ghost use Rattle.reference.specs.Indexes.{held, overlaid, shortened};
 ghost use Rattle.std.specs.Option.{option_map};
@@ -25,11 +25,12 @@ pub struct Extent {
 /// A cut of a block, if there is one, and then layers: bytes that are laid over it at several places.
 ///
 /// The first layer is the newest: it is laid over all others. What comes takes in the layers that it touches, so that each byte
-/// of the block stands once, and what waits for a block is no longer than it.
+/// of the block stands once in a layer. The bytes of those that were taken in lie idle until they are half of all.
 pub struct Stack {
     cut: Option<u16>,
     extents: Vec<Extent>,
     bytes: Vec<u8>,
+    idle: usize,
 }
 
 // Written out, as that of `pathkey::Key`.
@@ -39,6 +40,7 @@ impl Drop for Stack {
             cut: _,
             extents: _,
             bytes: _,
+            idle: _,
         } = self;
     }
 }
@@ -63,6 +65,7 @@ impl Stack {
             cut,
             extents: Vec::new(alloc),
             bytes: Vec::new(alloc),
+            idle: 0,
         }
     }
 
@@ -81,34 +84,110 @@ impl Stack {
             cut,
             extents,
             bytes,
+            idle: 0,
         })
     }
 
-    /// These layers and then the bytes laid over the block from `off` on; none where that would be too many.
-    pub(crate) fn laid(
-        &self,
+    /// Lays bytes over the block from `off` on, newer than all layers. Where the layers would be too many, or memory is refused, all
+    /// is as it was.
+    pub(crate) fn lay(&mut self, alloc: Global, off: usize, new: &[u8]) -> Result<(), NoMemory>
+        requires { off + length new.now ≤ 4096 }
+        ensures ok { OnOk result (IsLaid off new.now self.old self.new) }
+        ensures err { OnErr result (self.new ≡ self.old) }
+    {
+        if self.extents.len() >= MOST {
+            return Err(NoMemory);
+        }
+        let touched = touched(self.extents.as_slice(), off, new);
+        if touched == 0 {
+            return self.put(alloc, off, new);
+        }
+        let idle = self.idle.saturating_add(touched);
+        if idle <= self.bytes.len() / 2 {
+            self.take_in(alloc, off, new, idle)
+        } else {
+            self.pack(alloc, off, new)
+        }
+    }
+
+    /// Puts a layer above all others.
+    fn put(&mut self, alloc: Global, off: usize, new: &[u8]) -> Result<(), NoMemory>
+        requires { off + length new.now ≤ 4096 }
+        ensures ok { OnOk result (IsLaid off new.now self.old self.new) }
+        ensures err { OnErr result (self.new ≡ self.old) }
+    {
+        let start = self.bytes.len();
+        if start + new.len() > 4096 {
+            return self.pack(alloc, off, new);
+        }
+        self.extents.reserve(1)?;
+        self.bytes.extend_from_slice(new)?;
+        let extent = Extent {
+            off: off as u16,
+            start: start as u16,
+            len: new.len() as u16,
+        };
+        let Ok(()) = self.extents.insert(0, extent) else {
+            unreachable!()
+        };
+        Ok(())
+    }
+
+    /// Puts a layer in the place of those that it touches: below all others, which it does not touch. Their bytes stay, and `idle`
+    /// are then those of no layer.
+    fn take_in(
+        &mut self,
         alloc: Global,
         off: usize,
         new: &[u8],
-    ) -> Result<Option<Stack>, NoMemory>
+        idle: usize,
+    ) -> Result<(), NoMemory>
         requires { off + length new.now ≤ 4096 }
-        ensures { IfOk result (λ r. IfSome r (λ l. (l.cut ≡ self.now.cut) × ((old : Option (List ℕ)) → laid l.layers old ≡ overlaid off new.now (laid self.now.layers old)))) }
+        ensures ok { OnOk result (IsLaid off new.now self.old self.new) }
+        ensures err { OnErr result (self.new ≡ self.old) }
     {
-        let (extents, bytes) = (self.extents.as_slice(), self.bytes.as_slice());
-        if extents.len() >= MOST {
-            return Ok(None);
+        let bytes = self.bytes.as_slice();
+        let mut extents = Vec::with_capacity(alloc, self.extents.len() + 1)?;
+        extents.extend_from_slice(self.extents.as_slice())?;
+        let mut top = Top::copied(alloc, off, new)?;
+        take_all(alloc, &mut extents, bytes, &mut top)?;
+        let start = bytes.len();
+        let run = top.bytes();
+        if start + run.len() > 4096 {
+            return self.pack(alloc, off, new);
         }
-        if !touches_any(extents, off, new) && bytes.len() + new.len() <= 4096 {
-            return Ok(Some(above(alloc, self.cut, extents, bytes, off, new)?));
-        }
-        let room = (bytes.len() + new.len()).min(4096);
-        let none = Stack::with_room(alloc, self.cut, extents.len() + 1, room)?;
-        joined(alloc, none, extents, bytes, off, new)
+        extents.push(Extent {
+            off: top.off() as u16,
+            start: start as u16,
+            len: run.len() as u16,
+        })?;
+        self.bytes.extend_from_slice(run)?;
+        self.extents = extents;
+        self.idle = idle;
+        Ok(())
     }
 
-    /// These layers and then a cut to so many bytes; none where that would be too many.
-    pub(crate) fn cut_to(&self, alloc: Global, n: u16) -> Result<Option<Stack>, NoMemory>
-        ensures { IfOk result (λ r. IfSome r (λ l. Follows (shortened n) self.now l)) }
+    /// Lays bytes over the block, and leaves out those that lie idle.
+    fn pack(&mut self, alloc: Global, off: usize, new: &[u8]) -> Result<(), NoMemory>
+        requires { off + length new.now ≤ 4096 }
+        ensures ok { OnOk result (IsLaid off new.now self.old self.new) }
+        ensures err { OnErr result (self.new ≡ self.old) }
+    {
+        let (extents, bytes) = (self.extents.as_slice(), self.bytes.as_slice());
+        let room = (bytes.len() + new.len()).min(4096);
+        let none = Stack::with_room(alloc, self.cut, extents.len() + 1, room)?;
+        match joined(alloc, none, extents, bytes, off, new)? {
+            Some(all) => {
+                *self = all;
+                Ok(())
+            }
+            None => Err(NoMemory),
+        }
+    }
+
+    /// These layers and then a cut to so many bytes.
+    pub(crate) fn cut_to(&self, alloc: Global, n: u16) -> Result<Stack, NoMemory>
+        ensures { IfOk result (Follows (shortened n) self.now) }
     {
         let cut = match self.cut {
             Some(m) => m.min(n),
@@ -124,28 +203,25 @@ impl Stack {
         )
     }
 
-    /// These layers and then others; none where that would be too many.
-    pub(crate) fn and(&self, alloc: Global, later: &Stack) -> Result<Option<Stack>, NoMemory>
-        ensures { IfOk result (λ r. IfSome r (λ l. Follows (layered later.now) self.now l)) }
+    /// These layers and then others. There are none where that would be too many.
+    pub(crate) fn and(&self, alloc: Global, later: &Stack) -> Result<Stack, NoMemory>
+        ensures { IfOk result (Follows (layered later.now) self.now) }
     {
         let first = match later.cut {
             Some(n) => self.cut_to(alloc, n)?,
-            None => Some(self.copy(alloc)?),
+            None => self.copy(alloc)?,
         };
-        match first {
-            Some(first) => laid_all(
-                alloc,
-                first,
-                later.extents.as_slice(),
-                later.bytes.as_slice(),
-                4096,
-            ),
-            None => Ok(None),
-        }
+        laid_all(
+            alloc,
+            first,
+            later.extents.as_slice(),
+            later.bytes.as_slice(),
+            4096,
+        )
     }
 
     /// Equal layers.
-    fn copy(&self, alloc: Global) -> Result<Stack, NoMemory>
+    pub(crate) fn copy(&self, alloc: Global) -> Result<Stack, NoMemory>
         ensures { IfOk result (λ l. l ≡ self.now) }
     {
         let mut extents = Vec::with_capacity(alloc, self.extents.len())?;
@@ -156,6 +232,7 @@ impl Stack {
             cut: self.cut,
             extents,
             bytes,
+            idle: self.idle,
         })
     }
 
@@ -197,15 +274,19 @@ impl Stack {
     }
 }
 
-/// Whether a layer and the bytes `new` from `off` on lie over one another or side by side.
-fn touches_any(extents: &[Extent], off: usize, new: &[u8]) -> bool
+/// How many bytes the layers have that lie over the bytes `new` from `off` on, or side by side with them.
+fn touched(extents: &[Extent], off: usize, new: &[u8]) -> usize
     requires { off + length new.now ≤ 4096 }
 {
     let end = off + new.len();
-    extents.iter().any(|extent| {
+    let mut count: usize = 0;
+    for extent in extents {
         let first = extent.off as usize;
-        off <= first + extent.len as usize && first <= end
-    })
+        if off <= first + extent.len as usize && first <= end {
+            count = count.saturating_add(extent.len as usize);
+        }
+    }
+    count
 }
 
 /// The bytes of a layer among those of all.
@@ -226,37 +307,6 @@ fn layer_at<'a>(extents: &[Extent], bytes: &'a [u8], i: usize) -> (usize, &'a [u
 {
     let extent = extents[i];
     (extent.off as usize, run_of(bytes, extent))
-}
-
-/// Layers with a new one above them.
-fn above(
-    alloc: Global,
-    cut: Option<u16>,
-    extents: &[Extent],
-    bytes: &[u8],
-    off: usize,
-    new: &[u8],
-) -> Result<Stack, NoMemory>
-    requires inside { AreInside bytes.now extents.now }
-    requires room { length bytes.now + length new.now ≤ 4096 }
-    requires fits { off + length new.now ≤ 4096 }
-    ensures { IfOk result (λ l. l ≡ record { cut = cut; layers = record { off = off; bytes = new.now } ∷ map (layer_in bytes.now) extents.now }) }
-{
-    let mut all = Vec::with_capacity(alloc, bytes.len() + new.len())?;
-    all.extend_from_slice(bytes)?;
-    all.extend_from_slice(new)?;
-    let mut places = Vec::with_capacity(alloc, extents.len() + 1)?;
-    places.push(Extent {
-        off: off as u16,
-        start: bytes.len() as u16,
-        len: new.len() as u16,
-    })?;
-    places.extend_from_slice(extents)?;
-    Ok(Stack {
-        cut,
-        extents: places,
-        bytes: all,
-    })
 }
 
 /// Layers with a new one that takes in those that it touches. It lies below all others, which it does not touch.
@@ -307,16 +357,39 @@ fn take_or_keep(
     kept.push(alloc, off, run)
 }
 
-/// Layers and then those of others, as far as they lie before `end`, the oldest first; none where that would be too many.
+/// Has a layer take in those that it touches, which leave the others.
+fn take_all(
+    alloc: Global,
+    extents: &mut Vec<Extent>,
+    bytes: &[u8],
+    top: &mut Top,
+) -> Result<(), NoMemory>
+    requires { AreInside bytes.now extents.old.items }
+    ensures inside { OnOk result (AreInside bytes.now extents.new.items) }
+    ensures all { OnOk result ((o : Option (List ℕ)) → laid (map (layer_in bytes.now) extents.new.items) (overlaid top.new.off top.new.bytes o) ≡ overlaid top.old.off top.old.bytes (laid (map (layer_in bytes.now) extents.old.items) o)) }
+{
+    let mut at = 0;
+    'each: while at < extents.len() {
+        let (first, run) = layer_at(extents.as_slice(), bytes, at);
+        if top.take(alloc, first, run)? {
+            extents.remove(at);
+        } else {
+            at += 1;
+        }
+    }
+    Ok(())
+}
+
+/// Layers and then those of others, as far as they lie before `end`, the oldest first. There are none where that would be too many.
 fn laid_all(
     alloc: Global,
     first: Stack,
     extents: &[Extent],
     bytes: &[u8],
     end: usize,
-) -> Result<Option<Stack>, NoMemory>
+) -> Result<Stack, NoMemory>
     requires inside { AreInside bytes.now extents.now }
-    ensures { IfOk result (λ r. IfSome r (λ l. (l.cut ≡ first.cut) × ((old : Option (List ℕ)) → laid l.layers old ≡ laid (map (clipped end) (map (layer_in bytes.now) extents.now)) (laid first.layers old)))) }
+    ensures { IfOk result (λ l. (l.cut ≡ first.cut) × ((old : Option (List ℕ)) → laid l.layers old ≡ laid (map (clipped end) (map (layer_in bytes.now) extents.now)) (laid first.layers old))) }
 {
     let mut all = first;
     let mut left = extents.len();
@@ -324,13 +397,10 @@ fn laid_all(
         let (first, run) = layer_at(extents, bytes, left - 1);
         let off = first.min(end);
         let kept = run.len().min(end - off);
-        match all.laid(alloc, off, &run[..kept])? {
-            Some(more) => all = more,
-            None => return Ok(None),
-        }
+        all.lay(alloc, off, &run[..kept])?;
         left -= 1;
     }
-    Ok(Some(all))
+    Ok(all)
 }
 
 /// The bytes of a block with layers over it, the oldest first.

@@ -1,7 +1,8 @@
 //! Updates of one block of a file.
-ghost use Rattle.std.specs.Prelude.{◌≡◌, List, ℕ, Option, IfOk, IfSome};
-ghost use Rattle.block_index.specs.Layers.{Follows};
+ghost use Rattle.std.specs.Prelude.{◌≡◌, List, ℕ, Option, IfOk};
+ghost use Rattle.block_index.specs.Layers.{Follows, layered};
 ghost use Rattle.block_index.specs.Updates.{means as meant};
+ghost use Rattle.reference.specs.Indexes.{overlaid};
 
 use crate::block::Block;
 use crate::layers::Layers;
@@ -60,7 +61,7 @@ impl Update for BlockUpdate {
     }
 
     /// Two cuts are one to the smaller length, and two patches that touch are one patch. All others are layers, where those are not too
-    /// many.
+    /// many and memory is there.
     fn join(&self, alloc: Global, later: &BlockUpdate) -> Result<Option<BlockUpdate>, NoMemory> {
         match (self, later) {
             (BlockUpdate::CutTo(m), BlockUpdate::CutTo(n)) => {
@@ -69,11 +70,25 @@ impl Update for BlockUpdate {
             (BlockUpdate::Patch(first), BlockUpdate::Patch(second)) => {
                 match first.join(alloc, second)? {
                     Some(patch) => Ok(Some(BlockUpdate::Patch(patch))),
-                    None => self.and(alloc, later),
+                    None => Ok(self.and(alloc, later).ok()),
                 }
             }
-            _ => self.and(alloc, later),
+            _ => Ok(self.and(alloc, later).ok()),
         }
+    }
+
+    /// Layers that nobody else holds take in a patch in their place.
+    fn absorb(&mut self, alloc: Global, later: &BlockUpdate) -> bool {
+        if let (BlockUpdate::Layers(layers), BlockUpdate::Patch(patch)) = (&mut *self, later) {
+            if layers.lay(alloc, patch).is_ok() {
+                return true;
+            }
+        }
+        let Ok(Some(joined)) = self.join(alloc, later) else {
+            return false;
+        };
+        *self = joined;
+        true
     }
 
     fn copy(&self, _alloc: Global) -> Result<BlockUpdate, NoMemory> {
@@ -90,33 +105,39 @@ impl Update for BlockUpdate {
 }
 
 impl BlockUpdate {
-    /// This update and then `later`, as layers; none where those would be too many.
-    fn and(&self, alloc: Global, later: &BlockUpdate) -> Result<Option<BlockUpdate>, NoMemory>
-        ensures { IfOk result (λ r. IfSome r (λ u. (old : Option (List ℕ)) → meant u old ≡ meant later.now (meant self.now old))) }
+    /// This update and then `later`, as layers. There are none where those would be too many.
+    fn and(&self, alloc: Global, later: &BlockUpdate) -> Result<BlockUpdate, NoMemory>
+        ensures { IfOk result (λ u. (old : Option (List ℕ)) → meant u old ≡ meant later.now (meant self.now old)) }
     {
-        let all = match self {
-            BlockUpdate::Patch(patch) => {
-                match Stack::new(alloc, None).laid(alloc, patch.off(), patch.bytes())? {
-                    Some(first) => with_later(alloc, &first, later)?,
-                    None => None,
-                }
-            }
-            BlockUpdate::CutTo(n) => with_later(alloc, &Stack::new(alloc, Some(*n)), later)?,
-            BlockUpdate::Layers(first) => with_later(alloc, first.stack(), later)?,
+        let first = match self {
+            BlockUpdate::Patch(patch) => layer_of(alloc, patch)?,
+            BlockUpdate::CutTo(n) => Stack::new(alloc, Some(*n)),
+            BlockUpdate::Layers(layers) => layers.stack().copy(alloc)?,
         };
-        match all {
-            Some(stack) => Ok(Some(BlockUpdate::Layers(Layers::of(alloc, stack)?))),
-            None => Ok(None),
-        }
+        let all = with_later(alloc, first, later)?;
+        Ok(BlockUpdate::Layers(Layers::of(alloc, all)?))
     }
 }
 
-/// The layers and then an update; none where they would be too many.
-fn with_later(alloc: Global, first: &Stack, later: &BlockUpdate) -> Result<Option<Stack>, NoMemory>
-    ensures { IfOk result (λ r. IfSome r (λ l. Follows (meant later.now) first.now l)) }
+/// The patch as a layer.
+fn layer_of(alloc: Global, patch: &Patch) -> Result<Stack, NoMemory>
+    ensures { IfOk result (λ l. (old : Option (List ℕ)) → layered l old ≡ overlaid patch.now.off patch.now.bytes old) }
+{
+    let mut stack = Stack::new(alloc, None);
+    stack.lay(alloc, patch.off(), patch.bytes())?;
+    Ok(stack)
+}
+
+/// The layers and then an update. There are none where they would be too many.
+fn with_later(alloc: Global, first: Stack, later: &BlockUpdate) -> Result<Stack, NoMemory>
+    ensures { IfOk result (Follows (meant later.now) first) }
 {
     match later {
-        BlockUpdate::Patch(patch) => first.laid(alloc, patch.off(), patch.bytes()),
+        BlockUpdate::Patch(patch) => {
+            let mut all = first;
+            all.lay(alloc, patch.off(), patch.bytes())?;
+            Ok(all)
+        }
         BlockUpdate::CutTo(n) => first.cut_to(alloc, *n),
         BlockUpdate::Layers(layers) => first.and(alloc, layers.stack()),
     }

@@ -1,5 +1,6 @@
 //! Updates: changes of one value that may depend on the value.
 ghost use Rattle.std.specs.Prelude.{◌≡◌, Option, IfOk, IfSome, OnErr, None, Some, if◌then◌else◌};
+ghost use Rattle.std.specs.Bool.{OnFalse, OnTrue};
 ghost use Rattle.std.specs.Option.{option_copied};
 
 use pathkey::NoMemory;
@@ -45,6 +46,19 @@ pub trait Update: Changes + Drop {
     /// One update that does what this one and then `later` do to every old value, if the type has one.
     fn join(&self, alloc: Global, later: &Self) -> Result<Option<Self>, NoMemory>
         ensures { IfOk result (λ r. IfSome r (λ j. (old : Option Self.Value) → means j old ≡ means later.now (means self.now old))) };
+
+    /// Takes in `later`: the update then does what it did and then `later` does to every old value. It answers whether it did;
+    /// where the type has no such update, or memory was refused, it is as it was.
+    fn absorb(&mut self, alloc: Global, later: &Self) -> bool
+        ensures taken { OnTrue result ((old : Option Self.Value) → means self.new old ≡ means later.now (means self.old old)) }
+        ensures unchanged { OnFalse result (self.new ≡ self.old) }
+    {
+        let Ok(Some(joined)) = self.join(alloc, later) else {
+            return false;
+        };
+        *self = joined;
+        true
+    }
 
     /// An equal update.
     fn copy(&self, alloc: Global) -> Result<Self, NoMemory>

@@ -1,5 +1,5 @@
 //! Updates of one key that do not join, the oldest first.
-ghost use Rattle.std.specs.Prelude.{◌≡◌, ◌+◌, ◌<◌, ◌≤◌, ◌++◌, ◌∷◌, [], Option, length, drop, take, map, OnOk, OnErr, IfOk, IfErr};
+ghost use Rattle.std.specs.Prelude.{◌≡◌, ◌+◌, ◌<◌, ◌≤◌, ◌++◌, ◌∷◌, [], Option, length, drop, take, map, OnOk, OnErr, IfOk, IfErr, vec_capacity};
 ghost use Rattle.std.specs.Bool.{OnTrue, OnFalse};
 ghost use Rattle.message.specs.declared.msg.Msg.TheVariants as msg;
 ghost use Rattle.points.specs.Runs.{edits_effect};
@@ -109,20 +109,15 @@ pub(crate) fn drop_first<U: Update>(updates: &mut Vec<U>, count: usize)
 fn absorb<U: Update>(updates: &mut Vec<U>, alloc: Global, later: &U) -> bool
     ensures meaning { OnTrue result ((o : Option U.Value) → edits_effect U.means updates.new.items o ≡ U.means later.now (edits_effect U.means updates.old.items o)) }
     ensures len { length updates.new.items ≡ length updates.old.items }
-    ensures unchanged { OnFalse result (updates.new ≡ updates.old) }
+    ensures unchanged { OnFalse result (updates.new.items ≡ updates.old.items) }
+    ensures room { vec_capacity updates.new ≡ vec_capacity updates.old }
     ensures some { OnTrue result (0 < length updates.old.items) }
 {
     let count = updates.len();
     if count == 0 {
         return false;
     }
-    match updates[count - 1].join(alloc, later) {
-        Ok(Some(joined)) => {
-            updates[count - 1] = joined;
-            true
-        }
-        _ => false,
-    }
+    updates[count - 1].absorb(alloc, later)
 }
 
 /// Makes one of the two newest updates, where that can be.

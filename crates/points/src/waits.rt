@@ -87,8 +87,9 @@ impl<U: Update> Waits<U> {
         ensures unchanged { OnErr result.1 (changes_in result.0 ≡ Edit first ∷ []) }
         ensures back { IfErr result.1 (λ u. u ≡ later) }
     {
-        if let Ok(Some(joined)) = first.join(alloc, &later) {
-            return (Waits::Edit(joined), Ok(()));
+        let mut first = first;
+        if first.absorb(alloc, &later) {
+            return (Waits::Edit(first), Ok(()));
         }
         match Vec::with_capacity(alloc, 2) {
             Ok(mut both) => {

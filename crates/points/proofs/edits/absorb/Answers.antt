@@ -1,9 +1,18 @@
-use Rattle.std.proofs.Common.{arith, ◌-◌, ap, ◌∙◌}
+use Rattle.std.proofs.Common.{ℕ, List, ◌≡◌, arith, ◌-◌, ap, ◌∙◌}
+use Rattle.std.proofs.Math.ListN.{set}
+use Rattle.std.proofs.lemmas.Bool.{OnFalse_at, OnFalse_from, OnTrue_at, OnTrue_from}
+use Rattle.std.proofs.lemmas.List.{set-get_or}
 use Rattle.points.proofs.Updates.{edits-set_last}
 use Rattle.points.proofs.edits.absorb.Goals as goal
 
-pub returns-in-Ok-Some-clause-meaning : goal.returns-in-Ok-Some-clause-meaning
-returns-in-Ok-Some-clause-meaning g c o =
+pub returns-clause-meaning : goal.returns-clause-meaning
+returns-clause-meaning g c = OnTrue_from c.absorb.result _ (λ did o.
     let means = g.U.Update.means in
-    let joined = rw c.in-Ok-Some.field-0-is at c.in-Ok-Some.ensures in
-    edits-set_last means (means c.args.later.now) c.args.updates.now.items (c.len-count.result - 1) c.in-Ok-Some.joined c.index.result.now o (omega arith) (λ w. joined w ∙ ap (λ u. means c.args.later.now (means u w)) c.index.ensures)
+    let taken = OnTrue_at did c.absorb.ensures.taken in
+    edits-set_last means (means c.args.later.now) c.args.updates.now.items (c.len-count.result - 1) c.absorb.new.self c.index_mut.result.now o (omega arith) (λ w. taken w ∙ ap (λ u. means c.args.later.now (means u w)) c.index_mut.ensures.value))
+
+pub returns-clause-unchanged : goal.returns-clause-unchanged
+returns-clause-unchanged g c = OnFalse_from c.absorb.result _ (λ no.
+    let items = c.args.updates.now.items in
+    let last = c.len-count.result - 1 in
+    ap (λ u. set items last u) (OnFalse_at no c.absorb.ensures.unchanged ∙ c.index_mut.ensures.value) ∙ set-get_or items last c.index_mut.result.now)

@@ -16,4 +16,4 @@ returns-in-Ok-clause-meaning g c o =
     let us = c.absorb.new.updates.items in
     ap (λ t. edits_effect means t o) c.in-Ok.ensures.items
     ∙ fold-append (λ w u. means u w) o us (c.args.later ∷ [])
-    ∙ ap (λ v. means c.args.later (edits_effect means v.items o)) c.if-absorb.ensures.unchanged
+    ∙ ap (λ t. means c.args.later (edits_effect means t o)) c.if-absorb.ensures.unchanged

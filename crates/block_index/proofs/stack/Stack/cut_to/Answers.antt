@@ -4,7 +4,7 @@ use Rattle.reference.specs.Indexes.{shortened}
 use Rattle.block_index.specs.Layers.{Layered, cut_by, layer_in}
 use Rattle.block_index.specs.Patches.{Overlay}
 use Rattle.block_index.specs.declared.stack.Extent.{Extent}
-use Rattle.block_index.proofs.Layering.{cut_follows, shortened_twice, some_weaker}
+use Rattle.block_index.proofs.Layering.{cut_follows, shortened_twice}
 use Rattle.block_index.proofs.stack.Stack.cut_to.Goals.{in-Some, in-None}
 use Rattle.block_index.proofs.stack.Stack.cut_to.Goals as goal
 
@@ -19,4 +19,4 @@ returns c =
       | in-None w ↦ λ old. ap (λ (k : ℕ). shortened k old) w.cut-is
           ∙ ap (λ (cut : Option ℕ). shortened c.args.n (cut_by cut old)) (sym w.in-None.is ∙ ap (λ (l : Layered). l.cut) c.self.view_is)
     ] in
-    IfOk-weaker c.laid_all.result _ _ (λ r. some_weaker r _ _ (λ l h. cut_follows c.args.self.now l c.new-first.result c.args.n c.match-self.cut ps layers c.new-first.ensures cuts h)) c.laid_all.ensures
+    IfOk-weaker c.laid_all.result _ _ (λ l h. cut_follows c.args.self.now l c.new-first.result c.args.n c.match-self.cut ps layers c.new-first.ensures cuts h) c.laid_all.ensures
