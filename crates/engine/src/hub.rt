@@ -151,7 +151,7 @@ impl<J: Naming> Hub<J> {
     }
 
     /// Builds the job that the flusher took, without the lock, and installs what was built. Where memory is refused the job is
-    /// cancelled.
+    /// cancelled. What the install replaced is let go without the lock too.
     fn finish<R: Wait, B: Between>(
         &self,
         rt: &R,
@@ -166,6 +166,9 @@ impl<J: Naming> Hub<J> {
         ensures watches { Watches J.opening (watched flusher.me.0) (watched result.0.me.0) }
         ensures finishes { Finishes J.opening job result.1 (watched flusher.me.0) (watched result.0.me.0) }
     {
+        // One more owner of the child whose place the built subtree takes. It is let go at the end, behind the lock: so what
+        // that subtree does not share is freed here, while others have the lock, and not by the install.
+        let _old = job.subtree();
         match between.build(alloc, job) {
             Ok(done) => {
                 between.between();

@@ -1,5 +1,5 @@
 //! A job, and what was built of it.
-ghost use Rattle.std.specs.Prelude.{◌≡◌, OnOk, OnErr, IfErr};
+ghost use Rattle.std.specs.Prelude.{◌≡◌, OnOk, OnErr, IfErr, IfSome};
 ghost use Rattle.jobs.specs.Content.{done_content};
 ghost use Rattle.jobs.specs.Marks.{MarkHas};
 ghost use Rattle.jobs.specs.Replies.{IsPlaced};
@@ -59,6 +59,16 @@ impl<U: Changes> Job<U> {
         ensures { result.number ≡ self.now.ticket }
     {
         Ticket::of(self.ticket)
+    }
+
+    /// The child, as one more owner of it; none where no further owner can be counted. It takes no memory.
+    ///
+    /// The last owner frees what no other subtree shares. So who keeps this one until the job is installed frees it, and not the
+    /// install.
+    pub fn subtree(&self) -> Option<Arc<Node<U>>>
+        ensures { IfSome result (λ n. n.value ≡ self.now.child) }
+    {
+        Arc::try_clone(&self.child).ok()
     }
 }
 

@@ -14,6 +14,8 @@ use Rattle.volume.specs.declared.job.Job.{Job}
 use Rattle.volume.specs.declared.job.Job.TheVariants.{Meta as MetaJob, Block as BlockJob}
 use Rattle.volume.specs.declared.job.Done.{Done}
 use Rattle.volume.specs.declared.job.Done.TheVariants.{Meta as MetaDone, Block as BlockDone}
+use Rattle.volume.specs.declared.job.Subtree.{Subtree}
+use Rattle.volume.specs.declared.job.Subtree.TheVariants.{Meta as MetaSubtree, Block as BlockSubtree}
 use Rattle.volume.specs.declared.job.TakeReply.{TakeReply}
 use Rattle.volume.specs.declared.job.TakeReply.TheVariants.{Taken, NotThere, NoRoom, NoMemory}
 use Rattle.volume.specs.declared.job.InstallReply.{InstallReply}
@@ -30,6 +32,13 @@ ticket_of (BlockJob j) = j.ticket
 abbrev pub done_ticket : Done → ℕ
 done_ticket (MetaDone d) = d.ticket
 done_ticket (BlockDone d) = d.ticket
+
+-- the child of the job
+abbrev pub IsChildOf : Job → Subtree → Type 0
+IsChildOf (MetaJob j) (MetaSubtree n) = n.value ≡ j.child
+IsChildOf (MetaJob j) (BlockSubtree n) = ⊥
+IsChildOf (BlockJob j) (MetaSubtree n) = ⊥
+IsChildOf (BlockJob j) (BlockSubtree n) = n.value ≡ j.child
 
 -- what was built of the job
 abbrev pub Builds : Job → Done → Type 0

@@ -1,11 +1,13 @@
 //! Jobs of a volume, what is built of them, and what taking and installing are answered.
-ghost use Rattle.std.specs.Prelude.{◌≡◌, IfOk, IfErr};
-ghost use Rattle.volume.specs.Jobs.{ticket_of, done_ticket, Builds};
+ghost use Rattle.std.specs.Prelude.{◌≡◌, IfOk, IfErr, IfSome};
+ghost use Rattle.volume.specs.Jobs.{ticket_of, done_ticket, Builds, IsChildOf};
 
 use block_index::BlockUpdate;
 use jobs::Ticket;
 use meta_index::MetaUpdate;
+use node::Node;
 use std::alloc::Global;
+use std::sync::Arc;
 
 /// Does the same with a job, or what was built of one, of either index.
 macro_rules! of_either {
@@ -27,6 +29,23 @@ macro_rules! built_in {
     };
 }
 
+/// One more owner of the child of a job.
+pub enum Subtree {
+    /// Of the metadata.
+    Meta(Arc<Node<MetaUpdate>>),
+    /// Of the blocks.
+    Block(Arc<Node<BlockUpdate>>),
+}
+
+// Written out, as that of `pathkey::Key`.
+impl Drop for Subtree {
+    fn drop(self) {
+        match self {
+            Subtree::Meta(_) | Subtree::Block(_) => {}
+        }
+    }
+}
+
 /// A job: the oldest messages of a slot of a live index's root, and a share of the slot's child.
 #[derive(Drop)]
 pub enum Job {
@@ -42,6 +61,19 @@ impl Job {
         ensures { result.number ≡ ticket_of self.now }
     {
         of_either!(self, Job, job => job.ticket())
+    }
+
+    /// One more owner of the job's child; none where no further owner can be counted. It takes no memory.
+    ///
+    /// Who lets go of the child last frees what the built subtree does not share. Who keeps this owner until the job is
+    /// installed can so do that without the lock.
+    pub fn subtree(&self) -> Option<Subtree>
+        ensures { IfSome result (λ s. IsChildOf self.now s) }
+    {
+        match self {
+            Job::Meta(job) => Some(Subtree::Meta(job.subtree()?)),
+            Job::Block(job) => Some(Subtree::Block(job.subtree()?)),
+        }
     }
 
     /// Builds the job: a subtree with the job's messages in it, which sink as far as there is room. Where memory is refused

@@ -6,6 +6,6 @@ pub returns-in-Ok-clause-finishes : goal.returns-in-Ok-clause-finishes
 returns-in-Ok-clause-finishes g c =
     finishes-built g.J.Naming.opening c.args.job c.in-Ok.done c.install.result.1 (watched c.args.flusher.me.0) (watched c.install.result.0.me.0) c.in-Ok.ensures.ok c.install.ensures.puts
 
-pub returns-in-Err-clause-finishes : goal.returns-in-Err-clause-finishes
-returns-in-Err-clause-finishes g c =
+pub returns-clause-finishes : goal.returns-clause-finishes
+returns-clause-finishes g c =
     finishes-refused g.J.Naming.opening c.args.job c.in-Err.job c.ticket.result.number (watched c.args.flusher.me.0) (watched c.cancel-flusher.result.me.0) c.ticket.ensures c.in-Err.ensures.err c.cancel-flusher.ensures.cancels
