@@ -13,6 +13,7 @@ use std::thread::Threads;
 pub mod clients;
 pub mod flushers;
 pub mod history;
+pub mod paths;
 pub mod tree;
 
 fn main(rt: HostRuntime) -> anyhow::Result<()> {

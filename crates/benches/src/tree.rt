@@ -80,7 +80,7 @@ fn do_little(alloc: Global, tree: &mut Tree<Set>) -> Result<Little, NoMemory> {
     })
 }
 
-/// The same on a new tree.
+/// A little of the work on a new tree.
 fn do_little_anew(alloc: Global) -> Result<Little, NoMemory> {
     match new_tree(alloc) {
         Ok(mut tree) => do_little(alloc, &mut tree),

@@ -33,7 +33,7 @@ fn patch(off: u16, bytes: Bytes) -> Option<BlockUpdate> {
     Some(BlockUpdate::Patch(Patch::new(off, bytes)))
 }
 
-/// The same of these bytes.
+/// A patch of these bytes; none where it ends behind its block, or memory is refused.
 fn patched(alloc: Global, off: u16, new: &[u8]) -> Option<BlockUpdate> {
     match Bytes::copy_from_slice(alloc, new) {
         Ok(bytes) => patch(off, bytes),
@@ -221,7 +221,7 @@ fn fills_beside(
     change(alloc, update, block) && is_filled(block, row) && share.as_slice().len() == old
 }
 
-/// The same beside a share made here.
+/// Whether an update makes the block what the row says, and leaves a share of it as long as it was.
 fn fills(alloc: Global, update: &BlockUpdate, block: &mut Block, row: &Filled) -> bool {
     match block.copy() {
         Ok(share) => fills_beside(alloc, update, block, &share, row),
@@ -259,7 +259,7 @@ fn filled(alloc: Global, block: &mut Block) -> Result<(), usize> {
     Ok(())
 }
 
-/// The same of a block of one byte.
+/// Whether all updates make a block of one byte what their rows say; the number of the first that does not.
 fn one_byte_filled(alloc: Global) -> Result<(), usize> {
     match block(alloc, b"d") {
         Some(mut block) => filled(alloc, &mut block),
@@ -443,7 +443,7 @@ fn goes_at<C: Course>(alloc: Global, shape: Shape, path: &Path, course: &C) -> R
     }
 }
 
-/// The same at the path of a text.
+/// Whether a new index of a shape goes through a course at the path of a text.
 pub fn goes_anew<C: Course>(
     alloc: Global,
     shape: Shape,

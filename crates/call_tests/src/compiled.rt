@@ -89,7 +89,7 @@ fn new_indexes(alloc: Global) -> Result<Indexes, NoMemory> {
     Indexes::new(alloc, SHAPE)
 }
 
-/// The same from nothing but the root directory.
+/// Asks the calls in turn, from nothing but the root directory; how many are answered as their rows say, before the first that is not.
 fn answered(alloc: Global, moments: Moments, rows: &[Row]) -> usize {
     match new_indexes(alloc) {
         Ok(mut indexes) => answered_in(alloc, &mut indexes, moments, rows),
@@ -368,7 +368,7 @@ const ONE_MOMENT: &[Row] = &[
     (Ask::Rmtree("/a"), Told::Done, (2, 1)),
 ];
 
-/// The same where each call has a moment of its own.
+/// Calls of which each has a moment of its own, in a root that has another at first.
 const RISING_MOMENTS: &[Row] = &[
     (Ask::Create("/f"), Told::Done, (2, 0)),
     (Ask::Create("/g"), Told::Done, (2, 0)),

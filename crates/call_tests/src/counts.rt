@@ -47,7 +47,7 @@ fn passes(alloc: Global, index: &mut MetaIndex) -> bool {
         && asks(alloc, index, "/b", Asked::Told(true, 1))
 }
 
-/// The same of a new index.
+/// Whether listings of a new index with 2,000 files in one directory pass them all at once.
 fn passes_anew(alloc: Global) -> bool {
     match MetaIndex::new(alloc, SHAPE) {
         Ok(mut index) => passes(alloc, &mut index),

@@ -168,7 +168,7 @@ fn updated_so(alloc: Global, index: &mut MetaIndex) -> Result<(), usize> {
     Ok(())
 }
 
-/// The same in the sample.
+/// Whether all updates of the sample come to what their rows say; the number of the first that does not.
 fn updated_in_sample(alloc: Global) -> Result<(), usize> {
     match sample(alloc) {
         Some(mut index) => updated_so(alloc, &mut index),
@@ -361,7 +361,7 @@ pub enum Asked {
     Told(bool, u64),
     /// So many pairs of its subtree, and the paths of those that come.
     Below(usize, &'static [&'static str]),
-    /// The same behind the key of a path.
+    /// So many pairs of its subtree behind the key of a path, and the paths of those that come.
     Behind(&'static str, usize, &'static [&'static str]),
 }
 
@@ -514,7 +514,7 @@ fn asks_all(alloc: Global, index: &MetaIndex, rows: &[(&str, Asked)]) -> bool {
     true
 }
 
-/// The same of each table in the sample; the name of the first that is answered otherwise.
+/// Whether an index answers each table as it says; the name of the first that is answered otherwise.
 fn asks_tables(alloc: Global, index: &MetaIndex) -> Result<(), &'static str> {
     for (name, rows) in TABLES {
         if !asks_all(alloc, index, rows) {
@@ -524,7 +524,7 @@ fn asks_tables(alloc: Global, index: &MetaIndex) -> Result<(), &'static str> {
     Ok(())
 }
 
-/// The same of a sample made here.
+/// Whether a sample made here answers each table as it says; the name of the first that is answered otherwise.
 fn asks_sample(alloc: Global) -> Result<(), &'static str> {
     match sample(alloc) {
         Some(index) => asks_tables(alloc, &index),

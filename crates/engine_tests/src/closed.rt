@@ -58,7 +58,7 @@ fn last_turns<J: Naming, R: Wait>(
     between.is_ended.then_some((first, second))
 }
 
-/// The same of an engine with one client in this room.
+/// What the turn answers in whose middle an engine with one client in this room ends, and what the next one.
 fn ends_in<J: Naming, R: Wait>(rt: &R, alloc: Global, room: Room) -> Option<(TurnReply, TurnReply)>
     requires { (room.0 ≡ J.table) × (room.1 ≡ J.opening) × (J.clients ≡ 1) }
 {

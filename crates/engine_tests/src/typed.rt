@@ -1,6 +1,7 @@
 //! Each file call of a client by its name, once; and what stands then has the moments at which it was changed.
 use crate::asked::{SMALL, new_room};
 use engine::{Client, Errno, Kind, Naming, Path, Room, Work};
+use samples::ask::path;
 use std::alloc::Global;
 use std::sync::Wait;
 use std::sync::atomic::{AtomicBool, Ordering};
@@ -12,10 +13,6 @@ struct Places {
     home: Path,
     file: Path,
     moved: Path,
-}
-
-fn path(alloc: Global, text: &str) -> Result<Path, Errno> {
-    Path::parse(alloc, text.as_bytes())
 }
 
 fn new_places(alloc: Global) -> Result<Places, Errno> {

@@ -159,7 +159,7 @@ fn divides_after(alloc: Global, entries: &[(Key, u64)]) -> bool
     }
 }
 
-/// The same of the four entries.
+/// Whether the four entries, and one more with the key 3, are divided at the key 4.
 fn divides_even(alloc: Global) -> bool {
     match even(alloc) {
         Ok(entries) => divides_after(alloc, &entries),

@@ -45,7 +45,7 @@ fn parts_from_its_share(alloc: Global, tree: &mut Tree<Digit>) -> bool {
     }
 }
 
-/// The same, and nothing is found before.
+/// Nothing is found in a tree, and it and its share part.
 struct Parting;
 
 impl Course for Parting {

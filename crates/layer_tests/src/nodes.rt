@@ -117,7 +117,7 @@ impl Course for InTurn {
     }
 }
 
-/// The same of messages that come in one batch, and then of a new tree to which they come one by one.
+/// Messages that come in one batch, and then one by one to a new tree, and those that then wait for them.
 struct Kept(&'static [Plain], &'static [Plain]);
 
 impl Course for Kept {
@@ -192,7 +192,7 @@ fn parts_from_its_share(alloc: Global, tree: &mut Tree<Digit>) -> bool {
     }
 }
 
-/// The same behind the message.
+/// A tree with one message and a share of it part.
 struct Parting;
 
 impl Course for Parting {

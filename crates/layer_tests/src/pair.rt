@@ -25,7 +25,7 @@ impl Pair {
         }
     }
 
-    /// The same, of which later changes change nothing.
+    /// A share of the tree beside a copy of the row, of which later changes change nothing.
     pub fn share(&self) -> Result<Pair, NoMemory> {
         match self.tree.share() {
             Ok(tree) => Ok(Pair {

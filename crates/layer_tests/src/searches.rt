@@ -56,7 +56,7 @@ fn agrees(
     }
 }
 
-/// The same of a part of the keys alone.
+/// Whether the tree has in a part of the keys what the row has there, and first what the row has first.
 pub fn agrees_where(
     alloc: Global,
     tree: &Tree<Digit>,
@@ -118,7 +118,7 @@ fn agrees_filled(alloc: Global, tree: &mut Tree<Digit>, row: &mut Row) -> Result
     Ok(())
 }
 
-/// The same of a new tree and a new row.
+/// Whether a new tree agrees with a new row in each part of the keys after the messages; the number of the first in which it does not.
 fn agrees_anew(alloc: Global) -> Result<(), usize> {
     match new_tree(alloc, SMALL) {
         Ok(mut tree) => agrees_filled(alloc, &mut tree, &mut Row::new()),

@@ -142,7 +142,7 @@ fn end<U: Update>(alloc: Global, bench: &mut Bench<U>, job: Job<U>) -> Ended
     }
 }
 
-/// The same of the oldest job that is left.
+/// What the building and the installing of the oldest job that is left are answered.
 fn finish<U: Update>(alloc: Global, bench: &mut Bench<U>) -> Ended
     requires { AreHeld U.means bench.old.marked bench.old.jobs.items }
     ensures { AreHeld U.means bench.new.marked bench.new.jobs.items }
@@ -258,7 +258,7 @@ fn follow_new<U: Numbered>(alloc: Global, rows: &[Row]) -> Result<(), usize> {
     }
 }
 
-/// The same of a tree of numbers.
+/// Takes a new tree of numbers to these two levels and then through the rows.
 fn follow_two_levels(alloc: Global, rows: &[Row]) -> Result<(), usize> {
     follow_new::<Digit>(alloc, rows)
 }

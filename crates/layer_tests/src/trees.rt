@@ -79,7 +79,7 @@ pub fn has_at(alloc: Global, tree: &Tree<Digit>, at: &Key, wanted: Option<u64>) 
     }
 }
 
-/// The same of the key of a number.
+/// Whether a tree has this at the key of a number; none where memory is refused.
 pub fn has_if_read(alloc: Global, tree: &Tree<Digit>, at: u8, wanted: Option<u64>) -> Option<bool> {
     match key(alloc, at) {
         Ok(at) => has_at(alloc, tree, &at, wanted),

@@ -63,7 +63,7 @@ fn follow_both(
     follow_in(alloc, tree, rows)
 }
 
-/// The same of a new tree.
+/// Takes a new tree through the first rows, and then through the others; the number of the first of these that comes out otherwise.
 fn follow_behind(alloc: Global, first: &[Row], rows: &[Row]) -> Result<(), usize> {
     match new_tree(alloc, SMALLEST) {
         Ok(mut tree) => follow_both(alloc, &mut tree, first, rows),
@@ -354,7 +354,7 @@ fn grows_to_sixteen(alloc: Global, tree: &mut Tree<Digit>) -> bool {
     take(alloc, tree, StepKind::RootUp, 0) == StepReply::NoRoom
 }
 
-/// The same of a tree that gets two leaves.
+/// A tree that gets two leaves grows to sixteen levels, and no further.
 struct Growing;
 
 impl Course for Growing {

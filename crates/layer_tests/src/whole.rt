@@ -87,7 +87,7 @@ fn sink(alloc: Global, tree: &mut Tree<Digit>) -> bool {
     heaviest(tree).is_none()
 }
 
-/// The same, where the five keys have their values before each step and after the last.
+/// Sinks five messages; whether no step is left to do, and the five keys have their values before each step and after the last.
 fn sink_unseen(alloc: Global, tree: &mut Tree<Digit>) -> bool {
     for _ in 0..5 {
         if !has_five(alloc, tree, true) {
@@ -148,7 +148,7 @@ fn goes_up_and_down(alloc: Global, tree: &mut Tree<Digit>) -> bool {
     true
 }
 
-/// The same of a tree whose five keys have sunk.
+/// A tree whose five keys have sunk goes up and down, and no value changes.
 struct UpAndDown;
 
 impl Course for UpAndDown {
@@ -224,7 +224,7 @@ fn count(alloc: Global, pair: &mut Pair, way: Way) -> u32 {
     }
 }
 
-/// The same of a new tree and a new row.
+/// How many rounds of the way come out as they should with a new tree and a new row, before the first that does not.
 fn count_anew(alloc: Global, way: Way) -> u32 {
     match Pair::new(alloc) {
         Ok(mut pair) => count(alloc, &mut pair, way),
@@ -311,7 +311,7 @@ fn count_unchanged(alloc: Global, kept: &[Pair]) -> u32 {
     count
 }
 
-/// The same of the shares of a tree.
+/// How many of the shares of a tree mean what they meant, once it has changed.
 fn count_kept(alloc: Global, pair: &mut Pair) -> u32 {
     let mut kept = Vec::new(alloc);
     if !change_and_keep(alloc, pair, &mut kept) {

@@ -81,7 +81,7 @@ fn leads_to(alloc: Global, key: &Key, want: Option<&[u8]>) -> bool {
     }
 }
 
-/// The same of a key that was made.
+/// Whether a key was made, and its path has this key; or it has no path.
 fn made_leads_to(alloc: Global, made: Result<Key, NoMemory>, want: Option<&[u8]>) -> bool {
     match made {
         Ok(key) => leads_to(alloc, &key, want),
@@ -351,7 +351,7 @@ fn are_ordered(key: &Key, other: &Key, want: Ordering) -> bool {
     key.cmp(other) == want && (*key == *other) == (want == Ordering::Equal)
 }
 
-/// The same of a key and one that was made.
+/// Whether a key and one that was made stand in this order, and their equality says so too.
 fn is_ordered(key: &Key, made: Result<Key, NoMemory>, want: Ordering) -> bool {
     match made {
         Ok(other) => are_ordered(key, &other, want),
@@ -434,7 +434,7 @@ fn is_rekeyed(alloc: Global, key: &Key, old: &Path, new: &Path, want: Option<&[u
     }
 }
 
-/// The same where the new path is a text.
+/// Whether a key becomes this one where a path becomes that of a text; it stays where it does not lie under the first.
 fn is_rekeyed_to(alloc: Global, key: &Key, old: &Path, new: &[u8], want: Option<&[u8]>) -> bool {
     match path(alloc, new) {
         Ok(new) => is_rekeyed(alloc, key, old, &new, want),

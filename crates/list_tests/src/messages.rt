@@ -65,7 +65,7 @@ fn is_cut(alloc: Global, msg: &Msg<Digit>, range: &KeyRange, wanted: Option<Plai
     }
 }
 
-/// The same of the range of two numbers.
+/// Whether this is the piece of a message in the range of two numbers.
 fn is_cut_to(
     alloc: Global,
     msg: &Msg<Digit>,
@@ -272,7 +272,7 @@ fn takes_all(list: &mut Pending<Digit>, newer: &mut Vec<Msg<Digit>>) -> bool {
     newer.is_empty()
 }
 
-/// The same of plain messages.
+/// Puts plain messages behind those of a list; whether the list takes all of them.
 fn takes(alloc: Global, list: &mut Pending<Digit>, newer: &[Plain]) -> bool {
     match batch(alloc, newer) {
         Ok(mut newer) => takes_all(list, &mut newer),
@@ -316,7 +316,7 @@ fn changes_beside(alloc: Global, list: &mut Pending<Digit>, copy: &Pending<Digit
         && waits(alloc, copy, OLDER)
 }
 
-/// The same beside a copy made first.
+/// Whether a list of three messages takes two more and gives up its first two, and a copy made before stays as it was.
 fn changes_beside_a_copy(alloc: Global, list: &mut Pending<Digit>) -> bool {
     match list.copy(alloc) {
         Ok(copy) => changes_beside(alloc, list, &copy),
@@ -324,7 +324,7 @@ fn changes_beside_a_copy(alloc: Global, list: &mut Pending<Digit>) -> bool {
     }
 }
 
-/// The same of a new list of the three messages.
+/// Whether a new list of three messages takes two more and gives up its first two, and a copy of it stays as it was.
 fn changes_alone(alloc: Global) -> bool {
     match list_of(alloc, OLDER) {
         Ok(mut list) => changes_beside_a_copy(alloc, &mut list),

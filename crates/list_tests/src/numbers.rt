@@ -62,7 +62,7 @@ pub fn numbers(alloc: Global, count: u16) -> Result<Rows<Number>, NoMemory> {
     Ok(list)
 }
 
-/// The same numbers, put in another order: by steps of 77, which meets each of a thousand.
+/// The numbers below a thousand, each at its key, put by steps of 77, which meets each of them.
 pub fn scattered(alloc: Global) -> Result<Rows<Number>, NoMemory> {
     let mut list = Rows::new(alloc);
     for number in 0..1000u32 {

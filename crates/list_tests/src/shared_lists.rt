@@ -73,21 +73,21 @@ fn list_of_lone(alloc: Global) -> Result<Pending<Lone>, NoMemory> {
     Ok(list)
 }
 
-/// The same with a range-delete behind all keys.
+/// A list with two updates at each key, and a range-delete behind all keys.
 fn with_a_range(alloc: Global) -> Result<Pending<Lone>, NoMemory> {
     let mut list = list_of_lone(alloc)?;
     push(&mut list, deletion(alloc, KEYS, None))?;
     Ok(list)
 }
 
-/// The same with an update that waits as it came.
+/// A list with two updates at each key, and one more that waits as it came.
 fn with_a_tail(alloc: Global) -> Result<Pending<Lone>, NoMemory> {
     let mut list = list_of_lone(alloc)?;
     keep(&mut list, update(alloc, 5, 5))?;
     Ok(list)
 }
 
-/// The same with a range-delete over the key 100 and one update more, which wait as they came.
+/// A list with two updates at each key; one more, a range-delete over the key 100 and another update wait as they came.
 fn with_a_range_in_the_tail(alloc: Global) -> Result<Pending<Lone>, NoMemory> {
     let mut list = with_a_tail(alloc)?;
     keep(&mut list, deletion(alloc, 50, Some(150)))?;
@@ -95,14 +95,14 @@ fn with_a_range_in_the_tail(alloc: Global) -> Result<Pending<Lone>, NoMemory> {
     Ok(list)
 }
 
-/// The same with a range-delete over the key 100 that has its place among the others.
+/// A list with two updates at each key, and a range-delete over the key 100 that has its place among them.
 fn with_a_range_inside(alloc: Global) -> Result<Pending<Lone>, NoMemory> {
     let mut list = list_of_lone(alloc)?;
     push(&mut list, deletion(alloc, 50, Some(150)))?;
     Ok(list)
 }
 
-/// The same without the first of a key's two updates.
+/// A list with two updates at each key, of which the first of all is gone.
 fn half_gone(alloc: Global) -> Result<Pending<Lone>, NoMemory> {
     let mut list = list_of_lone(alloc)?;
     if list.len() > 0 {

@@ -91,7 +91,7 @@ fn run_into<R: Print + Files + Threads + Wait + Sync>(
     status
 }
 
-/// The same, and prints all of it.
+/// Runs a command line over a script between the two lines, and prints all that it gives.
 pub fn run<R: Print + Files + Threads + Wait + Sync>(
     rt: &R,
     alloc: Global,

@@ -42,7 +42,7 @@ where
     play_words(rt, alloc, words.as_slice(), input, output)
 }
 
-/// The same of these words, of which the first is the program's name.
+/// Does the scene that these words name behind the program's name; whether it came to its end.
 fn play_words<H: Files + Threads + Wait + Sync + Print, R: Read, W: Write>(
     rt: &H,
     alloc: Global,

@@ -54,7 +54,7 @@ fn does<R: Print + Wait>(
     }
 }
 
-/// The same of the text of a line.
+/// Does what the text of a line asks for.
 fn line<R: Print + Wait>(
     rt: &R,
     alloc: Global,

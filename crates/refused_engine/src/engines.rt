@@ -126,7 +126,7 @@ fn does<J: Naming, R: Wait + Print>(
     }
 }
 
-/// The same of a client that is given away.
+/// What a client that is given away does alone.
 fn by_client<J: Naming, R: Wait + Print>(
     rt: &R,
     alloc: Global,
@@ -159,7 +159,7 @@ fn by_flusher<J: Naming, R: Wait + Print>(
     }
 }
 
-/// The same where a snapshot is restored between its two holds of the lock.
+/// A turn of a flusher, where a snapshot is restored between its two holds of the lock.
 fn by_stale_flusher<J: Naming, R: Wait + Print>(
     rt: &R,
     alloc: Global,
@@ -256,7 +256,7 @@ fn close_refused<J: Naming, R: Wait>(
     }
 }
 
-/// The same, and again where it is refused memory.
+/// Closes an engine, and again where it is refused memory.
 fn close<J: Naming, R: Wait + Print>(
     rt: &R,
     alloc: Global,
@@ -355,7 +355,7 @@ fn in_room<J: Naming, R: Wait + Print>(
     }
 }
 
-/// The same, under a name of its own.
+/// What is done with an engine over the volume of a room, under a name of its own.
 fn named<R: Wait + Print>(
     rt: &R,
     alloc: Global,

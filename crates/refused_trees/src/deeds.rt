@@ -154,7 +154,7 @@ fn take<R: Print>(
     Ok(())
 }
 
-/// The same of two lists of updates of one number.
+/// Copies the oldest of so many updates in a list, and lets one of them sink into another such list.
 fn take_updates<R: Print>(
     rt: &R,
     alloc: Global,

@@ -45,7 +45,7 @@ fn paths<R: Print>(rt: &R, path: &Path, other: &Path, out: &mut Vec<u8>) {
     put(out, "\n");
 }
 
-/// The same of a path below a long one.
+/// What a path tells of the long one above it; whether that was found.
 fn long_paths<R: Print>(rt: &R, alloc: Global, path: &Path, out: &mut Vec<u8>) -> bool {
     match path.parent(alloc) {
         Ok(Some(parent)) => {

@@ -39,7 +39,7 @@ fn take_of(alloc: Global, volume: &mut Volume, held: &mut Vec<Held>, index: Inde
     }
 }
 
-/// The same of both.
+/// Takes a job of each slot of both roots of which one can be taken.
 fn take_all(alloc: Global, volume: &mut Volume, held: &mut Vec<Held>)
     requires { AreHeld (live_of volume.old) held.old.items }
     ensures { AreHeld (live_of volume.new) held.new.items }
@@ -71,7 +71,7 @@ fn finish_job(alloc: Global, volume: &mut Volume, job: Job, out: &mut Vec<u8>)
     }
 }
 
-/// The same of a job that is held.
+/// Builds a job that is held, if it is not built yet, and installs it.
 fn finish_one(alloc: Global, volume: &mut Volume, held: Held, out: &mut Vec<u8>)
     requires { IsHeld (live_of volume.old) held }
     ensures { KeepsMarks (live_of volume.old) (live_of volume.new) }
@@ -82,7 +82,7 @@ fn finish_one(alloc: Global, volume: &mut Volume, held: Held, out: &mut Vec<u8>)
     }
 }
 
-/// The same of the last of those that are held, if there is one.
+/// Builds and installs the last of the jobs that are held, if there is one.
 fn finish_last(alloc: Global, volume: &mut Volume, held: &mut Vec<Held>, out: &mut Vec<u8>)
     requires { AreHeld (live_of volume.old) held.old.items }
     ensures { AreHeld (live_of volume.new) held.new.items }
@@ -96,7 +96,7 @@ fn finish_last(alloc: Global, volume: &mut Volume, held: &mut Vec<Held>, out: &m
 /// How many jobs are held at most: one of each slot of both roots.
 const MOST: usize = 8;
 
-/// The same of all.
+/// Builds and installs all jobs that are held, and prints what stands then.
 fn finish_all(alloc: Global, volume: &mut Volume, mut held: Vec<Held>, out: &mut Vec<u8>)
     requires { AreHeld (live_of volume.old) held.items }
 {
@@ -124,7 +124,7 @@ fn act_asked<R: Print>(rt: &R, alloc: Global, volume: &mut Volume, act: Act<'_>)
     answer
 }
 
-/// The same, and prints what stands before and after.
+/// Makes a call between the two lines, and prints what stands before and after.
 fn ask_beside<R: Print>(rt: &R, alloc: Global, volume: &mut Volume, act: Act<'_>, out: &mut Vec<u8>)
     ensures { KeepsMarks (live_of volume.old) (live_of volume.new) }
 {

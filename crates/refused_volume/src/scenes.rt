@@ -44,12 +44,12 @@ fn plant<R: Print>(
 }
 
 /// The tree of a snapshot. It ensures nothing, so that no other proof reads what a tree is; nor do the next two.
-fn past_of(volume: &Volume, name: &SnapName) -> Option<Frozen> {
+fn snapshot_tree(volume: &Volume, name: &SnapName) -> Option<Frozen> {
     volume.frozen(name).ok()
 }
 
 /// The live tree.
-fn live_of(volume: &Volume) -> Option<Frozen> {
+fn live_tree(volume: &Volume) -> Option<Frozen> {
     volume.freeze().ok()
 }
 
@@ -60,9 +60,9 @@ fn shared(tree: &Entries) -> Option<Entries> {
 
 /// The tree of a snapshot or, where there is none of that name, the live one.
 fn tree_of(volume: &Volume, name: &SnapName) -> Option<Frozen> {
-    match past_of(volume, name) {
+    match snapshot_tree(volume, name) {
         Some(frozen) => Some(frozen),
-        None => live_of(volume),
+        None => live_tree(volume),
     }
 }
 
@@ -119,7 +119,7 @@ fn image_of<R: Print>(
 
 /// Prints the image of the live tree.
 fn image<R: Print>(rt: &R, alloc: Global, site: &mut Site, out: &mut Vec<u8>) -> bool {
-    match live_of(&site.volume) {
+    match live_tree(&site.volume) {
         Some(frozen) => image_of(rt, alloc, site, frozen, out),
         None => false,
     }
@@ -244,9 +244,9 @@ fn pair_of(frozen: &Frozen) -> Option<Pair> {
     }
 }
 
-/// The same of a volume.
+/// A pair of trees that both share their nodes with the live metadata of a volume.
 fn pair_in(volume: &Volume) -> Option<Pair> {
-    match live_of(volume) {
+    match live_tree(volume) {
         Some(frozen) => pair_of(&frozen),
         None => None,
     }

@@ -32,7 +32,7 @@ fn size_listed(alloc: Global, volume: &Volume, room: &mut [u8]) -> Option<usize>
     readdir(alloc, volume, b"/", room).ok()
 }
 
-/// The same of a tree that stands still.
+/// How many bytes the listing of the root takes in a tree that stands still.
 fn size_frozen(alloc: Global, tree: &Frozen, room: &mut [u8]) -> Option<usize> {
     frozen_readdir(alloc, tree, b"/", room).ok()
 }
@@ -102,7 +102,7 @@ fn more_bytes_than_a_block_are_written_and_read(rt: HostRuntime) {
 /// An image with 1,000 directories, of more than two blocks.
 const DIRECTORIES: [Piece; 2] = [Piece::Text("d /\n"), Piece::Numbered("d /a", 1_000, 2_000)];
 
-/// The same, and behind it a line that is none of an image.
+/// An image with 1,000 directories, and behind it a line that is none of an image.
 const SPOILED: [Piece; 3] = [
     Piece::Text("d /\n"),
     Piece::Numbered("d /a", 1_000, 2_000),
@@ -141,7 +141,7 @@ fn loads(alloc: Global, text: &[u8]) -> bool {
     }
 }
 
-/// The same of a text in pieces.
+/// Whether the image of 1,000 directories is loaded, and what it has is shown.
 fn loads_pieces(alloc: Global) -> bool {
     match built(alloc, &DIRECTORIES) {
         Some(text) => loads(alloc, text.as_slice()),

@@ -120,10 +120,10 @@ const IMAGES: [&[u8]; 5] = [
 
 #[test]
 fn goes_in_pieces_of_any_size(rt: HostRuntime) {
-    for text in &IMAGES {
-        assert!(rt; goes(rt.alloc(), text, 1));
-        assert!(rt; goes(rt.alloc(), text, 7));
-        assert!(rt; goes(rt.alloc(), text, 4_096));
+    for (number, text) in IMAGES.iter().enumerate() {
+        assert!(rt; goes(rt.alloc(), text, 1), "{number} by 1");
+        assert!(rt; goes(rt.alloc(), text, 7), "{number} by 7");
+        assert!(rt; goes(rt.alloc(), text, 4_096), "{number} by 4,096");
     }
 }
 
@@ -169,10 +169,13 @@ fn is_refused(alloc: Global, text: &[u8], size: usize, line: u64) -> bool
 
 #[test]
 fn is_refused_at_the_same_line(rt: HostRuntime) {
-    for (text, line) in &SPOILED {
-        assert!(rt; is_refused(rt.alloc(), text, 1, *line));
-        assert!(rt; is_refused(rt.alloc(), text, 7, *line));
-        assert!(rt; is_refused(rt.alloc(), text, 4_096, *line));
+    for (number, (text, line)) in SPOILED.iter().enumerate() {
+        assert!(rt; is_refused(rt.alloc(), text, 1, *line), "{number} by 1");
+        assert!(rt; is_refused(rt.alloc(), text, 7, *line), "{number} by 7");
+        assert!(rt;
+            is_refused(rt.alloc(), text, 4_096, *line),
+            "{number} by 4,096"
+        );
     }
 }
 

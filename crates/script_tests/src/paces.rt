@@ -85,7 +85,7 @@ fn told_once(alloc: Global, volume: &mut Volume) -> Option<StepReply> {
     pace.told
 }
 
-/// The same of a new volume.
+/// What the one step of a script of two lines on a new volume has answered, if the lines are answered so.
 fn new_told_once(alloc: Global) -> Option<StepReply> {
     match new_volume(alloc, USUAL) {
         Ok(mut volume) => told_once(alloc, &mut volume),
@@ -164,7 +164,7 @@ fn done_in(
     }
 }
 
-/// The same of a new volume.
+/// How many of the steps were done on a new volume, if the script is answered so and leaves the one file.
 fn done_in_new(alloc: Global, script: &[u8], wanted: &[u8], steps: Steps) -> Option<u32> {
     match new_volume(alloc, SMALL) {
         Ok(mut volume) => done_in(alloc, &mut volume, script, wanted, steps),
@@ -172,7 +172,7 @@ fn done_in_new(alloc: Global, script: &[u8], wanted: &[u8], steps: Steps) -> Opt
     }
 }
 
-/// The same of the directory's script.
+/// How many of the steps were done behind the directory's script, if its lines are answered so.
 fn done_so(alloc: Global, wanted: &[u8], steps: Steps) -> Option<u32> {
     match built(alloc, FILES) {
         Some(script) => done_in_new(alloc, script.as_slice(), wanted, steps),

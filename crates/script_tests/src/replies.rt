@@ -30,7 +30,7 @@ fn is_written(alloc: Global, reply: &Reply, wanted: &str) -> bool {
     wrote(&mut text, reply) && text.as_slice() == wanted.as_bytes()
 }
 
-/// The same of a reply that is used up.
+/// Whether this is the text of a reply, which is used up.
 fn is_told(alloc: Global, reply: Reply, wanted: &str) -> bool {
     is_written(alloc, &reply, wanted)
 }

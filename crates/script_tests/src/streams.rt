@@ -212,7 +212,7 @@ pub fn ends_so(alloc: Global, volume: &mut Volume, stream: &Stream<'_>) -> bool 
         && is_left(alloc, volume, stream)
 }
 
-/// The same of a new volume.
+/// Whether a script on a new volume ends so.
 fn new_ends_so(alloc: Global, shape: Shape, stream: &Stream<'_>) -> bool {
     match new_volume(alloc, shape) {
         Ok(mut volume) => ends_so(alloc, &mut volume, stream),
@@ -249,7 +249,7 @@ fn waiting_so(alloc: Global, volume: &mut Volume) -> usize {
     WAITING.len()
 }
 
-/// The same of a new volume.
+/// After how many scripts on a new volume as many messages wait as their rows say, before the first where it is otherwise.
 fn waiting_in_new(alloc: Global) -> usize {
     match new_volume(alloc, SMALL) {
         Ok(mut volume) => waiting_so(alloc, &mut volume),
@@ -469,7 +469,7 @@ fn prints_beginnings(alloc: Global, frozen: &Frozen) -> usize {
     CUT_IMAGE.len()
 }
 
-/// The same after the script on a volume.
+/// Up to how many bytes each beginning of the image is printed, once the script has run on this volume.
 fn prints_beginnings_in(alloc: Global, volume: &mut Volume) -> usize {
     let mut stream = whole(CUT_SCRIPT, b"ok\ncount 10\nok\nok\n");
     stream.image = Some(CUT_IMAGE);
@@ -482,7 +482,7 @@ fn prints_beginnings_in(alloc: Global, volume: &mut Volume) -> usize {
     }
 }
 
-/// The same on a new volume.
+/// Up to how many bytes each beginning of the image is printed, once the script has run on a new volume.
 fn new_print_beginnings(alloc: Global) -> usize {
     match new_volume(alloc, SMALL) {
         Ok(mut volume) => prints_beginnings_in(alloc, &mut volume),

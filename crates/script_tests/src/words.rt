@@ -29,7 +29,7 @@ fn number_of(word: &[u8]) -> Option<u64> {
 #[test]
 fn reads_numbers(rt: HostRuntime) {
     for row in NUMBERS {
-        assert!(rt; number_of(row.0.as_bytes()) == row.1, "{}", row.0);
+        assert!(rt; number_of(row.0.as_bytes()) == row.1, "{:?}", row.0);
     }
 }
 
@@ -63,11 +63,11 @@ fn reads_bytes(rt: HostRuntime) {
     for row in BYTES {
         assert!(rt;
             is_read_as(rt.alloc(), row.0.as_bytes(), row.1),
-            "{}",
+            "{:?}",
             row.0
         );
     }
     for word in NO_BYTES {
-        assert!(rt; is_no_bytes(rt.alloc(), word.as_bytes()), "{word}");
+        assert!(rt; is_no_bytes(rt.alloc(), word.as_bytes()), "{word:?}");
     }
 }

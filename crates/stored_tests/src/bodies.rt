@@ -186,8 +186,8 @@ fn is_row(alloc: Global, row: &Row) -> bool {
 
 #[test]
 fn no_bodies(rt: HostRuntime) -> Result<(), Fail> {
-    for row in &ROWS {
-        assert!(rt; is_row(rt.alloc(), row));
+    for (number, row) in ROWS.iter().enumerate() {
+        assert!(rt; is_row(rt.alloc(), row), "{number}");
     }
     Ok(())
 }

@@ -345,34 +345,35 @@ fn makes(alloc: Global, file: &Path, name: &SnapName, row: &Row) -> bool {
     }
 }
 
-fn makes_each(alloc: Global, file: &Path, name: &SnapName) -> bool {
-    for row in &ROWS {
+/// Whether the holes of each row are made in a file as it says; the number of the first of which they are not.
+fn makes_each(alloc: Global, file: &Path, name: &SnapName) -> Result<(), usize> {
+    for (number, row) in ROWS.iter().enumerate() {
         if !makes(alloc, file, name, row) {
-            return false;
+            return Err(number);
         }
     }
-    true
+    Ok(())
 }
 
 /// Whether the holes of each row are made in a file as it says, beside a snapshot with the name `before`.
-fn makes_each_beside(alloc: Global, file: &Path) -> bool {
+fn makes_each_beside(alloc: Global, file: &Path) -> Result<(), usize> {
     match SnapName::parse(alloc, b"before") {
         Ok(name) => makes_each(alloc, file, &name),
-        Err(_) => false,
+        Err(_) => Err(usize::MAX),
     }
 }
 
 /// Whether the holes of each row are made in the file `/f` as it says.
-fn makes_each_at(alloc: Global) -> bool {
+fn makes_each_at(alloc: Global) -> Result<(), usize> {
     match path(alloc, "/f") {
         Some(file) => makes_each_beside(alloc, &file),
-        None => false,
+        None => Err(usize::MAX),
     }
 }
 
 #[test]
-fn makes_zeros_of_a_part_of_a_file(rt: HostRuntime) {
-    assert!(rt; makes_each_at(rt.alloc()));
+fn makes_zeros_of_a_part_of_a_file(rt: HostRuntime) -> Result<(), usize> {
+    makes_each_at(rt.alloc())
 }
 
 /// Why no hole is made at a path.
@@ -407,14 +408,14 @@ const REFUSED: [(&str, Errno); 4] = [
     ("/f/x", Errno::ENOTDIR),
 ];
 
-/// Whether both calls are refused at each.
-fn are_refused_each(alloc: Global, volume: &mut Volume) -> bool {
-    for (text, fault) in &REFUSED {
+/// Whether both calls are refused at each; the number of the first where they are not.
+fn are_refused_each(alloc: Global, volume: &mut Volume) -> Result<(), usize> {
+    for (number, (text, fault)) in REFUSED.iter().enumerate() {
         if !are_refused_at(alloc, volume, text, *fault) {
-            return false;
+            return Err(number);
         }
     }
-    true
+    Ok(())
 }
 
 /// Whether the live tree has the file before any hole.
@@ -425,25 +426,33 @@ fn is_whole(alloc: Global, volume: &Volume, file: &Path) -> bool {
     }
 }
 
-/// Whether both calls are refused where no file stands, and nothing is changed.
-fn refuses_each(alloc: Global, file: &Path) -> bool {
+/// Whether both calls are refused where no file stands, and nothing is changed; the number of the first where it is otherwise.
+fn refuses_each_in(alloc: Global, volume: &mut Volume, file: &Path) -> Result<(), usize> {
+    are_refused_each(alloc, volume)?;
+    if is_whole(alloc, volume, file) {
+        Ok(())
+    } else {
+        Err(usize::MAX)
+    }
+}
+
+/// Whether both calls are refused where no file stands in a new volume, and nothing is changed.
+fn refuses_each(alloc: Global, file: &Path) -> Result<(), usize> {
     match filled(alloc, file) {
-        Some(mut volume) => {
-            are_refused_each(alloc, &mut volume) && is_whole(alloc, &volume, file)
-        }
-        None => false,
+        Some(mut volume) => refuses_each_in(alloc, &mut volume, file),
+        None => Err(usize::MAX),
     }
 }
 
 /// Whether both calls are refused where no file stands, and the file `/f` stays whole.
-fn refuses_each_beside(alloc: Global) -> bool {
+fn refuses_each_beside(alloc: Global) -> Result<(), usize> {
     match path(alloc, "/f") {
         Some(file) => refuses_each(alloc, &file),
-        None => false,
+        None => Err(usize::MAX),
     }
 }
 
 #[test]
-fn refuses_what_is_no_file(rt: HostRuntime) {
-    assert!(rt; refuses_each_beside(rt.alloc()));
+fn refuses_what_is_no_file(rt: HostRuntime) -> Result<(), usize> {
+    refuses_each_beside(rt.alloc())
 }

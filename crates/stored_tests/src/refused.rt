@@ -30,7 +30,7 @@ fn is_answer(alloc: Global, text: &[u8], want: &DeltaFault) -> bool {
     }
 }
 
-/// The same of the first line and these lines.
+/// Whether this fault is what is answered to a delta of the first line and these lines.
 fn is_answer_to(alloc: Global, commands: &str, want: &DeltaFault) -> bool {
     match delta(alloc, commands) {
         Some(text) => is_answer(alloc, text.as_slice(), want),
@@ -85,8 +85,8 @@ fn is_bad_first(alloc: Global, text: &[u8]) -> bool {
 
 #[test]
 fn bad_first_lines(rt: HostRuntime) -> Result<(), Fail> {
-    for text in &BAD_FIRST {
-        assert!(rt; is_bad_first(rt.alloc(), text));
+    for (number, text) in BAD_FIRST.iter().enumerate() {
+        assert!(rt; is_bad_first(rt.alloc(), text), "{number}");
     }
     assert!(rt; is_bad_first(rt.alloc(), &FIRST.as_bytes()[..72]));
     Ok(())

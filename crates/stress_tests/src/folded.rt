@@ -162,7 +162,7 @@ fn installs_both(
         && installs(alloc, volume, events.as_slice())
 }
 
-/// The same, and one byte more: whether the lists fold.
+/// Whether the lists fold once both jobs are installed and one byte more is written.
 fn folds_where_installed(
     alloc: Global,
     volume: &mut Volume,
@@ -184,7 +184,7 @@ fn both_fold(alloc: Global, one: &mut Volume, other: &mut Volume) -> bool {
         && folds_where_installed(alloc, other, &meta, &block)
 }
 
-/// The same of this volume and another of many files.
+/// Whether the lists of this volume and another of many files fold.
 fn folds_beside(alloc: Global, one: &mut Volume) -> bool {
     match filled_volume(alloc) {
         Some(mut other) => both_fold(alloc, one, &mut other),
@@ -192,7 +192,7 @@ fn folds_beside(alloc: Global, one: &mut Volume) -> bool {
     }
 }
 
-/// The same of two volumes of many files.
+/// Whether the lists of two volumes of many files fold.
 fn fold(alloc: Global) -> bool {
     match filled_volume(alloc) {
         Some(mut one) => folds_beside(alloc, &mut one),

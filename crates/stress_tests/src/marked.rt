@@ -20,7 +20,7 @@ fn installs<J: Naming, R: Wait>(rt: &R, alloc: Global, mut flusher: Flusher<J>) 
     flusher.turn(rt, alloc, &mut Nothing) == TurnReply::Installed
 }
 
-/// The same of a flusher of this engine.
+/// Whether a turn of a flusher of this engine takes a job and installs it.
 fn installs_with<J: Naming, R: Wait>(rt: &R, alloc: Global, engine: &mut Engine<J>) -> bool {
     match engine.flusher() {
         Ok(flusher) => installs(rt, alloc, flusher),
@@ -28,7 +28,7 @@ fn installs_with<J: Naming, R: Wait>(rt: &R, alloc: Global, engine: &mut Engine<
     }
 }
 
-/// The same of an engine in this room.
+/// Whether a turn of a flusher of an engine in this room takes a job and installs it.
 fn installs_in<J: Naming, R: Wait>(rt: &R, alloc: Global, room: Room) -> bool
     requires { (room.0 ≡ J.table) × (room.1 ≡ J.opening) × (J.clients ≡ 1) }
 {

@@ -193,7 +193,7 @@ fn beside<J: Naming + Send + Sync, R: Threads + Wait + Sync>(
     tally.is_right(CLIENTS as u64)
 }
 
-/// The same of clients and flushers of an engine in the room.
+/// Whether the clients of an engine in the room are answered as they may be beside flushers, and enough jobs are installed and stale.
 fn in_room<J: Naming + Send + Sync, R: Threads + Wait + Sync>(
     rt: &R,
     alloc: Global,
@@ -208,12 +208,12 @@ fn in_room<J: Naming + Send + Sync, R: Threads + Wait + Sync>(
     }
 }
 
-/// The same under a name.
+/// Whether the clients of an engine in the room, under a name, are answered as they may be beside flushers.
 fn run<R: Threads + Wait + Sync>(rt: &R, alloc: Global, room: Room, course: Course) -> bool {
     in_room::<Brand, R>(rt, alloc, room, course)
 }
 
-/// The same of an engine over many files, which the first snapshot keeps.
+/// Whether the clients of an engine over many files, which the first snapshot keeps, are answered as they may be beside flushers.
 fn is_right<R: Threads + Wait + Sync>(rt: &R, alloc: Global, course: Course) -> bool {
     match kept_room(alloc) {
         Some(room) => run(rt, alloc, room, course),

@@ -27,7 +27,8 @@ pub enum Course {
     Rests,
     /// Now and then one of them restores the first snapshot, between taking a job and installing it.
     First,
-    /// The same with a snapshot that a client has kept meanwhile, or the first where there is none.
+    /// Now and then one of them restores a snapshot that a client has kept meanwhile, or else the first, between taking a job and
+    /// installing it.
     Later,
 }
 

@@ -30,7 +30,7 @@ fn condenses(alloc: Global, volume: &mut Volume) -> bool {
         && waiting(volume, Index::Block) == 1
 }
 
-/// The same of a new volume.
+/// Whether a thousand writes of a byte leave one message in each index of a new volume, beside that of the root directory.
 fn condenses_anew(alloc: Global) -> bool {
     match new_volume(alloc, USUAL) {
         Ok(mut volume) => condenses(alloc, &mut volume),
@@ -73,7 +73,7 @@ fn leaves(alloc: Global, volume: &mut Volume, later: u64, wanted: u128) -> bool 
         && waiting(volume, Index::Block) == 0
 }
 
-/// The same of a new volume.
+/// Whether so many messages wait in a new volume once a thousand files are made in one directory.
 fn leaves_anew(alloc: Global, later: u64, wanted: u128) -> bool {
     match new_volume(alloc, USUAL) {
         Ok(mut volume) => leaves(alloc, &mut volume, later, wanted),

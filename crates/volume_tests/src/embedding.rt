@@ -105,7 +105,7 @@ fn is_kept(alloc: Global, volume: &mut Volume) -> bool {
         && had(alloc, volume, 5)
 }
 
-/// The same in a new volume.
+/// Whether each line in a new volume is answered as it must be.
 fn is_kept_anew(alloc: Global) -> bool {
     match new_volume(alloc, USUAL) {
         Ok(mut volume) => is_kept(alloc, &mut volume),

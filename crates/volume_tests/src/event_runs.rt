@@ -321,7 +321,7 @@ fn see_beside(alloc: Global, seed: u32, volume: &mut Volume) -> Seen {
     }
 }
 
-/// The same of a volume made here.
+/// What is seen of a volume made here, beside a plain program.
 fn see(alloc: Global, seed: u32, shape: Shape) -> Seen {
     match new_volume(alloc, shape) {
         Ok(mut volume) => see_beside(alloc, seed, &mut volume),

@@ -212,7 +212,7 @@ fn are_followed(alloc: Global, volume: &mut Volume, row: Row) -> bool {
     true
 }
 
-/// The same of a new volume.
+/// Whether each run in a new volume has the answers of its turns.
 fn is_followed(alloc: Global, row: Row) -> bool {
     match new_volume(alloc, SMALL) {
         Ok(mut volume) => are_followed(alloc, &mut volume, row),
@@ -251,10 +251,11 @@ const ACTS: &[Act] = &[
     Act::Take(Some(2)),
 ];
 
-/// The ticket of a job that is taken at the first slot of the metadata's root, and let go.
+/// The ticket of a job that is taken at the first slot of the metadata's root, if its child can have one more owner. All is let
+/// go.
 fn taken(alloc: Global, volume: &mut Volume) -> Option<u64> {
     match volume.take_job(alloc, Index::Meta, 0) {
-        TakeReply::Taken(job) => Some(job.ticket().number),
+        TakeReply::Taken(job) => job.subtree().is_some().then_some(job.ticket().number),
         _ => None,
     }
 }
@@ -286,7 +287,7 @@ fn count_done(alloc: Global, volume: &mut Volume) -> usize {
     count
 }
 
-/// The same behind the opening.
+/// How many acts behind the opening come out as they say, before the first that does not.
 fn count_behind_opening(alloc: Global, volume: &mut Volume) -> usize {
     if !follows(alloc, volume, OPENING) {
         return 0;
@@ -294,7 +295,7 @@ fn count_behind_opening(alloc: Global, volume: &mut Volume) -> usize {
     count_done(alloc, volume)
 }
 
-/// The same of a new volume.
+/// How many acts in a new volume, behind the opening, come out as they say, before the first that does not.
 fn count_in_new(alloc: Global) -> usize {
     match new_volume(alloc, SMALL) {
         Ok(mut volume) => count_behind_opening(alloc, &mut volume),
@@ -340,7 +341,7 @@ fn installs(alloc: Global, volume: &mut Volume) -> bool {
         && answers(alloc, volume, Ask::Readdir("/"), SIX)
 }
 
-/// The same of a new volume, behind the opening.
+/// Whether in a new volume, behind the opening, the first of two jobs is cancelled and the second is installed.
 fn installs_behind_opening(alloc: Global) -> bool {
     match new_volume(alloc, SMALL) {
         Ok(mut volume) => { follows(alloc, &mut volume, OPENING) && installs(alloc, &mut volume) }

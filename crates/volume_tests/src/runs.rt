@@ -165,7 +165,7 @@ fn answered_in(alloc: Global, volume: &mut Volume, turns: &[Turn<'_>]) -> (usize
     }
 }
 
-/// The same of a run in a new volume.
+/// How many answers a run in a new volume has, and how many of them are those of the turns, before the first that is not.
 fn answered(alloc: Global, turns: &[Turn<'_>]) -> (usize, usize) {
     match new_volume(alloc, SMALL) {
         Ok(mut volume) => answered_in(alloc, &mut volume, turns),

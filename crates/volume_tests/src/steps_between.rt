@@ -113,7 +113,7 @@ const TURNS: &[u32] = &[0, 1, 1_000];
 #[test]
 fn directory_comes_again_whatever_steps_are_done(rt: HostRuntime) {
     for turns in TURNS {
-        assert_eq!(rt; told(rt.alloc(), *turns, 0), Some(0));
+        assert_eq!(rt; told(rt.alloc(), *turns, 0), Some(0), "{turns}");
     }
 }
 

@@ -38,7 +38,7 @@ fn is_told_of(alloc: Global, volume: &mut Volume) -> bool {
         && waiting(volume, Index::Block) == 1
 }
 
-/// The same of a new volume.
+/// Whether each index of a new volume is told of by itself.
 fn new_is_told_of(alloc: Global) -> bool {
     match new_volume(alloc, SMALL) {
         Ok(mut volume) => is_told_of(alloc, &mut volume),
@@ -64,7 +64,7 @@ fn is_relieved(alloc: Global, volume: &mut Volume, bytes: &[u8], index: Index) -
         && matches!(volume.relieve(alloc), Some(relief) if relief.step.index == index)
 }
 
-/// The same of a new volume.
+/// Whether relief of a new volume takes this index, once a file is made and bytes are written.
 fn new_is_relieved(alloc: Global, bytes: &[u8], index: Index) -> bool {
     match new_volume(alloc, USUAL) {
         Ok(mut volume) => is_relieved(alloc, &mut volume, bytes, index),
@@ -109,7 +109,7 @@ fn stays_beside(alloc: Global, volume: &mut Volume, before: &Frozen) -> bool {
         && has_file(alloc, before)
 }
 
-/// The same of a file that is made before.
+/// Whether a file is made, goes from the live tree, and stays in one that stood before.
 fn stays(alloc: Global, volume: &mut Volume) -> bool {
     if !answers(alloc, volume, Ask::Create("/f"), Told::Done)
         || !answers(alloc, volume, Ask::Write("/f", 0, b"\xaa"), Told::Count(1))
@@ -122,7 +122,7 @@ fn stays(alloc: Global, volume: &mut Volume) -> bool {
     }
 }
 
-/// The same in a new volume.
+/// Whether a file of a new volume goes from the live tree, and stays in one that stood before.
 fn new_stays(alloc: Global) -> bool {
     match new_volume(alloc, SMALL) {
         Ok(mut volume) => stays(alloc, &mut volume),

@@ -1,9 +1,9 @@
 //! The work: each client makes the files of a directory of its own, writes a few bytes to each, and asks for each.
+use crate::paths::path_of;
 use bytes::Bytes;
 use engine::{Client, Naming};
 use pathkey::Path;
 use reference::{Call, Reply};
-use samples::ask::path;
 use std::alloc::Global;
 use std::sync::Wait;
 use volume::Volume;
@@ -86,7 +86,7 @@ impl Share {
     fn directory(self, alloc: Global) -> Option<Path> {
         let client = self.client;
         match format!(in alloc; "/c{client}") {
-            Ok(text) => parse(alloc, &text),
+            Ok(text) => path_of(alloc, &text),
             Err(_) => None,
         }
     }
@@ -98,7 +98,7 @@ impl Share {
             .wrapping_mul(0x9E37_79B9_7F4A_7C15)
             .checked_rem(self.files)?;
         match format!(in alloc; "/c{client}/f{number}") {
-            Ok(text) => parse(alloc, &text),
+            Ok(text) => path_of(alloc, &text),
             Err(_) => None,
         }
     }
@@ -120,11 +120,6 @@ pub fn calls_of(kind: Kind, files: u64) -> u64 {
         Kind::Mkdir => 1,
         _ => files,
     }
-}
-
-/// The path of a text.
-pub fn parse(alloc: Global, text: &String) -> Option<Path> {
-    path(alloc, text.as_str()).ok()
 }
 
 /// The call that writes to a file.

@@ -1,5 +1,5 @@
 //! The files and snapshots that all clients share, by their numbers.
-use crate::clients::work::parse;
+use crate::paths::path_of;
 use engine::{Path, Shape, SnapName, Volume};
 use std::alloc::Global;
 
@@ -31,7 +31,7 @@ pub struct Names {
 /// The path of the directory of a number.
 fn directory(alloc: Global, number: usize) -> Option<Path> {
     match format!(in alloc; "/d{number}") {
-        Ok(text) => parse(alloc, &text),
+        Ok(text) => path_of(alloc, &text),
         Err(_) => None,
     }
 }
@@ -40,7 +40,7 @@ fn directory(alloc: Global, number: usize) -> Option<Path> {
 fn file(alloc: Global, number: usize) -> Option<Path> {
     let directory = number / FILES_EACH;
     match format!(in alloc; "/d{directory}/f{number}") {
-        Ok(text) => parse(alloc, &text),
+        Ok(text) => path_of(alloc, &text),
         Err(_) => None,
     }
 }

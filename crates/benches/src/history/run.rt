@@ -58,7 +58,7 @@ fn beside<J: Naming + Send + Sync, R: Threads + Wait + Sync>(
     watch.turns()
 }
 
-/// The same of an engine in the room; none where memory is refused.
+/// The clients of an engine in the room work beside flushers. How many turns these made; none where memory is refused.
 fn in_room<J: Naming + Send + Sync, R: Threads + Wait + Sync>(
     rt: &R,
     alloc: Global,

@@ -65,7 +65,7 @@ pub fn look_ups(rt: &(impl Clock + Print), alloc: Global) -> anyhow::Result<()> 
     look_ups_in(rt, alloc, &mut tree)
 }
 
-/// The same in this tree.
+/// Look-ups in this tree, settled and then with messages that wait in its root, and in a map of the same keys.
 fn look_ups_in(
     rt: &(impl Clock + Print),
     alloc: Global,
@@ -77,7 +77,7 @@ fn look_ups_in(
     look_ups_beside(rt, alloc, tree, &mut BTreeMap::new(alloc))
 }
 
-/// The same in this settled tree and in this map, which gets the same keys.
+/// Look-ups in this settled tree and then with messages that wait in its root, and in this map, which gets the same keys.
 fn look_ups_beside(
     rt: &(impl Clock + Print),
     alloc: Global,

@@ -121,7 +121,7 @@ pub fn look_up(alloc: Global, tree: &Tree<Set>, numbers: Numbers) -> Result<u64,
     Ok(found)
 }
 
-/// The same inserts into a map.
+/// Puts the keys into a map in turn.
 pub fn insert(
     alloc: Global,
     map: &mut BTreeMap<Key, u64>,
@@ -135,7 +135,7 @@ pub fn insert(
     Ok(())
 }
 
-/// The same look-ups in a map.
+/// Looks the keys up in a map in turn; gives how many were found.
 pub fn look_up_map(
     alloc: Global,
     map: &BTreeMap<Key, u64>,

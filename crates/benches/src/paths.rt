@@ -1,0 +1,9 @@
+//! Paths that are made as texts.
+use pathkey::Path;
+use samples::ask::path;
+use std::alloc::Global;
+
+/// The path of a text.
+pub fn path_of(alloc: Global, text: &String) -> Option<Path> {
+    path(alloc, text.as_str()).ok()
+}
