@@ -321,6 +321,10 @@ def lists():
     # The first change behind a snapshot copies no message that waits in the root.
     waiting = ("mkdir /d", *(f"create /d/f{number:05}" for number in range(65_536)))
     yield Scene("lists", ("betr",), waiting, judged="more", lines=("snapshot s", "write /d/f00000 0 61"), too_many=2_000)
+    # A patch is put among the layers that wait for its block, without a copy of them: three requests a line, not six.
+    layers = ("create /f", *(f"write /f {64 * place} 61" for place in range(60)))
+    patches = tuple(f"write /f {64 * place + 32} 62" for place in range(60))
+    yield Scene("lists", ("betr",), layers, judged="more", lines=patches, too_many=240)
 
 
 def all_scenes():
