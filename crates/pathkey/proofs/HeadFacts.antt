@@ -1,11 +1,11 @@
 -- Heads compare as the lists of bytes do.
-use Rattle.std.proofs.Common.{◌≡◌, ◌≢◌, ℕ, zero, suc, ◌+◌, ◌-◌, ◌*◌, ◌^◌, ◌<◌, ◌≤◌, List, [], ◌∷◌, length, drop, get_or, ap, refl, sym, subst, ◌∙◌, Ordering, arith, ◌⊎◌, inl, inr, ⊎_elim, Fits}
+use Rattle.std.proofs.Common.{◌≡◌, ◌≢◌, ℕ, zero, suc, ◌+◌, ◌-◌, ◌*◌, ◌^◌, ◌<◌, ◌≤◌, List, [], ◌∷◌, length, take, drop, get_or, ap, refl, sym, subst, ◌∙◌, Ordering, arith, ◌⊎◌, inl, inr, ⊎_elim, Fits}
 use Rattle.std.specs.Int.{w8, w64, from_be_bytes}
 use Rattle.std.specs.Ordering.{nat_cmp, ordering_then, ordering_reverse}
 use Rattle.std.specs.declared.cmp.Ordering.TheVariants.{Less, Greater}
 use Rattle.std.proofs.Math.Nat.{pow-suc, mul_comm, one-le-pow, le-mul_of_pos_right}
 use Rattle.std.proofs.lemmas.Nat.{mul-add-lt, same_from_place}
-use Rattle.std.proofs.lemmas.Bool.{cases_order}
+use Rattle.std.proofs.lemmas.Bool.{cases_lt, cases_order}
 use Rattle.std.proofs.lemmas.List.Elements.{All-from_get_or, recursion_from_All}
 use Rattle.std.proofs.lemmas.Cmp.{nat_list_cmp_total}
 use Rattle.pathkey.specs.Order.{by_bytes}
@@ -31,7 +31,7 @@ first_decides : (p x y h k : ℕ) → x < y → h < p → x * p + h < y * p + k
 first_decides p x y h k l f = omega (arith, mul-add-lt x p h y l f, mul_comm p y)
 
 -- one first byte leaves the order to what follows
-one_first : (x y : ℕ) (a b : List ℕ) → x ≡ y → by_bytes (x ∷ a) (y ∷ b) ≡ by_bytes a b
+pub one_first : (x y : ℕ) (a b : List ℕ) → x ≡ y → by_bytes (x ∷ a) (y ∷ b) ≡ by_bytes a b
 one_first x y a b e = ap (λ (o : Ordering). ordering_then o (by_bytes a b)) (ap (λ (z : ℕ). nat_cmp x z) (sym e) ∙ cmp_equal x)
 
 -- the lesser head is of the lesser list
@@ -117,6 +117,34 @@ more (suc k) n (suc j) (x ∷ a) (y ∷ b) u v i f g e d =
     let rest = tails k x y a b u.1 v.1 e in
     let ih : head j a ≡ head j b = more k n j a b u.1 v.1 (omega arith) (omega arith) (omega arith) rest.1 d in
     ap (λ (z : ℕ). z * 256 ^ j + head j a) rest.0 ∙ ap (λ (h : ℕ). y * 256 ^ j + h) ih
+
+-- equal heads are of lists that begin alike, as far as both go
+pub begin_alike : (k n : ℕ) (a b : List ℕ) → AreBytes a → AreBytes b → k ≤ n → k ≤ length a → k ≤ length b → head n a ≡ head n b → take k a ≡ take k b
+begin_alike zero n a b u v l f g e = refl
+begin_alike (suc k) zero a b u v l f g e = absurd (omega arith)
+begin_alike (suc k) (suc n) [] b u v l f g e = absurd (omega arith)
+begin_alike (suc k) (suc n) (x ∷ a) [] u v l f g e = absurd (omega arith)
+begin_alike (suc k) (suc n) (x ∷ a) (y ∷ b) u v l f g e =
+    let rest = tails n x y a b u.1 v.1 e in
+    ap (λ (z : ℕ). z ∷ take k a) rest.0 ∙ ap (λ (t : List ℕ). y ∷ t) (begin_alike k n a b u.1 v.1 (omega arith) (omega arith) (omega arith) rest.1)
+
+-- the head of the first bytes
+head_taken : (n : ℕ) (a : List ℕ) → head n a ≡ head n (take n a)
+head_taken zero a = refl
+head_taken (suc n) [] = refl
+head_taken (suc n) (x ∷ a) = ap (λ (h : ℕ). x * 256 ^ n + h) (head_taken n a)
+
+-- lists that begin alike have equal heads
+pub heads_alike : (n : ℕ) (a b : List ℕ) → take n a ≡ take n b → head n a ≡ head n b
+heads_alike n a b e = head_taken n a ∙ ap (head n) e ∙ sym (head_taken n b)
+
+-- where a comparison begins: behind eight bytes at least
+pub begins_at : (skip from : ℕ) (a b : List ℕ) → (skip < 8 → (from ≡ 8) × (head_of a ≡ head_of b)) → (8 ≤ skip → from ≡ skip) → take skip a ≡ take skip b → head from a ≡ head from b
+begins_at skip from a b few many e =
+    ⊎_elim
+    (λ (l : skip < 8). subst (λ (n : ℕ). head n a ≡ head n b) (sym (few l).0) (few l).1)
+    (λ (m : 8 ≤ skip). subst (λ (n : ℕ). head n a ≡ head n b) (sym (many m)) (heads_alike skip a b e))
+    (cases_lt skip 8)
 
 -- heads at a place up to which the bytes are one
 module _ (n k : ℕ) (a b : List ℕ) (u : AreBytes a) (v : AreBytes b) (e : head n a ≡ head n b) (l : k ≤ n) (f : k ≤ length a) (g : k ≤ length b) where

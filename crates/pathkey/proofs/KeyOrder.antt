@@ -1,9 +1,12 @@
 -- The order of two and three keys: one stands before another, or at or before it.
-use Rattle.std.proofs.Common.{◌≡◌, ℕ, true, false, List, [], ◌∷◌, refl, ap, sym, ◌∙◌, Ordering}
+use Rattle.std.proofs.Common.{◌≡◌, ℕ, zero, suc, ◌<◌, ◌≤◌, true, false, List, [], ◌∷◌, take, refl, ap, sym, subst, ◌∙◌, ⊎_elim, Ordering}
 use Rattle.std.specs.declared.cmp.Ordering.TheVariants.{Less, Equal, Greater}
-use Rattle.std.specs.Ordering.{is_lt, is_le, ordering_reverse}
+use Rattle.std.specs.Ordering.{is_lt, is_le, ordering_reverse, ordering_then}
+use Rattle.std.proofs.lemmas.Bool.{cases_order}
+use Rattle.std.proofs.lemmas.List.{take-take}
 use Rattle.pathkey.specs.Order.{by_bytes, by_bytes_total}
-use Rattle.pathkey.proofs.OrderFacts.{tied, equal}
+use Rattle.pathkey.proofs.OrderFacts.{tied, equal, cmp_less, cmp_greater}
+use Rattle.pathkey.proofs.HeadFacts.{one_first}
 
 -- ---- two keys compared both ways
 
@@ -108,3 +111,37 @@ pub behind : (x y k : List ℕ) → by_bytes x y ≡ Less → by_bytes k y ≡ G
 behind x y k l g =
     let back : by_bytes y k ≡ Less = by_bytes_total.antisymm y k ∙ ap ordering_reverse g in
     by_bytes_total.antisymm k x ∙ ap ordering_reverse (by_bytes_total.trans x y k l back)
+
+-- ---- first bytes
+
+-- keys are one where each stands at the other or before it
+both_ways : (o p : Ordering) → p ≡ ordering_reverse o → is_le o ≡ true → is_le p ≡ true → o ≡ Equal
+both_ways Less p e h k = absurd (cc)
+both_ways Equal p e h k = refl
+both_ways Greater p e h k = absurd (cc)
+
+pub one_key : (a b : List ℕ) → is_le (by_bytes a b) ≡ true → is_le (by_bytes b a) ≡ true → a ≡ b
+one_key a b h k = equal a b (both_ways (by_bytes a b) (by_bytes b a) (by_bytes_total.antisymm b a) h k)
+
+-- the first bytes of keys stand in the keys' order
+pub first_bytes : (n : ℕ) (a b : List ℕ) → is_le (by_bytes a b) ≡ true → is_le (by_bytes (take n a) (take n b)) ≡ true
+first_bytes zero a b h = refl
+first_bytes (suc n) [] b h = from_start (take (suc n) b)
+first_bytes (suc n) (x ∷ a) [] h = absurd (cc)
+first_bytes (suc n) (x ∷ a) (y ∷ b) h =
+    ⊎_elim (λ (e : x ≡ y). ap is_le (one_first x y (take n a) (take n b) e) ∙ first_bytes n a b (sym (ap is_le (one_first x y a b e)) ∙ h))
+    (⊎_elim
+    (λ (l : x < y). ap (λ (o : Ordering). is_le (ordering_then o (by_bytes (take n a) (take n b)))) (cmp_less x y l))
+    (λ (l : y < x). absurd (let no : is_le (ordering_then Greater (by_bytes a b)) ≡ true = subst (λ (o : Ordering). is_le (ordering_then o (by_bytes a b)) ≡ true) (cmp_greater x y l) h in cc)))
+    (cases_order x y)
+
+-- and fewer of them in that of more
+fewer_bytes : (n m : ℕ) (a b : List ℕ) → n ≤ m → is_le (by_bytes (take m a) (take m b)) ≡ true → is_le (by_bytes (take n a) (take n b)) ≡ true
+fewer_bytes n m a b l h =
+    ap (λ (t : List ℕ). is_le (by_bytes t (take n b))) (sym (take-take n m a l))
+    ∙ ap (λ (t : List ℕ). is_le (by_bytes (take n (take m a)) t)) (sym (take-take n m b l))
+    ∙ first_bytes n (take m a) (take m b) h
+
+-- a key between two that begin as a third does begins so too
+pub between_alike : (n m j : ℕ) (k x : List ℕ) → n ≤ m → n ≤ j → is_le (by_bytes (take m k) (take m x)) ≡ true → is_le (by_bytes (take j x) (take j k)) ≡ true → take n x ≡ take n k
+between_alike n m j k x l g low high = one_key (take n x) (take n k) (fewer_bytes n j x k g high) (fewer_bytes n m k x l low)

@@ -1,6 +1,6 @@
 pub mod OrderFacts
-pub mod KeyOrder
 pub mod HeadFacts
+pub mod KeyOrder
 pub mod KeyFacts
 pub mod Pieces
 pub mod ComponentFacts

@@ -1,11 +1,11 @@
 //! Keys: byte strings in byte order.
-ghost use Rattle.std.specs.Prelude.{◌≡◌, ◌≤◌, [], ◌∷◌, ◌++◌, length, IfOk, map, slice_index_or};
+ghost use Rattle.std.specs.Prelude.{◌≡◌, ◌≤◌, [], ◌∷◌, ◌++◌, length, take, IfOk, map, slice_index_or};
 ghost use Rattle.std.specs.Cmp.{partial_order_from_agreeing_total};
 ghost use Rattle.std.specs.Ordering.{as_partial_cmp, eq_by_cmp};
 ghost use Rattle.std.proofs.Common.{refl};
 ghost use Rattle.pathkey.specs.Texts.{null_for_slash};
 ghost use Rattle.pathkey.specs.Keys.{next_key};
-ghost use Rattle.pathkey.specs.Heads.{head_of, IsHeaded};
+ghost use Rattle.pathkey.specs.Heads.{head, head_of, IsHeaded};
 ghost use Rattle.pathkey.specs.Order.{by_bytes, by_bytes_total, by_bytes_equiv, by_bytes_partial_equiv};
 
 use crate::errno::NoMemory;
@@ -109,6 +109,19 @@ impl Key {
         self.head
     }
 
+    /// The order to another key whose first `skip` bytes are the same, and how many leading bytes were seen to be. A search
+    /// among keys that begin alike goes on behind these bytes.
+    #[inline]
+    pub fn cmp_from(&self, other: &Key, skip: usize) -> (Ordering, usize)
+        ensures order { take skip self.now ≡ take skip other.now → result.0 ≡ by_bytes self.now other.now }
+        ensures same { take skip self.now ≡ take skip other.now → take result.1 self.now ≡ take result.1 other.now }
+    {
+        if skip < HEAD && self.head != other.head {
+            return (self.head.cmp(&other.head), 0);
+        }
+        order_from(self.as_bytes(), other.as_bytes(), skip.max(HEAD))
+    }
+
     /// An equal key.
     pub fn copy(&self, alloc: Global) -> Result<Key, NoMemory>
         ensures { IfOk result (λ k. k ≡ self.now) }
@@ -165,7 +178,7 @@ impl Ord for Key {
         if self.head != other.head {
             return self.head.cmp(&other.head);
         }
-        order_behind_heads(self.as_bytes(), other.as_bytes())
+        order_from(self.as_bytes(), other.as_bytes(), HEAD).0
     }
 }
 
@@ -200,20 +213,23 @@ fn byte_at(bytes: &[u8], index: usize) -> u8
     if index < bytes.len() { bytes[index] } else { 0 }
 }
 
-// The order of byte strings whose heads are equal: eight bytes after eight, of which the last eight may overlap those before.
-fn order_behind_heads(left: &[u8], right: &[u8]) -> Ordering
-    requires { head_of left.now ≡ head_of right.now }
-    ensures { result ≡ by_bytes left.now right.now }
+// The order of byte strings whose first `skip` bytes are the same, where zeros stand behind fewer, and how many leading bytes were
+// seen to be: eight bytes after eight, of which the last eight may overlap those before.
+#[inline]
+fn order_from(left: &[u8], right: &[u8], skip: usize) -> (Ordering, usize)
+    requires { 8 ≤ skip }
+    ensures order { head skip left.now ≡ head skip right.now → result.0 ≡ by_bytes left.now right.now }
+    ensures same { head skip left.now ≡ head skip right.now → take result.1 left.now ≡ take result.1 right.now }
 {
     let both = left.len().min(right.len());
-    let mut same = HEAD;
+    let mut same = skip;
     while same < both {
         let at = same.min(both - HEAD);
         let (head, other) = (whole_head(&left[at..]), whole_head(&right[at..]));
         if head != other {
-            return head.cmp(&other);
+            return (head.cmp(&other), same);
         }
         same = at + HEAD;
     }
-    left.len().cmp(&right.len())
+    (left.len().cmp(&right.len()), both)
 }
