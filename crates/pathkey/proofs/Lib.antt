@@ -5,4 +5,5 @@ pub mod KeyFacts
 pub mod Pieces
 pub mod ComponentFacts
 pub mod TextFacts
+pub mod PlainFacts
 pub mod PathFacts

@@ -16,10 +16,10 @@ use Rattle.std.specs.Cmp.{both_ways}
 use Rattle.pathkey.specs.Keys.{subtree}
 use Rattle.pathkey.specs.declared.range.KeyRange.{KeyRange}
 use Rattle.pathkey.specs.Enc.{enc}
-use Rattle.pathkey.specs.PathKeys.{IsPathKey}
+use Rattle.pathkey.specs.PathKeys.{IsPathKey, IsAfterLast}
 use Rattle.pathkey.proofs.OrderFacts.{same_true, same_from_eq}
 use Rattle.pathkey.proofs.KeyFacts.{under_from_key, enc-append, enc-join}
-use Rattle.pathkey.proofs.Pieces.{pieces_cut, not_empty}
+use Rattle.pathkey.proofs.Pieces.{pieces_cut, not_empty, last_piece}
 use Rattle.pathkey.proofs.TextFacts.{text_len_enc, enc_names_of, each_name, pieces_each, names_well_formed, names_short}
 
 -- a name has no byte 0
@@ -194,3 +194,9 @@ tests_decide key body ok e bytes short h =
                 (key_from_tests key body e bytes short em el)
           ] refl
     ] refl h
+
+-- the bytes behind the last byte 0 but that which ends a path's key are its last name
+pub last_of_key : (key body last : List ℕ) (end : ℕ) → IsPathKey key → key ≡ body ++ end ∷ [] → IsAfterLast 0 body last → Some last ≡ last_name (names_of key)
+last_of_key key body last end h e cut =
+    let zero : end ≡ 0 = key_ends (names_of key) body end (h.spelled ∙ e) in
+    sym (last_piece 0 body last cut) ∙ ap (λ (b : ℕ). last_name (names_of (body ++ b ∷ []))) (sym zero) ∙ ap (λ (k : List ℕ). last_name (names_of k)) (sym e)

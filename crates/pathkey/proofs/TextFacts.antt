@@ -233,7 +233,7 @@ slashed_pieces (b ∷ text) = elim (eqb b 47) as (λ t. eqb b 47 ≡ t → slash
 ] refl
 
 -- the length of a text with a slash before each name
-text_len_slashed : (p : Path) → text_len p ≡ length (slashed p)
+pub text_len_slashed : (p : Path) → text_len p ≡ length (slashed p)
 text_len_slashed [] = refl
 text_len_slashed (n ∷ p) = omega (arith, length-append n (slashed p), text_len_slashed p)
 

@@ -16,6 +16,10 @@ head_of bytes = head 8 bytes
 abbrev pub AreBytes : List ℕ → Type 0
 AreBytes bytes = AllByRecursion (λ b. b < 256) bytes
 
+-- the first n bytes of both are the same, where zeros stand behind fewer
+abbrev pub ShareHead : ℕ → List ℕ → List ℕ → Type 0
+ShareHead n left right = head n left ≡ head n right
+
 -- h is the head of these bytes
 pub record IsHeaded (h : ℕ) (items : List ℕ) : Type 0 where
   pub is_head : h ≡ head_of items

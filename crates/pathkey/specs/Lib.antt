@@ -2,6 +2,7 @@ pub mod Order
 pub mod Heads
 pub mod Names
 pub mod Texts
+pub mod PlainTexts
 pub mod Enc
 pub mod PathKeys
 pub mod Keys

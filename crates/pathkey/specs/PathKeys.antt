@@ -1,5 +1,5 @@
 -- Which keys are those of paths.
-use Rattle.std.specs.Prelude.{◌≡◌, ◌≢◌, ℕ, List, Option, Some, None}
+use Rattle.std.specs.Prelude.{◌≡◌, ◌≢◌, ◌⊎◌, ℕ, List, ◌∷◌, ◌++◌, Option, Some, None, All}
 use Rattle.pathkey.specs.Names.{Path, IsPath, EachName}
 use Rattle.pathkey.specs.Texts.{names_of}
 use Rattle.pathkey.specs.Enc.{enc}
@@ -18,3 +18,7 @@ pub record SpellsNames (key : List ℕ) : Type 0 where
 abbrev pub IsPathOf : List ℕ → Option Path → Type 0
 IsPathOf key None = (p : Path) → IsPath p → enc p ≢ key
 IsPathOf key (Some p) = IsPath p × (enc p ≡ key)
+
+-- the bytes behind the last separator; all of them where there is no separator
+abbrev pub IsAfterLast : ℕ → List ℕ → List ℕ → Type 0
+IsAfterLast separator bytes last = All (λ b. b ≢ separator) last × ((last ≡ bytes) ⊎ ((front : List ℕ) × (bytes ≡ front ++ separator ∷ last)))

@@ -3,11 +3,13 @@ ghost use Rattle.std.specs.Prelude.{◌≡◌, ◌≢◌, ◌<◌, [], ◌∷◌
 ghost use Rattle.std.specs.List.{list_any};
 ghost use Rattle.pathkey.specs.Texts.{is_dots, is_forbidden, is_malformed, is_long, component_faults};
 ghost use Rattle.pathkey.specs.Outcomes.{unless};
+ghost use Rattle.pathkey.specs.PlainTexts.{are_plain, is_plain_after};
+ghost use Rattle.pathkey.specs.PathKeys.{IsAfterLast};
 
 use crate::errno::Errno;
 
 /// The most bytes that a name has.
-const LONGEST_NAME: usize = 255;
+pub(crate) const LONGEST_NAME: usize = 255;
 
 /// Tests the components of the bytes: each is to be a file name, and none too long.
 pub(crate) fn check_components(bytes: &[u8], separator: u8) -> Result<(), Errno>
@@ -38,6 +40,42 @@ pub(crate) fn split_at_byte(bytes: &[u8], separator: u8) -> Option<(&[u8], &[u8]
     let end = place_of(bytes, separator)?;
     let (front, back) = bytes.split_at(end);
     Some((front, &back[1..]))
+}
+
+/// The bytes after the last separator; all of them where there is no separator.
+pub(crate) fn after_last(bytes: &[u8], separator: u8) -> &[u8]
+    ensures { IsAfterLast separator bytes.now result.now }
+{
+    let mut start = bytes.len();
+    while start > 0 && bytes[start - 1] != separator {
+        start -= 1;
+    }
+    &bytes[start..]
+}
+
+/// Whether the bytes are plain names between single slashes.
+pub(crate) fn are_plain(names: &[u8]) -> bool
+    ensures { result ≡ are_plain names.now }
+{
+    let mut begins = true;
+    for &byte in names {
+        if !is_plain_after(begins, byte) {
+            return false;
+        }
+        begins = byte == b'/';
+    }
+    !begins
+}
+
+// Whether plain names can go on with the byte, where it begins a name or does not.
+fn is_plain_after(begins: bool, byte: u8) -> bool
+    ensures { result ≡ is_plain_after begins byte }
+{
+    match byte {
+        b'/' | b'.' => !begins,
+        0 | b'%' => false,
+        _ => true,
+    }
 }
 
 // The place of the first separator.

@@ -5,7 +5,7 @@ ghost use Rattle.std.specs.Ordering.{as_partial_cmp, eq_by_cmp};
 ghost use Rattle.std.proofs.Common.{refl};
 ghost use Rattle.pathkey.specs.Texts.{null_for_slash};
 ghost use Rattle.pathkey.specs.Keys.{next_key};
-ghost use Rattle.pathkey.specs.Heads.{head, head_of, IsHeaded};
+ghost use Rattle.pathkey.specs.Heads.{head_of, ShareHead, IsHeaded};
 ghost use Rattle.pathkey.specs.Order.{by_bytes, by_bytes_total, by_bytes_equiv, by_bytes_partial_equiv};
 
 use crate::errno::NoMemory;
@@ -218,8 +218,8 @@ fn byte_at(bytes: &[u8], index: usize) -> u8
 #[inline]
 fn order_from(left: &[u8], right: &[u8], skip: usize) -> (Ordering, usize)
     requires { 8 ≤ skip }
-    ensures order { head skip left.now ≡ head skip right.now → result.0 ≡ by_bytes left.now right.now }
-    ensures same { head skip left.now ≡ head skip right.now → take result.1 left.now ≡ take result.1 right.now }
+    ensures order { ShareHead skip left.now right.now → result.0 ≡ by_bytes left.now right.now }
+    ensures same { ShareHead skip left.now right.now → take result.1 left.now ≡ take result.1 right.now }
 {
     let both = left.len().min(right.len());
     let mut same = skip;

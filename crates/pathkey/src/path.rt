@@ -1,13 +1,14 @@
 //! Paths, each kept as its key.
-ghost use Rattle.std.specs.Prelude.{◌≡◌, [], IfOk};
+ghost use Rattle.std.specs.Prelude.{◌≡◌, ◌≤◌, [], ◌∷◌, ◌++◌, length, map, IfOk, MatchOption, Ok, true, false};
 ghost use Rattle.std.specs.Option.{option_copied};
 ghost use Rattle.pathkey.specs.Names.{IsPath, is_root, parent_path, last_name, is_under, same_path};
 ghost use Rattle.pathkey.specs.Enc.{enc};
-ghost use Rattle.pathkey.specs.Texts.{names_of, parsed};
+ghost use Rattle.pathkey.specs.Texts.{names_of, null_for_slash, parsed};
+ghost use Rattle.pathkey.specs.PlainTexts.{is_plain};
 ghost use Rattle.pathkey.specs.PathKeys.{IsPathKey};
 ghost use Rattle.pathkey.specs.Outcomes.{IsOrLacksMemory};
 
-use crate::components::check_components;
+use crate::components::{LONGEST_NAME, after_last, are_plain, check_components};
 use crate::errno::{Errno, NoMemory};
 use crate::key::Key;
 use crate::names::Names;
@@ -73,6 +74,21 @@ impl Path {
         Ok(Path::of_key(key))
     }
 
+    /// The path that a plain text names; none if the text is not plain. It is `parse` for texts that need no decoding, in one
+    /// pass over the names.
+    pub fn parse_plain(alloc: Global, text: &[u8]) -> Result<Option<Path>, NoMemory>
+        ensures { IfOk result (λ path. MatchOption path (is_plain text.now ≡ false) (λ p. (is_plain text.now ≡ true) × (Ok p ≡ parsed text.now))) }
+    {
+        let Some((b'/', names)) = text.split_first() else {
+            return Ok(None);
+        };
+        if text.len() > LONGEST_NAME || !are_plain(names) {
+            return Ok(None);
+        }
+        let key = short_key(alloc, names)?;
+        Ok(Some(Path::of_key(key)))
+    }
+
     // The path whose key this is.
     pub(crate) fn of_key(key: Key) -> Path
         requires { IsPathKey key }
@@ -97,6 +113,15 @@ impl Path {
         &self.key
     }
 
+    /// The path's key, which is taken out of it.
+    pub fn into_key(self) -> Key
+        ensures value { result ≡ enc self }
+        ensures valid { IsPath self }
+    {
+        let Path { key } = self;
+        key
+    }
+
     /// The path's names, from the root down.
     pub fn names(&self) -> Names<'_>
         ensures value { result ≡ self.now }
@@ -116,12 +141,8 @@ impl Path {
     pub fn last(&self) -> Option<&[u8]>
         ensures { option_copied result ≡ last_name self.now }
     {
-        let (mut last, mut rest) = self.names().split_first()?;
-        while let Some((name, after)) = rest.split_first() {
-            last = name;
-            rest = after;
-        }
-        Some(last)
+        let (_, names) = self.key.as_bytes().split_last()?;
+        Some(after_last(names, 0))
     }
 
     /// The path without its last name; none for the root.
@@ -149,6 +170,25 @@ impl Path {
     {
         other.is_under(self) && self.is_under(other)
     }
+}
+
+// The key of a short text after its first slash. Its bytes are laid in an array first, as one copy of many bytes takes fewer steps
+// than a push of each.
+fn short_key(alloc: Global, names: &[u8]) -> Result<Key, NoMemory>
+    requires { length names.now ≤ 254 }
+    ensures { IfOk result (λ k. k ≡ map null_for_slash names.now ++ 0 ∷ []) }
+{
+    let mut bytes = [0; LONGEST_NAME];
+    let len = names.len();
+    for index in 0..len {
+        bytes[index] = if names[index] == b'/' {
+            0
+        } else {
+            names[index]
+        };
+    }
+    bytes[len] = 0;
+    Key::from_bytes(alloc, &bytes[..len + 1])
 }
 
 /// The path's text in quotes, with the escapes of a byte string.
