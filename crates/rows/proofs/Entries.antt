@@ -1,9 +1,9 @@
 -- Where a key stands among entries that rise, and what is made of them there.
-use Rattle.std.proofs.Common.{◌≡◌, ℕ, zero, suc, ◌-◌, ◌<◌, ◌≤◌, true, false, List, [], ◌∷◌, ◌++◌, length, take, drop, get_or, refl, ap, sym, ◌∙◌, subst, Option, Some, None, cond, arith, Ordering}
+use Rattle.std.proofs.Common.{◌≡◌, ℕ, zero, suc, ◌<◌, ◌≤◌, true, false, List, [], ◌∷◌, ◌++◌, length, take, drop, get_or, refl, ap, sym, ◌∙◌, subst, Option, Some, None, cond, arith, Ordering}
 use Rattle.std.specs.declared.cmp.Ordering.TheVariants.{Less, Equal, Greater}
-use Rattle.std.specs.Ordering.{nat_cmp, is_gt, is_le, is_eq, match_ordering, ordering_reverse}
+use Rattle.std.specs.Ordering.{nat_cmp, is_gt, is_eq, match_ordering, ordering_reverse}
 use Rattle.std.specs.List.{AllByRecursion, slice_get, slice_set, insert}
-use Rattle.std.specs.List.Sorted.{IsStrictlySortedBy, IsPartitionedBy, IsPartitionPoint}
+use Rattle.std.specs.List.Sorted.{IsStrictlySortedBy, IsPartitionPoint}
 use Rattle.std.specs.Map.{keys_of, set_value}
 use Rattle.std.specs.BTreeMap.{insert_entry, is_at}
 use Rattle.std.specs.Option.{option_map}
@@ -15,15 +15,10 @@ use Rattle.pathkey.specs.Heads.{IsHeaded}
 use Rattle.pathkey.specs.Order.{by_bytes, by_bytes_total, same}
 use Rattle.pathkey.proofs.HeadFacts.{order_of_heads}
 use Rattle.pathkey.proofs.OrderFacts.{same_true}
-use Rattle.pathkey.proofs.KeyOrder.{behind}
-use Rattle.rows.specs.Places.{Rises, BeginsHeaded, at_key, place, reaches, is_there, IsHolder, IsGap}
-use Rattle.rows.specs.Rows.{begins_by}
-use Rattle.rows.proofs.Lasts.{all_pass}
+use Rattle.rows.specs.Places.{Rises, BeginsHeaded, at_key, place, is_there, IsHolder, IsGap}
+use Rattle.rows.specs.Rows.{first_key}
 
 -- ---- heads
-
-head_test_le : (h i : ℕ) → i ≢ h → nat_lt i h ≡ is_le (nat_cmp i h)
-head_test_le h i d = grind (arith, nat_tests)
 
 head_test : (h i : ℕ) → nat_lt i h ≡ is_gt (nat_cmp h i)
 head_test h i = grind (arith, nat_tests)
@@ -34,18 +29,11 @@ before_by_heads h i k x a b d =
     let order : nat_cmp h i ≡ by_bytes k x = rw (a.is_head, b.is_head) (order_of_heads 8 k x a.are_bytes b.are_bytes (λ e. d (b.is_head ∙ sym e ∙ sym a.is_head))) in
     head_test h i ∙ ap is_gt order
 
--- likewise where one stands at the other or before it
-pub reaches_by_heads : (h i : ℕ) (k x : List ℕ) → IsHeaded h k → IsHeaded i x → i ≢ h → nat_lt i h ≡ is_le (by_bytes x k)
-reaches_by_heads h i k x a b d =
-    let order : nat_cmp i h ≡ by_bytes x k = rw (a.is_head, b.is_head) (order_of_heads 8 x k b.are_bytes a.are_bytes (λ e. d (b.is_head ∙ e ∙ sym a.is_head))) in
-    head_test_le h i d ∙ ap is_le order
+-- likewise by three outcomes
+pub order_by_heads : (h i : ℕ) (k x : List ℕ) → IsHeaded h k → IsHeaded i x → i ≢ h → nat_cmp i h ≡ by_bytes x k
+order_by_heads h i k x a b d = rw (a.is_head, b.is_head) (order_of_heads 8 x k b.are_bytes a.are_bytes (λ e. d (b.is_head ∙ e ∙ sym a.is_head)))
 
 -- ---- the search
-
-greater_from_gt : (o : Ordering) → is_gt o ≡ true → o ≡ Greater
-greater_from_gt Less h = (cc)
-greater_from_gt Equal h = (cc)
-greater_from_gt Greater h = refl
 
 not_before : (o : Ordering) (n : ℕ) → is_gt o ≡ false → match_ordering o 0 0 n ≡ 0
 not_before Less n h = refl
@@ -63,19 +51,10 @@ all_ahead k x [] l a = tt
 all_ahead k x (y ∷ ks) l a = (by_bytes_total.trans k x y l a.0, all_ahead k x ks l a.1)
 
 module _ {X : Type 0} where
-  first_less : (x : List ℕ) (bs : List (List ℕ × X)) (j : ℕ) (d : List ℕ × X) → AllByRecursion (λ y. by_bytes x y ≡ Less) (keys_of bs) → j < length bs → by_bytes x (get_or bs j d).0 ≡ Less
+  pub first_less : (x : List ℕ) (bs : List (List ℕ × X)) (j : ℕ) (d : List ℕ × X) → AllByRecursion (λ y. by_bytes x y ≡ Less) (keys_of bs) → j < length bs → by_bytes x (get_or bs j d).0 ≡ Less
   first_less x [] j d a h = absurd (omega arith)
   first_less x (b ∷ bs) zero d a h = a.0
   first_less x (b ∷ bs) (suc j) d a h = first_less x bs j d a.1 (omega arith)
-
-  pub partitioned : (k : List ℕ) (bs : List (List ℕ × X)) → Rises bs → IsPartitionedBy (λ (b : List ℕ × X). is_gt (by_bytes k b.0)) bs
-  partitioned k [] r i j d a h e = absurd (omega arith)
-  partitioned k (x ∷ bs) r zero zero d a h e = e
-  partitioned k (x ∷ bs) r zero (suc j) d a h e =
-      let less = first_less x.0 bs j d (sorted_head by_bytes x.0 (keys_of bs) r) (omega arith) in
-      ap is_gt (behind x.0 (get_or bs j d).0 k less (greater_from_gt (by_bytes k (get_or bs j d).0) e))
-  partitioned k (x ∷ bs) r (suc i) zero d a h e = absurd (omega arith)
-  partitioned k (x ∷ bs) r (suc i) (suc j) d a h e = partitioned k bs (sorted_tail by_bytes x.0 (keys_of bs) r) i j d (omega arith) (omega arith) e
 
   pub place_by_search : (k : List ℕ) (bs : List (List ℕ × X)) (i : ℕ) → i ≤ length bs → IsPartitionPoint (λ (b : List ℕ × X). is_gt (by_bytes k b.0) ≡ true) (λ (b : List ℕ × X). is_gt (by_bytes k b.0) ≡ false) bs i → i ≡ place k bs
   place_by_search k [] i b p = omega arith
@@ -84,14 +63,10 @@ module _ {X : Type 0} where
       let rest = place_by_search k bs i (omega arith) ((λ j d a h. p.0 (suc j) d (omega arith) (omega arith)), (λ j d a h. p.1 (suc j) d (omega arith) (omega arith))) in
       ap (λ n. suc n) rest ∙ sym (stands_before (by_bytes k x.0) (suc (place k bs)) (p.0 0 x (omega arith) (omega arith)))
 
-  -- the last entry stands before the key
-  pub all_before : (k : List ℕ) (es : List (List ℕ × X)) (e : List ℕ × X) → Rises es → Some e ≡ slice_get es (length es - 1) → is_gt (by_bytes k e.0) ≡ true → length es ≡ place k es
-  all_before k es e r h t = place_by_search k es (length es) (omega arith) (all_pass (λ (x : List ℕ × X). is_gt (by_bytes k x.0)) es e (partitioned k es r) h t)
-
   -- ---- whether the key is there
 
   -- whether the key is that of the entry
-  abbrev has_key : List ℕ → Option (List ℕ × X) → Bool
+  abbrev pub has_key : List ℕ → Option (List ℕ × X) → Bool
   has_key k None = false
   has_key k (Some b) = is_eq (by_bytes k b.0)
 
@@ -281,12 +256,8 @@ module _ {X : Type 0} where
   pub put_done : (k : List ℕ) (w : X) (es : List (List ℕ × X)) (i : ℕ) → IsGap k es i → insert es i (k, w) ≡ insert_entry by_bytes es k w
   put_done k w es i h = ap (λ n. insert es n (k, w)) h.number ∙ put_is (k, w) es h.absent
 
-  -- ---- the first entry and the head beside a row
+  -- ---- the head beside a row
 
-  pub headed_here : (h : ℕ) (es : List (List ℕ × X)) (e : List ℕ × X) → 0 < length es → e ≡ get_or es 0 e → BeginsHeaded h es → IsHeaded h e.0
-  headed_here h [] e l a b = absurd (omega (arith, l))
-  headed_here h (x ∷ es) e l a b = subst (λ (y : List ℕ × X). IsHeaded h y.0) (sym a) b
-
-  pub begins_here : (k : List ℕ) (es : List (List ℕ × X)) (e : List ℕ × X) → 0 < length es → e ≡ get_or es 0 e → reaches e.0 k ≡ begins_by k es
-  begins_here k [] e l a = absurd (omega (arith, l))
-  begins_here k (x ∷ es) e l a = ap (λ (y : List ℕ × X). reaches y.0 k) a
+  pub headed_first : (h : ℕ) (es : List (List ℕ × X)) → 0 < length es → BeginsHeaded h es → IsHeaded h (first_key es)
+  headed_first h [] l b = absurd (omega (arith, l))
+  headed_first h (x ∷ es) l b = b

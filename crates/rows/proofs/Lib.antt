@@ -1,10 +1,10 @@
 mod Cuts
 mod Entries
 mod Joins
-mod Lasts
 mod Lifts
 mod Nearest
 pub mod Parts
+mod Searching
 mod Spans
-mod TableFacts
 pub mod Striding
+mod TableFacts

@@ -1,18 +1,14 @@
 -- Rows one behind the other: which of them has a key, and what a change of that one makes of all.
-use Rattle.std.proofs.Common.{◌≡◌, ℕ, zero, suc, ◌+◌, ◌-◌, ◌<◌, ◌≤◌, true, false, List, [], ◌∷◌, ◌++◌, length, take, drop, get_or, refl, ap, sym, ◌∙◌, subst, cond, arith, append_assoc, append-nil, Some}
+use Rattle.std.proofs.Common.{◌≡◌, ℕ, zero, suc, ◌+◌, ◌<◌, ◌≤◌, true, false, List, [], ◌∷◌, ◌++◌, length, take, drop, get_or, refl, ap, sym, ◌∙◌, subst, cond, arith, append_assoc, append-nil}
 use Rattle.std.specs.declared.cmp.Ordering.TheVariants.{Less, Greater}
-use Rattle.std.specs.Ordering.{is_lt, is_le}
-use Rattle.std.specs.List.{AllByRecursion, slice_get, slice_set, insert}
-use Rattle.std.specs.List.Sorted.{IsStrictlySortedBy, IsPartitionedBy, IsPartitionPoint}
-use Rattle.std.specs.Map.{keys_of}
+use Rattle.std.specs.Ordering.{is_le}
+use Rattle.std.specs.List.{slice_set, insert}
+use Rattle.std.specs.List.Sorted.{IsStrictlySortedBy, IsPartitionPoint}
 use Rattle.std.proofs.lemmas.List.{length-take, length-drop, take-append-drop, take_more, drop_more, take_all, drop_all}
-use Rattle.std.proofs.lemmas.Map.Keys.{sorted_head}
 use Rattle.pathkey.specs.Order.{by_bytes}
-use Rattle.pathkey.proofs.KeyOrder.{lt_le, reaches-from_before}
-use Rattle.rows.specs.Places.{Rises, place, reaches, before, AreBefore, AreFrom}
+use Rattle.rows.specs.Places.{Rises, place, reaches, AreBefore, AreFrom}
 use Rattle.rows.specs.Rows.{joined, AreSized, AreRows, begins_by, row_number, number_in}
-use Rattle.rows.proofs.Lasts.{all_pass}
-use Rattle.rows.proofs.Parts.{AllBefore, AllBehind, AllFrom, weaker, all_append, are_before, are_from, before_row, behind_row, dropped_from, right_all, rises_left, rises_right, taken_before}
+use Rattle.rows.proofs.Parts.{AllBefore, AllBehind, AllFrom, weaker, all_append, are_before, are_from, before_row, behind_row, dropped_from, rises_left, rises_right, taken_before}
 
 module _ {X : Type 0} where
   -- ---- rows end to end
@@ -114,32 +110,12 @@ module _ {X : Type 0} where
         | false ↦ λ p l. p
       ] refl h
 
-  begins_in : (k x : List ℕ) (rs : List (List (List ℕ × X))) (j : ℕ) (d : List (List ℕ × X)) → AllByRecursion (λ y. by_bytes x y ≡ Less) (keys_of (joined rs)) → j < length rs → begins_by k (get_or rs j d) ≡ true → before x k ≡ true
-  begins_in k x [] j d a h e = absurd (omega arith)
-  begins_in k x ([] ∷ rs) zero d a h e = (cc)
-  begins_in k x ((y ∷ ys) ∷ rs) zero d a h e = lt_le x y.0 k (ap is_lt a.0) e
-  begins_in k x (r ∷ rs) (suc j) d a h e = begins_in k x rs j d (right_all (λ y. by_bytes x y ≡ Less) r (joined rs) a) (omega arith) e
-
-  pub rows_partitioned : (k : List ℕ) (rs : List (List (List ℕ × X))) → Rises (joined rs) → AreSized rs → IsPartitionedBy (begins_by k) rs
-  rows_partitioned k [] r f i j d a h e = absurd (omega arith)
-  rows_partitioned k (x ∷ rs) r f zero zero d a h e = e
-  rows_partitioned k ([] ∷ rs) r f zero (suc j) d a h e = absurd (let none = f.0 in omega arith)
-  rows_partitioned k ((y ∷ ys) ∷ rs) r f zero (suc j) d a h e =
-      let rest = right_all (λ z. by_bytes y.0 z ≡ Less) ys (joined rs) (sorted_head by_bytes y.0 (keys_of (ys ++ joined rs)) r) in
-      reaches-from_before y.0 k (begins_in k y.0 rs j d rest (omega arith) e)
-  rows_partitioned k (x ∷ rs) r f (suc i) zero d a h e = absurd (omega arith)
-  rows_partitioned k (x ∷ rs) r f (suc i) (suc j) d a h e = rows_partitioned k rs (rises_right x (joined rs) r) f.2 i j d (omega arith) (omega arith) e
-
   pub number_by_search : (k : List ℕ) (rs : List (List (List ℕ × X))) (i : ℕ) → i ≤ length rs → IsPartitionPoint (λ r. begins_by k r ≡ true) (λ r. begins_by k r ≡ false) rs i → i ≡ row_number k rs
   number_by_search k [] i b p = omega arith
   number_by_search k (r ∷ rs) zero b p = sym (ap (λ c. cond c (suc (row_number k rs)) 0) (p.1 0 r (omega arith) (omega arith)))
   number_by_search k (r ∷ rs) (suc i) b p =
       let rest = number_by_search k rs i (omega arith) ((λ j d a h. p.0 (suc j) d (omega arith) (omega arith)), (λ j d a h. p.1 (suc j) d (omega arith) (omega arith))) in
       ap (λ n. suc n) rest ∙ sym (ap (λ c. cond c (suc (row_number k rs)) 0) (p.0 0 r (omega arith) (omega arith)))
-
-  -- the last row begins at the key or before it
-  pub all_begin : (k : List ℕ) (rs : List (List (List ℕ × X))) (r : List (List ℕ × X)) → Rises (joined rs) → AreSized rs → Some r ≡ slice_get rs (length rs - 1) → begins_by k r ≡ true → length rs ≡ row_number k rs
-  all_begin k rs r q f h t = number_by_search k rs (length rs) (omega arith) (all_pass (λ (x : List (List ℕ × X)). begins_by k x) rs r (rows_partitioned k rs q f) h t)
 
   pub get_drop : (n : ℕ) (rs : List (List (List ℕ × X))) → get_or (drop n rs) 0 [] ≡ get_or rs n []
   get_drop zero rs = refl

@@ -18,6 +18,11 @@ module _ {X : Type 0} where
     pub rises : Rises (joined rs)
     pub sized : AreSized rs
 
+  -- the first key of a row
+  abbrev pub first_key : List (List ℕ × X) → List ℕ
+  first_key [] = []
+  first_key (e ∷ es) = e.0
+
   -- a row begins at the key or before it
   abbrev pub begins_by : List ℕ → List (List ℕ × X) → Bool
   begins_by k [] = false

@@ -1,13 +1,14 @@
 //! One entry, in a place of its own that several rows may share.
-ghost use Rattle.std.specs.Prelude.{◌≡◌, OnOk, OnErr, IfOk, IfErr};
+ghost use Rattle.std.specs.Prelude.{◌≡◌, take, OnOk, OnErr, IfOk, IfErr};
 ghost use Rattle.std.specs.Ordering.{is_gt};
-ghost use Rattle.pathkey.specs.Order.{by_bytes, same};
+ghost use Rattle.pathkey.specs.Order.{by_bytes};
 ghost use Rattle.pathkey.specs.Heads.{IsHeaded};
 
 use crate::edit::Edit;
 use crate::stored::Stored;
 use pathkey::{Key, NoMemory};
 use std::alloc::Global;
+use std::cmp::Ordering;
 use std::marker::Model;
 use std::sync::Arc;
 
@@ -79,12 +80,18 @@ impl<T: Stored> Item<T> {
         key.cmp(self.key()).is_gt()
     }
 
-    /// Whether the entry has the key.
+    /// The order to a key whose first `skip` bytes are the same, and how many leading bytes were seen to be. Heads that differ
+    /// say it alone.
     #[inline(always)]
-    pub(crate) fn is_at(&self, key: &Key) -> bool
-        ensures { result ≡ same key.now self.now.0 }
+    pub(crate) fn cmp_from(&self, key: &Key, skip: usize) -> (Ordering, usize)
+        ensures order { take skip self.now.0 ≡ take skip key.now → result.0 ≡ by_bytes self.now.0 key.now }
+        ensures same { take skip self.now.0 ≡ take skip key.now → take result.1 self.now.0 ≡ take result.1 key.now }
     {
-        self.head == key.head() && *key == *self.key()
+        let head = key.head();
+        if self.head != head {
+            return (self.head.cmp(&head), 0);
+        }
+        self.key().cmp_from(key, skip)
     }
 
     /// The same entry in the same place, which both items then share.

@@ -10,8 +10,8 @@
 //! - who changes a row holds it alone: a row that others share is copied first. Only the first entries of a row can leave it
 //!   without that: the row then begins behind them.
 //!
-//! `row` is one row, `change` what is done to its entries, `search` where a key stands among them, found in
-//! `strides`, which serves any sorted slice. `table` has the rows: which of them has a key, the one way to change it, and
+//! `row` is one row, `change` what is done to its entries, `search` where a key stands among them. `strides` is a search for
+//! any sorted slice, which the crates above use. `table` has the rows: which of them has a key, the one way to change it, and
 //! rows that are made two or joined. `cut` takes a range out, `near` finds what stands next to a key. `list` is what callers
 //! see, and `walk` goes through it.
 #![tactic(auto)]

@@ -1,13 +1,15 @@
 //! A row of entries, which several lists may share.
-ghost use Rattle.std.specs.Prelude.{◌≡◌, ◌≤◌, [], drop, length, OnOk, OnErr, IfOk, IfErr};
+ghost use Rattle.std.specs.Prelude.{◌≡◌, ◌<◌, ◌≤◌, [], take, drop, length, OnOk, OnErr, IfOk, IfErr};
+ghost use Rattle.pathkey.specs.Order.{by_bytes};
 ghost use Rattle.rows.specs.Places.{BeginsHeaded};
-ghost use Rattle.rows.specs.Rows.{begins_by};
+ghost use Rattle.rows.specs.Rows.{first_key};
 
 use crate::change::Change;
 use crate::item::Item;
 use crate::stored::Stored;
 use pathkey::{Key, NoMemory};
 use std::alloc::Global;
+use std::cmp::Ordering;
 use std::marker::Model;
 use std::sync::Arc;
 
@@ -60,19 +62,19 @@ impl<T: Stored> Row<T> {
         &self.entries.as_slice()[self.gone..]
     }
 
-    /// Whether the first entry has the key or stands before it. Heads that differ say it alone.
+    /// The order of the first entry to a key whose first `skip` bytes are the same, and how many leading bytes were seen to be.
+    /// Heads that differ say it alone.
     #[inline(always)]
-    pub(crate) fn begins_by(&self, key: &Key) -> bool
-        ensures { result ≡ begins_by key.now self.now }
+    pub(crate) fn cmp_from(&self, key: &Key, skip: usize) -> (Ordering, usize)
+        requires { 0 < length self.now }
+        ensures order { take skip (first_key self.now) ≡ take skip key.now → result.0 ≡ by_bytes (first_key self.now) key.now }
+        ensures same { take skip (first_key self.now) ≡ take skip key.now → take result.1 (first_key self.now) ≡ take result.1 key.now }
     {
-        let Some(first) = self.entries().first() else {
-            return false;
-        };
         let head = key.head();
         if self.head != head {
-            return self.head < head;
+            return (self.head.cmp(&head), 0);
         }
-        first.key().cmp(key).is_le()
+        self.entries()[0].key().cmp_from(key, skip)
     }
 
     /// The same entries, which both rows then share.

@@ -13,33 +13,44 @@ use crate::search::count_before;
 use crate::stored::Stored;
 use pathkey::{Key, NoMemory};
 use std::alloc::Global;
+use std::cmp::Ordering;
 
 /// The most entries of a row.
 const FULL: usize = 64;
 
 /// How many of the rows begin at the key or before it, up to the first that does not. The last one is asked first: keys often
-/// come in their order.
+/// come in their order. Then it bisects. What the key shares with the rows on either side, all between them share too.
 fn number_of<T: Stored>(rows: &[Row<T>], key: &Key) -> usize
     requires { AreRows rows.now }
     ensures number { result ≡ row_number key.now rows.now }
     ensures bound { result ≤ length rows.now }
 {
-    let Some(last) = rows.last() else {
+    if rows.is_empty() {
         return 0;
-    };
-    if last.begins_by(key) {
+    }
+    let last = rows.len() - 1;
+    let (order, shared) = rows[last].cmp_from(key, 0);
+    if order.is_le() {
         return rows.len();
     }
-    bisect(rows, key)
-}
-
-/// The same, found by bisecting.
-fn bisect<T: Stored>(rows: &[Row<T>], key: &Key) -> usize
-    requires { AreRows rows.now }
-    ensures number { result ≡ row_number key.now rows.now }
-    ensures bound { result ≤ length rows.now }
-{
-    rows.partition_point(|row| row.begins_by(key))
+    let (mut low, mut high) = (0, last);
+    let (mut below, mut above) = (0, shared);
+    while low < high {
+        let at = low + (high - low) / 2;
+        let (order, same) = rows[at].cmp_from(key, below.min(above));
+        match order {
+            Ordering::Less => {
+                low = at + 1;
+                below = same;
+            }
+            Ordering::Equal => return at + 1,
+            Ordering::Greater => {
+                high = at;
+                above = same;
+            }
+        }
+    }
+    low
 }
 
 /// The number of the row in which the key stands or would.

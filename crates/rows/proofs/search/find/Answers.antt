@@ -1,31 +1,34 @@
-use Rattle.std.proofs.Common.{rules, sym, ◌∙◌, ◌≡◌, ◌<◌, ◌≤◌, length, get_or, true, false}
-use Rattle.pathkey.specs.Order.{same}
-use Rattle.rows.proofs.Entries.{found_holder, found_gap, found_end}
+use Rattle.std.proofs.Common.{◌≡◌, ◌+◌, ◌-◌, List, ℕ, length, arith, refl, rules, sym, subst, ◌∙◌}
+use Rattle.rows.specs.Places.{IsGap}
+use Rattle.rows.proofs.Searching.{all_left, entries_ascend, fallen, gap_found, holder_found, risen}
 use Rattle.rows.proofs.search.find.Goals as goal
 
-pub returns-in-Some : goal.returns-in-Some
-returns-in-Some g c =
+pub find_among-requires-clause-rest : goal.find_among-requires-clause-rest
+find_among-requires-clause-rest g c =
     let es = c.args.entries.now in
-    let i = c.count_before-i.result in
-    let e = c.in-Some.item.now in
-    let low : i < length es = search rules in
-    let at : e ≡ get_or es i e = search rules in
-    let s : same c.args.key.now e.0 ≡ true = sym c.is_at.ensures ∙ c.if-is_at.true in
-    found_holder c.args.key.now es i e c.count_before-i.ensures.place low at s
+    let k = c.args.key.now in
+    let at = length es - 1 in
+    let x = c.index-entries-last.result in
+    let some : length es ≡ at + 1 = search rules in
+    let key = λ (e : List ℕ × g.row.T.Denot). e.0 in
+    fallen key es k 0 (length es) 0 0 at c.cmp_from-order.result.1 x (all_left key es k) (omega arith) (omega (arith, some)) c.index-entries-last.is (entries_ascend es c.requires) (sym (c.cmp_from-order.ensures.order refl) ∙ c.in-Greater.is) (c.cmp_from-order.ensures.same refl)
 
-pub returns-in_default : goal.returns-in_default
-returns-in_default g c =
+pub returns-in-Less : goal.returns-in-Less
+returns-in-Less g c =
     let es = c.args.entries.now in
-    let i = c.count_before-i.result in
-    let e = c.in-Some.item.now in
-    let low : i < length es = search rules in
-    let at : e ≡ get_or es i e = search rules in
-    let s : same c.args.key.now e.0 ≡ false = sym c.is_at.ensures ∙ c.if-is_at.false in
-    found_gap c.args.key.now es i e c.count_before-i.ensures.place low at s
+    let k = c.args.key.now in
+    let at = length es - 1 in
+    let x = c.index-entries-last.result in
+    let some : length es ≡ at + 1 = search rules in
+    let key = λ (e : List ℕ × g.row.T.Denot). e.0 in
+    let none = risen key es k 0 (length es) 0 0 at c.cmp_from-order.result.1 x (all_left key es k) (omega arith) (omega (arith, some)) c.index-entries-last.is (entries_ascend es c.requires) (sym (c.cmp_from-order.ensures.order refl) ∙ c.in-Less.is) (c.cmp_from-order.ensures.same refl) in
+    subst (λ i. IsGap k es i) (sym some) (gap_found k es (at + 1) (length es) c.cmp_from-order.result.1 0 none (omega (arith, some)))
 
-pub returns-in_default-2 : goal.returns-in_default-2
-returns-in_default-2 g c =
+pub returns-in-Equal : goal.returns-in-Equal
+returns-in-Equal g c =
     let es = c.args.entries.now in
-    let i = c.count_before-i.result in
-    let high : length es ≤ i = search rules in
-    found_end c.args.key.now es i c.count_before-i.ensures.place c.count_before-i.ensures.bound high
+    let k = c.args.key.now in
+    let at = length es - 1 in
+    let x = c.index-entries-last.result in
+    let some : length es ≡ at + 1 = search rules in
+    holder_found k es at x c.requires (omega (arith, some)) c.index-entries-last.is (sym (c.cmp_from-order.ensures.order refl) ∙ c.in-Equal.is)
