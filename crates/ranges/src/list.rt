@@ -82,6 +82,9 @@ impl Ranges {
     pub fn is_covered(&self, key: &Key) -> bool
         ensures { result ≡ covered self.now key.now }
     {
+        if self.rows.is_empty() {
+            return false;
+        }
         is_covered(&self.rows, key)
     }
 
