@@ -616,6 +616,9 @@ fn fold<U: Update>(sorted: &mut Sorted<U>, fresh: &mut Tail<U>)
     ensures same { Takes U.means (sorted.old ++ fresh.old.0) [] (sorted.new ++ fresh.new.0) }
     ensures room { fresh.old.1 ≤ fresh.new.1 }
 {
+    if fresh.len() == 0 {
+        return;
+    }
     let mut more = FOLDS;
     while more > 0 && fold_oldest(sorted, fresh) {
         more -= 1;

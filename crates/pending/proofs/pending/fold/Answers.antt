@@ -13,3 +13,6 @@ loop-more-preserved g c = record {
   same = takes-then g.U.Update.means _ [] _ [] _ c.loop-more.invariant.same c.fold_oldest.ensures.same;
   room = omega (arith, c.loop-more.invariant.room, c.fold_oldest.ensures.room);
 }
+
+pub returns-then-len-eq0-clause-same : goal.returns-then-len-eq0-clause-same
+returns-then-len-eq0-clause-same g c = takes-none g.U.Update.means _
