@@ -1,10 +1,10 @@
 -- A walk through the keys with messages for them alone.
-use Rattle.std.proofs.Common.{◌≡◌, ℕ, zero, suc, ◌<◌, List, [], ◌∷◌, drop, length, refl, sym, ap, ◌∙◌, subst, Option, Some, None, true, false, Bool, cond}
+use Rattle.std.proofs.Common.{◌≡◌, ℕ, zero, suc, ◌<◌, List, [], ◌∷◌, drop, length, refl, sym, ap, ◌∙◌, subst, Option, Some, None, true, false, Bool, cond, not, arith}
 use Rattle.std.specs.declared.cmp.Ordering.TheVariants.{Less, Equal, Greater}
 use Rattle.std.specs.Ordering.{is_lt, is_le, is_eq, match_ordering}
 use Rattle.std.specs.List.{AllByRecursion, slice_get}
 use Rattle.std.specs.Map.{keys_of}
-use Rattle.std.specs.Option.{option_map}
+use Rattle.std.specs.Option.{option_map, is_some}
 use Rattle.std.specs.Prelude.{IfSome, IfNone}
 use Rattle.std.specs.BTreeMap.{is_at}
 use Rattle.std.proofs.lemmas.Map.Entries.{lookup_head, lookup_tail}
@@ -27,7 +27,7 @@ use Rattle.rows.proofs.Parts.{weaker}
 use Rattle.points.specs.Changes.{Change, run_effect}
 use Rattle.points.specs.Points.{first_from, first_where}
 use Rattle.points.proofs.Nearby.{from_place}
-use Rattle.pending.specs.Ahead.{AreFrom, WaitAt, IsMet, IsPassed, BeginPast}
+use Rattle.pending.specs.Ahead.{AreFrom, WaitAt, StandsAt, IsMet, IsPassed, BeginPast, entries_left}
 use Rattle.pending.proofs.Meaning.{found_at}
 use Rattle.pending.proofs.Runs.{some_at}
 use Rattle.pending.proofs.Stretching.{sorted_clears, sorted_stop}
@@ -159,3 +159,24 @@ module _ {U V : Type 0} where
   pub met_waits : (ms : List (Msg U V)) (from : List ℕ) (end : Option (List ℕ)) (old new : Entries U V) (r : Option (Met U V)) → AreFrom ms from old → IfSome r (λ m. IsPassed end old new m) → IfSome r (λ m. IsMet ms m)
   met_waits ms from end old new None a s = tt
   met_waits ms from end old new (Some m) a s = subst (λ t. IfSome t (λ run. WaitAt ms m.0 run)) (sym s.is) (passed_waits ms from end old new m a s)
+
+  -- fewer entries are left
+  pub met_fewer : (end : Option (List ℕ)) (old new : Entries U V) (r : Option (Met U V)) → IfSome r (λ m. IsPassed end old new m) → IfSome r (λ m. length new < length old)
+  met_fewer end old new None s = tt
+  met_fewer end old new (Some m) s = omega (arith, ap length s.parts)
+
+  -- a walk that goes along no entries stands at each key
+  pub stands_anywhere : (from : List ℕ) (walk : List (Msg U V) × Option (Entries U V)) → is_some walk.1 ≡ false → StandsAt from walk
+  stands_anywhere from (ms, None) h = tt
+  stands_anywhere from (ms, Some rest) h = absurd (cc)
+
+  -- and has none before it
+  pub none_ahead : (rest : Option (Entries U V)) → is_some rest ≡ false → entries_left rest ≡ 0
+  none_ahead None h = refl
+  none_ahead (Some rest) h = absurd (cc)
+
+-- where no value was, none is left
+pub nothing_left : {V : Type 0} (b c : Bool) (o : Option V) → is_some o ≡ not c → c ≡ true → None ≡ cond b None o
+nothing_left true c o h t = refl
+nothing_left false c None h t = refl
+nothing_left false c (Some v) h t = absurd (let no : true ≡ false = h ∙ ap not t in cc)

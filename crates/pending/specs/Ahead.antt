@@ -1,5 +1,5 @@
 -- A walk through the keys with messages for them alone.
-use Rattle.std.specs.Prelude.{◌≡◌, ℕ, true, false, List, [], ◌∷◌, Option, Some, IfSome, drop}
+use Rattle.std.specs.Prelude.{◌≡◌, ℕ, true, false, List, [], ◌∷◌, length, Option, Some, None, IfSome, drop}
 use Rattle.pathkey.specs.Keys.{is_below}
 use Rattle.message.specs.declared.msg.Msg.{Msg}
 use Rattle.rows.specs.Places.{Rises, at_key, place}
@@ -21,6 +21,11 @@ module _ {U V : Type 0} where
   -- a walk, where it goes along entries, stands before those from `from` on
   abbrev pub StandsAt : List ℕ → List (Msg U V) × Option (List (List ℕ × List (Change U V))) → Type 0
   StandsAt from walk = IfSome walk.1 (λ rest. AreFrom walk.0 from rest)
+
+  -- how many entries a walk along them has before it
+  abbrev pub entries_left : Option (List (List ℕ × List (Change U V))) → ℕ
+  entries_left None = 0
+  entries_left (Some rest) = length rest
 
   -- the messages are those of a sorted list, in which these changes wait at the key
   pub record WaitAt (ms : List (Msg U V)) (k : List ℕ) (run : List (Change U V)) : Type 0 where

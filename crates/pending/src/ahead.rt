@@ -1,12 +1,12 @@
 //! A walk through the keys of a list that have messages for them alone.
 //!
 //! Where all messages are sorted it goes along their entries, and searches for none. Else each key is searched for.
-ghost use Rattle.std.specs.Prelude.{◌≡◌, IfOk, IfSome, IfNone};
-ghost use Rattle.std.specs.Option.{option_copied, option_map};
+ghost use Rattle.std.specs.Prelude.{◌≡◌, ◌<◌, List, ℕ, true, None, if◌then◌else◌, IfOk, IfSome, IfNone};
+ghost use Rattle.std.specs.Option.{option_copied, option_map, is_some};
 ghost use Rattle.pathkey.specs.Keys.{next_key};
 ghost use Rattle.message.specs.Effects.{effects};
-ghost use Rattle.message.specs.PointKeys.{IsNextPoint};
-ghost use Rattle.pending.specs.Ahead.{StandsAt, IsMet, IsPassed, BeginPast};
+ghost use Rattle.message.specs.PointKeys.{IsNextPoint, is_cleared};
+ghost use Rattle.pending.specs.Ahead.{StandsAt, IsMet, IsPassed, BeginPast, entries_left};
 
 use crate::pending::Pending;
 use crate::sorted::unless;
@@ -63,6 +63,29 @@ impl<'a, U: Update> MetPoint<'a, U> {
 }
 
 impl<'a, U: Update> PointWalk<'a, U> {
+    /// Whether it goes along the entries. It then knows where it stands, and [`PointWalk::next_along`] needs no key to go on from.
+    pub fn goes_along(&self) -> bool
+        ensures { result ≡ is_some self.now.1 }
+    {
+        self.rest.is_some()
+    }
+
+    /// The next key that a walk along the entries meets, if there is one before the end. The walk then stands behind it.
+    pub fn next_along(&mut self, end: Option<&Key>) -> Option<MetPoint<'a, U>>
+        requires { is_some self.old.1 ≡ true }
+        ensures same { self.new.0 ≡ self.old.0 }
+        ensures along { is_some self.new.1 ≡ true }
+        ensures fewer { IfSome result (λ m. entries_left self.new.1 < entries_left self.old.1) }
+        ensures point { (from : List ℕ) → StandsAt from self.old → IsNextPoint self.old.0 from (option_copied end.entry) (option_map (λ m. m.0) result) }
+        ensures stands { (from : List ℕ) → StandsAt from self.old → IfSome result (λ m. StandsAt (next_key m.0) self.new) }
+        ensures met { (from : List ℕ) → StandsAt from self.old → IfSome result (λ m. IsMet self.old.0 m) }
+    {
+        let Some(rest) = &mut self.rest else {
+            return None;
+        };
+        pass_before(rest, end)
+    }
+
     /// The value at the key after the messages, where `old` was there.
     pub fn value_after(
         &self,
@@ -76,8 +99,18 @@ impl<'a, U: Update> PointWalk<'a, U> {
         let Some(run) = met.run else {
             return self.list.value_after(alloc, met.key, old);
         };
-        let below = unless(self.list.is_cleared(met.key), old);
+        let below = self.left_below(met, old);
         run.apply(alloc, 0, below)
+    }
+
+    /// What the range-deletes leave of the old value. They are searched only where there is one.
+    fn left_below(&self, met: &MetPoint<'_, U>, old: Option<U::Value>) -> Option<U::Value>
+        ensures { result ≡ (if is_cleared self.now.0 met.now.0 then None else old) }
+    {
+        if old.is_none() {
+            return None;
+        }
+        unless(self.list.is_cleared(met.key), old)
     }
 }
 
@@ -89,6 +122,7 @@ pub fn next_met<'a: 'b, 'b, U: Update>(
 ) -> Option<MetPoint<'b, U>>
     requires { StandsAt from.now ahead.old }
     ensures same { ahead.new.0 ≡ ahead.old.0 }
+    ensures along { is_some ahead.new.1 ≡ is_some ahead.old.1 }
     ensures point { IsNextPoint ahead.old.0 from.now (option_copied end.entry) (option_map (λ m. m.0) result) }
     ensures stands { IfSome result (λ m. StandsAt (next_key m.0) ahead.new) }
     ensures met { IfSome result (λ m. IsMet ahead.old.0 m) }

@@ -1,4 +1,4 @@
-use Rattle.std.proofs.Common.{◌≡◌, ap, sym, ◌∙◌, subst}
+use Rattle.std.proofs.Common.{◌≡◌, ap, sym, ◌∙◌, subst, refl}
 use Rattle.std.specs.Option.{option_copied}
 use Rattle.std.specs.Prelude.{IfSome}
 use Rattle.std.proofs.lemmas.Result.{IfOk-weaker}
@@ -24,7 +24,6 @@ returns g c =
     let k = c.args.met.now.0 in
     let run = c.in-Some.run'.now in
     let waits : WaitAt ms k run = subst (λ t. IfSome t (λ r. WaitAt ms k r)) (sym (ap (λ m. m.1) c.met.view_is) ∙ ap option_copied c.in-Some.is) c.requires in
-    let cleared : c.is_cleared.result ≡ is_cleared ms k = c.is_cleared.ensures ∙ ap (λ t. is_cleared t c.met.inside.key.now) (ap (λ a. a.0) c.self.view_is) ∙ ap (λ t. is_cleared ms t) (ap (λ m. m.0) c.met.view_is) in
-    IfOk-weaker c.apply.result (λ v. v ≡ run_effect means run c.unless-below.result) (λ v. v ≡ effects means ms k c.args.old)
-    (λ v h. h ∙ ap (λ x. run_effect means run x) c.unless-below.ensures ∙ run_acts means ms k run c.is_cleared.result c.args.old waits cleared)
+    IfOk-weaker c.apply.result (λ v. v ≡ run_effect means run c.left_below-below.result) (λ v. v ≡ effects means ms k c.args.old)
+    (λ v h. h ∙ ap (λ x. run_effect means run x) c.left_below-below.ensures ∙ run_acts means ms k run (is_cleared ms k) c.args.old waits refl)
     c.apply.ensures
