@@ -1,5 +1,5 @@
 -- A pending list laid over pairs from below.
-use Rattle.std.proofs.Common.{◌≡◌, ℕ, ◌+◌, ◌-◌, ◌<◌, ◌≤◌, ◌⊎◌, inl, inr, ⊎_elim, ◌++◌, true, false, List, [], ◌∷◌, length, get_or, append-nil, refl, ap, sym, ◌∙◌, subst, Option, Some, None, cond, arith, Bor}
+use Rattle.std.proofs.Common.{◌≡◌, ℕ, ◌+◌, ◌-◌, ◌<◌, ◌≤◌, ◌⊎◌, inl, inr, ⊎_elim, ◌++◌, true, false, List, [], ◌∷◌, length, get_or, slice_index_or, append-nil, refl, ap, sym, ◌∙◌, subst, Option, Some, None, cond, arith, Bor}
 use Rattle.std.specs.Prelude.{All, Contains, IfSome, IfNone}
 use Rattle.std.specs.Option.{option_to_list, option_copied, is_some}
 use Rattle.std.proofs.lemmas.Bool.{cases_order}
@@ -168,6 +168,22 @@ pub adds_key : {V : Type 0} (f : List ℕ → Option V) (q : List ℕ) (limit : 
 adds_key f q limit old new None e l n = adds_none f q (Some (next_key q)) limit old new (n ∙ append-nil old) (λ k w. ap f (sym (one_before_next k q w)) ∙ e)
 adds_key f q limit old new (Some v) e l n = adds_one f q (Some (next_key q)) limit old new (q, v) (in_range q q (Some (next_key q)) (reaches-refl q) (before-next q), e, none_start f q) l n
 
+-- a key stands behind another, or before the one next to it
+pub starts_past : (q k : List ℕ) → before q k ≡ true → before k (next_key q) ≡ false
+starts_past q k h = not_before_from_reaches (next_key q) k (reaches-next q k ∙ h)
+
+pub stands_by : (q k : List ℕ) → before q k ≡ false → before k (next_key q) ≡ true
+stands_by q k h = le_lt k q (next_key q) (reaches-from_not_before q k h) (before-next q)
+
+-- so does the first pair
+pub front_past : {V : Type 0} (q : List ℕ) (ps : List (List ℕ × V)) (p : List ℕ × V) → p ≡ slice_index_or ps 0 p → before q p.0 ≡ true → StartsFrom (Some (next_key q)) ps
+front_past q [] p e h = tt
+front_past q (x ∷ xs) p e h = starts_past q x.0 (sym (ap (λ t. before q t.0) e) ∙ h)
+
+pub front_by : {V : Type 0} (q : List ℕ) (old new : List (List ℕ × V)) (o : Option (List ℕ × V)) (p : List ℕ × V) → p ≡ slice_index_or old 0 p → before q p.0 ≡ false → old ≡ option_to_list o ++ new → IfSome o (λ x. (old ≡ x ∷ new) × (before x.0 (next_key q) ≡ true))
+front_by q old new None p e h parts = tt
+front_by q old new (Some x) p e h parts = (parts, stands_by q x.0 (sym (ap (λ t. before q t.0) (e ∙ ap (λ ps. slice_index_or ps 0 p) parts)) ∙ h))
+
 -- what was taken is the value
 pub taken_value : {V : Type 0} (f : List ℕ → Option V) (q next : List ℕ) (hi : Option (List ℕ)) (o : Option V) (old new : List (List ℕ × V)) → next ≡ next_key q → is_below q hi ≡ true → IfSome o (λ v. (k : List ℕ) × (old ≡ (k, v) ∷ new) × (before k next ≡ true)) → IfNone o ((new ≡ old) × StartsFrom (Some next) old) → AreAll f q hi old → (f q ≡ o) × AreAll f (next_key q) hi new
 taken_value f q next hi None old new e low some none s =
@@ -231,7 +247,7 @@ module _ {U V : Type 0} (means : U → Option V → Option V) (ms : List (Msg U 
       point_inside = at_q.1
 
       -- the key with its messages
-      pub merging_on : (newest last : List (List ℕ × V)) (k : List ℕ) → length newer < limit → newest ≡ newer ++ option_to_list (pair_of q (laid means ms child q)) → AreAll child (next_key q) end last → k ≡ next_key q → IsMerging k newest last
+      merging_on : (newest last : List (List ℕ × V)) (k : List ℕ) → length newer < limit → newest ≡ newer ++ option_to_list (pair_of q (laid means ms child q)) → AreAll child (next_key q) end last → k ≡ next_key q → IsMerging k newest last
       merging_on newest last k l n s e = subst (λ (z : List ℕ). IsMerging z newest last) (sym e) (record {
         walked = walk_on (laid means ms child) from end limit q old newer before_q (next_key q) newest (reaches-from_before q (next_key q) (before-next q))
             (λ z w. begins_before_end z q end (reaches-from_before_next z q (both (reaches q z) (before z (next_key q)) w).1) at_q.1)
@@ -239,6 +255,9 @@ module _ {U V : Type 0} (means : U → Option V → Option V) (ms : List (Msg U 
         all = s;
         more = inr (q, in_range from q end (le_le from at q x.walked.reached at_q.0) at_q.1, next.1);
       })
+
+      pub merging_met : (newest last : List (List ℕ × V)) → length newer < limit → (AreAll child q end left → is_below q end ≡ true → newest ≡ newer ++ option_to_list (pair_of q (laid means ms child q))) → (AreAll child q end left → is_below q end ≡ true → AreAll child (next_key q) end last) → IsMerging (next_key q) newest last
+      merging_met newest last l pushed others = merging_on newest last (next_key q) l (pushed (all_there l) at_q.1) (others (all_there l) at_q.1) refl
 
     -- no key with messages is left
     pub merging_over : IsNextPoint ms at end None → (newer left : List (List ℕ × V)) → IsMoved child at end end limit new newer left → length newer + length left ≡ length new + length rest → IsMerged means ms child from end limit below old newer
