@@ -1,8 +1,8 @@
 //! Numbers, bytes and paths as words of a line.
-ghost use Rattle.std.specs.Prelude.{◌≡◌, ◌⊎◌, Err, IsTrue, IfOk, OnErr, is_some};
+ghost use Rattle.std.specs.Prelude.{◌≡◌, ◌<◌, ◌≤◌, ◌⊎◌, length, Err, IsTrue, IfOk, OnErr, is_some};
 ghost use Rattle.std.specs.List.{list_all};
 ghost use Rattle.std.specs.Char.{is_ascii_digit, is_ascii_hexdigit};
-ghost use Rattle.lines.specs.Values.{bytes_of, is_decimal, is_hex, number_of, path_of};
+ghost use Rattle.lines.specs.Values.{bytes_of, is_hex, number_of, number_of_digits, path_of};
 ghost use Rattle.pathkey.specs.declared.errno.Errno.TheVariants.{ENOMEM};
 
 use bytes::Bytes;
@@ -11,27 +11,48 @@ use pathkey::{Errno, NoMemory, Path};
 use percent_encoding::percent_decode;
 use std::alloc::Global;
 
+/// With so many digits or fewer, a number is below 2^64.
+const SAFE_DIGITS: usize = 19;
+
 /// The number that a word writes in decimal: `0`, or digits without a leading zero, below 2^64.
 pub fn read_number(word: &[u8]) -> Option<u64>
     ensures { result ≡ number_of word.now }
 {
-    if !is_decimal(word) {
-        return None;
-    }
-    match str::from_utf8(word) {
-        Ok(text) => text.parse::<u64>().ok(),
-        Err(_) => None,
+    match word.first() {
+        None => None,
+        Some(b'0') if word.len() == 1 => Some(0),
+        Some(b'0') => None,
+        Some(_) if word.len() <= SAFE_DIGITS => read_digits(word),
+        Some(_) => read_long_number(word),
     }
 }
 
-// Whether a word is `0` alone, or decimal digits of which the first is not `0`.
-fn is_decimal(word: &[u8]) -> bool
-    ensures { result ≡ is_decimal word.now }
+// The number that a few decimal digits write; none if a byte is no digit. It reads them in one pass, as no sum can be too large.
+fn read_digits(digits: &[u8]) -> Option<u64>
+    requires { length digits.now ≤ 19 }
+    ensures { result ≡ number_of_digits digits.now }
 {
-    match word.first() {
-        None => false,
-        Some(b'0') => word.len() == 1,
-        Some(_) => has_digits(word),
+    let mut number = 0;
+    for &byte in digits {
+        if !byte.is_ascii_digit() {
+            return None;
+        }
+        number = number * 10 + (byte - b'0') as u64;
+    }
+    Some(number)
+}
+
+// The number that any decimal digits write, which may be too large; none if a byte is no digit.
+fn read_long_number(digits: &[u8]) -> Option<u64>
+    requires { 0 < length digits.now }
+    ensures { result ≡ number_of_digits digits.now }
+{
+    if !has_digits(digits) {
+        return None;
+    }
+    match str::from_utf8(digits) {
+        Ok(text) => text.parse::<u64>().ok(),
+        Err(_) => None,
     }
 }
 
@@ -75,10 +96,15 @@ pub fn read_bytes(alloc: Global, word: &[u8]) -> Result<Option<Bytes>, NoMemory>
     }
 }
 
-/// The path that a word names, in percent form. A word without escapes is not copied.
+/// The path that a word names, in percent form. A plain word is read as it stands, and a word without escapes is not copied.
 pub fn read_path(alloc: Global, word: &[u8]) -> Result<Path, Errno>
     ensures { (result ≡ path_of word.now) ⊎ (result ≡ Err ENOMEM) }
 {
+    match Path::parse_plain(alloc, word) {
+        Ok(Some(path)) => return Ok(path),
+        Ok(None) => {}
+        Err(_) => return Err(Errno::ENOMEM),
+    }
     let Ok(text) = percent_decode(word).into_cow(alloc) else {
         return Err(Errno::ENOMEM);
     };
