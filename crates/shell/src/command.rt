@@ -21,6 +21,10 @@ pub fn read_request(alloc: Global, line: &[u8]) -> Request
     if line.len() > LONGEST_LINE {
         return Request::Overlong;
     }
+    // In a script with moments every second line is one of these.
+    if let Some(word) = line.strip_prefix(b"at ".as_slice()) {
+        return read_moment(word);
+    }
     match line.first() {
         None | Some(b'#') => Request::Silent,
         Some(_) => read_command(alloc, line),
