@@ -2,7 +2,8 @@
 //!
 //! No claim rests on the choices that are made here: every step keeps what the tree means, and is proved to.
 use message::Update;
-use node::{Body, Node, Place, Slot, StepKind, Tree, TreeStep};
+use node::count::held;
+use node::{Body, Node, Place, Shape, Slot, StepKind, Tree, TreeStep};
 
 /// The slots of the node that the numbers lead to; `None` where no inner node is there.
 fn slots_at<'a, U: Update>(root: &'a Node<U>, numbers: &[u8]) -> Option<&'a [Slot<U>]> {
@@ -75,11 +76,95 @@ fn part(at: Place) -> Option<TreeStep> {
     })
 }
 
-/// The step that parts a flush's node before the flush is tried; `None` where the flush is to be tried at once.
+/// How the children of two neighbouring slots are merged; `None` if one node with what both hold would be over half full.
 ///
-/// A full leaf is cut for what a flush brings, but not below a node that has all slots that it may have: there a flush takes
-/// no more than the messages that add no entry. Where others of these come again and again, those behind them would never go.
-pub fn part_ahead<U: Update>(tree: &Tree<U>, flush: TreeStep) -> Option<TreeStep> {
+/// A node that was cut in two is over half full when its parts are put together again, so a cut is not undone by a merge.
+fn merge_of<U: Update>(shape: Shape, slot: &Slot<U>, next: &Slot<U>) -> Option<StepKind> {
+    match (slot.child.body(), next.child.body()) {
+        (Body::Leaf(entries), Body::Leaf(later)) => {
+            // Each message counts as the entry that it may add, so that flushing them does not cut the merged leaf again.
+            let waiting = slot.pending.len().saturating_add(next.pending.len());
+            let all = entries.len().saturating_add(later.len());
+            if all.saturating_add(waiting) > shape.leaf as usize / 2 {
+                return None;
+            }
+            Some(StepKind::MergeLeaves)
+        }
+        (Body::Inner(slots), Body::Inner(later)) => {
+            let waiting = slot
+                .child
+                .weight()
+                .pending
+                .saturating_add(next.child.weight().pending);
+            let all = slots.len().saturating_add(later.len());
+            if all > shape.fanout as usize / 2 || waiting > shape.pending as u128 / 2 {
+                return None;
+            }
+            Some(StepKind::MergeInner)
+        }
+        // Not met: the leaves of a tree are equally deep.
+        _ => None,
+    }
+}
+
+/// The first merge of two children of the node at a place; `None` if no two neighbours are small enough.
+fn merge_in<U: Update>(shape: Shape, slots: &[Slot<U>], at: Place) -> Option<TreeStep> {
+    let (mut left, later) = slots.split_first()?;
+    let mut slot: u8 = 0;
+    for next in later {
+        if let Some(kind) = merge_of(shape, left, next) {
+            return Some(TreeStep { kind, at, slot });
+        }
+        left = next;
+        // No node of a tree has so many slots that the number is cut off.
+        slot = slot.saturating_add(1);
+    }
+    None
+}
+
+/// The first merge in the nodes on the way from the root to the node that the numbers lead to, in that one too.
+fn merge_on_way<U: Update>(tree: &Tree<U>, numbers: &[u8]) -> Option<TreeStep> {
+    let mut node: &Node<U> = tree.root();
+    let mut at = Place::root();
+    for number in numbers {
+        let slots = node.slots()?;
+        if let Some(step) = merge_in(tree.shape(), slots, at) {
+            return Some(step);
+        }
+        node = &slots.get(*number as usize)?.child;
+        at = at.under(*number)?;
+    }
+    merge_in(tree.shape(), node.slots()?, at)
+}
+
+/// The step that takes away a root with one slot whose child has few slots; `None` if the root is not so.
+///
+/// A root goes up only over a node with all slots that it may have, so that the two steps do not alternate.
+fn lower<U: Update>(tree: &Tree<U>) -> Option<TreeStep> {
+    let slots = tree.root().slots()?;
+    if slots.len() != 1 {
+        return None;
+    }
+    let below = slots.first()?.child.slots()?;
+    if below.len() > tree.shape().fanout as usize / 2 {
+        return None;
+    }
+    Some(of_root(StepKind::RootDown))
+}
+
+/// The step that takes away a root with one slot, or merges two neighbours on the way to the node at a place.
+fn shrink<U: Update>(tree: &Tree<U>, at: Place) -> Option<TreeStep> {
+    match lower(tree) {
+        Some(step) => Some(step),
+        None => merge_on_way(tree, at.numbers()),
+    }
+}
+
+/// The step that cuts the node of a flush in two, if the flush is into a full leaf and the node has all slots that it may have.
+///
+/// A full leaf is cut for what a flush brings, but not below such a node: there a flush takes no more than the messages that add no
+/// entry. If more of these arrive again and again, those behind them would never move.
+fn part_full<U: Update>(tree: &Tree<U>, flush: TreeStep) -> Option<TreeStep> {
     let slots = slots_at(tree.root(), flush.at.numbers())?;
     let slot = slots.get(flush.slot as usize)?;
     let Body::Leaf(entries) = slot.child.body() else {
@@ -94,18 +179,94 @@ pub fn part_ahead<U: Update>(tree: &Tree<U>, flush: TreeStep) -> Option<TreeStep
     }
 }
 
-/// What gives the step's node room for one slot more.
+/// The step that reshapes the nodes on the way to a flush before the flush is tried: a merge of nodes that removals have left
+/// nearly empty, or else a cut of the flush's node. `None` if the flush is to be tried at once.
+pub fn part_ahead<U: Update>(tree: &Tree<U>, flush: TreeStep) -> Option<TreeStep> {
+    match shrink(tree, flush.at) {
+        Some(step) => Some(step),
+        None => part_full(tree, flush),
+    }
+}
+
+/// Whether the children of two neighbouring slots fit in one node.
+fn fit<U: Update>(shape: Shape, slot: &Slot<U>, next: &Slot<U>) -> bool {
+    match (slot.child.body(), next.child.body()) {
+        (Body::Leaf(entries), Body::Leaf(later)) => {
+            entries.len().saturating_add(later.len()) <= shape.leaf as usize
+        }
+        _ => false,
+    }
+}
+
+/// The first merge of two leaves of the node at a place that fit in one.
+fn merge_fitting<U: Update>(tree: &Tree<U>, at: Place) -> Option<TreeStep> {
+    let (mut left, later) = slots_at(tree.root(), at.numbers())?.split_first()?;
+    let mut slot: u8 = 0;
+    for next in later {
+        if fit(tree.shape(), left, next) {
+            let kind = StepKind::MergeLeaves;
+            return Some(TreeStep { kind, at, slot });
+        }
+        left = next;
+        slot = slot.saturating_add(1);
+    }
+    None
+}
+
+/// Whether a flush of the slot into an inner node has room, whatever its oldest message is.
+fn takes_any<U: Update>(shape: Shape, slot: &Slot<U>) -> bool {
+    match slot.child.slots() {
+        // A message has at most one piece for each slot.
+        Some(below) => held(below).saturating_add(below.len() as u128) <= shape.pending as u128,
+        None => false,
+    }
+}
+
+/// The number of the slot with the most messages, the first of equals, of those whose flush has room in any case.
+fn fullest_with_room<U: Update>(shape: Shape, slots: &[Slot<U>]) -> Option<usize> {
+    let mut number = None;
+    let mut most = 0;
+    for (i, slot) in slots.iter().enumerate() {
+        if slot.pending.len() > most && takes_any(shape, slot) {
+            most = slot.pending.len();
+            number = Some(i);
+        }
+    }
+    number
+}
+
+/// What makes room where a node has too many messages for one of its children to be cut: a flush of a slot whose child has room.
+/// If there is none, two leaves of the child that was to be cut are merged, so that it has a free slot itself.
+fn unload<U: Update>(tree: &Tree<U>, slots: &[Slot<U>], split: TreeStep) -> Option<TreeStep> {
+    if let Some(number) = fullest_with_room(tree.shape(), slots) {
+        return flush_of(slots, split.at, number);
+    }
+    match merge_fitting(tree, split.at.under(split.slot)?) {
+        Some(merge) => Some(merge),
+        None => flush_of(slots, split.at, fullest(slots)?),
+    }
+}
+
+/// What makes room where a node has too many messages for one of its leaves to be cut: a flush of its fullest slot.
+fn flush_or_part<U: Update>(slots: &[Slot<U>], flush: TreeStep) -> Option<TreeStep> {
+    let other = flush_of(slots, flush.at, fullest(slots)?)?;
+    if other.slot != flush.slot {
+        return Some(other);
+    }
+    // The flush's own slot is the fullest, and it has no room: the node is parted.
+    part(flush.at)
+}
+
+/// What gives the step's node room for one slot more, or makes that needless.
 fn widen<U: Update>(tree: &Tree<U>, step: TreeStep) -> Option<TreeStep> {
     let slots = slots_at(tree.root(), step.at.numbers())?;
     if slots.len() >= tree.shape().fanout as usize {
         return part(step.at);
     }
-    let other = flush_of(slots, step.at, fullest(slots)?)?;
-    if other.slot != step.slot || other.kind != step.kind {
-        return Some(other);
+    match step.kind {
+        StepKind::SplitInner => unload(tree, slots, step),
+        _ => flush_or_part(slots, step),
     }
-    // The step's own slot is the fullest, and its flush has no room: the node is parted.
-    part(step.at)
 }
 
 /// A step to do where this one has no room; `None` where none is known. That step may have no room either, and then a
@@ -113,7 +274,7 @@ fn widen<U: Update>(tree: &Tree<U>, step: TreeStep) -> Option<TreeStep> {
 ///
 /// A flush into an inner node waits for that node's fullest slot. A flush into a leaf and a split wait for their node to
 /// have one slot more: where it has all that it may have, it is cut in two itself, the root below a new one; where its
-/// pending pieces are too many, its fullest slot is flushed.
+/// pending pieces are too many, one of its slots is flushed, or leaves below are merged.
 pub fn make_room<U: Update>(tree: &Tree<U>, step: TreeStep) -> Option<TreeStep> {
     match step.kind {
         StepKind::FlushInner => flush_fullest(tree, step.at.under(step.slot)?),
