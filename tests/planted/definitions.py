@@ -5,7 +5,7 @@ import re
 from typing import Iterator, NamedTuple
 
 from imports import Import, antt_imports
-from source import ANTT_QUIET, blanked
+from source import ANTT_QUIET, blank, blanked
 
 IMPORT = re.compile(r"(pub\s+)?(?P<word>use|mod)\b")
 HOLDER = re.compile(r"(abbrev\s+|pub\s+)*(module|mutual)\b")
@@ -23,6 +23,11 @@ class Definition(NamedTuple):
 def is_import(line: str) -> bool:
     """Whether a line brings names, or a file."""
     return bool(IMPORT.match(line))
+
+
+def without_imports(text: str) -> str:
+    """The text in which the lines that bring names are blank."""
+    return "\n".join(blank(it) if is_import(it) else it for it in text.split("\n"))
 
 
 def blocks(lines: list[str]) -> Iterator[list[str]]:

@@ -21,6 +21,8 @@ from source import Source
 from statements import sources_of
 
 ALL, NAMED = "all", "named"
+# The libraries that need no edits: crates of tests, benchmarks, examples and samples, and scenes of refused memory.
+WITHOUT_EDITS = re.compile(r"\w+_tests|benches|example_\w+|samples|refused_\w+|refusals")
 HEADER = """\
 # What was tried of each crate's planted edits, written by tests/planted/try: the crate, a checksum of what its contracts say and rest
 # on, how many edits were tried, how many of them were refused, and whether those were all or the named ones.
@@ -101,6 +103,11 @@ class Crate:
     def root(self) -> str:
         """The file that the crate begins with."""
         return "src/main.rt" if (self.folder / "src/main.rt").is_file() else "src/lib.rt"
+
+    @property
+    def needs_edits(self) -> bool:
+        """Whether it is a library on whose contracts something rests; a program has none."""
+        return self.root != "src/main.rt" and not WITHOUT_EDITS.fullmatch(self.name)
 
     def sources(self) -> list[Source]:
         """The files of src/, read."""

@@ -226,6 +226,8 @@ FILES = {
     "crates/base/src/lib.rt": BASE,
     "crates/base/src/measures.rt": MEASURES,
     "crates/base/specs/Sums.antt": SUMS,
+    "crates/ground/planted/level_is_another.edit": "file: src/lib.rt\nold:     Low,\nnew:     Lower,\n",
+    "crates/base/planted/get_gives_half.edit": "file: src/lib.rt\nold: self.held\nnew: self.held / 2\n",
     "crates/low/src/lib.rt": LOW,
     "crates/low/specs/Numbers.antt": NUMBERS,
     "crates/low/proofs/double/Answers.antt": "returns c = auto\n",
