@@ -1,8 +1,8 @@
 """Planted edits, what they stand against, and the record of what was tried.
 
 An edit (`crates/NAME/planted/*.edit`) is a wrong body that the prover has to refuse. `tests/planted/tried` has a line for each
-crate: its name, a checksum of what its contracts say and rest on, how many edits were tried, how many were refused, and whether those
-were all of its edits or the named ones (`tests/planted/named`). A line holds as long as the crate's checksum is the one that it names.
+crate, with a checksum of what its contracts say and rest on, and below it a line for each edit, with the goals at which it was refused.
+They hold as long as the crate's checksum is the one that the record has.
 
 The checksum is of what the crate states (`statements.py`), of its edits, and of what the names in these and in its bodies reach in the
 crates below (`beneath.py`), and of no more: what is added or changed there elsewhere, and what moves with its text, leaves it as it is.
@@ -20,12 +20,14 @@ from meanings import checksum
 from source import Source
 from statements import sources_of
 
-ALL, NAMED = "all", "named"
 # The libraries that need no edits: crates of tests, benchmarks, examples and samples, and scenes of refused memory.
 WITHOUT_EDITS = re.compile(r"\w+_tests|benches|example_\w+|samples|refused_\w+|refusals")
+# What the record says of an edit that was refused at goals that are not known, and of one that was not refused.
+AT_UNKNOWN, NOT_REFUSED = "refused", "NOT-REFUSED"
 HEADER = """\
-# What was tried of each crate's planted edits, written by tests/planted/try: the crate, a checksum of what its contracts say and rest
-# on, how many edits were tried, how many of them were refused, and whether those were all or the named ones.
+# What was tried of each crate's planted edits, written by tests/planted/try: the crate, with a checksum of what its contracts say and
+# rest on, and below it each edit that was tried. An edit has the goals at which it was refused, as FUNCTION:GOAL, behind a checksum of
+# the bodies and proofs of the functions that it changes. It has `refused` where the goals are not known, and else `NOT-REFUSED`.
 """
 
 
@@ -137,12 +139,6 @@ class Repository:
         known = {name for it in self.with_edits() for name in [it.name, *below[it.name]]}
         return Beneath({it: self.crates[it].folder for it in self.crates if it in known}, below)
 
-    def minutes(self) -> dict[str, float]:
-        """What the proof and tests of each crate take, in processor minutes, by the table in docs/GATE.md."""
-        text = (self.top / "docs/GATE.md").read_text(encoding="utf-8")
-        rows = re.findall(r"^\| ((?:`\w+`(?:, )?)+) \| ([\d.]+(?:; [\d.]+)*) \|$", text, re.M)
-        return {name: float(it) for names, numbers in rows for name, it in zip(re.findall(r"\w+", names), numbers.split("; "))}
-
     def leave_only(self, crates: list[Crate]) -> None:
         """Takes all crates but these and those below them out of the files, which are of a clone."""
         names = {it.name for crate in crates for it in [crate, *self.below(crate)]}
@@ -167,16 +163,10 @@ class Repository:
     def with_edits(self) -> list[Crate]:
         return [it for it in self.crates.values() if it.edits()]
 
-    def named(self) -> set[str]:
-        """The labels of the named edits, as CRATE/EDIT."""
-        lines = (self.top / "tests/planted/named").read_text(encoding="utf-8").split("\n")
-        return {it.strip() for it in lines if it.strip() and not it.startswith("#")}
-
-    def edits(self, crate: Crate, which: str) -> list[Edit]:
-        """All edits of a crate, or the named ones; of a crate that has none of these, all."""
-        named = self.named()
-        picked = [it for it in crate.edits() if which == ALL or it.label in named]
-        return picked or crate.edits()
+    def drawn(self, commit: str, many: int) -> list[Edit]:
+        """So many edits that the commit's name picks: those whose labels, hashed with it, come first."""
+        edits = [edit for it in self.with_edits() for edit in it.edits()]
+        return sorted(edits, key=lambda it: checksum([commit, it.label]))[:many]
 
     def contracts(self, crate: Crate) -> str:
         """A checksum of what the crate's contracts say and its edits are, and of what these rest on in the crates below."""
@@ -184,40 +174,62 @@ class Repository:
         return checksum([*edits, *self.beneath.rests_on(crate.name, "\n".join(edits))])
 
     def stray(self) -> list[str]:
-        """What stands in a folder planted/ and is no edit of a crate, and names of edits that are not there."""
+        """What stands in a folder planted/ and is no edit of a crate."""
         folders = sorted((self.top / "crates").glob("*/planted"))
         files = [it for folder in folders for it in sorted(folder.iterdir())]
         lost = [it for it in files if it.suffix != ".edit" or not it.is_file() or it.parent.parent.name not in self.crates]
-        labels = {it.label for crate in self.crates.values() for it in crate.edits()}
-        return [
-            *(f"{it.relative_to(self.top)} is no edit of a crate that crates.txt names: move or remove it" for it in lost),
-            *(f"tests/planted/named names {it}, which is not there: remove the line" for it in sorted(self.named() - labels)),
-        ]
+        return [f"{it.relative_to(self.top)} is no edit of a crate that crates.txt names: move or remove it" for it in lost]
+
+
+@dataclasses.dataclass(frozen=True)
+class Outcome:
+    """What came of a try of an edit."""
+
+    is_refused: bool
+    # as FUNCTION:GOAL; none where it is not known at which it was refused
+    goals: frozenset[str] = frozenset()
+    # a checksum of the bodies and proofs with which the goals were seen
+    bodies: str = ""
+
+    def __str__(self) -> str:
+        if not self.goals:
+            return AT_UNKNOWN if self.is_refused else NOT_REFUSED
+        return " ".join([self.bodies, *sorted(self.goals)])
 
 
 @dataclasses.dataclass(frozen=True)
 class Line:
-    """A crate's line of the record."""
+    """A crate's line of the record, with those of its edits below it."""
 
     crate: str
     contracts: str
-    tried: int
-    refused: int
-    which: str
+    edits: dict[str, Outcome]
 
     def __str__(self) -> str:
-        return f"{self.crate} {self.contracts} {self.tried} {self.refused} {self.which}"
+        return "\n".join([f"{self.crate} {self.contracts}", *(f"    {name} {self.edits[name]}" for name in sorted(self.edits))])
+
+
+def read_outcome(words: list[str]) -> Outcome | None:
+    """What the words of an edit's line tell; None where they cannot be read."""
+    if len(words) == 1 and words[0] in (AT_UNKNOWN, NOT_REFUSED):
+        return Outcome(words[0] == AT_UNKNOWN)
+    goals = frozenset(words[1:])
+    return Outcome(True, goals, words[0]) if goals and all(":" in it for it in goals) else None
 
 
 def read_record(file: Path) -> dict[str, Line]:
-    """The record's lines by their crates. A line that cannot be read is none, so that its crate has none."""
-    found = {}
+    """The record's lines by their crates. What cannot be read is left out, so that its crate or its edit was not tried."""
+    found: dict[str, Line] = {}
+    edits: dict[str, Outcome] = {}
     for text in file.read_text(encoding="utf-8").split("\n") if file.is_file() else []:
-        words = text.split("#")[0].split()
-        if len(words) == 5 and words[2].isdigit() and words[3].isdigit() and words[4] in (ALL, NAMED):
-            found[words[0]] = Line(words[0], words[1], int(words[2]), int(words[3]), words[4])
-        elif words:
-            found[words[0]] = Line(words[0], "", 0, 0, ALL)
+        words = text.split()
+        if not words or text.startswith("#"):
+            continue
+        if not text[0].isspace():
+            edits = {}
+            found[words[0]] = Line(words[0], " ".join(words[1:]), edits)
+        elif outcome := read_outcome(words[1:]):
+            edits[words[0]] = outcome
     return found
 
 
@@ -233,12 +245,19 @@ def wrong_with(repository: Repository, crate: Crate, line: Line | None) -> str |
         return "has no line in tests/planted/tried"
     if line.contracts != repository.contracts(crate):
         return "has a stale line in tests/planted/tried: what its contracts say or rest on, or its edits changed"
-    number = len(repository.edits(crate, line.which))
-    if line.tried != number:
-        return f"has a line in tests/planted/tried that tells of {line.tried} edits, and there are {number}"
-    if line.refused != number:
-        return f"has edits that were not refused: {number - line.refused} of {number}"
-    return None
+    names = {it.name for it in crate.edits()}
+    kept = {it for it in names if it in line.edits and not line.edits[it].is_refused}
+    told = {
+        "edits that were not tried": names - line.edits.keys(),
+        "lines in tests/planted/tried of edits that are not there": line.edits.keys() - names,
+        "edits that were not refused": kept,
+    }
+    return next((f"has {len(which)} {what}: {some_of(which)}" for what, which in told.items() if which), None)
+
+
+def some_of(names: set[str]) -> str:
+    """The first of the names."""
+    return " ".join([*sorted(names)[:3], *(["and others"] if len(names) > 3 else [])])
 
 
 def stale(repository: Repository, lines: dict[str, Line]) -> list[Crate]:

@@ -235,5 +235,4 @@ FILES = {
     "crates/low/planted/hidden_gives_none.edit": "file: src/lib.rt\nold: if c == '{' { n } else { n }\nnew: 0\n",
     "crates/high/src/lib.rt": HIGH,
     "crates/high/planted/four_doubles_once.edit": "file: src/lib.rt\nold: double(n) * 2\nnew: double(n) + base::planted(n)\n",
-    "tests/planted/named": "# the named ones\nlow/double_adds_one\n",
 }

@@ -17,23 +17,27 @@ import re
 import shutil
 import subprocess
 from pathlib import Path
-from typing import Iterator
+from typing import Callable, Iterable
 
 import kept
-from planted import BadEdit, Crate, Edit, Repository
-from source import Item, Source, Span
-from statements import self_type
+from bodies import Bodies, Function
+from planted import BadEdit, Crate, Edit, Outcome, Repository
 
 # How many edits one check tries at most.
 TOGETHER = 16
-NOT_PROVED = re.compile(r"note: (src/\S+?):(\d+):\d+: it is not proved that ")
-ANSWER = re.compile(r"(?:\./)?proofs/(\S+)/(?:Answers|Proof)\.antt:\d+:\d+: error: (`[^`]*`: )?(.*)")
+# What the largest check takes of memory, in KB.
+NEEDS = 5_000_000
+# Where a goal fails, and its name behind that, if the line is not cut before it ends.
+NOT_PROVED = re.compile(r"note: (src/\S+?):(\d+):\d+: it is not proved that (?:.*?\(`([^`\s]+)`\))?")
+ANSWER = re.compile(r"(?:\./)?proofs/(\S+)/(?:Answers|Proof)\.antt:\d+:\d+: error: (?:`([^`\s]*)`: )?")
 ANSWER_ELSEWHERE = re.compile(r"(?:\./)?proofs/\S+\.antt:\d+:\d+: error: ")
 # What only tells that a proof names something that the edit took away, or rests on what is not proved.
 WEAK = re.compile(r"has no field|is not in scope|has no `|that can be named|was not admitted")
 UNREAD = re.compile(r"(?:\./)?((?:src|specs)/\S+?):(\d+):\d+: error")
 # How the last line of a check begins that came to its end, and of one that did not prove the crate.
 ENDED, NO_PROOF = "\nlogic=", "\nlogic=not-proved"
+# How that of a check of some functions alone begins, of which not all are proved.
+NOT_ALL = re.compile(r"^only=(\d+) proved=(?!\1$)\d+$", re.M)
 REFUSED = ": refused, as it must be"
 # What `rt ci` says of each crate that it passes by what it kept.
 IS_KEPT = " is kept: "
@@ -50,103 +54,36 @@ class NotProved(Exception):
     """Why nothing can be tried: the crate as it stands is not proved, or no check of it could be made."""
 
 
-@dataclasses.dataclass(frozen=True)
-class Function:
-    """A function with a body, and where its proof would lie below proofs/."""
-
-    path: str
-    name: str
-    body: Span
-    first_line: int
-    last_line: int
-    folder: re.Pattern
-    exact: str
-
-    def has_line(self, path: str, line: int) -> bool:
-        return path == self.path and self.first_line <= line <= self.last_line
-
-
-def functions_of(source: Source) -> Iterator[Function]:
-    module = re.sub(r"(^|/)(lib|main|mod)$", "", source.path[len("src/") : -len(".rt")])
-    yield from functions_among(source, source.items, module, "")
-
-
-def functions_among(source: Source, items: tuple[Item, ...], module: str, holder: str) -> Iterator[Function]:
-    for item in items:
-        if item.kind == "fn" and item.body:
-            front = "/".join(filter(None, (module, holder)))
-            exact = "/".join(filter(None, (front, item.name)))
-            of_trait = r"\w*" if holder else ""
-            folder = re.compile(re.escape(front) + of_trait + ("/" if front else "") + re.escape(item.name))
-            # from its attributes on: the prover tells of an export at these
-            yield Function(source.path, item.name, item.body, source.line(item.span.start), source.line(item.span.end - 1), folder, exact)
-        elif item.kind == "mod":
-            yield from functions_among(source, item.parts, "/".join(filter(None, (module, item.name))), "")
-        elif item.kind in ("impl", "trait"):
-            holder_name = item.name if item.kind == "trait" else self_type(source, item)
-            yield from functions_among(source, item.parts, module, holder_name)
-
-
-class Bodies:
-    """The functions of a crate, found by places, lines and folders of proofs."""
-
-    def __init__(self, crate: Crate):
-        self.texts = {it.path: it.text for it in crate.sources()}
-        self.all = [it for source in crate.sources() for it in functions_of(source)]
-
-    def touched(self, edit: Edit) -> frozenset[Function] | None:
-        """The functions whose bodies hold all that the edit changes; None where it changes more, or where its texts overlap."""
-        found = set()
-        for change in edit.changes():
-            text = self.texts.get(change.path, "")
-            if text.count(change.old) != 1:
-                return None
-            at = text.index(change.old)
-            inside = [it for it in self.all if it.path == change.path and it.body.start < at and at + len(change.old) < it.body.end]
-            if len(inside) != 1:
-                return None
-            found.add(inside[0])
-        return frozenset(found)
-
-    def at_line(self, path: str, line: int) -> list[Function]:
-        return [it for it in self.all if it.has_line(path, line)]
-
-    def of_proof(self, folder: str) -> list[Function]:
-        """The functions whose proof may lie in the folder."""
-        exact = [it for it in self.all if it.exact == folder]
-        return exact if len(exact) == 1 else [it for it in self.all if it.folder.fullmatch(folder)]
-
-    def in_group(self, folder: str) -> list[Function]:
-        """Where the folder holds the one proof of functions that call one another, the functions that may be among them."""
-        module, _, name = folder.rpartition("/")
-        return [it for it in self.all if it.exact.rpartition("/")[0].startswith(module)] if name.startswith("+") else []
-
-
 @dataclasses.dataclass
 class Verdict:
-    """What a check of edits of several functions told: which functions have a goal that fails, and whether one that no edit touched has."""
+    """What a check of edits of several functions told: the goals that fail by their functions, and whether all are of functions that an edit touched."""
 
-    failed: set[Function] = dataclasses.field(default_factory=set)
+    failed: dict[Function, set[str]] = dataclasses.field(default_factory=dict)
     is_clean: bool = True
+
+    def goals(self, functions: Iterable[Function]) -> frozenset[str]:
+        """The goals of these functions that fail, as the record names them."""
+        return frozenset(f"{it.exact}:{goal}" for it in functions for goal in self.failed.get(it, ()))
 
 
 def verdict_of(said: str, bodies: Bodies, touched: frozenset[Function]) -> Verdict:
     found = Verdict()
     for line in said.split("\n"):
         note, answer = NOT_PROVED.match(line), ANSWER.match(line)
+        goal = ""
         if note:
-            at = bodies.at_line(note[1], int(note[2]))
+            at, goal = bodies.at_line(note[1], int(note[2])), note[3]
         elif answer and not WEAK.search(line):
-            at = bodies.of_proof(answer[1])
+            at, goal = bodies.of_proof(answer[1]), answer[2]
             # Without a goal's name it tells nothing of a function whose proof it may be.
-            if not touched.isdisjoint(at or bodies.in_group(answer[1])) and (len(at) != 1 or not answer[2]):
+            if not touched.isdisjoint(at or bodies.in_group(answer[1])) and (len(at) != 1 or not goal):
                 continue
         elif ANSWER_ELSEWHERE.match(line) and not WEAK.search(line):
             at = []
         else:
             continue
         if len(at) == 1 and at[0] in touched:
-            found.failed.add(at[0])
+            found.failed.setdefault(at[0], set()).update([goal] if goal else [])
         else:
             found.is_clean = False
     return found
@@ -186,10 +123,27 @@ def linked(folder: Path, to: Path) -> None:
     shutil.copytree(folder, to, symlinks=True, copy_function=copy)
 
 
+def places() -> int:
+    """How many checks the machine holds at once."""
+    with open("/proc/meminfo", encoding="ascii") as file:
+        free = next(int(it.split()[1]) for it in file if it.startswith("MemAvailable:"))
+    return max(min(len(os.sched_getaffinity(0)), free // NEEDS), 1)
+
+
+def clone(top: Path, room: Path) -> Repository:
+    """A clone of HEAD of the repository in the folder room."""
+    subprocess.run(["git", "clone", "-q", str(top), str(room / "clone")], check=True)
+    return Repository(room / "clone")
+
+
+# The edits that were refused, each with the goals at which it was, as the record names them; none where these are not known.
+Refused = dict[Edit, frozenset[str]]
+
+
 class Trial:
     """Tries edits of one crate in a clone of its own, which has no crates but this one and those below."""
 
-    def __init__(self, room: Path, repository: Repository, crate: Crate, say):
+    def __init__(self, room: Path, repository: Repository, crate: Crate, say: Callable[[str], None]):
         self.room, self.repository, self.crate, self.say = room, repository, crate, say
         self.work, self.seed = crate.folder / "out/incremental", room / "seed"
         self.bodies = Bodies(crate)
@@ -218,20 +172,20 @@ class Trial:
         else:
             self.work.mkdir(parents=True)
 
-    def check(self) -> subprocess.CompletedProcess:
+    def check(self, *flags: str) -> subprocess.CompletedProcess:
         """Checks the crate as its files are, over what lies in its folder out/."""
         words = kept.check(self.repository, self.crate, self.work) if self.is_kept else ["rt", "check", "--jobs", "1"]
-        return self.run(*words, where=self.crate.folder)
+        return self.run(*words, *flags, where=self.crate.folder)
 
-    def said(self) -> str:
+    def said(self, *flags: str) -> str:
         """What a check of the crate with edits says. Where the crate was not checked as it stands, the first that ends leaves the seed."""
         self.again()
-        said = self.check().stdout
+        said = self.check(*flags).stdout
         if not self.seed.is_dir() and ENDED in said:
             linked(self.work, self.seed)
         return said
 
-    def checked(self, edits: list[Edit]) -> tuple[str, list[Edit]]:
+    def checked(self, edits: list[Edit], *flags: str) -> tuple[str, list[Edit]]:
         """What a check of the crate with these edits says, and those that could be put into it. The crate is then as it was."""
         texts: dict[str, str] = {}
         made = []
@@ -246,27 +200,27 @@ class Trial:
                     texts.setdefault(path, (self.crate.folder / path).read_text(encoding="utf-8"))
                     (self.crate.folder / path).write_text(text, encoding="utf-8")
                 made.append(edit)
-            return self.said(), made
+            return self.said(*flags), made
         finally:
             for path, text in texts.items():
                 (self.crate.folder / path).write_text(text, encoding="utf-8")
 
-    def batch(self, edits: list[Edit]) -> tuple[set[Edit], bool]:
+    def batch(self, edits: list[Edit], *flags: str) -> tuple[Refused, bool]:
         """The edits that one check of all of them shows to be refused, and whether it refused only functions that they touch."""
         if not edits:
-            return set(), True
-        said, made = self.checked(edits)
+            return {}, True
+        said, made = self.checked(edits, *flags)
         functions = {edit: self.bodies.touched(edit) for edit in made}
         unread = [(it[1], int(it[2])) for it in (UNREAD.match(line) for line in said.split("\n")) if it]
         if unread:
             bad = {edit for edit in made if any(it.has_line(*at) for it in functions[edit] for at in unread)}
-            return self.batch([it for it in made if it not in bad]) if bad else (set(), False)
+            return self.batch([it for it in made if it not in bad], *flags) if bad else ({}, False)
         verdict = verdict_of(said, self.bodies, frozenset().union(*functions.values()))
-        if NO_PROOF not in said or not verdict.is_clean:
-            return set(), False
-        return {edit for edit in made if functions[edit] & verdict.failed}, True
+        if not (NO_PROOF in said or NOT_ALL.search(said)) or not verdict.is_clean:
+            return {}, False
+        return {edit: verdict.goals(functions[edit]) for edit in made if not functions[edit].isdisjoint(verdict.failed)}, True
 
-    def halved(self, edits: list[Edit]) -> set[Edit]:
+    def halved(self, edits: list[Edit]) -> Refused:
         """The edits that checks of several of them show to be refused: of all, and of halves where one tells nothing."""
         found, is_clean = self.batch(edits)
         self.say(f"{self.crate.name}: {len(found)} of {len(edits)} edits refused in one check")
@@ -275,24 +229,31 @@ class Trial:
         middle = len(edits) // 2
         return self.halved(edits[:middle]) | self.halved(edits[middle:])
 
-    def alone(self, edits: list[Edit]) -> set[Edit]:
+    def alone(self, edits: list[Edit]) -> Refused:
         """The edits that are refused where each is tried by itself. It tells of the others."""
         if not edits:
-            return set()
+            return {}
         folder = self.crate.folder / "must-fail"
         shutil.rmtree(folder, ignore_errors=True)
         folder.mkdir()
         for edit in edits:
             shutil.copyfile(edit.path, folder / edit.path.name)
-        said = self.must_fail()
+        lines = self.must_fail().split("\n")
         shutil.rmtree(folder)
-        label = {edit: f"must-fail {self.crate.name}/{edit.path.name}" for edit in edits}
-        lines = said.split("\n")
-        refused = {edit for edit in edits if any(is_refusal(it, label[edit]) for it in lines)}
+        refused: Refused = {}
+        for edit in edits:
+            label = f"must-fail {self.crate.name}/{edit.path.name}"
+            said = next((it for it in lines if is_refusal(it, label)), None)
+            if said:
+                refused[edit] = self.goals_told(said.partition(f"{REFUSED}: ")[2])
         for line in lines:
             if IS_KEPT not in line and (REFUSED not in line or "only by a limit" in line or BY_NAME_ALONE in line):
                 self.say(line)
         return refused
+
+    def goals_told(self, line: str) -> frozenset[str]:
+        """The goal that a line of a check tells of, if it names it: `rt` cuts long ones."""
+        return verdict_of(line, self.bodies, frozenset(self.bodies.all)).goals(self.bodies.all)
 
     def must_fail(self) -> str:
         """What is said of the edits in must-fail/: by `rt ci` where it kept the proof, else by `rt must-fail`, which builds libraries."""
@@ -301,15 +262,28 @@ class Trial:
         self.again()
         return self.run("rt", "must-fail", self.crate.name, where=self.repository.top).stdout
 
-    def tried(self, edits: list[Edit], by_itself: bool) -> set[Edit]:
-        """The edits that are refused."""
+    def outcomes(self, edits: list[Edit], refused: Refused) -> dict[Edit, Outcome]:
+        return {it: Outcome(it in refused, refused.get(it, frozenset()), self.bodies.checksum(it)) for it in edits}
+
+    def tried(self, edits: list[Edit], by_itself: bool) -> dict[Edit, Outcome]:
+        """What comes of the edits."""
         self.begin()
         batches, left = ([], edits) if by_itself else together(edits, self.bodies)
-        refused: set[Edit] = set()
+        refused: Refused = {}
         for batch in batches:
             found = self.halved(batch)
             refused |= found
             left = [*left, *(it for it in batch if it not in found)]
         if left:
             self.say(f"{self.crate.name}: trying by themselves: {' '.join(sorted(it.name for it in left))}")
-        return refused | self.alone(left)
+        return self.outcomes(edits, refused | self.alone(left))
+
+    def tried_in_place(self, edit: Edit) -> Outcome:
+        """What comes of one edit, by a check of the functions that it changes alone. Else it is tried by itself, and its goals are not known."""
+        self.begin()
+        places = {it.alone for it in self.bodies.touched(edit) or ()}
+        refused: Refused = {}
+        if places and all(places):
+            refused, _ = self.batch([edit], *(word for it in sorted(places) for word in ("--only", it)))
+        refused = refused or dict.fromkeys(self.alone([edit]), frozenset())
+        return self.outcomes([edit], refused)[edit]
