@@ -6,7 +6,7 @@ _betr() {
     --load | --trees) word=${word#=} ;;
     *)
         if [[ $word == -* ]]; then
-            mapfile -t COMPREPLY < <(compgen -W "--flushers --steps --fanout --pending --leaf --load --image --trees --help" -- "$word")
+            mapfile -t COMPREPLY < <(compgen -W "--flushers --steps --fanout --pending --leaf --load --image --trees --help --version" -- "$word")
             return
         fi
         ;;

@@ -259,6 +259,7 @@ def scripts():
     yield Scene("images", ("bad_shape",), IMAGE, free=True, wanted="bad shape")
     yield Scene("command lines", ("read_words", "betr", *SMALL, "--load", "x", "--flushers", "2", "script"), ())
     yield Scene("command lines", ("read_words", "betr", "--help"), ())
+    yield Scene("command lines", ("read_words", "betr", "--version"), ())
     yield Scene("command lines", ("read_words", "betr", "--fanout", "3"), ())
     yield Scene("command lines", ("run_words", "betr", *SMALL), WHOLE, judged="script")
     yield Scene("command lines", ("run_words", "betr", "--load", "IMAGE", *SMALL), WHOLE[:10], judged="script")

@@ -1,9 +1,15 @@
 """How the program ends where what it reads or writes fails, and what is told by its beginning and its end alone."""
 import os
+import re
 import subprocess
 from collections.abc import Callable, Iterator
+from pathlib import Path
 
 SECONDS = 300
+
+# What the header of the C library says, which has the release for all parts.
+HEADER = Path(__file__).resolve().parents[2] / "include/doorvervain.h"
+RELEASE = re.search(r'^#define DOORVERVAIN_VERSION "(.*)"', HEADER.read_text(), re.M).group(1)
 
 Ended = tuple[int, bytes, bytes]
 # A name, and what tells how a program ends otherwise than it must; that is empty where it does not.
@@ -27,6 +33,14 @@ def is_help(betr: str, words: list) -> str:
     status, output, errors = got = ended(betr, words, b"mkdir /a\n")
     is_text = output.startswith(b"Runs a script of file calls ") and output.endswith(b"  names 1\n  f x\n")
     return fault(status == 0 and is_text and not errors, got)
+
+
+RELEASES = [["--version"], ["-V", "--fanout", "8"]]
+
+
+def is_release(betr: str, words: list) -> str:
+    got = ended(betr, words, b"mkdir /a\n")
+    return fault(got == (0, f"betr {RELEASE}\n".encode(), b""), got)
 
 
 # Command lines that the table of options has not.
@@ -72,7 +86,7 @@ def standard_input_is_a_folder(betr: str) -> str:
 
 
 # Command lines that cannot write what they print, with their scripts.
-UNWRITTEN = [([], b"stat /\n"), (["--image"], b"stat /\n"), (["--image"], b""), (["--help"], b"")]
+UNWRITTEN = [([], b"stat /\n"), (["--image"], b"stat /\n"), (["--image"], b""), (["--help"], b""), (["--version"], b"")]
 
 
 def is_unwritten(betr: str, words: list, script: bytes) -> str:
@@ -94,6 +108,8 @@ def is_unsaid(betr: str, words: list, status: int) -> str:
 def each() -> Iterator[End]:
     for words in HELP:
         yield f"help is output: {words}", lambda betr, words=words: is_help(betr, words)
+    for words in RELEASES:
+        yield f"the release is output: {words}", lambda betr, words=words: is_release(betr, words)
     for words in REFUSED:
         yield f"refused words are an error: {words}", lambda betr, words=words: is_refused(betr, words)
     yield "a word is no text", is_no_text

@@ -2,6 +2,9 @@
 use clap::{Arg, ArgMatches, Command, Error};
 use std::alloc::{AllocError, Global};
 
+/// The release that `--version` prints. `include/doorvervain.h` states it, and `tests/release` holds this to it.
+const RELEASE: &str = "0.1.0";
+
 /// The first lines of help.
 const ABOUT: &str = "\
 Prints what makes one image of another, and makes it. An image is a tree as
@@ -16,8 +19,8 @@ pub(crate) enum Task<'a> {
     Apply(&'a str, &'a str),
 }
 
-/// Reads a command line, of which the first word is the program's name. Of help asked for, and of words that are refused, the error has
-/// the text; its kind tells want of memory.
+/// Reads a command line, of which the first word is the program's name. When help or the release was asked for, or words are
+/// refused, the error has the text; its kind says whether memory was refused.
 pub(crate) fn read_words<'a>(alloc: Global, words: &'a [&'a str]) -> Result<Task<'a>, Error> {
     let matches = command(alloc)?.try_get_matches_from(words)?;
     let task = task_of(&matches);
@@ -44,6 +47,7 @@ fn file<'a>(found: &ArgMatches<'a>, name: &str) -> &'a str {
 /// The program with its two commands.
 fn command<'a>(alloc: Global) -> Result<Command<'a>, AllocError> {
     let program = Command::new(alloc, "deltas")
+        .version(RELEASE)
         .about(ABOUT)
         .subcommand_required(true);
     let both = with_command(program, between(alloc))?;

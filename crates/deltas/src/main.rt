@@ -111,7 +111,7 @@ fn tell<E: Write>(failure: &Failure, errors: &mut E) -> u8 {
     }
 }
 
-/// Prints help, where that was asked for.
+/// Prints help or the release, when either was asked for.
 fn end_unread<W: Write>(error: clap::Error, output: &mut W) -> Result<(), Failure> {
     if error.kind() == ErrorKind::OutOfMemory {
         drop(error);
@@ -120,14 +120,14 @@ fn end_unread<W: Write>(error: clap::Error, output: &mut W) -> Result<(), Failur
     if error.use_stderr() {
         return Err(Failure::Words(error));
     }
-    let ended = print_help(&error, output);
+    let ended = print_text(&error, output);
     drop(error);
     ended
 }
 
-/// Prints help.
-fn print_help<W: Write>(help: &clap::Error, output: &mut W) -> Result<(), Failure> {
-    match write!(output, "{help}") {
+/// Prints what was asked for.
+fn print_text<W: Write>(text: &clap::Error, output: &mut W) -> Result<(), Failure> {
+    match write!(output, "{text}") {
         Ok(()) => flush(output),
         Err(_) => Err(Failure::Write),
     }

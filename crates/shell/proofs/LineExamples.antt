@@ -1,6 +1,7 @@
 -- What some command lines mean, computed from the definition.
 use Rattle.std.proofs.Common.{refl, codes, true, false, List, [], ◌∷◌, Some, None, ◌≡◌}
-use Rattle.clap.specs.Words.{Text, takes}
+use Rattle.clap.specs.Words.{Text, fault_of, takes}
+use Rattle.clap.specs.declared.error.kind.ErrorKind.TheVariants.{DisplayVersion}
 use Rattle.clap.proofs.OnLiterals.{clap_on_literals}
 use Rattle.shell.specs.CommandLine.{betr, is_on, number, rows, text}
 
@@ -53,3 +54,7 @@ too_many_steps = refl
 too_small_a_fanout : takes betr (codes "betr" ∷ codes "--fanout" ∷ codes "3" ∷ []) ≡ false
 unfolding clap_on_literals betr
 too_small_a_fanout = refl
+
+version_is_told : fault_of betr (codes "betr" ∷ codes "--version" ∷ []) ≡ DisplayVersion ∷ []
+unfolding clap_on_literals betr
+version_is_told = refl

@@ -11,7 +11,7 @@ use Rattle.std.proofs.lemmas.Bool.{and_parts, cases_lt, eqb-true, false≢true, 
 use Rattle.std.proofs.lemmas.List.{get_or-map, length-map}
 use Rattle.std.proofs.lemmas.List.Sums.{AllPass-from_list_all}
 use Rattle.std.proofs.lemmas.Slice.Eq.{bytes_eq-Decides}
-use Rattle.clap.specs.Words.{Accepts, App, IsParsed, IsParsedFrom, ReadsOne, Rule, SameRules, Text, app_of, args_of, found_of, groups_of, has_subcommand, is_simple, is_simple_and_free, matched_of, matches_of, new_app, one_of, one_text, parser_of, read_as, reading_of, rows_of, rule_of}
+use Rattle.clap.specs.Words.{Accepts, App, IsParsed, IsParsedFrom, ReadsOne, Rule, SameRules, Text, app_of, args_of, found_of, groups_of, has_subcommand, is_simple, is_simple_and_free, matched_of, matches_of, one_of, one_text, parser_of, read_as, reading_of, rows_of, rule_of}
 use Rattle.clap.specs.Built.{IsAuto}
 use Rattle.clap.specs.Facts.{Entry, EntryPasses, PassesArg, parser_of_value}
 use Rattle.clap.specs.Simple.{on_top}
@@ -25,7 +25,7 @@ use Rattle.clap.specs.declared.parser.matches.MatchedArg.{MatchedArg}
 use Rattle.clap.proofs.CallerLemmas.{entry_by_id}
 use Rattle.clap.proofs.CallerReads.{signed_reads}
 use Rattle.clap.proofs.WalkLemmas.{one_text-rows}
-use Rattle.shell.specs.CommandLine.{IsParseOf, betr, decimal, is_on, number, rows, rules}
+use Rattle.shell.specs.CommandLine.{IsParseOf, bare_betr, betr, decimal, is_on, number, rows, rules}
 
 -- a rule of this id has this parser
 abbrev pub HasParser : Text → ValueParser → Rule → Type 0
@@ -91,7 +91,7 @@ is_plain : betr.top.is_plain ≡ true
 unfolding betr
 is_plain = refl
 
-pub betr_is : on_top (λ s. record s { rules = rules }) (new_app (codes "betr")) ≡ betr
+pub betr_is : on_top (λ s. record s { rules = rules }) bare_betr ≡ betr
 unfolding betr
 betr_is = refl
 

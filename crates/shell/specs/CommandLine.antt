@@ -1,5 +1,5 @@
 -- The command line of `betr`, and what its words mean.
-use Rattle.std.specs.Prelude.{◌≡◌, ℕ, Bool, false, List, [], ◌∷◌, Option, Some, pos, codes}
+use Rattle.std.specs.Prelude.{◌≡◌, ℕ, Bool, false, true, List, [], ◌∷◌, Option, Some, pos, codes}
 use Rattle.std.specs.Option.{option_map_or}
 use Rattle.std.specs.Str.{bytes_eq}
 use Rattle.std.specs.Str.Parse.{digits_value, without_leading_plus}
@@ -51,17 +51,20 @@ rules = number_rule (codes "flushers") 0 8
     ∷ new_rule (codes "SCRIPT")
     ∷ []
 
+-- the program by its name, with the option that asks for the release and no other
+abbrev pub bare_betr : App
+bare_betr =
+    let app = new_app (codes "betr") in
+    record app { top = record app.top { has_version = true } }
+
 -- the command line of the program
 unfoldable pub betr : App
-betr =
-    let app = new_app (codes "betr") in
-    record app { top = record app.top { rules = rules } }
+betr = record bare_betr { top = record bare_betr.top { rules = rules } }
 
 -- the program with the options of what is done beside the lines alone
 abbrev pub betr_of_work : App
 betr_of_work =
-    let app = new_app (codes "betr") in
-    record app { top = record app.top { rules = number_rule (codes "flushers") 0 8 ∷ number_rule (codes "steps") 0 1000 ∷ [] } }
+    record bare_betr { top = record bare_betr.top { rules = number_rule (codes "flushers") 0 8 ∷ number_rule (codes "steps") 0 1000 ∷ [] } }
 
 -- the rules of the options that are numbers
 abbrev pub number_rules : List Rule
@@ -75,8 +78,7 @@ number_rules = number_rule (codes "flushers") 0 8
 -- the program with these options alone
 abbrev pub betr_of_numbers : App
 betr_of_numbers =
-    let app = new_app (codes "betr") in
-    record app { top = record app.top { rules = number_rules } }
+    record bare_betr { top = record bare_betr.top { rules = number_rules } }
 
 -- ---- what words mean
 

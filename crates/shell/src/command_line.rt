@@ -3,10 +3,10 @@
 ghost use Rattle.std.specs.Prelude.{◌≡◌, codes, false, true, IfOk, IfErr, option_map};
 ghost use Rattle.std.specs.Int.{IsInRange};
 ghost use Rattle.clap.specs.Walk.{texts};
-ghost use Rattle.clap.specs.Words.{App, FailsBy, app_of, fault_of, found_of, kind_of, new_app, new_rule, rows_of, rule_of, takes, with_rule};
-ghost use Rattle.shell.specs.CommandLine.{IsParseOf, betr, betr_of_numbers, betr_of_work, is_on, number, option_rule, rows, switch_rule, text, text_rule};
+ghost use Rattle.clap.specs.Words.{App, FailsBy, app_of, fault_of, found_of, kind_of, new_rule, rows_of, rule_of, takes, with_rule};
+ghost use Rattle.shell.specs.CommandLine.{IsParseOf, bare_betr, betr, betr_of_numbers, betr_of_work, is_on, number, option_rule, rows, switch_rule, text, text_rule};
 
-use crate::help::{ABOUT, SCRIPTS};
+use crate::help::{ABOUT, RELEASE, SCRIPTS};
 use clap::builder::ValueParser;
 use clap::error::ErrorKind;
 use clap::{Arg, ArgAction, ArgMatches, Command, Error, value_parser};
@@ -35,8 +35,8 @@ pub struct Options<'a> {
     pub script: Option<&'a str>,
 }
 
-/// Reads a command line, of which the first word is the program's name. Of help asked for, and of words that are refused, the error
-/// has the text; its kind tells want of memory.
+/// Reads a command line, of which the first word is the program's name. When help or the release was asked for, or words are
+/// refused, the error has the text; its kind says whether memory was refused.
 pub fn read_words<'a>(alloc: Global, words: &'a [&'a str]) -> Result<Options<'a>, Error>
     ensures flushers { IfOk result (λ o. (o.flushers ≡ number (codes "flushers") 0 (texts words.entry.now)) × IsInRange 0 8 o.flushers) }
     ensures steps { IfOk result (λ o. (o.steps ≡ number (codes "steps") 0 (texts words.entry.now)) × IsInRange 0 1000 o.steps) }
@@ -229,11 +229,14 @@ fn with_arg<'a>(
     }
 }
 
-/// The program by its name, with its help around the options.
+/// The program by its name and release, with its help around the options.
 fn program<'a>(alloc: Global) -> Command<'a>
-    ensures { app_of result ≡ new_app (codes "betr") }
+    ensures { app_of result ≡ bare_betr }
 {
-    Command::new(alloc, "betr").about(ABOUT).after_help(SCRIPTS)
+    Command::new(alloc, "betr")
+        .version(RELEASE)
+        .about(ABOUT)
+        .after_help(SCRIPTS)
 }
 
 /// An option with a value.

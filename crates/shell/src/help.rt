@@ -1,5 +1,8 @@
 //! What help says beside the options.
 
+/// The release that `--version` prints. `include/doorvervain.h` states it, and `tests/release` holds this to it.
+pub const RELEASE: &str = "0.1.0";
+
 /// The first lines of help.
 pub const ABOUT: &str = "\
 Runs a script of file calls over a file system held in memory, which is empty

@@ -96,7 +96,7 @@ fn tell<E: Write>(failure: &Failure, errors: &mut E) -> u8 {
     }
 }
 
-/// Prints help, where that was asked for.
+/// Prints help or the release, when either was asked for.
 fn end_unread<W: Write>(error: clap::Error, output: &mut W) -> Result<(), Failure> {
     if error.kind() == ErrorKind::OutOfMemory {
         // Let go by a call, so that the proof costs less.
