@@ -946,6 +946,11 @@ static inline const char *doorvervain_strerror(uint8_t number) {
 // The release that the program was compiled for, as "0.1.0". The text is constant: nobody frees it.
 static inline const char *doorvervain_version(void) { return DOORVERVAIN_VERSION; }
 
+// What the library that is linked was built from, as "0.1.0, commit 0123456789ab, proved": the release, the commit, and whether the
+// library was proved as it was built (`proved` or `unproved`). The text is constant: do not free it. An installed library has this
+// function; the archive of a clone, crates/doorvervain/out/libdoorvervain.a, has not.
+extern const char *doorvervain_build(void);
+
 #ifdef __cplusplus
 }
 #endif

@@ -27,8 +27,13 @@ PACKAGE = "doorvervain"
 MODULE = "_core.abi3.so"
 ARCHIVE = "libdoorvervain.a"
 HEADER = "doorvervain.h"
-# Where the folders of archive and header lie from here: in a prefix that `make install` filled, and in the repository.
-NEAR = [("../../../../lib", "../../../../include"), ("../../out/lib", "../../include")]
+# Where the folders of archive and header lie from here: in a prefix that `make install` filled, and in the repository, where `make` left
+# the proved library or `make UNPROVED=1` the other.
+NEAR = [
+    ("../../../../lib", "../../../../include"),
+    ("../../out/lib", "../../include"),
+    ("../../out/unproved/lib", "../../include"),
+]
 
 ENTRY_POINTS = """\
 [fsspec.specs]

@@ -14,7 +14,14 @@ import sys
 import tempfile
 import time
 
-import doorvervain
+# It times the package that is installed: the sources beside this file have no module in C.
+HERE = os.path.dirname(os.path.abspath(__file__))
+if not os.path.exists(os.path.join(HERE, "doorvervain", "_core.abi3.so")):
+    sys.path[:] = [folder for folder in sys.path if os.path.abspath(folder) != HERE]
+try:
+    import doorvervain
+except ImportError as error:
+    sys.exit(f"bench.py: {sys.executable} has no package doorvervain ({error}): docs/PYTHON.md says how it is installed")
 
 TMPFS = "/dev/shm"
 DATA = b"x" * 100

@@ -50,7 +50,7 @@ static const char help[] =
     "                  root alone\n"
     "  --allow-other   lets other users in, by the modes of files\n"
     "  --foreground    does not go into the background\n"
-    "  --version       prints its release\n"
+    "  --version       prints its release, its commit, and whether its library was proved\n"
     "  --help          prints this\n"
     "\n"
     "mkdir MNT/.snapshots/NAME takes a snapshot, and rmdir of that folder drops it. What is below it is read-only.\n"
@@ -59,13 +59,7 @@ static const char help[] =
 
 void print_help(void) { fputs(help, stdout); }
 
-#ifdef UNPROVED
-#define OF_ITS_LIBRARY ", over a library of which nothing is proved"
-#else
-#define OF_ITS_LIBRARY ""
-#endif
-
-void print_version(void) { puts("doorvervain-mount " DOORVERVAIN_VERSION OF_ITS_LIBRARY); }
+void print_version(void) { printf("doorvervain-mount %s\n", doorvervain_build()); }
 
 static const struct option known[] = {
     {"pipe", required_argument, 0, 'p'},

@@ -35,7 +35,8 @@ static int add_all(PyObject *module) {
     PyObject *frozen = known.volume ? add_type(module, "Frozen", &frozen_spec, tree) : NULL;
     Py_DECREF(tree);
     Py_XDECREF(frozen);
-    return frozen ? PyModule_AddStringConstant(module, "RELEASE", DOORVERVAIN_VERSION) : -1;
+    if (!frozen || PyModule_AddStringConstant(module, "RELEASE", DOORVERVAIN_VERSION)) return -1;
+    return PyModule_AddStringConstant(module, "BUILD", doorvervain_build());
 }
 
 static struct PyModuleDef module_definition = {

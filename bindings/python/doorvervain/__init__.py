@@ -13,6 +13,7 @@ b'rain'
 
 The package stands over the C library `doorvervain`. `docs/PYTHON.md` says more.
 """
+from ._core import BUILD as __build__
 from ._file import File
 from ._types import BadDelta, BadImage, Entry, Stat
 from ._volume import LARGE, USUAL, Frozen, Shape, Volume

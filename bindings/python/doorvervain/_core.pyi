@@ -10,6 +10,7 @@ _Name = Union[str, bytes]
 _Data = Union[bytes, bytearray, memoryview]
 
 RELEASE: str
+BUILD: str
 
 @final
 class Lock:

@@ -4,6 +4,7 @@ import errno
 import gc
 import os
 import pathlib
+import re
 import threading
 import time
 import unittest
@@ -454,6 +455,9 @@ class Header(unittest.TestCase):
     def test_the_release_is_that_of_the_header(self):
         self.assertIn(f'#define DOORVERVAIN_VERSION "{doorvervain.__version__}"', HEADER.read_text())
         self.assertEqual(doorvervain._core.RELEASE, doorvervain.__version__)
+
+    def test_the_build_is_told(self):
+        self.assertRegex(doorvervain.__build__, rf"^{re.escape(doorvervain.__version__)}, commit \w+( with changes)?, (un)?proved")
 
 
 if __name__ == "__main__":

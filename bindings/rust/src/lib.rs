@@ -11,3 +11,7 @@ pub use errno::{DeltaError, Errno, LoadError};
 pub use listing::{Entries, Entry, Kind, Listing, Stat, Walk, Walked};
 pub use path::AsPath;
 pub use volume::{Frozen, Shape, Volume};
+
+/// What the library that is linked was built from: the release, the commit, and `proved` or `unproved`, as
+/// `0.1.0, commit 0123456789ab, proved`.
+pub const BUILD: &str = env!("DOORVERVAIN_BUILD");

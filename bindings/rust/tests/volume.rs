@@ -283,3 +283,11 @@ fn a_difference_that_is_refused_changes_nothing() -> Result<(), Errno> {
     assert_eq!(volume.delta("none", ""), Err(Errno::ENOENT));
     Ok(())
 }
+
+#[test]
+fn the_build_is_told() {
+    let mut words = doorvervain::BUILD.split(", ");
+    assert_eq!(words.next(), Some(env!("CARGO_PKG_VERSION")));
+    assert!(words.next().map_or(false, |word| word.starts_with("commit ")));
+    assert!(words.next().map_or(false, |word| word == "unproved" || word.starts_with("proved")));
+}
