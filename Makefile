@@ -128,12 +128,11 @@ $(OUT)/lib/libdoorvervain.a: $(ARCHIVE) $(HEAP) $(OUT)/build.o
 	@printf 'create %s\naddlib %s\naddlib %s\naddmod %s\nsave\nend\n' $@ $(ARCHIVE) $(HEAP) $(OUT)/build.o | $(AR) -M
 	@echo 'C library: $@'
 
+# Its two other names are links, and are made where it is installed: the gate takes no link below this folder.
 $(OUT)/lib/$(SHARED): $(ARCHIVE) $(HEAP) $(OUT)/build.o packaging/exports.map
 	@mkdir -p $(@D)
 	@$(CC) -shared $(LDFLAGS) -Wl,-soname,$(SONAME) -Wl,--version-script=packaging/exports.map -Wl,-z,defs \
 	    -Wl,--gc-sections -Wl,--whole-archive $(ARCHIVE) -Wl,--no-whole-archive $(OUT)/build.o $(HEAP) -o $@
-	@ln -sf $(SHARED) $(OUT)/lib/$(SONAME)
-	@ln -sf $(SONAME) $(OUT)/lib/libdoorvervain.so
 	@echo 'C library: $@'
 
 $(OUT)/include/doorvervain.h: include/doorvervain.h
@@ -226,6 +225,7 @@ dist:
 	cd $(UNPACKED) && find . -type f ! -name SHA256SUMS | LC_ALL=C sort | xargs sha256sum > SHA256SUMS
 	tar -C out/dist --sort=name --owner=0 --group=0 --numeric-owner --mtime="@$$(git log -1 --format=%ct)" \
 	    -cf - $(PACKAGE) | gzip -n > $(UNPACKED).tar.gz
+	rm -rf $(UNPACKED)
 	@echo $(UNPACKED).tar.gz
 
 # ---- the rest
