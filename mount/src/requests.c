@@ -48,6 +48,13 @@ bool requests_are_under_way(void) {
     return are;
 }
 
+bool requests_wait_for_forget(const struct mount *mount) {
+    pthread_mutex_lock(&lock);
+    bool waits = mount->leaving;
+    pthread_mutex_unlock(&lock);
+    return waits;
+}
+
 void requests_pause(void) { pthread_mutex_lock(&lock); }
 
 void requests_go_on(void) { pthread_mutex_unlock(&lock); }
@@ -112,6 +119,11 @@ static int begin_bytes(fuse_req_t req, fuse_ino_t number) {
     pthread_mutex_lock(&lock);
     bool is_leaving = mount_of(req)->leaving && mount_of(req)->leaving == entry_of(req, number);
     return is_leaving ? aside_settle(mount_of(req)) : 0;
+}
+
+// The same for a write. A store keeps the changes in the order in which they were answered.
+static int begin_write(fuse_req_t req, fuse_ino_t number) {
+    return mount_of(req)->store ? begin(req) : begin_bytes(req, number);
 }
 
 // Leaves the lock: the request is at its end, and a store keeps what it did.
@@ -423,7 +435,7 @@ static void on_write(fuse_req_t req, fuse_ino_t number, const char *bytes, size_
                      struct fuse_file_info *info) {
     size_t done = 0;
     (void)info;
-    int fault = begin_bytes(req, number);
+    int fault = begin_write(req, number);
     if (!fault) fault = files_write(mount_of(req), entry_of(req, number), (uint64_t)offset, bytes, size, &done);
     fault = leave(mount_of(req), fault);
     if (fault) fuse_reply_err(req, fault);

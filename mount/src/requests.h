@@ -22,6 +22,8 @@ bool requests_are_under_way(void);
 // Between two requests: does one step of the tree that is due, and those that have waited for long; then looks for the
 // next request, and does the others where none comes.
 void requests_rest(struct mount *mount);
+// Whether a file whose name was removed waits for the kernel to forget it.
+bool requests_wait_for_forget(const struct mount *mount);
 // Keeps requests out, until they go on.
 void requests_pause(void);
 void requests_go_on(void);

@@ -9,6 +9,8 @@
 #include "snapshots.h"
 #include "store.h"
 #include <errno.h>
+#include <fcntl.h>
+#include <linux/fuse.h>
 #include <malloc.h>
 #include <poll.h>
 #include <signal.h>
@@ -46,15 +48,48 @@ static void serve_one(struct fuse_session *session, struct fuse_buf *buffer) {
     else usleep(1000);
 }
 
+static bool is_forget(const struct fuse_buf *buffer) {
+    uint32_t what = ((const struct fuse_in_header *)buffer->mem)->opcode;
+    return what == FUSE_FORGET || what == FUSE_BATCH_FORGET;
+}
+
+// Reads a request if there is one: false if not.
+static bool receive_now(struct fuse_session *session, struct fuse_buf *buffer) {
+    int device = fuse_session_fd(session), flags = fcntl(device, F_GETFL);
+    fcntl(device, F_SETFL, flags | O_NONBLOCK);
+    int got = fuse_session_receive_buf(session, buffer);
+    fcntl(device, F_SETFL, flags);
+    return got > 0;
+}
+
+// A file whose name was removed waits until the kernel forgets it, and is set aside if another request is served before.
+// The kernel hands out a request before what it forgot: so that is served first. Whether a request was read instead.
+static bool serve_forgets(struct fuse_session *session, struct mount *mount, struct fuse_buf *buffer) {
+    while (requests_wait_for_forget(mount)) {
+        if (!receive_now(session, buffer)) return false;
+        if (!is_forget(buffer)) return true;
+        fuse_session_process_buf(session, buffer);
+    }
+    return false;
+}
+
+static void serve_read(struct fuse_session *session, struct mount *mount, const struct fuse_buf *buffer) {
+    fuse_session_process_buf(session, buffer);
+    requests_rest(mount);
+}
+
 // Serves until a signal or an unmount, which are good ends. On a busy machine the kernel answers the last read before an
 // unmount by ECONNABORTED, too.
 static int serve_all(struct fuse_session *session, struct mount *mount, struct fuse_buf *buffer) {
+    static struct fuse_buf other;
     int got = -EINTR;
     while (!fuse_session_exited(session) && (got > 0 || got == -EINTR)) {
         got = fuse_session_receive_buf(session, buffer);
-        if (got > 0) awake_notes();
-        if (got > 0) fuse_session_process_buf(session, buffer);
-        if (got > 0) requests_rest(mount);
+        if (got <= 0) continue;
+        awake_notes();
+        bool has_other = !is_forget(buffer) && serve_forgets(session, mount, &other);
+        serve_read(session, mount, buffer);
+        if (has_other) serve_read(session, mount, &other);
     }
     fuse_session_reset(session);
     return got < 0 && got != -EINTR && got != -ECONNABORTED;
