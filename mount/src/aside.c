@@ -1,6 +1,8 @@
 #include "aside.h"
 #include "files.h"
+#include "links.h"
 #include "records.h"
+#include <assert.h>
 #include <errno.h>
 #include <stdlib.h>
 #include <string.h>
@@ -58,8 +60,9 @@ static int set_aside(struct mount *mount, struct entry *entry, uint64_t at) {
 static int take_record(struct journal *journal, struct entry *entry, const struct spot *spot) {
     bool is_known = entry->read_in == journal->mount->state;
     if (is_known && !entry->attributes.has_record) return 0;
-    if (entry->parent->role == OWN_FOLDER) return records_drop_one(journal, spot->path);
-    return is_known ? records_erase(journal, entry->parent, spot->path)
+    const struct attributes *known = is_known ? &entry->attributes : 0;
+    if (entry->parent->role == OWN_FOLDER) return records_drop_one(journal, spot->path, known);
+    return is_known ? records_erase(journal, entry->parent, spot->path, known)
                     : records_drop(journal, entry->parent, spot->path);
 }
 
@@ -84,26 +87,44 @@ int aside_take(struct mount *mount, struct entry *entry, uint64_t at) {
 }
 
 // Where memory is wanting to set it aside, its bytes go, and whoever holds it has nothing to read.
+static int settle(struct mount *mount, struct entry *entry, const char *name, uint64_t at) {
+    if (name) return links_remove_last(mount, entry, name, at);
+    bool is_aside = entry_is_held(entry) && !set_aside(mount, entry, at);
+    return is_aside ? 0 : aside_take(mount, entry, at);
+}
+
 int aside_settle(struct mount *mount) {
     struct entry *entry = mount->leaving;
+    char *name = mount->leaving_name;
     if (!entry) return 0;
     mount->leaving = 0;
-    bool is_aside = entry_is_held(entry) && !set_aside(mount, entry, mount->leaving_at);
-    int fault = is_aside ? 0 : aside_take(mount, entry, mount->leaving_at);
-    if (fault) mount->leaving = entry;
-    return fault;
+    int fault = settle(mount, entry, name, mount->leaving_at);
+    if (fault) {
+        mount->leaving = entry;
+        return fault;
+    }
+    free(name);
+    mount->leaving_name = 0;
+    return 0;
 }
 
 int aside_remove_now(struct mount *mount, struct entry *entry, uint64_t at) {
     return entry_is_held(entry) ? set_aside(mount, entry, at) : aside_take(mount, entry, at);
 }
 
-int aside_remove(struct mount *mount, struct entry *entry, uint64_t at) {
+bool aside_waits(struct mount *mount, struct entry *entry, const char *name, uint64_t at) {
+    assert(!mount->leaving && !mount->leaving_name);
     // In the log of several mounts a request's change is its own.
-    if (!entry_is_held(entry) || entry->opens || mount->replica) return aside_remove_now(mount, entry, at);
+    if (!entry_is_held(entry) || entry->opens || mount->replica) return false;
+    mount->leaving_name = name ? strdup(name) : 0;
+    if (name && !mount->leaving_name) return false;
     mount->leaving = entry;
     mount->leaving_at = at;
-    return 0;
+    return true;
+}
+
+int aside_remove(struct mount *mount, struct entry *entry, uint64_t at) {
+    return aside_waits(mount, entry, 0, at) ? 0 : aside_remove_now(mount, entry, at);
 }
 
 int aside_let_go(struct mount *mount, struct entry *entry) {

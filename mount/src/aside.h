@@ -24,6 +24,8 @@ int aside_take(struct mount *mount, struct entry *entry, uint64_t at);
 // so one that it knows and nobody has open is only marked, and the name goes with that, or before anything else is
 // done.
 int aside_remove(struct mount *mount, struct entry *entry, uint64_t at);
+// Marks a file so, where it may wait. `name` is the path of its last name where it is a file of several names, else null.
+bool aside_waits(struct mount *mount, struct entry *entry, const char *name, uint64_t at);
 // The same where it cannot wait.
 int aside_remove_now(struct mount *mount, struct entry *entry, uint64_t at);
 // Nobody may hold the entry any more: where its name is gone, its bytes go too.

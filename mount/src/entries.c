@@ -176,6 +176,7 @@ static void free_out(struct entry *entry) {
     if (entry->parent || entry_is_held(entry) || entry->role == LIVE_ROOT) return;
     leave_gone(entry);
     free(entry->name);
+    free(entry->known_record);
     free(entry);
     entry_count--;
 }

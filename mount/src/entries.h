@@ -44,6 +44,9 @@ struct entry {
     uint64_t read_in;   // when the attributes were read
     uint64_t looked_in; // when records below this directory were looked for
     bool is_bare;       // there were none
+    // Of a directory, for prune.h. A name in it that had a record, as the folder for records has it; null: none is known.
+    char *known_record;
+    unsigned refusals; // how many times that folder was found not to be empty
     struct attributes attributes;
     uint64_t stored_in; // when the bytes that take room were counted
     uint64_t stored, length;

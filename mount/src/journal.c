@@ -1,4 +1,5 @@
 #include "journal.h"
+#include "prune.h"
 #include "replica.h"
 #include "room.h"
 #include <errno.h>
@@ -105,24 +106,48 @@ int journal_park(struct journal *journal, const char *path) {
     return fault == ENOENT || fault == ENOTDIR ? 0 : fault;
 }
 
-int journal_erase(struct journal *journal, const char *folder, const char *file) {
-    const struct volume *volume = &journal->mount->volume;
-    struct undo *undo = note(journal, BY_REMAKING, file, journal->at);
-    int fault = undo ? read_whole(volume, file, &undo->text) : ENOMEM;
-    if (!fault) fault = volume->way->change(volume->self, REMOVE_TREE, folder, journal->at);
-    if (fault) {
-        if (undo) bytes_free(&undo->text);
-        return fault;
-    }
-    strcpy(undo->back, folder);
-    journal->count++;
+// Notes that a file is removed, with its text.
+static int note_text(struct journal *journal, enum undoing how, const char *file, struct bytes *text) {
+    struct undo *undo = note(journal, how, file, journal->at);
+    if (!undo) return ENOMEM;
+    if (!text) return read_whole(&journal->mount->volume, file, &undo->text);
+    undo->text = *text;
+    *text = (struct bytes){0};
     return 0;
+}
+
+// Counts a removal in that was done; where it was not, its text goes.
+static int end_removal(struct journal *journal, int fault) {
+    if (!fault) journal->count++;
+    else if (journal->count < MOST_UNDONE) bytes_free(&journal->undone[journal->count].text);
+    return fault;
+}
+
+int journal_unlink(struct journal *journal, const char *path, struct bytes *text) {
+    const struct volume *volume = &journal->mount->volume;
+    int fault = note_text(journal, BY_CREATION, path, text);
+    if (!fault) fault = volume->way->change(volume->self, UNLINK, path, journal->at);
+    fault = end_removal(journal, fault);
+    if (fault == EISDIR || fault == EFBIG) return journal_park(journal, path);
+    return fault == ENOENT || fault == ENOTDIR ? 0 : fault;
+}
+
+int journal_erase(struct journal *journal, const char *folder, const char *file, struct bytes *text) {
+    const struct volume *volume = &journal->mount->volume;
+    int fault = note_text(journal, BY_REMAKING, file, text);
+    if (!fault) fault = volume->way->change(volume->self, REMOVE_TREE, folder, journal->at);
+    if (!fault) strcpy(journal->undone[journal->count].back, folder);
+    return end_removal(journal, fault);
+}
+
+static void create_again(const struct volume *volume, const struct undo *undo) {
+    volume->way->change(volume->self, CREATE, undo->path, undo->at);
+    replace(volume, undo->path, undo->text.at, undo->text.length, 0, undo->at);
 }
 
 static void remake(const struct volume *volume, const struct undo *undo) {
     volume->way->change(volume->self, MAKE_DIRECTORY, undo->back, undo->at);
-    volume->way->change(volume->self, CREATE, undo->path, undo->at);
-    replace(volume, undo->path, undo->text.at, undo->text.length, 0, undo->at);
+    create_again(volume, undo);
 }
 
 static void undo_one(const struct volume *volume, const struct undo *undo) {
@@ -130,27 +155,22 @@ static void undo_one(const struct volume *volume, const struct undo *undo) {
     case BY_RENAME: volume->way->rename(volume->self, undo->path, undo->back, undo->at); break;
     case BY_REMOVAL: volume->way->change(volume->self, REMOVE_TREE, undo->path, undo->at); break;
     case BY_TEXT: replace(volume, undo->path, undo->text.at, undo->text.length, SIZE_MAX, undo->at); break;
+    case BY_CREATION: create_again(volume, undo); break;
     case BY_REMAKING: remake(volume, undo); break;
     }
 }
 
-// Takes the folders out that stood above a path below `tree`, and are empty now.
-static void prune(const struct journal *journal, char *path) {
-    static const char tree[] = OWN_PATH "/tree";
-    const struct volume *volume = &journal->mount->volume;
-    if (strncmp(path, tree, sizeof tree - 1)) return;
-    for (;;) {
-        *strrchr(path, '/') = 0;
-        if (strlen(path) < sizeof tree - 1) return;
-        if (volume->way->change(volume->self, REMOVE_DIRECTORY, path, journal->at)) return;
-        journal->mount->mirrors++;
-    }
-}
-
+// What is parked is removed, and so are the folders for records that are empty now. What moved is where it moved to.
 static void finish_one(const struct journal *journal, struct undo *undo) {
     const struct volume *volume = &journal->mount->volume;
     if (undo->is_parked) volume->way->change(volume->self, REMOVE_TREE, undo->path, journal->at);
-    if (undo->how == BY_RENAME || undo->how == BY_REMAKING) prune(journal, undo->back);
+    switch (undo->how) {
+    case BY_RENAME: prune_folders(journal->mount, undo->back, undo->is_parked ? "" : undo->path, journal->at); break;
+    case BY_REMAKING: prune_folders(journal->mount, undo->back, "", journal->at); break;
+    case BY_CREATION: prune_folders(journal->mount, undo->path, "", journal->at); break;
+    case BY_REMOVAL:
+    case BY_TEXT: break;
+    }
 }
 
 int journal_end(struct journal *journal, int fault) {

@@ -6,7 +6,7 @@
 
 enum { MOST_UNDONE = 24 };
 
-enum undoing { BY_RENAME, BY_REMOVAL, BY_TEXT, BY_REMAKING };
+enum undoing { BY_RENAME, BY_REMOVAL, BY_TEXT, BY_CREATION, BY_REMAKING };
 
 struct undo {
     enum undoing how;
@@ -37,8 +37,11 @@ int journal_read(struct journal *journal, const char *path, const struct bytes *
 int journal_write(struct journal *journal, const char *path, const char *text, size_t length);
 // Takes what stands at a path of the mount's own away, and nothing where nothing stands.
 int journal_park(struct journal *journal, const char *path);
-// Takes a folder of the mount's own away that has one small file: faster than to park it. ENOENT where it has none.
-int journal_erase(struct journal *journal, const char *folder, const char *file);
+// Removes a small file of the mount's own, and nothing where nothing is there: faster than to park it. Where its text is
+// known it need not be read: it is taken over then; null: it is not known.
+int journal_unlink(struct journal *journal, const char *path, struct bytes *text);
+// The same with the folder of the mount's own that it is alone in. ENOENT where that has none.
+int journal_erase(struct journal *journal, const char *folder, const char *file, struct bytes *text);
 // Ends a request with its fault: where there is one, all is undone. Folders for records that are empty then go.
 int journal_end(struct journal *journal, int fault);
 #endif

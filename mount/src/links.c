@@ -200,22 +200,55 @@ void links_follow(struct mount *mount, struct entry *entry, const struct attribu
     entry->change = time_of(at);
 }
 
-static int remove_once(struct journal *journal, struct entry *parent, const struct spot *spot, struct entry *entry,
-                       struct attributes *out) {
+// A name goes, and the count with it.
+static int remove_once(struct journal *journal, struct entry *entry, const char *path, struct attributes *out) {
     const struct volume *volume = &journal->mount->volume;
     int fault = links_count_down(journal, entry, out);
-    if (!fault) fault = records_drop(journal, parent, spot->path);
-    return fault ? fault : volume->way->change(volume->self, UNLINK, spot->path, journal->at);
+    if (!fault) fault = records_drop(journal, 0, path);
+    return fault ? fault : volume->way->change(volume->self, UNLINK, path, journal->at);
+}
+
+static int remove_name(struct mount *mount, struct entry *entry, const char *path, uint64_t at) {
+    struct journal journal;
+    struct attributes attributes;
+    journal_begin(&journal, mount, at);
+    int fault = journal_end(&journal, remove_once(&journal, entry, path, &attributes));
+    if (!fault) links_follow(mount, entry, &attributes, at);
+    return fault;
+}
+
+// The last name goes, and the file itself. Its bytes go last: no call brings them back.
+static int remove_file_once(struct journal *journal, const struct entry *entry, const struct spot *file,
+                            const char *path) {
+    const struct volume *volume = &journal->mount->volume;
+    struct attributes name = name_of(journal->mount, entry->link);
+    struct bytes none = {0};
+    int fault = records_erase(journal, 0, path, &name);
+    if (!fault) fault = journal_unlink(journal, path, &none);
+    if (!fault) fault = records_drop_one(journal, file->path, &entry->attributes);
+    return fault ? fault : volume->way->change(volume->self, UNLINK, file->path, journal->at);
+}
+
+static int remove_file(struct mount *mount, struct entry *entry, const char *path, uint64_t at) {
+    struct journal journal;
+    struct spot file;
+    int fault = entry_spot(entry, 0, &file);
+    if (fault) return fault;
+    journal_begin(&journal, mount, at);
+    fault = journal_end(&journal, remove_file_once(&journal, entry, &file, path));
+    if (!fault) entry_take_out(entry);
+    return fault;
+}
+
+int links_remove_last(struct mount *mount, struct entry *entry, const char *path, uint64_t at) {
+    return entry_is_held(entry) ? remove_name(mount, entry, path, at) : remove_file(mount, entry, path, at);
 }
 
 int links_remove(struct mount *mount, struct entry *parent, const char *name, struct entry *entry, uint64_t at) {
-    struct journal journal;
-    struct attributes attributes;
     struct spot spot;
     int fault = entry_spot(parent, name, &spot);
     if (fault) return fault;
-    journal_begin(&journal, mount, at);
-    fault = journal_end(&journal, remove_once(&journal, parent, &spot, entry, &attributes));
-    if (!fault) links_follow(mount, entry, &attributes, at);
-    return fault;
+    bool is_last = entry->attributes.told.names == 1;
+    if (is_last && aside_waits(mount, entry, spot.path, at)) return 0;
+    return remove_name(mount, entry, spot.path, at);
 }

@@ -11,6 +11,8 @@ int links_find(struct mount *mount, struct entry *parent, const struct spot *spo
                struct standing *standing, struct found *out);
 // Another name for a file.
 int links_make(struct mount *mount, struct entry *entry, struct entry *parent, const char *name, struct found *out);
+// The last name of a file goes, at a path. The file goes too, or is set aside where somebody holds it.
+int links_remove_last(struct mount *mount, struct entry *entry, const char *path, uint64_t at);
 // Takes one of several names away.
 int links_remove(struct mount *mount, struct entry *parent, const char *name, struct entry *entry, uint64_t at);
 // One name less: as a part of a request, and what follows once that is done.

@@ -21,6 +21,7 @@ struct mount {
     uint64_t aside;        // how many were set aside
     struct entry *leaving; // an unlinked file that the kernel still knows, before it is set aside; null: none
     uint64_t leaving_at;   // the moment at which it was unlinked
+    char *leaving_name;    // the path of its last name, of a file of several names; null: it is at its own
 };
 
 static inline bool mount_keeps_records(const struct mount *mount) { return mount->volume.records; }

@@ -8,8 +8,6 @@
 // Of those that files in an image may have.
 #define MOST_NUMBER ((uint64_t)1 << 61)
 
-#define TREE_PATH OWN_PATH "/tree"
-
 static const char *const paths[] = {OWN_PATH, LINKS_PATH, UNLINKED_PATH};
 
 static int change(struct mount *mount, enum change what, const char *path, uint64_t at) {

@@ -8,6 +8,7 @@
 #define OWN_PATH "/" RESERVED
 #define LINKS_PATH OWN_PATH "/" LINKS
 #define UNLINKED_PATH OWN_PATH "/" UNLINKED
+#define TREE_PATH OWN_PATH "/tree"
 
 enum own { OWN_ROOT, OWN_LINKS, OWN_UNLINKED };
 

@@ -153,7 +153,7 @@ static bool look_for_records(struct mount *mount, const struct entry *directory)
 // Whether nothing below a directory has a record. That is remembered until a folder for records comes or goes.
 static bool is_bare(struct mount *mount, struct entry *directory) {
     if (!mount_keeps_records(mount)) return true;
-    if (directory->role == OWN_FOLDER) return false;
+    if (!directory || directory->role == OWN_FOLDER) return false;
     if (directory->looked_in != mount->mirrors) directory->is_bare = !look_for_records(mount, directory);
     directory->looked_in = mount->mirrors;
     return directory->is_bare;
@@ -335,7 +335,7 @@ int records_write(struct journal *journal, const char *path, struct attributes *
     bool stood = attributes->has_record;
     if (note_record(journal, attributes, extended))
         return print_and_put(journal, path, attributes, extended, put_text);
-    return stood ? records_drop_one(journal, path) : 0;
+    return stood ? records_drop_one(journal, path, 0) : 0;
 }
 
 int records_make(struct journal *journal, struct entry *parent, const char *path, struct attributes *attributes,
@@ -367,15 +367,29 @@ int records_drop(struct journal *journal, struct entry *parent, const char *path
     return fault == ENOENT ? 0 : journal_park(journal, folder);
 }
 
-int records_erase(struct journal *journal, struct entry *parent, const char *path) {
+// The text of the record of attributes, where they are all that it has.
+static bool knows_text(const struct journal *journal, const struct attributes *known, struct bytes *out) {
+    if (!known || known->has_extended || !journal->mount->trusts) return false;
+    if (!print(journal->mount, known, 0, out)) return true;
+    bytes_free(out);
+    return false;
+}
+
+int records_erase(struct journal *journal, struct entry *parent, const char *path, const struct attributes *known) {
     struct place_of_record place;
+    struct bytes text = {0};
+    bool is_known = knows_text(journal, known, &text);
     int fault = find_place(journal->mount, path, &place);
-    if (!fault) fault = journal_erase(journal, place.folder, place.file);
+    if (!fault) fault = journal_erase(journal, place.folder, place.file, is_known ? &text : 0);
+    bytes_free(&text);
     return fault && fault != ENOMEM ? records_drop(journal, parent, path) : fault;
 }
 
+// The folder above the new one mostly stands.
 static int move_folder(struct journal *journal, const char *from, const char *to) {
     char above[LONGEST_PATH + 1];
+    int moved = journal_rename(journal, from, to, journal->at, journal->at);
+    if (moved != ENOENT && moved != ENOTDIR) return moved;
     strcpy(above, to);
     *strrchr(above, '/') = 0;
     int fault = make_folders(journal, above);
@@ -405,9 +419,13 @@ int records_move_one(struct journal *journal, const char *from, const char *to) 
     return journal_rename(journal, old_place.file, new_place.file, journal->at, journal->at);
 }
 
-int records_drop_one(struct journal *journal, const char *path) {
+int records_drop_one(struct journal *journal, const char *path, const struct attributes *known) {
     struct place_of_record place;
+    struct bytes text = {0};
     if (!mount_keeps_records(journal->mount)) return 0;
+    bool is_known = knows_text(journal, known, &text);
     int fault = find_place(journal->mount, path, &place);
-    return fault ? fault : journal_park(journal, place.file);
+    if (!fault) fault = journal_unlink(journal, place.file, is_known ? &text : 0);
+    bytes_free(&text);
+    return fault;
 }

@@ -44,12 +44,13 @@ int records_rewrite(struct journal *journal, struct entry *entry, struct attribu
 // Moves the records of a path and of all below it to another path, where none stand then but these.
 int records_move(struct journal *journal, struct entry *parent, const char *from, struct entry *new_parent,
                  const char *to);
-// Takes the records of a path and of all below it away.
+// Takes the records of a path and of all below it away. The parent may be null: then some may be there.
 int records_drop(struct journal *journal, struct entry *parent, const char *path);
-// The same for a file of one name that has a record.
-int records_erase(struct journal *journal, struct entry *parent, const char *path);
+// The same for a file of one name that has a record. Where its attributes are known it need not be read; null: they are
+// not.
+int records_erase(struct journal *journal, struct entry *parent, const char *path, const struct attributes *known);
 // Takes the record alone of a path away.
-int records_drop_one(struct journal *journal, const char *path);
+int records_drop_one(struct journal *journal, const char *path, const struct attributes *known);
 // Moves the record alone of a path, to that of a path of the mount's own.
 int records_move_one(struct journal *journal, const char *from, const char *to);
 #endif

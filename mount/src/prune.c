@@ -1,0 +1,109 @@
+// Whether a folder is empty, only rmdir(2) can decide. But the volume passes all names that were removed before it finds
+// one that is not, and mostly the answer is ENOTEMPTY. So a name that still has a record is looked for first: with a
+// stat(2) of a name that is known, which costs the same whatever was removed.
+#include "prune.h"
+#include <assert.h>
+#include <stdlib.h>
+#include <string.h>
+
+// How many of the known entries of a directory are looked at, and how many times its folder is found not to be empty
+// before names of it are known from a listing: to remove one of many costs no listing.
+enum { MOST_LOOKED_AT = 8, REFUSALS_BEFORE_LISTING = 4 };
+
+// Names that begin with byte 1 have one more of it in a folder for records.
+enum { ESCAPE = 1 };
+
+static bool exists(const struct mount *mount, const char *path) {
+    struct standing standing;
+    return !mount->volume.way->stat(mount->volume.self, (struct place){0, path}, &standing);
+}
+
+static bool has_name(const struct mount *mount, const char *folder, const char *name) {
+    char path[LONGEST_PATH + 1];
+    size_t length = strlen(folder), more = strlen(name);
+    if (length + 1 + more > LONGEST_PATH) return false;
+    memcpy(path, folder, length);
+    path[length] = '/';
+    memcpy(path + length + 1, name, more + 1);
+    return exists(mount, path);
+}
+
+// The entry of the directory whose records are in a folder, of which `path` is the part below TREE_PATH; null: it is not
+// known.
+static struct entry *directory_of(const struct mount *mount, const char *path) {
+    struct entry *entry = mount->root;
+    char name[LONGEST_PATH + 1];
+    while (entry && *path) {
+        path++;
+        if (*path == ESCAPE) path++;
+        size_t length = strcspn(path, "/");
+        memcpy(name, path, length);
+        name[length] = 0;
+        entry = entry_find(entry, name);
+        path += length;
+    }
+    return entry;
+}
+
+// Whether one of the directory's known entries still has its record.
+static bool has_known_entry(const struct mount *mount, const char *folder, const struct entry *directory) {
+    const struct entry *child = directory->first;
+    for (int i = 0; child && i < MOST_LOOKED_AT; i++, child = child->after) {
+        bool may_have = child->role == ORDINARY && child->attributes.has_record && child->name[0] != ESCAPE;
+        if (may_have && has_name(mount, folder, child->name)) return true;
+    }
+    return false;
+}
+
+static void forget_name(struct entry *directory) {
+    free(directory->known_record);
+    directory->known_record = 0;
+}
+
+// Whether a folder is seen not to be empty. Where nothing is seen it may have records all the same.
+static bool is_seen_full(const struct mount *mount, const char *folder, struct entry *directory) {
+    if (directory->known_record && has_name(mount, folder, directory->known_record)) return true;
+    forget_name(directory);
+    return has_known_entry(mount, folder, directory);
+}
+
+// The item of a listing at one of its bytes, behind the byte that says its kind.
+static const char *name_at(const struct bytes *listing, size_t at) {
+    assert(at < listing->length);
+    while (at > 0 && listing->at[at - 1]) at--;
+    return listing->at + at + 1;
+}
+
+// Remembers a name of a folder that was just found not to be empty. It is any of them: in whatever order names are
+// removed, half of them mostly are before this one is, so that all listings together cost little for each.
+static void remember_name(const struct mount *mount, const char *folder, struct entry *directory, uint64_t at) {
+    struct bytes names = {0};
+    if (++directory->refusals < REFUSALS_BEFORE_LISTING) return;
+    int fault = mount->volume.way->list(mount->volume.self, (struct place){0, folder}, &names);
+    if (!fault && names.length) {
+        forget_name(directory);
+        directory->known_record = strdup(name_at(&names, at % names.length));
+    }
+    bytes_free(&names);
+}
+
+static bool is_below(const char *path, const char *folder) {
+    size_t length = strlen(folder);
+    return !strncmp(path, folder, length) && path[length] == '/';
+}
+
+void prune_folders(struct mount *mount, char *path, const char *kept, uint64_t at) {
+    const size_t top = sizeof TREE_PATH - 1;
+    if (!is_below(path, TREE_PATH)) return;
+    for (;;) {
+        *strrchr(path, '/') = 0;
+        if (strlen(path) < top || is_below(kept, path)) return;
+        struct entry *directory = directory_of(mount, path + top);
+        if (directory && is_seen_full(mount, path, directory)) return;
+        if (mount->volume.way->change(mount->volume.self, REMOVE_DIRECTORY, path, at)) {
+            if (directory) remember_name(mount, path, directory, at);
+            return;
+        }
+        mount->mirrors++;
+    }
+}
