@@ -19,6 +19,7 @@ struct library {
     unsigned steps;
     size_t changes; // for which no steps are due yet
     unsigned owed;  // steps that are due
+    bool has_backlog; // a load put all changes into the root, and no change made steps due for them
     // The tree of the snapshot that was looked into last; its name is empty where there is none.
     struct doorvervain_frozen tree;
     char snapshot[LONGEST_SNAPSHOT + 1];
@@ -172,12 +173,14 @@ static unsigned library_relieve(void *self, unsigned steps) {
     struct library *library = self;
     unsigned done = doorvervain_relieve(&library->volume, steps);
     library->owed = done < steps || library->owed < steps ? 0 : library->owed - steps;
+    if (done < steps) library->has_backlog = false;
     return done;
 }
 
+// Of a backlog one step is due at a time: no request waits for it.
 static unsigned library_owes(void *self) {
     const struct library *library = self;
-    return library->owed;
+    return library->owed ? library->owed : library->has_backlog;
 }
 
 static int library_close(void *self, struct image *image) {
@@ -247,6 +250,7 @@ int open_library(const struct making *making, struct volume *out) {
     struct library *library = calloc(1, sizeof *library);
     if (!library) return ENOMEM;
     library->steps = making->steps;
+    library->has_backlog = making->steps;
     *out = (struct volume){&library_way, library, &records, &library->volume};
     int fault = making->image ? load(library, making) : open_empty(library);
     if (fault) free(library);

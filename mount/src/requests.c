@@ -92,7 +92,7 @@ void requests_rest(struct mount *mount) {
     rest_once(mount);
     while (owes_much(mount)) rest_once(mount);
     if (awake_finds(fuse_session_fd(session))) return;
-    while (rest_once(mount)) continue;
+    while (!fuse_session_exited(session) && rest_once(mount)) continue;
 }
 
 static struct mount *mount_of(fuse_req_t req) { return fuse_req_userdata(req); }
