@@ -81,8 +81,10 @@ class Statement:
 
 
 def is_used(name: str, text: str, words: frozenset[str]) -> bool:
-    """Whether the text has the name; an operator is one by any of its parts."""
-    return any(part in words or not WORD.fullmatch(part) and part in text for part in name.split("◌") if part)
+    """Whether the text has the name; an operator is one by any of its parts, which stand between spaces: `<` in `Vec<T>` is none."""
+    parts = [part for part in name.split("◌") if part]
+    signs = text.split() if "◌" in name else text
+    return any(part in words or not WORD.fullmatch(part) and part in signs for part in parts)
 
 
 def said_of(source: Source, item: Item, end: int) -> str:
