@@ -22,12 +22,13 @@ from statements import sources_of
 
 # The libraries that need no edits: crates of tests, benchmarks, examples and samples, and scenes of refused memory.
 WITHOUT_EDITS = re.compile(r"\w+_tests|benches|example_\w+|samples|refused_\w+|refusals")
-# What the record says of an edit that was refused at goals that are not known, and of one that was not refused.
-AT_UNKNOWN, NOT_REFUSED = "refused", "NOT-REFUSED"
+# What the record says of an edit that was refused at goals that are not known, of one that was not refused, and of one that is yet to be tried.
+AT_UNKNOWN, NOT_REFUSED, NOT_TRIED = "refused", "NOT-REFUSED", "not-tried"
 HEADER = """\
 # What was tried of each crate's planted edits, written by tests/planted/try: the crate, with a checksum of what its contracts say and
 # rest on, and below it each edit that was tried. An edit has the goals at which it was refused, as FUNCTION:GOAL, behind a checksum of
-# the bodies and proofs of the functions that it changes. It has `refused` where the goals are not known, and else `NOT-REFUSED`.
+# the bodies and proofs of the functions that it changes. It has `refused` where the goals are not known, `not-tried` where it is yet
+# to be tried, and else `NOT-REFUSED`.
 """
 
 
@@ -190,8 +191,11 @@ class Outcome:
     goals: frozenset[str] = frozenset()
     # a checksum of the bodies and proofs with which the goals were seen
     bodies: str = ""
+    is_tried: bool = True
 
     def __str__(self) -> str:
+        if not self.is_tried:
+            return NOT_TRIED
         if not self.goals:
             return AT_UNKNOWN if self.is_refused else NOT_REFUSED
         return " ".join([self.bodies, *sorted(self.goals)])
@@ -211,8 +215,8 @@ class Line:
 
 def read_outcome(words: list[str]) -> Outcome | None:
     """What the words of an edit's line tell; None where they cannot be read."""
-    if len(words) == 1 and words[0] in (AT_UNKNOWN, NOT_REFUSED):
-        return Outcome(words[0] == AT_UNKNOWN)
+    if len(words) == 1 and words[0] in (AT_UNKNOWN, NOT_REFUSED, NOT_TRIED):
+        return Outcome(words[0] == AT_UNKNOWN, is_tried=words[0] != NOT_TRIED)
     goals = frozenset(words[1:])
     return Outcome(True, goals, words[0]) if goals and all(":" in it for it in goals) else None
 
@@ -246,9 +250,9 @@ def wrong_with(repository: Repository, crate: Crate, line: Line | None) -> str |
     if line.contracts != repository.contracts(crate):
         return "has a stale line in tests/planted/tried: what its contracts say or rest on, or its edits changed"
     names = {it.name for it in crate.edits()}
-    kept = {it for it in names if it in line.edits and not line.edits[it].is_refused}
+    kept = {it for it in names if it in line.edits and line.edits[it].is_tried and not line.edits[it].is_refused}
     told = {
-        "edits that were not tried": names - line.edits.keys(),
+        "edits without a line": names - line.edits.keys(),
         "lines in tests/planted/tried of edits that are not there": line.edits.keys() - names,
         "edits that were not refused": kept,
     }
@@ -260,6 +264,12 @@ def some_of(names: set[str]) -> str:
     return " ".join([*sorted(names)[:3], *(["and others"] if len(names) > 3 else [])])
 
 
-def stale(repository: Repository, lines: dict[str, Line]) -> list[Crate]:
-    """The crates whose lines do not hold."""
-    return [it for it in repository.with_edits() if wrong_with(repository, it, lines.get(it.name))]
+def untried(line: Line | None) -> list[str]:
+    """The edits that the record has as yet to be tried."""
+    return [name for name, it in line.edits.items() if not it.is_tried] if line else []
+
+
+def to_try(repository: Repository, lines: dict[str, Line]) -> list[Crate]:
+    """The crates whose lines do not hold, or have edits that are yet to be tried."""
+    said = [(it, lines.get(it.name)) for it in repository.with_edits()]
+    return [it for it, line in said if wrong_with(repository, it, line) or untried(line)]
