@@ -1,5 +1,5 @@
 -- What lies below a path: its keys, and the entries of the directory there.
-use Rattle.std.proofs.Common.{◌≡◌, ℕ, [], ◌∷◌, ◌++◌, Bool, true, false, not, cond, refl, sym, ap, subst, ◌∙◌, Option, Some, None, append-nil}
+use Rattle.std.proofs.Common.{◌≡◌, ℕ, List, [], ◌∷◌, ◌++◌, Bool, true, false, not, cond, refl, sym, ap, subst, ◌∙◌, Option, Some, None, append-nil}
 use Rattle.std.specs.Prelude.{fold}
 use Rattle.std.specs.Option.{is_none, is_some}
 use Rattle.std.specs.Ordering.{is_le}
@@ -21,7 +21,7 @@ use Rattle.reference.specs.declared.reply.Meta.{Meta}
 use Rattle.reference.proofs.Edits.{fold-Missing, fold-Blocked}
 use Rattle.reference.proofs.EntryPaths.{along}
 use Rattle.meta_index.specs.declared.index.MetaIndex.{MetaIndex}
-use Rattle.meta_index.specs.Below.{below}
+use Rattle.meta_index.specs.Below.{below, HasPair}
 use Rattle.meta_index.specs.Means.{metadata, IsMeantBy}
 
 -- ---- keys
@@ -96,6 +96,24 @@ none_from_some None false e = absurd (cc)
 none_from_some (Some x) true e = absurd (cc)
 none_from_some (Some x) false e = refl
 
+-- a value that was found at a key of a range is a pair of the range
+pub pair_at : (f : List ℕ → Option Meta) (lo : List ℕ) (hi : Option (List ℕ)) (k : List ℕ) (o : Option Meta) (b : Bool) → within lo hi k ≡ true → o ≡ f k → b ≡ is_some o → b ≡ true → HasPair f lo hi
+pair_at f lo hi k None b w e s t = absurd (cc)
+pair_at f lo hi k (Some v) b w e s t = record { key = k; value = v; inside = w; stands = sym e }
+
+-- where a key below a path has a value, a full directory stands at the path
+pub occupied : (t : Tree) (m : MetaIndex) (p : Path) → IsPath p → IsMeantBy t m → HasPair (metadata m) (below p).lo (below p).hi → is_full (entry_at t p) ≡ true
+occupied t m p is_path means x = elim (is_full (entry_at t p)) as (λ b. is_full (entry_at t p) ≡ b → b ≡ true) [
+  | true ↦ λ full. refl
+  | false ↦ λ empty. absurd (
+      let of : PathOf x.key = means.meta.only_paths x.key x.value x.stands in
+      let inside : within (below p).lo (below p).hi (enc of.path) ≡ true = subst (λ (k : Key). within (below p).lo (below p).hi k ≡ true) of.key x.inside in
+      let rest : (n : Name) × (r : Path) × (of.path ≡ p ++ n ∷ r) = from_below p of.path is_path.names of.is_path.names inside in
+      let unseen : sight t of.path ≡ None = ap (sight t) rest.2 ∙ ap sighted (along t p (rest.0 ∷ rest.1)) ∙ nothing_below (entry_at t p) rest.0 rest.1 empty in
+      let clash : None ≡ Some x.value = sym (ap meta_of unseen) ∙ sym (means.meta.paths of.path of.is_path) ∙ sym (ap (metadata m) of.key) ∙ x.stands in
+      cc)
+] refl
+
 -- whether anything lies below a path tells whether a full directory stands there
 pub emptiness : (t : Tree) (m : MetaIndex) (p : Path) (first : Option (Key × Meta)) → IsPath p → IsMeantBy t m → IsFirst (metadata m) (below p).lo (below p).hi first → is_none first ≡ not (is_full (entry_at t p))
 emptiness t m p first is_path means h = elim (is_full (entry_at t p)) as (λ b. is_full (entry_at t p) ≡ b → is_none first ≡ not b) [
@@ -114,9 +132,5 @@ emptiness t m p first is_path means h = elim (is_full (entry_at t p)) as (λ b. 
     none : (f : Option (Key × Meta)) → IsFirst (metadata m) (below p).lo (below p).hi f → is_full (entry_at t p) ≡ false → is_none f ≡ true
     none None g empty = refl
     none (Some x) g empty = absurd (
-        let of : PathOf x.0 = means.meta.only_paths x.0 x.1 g.1 in
-        let inside : within (below p).lo (below p).hi (enc of.path) ≡ true = subst (λ (k : Key). within (below p).lo (below p).hi k ≡ true) of.key g.0 in
-        let rest : (n : Name) × (r : Path) × (of.path ≡ p ++ n ∷ r) = from_below p of.path is_path.names of.is_path.names inside in
-        let unseen : sight t of.path ≡ None = ap (sight t) rest.2 ∙ ap sighted (along t p (rest.0 ∷ rest.1)) ∙ nothing_below (entry_at t p) rest.0 rest.1 empty in
-        let clash : None ≡ Some x.1 = sym (ap meta_of unseen) ∙ sym (means.meta.paths of.path of.is_path) ∙ sym (ap (metadata m) of.key) ∙ g.1 in
+        let full : is_full (entry_at t p) ≡ true = occupied t m p is_path means (record { key = x.0; value = x.1; inside = g.0; stands = g.1 }) in
         cc)

@@ -1,7 +1,8 @@
 //! The metadata index, and what stands at a path.
-ghost use Rattle.std.specs.Prelude.{◌≡◌, ◌+◌, ◌*◌, ◌<◌, ◌≤◌, ◌∷◌, ◌++◌, ℕ, List, [], IfOk, OnOk, IsTrue, None, length, not};
+ghost use Rattle.std.specs.Prelude.{◌≡◌, ◌+◌, ◌*◌, ◌<◌, ◌≤◌, ◌∷◌, ◌++◌, ℕ, List, [], IfOk, OnOk, IsTrue, None, length, not, true};
 ghost use Rattle.std.specs.Result.{result_err};
 ghost use Rattle.meta_index.specs.Asked.{AsksFor, IsFrugal};
+ghost use Rattle.meta_index.specs.Below.{HasPair};
 ghost use Rattle.meta_index.specs.Means.{IsMeantBy, found_meta, metadata, moment_in, moment_told, told};
 ghost use Rattle.node.specs.Shapes.{is_shape};
 ghost use Rattle.pathkey.specs.Keys.{enc, next_key, subtree};
@@ -13,6 +14,7 @@ ghost use Rattle.scan.specs.Pairs.{AreFrom, IsGiven, IsScan};
 
 use crate::at::At;
 use crate::entries::{end_below, keys_below, kind_of, name_behind};
+use crate::likely::{given_in_root, last_of_leaf};
 use crate::update::MetaUpdate;
 use lookup::get;
 use message::Msg;
@@ -132,7 +134,10 @@ impl MetaIndex {
     }
 
     /// Whether nothing stands below the path, as `is_empty_dir` tells it. It leaves in `searches` how
-    /// often it asked the tree for a first pair: once.
+    /// often it searched the keys below the path: once.
+    ///
+    /// Keys at which an entry probably stands are looked up first. If none has a value, the first pair is searched for, which passes
+    /// every removed name.
     pub fn is_empty_dir_counted(
         &self,
         alloc: Global,
@@ -144,7 +149,53 @@ impl MetaIndex {
     {
         let below = keys_below(alloc, path)?;
         *searches = 1;
+        let is_likely = self.has_likely(alloc, &below)?;
+        if is_likely {
+            return Ok(false);
+        }
         Ok(first_in(alloc, &self.tree, &below)?.is_none())
+    }
+
+    /// Whether the range has a pair at a key that is guessed; `false` says nothing of the range.
+    fn has_likely(&self, alloc: Global, range: &KeyRange) -> Result<bool, NoMemory>
+        ensures { IfOk result (λ there. there ≡ true → HasPair (metadata self.now) range.now.lo range.now.hi) }
+    {
+        let is_last = self.has_last(alloc, range)?;
+        if is_last {
+            return Ok(true);
+        }
+        self.has_given(alloc, range)
+    }
+
+    /// Whether the range has a pair at the last entry of the leaf in which it ends.
+    fn has_last(&self, alloc: Global, range: &KeyRange) -> Result<bool, NoMemory>
+        ensures { IfOk result (λ there. there ≡ true → HasPair (metadata self.now) range.now.lo range.now.hi) }
+    {
+        match last_of_leaf(&self.tree, range) {
+            None => Ok(false),
+            Some(key) => self.has_in(alloc, range, key),
+        }
+    }
+
+    /// Whether the range has a pair at a key to which a message of the root gives a value.
+    fn has_given(&self, alloc: Global, range: &KeyRange) -> Result<bool, NoMemory>
+        ensures { IfOk result (λ there. there ≡ true → HasPair (metadata self.now) range.now.lo range.now.hi) }
+    {
+        match given_in_root(alloc, &self.tree, range)? {
+            None => Ok(false),
+            Some(key) => self.has_in(alloc, range, &key),
+        }
+    }
+
+    /// Whether the key lies in the range and has a value.
+    fn has_in(&self, alloc: Global, range: &KeyRange, key: &Key) -> Result<bool, NoMemory>
+        ensures { IfOk result (λ there. there ≡ true → HasPair (metadata self.now) range.now.lo range.now.hi) }
+    {
+        if !range.contains(key) {
+            return Ok(false);
+        }
+        let meta = get(alloc, &self.tree, key)?;
+        Ok(meta.is_some())
     }
 
     /// The entries of the directory at the path, kind and name of each, in byte order of names; none where no directory

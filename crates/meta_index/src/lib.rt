@@ -9,6 +9,7 @@
 pub mod at;
 mod entries;
 pub mod index;
+mod likely;
 pub mod update;
 
 pub use at::At;
