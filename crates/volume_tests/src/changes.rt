@@ -57,7 +57,7 @@ fn does(
 }
 
 /// Does a change of the path of a text.
-fn outcome(
+pub fn outcome(
     alloc: Global,
     volume: &mut Volume,
     text: &str,

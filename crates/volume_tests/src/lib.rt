@@ -15,9 +15,13 @@ mod embedding;
 #[cfg(test)]
 mod event_runs;
 #[cfg(test)]
+mod full_trees;
+#[cfg(test)]
 mod job_rows;
 #[cfg(test)]
 mod look_alike;
+#[cfg(test)]
+mod removals;
 #[cfg(test)]
 mod runs;
 #[cfg(test)]

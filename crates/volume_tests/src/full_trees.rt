@@ -1,0 +1,84 @@
+//! Small trees in which no step that relief tried had room, though nothing but a choice was wrong.
+use crate::asked::{SMALL, answers, new_volume};
+use crate::changes::{Change, outcome};
+use samples::{Ask, Told};
+use std::alloc::Global;
+use volume::Volume;
+
+/// Files that come, and how many steps of relief follow.
+struct Arrival {
+    files: &'static [&'static str],
+    steps: u32,
+}
+
+const ARRIVALS: &[Arrival] = &[
+    Arrival {
+        files: &[
+            "/f014", "/g785", "/f016", "/g623", "/f018", "/g461", "/g380", "/g299", "/g218",
+            "/f023", "/f046", "/g193", "/f048",
+        ],
+        steps: 5,
+    },
+    Arrival {
+        files: &["/f049", "/g950", "/g869", "/f052"],
+        steps: 2,
+    },
+    Arrival {
+        files: &[
+            "/g707", "/g626", "/f055", "/f062", "/f063", "/g816", "/f065", "/g654", "/f067",
+            "/f079", "/g520", "/f081", "/f082", "/f083", "/g196", "/g115", "/f086", "/g953",
+            "/g872", "/g791", "/g710", "/g489",
+        ],
+        steps: 55,
+    },
+];
+
+/// Does so many steps of relief, or fewer if nothing is pending.
+fn relieve(alloc: Global, volume: &mut Volume, steps: u32) {
+    for _ in 0..steps {
+        if volume.relieve(alloc).is_none() {
+            return;
+        }
+    }
+}
+
+/// Whether all these files come.
+fn arrive(alloc: Global, volume: &mut Volume, arrival: &Arrival) -> bool {
+    for file in arrival.files {
+        if !answers(alloc, volume, Ask::Create(file), Told::Done) {
+            return false;
+        }
+    }
+    relieve(alloc, volume, arrival.steps);
+    true
+}
+
+/// Whether all arrivals come, and then a file moves.
+fn arrive_all(alloc: Global, volume: &mut Volume) -> bool {
+    for arrival in ARRIVALS {
+        if !arrive(alloc, volume, arrival) {
+            return false;
+        }
+    }
+    outcome(alloc, volume, "/g710", Change::Rename("/a"), 0).is_ok()
+}
+
+/// Whether a few hundred steps then do all that is pending.
+fn comes_to_rest(alloc: Global, volume: &mut Volume) -> bool {
+    let is_done = arrive_all(alloc, volume);
+    relieve(alloc, volume, 400);
+    is_done && volume.relieve(alloc).is_none()
+}
+
+/// The same in a new volume.
+fn rests(alloc: Global) -> bool {
+    match new_volume(alloc, SMALL) {
+        Ok(mut volume) => comes_to_rest(alloc, &mut volume),
+        Err(_) => false,
+    }
+}
+
+#[test]
+fn relief_ends_in_a_full_small_tree(rt: HostRuntime) {
+    assert!(rt; rests(rt.alloc()));
+}

@@ -1,0 +1,191 @@
+//! How many nodes the trees of a volume have after files were removed: relief merges the nodes that removals leave nearly empty.
+//!
+//! The measure is a new volume to which the same entries come. No function here ensures anything, so that no proof of a test reads the
+//! contract of a volume.
+use crate::asked::new_volume;
+use crate::changes::{Change, outcome};
+use node::Shape;
+use std::alloc::Global;
+use volume::{Index, Volume};
+
+/// How many files come.
+const FILES: u32 = 4_000;
+
+/// How many nodes there may be for each node of a new tree of the same entries.
+const MOST: u128 = 4;
+
+/// How many files are removed last.
+const FEW: usize = 40;
+
+/// How many places lie between two numbers in an order that looks random. It is a prime.
+const STRIDE: usize = 7_919;
+
+/// Does a change of the file with a number, and a step of relief for each tree.
+fn change(alloc: Global, volume: &mut Volume, number: u32, change: Change<'_>) -> bool {
+    let is_done = match format!(in alloc; "/d/f{number:05}") {
+        Ok(text) => outcome(alloc, volume, text.as_str(), change, 0).is_ok(),
+        Err(_) => false,
+    };
+    volume.relieve(alloc);
+    volume.relieve(alloc);
+    is_done
+}
+
+/// Does a change of each of these files.
+fn change_all(alloc: Global, volume: &mut Volume, numbers: &[u32], of_each: Change<'_>) -> bool {
+    for number in numbers {
+        if !change(alloc, volume, *number, of_each) {
+            return false;
+        }
+    }
+    true
+}
+
+/// Moves the file with each number over the next one.
+fn move_all(alloc: Global, volume: &mut Volume, numbers: &[u32]) -> bool {
+    for number in numbers {
+        let is_done = match format!(in alloc; "/d/f{:05}", number.saturating_add(1)) {
+            Ok(over) => change(alloc, volume, *number, Change::Rename(over.as_str())),
+            Err(_) => false,
+        };
+        if !is_done {
+            return false;
+        }
+    }
+    true
+}
+
+/// Does all that is pending.
+fn settle(alloc: Global, volume: &mut Volume) -> bool {
+    for _ in 0..1_000_000 {
+        if volume.relieve(alloc).is_none() {
+            return true;
+        }
+    }
+    false
+}
+
+/// How many nodes the tree of an index has: the root, and a child in each slot.
+fn nodes(volume: &Volume, index: Index) -> u128 {
+    volume.shape_report(index).slots.saturating_add(1)
+}
+
+/// Makes the directory and these files, each with a block.
+fn make(alloc: Global, volume: &mut Volume, numbers: &[u32]) -> bool {
+    outcome(alloc, volume, "/d", Change::Mkdir, 0).is_ok()
+        && change_all(alloc, volume, numbers, Change::Create)
+        && change_all(alloc, volume, numbers, Change::Write(0, "x"))
+}
+
+/// Whether no tree of the volume has many more nodes than that of the other one.
+fn are_few(volume: &Volume, fresh: &Volume) -> bool {
+    nodes(volume, Index::Meta) <= nodes(fresh, Index::Meta).saturating_mul(MOST)
+        && nodes(volume, Index::Block) <= nodes(fresh, Index::Block).saturating_mul(MOST)
+}
+
+/// Whether a volume, which has these files, has few nodes for them once nothing is pending.
+fn is_small(alloc: Global, volume: &mut Volume, shape: Shape, numbers: &[u32]) -> bool {
+    match new_volume(alloc, shape) {
+        Ok(mut fresh) => {
+            make(alloc, &mut fresh, numbers)
+                && settle(alloc, &mut fresh)
+                && settle(alloc, volume)
+                && are_few(volume, &fresh)
+        }
+        Err(_) => false,
+    }
+}
+
+/// Half of the numbers: each second one from this on.
+fn every_second(alloc: Global, from: u32) -> Option<Vec<u32>> {
+    let mut numbers = Vec::new(alloc);
+    for i in 0..FILES / 2 {
+        numbers.push(i.saturating_mul(2).saturating_add(from)).ok()?;
+    }
+    Some(numbers)
+}
+
+/// The numbers in an order that looks random: each is taken so many places behind the last one, and the list is a ring.
+fn mixed(alloc: Global, numbers: &[u32]) -> Option<Vec<u32>> {
+    let mut order = Vec::new(alloc);
+    let mut at = 0usize;
+    for _ in 0..numbers.len() {
+        order.push(*numbers.get(at)?).ok()?;
+        at = at.wrapping_add(STRIDE).checked_rem(numbers.len())?;
+    }
+    Some(order)
+}
+
+/// Removes these files but for a few, and then those, and looks at the nodes each time.
+fn remove_all(alloc: Global, volume: &mut Volume, shape: Shape, files: &[u32]) -> bool {
+    let (most, last) = files.split_at(files.len().saturating_sub(FEW));
+    change_all(alloc, volume, most, Change::Unlink)
+        && is_small(alloc, volume, shape, last)
+        && change_all(alloc, volume, last, Change::Unlink)
+        && is_small(alloc, volume, shape, &[])
+}
+
+/// Removes the files of the first half in order, and then the others in an order that looks random.
+fn remove(alloc: Global, volume: &mut Volume, shape: Shape, files: &[u32]) -> bool {
+    let (first, others) = files.split_at(files.len() / 2);
+    if !change_all(alloc, volume, first, Change::Unlink)
+        || !is_small(alloc, volume, shape, others)
+    {
+        return false;
+    }
+    match mixed(alloc, others) {
+        Some(order) => remove_all(alloc, volume, shape, order.as_slice()),
+        None => false,
+    }
+}
+
+/// Makes files, moves every second over the next one, and removes them all.
+fn come_and_go(alloc: Global, volume: &mut Volume, shape: Shape) -> bool {
+    match (every_second(alloc, 0), every_second(alloc, 1)) {
+        (Some(moved), Some(left)) => {
+            make(alloc, volume, moved.as_slice())
+                && change_all(alloc, volume, left.as_slice(), Change::Create)
+                && move_all(alloc, volume, moved.as_slice())
+                && is_small(alloc, volume, shape, left.as_slice())
+                && remove(alloc, volume, shape, left.as_slice())
+        }
+        _ => false,
+    }
+}
+
+/// Makes directories, which then go in order.
+fn directories_go(alloc: Global, volume: &mut Volume, shape: Shape) -> bool {
+    match every_second(alloc, 0) {
+        Some(numbers) => {
+            change_all(alloc, volume, numbers.as_slice(), Change::Mkdir)
+                && change_all(alloc, volume, numbers.as_slice(), Change::Rmdir)
+                && is_small(alloc, volume, shape, &[])
+        }
+        None => false,
+    }
+}
+
+/// Whether a new volume of the shape stays small through all of it.
+fn stays_small(alloc: Global, shape: Shape) -> bool {
+    match new_volume(alloc, shape) {
+        Ok(mut volume) => {
+            come_and_go(alloc, &mut volume, shape) && directories_go(alloc, &mut volume, shape)
+        }
+        Err(_) => false,
+    }
+}
+
+#[test]
+fn removals_leave_few_nodes(rt: HostRuntime) {
+    let shape = Shape {
+        fanout: 8,
+        pending: 32,
+        leaf: 16,
+    };
+    assert!(rt; stays_small(rt.alloc(), shape));
+}
+
+#[test]
+fn removals_leave_few_nodes_in_the_usual_shape(rt: HostRuntime) {
+    assert!(rt; stays_small(rt.alloc(), Shape::USUAL));
+}
