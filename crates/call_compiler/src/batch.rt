@@ -57,13 +57,13 @@ pub(crate) fn done(
 /// comes to: it is done, and the directory gets the moment.
 pub(crate) fn done_in(
     alloc: Global,
-    directory: &Directory,
+    directory: Directory,
     at: u64,
     msg: Msg<MetaUpdate>,
     block: Vec<Msg<BlockUpdate>>,
 ) -> Result<(Reply, Batch), NoMemory>
     ensures reply { IfOk result (λ c. c.0 ≡ Reply.Done) }
-    ensures messages { IfOk result (λ c. messages c.1 ≡ record { meta = msg ∷ needed_touches at directory.now; block = block.items }) }
+    ensures messages { IfOk result (λ c. messages c.1 ≡ record { meta = msg ∷ needed_touches at directory; block = block.items }) }
 {
     let mut meta = Vec::with_capacity(alloc, 2)?;
     meta.push(msg)?;

@@ -31,7 +31,7 @@ pub fn mkdir(
         Err(fault) => return Ok(refused(alloc, fault)),
     };
     let put = Msg::Put(key.copy(alloc)?, Meta::Dir { modified: at });
-    done_in(alloc, &directory, at, put, Vec::new(alloc))
+    done_in(alloc, directory, at, put, Vec::new(alloc))
 }
 
 /// Makes an empty file (open with O_CREAT and O_EXCL, without a descriptor).
@@ -55,7 +55,7 @@ pub fn create(
             modified: at,
         },
     );
-    done_in(alloc, &directory, at, put, Vec::new(alloc))
+    done_in(alloc, directory, at, put, Vec::new(alloc))
 }
 
 /// The directory of the path, where a new entry can be made there; or why none can.

@@ -31,7 +31,7 @@ pub fn unlink(
     };
     let block = without_blocks(alloc, indexes, path, file)?;
     let directory = directory_of(alloc, path)?;
-    done_in(alloc, &directory, at, Msg::Del(key.copy(alloc)?), block)
+    done_in(alloc, directory, at, Msg::Del(key.copy(alloc)?), block)
 }
 
 /// Takes an empty directory out (rmdir).
@@ -49,7 +49,7 @@ pub fn rmdir(
     }
     let del = Msg::Del(key.copy(alloc)?);
     let directory = directory_of(alloc, path)?;
-    done_in(alloc, &directory, at, del, Vec::new(alloc))
+    done_in(alloc, directory, at, del, Vec::new(alloc))
 }
 
 /// Why no empty directory can be taken out at the path; none where one can.
@@ -90,7 +90,7 @@ pub fn rmtree(
     let mut block = Vec::with_capacity(alloc, 1)?;
     block.push(Msg::DelRange(range.copy(alloc)?))?;
     let directory = directory_of(alloc, path)?;
-    done_in(alloc, &directory, at, Msg::DelRange(range), block)
+    done_in(alloc, directory, at, Msg::DelRange(range), block)
 }
 
 /// Why no entry with all below it can be taken out of its place, or moved from it, where `here` was found; none where one can.

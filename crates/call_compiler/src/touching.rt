@@ -47,20 +47,20 @@ pub(crate) fn directory_of(alloc: Global, path: &Path) -> Result<Directory, NoMe
     })
 }
 
-/// Puts the message that sets the directory's moment behind the others, unless the directory is known to have it.
+/// Puts the message that sets the directory's moment behind the others, unless the directory is known to have it. The message takes the
+/// key out of the directory's path.
 pub(crate) fn touch(
     alloc: Global,
     msgs: &mut Vec<Msg<MetaUpdate>>,
-    directory: &Directory,
+    directory: Directory,
     at: u64,
 ) -> Result<(), NoMemory>
-    ensures { OnOk result (msgs.new.items ≡ msgs.old.items ++ needed_touches at directory.now) }
+    ensures { OnOk result (msgs.new.items ≡ msgs.old.items ++ needed_touches at directory) }
 {
     if directory.has_moment(at) {
         return Ok(());
     }
-    let key = directory.path.key().copy(alloc)?;
-    msgs.push(Msg::Edit(key, MetaUpdate::Touch(at)))?;
+    msgs.push(Msg::Edit(directory.path.into_key(), MetaUpdate::Touch(at)))?;
     Ok(())
 }
 
@@ -76,11 +76,12 @@ pub(crate) fn touch_directories(
 {
     let from = directory_of(alloc, old)?;
     let to = directory_of(alloc, new)?;
-    touch(alloc, msgs, &from, at)?;
-    if from.path.is_same(&to.path) {
+    let is_one = from.path.is_same(&to.path);
+    touch(alloc, msgs, from, at)?;
+    if is_one {
         return Ok(());
     }
-    touch(alloc, msgs, &to, at)
+    touch(alloc, msgs, to, at)
 }
 
 /// Whether the call, where it is done, gives the root its moment: it puts or takes out an entry of it. It takes no memory.
