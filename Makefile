@@ -98,7 +98,8 @@ crates/betr/out/betr crates/deltas/out/deltas: | toolchain
 	@echo '$@ is not there: make prove proves and builds it, an hour at first; make UNPROVED=1 builds all without proofs' >&2
 	@exit 1
 
-crates/doorvervain/out/libdoorvervain.a: | toolchain
+# Behind the programs, so that an hour of proofs does not begin where one of them is missing: make libraries asks for the archive alone.
+crates/doorvervain/out/libdoorvervain.a: | toolchain $(if $(filter libraries,$(MAKECMDGOALS)),,$(BETR) $(if $(NO_DELTAS),,$(DELTAS)))
 	examples/archive
 endif
 
