@@ -19,7 +19,10 @@ use Rattle.reference.proofs.Touching.{reply_is}
 use Rattle.reference.proofs.Snapshots.{takes, takes_no_more, drops}
 use Rattle.jobs.specs.Marks.{PMarked, kept_in}
 use Rattle.jobs.proofs.Keeping.{contents_stay}
+use Rattle.block_index.specs.Updates.{means as block_means}
+use Rattle.meta_index.specs.Updates.{means as meta_means}
 use Rattle.node.proofs.Grafting.{keeps_nothing}
+use Rattle.node.proofs.Roots.{appended_none}
 use Rattle.node.proofs.Outcome.{on_undone}
 use Rattle.node.specs.Steps.{UnlessDid}
 use Rattle.node.specs.declared.place.TreeStep.{TreeStep}
@@ -88,6 +91,19 @@ nothing_comes l m e = subst (λ (x : PLive). KeepMarkedLists no_messages l x) (s
   meta = keeps_nothing l.indexes.meta.tree.shape 0 (kept_in l.marks.meta l.indexes.meta.tree.root) [] l.indexes.meta.tree l.indexes.meta.tree.root refl refl;
   block = keeps_nothing l.indexes.block.tree.shape 0 (kept_in l.marks.block l.indexes.block.tree.root) [] l.indexes.block.tree l.indexes.block.tree.root refl refl;
 })
+
+-- and both trees have taken what came
+pub took_nothing : (msgs : Messages) (l : PLive) → Stands l → msgs.meta ≡ [] → msgs.block ≡ [] → HaveTaken msgs l.indexes l.indexes
+took_nothing msgs l is m b = record {
+  meta = appended_none l.indexes.meta.tree.shape meta_means msgs.meta l.indexes.meta.tree l.indexes.meta.tree.root is.meta refl m;
+  block = appended_none l.indexes.block.tree.shape block_means msgs.block l.indexes.block.tree l.indexes.block.tree.root is.block refl b;
+}
+
+pub kept_lists : (msgs : Messages) (l : PLive) → msgs.meta ≡ [] → msgs.block ≡ [] → KeepMarkedLists msgs l l
+kept_lists msgs l m b = record {
+  meta = keeps_nothing l.indexes.meta.tree.shape 0 (kept_in l.marks.meta l.indexes.meta.tree.root) msgs.meta l.indexes.meta.tree l.indexes.meta.tree.root refl m;
+  block = keeps_nothing l.indexes.block.tree.shape 0 (kept_in l.marks.block l.indexes.block.tree.root) msgs.block l.indexes.block.tree l.indexes.block.tree.root refl b;
+}
 
 pub lacks_call : (v : PVolume) (c : Call) (at : ℕ) (l : PLive) → l ≡ live_of v → Called c at (Fault ENOMEM) v (volume l v.live.modified v.snapshots)
 lacks_call v c at l e = record {

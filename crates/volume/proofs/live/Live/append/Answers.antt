@@ -1,11 +1,12 @@
-use Rattle.std.proofs.Common.{ℕ, List, ap, ◌∙◌, subst, sym}
+use Rattle.std.proofs.Common.{◌≡◌, ℕ, List, [], ap, ◌∙◌, rules, subst, sym}
 use Rattle.std.specs.Prelude.{OnOk}
+use Rattle.std.proofs.lemmas.List.{nil_from_length}
 use Rattle.call_compiler.specs.Compiled.{messages}
 use Rattle.call_compiler.specs.declared.indexes.Indexes.{Indexes}
 use Rattle.jobs.specs.Marks.{kept_in}
 use Rattle.node.specs.Grafts.{KeepsLists}
 use Rattle.volume.specs.Marked.{PLive, KeepMarkedLists, KeepsMarks}
-use Rattle.volume.proofs.Leading.{kept_all}
+use Rattle.volume.proofs.Leading.{kept_all, kept_lists, took_nothing}
 use Rattle.volume.proofs.Unmarked.{unmarked}
 use Rattle.volume.proofs.Marking.{AppendsKept, appends_kept, appended_lasts, appended_keeps, indexes_of, lists_kept}
 use Rattle.volume.proofs.live.Live.append.Goals as goal
@@ -54,3 +55,18 @@ returns-in_err-meta_kept-clause-kept c = kept_all c.args.self.now
 
 pub returns-in_err-block_kept-clause-kept : goal.returns-in_err-block_kept-clause-kept
 returns-in_err-block_kept-clause-kept c = kept_all c.args.self.now
+
+pub returns-then-is_empty-2-clause-done : goal.returns-then-is_empty-2-clause-done
+returns-then-is_empty-2-clause-done c =
+    let meta : c.args.batch.meta.items ≡ [] = nil_from_length c.args.batch.meta.items (search rules) in
+    let block : c.args.batch.block.items ≡ [] = nil_from_length c.args.batch.block.items (search rules) in
+    took_nothing (messages c.args.batch) c.args.self.now c.stands.ensures meta block
+
+pub returns-then-is_empty-2-clause-lists : goal.returns-then-is_empty-2-clause-lists
+returns-then-is_empty-2-clause-lists c =
+    let meta : c.args.batch.meta.items ≡ [] = nil_from_length c.args.batch.meta.items (search rules) in
+    let block : c.args.batch.block.items ≡ [] = nil_from_length c.args.batch.block.items (search rules) in
+    kept_lists (messages c.args.batch) c.args.self.now meta block
+
+pub returns-then-is_empty-2-clause-kept : goal.returns-then-is_empty-2-clause-kept
+returns-then-is_empty-2-clause-kept c = kept_all c.args.self.now
