@@ -129,8 +129,9 @@ def measure_removals(program: Path, memory: Path, work: Path) -> None:
     try:
         show_calls(time_calls(points["library"]))
         for name, copy in (("a git clone", copy_by_clone), ("a git commit", copy_by_commit)):
-            times = {side: min(time_removal(work / "repository", points[side], process.pid, copy)
-                               for _ in range(ROUNDS)) for side, process in sides.items()}
+            rounds = [{side: time_removal(work / "repository", points[side], process.pid, copy)
+                       for side, process in sides.items()} for _ in range(ROUNDS)]
+            times = {side: min(one[side] for one in rounds) for side in sides}
             print(f"rm -r of {name}, {2 * SOURCES:,} files, processor time: library {times['library']:.2f} s, "
                   f"bindfs {times['bindfs']:.2f} s ({times['library'] / times['bindfs']:.2f})")
     finally:
