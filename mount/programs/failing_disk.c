@@ -1,7 +1,8 @@
 // A disk that fails, under a program: preloaded, it stands before writes and syncs of files in the folder FAILING_STORE.
 // Where the file FAILING_DISK has the word `sync`, syncs fail; with `write`, writes fail too; with another word, both fail
 // of a file whose name begins with that and a dot. Behind each sync that is done, the length of the file goes to the
-// folder FAILING_SYNCED, below its name: so much a loss of power leaves at least.
+// folder FAILING_SYNCED, below its name: so much a loss of power leaves at least. Each sync takes FAILING_DELAY
+// milliseconds more.
 #define _GNU_SOURCE
 #include <dlfcn.h>
 #include <errno.h>
@@ -68,6 +69,8 @@ static void note(int file) {
 
 static int sync_by(const char *name, int file) {
     int (*real)(int) = (int (*)(int))dlsym(RTLD_NEXT, name);
+    const char *delay = getenv("FAILING_DELAY");
+    if (delay) usleep((useconds_t)atoi(delay) * 1000);
     if (fails(file, "sync")) return errno = EIO, -1;
     int done = real(file);
     if (!done) note(file);

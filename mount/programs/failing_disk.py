@@ -7,15 +7,16 @@ from own_store import PROGRAMS, WORKS, logs
 
 
 class FailingDisk:
-    """A disk below a store that fails when it is told to, and knows what was synced."""
+    """A disk below a store that fails when it is told to, and knows what was synced. Its syncs may take longer."""
 
-    def __init__(self, folder: Path):
+    def __init__(self, folder: Path, milliseconds: int = 0):
         library = folder / "failing_disk.so"
         subprocess.run(["gcc", "-shared", "-fPIC", "-O1", PROGRAMS / "failing_disk.c", "-o", library, "-ldl"], check=True)
         self.control, self.synced = folder / "fails", folder / "synced"
         self.synced.mkdir()
         self.environment = {"LD_PRELOAD": str(library), "FAILING_STORE": str(folder / "store"),
                             "FAILING_DISK": str(self.control), "FAILING_SYNCED": str(self.synced),
+                            "FAILING_DELAY": str(milliseconds),
                             "ASAN_OPTIONS": os.environ.get("ASAN_OPTIONS", "") + ":verify_asan_link_order=0"}
 
     def fail(self, what: str) -> None:

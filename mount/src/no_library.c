@@ -21,15 +21,21 @@ int store_snapshots(struct store *store, struct bytes *out) { return (void)store
 
 int store_keep(struct store *store, struct mount *mount) { return (void)store, (void)mount, ENOSYS; }
 
-int store_end_request(struct store *store) { return (void)store, 0; }
+int store_end_request(struct store *store, bool *has_changed) { return (void)store, *has_changed = false; }
 
 void store_rest(struct store *store) { (void)store; }
 
-void store_wait(struct store *store) { (void)store; }
-
 bool store_syncs_each(const struct store *store) { return (void)store, false; }
 
-int store_sync(struct store *store, uint64_t *told) { return (void)store, (void)told, 0; }
+int store_sync(struct store *store) { return (void)store, 0; }
+
+bool store_syncs_soon(struct store *store, int *fault) { return (void)store, (void)fault, false; }
+
+void store_wait_for_sync(struct store *store, struct waiter *waiter) { (void)store, (void)waiter; }
+
+bool store_is_full(const struct store *store) { return (void)store, false; }
+
+bool store_waits_for_room(struct store *store, struct waiter *waiter) { return (void)store, (void)waiter, false; }
 
 uint64_t store_failures(struct store *store) { return (void)store, 0; }
 

@@ -5,6 +5,7 @@
 // keeps them; where the tree becomes another one, it is told to forget. The bytes of a file are asked for anew when it
 // is opened.
 #include "requests.h"
+#include "answers.h"
 #include "aside.h"
 #include "awake.h"
 #include "delta.h"
@@ -12,6 +13,7 @@
 #include "extended.h"
 #include "holes.h"
 #include "links.h"
+#include "locks.h"
 #include "names.h"
 #include "room.h"
 #include "snapshots.h"
@@ -31,64 +33,55 @@ enum { MOST_WAITING_STEPS = 64 };
 // The number of an entry that is not known, as libfuse has it.
 #define NO_NUMBER 0xffffffff
 
-static pthread_mutex_t lock = PTHREAD_MUTEX_INITIALIZER;
+static struct lock lock = LOCK_FREE;
 static struct fuse_session *session;
 static double seconds_known = SECONDS_KNOWN;
-static unsigned threads; // that make the tree another one, under the lock
+static _Atomic unsigned threads; // that make the tree another one
 
 void requests_use(struct fuse_session *used, bool is_shared) {
     session = used;
     seconds_known = is_shared ? SECONDS_SHARED : SECONDS_KNOWN;
 }
 
-bool requests_are_under_way(void) {
-    pthread_mutex_lock(&lock);
-    bool are = threads > 0;
-    pthread_mutex_unlock(&lock);
-    return are;
-}
+bool requests_are_under_way(void) { return threads > 0 || answers_wait(); }
 
 bool requests_wait_for_forget(const struct mount *mount) {
-    pthread_mutex_lock(&lock);
+    lock_take(&lock);
     bool waits = mount->leaving;
-    pthread_mutex_unlock(&lock);
+    lock_drop(&lock);
     return waits;
 }
 
-void requests_pause(void) { pthread_mutex_lock(&lock); }
+void requests_pause(void) { lock_take(&lock); }
 
-void requests_go_on(void) { pthread_mutex_unlock(&lock); }
+void requests_go_on(void) { lock_drop(&lock); }
+
+bool requests_are_paused(void) { return lock_is_held(&lock); }
 
 static bool owes_much(struct mount *mount) {
     const struct volume *volume = &mount->volume;
-    pthread_mutex_lock(&lock);
+    lock_take(&lock);
     bool does = volume->way->owes(volume->self) > MOST_WAITING_STEPS;
-    pthread_mutex_unlock(&lock);
+    lock_drop(&lock);
     return does;
 }
 
 // Whether a step was left to be done. No size of the mount lets it take more than a call.
 static bool rest_once(struct mount *mount) {
     const struct volume *volume = &mount->volume;
-    pthread_mutex_lock(&lock);
+    lock_take(&lock);
     unsigned owed = volume->way->owes(volume->self);
     bool is_due = owed > MOST_WAITING_STEPS || (owed && !awake_sees(fuse_session_fd(session)));
     room_begin();
     if (is_due) volume->way->relieve(volume->self, 1);
     room_lift();
-    pthread_mutex_unlock(&lock);
+    lock_drop(&lock);
     return is_due;
-}
-
-static void rest_store(struct mount *mount) {
-    pthread_mutex_lock(&lock);
-    store_rest(mount->store);
-    pthread_mutex_unlock(&lock);
 }
 
 // One step is done while whoever was answered wakes up. The next request may come before there is time for others.
 void requests_rest(struct mount *mount) {
-    if (mount->store) rest_store(mount);
+    if (mount->store) store_rest(mount->store);
     rest_once(mount);
     while (owes_much(mount)) rest_once(mount);
     if (awake_finds(fuse_session_fd(session))) return;
@@ -110,13 +103,13 @@ static struct fuse_entry_param told(const struct found *found) {
 
 // Takes the lock. An unlinked file that the kernel knows still goes out of the way.
 static int begin(fuse_req_t req) {
-    pthread_mutex_lock(&lock);
+    lock_take(&lock);
     return aside_settle(mount_of(req));
 }
 
 // The same for a request that is about the bytes of one file alone.
 static int begin_bytes(fuse_req_t req, fuse_ino_t number) {
-    pthread_mutex_lock(&lock);
+    lock_take(&lock);
     bool is_leaving = mount_of(req)->leaving && mount_of(req)->leaving == entry_of(req, number);
     return is_leaving ? aside_settle(mount_of(req)) : 0;
 }
@@ -127,14 +120,32 @@ static int begin_write(fuse_req_t req, fuse_ino_t number) {
 }
 
 // Leaves the lock: the request is at its end, and a store keeps what it did.
-static int leave(struct mount *mount, int fault) {
+static int leave_changed(struct mount *mount, int fault, bool *has_changed) {
     int other = 0;
+    *has_changed = false;
     if (mount->store && store_syncs_each(mount->store)) other = aside_settle(mount);
-    if (mount->store && !other) other = store_end_request(mount->store);
-    pthread_mutex_unlock(&lock);
-    if (mount->store) store_wait(mount->store);
+    if (mount->store && !other) other = store_end_request(mount->store, has_changed);
+    lock_drop(&lock);
     return fault ? fault : other;
 }
+
+// The same of a request that is answered at once: it asks alone.
+static int leave(struct mount *mount, int fault) {
+    bool has_changed;
+    return leave_changed(mount, fault, &has_changed);
+}
+
+// Leaves the lock, and answers a request that changes something.
+static void finish(fuse_req_t req, int fault, struct answer answer) {
+    struct mount *mount = mount_of(req);
+    bool has_changed;
+    answer.req = req;
+    answer.fault = leave_changed(mount, fault, &has_changed);
+    answer_change(mount->store, &answer, has_changed);
+}
+
+// The same of one that has nothing to tell.
+static void finish_done(fuse_req_t req, int fault) { finish(req, fault, (struct answer){.kind = ANSWER_DONE}); }
 
 // Under the lock: an answer that names an entry is one more that the kernel holds.
 static int hold(int fault, const struct found *found) {
@@ -147,6 +158,12 @@ static void answer_entry(fuse_req_t req, int fault, const struct found *found) {
     if (!fault) param = told(found);
     if (fault && fault != ENOENT) fuse_reply_err(req, fault);
     else fuse_reply_entry(req, &param);
+}
+
+static struct answer entry_answer(int fault, const struct found *found) {
+    struct answer answer = {.kind = ANSWER_ENTRY};
+    if (!fault) answer.entry = told(found);
+    return answer;
 }
 
 static void on_init(void *mount, struct fuse_conn_info *connection) {
@@ -163,14 +180,14 @@ static void on_lookup(fuse_req_t req, fuse_ino_t parent, const char *name) {
 }
 
 static void on_forget(fuse_req_t req, fuse_ino_t number, uint64_t lookups) {
-    pthread_mutex_lock(&lock);
+    lock_take(&lock);
     if (number != FUSE_ROOT_ID) aside_forget(mount_of(req), entry_of(req, number), lookups);
     leave(mount_of(req), 0);
     fuse_reply_none(req);
 }
 
 static void on_forget_many(fuse_req_t req, size_t count, struct fuse_forget_data *forgets) {
-    pthread_mutex_lock(&lock);
+    lock_take(&lock);
     for (size_t i = 0; i < count; i++)
         if (forgets[i].ino != FUSE_ROOT_ID)
             aside_forget(mount_of(req), entry_of(req, forgets[i].ino), forgets[i].nlookup);
@@ -215,8 +232,9 @@ static void on_setattr(fuse_req_t req, fuse_ino_t number, struct stat *wanted, i
     int fault = begin(req);
     if (!fault) fault = files_set(mount_of(req), entry_of(req, number), &setting);
     if (!fault) fault = files_stat(mount_of(req), entry_of(req, number), &stat);
-    fault = leave(mount_of(req), fault);
-    answer_stat(req, fault, &stat);
+    struct answer answer = {.kind = ANSWER_ATTRIBUTES, .seconds = seconds_known};
+    if (!fault) answer.stat = stat;
+    finish(req, fault, answer);
 }
 
 static uint8_t kind_of(mode_t mode) {
@@ -243,9 +261,7 @@ static void make(fuse_req_t req, fuse_ino_t parent, const char *name, const stru
     int fault = begin(req);
     if (!fault) fault = names_make(mount_of(req), entry_of(req, parent), name, novelty, &found);
     hold(fault, &found);
-    fault = leave(mount_of(req), fault);
-    if (fault) fuse_reply_err(req, fault);
-    else answer_entry(req, 0, &found);
+    finish(req, fault, entry_answer(fault, &found));
 }
 
 static void on_mkdir(fuse_req_t req, fuse_ino_t parent, const char *name, mode_t mode) {
@@ -280,16 +296,13 @@ static void on_link(fuse_req_t req, fuse_ino_t number, fuse_ino_t parent, const 
     int fault = begin(req);
     if (!fault) fault = links_make(mount_of(req), entry_of(req, number), entry_of(req, parent), name, &found);
     hold(fault, &found);
-    fault = leave(mount_of(req), fault);
-    if (fault) fuse_reply_err(req, fault);
-    else answer_entry(req, 0, &found);
+    finish(req, fault, entry_answer(fault, &found));
 }
 
 static void take_name(fuse_req_t req, fuse_ino_t parent, const char *name, bool is_directory) {
     int fault = begin(req);
     if (!fault) fault = names_remove(mount_of(req), entry_of(req, parent), name, is_directory);
-    fault = leave(mount_of(req), fault);
-    fuse_reply_err(req, fault);
+    finish_done(req, fault);
 }
 
 static void on_unlink(fuse_req_t req, fuse_ino_t parent, const char *name) { take_name(req, parent, name, false); }
@@ -301,8 +314,7 @@ static void on_rename(fuse_req_t req, fuse_ino_t parent, const char *name, fuse_
     struct mount *mount = mount_of(req);
     int fault = begin(req);
     if (!fault) fault = names_rename(mount, entry_of(req, parent), name, entry_of(req, new_parent), new_name, flags);
-    fault = leave(mount_of(req), fault);
-    fuse_reply_err(req, fault);
+    finish_done(req, fault);
 }
 
 // A file or directory that is open. All of them stand in a row, since a mount may end before they are closed.
@@ -310,7 +322,7 @@ struct handle {
     struct bytes names; // of a directory, as they were when it was read from its beginning
     struct bytes text;  // of a difference, by the root
     size_t sent;        // bytes of it
-    uint64_t told;      // how many failed syncs of the store it was told
+    _Atomic uint64_t told; // how many failed syncs of the store it was told
     struct handle *before, *after;
 };
 
@@ -368,13 +380,8 @@ static void on_open(fuse_req_t req, fuse_ino_t number, struct fuse_file_info *in
     struct entry *entry = entry_of(req, number);
     int fault = begin(req);
     if (!fault) fault = files_open(mount_of(req), entry, info->flags, may_drop(req, entry, info->flags));
-    fault = leave(mount_of(req), fault);
-    if (fault) {
-        fuse_reply_err(req, fault);
-        return;
-    }
-    open_file(req, info);
-    fuse_reply_open(req, info);
+    if (!fault) open_file(req, info);
+    finish(req, fault, (struct answer){.kind = ANSWER_OPENED, .info = *info});
 }
 
 // A file that stands already is opened as it is; where that cuts it, what is told is what stands then.
@@ -400,22 +407,18 @@ static void on_create(fuse_req_t req, fuse_ino_t parent, const char *name, mode_
     struct found found;
     int fault = begin(req);
     if (!fault) fault = create(req, parent, name, mode, info->flags, &found);
-    fault = leave(mount_of(req), fault);
-    if (fault) {
-        fuse_reply_err(req, fault);
-        return;
-    }
-    struct fuse_entry_param param = told(&found);
-    open_file(req, info);
-    fuse_reply_create(req, &param, info);
+    struct answer answer = entry_answer(fault, &found);
+    if (!fault) open_file(req, info);
+    answer.kind = ANSWER_CREATED;
+    answer.info = *info;
+    finish(req, fault, answer);
 }
 
 static void on_release(fuse_req_t req, fuse_ino_t number, struct fuse_file_info *info) {
     close_handle(info);
-    pthread_mutex_lock(&lock);
+    lock_take(&lock);
     int fault = files_close(mount_of(req), entry_of(req, number));
-    fault = leave(mount_of(req), fault);
-    fuse_reply_err(req, fault);
+    finish_done(req, fault);
 }
 
 static void on_read(fuse_req_t req, fuse_ino_t number, size_t size, off_t offset, struct fuse_file_info *info) {
@@ -437,9 +440,7 @@ static void on_write(fuse_req_t req, fuse_ino_t number, const char *bytes, size_
     (void)info;
     int fault = begin_write(req, number);
     if (!fault) fault = files_write(mount_of(req), entry_of(req, number), (uint64_t)offset, bytes, size, &done);
-    fault = leave(mount_of(req), fault);
-    if (fault) fuse_reply_err(req, fault);
-    else fuse_reply_write(req, done);
+    finish(req, fault, (struct answer){.kind = ANSWER_WRITTEN, .written = done});
 }
 
 static void on_fallocate(fuse_req_t req, fuse_ino_t number, int mode, off_t offset, off_t count,
@@ -447,8 +448,7 @@ static void on_fallocate(fuse_req_t req, fuse_ino_t number, int mode, off_t offs
     (void)info;
     int fault = begin(req);
     if (!fault) fault = holes_allocate(mount_of(req), entry_of(req, number), mode, (uint64_t)offset, (uint64_t)count);
-    fault = leave(mount_of(req), fault);
-    fuse_reply_err(req, fault);
+    finish_done(req, fault);
 }
 
 static void on_lseek(fuse_req_t req, fuse_ino_t number, off_t offset, int whence, struct fuse_file_info *info) {
@@ -463,18 +463,14 @@ static void on_lseek(fuse_req_t req, fuse_ino_t number, off_t offset, int whence
 
 // Where nothing is kept, all is in memory.
 static void on_fsync(fuse_req_t req, fuse_ino_t number, int data_only, struct fuse_file_info *info) {
-    struct mount *mount = mount_of(req);
+    struct store *store = mount_of(req)->store;
     struct handle *handle = handle_of(info);
-    int fault = 0;
+    struct answer answer = {.kind = ANSWER_SYNCED, .req = req, .told = handle ? &handle->told : 0};
     (void)number, (void)data_only;
-    if (mount->store) {
-        fault = begin(req);
-        uint64_t told = handle ? handle->told : store_failures(mount->store);
-        if (!fault) fault = store_sync(mount->store, &told);
-        if (handle) handle->told = told;
-        fault = leave(mount, fault);
-    }
-    fuse_reply_err(req, fault);
+    int fault = store ? begin(req) : 0;
+    if (store) fault = leave(mount_of(req), fault);
+    if (store && !fault) answer_sync(store, &answer);
+    else fuse_reply_err(req, fault);
 }
 
 static void on_opendir(fuse_req_t req, fuse_ino_t number, struct fuse_file_info *info) {
@@ -612,15 +608,13 @@ static void on_setxattr(fuse_req_t req, fuse_ino_t number, const char *name, con
                         int flags) {
     int fault = begin(req);
     if (!fault) fault = extended_set(mount_of(req), entry_of(req, number), name, value, size, flags);
-    fault = leave(mount_of(req), fault);
-    fuse_reply_err(req, fault);
+    finish_done(req, fault);
 }
 
 static void on_removexattr(fuse_req_t req, fuse_ino_t number, const char *name) {
     int fault = begin(req);
     if (!fault) fault = extended_remove(mount_of(req), entry_of(req, number), name);
-    fault = leave(mount_of(req), fault);
-    fuse_reply_err(req, fault);
+    finish_done(req, fault);
 }
 
 // Bytes that were asked for, or how many they are where no room was given.
@@ -674,12 +668,6 @@ static void tell_stale(struct bytes *list) {
     bytes_free(list);
 }
 
-static void count_thread(int more) {
-    pthread_mutex_lock(&lock);
-    threads += (unsigned)more;
-    pthread_mutex_unlock(&lock);
-}
-
 struct restoring {
     fuse_req_t req;
     struct restore_request wanted;
@@ -691,20 +679,22 @@ static void *restore(void *argument) {
     struct bytes stale = {0};
     int fault = begin(restoring->req);
     if (!fault) fault = snapshot_restore(mount_of(restoring->req), restoring->wanted.name, &stale);
+    struct store *store = mount_of(restoring->req)->store;
     fault = leave(mount_of(restoring->req), fault);
+    if (!fault && store && store_syncs_each(store)) fault = store_sync(store);
     tell_stale(&stale);
     if (fault) fuse_reply_err(restoring->req, fault);
     else fuse_reply_ioctl(restoring->req, 0, 0, 0);
     free(restoring);
-    count_thread(-1);
+    threads--;
     return 0;
 }
 
 static int start_thread(void *(*run)(void *argument), void *argument) {
     pthread_t thread;
-    count_thread(1);
+    threads++;
     int fault = pthread_create(&thread, 0, run, argument);
-    if (fault) count_thread(-1);
+    if (fault) threads--;
     else pthread_detach(thread);
     return fault;
 }
@@ -724,12 +714,6 @@ struct receiving {
     struct bytes text;
 };
 
-// A store has on the disk what was received.
-static int sync_new(struct store *store) {
-    uint64_t told = store_failures(store);
-    return store_sync(store, &told);
-}
-
 // Runs in a thread of its own, as `restore` does.
 static void *receive(void *argument) {
     struct receiving *receiving = argument;
@@ -738,14 +722,14 @@ static void *receive(void *argument) {
     struct delta_answer answer;
     int fault = begin(receiving->req);
     if (!fault) fault = delta_apply(mount, &receiving->text, &answer, &stale);
-    if (!fault && mount->store) fault = sync_new(mount->store);
     fault = leave(mount, fault);
+    if (!fault && mount->store) fault = store_sync(mount->store);
     tell_stale(&stale);
     if (fault) fuse_reply_err(receiving->req, fault);
     else fuse_reply_ioctl(receiving->req, 0, &answer, sizeof answer);
     bytes_free(&receiving->text);
     free(receiving);
-    count_thread(-1);
+    threads--;
     return 0;
 }
 

@@ -27,4 +27,6 @@ bool requests_wait_for_forget(const struct mount *mount);
 // Keeps requests out, until they go on.
 void requests_pause(void);
 void requests_go_on(void);
+// Whether it is this thread that keeps them out.
+bool requests_are_paused(void);
 #endif

@@ -19,16 +19,29 @@ int store_snapshots(struct store *store, struct bytes *out);
 // Begins to sync in time, and to write images, by a thread of its own, until the volume is closed.
 int store_keep(struct store *store, struct mount *mount);
 
-// These are called under the lock of requests. At its end a request is one record. With --sync it is on the disk then:
-// 0, or why it is not.
-int store_end_request(struct store *store);
+// What waits for the disk: `answer` is called when it has come, or failed, by another thread, with no lock.
+struct waiter {
+    struct waiter *next;
+    void (*answer)(struct waiter *self, int fault);
+};
+
+// Called under the lock of requests. At its end a request is one record; `has_changed`: it changed something.
+int store_end_request(struct store *store, bool *has_changed);
+
+// The others are called with no lock.
 bool store_syncs_each(const struct store *store);
-// Between two requests: what is about to be synced is written.
+// Between two requests: what is about to be synced is written, where the disk is quick.
 void store_rest(struct store *store);
-// Brings all that was answered onto the disk. A failure that is not among those that `told` counts is told once: EIO.
-int store_sync(struct store *store, uint64_t *told);
-// Called with no lock: where too much waits to be written, it is waited for.
-void store_wait(struct store *store);
+// Brings all that was answered onto the disk, and waits for that.
+int store_sync(struct store *store);
+// The same where it is soon done: little waits, the disk was quick the last time, and no thread waits for it. Else false.
+bool store_syncs_soon(struct store *store, int *fault);
+// The same by another thread: all that wait for the next sync share it.
+void store_wait_for_sync(struct store *store, struct waiter *waiter);
+// Whether so much waits to be written that no change is to be answered.
+bool store_is_full(const struct store *store);
+// Waits until there is room again: false where there is.
+bool store_waits_for_room(struct store *store, struct waiter *waiter);
 // How many syncs have failed.
 uint64_t store_failures(struct store *store);
 #endif

@@ -26,11 +26,11 @@ void store_enough(struct store *store, uint64_t image) {
 }
 
 bool store_is_long(struct store *store) {
+    lock_take(&store->writing);
     requests_pause();
-    pthread_mutex_lock(&store->writing);
     bool is = !store_has_too_many(store) && (store->fault || store->logged >= store->enough);
-    pthread_mutex_unlock(&store->writing);
     requests_go_on();
+    store_end_writing(store);
     return is;
 }
 
@@ -67,15 +67,15 @@ static int begin_log(struct store *store, struct writing *writing) {
 }
 
 static int begin(struct store *store, struct writing *writing) {
+    lock_take(&store->writing);
     requests_pause();
-    pthread_mutex_lock(&store->writing);
     int fault = take_and_freeze(store, writing);
     requests_go_on();
     writing->number = store->number;
     store_write_taken(store);
     if (!fault) fault = begin_log(store, writing);
     writing->failures = store->failures;
-    pthread_mutex_unlock(&store->writing);
+    store_end_writing(store);
     return fault;
 }
 
@@ -154,27 +154,27 @@ static int put_image(struct writing *writing) {
 // Changes are done again where they were refused: all that was answered before lies in the image. What its own log lost
 // since it began takes another image.
 static void succeed(struct store *store, const struct writing *writing) {
-    pthread_mutex_lock(&store->writing);
+    lock_take(&store->writing);
     store_enough(store, writing->tree.size + writing->told_size);
     if (store->failures == writing->failures) {
         if (store->fault) store_say(store, "changes are kept again");
         store->fault = 0;
     }
     store->told = 0;
-    pthread_mutex_unlock(&store->writing);
+    store_end_writing(store);
     store->told_snapshots = writing->told;
     store_clear(store, writing->number);
 }
 
 // The logs go on, and it is tried again when they have grown by as much as a first one.
 static void give_up(struct store *store, const struct writing *writing, int fault) {
-    pthread_mutex_lock(&store->writing);
+    lock_take(&store->writing);
     store->logged += writing->former.file >= 0 ? writing->former_bytes : 0;
     store->enough = store->logged + store->log_size;
     if (fault != ECANCELED && fault != EBUSY && fault != store->told)
         store_say(store, "tree.%" PRIu64 " is not written: %s", writing->number, strerror(fault));
     store->told = fault;
-    pthread_mutex_unlock(&store->writing);
+    store_end_writing(store);
 }
 
 int store_checkpoint(struct store *store, void (*meanwhile)(struct store *store)) {

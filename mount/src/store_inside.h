@@ -1,8 +1,9 @@
-// What the files of a store share. Two locks: that of requests, and `writing`, which is taken second.
+// What the files of a store share. locks.h has the order of its locks.
 #ifndef STORE_INSIDE_H
 #define STORE_INSIDE_H
 #include "crew.h"
 #include "image.h"
+#include "locks.h"
 #include "noting.h"
 #include "store.h"
 #include <limits.h>
@@ -52,6 +53,11 @@ struct told_snapshots {
     struct told_snapshot at[MOST_KEPT];
 };
 
+struct waiters {
+    struct waiter *first;
+    unsigned count;
+};
+
 struct store {
     struct noting noting;
     char folder[PATH_MAX];
@@ -71,7 +77,7 @@ struct store {
     uint64_t last_snapshot;     // the last number
 
     // Under `writing`.
-    pthread_mutex_t writing;
+    struct lock writing;
     uint64_t number;  // of the log
     int log;          // its file
     uint64_t length;  // bytes of its records
@@ -88,7 +94,6 @@ struct store {
     int told; // why the last image was not written, as it was said; 0: it was
 
     pthread_mutex_t room_lock; // of what follows
-    pthread_cond_t has_room;
     _Atomic size_t waiting_bytes; // of calls that are not written, but those of `queue`
     struct row spare;             // have nothing
     unsigned spares;
@@ -98,14 +103,22 @@ struct store {
 
     struct told_snapshots told_snapshots; // of who writes images: in the last file of snapshots
     struct crew crew;
-    pthread_t keeper;
-    bool is_kept;
-    pthread_mutex_t waiting; // of the keeper's sleep
-    pthread_cond_t wakes;
+    pthread_t keeper, syncer;
+    bool is_kept, is_synced_for;
+    pthread_mutex_t waiting; // of the sleep of both, and of what waits for them
+    pthread_cond_t wakes, asks;
+    struct waiters for_sync; // for the next one
+    struct waiters for_room; // until fewer bytes of calls wait to be written
+    _Atomic uint64_t took;   // nanoseconds of the last sync
     _Atomic bool is_wanted; // calls wait, or an image is due
     struct timespec next_sync;
     _Atomic bool ends;
 };
+
+// ---- store.c
+
+// Drops `writing`, and answers what waited for room where there is some now.
+void store_end_writing(struct store *store);
 
 // ---- store_files.c
 
@@ -146,6 +159,7 @@ void store_drop_taken(struct store *store);
 // Writes what was taken, and syncs; under `writing`. A failure is noted, and changes are refused from then on.
 int store_write_taken(struct store *store);
 int store_sync_taken(struct store *store);
+uint64_t store_clock(void);
 // What was written is on its way to the disk, before it is synced.
 void store_begin_sync(struct store *store);
 // Opens a log to write behind so many bytes that it has, and makes it where it is missing.

@@ -2,10 +2,12 @@
 #define _GNU_SOURCE
 #include "store_calls.h"
 #include "store_inside.h"
+#include <assert.h>
 #include <errno.h>
 #include <fcntl.h>
 #include <inttypes.h>
 #include <string.h>
+#include <time.h>
 #include <unistd.h>
 
 enum {
@@ -14,6 +16,7 @@ enum {
     ZEROS_AHEAD = 1 << 20,
     ENOUGH_TO_SHARE = 1 << 19,
     RECORDS_OF_A_LOG = 40,
+    NANOSECONDS = 1000000000,
 };
 
 uint64_t store_record(uint64_t log, uint64_t index) { return log << RECORDS_OF_A_LOG | index; }
@@ -130,6 +133,7 @@ static int write_queue(struct store *store, const struct queue *queue) {
 
 int store_write_taken(struct store *store) {
     const struct queue *queue;
+    assert(lock_is_held(&store->writing));
     int fault = store->fault;
     while ((queue = store_first_taken(store))) {
         if (!fault) fault = write_queue(store, queue);
@@ -146,12 +150,20 @@ void store_begin_sync(struct store *store) {
     if (!store->fault) sync_file_range(store->log, 0, 0, SYNC_FILE_RANGE_WRITE);
 }
 
+uint64_t store_clock(void) {
+    struct timespec now;
+    clock_gettime(CLOCK_MONOTONIC, &now);
+    return (uint64_t)now.tv_sec * NANOSECONDS + (uint64_t)now.tv_nsec;
+}
+
 int store_sync_taken(struct store *store) {
     int fault = store_write_taken(store);
     if (fault || store->is_synced) return fault;
+    uint64_t begun = store_clock();
     fill_ahead(store);
     if (fdatasync(store->log)) return fail(store, errno), EIO;
     store->is_synced = true;
+    store->took = store_clock() - begun;
     return 0;
 }
 

@@ -1,5 +1,7 @@
 // What waits to be written to the log of a store: queues of calls in a row, each of some MiB.
+#include "requests.h"
 #include "store_inside.h"
+#include <assert.h>
 #include <errno.h>
 #include <stdlib.h>
 
@@ -50,7 +52,6 @@ static void give_back(struct store *store, struct queue *queue) {
     queue->calls.length = queue->ends.length = 0;
     pthread_mutex_lock(&store->room_lock);
     store->waiting_bytes -= size;
-    if (store->waiting_bytes < store->most_waiting) pthread_cond_broadcast(&store->has_room);
     bool is_spare = store->reserve && store->spares < MOST_SPARE;
     if (is_spare) put_last(&store->spare, queue);
     store->spares += is_spare;
@@ -61,7 +62,6 @@ static void give_back(struct store *store, struct queue *queue) {
 
 int store_queues_begin(struct store *store) {
     pthread_mutex_init(&store->room_lock, 0);
-    pthread_cond_init(&store->has_room, 0);
     store->queue = calloc(1, sizeof *store->queue);
     store->reserve = calloc(1, sizeof *store->reserve);
     return store->queue && store->reserve ? 0 : ENOMEM;
@@ -96,15 +96,9 @@ void store_queue_next(struct store *store) {
     if (another) end_queue(store, another);
 }
 
-void store_wait(struct store *store) {
-    if (!store->is_kept || store->waiting_bytes < store->most_waiting) return;
-    pthread_mutex_lock(&store->room_lock);
-    while (store->waiting_bytes >= store->most_waiting) pthread_cond_wait(&store->has_room, &store->room_lock);
-    pthread_mutex_unlock(&store->room_lock);
-}
-
 // What a request did is one record.
 int store_end_calls(struct store *store) {
+    assert(requests_are_paused());
     struct queue *queue = store->queue;
     if (queue->calls.length == store_ended(queue)) return 0;
     return bytes_append(&queue->ends, &queue->calls.length, sizeof queue->calls.length);
@@ -113,6 +107,7 @@ int store_end_calls(struct store *store) {
 // The reserve is there: all that was taken before was written.
 int store_take(struct store *store) {
     struct queue *queue;
+    assert(lock_is_held(&store->writing) && requests_are_paused());
     if (store_end_calls(store)) return ENOMEM;
     if (store->queue->calls.length) {
         end_queue(store, store->reserve);
