@@ -323,6 +323,14 @@ int files_read_link(struct mount *mount, struct entry *entry, struct bytes *out)
     return fault ? fault : bytes_append(out, "", 1);
 }
 
+int files_find_end(struct mount *mount, const struct entry *entry, uint64_t *offset) {
+    struct standing standing;
+    if (!mount->replica) return 0;
+    int fault = files_stand(mount, entry, &standing);
+    if (!fault) *offset = standing.length;
+    return fault;
+}
+
 int files_write(struct mount *mount, struct entry *entry, uint64_t offset, const char *bytes, size_t count,
                 size_t *done) {
     const struct volume *volume = &mount->volume;

@@ -47,6 +47,9 @@ int files_close(struct mount *mount, struct entry *entry);
 int files_read(struct mount *mount, struct entry *entry, uint64_t offset, char *out, size_t room, size_t *got);
 int files_write(struct mount *mount, struct entry *entry, uint64_t offset, const char *bytes, size_t count,
                 size_t *done);
+// Where a write begins of a file that is open to append: in a mount of several the kernel may not know its length yet, and
+// `offset` becomes the file's end; in any other it stays.
+int files_find_end(struct mount *mount, const struct entry *entry, uint64_t *offset);
 // The target of a symbolic link.
 int files_read_link(struct mount *mount, struct entry *entry, struct bytes *out);
 

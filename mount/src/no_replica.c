@@ -16,3 +16,5 @@ void replica_end(struct mount *mount) { (void)mount; }
 void replica_change_begins(struct mount *mount) { (void)mount; }
 
 int replica_change_ends(struct mount *mount, int fault) { return (void)mount, fault; }
+
+void replica_note_moved(struct mount *mount, const struct entry *entry) { (void)mount, (void)entry; }

@@ -24,4 +24,6 @@ void replica_end(struct mount *mount);
 // they do nothing. What the second answers has the request's other callers leave all as it was.
 void replica_change_begins(struct mount *mount);
 int replica_change_ends(struct mount *mount, int fault);
+// A write was done elsewhere in its file than the kernel wrote it: the kernel is told to ask for the bytes anew.
+void replica_note_moved(struct mount *mount, const struct entry *entry);
 #endif

@@ -44,6 +44,10 @@ static void note_entry(struct replica *replica, const struct entry *entry) {
     if (entry && is_told(entry)) note(replica, 0, number_of(entry), 0);
 }
 
+void replica_note_moved(struct mount *mount, const struct entry *entry) {
+    if (mount->replica && mount->replica->has_met) note_entry(mount->replica, entry);
+}
+
 static void note_name(struct replica *replica, const struct reach *reach) {
     if (!reach->parent || !is_told(reach->parent)) return;
     note(replica, number_of(reach->parent), number_of(reach->parent), reach->name);

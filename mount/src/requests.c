@@ -15,6 +15,7 @@
 #include "links.h"
 #include "locks.h"
 #include "names.h"
+#include "replica.h"
 #include "room.h"
 #include "snapshots.h"
 #include "store.h"
@@ -436,10 +437,14 @@ static void on_read(fuse_req_t req, fuse_ino_t number, size_t size, off_t offset
 
 static void on_write(fuse_req_t req, fuse_ino_t number, const char *bytes, size_t size, off_t offset,
                      struct fuse_file_info *info) {
+    struct mount *mount = mount_of(req);
+    struct entry *entry = entry_of(req, number);
+    uint64_t at = (uint64_t)offset;
     size_t done = 0;
-    (void)info;
     int fault = begin_write(req, number);
-    if (!fault) fault = files_write(mount_of(req), entry_of(req, number), (uint64_t)offset, bytes, size, &done);
+    if (!fault && info->flags & O_APPEND) fault = files_find_end(mount, entry, &at);
+    if (!fault) fault = files_write(mount, entry, at, bytes, size, &done);
+    if (!fault && at != (uint64_t)offset) replica_note_moved(mount, entry);
     finish(req, fault, (struct answer){.kind = ANSWER_WRITTEN, .written = done});
 }
 
