@@ -146,6 +146,8 @@ static void exchange(struct replica *replica, struct behind *behind) {
     begin_at(replica, &behind->checkpoint, behind->size);
     if (replica->mount->root) replica_follow_tree(replica, &former);
     requests_go_on();
+    // No request is served between: it is this thread that serves them.
+    if (replica->mount->root) requests_tell_names_stale();
 }
 
 // What was tried is taken back, and no image of the former tree is being printed.

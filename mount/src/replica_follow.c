@@ -245,7 +245,6 @@ static void follow_below(struct replica *replica, const struct volume *former, c
 }
 
 void replica_follow_tree(struct replica *replica, const struct volume *former) {
-    requests_tell_names_stale();
     note_entry(replica, replica->mount->root);
     follow_below(replica, former, replica->mount->root);
 }
