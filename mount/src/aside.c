@@ -2,6 +2,7 @@
 #include "files.h"
 #include "links.h"
 #include "records.h"
+#include "store.h"
 #include <assert.h>
 #include <errno.h>
 #include <stdlib.h>
@@ -114,8 +115,9 @@ int aside_remove_now(struct mount *mount, struct entry *entry, uint64_t at) {
 
 bool aside_waits(struct mount *mount, struct entry *entry, const char *name, uint64_t at) {
     assert(!mount->leaving && !mount->leaving_name);
-    // In the log of several mounts a request's change is its own.
+    // In the log of several mounts a request's change is its own. Where a store refuses changes, that is answered now.
     if (!entry_is_held(entry) || entry->opens || mount->replica) return false;
+    if (mount->store && store_refuses(mount->store)) return false;
     mount->leaving_name = name ? strdup(name) : 0;
     if (name && !mount->leaving_name) return false;
     mount->leaving = entry;
@@ -129,7 +131,11 @@ int aside_remove(struct mount *mount, struct entry *entry, uint64_t at) {
 
 int aside_let_go(struct mount *mount, struct entry *entry) {
     if (entry_is_held(entry)) return 0;
-    if (entry == mount->leaving) return aside_settle(mount);
+    if (entry == mount->leaving) {
+        int fault = aside_settle(mount);
+        if (fault) entry->stays = true; // Until its name is gone, it is not freed with the directory that it is in.
+        return fault;
+    }
     if (!entry->is_unlinked || !entry->parent) {
         entry_let_go(entry);
         return 0;

@@ -27,6 +27,8 @@ void store_rest(struct store *store) { (void)store; }
 
 bool store_syncs_each(const struct store *store) { return (void)store, false; }
 
+bool store_refuses(const struct store *store) { return (void)store, false; }
+
 int store_sync(struct store *store) { return (void)store, 0; }
 
 bool store_syncs_soon(struct store *store, int *fault) { return (void)store, (void)fault, false; }

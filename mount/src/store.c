@@ -178,19 +178,32 @@ static bool expects_sync(struct store *store) {
     return does;
 }
 
-// A program that syncs behind each few changes does so again: then its records are made while it gets the answer.
-void store_rest(struct store *store) {
-    if (store->took > SOON || !expects_sync(store) || !lock_try(&store->writing)) return;
+// What is about to be synced is written, and the disk begins with it.
+static void write_ahead(struct store *store) {
     requests_pause();
     int fault = store_take(store);
     bool is_last = store->changes == store->expected;
     requests_go_on();
     if (!fault) fault = store_write_taken(store);
     if (!fault && is_last) store_begin_sync(store);
+}
+
+// A program that syncs behind each few changes does so again: then its records are made while it gets the answer. Where
+// the disk is slow, the keeper writes them.
+void store_rest(struct store *store) {
+    if (!expects_sync(store)) return;
+    if (store->took > SOON) {
+        wake_keeper(store);
+        return;
+    }
+    if (!lock_try(&store->writing)) return;
+    write_ahead(store);
     store_end_writing(store);
 }
 
 bool store_syncs_each(const struct store *store) { return store->syncs_each; }
+
+bool store_refuses(const struct store *store) { return store->fault; }
 
 uint64_t store_failures(struct store *store) { return store->failures; }
 

@@ -30,7 +30,9 @@ int store_end_request(struct store *store, bool *has_changed);
 
 // The others are called with no lock.
 bool store_syncs_each(const struct store *store);
-// Between two requests: what is about to be synced is written, where the disk is quick.
+// Whether changes are refused, since the log is not kept any more.
+bool store_refuses(const struct store *store);
+// Between two requests: what is about to be synced is written, by another thread where the disk is slow.
 void store_rest(struct store *store);
 // Brings all that was answered onto the disk, and waits for that.
 int store_sync(struct store *store);
