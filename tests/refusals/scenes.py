@@ -184,7 +184,7 @@ STEPS = (
     ("block", "root_up", WITH_SETTLED_BLOCKS, "-", "0"),
     ("meta", "root_down", WITH_BLOCKS, "-", "0"),
     ("block", "root_down", WITH_DEEP_BLOCKS, "-", "0"),
-    ("meta", "drop_covered", WITH_COVERED, "1", "0"),
+    ("meta", "drop_covered", WITH_COVERED, "10", "0"),
 )
 # The same of a tree that shares its nodes.
 TREE_STEPS = (("flush_inner", "-", "0"), ("split_inner", "-", "1"), ("merge_inner", "0", "0"), ("root_up", "-", "0"))
@@ -285,7 +285,7 @@ def steps():
             yield Scene("steps", ("step", index, kind, "-", "200"), WITH_BLOCKS, free=True, wanted="not there")
     for kind, at, slot in TREE_STEPS:
         yield Scene("trees", ("tree", "step", kind, at, slot), WITH_BLOCKS, wanted="did")
-    yield Scene("trees", ("tree", "step", "drop_covered", "1", "0"), WITH_COVERED, wanted="did")
+    yield Scene("trees", ("tree", "step", "drop_covered", "10", "0"), WITH_COVERED, wanted="did")
     yield Scene("steps", ("relieve",), BASE, wanted="did")
     yield Scene("steps", ("relieve",), WITH_BLOCKS, wanted="did")
     for name in ("append", "share", "relieve"):
