@@ -11,7 +11,7 @@ ghost use Rattle.reference.specs.Tree as trees;
 
 use crate::batch::{Batch, refused, without_messages};
 use crate::indexes::Indexes;
-use crate::removing::fault_of_taking;
+use crate::removing::{fault_of_taking, is_empty_dir};
 use crate::subtrees::{has_too_long_key, put_moved};
 use crate::touching::touch_directories;
 use block_index::BlockUpdate;
@@ -87,7 +87,7 @@ fn is_empty_there(alloc: Global, indexes: &Indexes, path: &Path, here: At) -> Re
     ensures { IfOk result (λ empty. (t : trees.Tree) → IsMeantBy t indexes.now.meta → here ≡ told (trees.entry_at t path.now) → empty ≡ not (is_full (trees.entry_at t path.now))) }
 {
     if is_directory(here) {
-        indexes.meta.is_empty_dir(alloc, path)
+        is_empty_dir(alloc, indexes, path)
     } else {
         Ok(true)
     }

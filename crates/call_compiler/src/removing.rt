@@ -1,8 +1,8 @@
 //! Calls that take an entry out: `unlink`, `rmdir` and `rmtree`.
-ghost use Rattle.std.specs.Prelude.{◌≡◌, [], ◌∷◌, IfOk};
+ghost use Rattle.std.specs.Prelude.{◌≡◌, [], ◌∷◌, IfOk, not};
 ghost use Rattle.call_compiler.specs.Compiled.{IsCompiled, messages};
 ghost use Rattle.meta_index.specs.Means.{IsMeantBy, told};
-ghost use Rattle.reference.specs.Calls.{faults_of_rmdir, faults_of_rmtree, first_fault};
+ghost use Rattle.reference.specs.Calls.{faults_of_rmdir, faults_of_rmtree, first_fault, is_full};
 ghost use Rattle.reference.specs.Tree.{Tree, entry_at};
 
 use crate::batch::{Batch, done_in, refused};
@@ -63,10 +63,28 @@ fn fault_of_rmdir(alloc: Global, indexes: &Indexes, path: &Path) -> Result<Optio
     if let Some(fault) = at.fault_of_directory() {
         return Ok(Some(fault));
     }
-    if indexes.meta.is_empty_dir(alloc, path)? {
+    if is_empty_dir(alloc, indexes, path)? {
         return Ok(None);
     }
     Ok(Some(Errno::ENOTEMPTY))
+}
+
+/// Whether nothing stands below the path.
+///
+/// Likely names are looked up first: only where none is found does the search for the first pair run, which passes every
+/// removed name.
+pub(crate) fn is_empty_dir(
+    alloc: Global,
+    indexes: &Indexes,
+    path: &Path,
+) -> Result<bool, NoMemory>
+    ensures { IfOk result (λ empty. (t : Tree) → IsMeantBy t indexes.now.meta → empty ≡ not (is_full (entry_at t path.now))) }
+{
+    let is_nonempty = indexes.meta.probe_nonempty(alloc, path)?;
+    if is_nonempty {
+        return Ok(false);
+    }
+    indexes.meta.is_empty_dir(alloc, path)
 }
 
 /// Takes out what stands at the path, with all that lies below it.

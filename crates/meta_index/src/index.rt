@@ -134,10 +134,7 @@ impl MetaIndex {
     }
 
     /// Whether nothing stands below the path, as `is_empty_dir` tells it. It leaves in `searches` how
-    /// often it searched the keys below the path: once.
-    ///
-    /// Keys at which an entry probably stands are looked up first. If none has a value, the first pair is searched for, which passes
-    /// every removed name.
+    /// often it asked the tree for a first pair: once.
     pub fn is_empty_dir_counted(
         &self,
         alloc: Global,
@@ -149,11 +146,19 @@ impl MetaIndex {
     {
         let below = keys_below(alloc, path)?;
         *searches = 1;
-        let is_likely = self.has_likely(alloc, &below)?;
-        if is_likely {
-            return Ok(false);
-        }
         Ok(first_in(alloc, &self.tree, &below)?.is_none())
+    }
+
+    /// Whether something stands below the path, by looking up keys at which an entry probably stands. `true` is certain;
+    /// `false` says nothing.
+    ///
+    /// A search for the first pair passes every removed name, which this does not: ask it first where a directory is probably
+    /// not empty. It fails only for want of memory.
+    pub fn probe_nonempty(&self, alloc: Global, path: &Path) -> Result<bool, NoMemory>
+        ensures { IfOk result (λ there. there ≡ true → (t : DirectoryTree) → IsMeantBy t self.now → is_full (entry_at t path.now) ≡ true) }
+    {
+        let range = keys_below(alloc, path)?;
+        self.has_likely(alloc, &range)
     }
 
     /// Whether the range has a pair at a key that is guessed; `false` says nothing of the range.

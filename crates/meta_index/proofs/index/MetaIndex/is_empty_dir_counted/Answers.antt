@@ -1,17 +1,11 @@
-use Rattle.std.proofs.Common.{ap, not, subst, sym, ◌∙◌}
+use Rattle.std.proofs.Common.{subst, ◌∙◌}
 use Rattle.pathkey.specs.declared.range.KeyRange.{KeyRange}
 use Rattle.scan.specs.Pairs.{IsFirst}
-use Rattle.meta_index.specs.Below.{HasPair}
 use Rattle.meta_index.specs.Means.{metadata}
-use Rattle.meta_index.proofs.BelowPath.{emptiness, none_from_some, occupied}
+use Rattle.meta_index.proofs.BelowPath.{emptiness, none_from_some}
 use Rattle.meta_index.proofs.index.MetaIndex.is_empty_dir_counted.Goals as goal
 
 pub returns-clause-empty : goal.returns-clause-empty
 returns-clause-empty c = λ t is_meant.
     let first = subst (λ (r : KeyRange). IsFirst (metadata c.args.self.now) r.lo r.hi c.in_ok-first_in.field-0) c.in_ok-below.ensures.value c.in_ok-first_in.ensures in
     none_from_some c.in_ok-first_in.field-0 c.is_none.result c.is_none.ensures ∙ emptiness t c.args.self.now c.args.path.now c.in_ok-first_in.field-0 c.in_ok-below.ensures.valid is_meant first
-
-pub returns-then-is_likely-clause-empty : goal.returns-then-is_likely-clause-empty
-returns-then-is_likely-clause-empty c = λ t is_meant.
-    let pair = subst (λ (r : KeyRange). HasPair (metadata c.args.self.now) r.lo r.hi) c.in_ok-below.ensures.value (c.in_ok-is_likely.ensures c.if-is_likely.true) in
-    sym (ap not (occupied t c.args.self.now c.args.path.now c.in_ok-below.ensures.valid is_meant pair))
